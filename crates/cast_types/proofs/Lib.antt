@@ -1,0 +1,6 @@
+pub mod Entries
+pub mod Updates
+pub mod Zips
+pub mod Iterates
+pub mod Orders
+pub mod CountLists

@@ -1,0 +1,11 @@
+use Rattle.std.proofs.Common.{◌≡◌, ap, true, ◌≤◌, length, ◌∙◌, rules}
+use Rattle.std.specs.FinMap.Entries.{put}
+use Rattle.cast_types.specs.Names.{proc_cmp}
+use Rattle.cast_types.specs.Counts.{is_counts}
+use Rattle.cast_types.proofs.CountLists.{counts-put}
+use Rattle.cast_types.proofs.counts.Counts.set.Goals as goal
+
+pub invariant_of-self-2 : goal.invariant_of-self-2
+invariant_of-self-2 c =
+    rw c.in_ok-put.ensures.ok
+    (counts-put c.self.inside.entries.items c.args.process c.args.count c.self.invariant c.requires.positive (rw (← c.self.view_is) at c.requires.room))

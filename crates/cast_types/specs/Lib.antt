@@ -1,0 +1,7 @@
+pub mod Names
+pub mod Refusals
+pub mod Sets
+pub mod Places
+pub mod Repeat
+pub mod Counts
+pub mod Stamps
