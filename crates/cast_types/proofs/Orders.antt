@@ -1,7 +1,7 @@
 -- The orders of names are total, and names that compare alike are one.
 use Rattle.std.proofs.Common.{◌≡◌, ℕ, Bool, true, false, ◌⊎◌, Ordering, Less, Equal, Greater, refl, sym, ap, ◌∙◌, inl, inr}
 use Rattle.std.specs.Prelude.{nat_lt, ◌==◌, ◌&&◌}
-use Rattle.std.specs.Ordering.{nat_cmp, is_eq, eq_by_cmp}
+use Rattle.std.specs.Ordering.{nat_cmp, ordering_then, is_eq, eq_by_cmp}
 use Rattle.std.specs.Cmp.{IsTotalOrder}
 use Rattle.std.proofs.lemmas.Cmp.{nat_cmp_total, on_total, then_total, tied_itself}
 use Rattle.std.proofs.lemmas.Map.Lookups.{CmpEqualImpliesEq, exact_pairs, exact_unsigned}
@@ -10,7 +10,11 @@ use Rattle.cast_types.specs.declared.names.SiteNo.{SiteNo}
 use Rattle.cast_types.specs.declared.names.GroupNo.{GroupNo}
 use Rattle.cast_types.specs.declared.names.Proc.{Proc}
 use Rattle.cast_types.specs.declared.names.Uid.{Uid}
-use Rattle.cast_types.specs.Names.{Entry, site_cmp, group_cmp, proc_cmp, site_eq, group_eq, proc_eq, uid_eq}
+use Rattle.cast_types.specs.declared.names.DomainNo.{DomainNo}
+use Rattle.cast_types.specs.Names.{Entry, domain_cmp, site_cmp, group_cmp, proc_cmp, entry_cmp, uid_cmp, site_eq, group_eq, proc_eq, uid_eq}
+
+pub domain_total : IsTotalOrder domain_cmp
+domain_total = on_total (λ d. d.0) nat_cmp_total
 
 pub site_total : IsTotalOrder site_cmp
 site_total = on_total (λ s. s.0) nat_cmp_total
@@ -21,6 +25,9 @@ group_total = on_total (λ g. g.0) nat_cmp_total
 pub proc_total : IsTotalOrder proc_cmp
 proc_total = then_total (on_total (λ p. p.site.0) nat_cmp_total) (on_total (λ p. p.serial) nat_cmp_total)
 
+pub domain_exact : CmpEqualImpliesEq domain_cmp
+domain_exact a b h = ap (λ (n : ℕ). record { 0 = n }) (exact_unsigned a.0 b.0 h)
+
 pub site_exact : CmpEqualImpliesEq site_cmp
 site_exact a b h = ap (λ (n : ℕ). record { 0 = n }) (exact_unsigned a.0 b.0 h)
 
@@ -29,6 +36,21 @@ group_exact a b h = ap (λ (n : ℕ). record { 0 = n }) (exact_unsigned a.0 b.0 
 
 pub proc_exact : CmpEqualImpliesEq proc_cmp
 proc_exact a b h = ap (λ (n : ℕ × ℕ). record { site = record { 0 = n.0 }; serial = n.1 }) (exact_pairs nat_cmp nat_cmp exact_unsigned exact_unsigned (a.site.0, a.serial) (b.site.0, b.serial) h)
+
+pub entry_total : IsTotalOrder entry_cmp
+entry_total = then_total (on_total (λ e. e.0) proc_total) (on_total (λ e. e.1) nat_cmp_total)
+
+pub entry_exact : CmpEqualImpliesEq entry_cmp
+entry_exact a b h = exact_pairs proc_cmp nat_cmp proc_exact exact_unsigned a b h
+
+pub uid_total : IsTotalOrder uid_cmp
+uid_total = then_total (on_total (λ u. u.group) group_total) (then_total (on_total (λ u. u.view) nat_cmp_total) (on_total (λ u. (u.proc, u.count)) entry_total))
+
+pub uid_exact : CmpEqualImpliesEq uid_cmp
+uid_exact a b h =
+    ap (λ (n : GroupNo × (ℕ × Entry)). record { group = n.0; view = n.1.0; proc = n.1.1.0; count = n.1.1.1 })
+    (exact_pairs group_cmp (λ x y. ordering_then (nat_cmp x.0 y.0) (entry_cmp x.1 y.1)) group_exact (exact_pairs nat_cmp entry_cmp exact_unsigned entry_exact)
+    (a.group, (a.view, (a.proc, a.count))) (b.group, (b.view, (b.proc, b.count))) h)
 
 -- names that test equal are one
 pub same_site : (a b : SiteNo) → site_eq a b ≡ true → a ≡ b

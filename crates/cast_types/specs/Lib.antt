@@ -5,3 +5,4 @@ pub mod Places
 pub mod Repeat
 pub mod Counts
 pub mod Stamps
+pub mod Laws

@@ -2,6 +2,7 @@
 use Rattle.std.specs.Prelude.{ℕ, Bool, true, false, ◌&&◌, ◌==◌}
 use Rattle.std.specs.declared.cmp.Ordering.{Ordering}
 use Rattle.std.specs.Ordering.{nat_cmp, ordering_then}
+use Rattle.cast_types.specs.declared.names.DomainNo.{DomainNo}
 use Rattle.cast_types.specs.declared.names.SiteNo.{SiteNo}
 use Rattle.cast_types.specs.declared.names.GroupNo.{GroupNo}
 use Rattle.cast_types.specs.declared.names.Proc.{Proc}
@@ -12,6 +13,9 @@ use Rattle.cast_types.specs.declared.names.Kind.TheVariants.{Causal, Atomic, Ord
 -- a process with a count: an entry of a vector, or the name of a message where group and view are known
 abbrev pub Entry : Type 0
 Entry = Proc × ℕ
+
+abbrev pub domain_cmp : DomainNo → DomainNo → Ordering
+domain_cmp d e = nat_cmp d.0 e.0
 
 abbrev pub site_cmp : SiteNo → SiteNo → Ordering
 site_cmp s t = nat_cmp s.0 t.0
@@ -26,6 +30,10 @@ proc_cmp p q = ordering_then (nat_cmp p.site.0 q.site.0) (nat_cmp p.serial q.ser
 -- by process, and then by count
 abbrev pub entry_cmp : Entry → Entry → Ordering
 entry_cmp a b = ordering_then (proc_cmp a.0 b.0) (nat_cmp a.1 b.1)
+
+-- by group, then by view, and then by process and count
+abbrev pub uid_cmp : Uid → Uid → Ordering
+uid_cmp a b = ordering_then (group_cmp a.group b.group) (ordering_then (nat_cmp a.view b.view) (entry_cmp (a.proc, a.count) (b.proc, b.count)))
 
 abbrev pub site_eq : SiteNo → SiteNo → Bool
 site_eq s t = s.0 == t.0

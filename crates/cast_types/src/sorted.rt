@@ -1,6 +1,7 @@
 ghost use Rattle.std.specs.Prelude.{◌≡◌, OnOk, OnErr};
 ghost use Rattle.std.specs.Option.{option_copied};
 ghost use Rattle.std.specs.FinMap.Entries.{find, put};
+ghost use Rattle.cast_types.specs.Sets.{with_item};
 
 use crate::NoMemory;
 use std::cmp::Ordering;
@@ -38,5 +39,22 @@ pub fn put<K: Ord + Drop, V: Drop>(
         }
     }
     entries.insert(at, (key, value))?;
+    Ok(())
+}
+
+/// Adds an item to a set that stands in rising order, where it lacks it. `NoMemory` changes nothing.
+pub fn insert<T: Ord + Drop>(items: &mut Vec<T>, item: T) -> Result<(), NoMemory>
+    ensures ok { OnOk result (items.new.items ≡ with_item T.cmp item items.old.items) }
+    ensures err { OnErr result (items.new.items ≡ items.old.items) }
+{
+    let mut at = 0;
+    while at < items.len() {
+        match item.cmp(&items[at]) {
+            Ordering::Greater => at += 1,
+            Ordering::Equal => return Ok(()),
+            Ordering::Less => break,
+        }
+    }
+    items.insert(at, item)?;
     Ok(())
 }

@@ -1,0 +1,6 @@
+pub mod Entries
+pub mod Joins
+pub mod Rooms
+pub mod Valid
+pub mod Orders
+pub mod Raised

@@ -1,0 +1,46 @@
+-- The queue as contracts see it: numbers of views, messages in order of receipt, and what is kept of each process.
+use Rattle.std.specs.Prelude.{ℕ, Bool, ◌==◌, if◌then◌else◌, List, [], ◌∷◌, ◌++◌, map, Option, Some, None}
+use Rattle.std.specs.List.{find}
+use Rattle.std.specs.Option.{option_map, option_and_then}
+use Rattle.cast_types.specs.declared.names.GroupNo.{GroupNo}
+use Rattle.cast_types.specs.declared.names.Proc.{Proc}
+use Rattle.cast_types.specs.declared.names.Key.{Key}
+use Rattle.cast_types.specs.Names.{proc_eq}
+use Rattle.cast_types.specs.Stamps.{ClockList}
+use Rattle.cast_delay.specs.declared.row.Row.{Row}
+use Rattle.cast_delay.specs.declared.offered.Offered.{Offered}
+use Rattle.cast_delay.specs.Rows.{is_ready_row, delivered_row}
+
+pub record Queue : Type 0 where
+  pub numbers : List (GroupNo × ℕ)
+  pub offered : List Offered
+  pub rows : List Row
+
+abbrev pub key_eq : Key → Key → Bool
+key_eq a b = a.0 == b.0
+
+abbrev pub new_row : Proc → Row
+new_row p = record { process = p; standings = []; time = []; done = [] }
+
+abbrev pub row_of : List Row → Proc → Option Row
+row_of rows p = find (λ r. proc_eq r.process p) rows
+
+-- the rows of one process changed
+abbrev pub change_row : Proc → (Row → Row) → List Row → List Row
+change_row p f rows = map (λ r. if proc_eq r.process p then f r else r) rows
+
+-- the first message offered that is ready for a row
+abbrev pub first_for : List (GroupNo × ℕ) → List Offered → Row → Option Offered
+first_for numbers offered row = find (λ o. is_ready_row numbers row o.id o.times) offered
+
+abbrev pub offered_under : List Offered → Key → Option Offered
+offered_under offered key = find (λ o. key_eq o.key key) offered
+
+-- the key of the first message that is ready for a process
+abbrev pub next_key : Queue → Proc → Option Key
+next_key q p = option_map (λ o. o.key) (option_and_then (first_for q.numbers q.offered) (row_of q.rows p))
+
+-- the rows after a delivery of the message under a key
+abbrev pub after_delivery : List Offered → Proc → Key → List Row → List Row
+after_delivery offered p key rows =
+    elim (offered_under offered key) [ Some o ↦ change_row p (delivered_row o.id o.times) rows | None ↦ rows ]

@@ -1,0 +1,74 @@
+-- When a received message may be delivered to a process: after all that happened before it.
+use Rattle.std.specs.Prelude.{ℕ, Bool, true, false, not, ◌&&◌, ◌||◌, ◌==◌, nat_lt, nat_le, List, map, filter, Option}
+use Rattle.std.specs.List.{list_all, flat_map, find, range_with_len}
+use Rattle.cast_types.specs.declared.names.GroupNo.{GroupNo}
+use Rattle.cast_types.specs.declared.names.Uid.{Uid}
+use Rattle.cast_types.specs.declared.names.Standing.{Standing}
+use Rattle.cast_types.specs.declared.names.Standing.TheVariants.{Outside, Joining, Member}
+use Rattle.cast_types.specs.Names.{Entry, uid_eq, named}
+use Rattle.cast_types.specs.Sets.{is_among}
+use Rattle.cast_types.specs.Counts.{CountList}
+use Rattle.cast_types.specs.Stamps.{ClockList}
+use Rattle.cast_clock.specs.Times.{clock_of, view_of, join, has_room}
+use Rattle.cast_frame.specs.declared.message.Message.{Message}
+
+-- a local process: its time, what it is in each group, and all that it ever delivered, in order
+pub record Process : Type 0 where
+  pub time : ClockList
+  pub standing : GroupNo → Standing
+  pub delivered : List Uid
+
+-- what of a group decides whether its messages may be delivered: the number of its view
+pub record Gate : Type 0 where
+  pub number : ℕ
+
+abbrev pub is_member : Standing → Bool
+is_member Outside = false
+is_member (Joining request heard) = false
+is_member Member = true
+
+abbrev pub is_outside : Standing → Bool
+is_outside Outside = true
+is_outside (Joining request heard) = false
+is_outside Member = false
+
+-- the first n messages of a process, or the counts' first messages of each
+abbrev pub first_of : Entry → List Entry
+first_of e = map (λ k. (e.0, k)) (range_with_len 1 e.1)
+
+abbrev pub covered : CountList → List Entry
+covered c = flat_map first_of c
+
+-- the ids of one group that a message's time covers, but for its own
+abbrev pub past_in : Message → GroupNo → List Uid
+past_in m h =
+    filter (λ u. not (uid_eq m.id u)) (map (named h (view_of m.times h)) (covered (clock_of m.times h).counts))
+
+-- the causal past: all ids that a message's time covers, but for its own
+abbrev pub past : Message → List Uid
+past m = flat_map (λ c. past_in m c.0) m.times
+
+abbrev pub has_delivered : Process → Uid → Bool
+has_delivered p u = is_among uid_eq u p.delivered
+
+-- nothing of the group that happened before m is still to be delivered; a joining process takes nothing of a view
+-- above the one that it had heard of
+abbrev pub group_allows : Standing → Process → Gate → Message → GroupNo → Bool
+group_allows Outside p gate m h = true
+group_allows (Joining request heard) p gate m h = nat_le (view_of m.times h) heard
+group_allows Member p gate m h =
+    nat_lt (view_of m.times h) gate.number || ((view_of m.times h == gate.number) && list_all (has_delivered p) (past_in m h))
+
+-- causally ready: of the current view of a group of the process, not delivered, nothing before it undelivered, and
+-- the join of the times within its bound
+abbrev pub is_causally_ready : List GroupNo → (GroupNo → Gate) → Process → Message → Bool
+is_causally_ready groups gate p m =
+    is_member (p.standing m.id.group)
+    && ((m.id.view == (gate m.id.group).number)
+    && (not (has_delivered p m.id)
+    && (list_all (λ h. group_allows (p.standing h) p (gate h) m h) groups
+    && has_room (join p.time m.times))))
+
+-- the first message, in order of receipt, that is ready
+abbrev pub first_ready : List GroupNo → (GroupNo → Gate) → Process → List Message → Option Message
+first_ready groups gate p got = find (is_causally_ready groups gate p) got

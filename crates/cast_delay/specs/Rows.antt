@@ -1,0 +1,74 @@
+-- What the queue keeps of a process, counts in place of ids, and the tests over it.
+use Rattle.std.specs.Prelude.{ℕ, ◌-◌, Bool, true, false, not, ◌&&◌, ◌||◌, ◌==◌, nat_lt, nat_le, if◌then◌else◌, List, unwrap_or}
+use Rattle.std.specs.List.{list_all}
+use Rattle.std.specs.FinMap.Entries.{find, put}
+use Rattle.cast_types.specs.declared.names.GroupNo.{GroupNo}
+use Rattle.cast_types.specs.declared.names.Proc.{Proc}
+use Rattle.cast_types.specs.declared.names.Uid.{Uid}
+use Rattle.cast_types.specs.declared.names.Standing.{Standing}
+use Rattle.cast_types.specs.declared.names.Standing.TheVariants.{Outside, Joining, Member}
+use Rattle.cast_types.specs.Names.{Entry, group_cmp, uid_eq, named}
+use Rattle.cast_types.specs.Stamps.{ClockList}
+use Rattle.cast_clock.specs.Times.{clock_of, view_of, join, has_room}
+use Rattle.cast_delay.specs.Ready.{is_member}
+use Rattle.cast_delay.specs.Sources.{source, source_cmp}
+use Rattle.cast_delay.specs.declared.source.Source.{Source}
+use Rattle.cast_delay.specs.declared.row.Row.{Row}
+use Rattle.cast_delay.specs.declared.row.Fact.{Fact}
+use Rattle.cast_delay.specs.declared.row.Fact.TheVariants as fact
+
+-- the number of a group's view, 0 where none was told
+abbrev pub number_of : List (GroupNo × ℕ) → GroupNo → ℕ
+number_of numbers g = unwrap_or (find group_cmp g numbers) 0
+
+abbrev pub standing_in : Row → GroupNo → Standing
+standing_in row g = unwrap_or (find group_cmp g row.standings) Outside
+
+-- how many messages of a process the row's process has delivered in a view of a group
+abbrev pub done_in : Row → GroupNo → ℕ → Proc → ℕ
+done_in row g view p = unwrap_or (find source_cmp (source g view p) row.done) 0
+
+-- how many messages of an entry must be delivered before a message: its own is left out
+abbrev pub needed : Uid → GroupNo → ℕ → Entry → ℕ
+needed id g view e = if uid_eq (named g view e) id then e.1 - 1 else e.1
+
+abbrev pub has_past : Row → Uid → GroupNo → ℕ → List Entry → Bool
+has_past row id g view counts = list_all (λ e. nat_le (needed id g view e) (done_in row g view e.0)) counts
+
+abbrev pub row_allows : Row → ℕ → Uid → ClockList → GroupNo → Standing → Bool
+row_allows row number id times g Outside = true
+row_allows row number id times g (Joining request heard) = nat_le (view_of times g) heard
+row_allows row number id times g Member =
+    nat_lt (view_of times g) number
+    || ((view_of times g == number) && has_past row id g (view_of times g) (clock_of times g).counts)
+
+abbrev pub all_allow : List (GroupNo × ℕ) → Row → Uid → ClockList → Bool
+all_allow numbers row id times = list_all (λ s. row_allows row (number_of numbers s.0) id times s.0 s.1) row.standings
+
+-- ready, by what the queue keeps
+abbrev pub is_ready_row : List (GroupNo × ℕ) → Row → Uid → ClockList → Bool
+is_ready_row numbers row id times =
+    is_member (standing_in row id.group)
+    && ((id.view == number_of numbers id.group)
+    && (nat_lt (done_in row id.group id.view id.proc) id.count
+    && (all_allow numbers row id times
+    && has_room (join row.time times))))
+
+-- the row after a delivery. A join without room changes no time; no ready message has one
+abbrev pub delivered_row : Uid → ClockList → Row → Row
+delivered_row id times row =
+    record row {
+      done = put source_cmp (source id.group id.view id.proc) id.count row.done;
+      time = if has_room (join row.time times) then join row.time times else row.time;
+    }
+
+abbrev pub with_standing : GroupNo → Standing → Row → Row
+with_standing g standing row = record row { standings = put group_cmp g standing row.standings }
+
+abbrev pub with_time : ClockList → Row → Row
+with_time time row = record row { time = time }
+
+-- the row after a fact
+abbrev pub told_row : Fact → Row → Row
+told_row (fact.Standing g standing) row = with_standing g standing row
+told_row (fact.Time time) row = with_time time row

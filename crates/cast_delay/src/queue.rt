@@ -1,0 +1,177 @@
+ghost use Rattle.std.specs.Prelude.{◌≡◌, ◌++◌, ◌∷◌, [], OnOk};
+ghost use Rattle.std.specs.Option.{option_copied, option_map, option_map_or};
+ghost use Rattle.std.specs.FinMap.Entries.{put};
+ghost use Rattle.cast_types.specs.Names.{group_cmp, proc_eq};
+ghost use Rattle.cast_types.specs.declared.names.Standing.TheVariants.{Outside};
+ghost use Rattle.cast_delay.specs.Rows.{delivered_row, told_row, standing_in};
+ghost use Rattle.cast_delay.specs.Queue.{new_row, row_of, change_row, first_for, offered_under, next_key, after_delivery};
+
+use crate::offered::Offered;
+use crate::row::{Fact, Row};
+use cast_clock::Times;
+use cast_frame::Message;
+use cast_types::{GroupNo, Key, Keyed, NoMemory, Proc, Standing};
+use std::alloc::Global;
+use std::marker::Model;
+
+/// The delay queue of a domain: messages in order of receipt, and what decides for each local process which of them
+/// it may deliver. Contracts see a `Queue`.
+#[derive(Drop)]
+pub struct Delay {
+    numbers: Keyed<GroupNo, u32>,
+    offered: Vec<Offered>,
+    rows: Vec<Row>,
+}
+
+impl Model for Delay {
+    ghost use Rattle.cast_delay.specs.Queue.{Queue};
+
+    ghost Value = { Queue };
+
+    ghost view = { λ d. record { numbers = d.numbers; offered = d.offered.items; rows = d.rows.items } };
+}
+
+impl Delay {
+    /// No messages, no views and no processes.
+    pub fn new(alloc: Global) -> Self
+        ensures { result ≡ record { numbers = []; offered = []; rows = [] } }
+    {
+        Delay {
+            numbers: Keyed::new(alloc),
+            offered: Vec::new(alloc),
+            rows: Vec::new(alloc),
+        }
+    }
+
+    /// Adds a process that is in no group. `NoMemory` leaves the queue of no further use, as in all its calls.
+    pub fn admit(&mut self, process: Proc) -> Result<(), NoMemory>
+        ensures { OnOk result (self.new ≡ record self.old { rows = self.old.rows ++ new_row process ∷ [] }) }
+    {
+        let alloc = *self.rows.allocator();
+        self.rows.push(Row::new(alloc, process))?;
+        Ok(())
+    }
+
+    /// Takes in a fact about a process.
+    pub fn tell(&mut self, process: Proc, fact: &Fact) -> Result<(), NoMemory>
+        ensures { OnOk result (self.new ≡ record self.old { rows = change_row process (told_row fact.now) self.old.rows }) }
+    {
+        tell_in(&mut self.rows, process, fact)?;
+        Ok(())
+    }
+
+    /// Takes in the number of a group's new view.
+    pub fn view_changed(&mut self, group: GroupNo, number: u32) -> Result<(), NoMemory>
+        ensures { OnOk result (self.new ≡ record self.old { numbers = put group_cmp group number self.old.numbers }) }
+    {
+        self.numbers.put(group, number)?;
+        Ok(())
+    }
+
+    /// Adds a received message, the last one in order of receipt.
+    pub fn offer(&mut self, key: Key, message: &Message) -> Result<(), NoMemory>
+        ensures { OnOk result (self.new ≡ record self.old { offered = self.old.offered ++ (record { key = key; id = message.now.id; times = message.now.times }) ∷ [] }) }
+    {
+        self.offered.push(Offered {
+            key,
+            id: message.id,
+            times: message.times.copy()?,
+        })?;
+        Ok(())
+    }
+
+    /// The first message in order of receipt that the process may deliver now, `None` where there is none. Takes no
+    /// memory.
+    pub fn next_ready(&self, process: Proc) -> Option<Key>
+        ensures { result ≡ next_key self.now process }
+    {
+        let row = row_in(&self.rows, process)?;
+        let offered = first_in(&self.numbers, &self.offered, row)?;
+        Some(offered.key)
+    }
+
+    /// Takes in that the process delivered a message.
+    pub fn delivered(&mut self, process: Proc, key: Key) -> Result<(), NoMemory>
+        ensures { OnOk result (self.new ≡ record self.old { rows = after_delivery self.old.offered process key self.old.rows }) }
+    {
+        deliver_in(&mut self.rows, &self.offered, process, key)?;
+        Ok(())
+    }
+
+    /// The time of a process, `None` of one that was not admitted.
+    pub fn time(&self, process: Proc) -> Option<&Times>
+        ensures { option_copied result ≡ option_map (λ r. r.time) (row_of self.now.rows process) }
+    {
+        match row_in(&self.rows, process) {
+            Some(row) => Some(&row.time),
+            None => None,
+        }
+    }
+
+    /// What a process is in a group.
+    pub fn standing(&self, process: Proc, group: GroupNo) -> Standing
+        ensures { result ≡ option_map_or (λ r. standing_in r group) (row_of self.now.rows process) Outside }
+    {
+        match row_in(&self.rows, process) {
+            Some(row) => row.standing(group),
+            None => Standing::Outside,
+        }
+    }
+}
+
+// The row of a process.
+fn row_in(rows: &[Row], process: Proc) -> Option<&Row>
+    ensures { option_copied result ≡ row_of rows.now process }
+{
+    rows.iter().find(|row| row.process == process)
+}
+
+// The first message that is ready for a row.
+fn first_in<'a>(
+    numbers: &Keyed<GroupNo, u32>,
+    offered: &'a [Offered],
+    row: &Row,
+) -> Option<&'a Offered>
+    ensures { option_copied result ≡ first_for numbers.now offered.now row.now }
+{
+    offered.iter().find(|offered| row.is_ready(numbers, offered.id, &offered.times))
+}
+
+// The message under a key.
+fn under(offered: &[Offered], key: Key) -> Option<&Offered>
+    ensures { option_copied result ≡ offered_under offered.now key }
+{
+    offered.iter().find(|offered| offered.key == key)
+}
+
+// Each row of the process takes in a fact.
+fn tell_in(rows: &mut Vec<Row>, process: Proc, fact: &Fact) -> Result<(), NoMemory>
+    ensures { OnOk result (rows.new.items ≡ change_row process (told_row fact.now) rows.old.items) }
+{
+    for row in rows.iter_mut() {
+        if row.process == process {
+            row.tell(fact)?;
+        }
+    }
+    Ok(())
+}
+
+// Each row of the process takes in that it delivered the message under a key.
+fn deliver_in(
+    rows: &mut Vec<Row>,
+    offered: &[Offered],
+    process: Proc,
+    key: Key,
+) -> Result<(), NoMemory>
+    ensures { OnOk result (rows.new.items ≡ after_delivery offered.now process key rows.old.items) }
+{
+    let Some(message) = under(offered, key) else {
+        return Ok(());
+    };
+    for row in rows.iter_mut() {
+        if row.process == process {
+            row.deliver(message.id, &message.times)?;
+        }
+    }
+    Ok(())
+}

@@ -1,0 +1,213 @@
+ghost use Rattle.std.specs.Prelude.{◌≡◌, ℕ, List, OnOk, IfOk, ◌-◌, nat_le};
+ghost use Rattle.std.specs.List.{list_all};
+ghost use Rattle.cast_clock.specs.Times.{clock_of, view_of};
+ghost use Rattle.cast_delay.specs.Ready.{is_member};
+ghost use Rattle.cast_delay.specs.Rows.{number_of, needed};
+
+use crate::source::Source;
+use cast_clock::{ClockFault, Times};
+use cast_types::{GroupNo, Keyed, NoMemory, Proc, Stamp, Standing, Uid};
+use std::alloc::{AllocError, Global};
+
+/// What is told of a process.
+#[derive(Drop)]
+pub enum Fact {
+    /// What it is in a group.
+    Standing(GroupNo, Standing),
+    /// Its time.
+    Time(Times),
+}
+
+/// What the queue keeps of a process.
+#[derive(Drop)]
+pub struct Row {
+    pub process: Proc,
+    pub standings: Keyed<GroupNo, Standing>,
+    pub time: Times,
+    /// How many messages of each source it has delivered.
+    pub done: Keyed<Source, u32>,
+}
+
+// The clock's view, 0 of a group that the time says nothing of.
+fn view_in(times: &Stamp, group: GroupNo) -> u32
+    ensures { result ≡ view_of times.now group }
+{
+    match times.get(group) {
+        Some(clock) => clock.view,
+        None => 0,
+    }
+}
+
+// The clock's counts, none of a group that the time says nothing of.
+fn counts_in(times: &Stamp, group: GroupNo) -> &[(Proc, u32)]
+    ensures { result.now ≡ (clock_of times.now group).counts }
+{
+    match times.get(group) {
+        Some(clock) => clock.counts.entries(),
+        None => &[],
+    }
+}
+
+impl Row {
+    ghost use Rattle.cast_delay.specs.Rows.{standing_in, done_in, needed, has_past, row_allows, all_allow, is_ready_row, delivered_row, told_row};
+    ghost use Rattle.cast_delay.specs.Queue.{new_row};
+
+    /// A process that is in no group.
+    pub fn new(alloc: Global, process: Proc) -> Self
+        ensures { result ≡ new_row process }
+    {
+        Row {
+            process,
+            standings: Keyed::new(alloc),
+            time: Times::new(alloc),
+            done: Keyed::new(alloc),
+        }
+    }
+
+    /// What the process is in a group.
+    pub fn standing(&self, group: GroupNo) -> Standing
+        ensures { result ≡ standing_in self.now group }
+    {
+        match self.standings.get(&group) {
+            Some(standing) => *standing,
+            None => Standing::Outside,
+        }
+    }
+
+    // How many messages of a process were delivered in a view of a group.
+    fn done(&self, group: GroupNo, view: u32, process: Proc) -> u32
+        ensures { result ≡ done_in self.now group view process }
+    {
+        let source = Source {
+            group,
+            view,
+            process,
+        };
+        match self.done.get(&source) {
+            Some(count) => *count,
+            None => 0,
+        }
+    }
+
+    // Whether the process is a member of a group.
+    fn is_member(&self, group: GroupNo) -> bool
+        ensures { result ≡ is_member (standing_in self.now group) }
+    {
+        match self.standing(group) {
+            Standing::Member => true,
+            Standing::Outside | Standing::Joining { .. } => false,
+        }
+    }
+
+    // Whether all of these counts but the message itself is delivered.
+    fn has_past(&self, id: Uid, group: GroupNo, view: u32, counts: &[(Proc, u32)]) -> bool
+        ensures { result ≡ has_past self.now id group view counts.now }
+    {
+        counts.iter().all(|entry| needed(id, group, view, *entry)
+            <= self.done(group, view, entry.0))
+    }
+
+    // Whether nothing of a group holds the message back.
+    fn allows(
+        &self,
+        number: u32,
+        id: Uid,
+        times: &Stamp,
+        group: GroupNo,
+        standing: Standing,
+    ) -> bool
+        ensures { result ≡ row_allows self.now number id times.now group standing }
+    {
+        let view = view_in(times, group);
+        match standing {
+            Standing::Outside => true,
+            Standing::Joining { heard, .. } => view <= heard,
+            Standing::Member => {
+                view < number
+                    || (view == number && self.has_past(id, group, view, counts_in(times, group)))
+            }
+        }
+    }
+
+    // Whether no group holds the message back.
+    fn all_allow(&self, numbers: &Keyed<GroupNo, u32>, id: Uid, times: &Stamp) -> bool
+        ensures { result ≡ all_allow numbers.now self.now id times.now }
+    {
+        self.standings.entries().iter().all(|(group, standing)| self.allows(
+            number_in(numbers, *group),
+            id,
+            times,
+            *group,
+            *standing,
+        ))
+    }
+
+    /// Whether a message may be delivered to the process now.
+    pub fn is_ready(&self, numbers: &Keyed<GroupNo, u32>, id: Uid, times: &Stamp) -> bool
+        ensures { result ≡ is_ready_row numbers.now self.now id times.now }
+    {
+        self.is_member(id.group)
+            && id.view == number_in(numbers, id.group)
+            && self.done(id.group, id.view, id.proc) < id.count
+            && self.all_allow(numbers, id, times)
+            && self.time.has_room_for(times)
+    }
+
+    /// Notes that a message was delivered to the process. After `NoMemory` the row may be of no use.
+    pub fn deliver(&mut self, id: Uid, times: &Stamp) -> Result<(), NoMemory>
+        ensures { OnOk result (self.new ≡ delivered_row id times.now self.old) }
+    {
+        let source = Source {
+            group: id.group,
+            view: id.view,
+            process: id.proc,
+        };
+        self.done.put(source, id.count)?;
+        match self.time.merge(times) {
+            Ok(()) => Ok(()),
+            Err(ClockFault::TooMany) => Ok(()),
+            Err(ClockFault::NoMemory) => Err(AllocError),
+        }
+    }
+
+    /// Takes a fact in. `NoMemory` changes nothing.
+    pub fn tell(&mut self, fact: &Fact) -> Result<(), NoMemory>
+        ensures { OnOk result (self.new ≡ told_row fact.now self.old) }
+    {
+        match fact {
+            Fact::Standing(group, standing) => self.standings.put(*group, *standing),
+            Fact::Time(time) => {
+                self.time = time.copy()?;
+                Ok(())
+            }
+        }
+    }
+}
+
+// How many messages of an entry must be delivered before a message.
+fn needed(id: Uid, group: GroupNo, view: u32, entry: (Proc, u32)) -> u32
+    ensures { result ≡ needed id group view entry }
+{
+    let (proc, count) = entry;
+    let covered = Uid {
+        group,
+        view,
+        proc,
+        count,
+    };
+    if covered == id {
+        count.saturating_sub(1)
+    } else {
+        count
+    }
+}
+
+/// The number of a group's view, 0 where none was told.
+pub fn number_in(numbers: &Keyed<GroupNo, u32>, group: GroupNo) -> u32
+    ensures { result ≡ number_of numbers.now group }
+{
+    match numbers.get(&group) {
+        Some(number) => *number,
+        None => 0,
+    }
+}

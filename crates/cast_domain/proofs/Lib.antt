@@ -1,0 +1,4 @@
+pub mod Risings
+pub mod Words
+pub mod FirstCast
+pub mod Waiting

@@ -1,0 +1,112 @@
+-- What processes, messages, requests and views do to a state, and what is sent and pushed with it.
+use Rattle.std.specs.Prelude.{ℕ, ◌+◌, Bool, true, false, ◌&&◌, if◌then◌else◌, List, [], ◌∷◌, ◌++◌, filter, Option, Some, None}
+use Rattle.std.specs.List.{fold}
+use Rattle.cast_types.specs.declared.names.SiteNo.{SiteNo}
+use Rattle.cast_types.specs.declared.names.GroupNo.{GroupNo}
+use Rattle.cast_types.specs.declared.names.Proc.{Proc}
+use Rattle.cast_types.specs.declared.names.Standing.TheVariants.{Member}
+use Rattle.cast_types.specs.Names.{group_eq, proc_eq}
+use Rattle.cast_types.specs.Sets.{is_among, set_at}
+use Rattle.cast_clock.specs.Times.{count_in, join, bumped, entering}
+use Rattle.cast_frame.specs.declared.message.Body.{Body}
+use Rattle.cast_frame.specs.declared.message.Body.TheVariants as body
+use Rattle.cast_frame.specs.declared.message.Message.{Message}
+use Rattle.cast_frame.specs.declared.site.Change.{Change}
+use Rattle.cast_frame.specs.declared.site.SiteFrame.{SiteFrame}
+use Rattle.cast_frame.specs.declared.site.SiteFrame.TheVariants as frame
+use Rattle.cast_frame.specs.declared.client.Push.{Push}
+use Rattle.cast_frame.specs.declared.client.Push.TheVariants as push
+use Rattle.cast_frame.specs.Membership.{Membership}
+use Rattle.cast_delay.specs.Ready.{Process}
+use Rattle.cast_domain.specs.Session.{is_open, pushed_to}
+use Rattle.cast_domain.specs.declared.group.Asking.{Asking}
+use Rattle.cast_domain.specs.Group.{first_asking, with_request, with_view, is_taken_in}
+use Rattle.cast_domain.specs.Home.{is_empty}
+use Rattle.cast_domain.specs.State.{State, local, serials, set_session, set_process, set_group, emitted, others_of}
+
+-- Requests
+
+abbrev pub ask_frame : GroupNo → Asking → SiteFrame
+ask_frame g a = frame.Ask g a.number a.change a.proc
+
+-- the first request is asked of the home
+abbrev pub asking : State → GroupNo → State
+asking s g = elim (first_asking (s.group g).requests) [ Some a ↦ emitted s s.config.home (ask_frame g a) | None ↦ s ]
+
+-- one more request; it is asked at once where it is the first
+abbrev pub requesting : State → GroupNo → Change → Proc → State
+requesting s g what p =
+    let next : State = set_group s g (with_request (s.group g) what p) in
+    if is_empty (s.group g).requests then asking next g else next
+
+-- Pushes
+
+abbrev pub pushing : State → ℕ → Push → State
+pushing s k p = if is_open (s.session k) then set_session s k (pushed_to (s.session k) p) else s
+
+-- Messages
+
+abbrev pub receiving : State → Message → State
+receiving s m = record s { got = s.got ++ m ∷ [] }
+
+abbrev pub sending_to : Message → State → SiteNo → State
+sending_to m s to = emitted s to (frame.Data m)
+
+-- a member's next message of a group
+abbrev pub next_message : State → GroupNo → ℕ → Body → Message
+next_message s g k content =
+    let times = bumped (s.process k).time g (local s k) in
+    record {
+      id = record { group = g; view = (s.group g).number; proc = local s k; count = count_in times g (local s k) };
+      times = times;
+      body = content;
+    }
+
+-- the message is stamped, received here, and sent to each other site of the view
+abbrev pub sending_message : State → ℕ → Message → State
+sending_message s k m =
+    fold (sending_to m)
+    (receiving (set_process s k (record (s.process k) { time = m.times })) m)
+    (others_of s m.id.group)
+
+abbrev pub sending : State → GroupNo → ℕ → Body → State
+sending s g k content = sending_message s k (next_message s g k content)
+
+abbrev pub payload_of : Body → List ℕ
+payload_of (body.Causal payload) = payload
+
+-- a process delivers a message, and the program is told
+abbrev pub delivering : State → ℕ → Message → State
+delivering s k m =
+    let p : Process = s.process k in
+    pushing
+    (record (set_process s k (record p { time = join p.time m.times; delivered = p.delivered ++ m.id ∷ [] })) {
+      deliveries = s.deliveries ++ (local s k, m.id) ∷ [];
+    })
+    k (push.Deliver m.id (payload_of m.body))
+
+-- Views
+
+-- a view takes a process in: it names it, and the process is a member or its join was applied
+abbrev pub enters : State → GroupNo → Membership → ℕ → ℕ → Bool
+enters s g members request k =
+    is_taken_in request ((s.process k).standing g) && is_among proc_eq (local s k) members.list
+
+-- a process in a view
+abbrev pub in_view : GroupNo → ℕ → Process → Process
+in_view g n p = record p { time = entering p.time g n; standing = set_at group_eq p.standing g Member }
+
+abbrev pub all_in_view : State → GroupNo → ℕ → Membership → ℕ → State
+all_in_view s g n members request =
+    record s { process = λ k. if enters s g members request k then in_view g n (s.process k) else s.process k }
+
+abbrev pub push_view : GroupNo → ℕ → Membership → State → ℕ → State
+push_view g n members s k = pushing s k (push.View g n members)
+
+-- a view is complete: members and joining processes in it enter it and are told, and then the home
+abbrev pub completing : State → GroupNo → ℕ → Membership → ℕ → State
+completing s g n members request =
+    let now : State = set_group s g (with_view s.here n members (s.group g)) in
+    let told : State =
+    fold (push_view g n members) (all_in_view now g n members request) (filter (enters s g members request) (serials s)) in
+    emitted told s.config.home (frame.Installed g n)

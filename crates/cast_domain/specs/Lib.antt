@@ -1,0 +1,11 @@
+pub mod Events
+pub mod Session
+pub mod Group
+pub mod Phase
+pub mod Home
+pub mod State
+pub mod Effects
+pub mod Rest
+pub mod Step
+pub mod Run
+pub mod Records

@@ -1,0 +1,117 @@
+-- The state of one domain at one site, with its whole history, and what its parts say together.
+use Rattle.std.specs.Prelude.{ℕ, Bool, true, false, not, ◌&&◌, ◌==◌, nat_lt, List, [], ◌∷◌, ◌++◌}
+use Rattle.std.specs.List.{list_any, list_all, range_with_len}
+use Rattle.cast_types.specs.declared.names.SiteNo.{SiteNo}
+use Rattle.cast_types.specs.declared.names.GroupNo.{GroupNo}
+use Rattle.cast_types.specs.declared.names.Proc.{Proc}
+use Rattle.cast_types.specs.declared.names.Uid.{Uid}
+use Rattle.cast_types.specs.declared.names.Standing.{Standing}
+use Rattle.cast_types.specs.declared.names.Standing.TheVariants.{Outside}
+use Rattle.cast_types.specs.Names.{site_eq, group_eq, proc_eq, uid_eq}
+use Rattle.cast_types.specs.Sets.{is_among, set_at}
+use Rattle.cast_clock.specs.Times.{no_time, clock_of, count_in}
+use Rattle.cast_frame.specs.declared.message.Message.{Message}
+use Rattle.cast_frame.specs.declared.site.SiteFrame.{SiteFrame}
+use Rattle.cast_delay.specs.Ready.{Process, Gate, is_causally_ready}
+use Rattle.cast_domain.specs.declared.session.Session.{Session}
+use Rattle.cast_domain.specs.Session.{no_session}
+use Rattle.cast_domain.specs.declared.group.Group.{Group}
+use Rattle.cast_domain.specs.Group.{no_group, members_of, other_sites}
+use Rattle.cast_domain.specs.declared.home.Home.{Home}
+use Rattle.cast_domain.specs.Home.{first_home}
+use Rattle.cast_domain.specs.declared.config.DomainConfig.{DomainConfig}
+
+pub record State : Type 0 where
+  pub here : SiteNo
+  pub config : DomainConfig
+  -- serials are used from 1 on, and never again
+  pub used : ℕ
+  pub session : ℕ → Session
+  pub process : ℕ → Process
+  pub group : GroupNo → Group
+  pub home : GroupNo → Home
+  -- every message ever received, in order
+  pub got : List Message
+  -- of the event at hand: the frames sent, and the deliveries
+  pub frames : List (SiteNo × SiteFrame)
+  pub deliveries : List (Proc × Uid)
+
+abbrev pub no_process : Process
+no_process = record { time = no_time; standing = λ g. Outside; delivered = [] }
+
+-- a domain before its first event
+abbrev pub opening : SiteNo → DomainConfig → State
+opening here config =
+    record {
+      here = here;
+      config = config;
+      used = 0;
+      session = λ k. no_session;
+      process = λ k. no_process;
+      group = λ g. no_group;
+      home = λ g. first_home;
+      got = [];
+      frames = [];
+      deliveries = [];
+    }
+
+-- Names
+
+abbrev pub local : State → ℕ → Proc
+local s k = record { site = s.here; serial = k }
+
+abbrev pub serials : State → List ℕ
+serials s = range_with_len 1 s.used
+
+abbrev pub is_home : State → Bool
+is_home s = site_eq s.here s.config.home
+
+abbrev pub is_site : State → SiteNo → Bool
+is_site s t = is_among site_eq t s.config.sites
+
+abbrev pub is_group : State → GroupNo → Bool
+is_group s g = is_among group_eq g s.config.groups
+
+-- Changes at one place
+
+abbrev pub set_session : State → ℕ → Session → State
+set_session s k v = record s { session = set_at (λ a b. a == b) s.session k v }
+
+abbrev pub set_process : State → ℕ → Process → State
+set_process s k v = record s { process = set_at (λ a b. a == b) s.process k v }
+
+abbrev pub set_group : State → GroupNo → Group → State
+set_group s g v = record s { group = set_at group_eq s.group g v }
+
+abbrev pub set_home : State → GroupNo → Home → State
+set_home s g v = record s { home = set_at group_eq s.home g v }
+
+abbrev pub set_standing : State → ℕ → GroupNo → Standing → State
+set_standing s k g v =
+    set_process s k (record (s.process k) { standing = set_at group_eq (s.process k).standing g v })
+
+abbrev pub emitted : State → SiteNo → SiteFrame → State
+emitted s to f = record s { frames = s.frames ++ (to, f) ∷ [] }
+
+-- Messages
+
+abbrev pub is_received : State → Uid → Bool
+is_received s u = list_any (λ m. uid_eq m.id u) s.got
+
+abbrev pub others_of : State → GroupNo → List SiteNo
+others_of s g = other_sites s.here (members_of (s.group g))
+
+abbrev pub gate_of : State → GroupNo → Gate
+gate_of s g = record { number = (s.group g).number }
+
+abbrev pub is_ready_for : State → ℕ → Message → Bool
+is_ready_for s k m = is_causally_ready s.config.groups (gate_of s) (s.process k) m
+
+-- well formed: all its groups are configured, its process is one of these, and its own time has its view and its
+-- count, from 1 on
+abbrev pub is_well_formed : State → List Proc → Message → Bool
+is_well_formed s members m =
+    is_group s m.id.group && (list_all (λ c. is_group s c.0) m.times
+    && (is_among proc_eq m.id.proc members
+    && (((clock_of m.times m.id.group).view == m.id.view)
+    && (nat_lt 0 m.id.count && (count_in m.times m.id.group m.id.proc == m.id.count)))))

@@ -1,0 +1,189 @@
+-- What each event does before the state comes to rest, and what it is answered.
+use Rattle.std.specs.Prelude.{ℕ, ◌+◌, Bool, true, false, not, ◌&&◌, ◌==◌, nat_lt, nat_le, if◌then◌else◌, List, [], ◌∷◌, ◌++◌, length, Option, Some, None}
+use Rattle.cast_types.specs.declared.names.SiteNo.{SiteNo}
+use Rattle.cast_types.specs.declared.names.GroupNo.{GroupNo}
+use Rattle.cast_types.specs.declared.names.Proc.{Proc}
+use Rattle.cast_types.specs.declared.names.Uid.{Uid}
+use Rattle.cast_types.specs.declared.names.Standing.TheVariants.{Joining}
+use Rattle.cast_types.specs.declared.refusal.Refusal.{Refusal}
+use Rattle.cast_types.specs.declared.refusal.Refusal.TheVariants.{NotOpen, TooManySessions, NoGroup, NotMember, AlreadyMember, HeldFull, TooLong}
+use Rattle.cast_types.specs.declared.limits.TheConstants.{MAX_NUMBER, MAX_PAYLOAD}
+use Rattle.cast_types.specs.Names.{site_eq}
+use Rattle.cast_types.specs.Stamps.{ClockList, is_stamp}
+use Rattle.cast_clock.specs.Times.{view_of, count_in, bumped, has_room}
+use Rattle.cast_frame.specs.declared.message.Body.TheVariants as body
+use Rattle.cast_frame.specs.declared.message.Message.{Message}
+use Rattle.cast_frame.specs.declared.site.Change.{Change}
+use Rattle.cast_frame.specs.declared.site.Change.TheVariants as change
+use Rattle.cast_frame.specs.declared.site.SiteFrame.{SiteFrame}
+use Rattle.cast_frame.specs.declared.site.SiteFrame.TheVariants as frame
+use Rattle.cast_frame.specs.declared.client.Request.{Request}
+use Rattle.cast_frame.specs.declared.client.Request.TheVariants.{Join, Cast}
+use Rattle.cast_frame.specs.declared.client.Push.TheVariants as push
+use Rattle.cast_frame.specs.Membership.{Membership}
+use Rattle.cast_delay.specs.Ready.{is_member, is_outside}
+use Rattle.cast_domain.specs.Session.{first_session, is_open}
+use Rattle.cast_domain.specs.declared.group.Verdict.TheVariants.{Again, Completes, Ignored}
+use Rattle.cast_domain.specs.Group.{first_asking, members_of, with_answer, verdict_of}
+use Rattle.cast_domain.specs.declared.home.Home.{Home}
+use Rattle.cast_domain.specs.Home.{applied_of, after_request, after_installed}
+use Rattle.cast_domain.specs.declared.event.Command.{Command}
+use Rattle.cast_domain.specs.declared.event.Command.TheVariants as command
+use Rattle.cast_domain.specs.declared.event.Event.{Event}
+use Rattle.cast_domain.specs.declared.event.Event.TheVariants as event
+use Rattle.cast_domain.specs.declared.event.Taken.{Taken}
+use Rattle.cast_domain.specs.declared.event.Taken.TheVariants as taken
+use Rattle.cast_domain.specs.State.{State, local, is_home, is_site, is_group, set_session, set_group, set_home, set_standing, emitted, is_received, is_well_formed}
+use Rattle.cast_domain.specs.Effects.{asking, requesting, pushing, receiving, sending, completing}
+
+-- Commands
+
+-- the refusal of the first test that fails
+abbrev pub first_refusal : List (Bool × Refusal) → Option Refusal
+first_refusal [] = None
+first_refusal (t ∷ tests) = if t.0 then Some t.1 else first_refusal tests
+
+abbrev pub join_tests : State → ℕ → GroupNo → List (Bool × Refusal)
+join_tests s k g =
+    (not (is_group s g), NoGroup)
+    ∷ (not (is_outside ((s.process k).standing g)), AlreadyMember)
+    ∷ ((s.group g).asked == MAX_NUMBER, HeldFull) ∷ []
+
+-- a process's count in a group may be raised: it is not the last one, and the raised time has room and a spelling,
+-- as it always has where only members of the view are counted
+abbrev pub may_raise : ClockList → GroupNo → Proc → Bool
+may_raise t g p = nat_lt (count_in t g p) MAX_NUMBER && (has_room (bumped t g p) && is_stamp (bumped t g p))
+
+abbrev pub cast_tests : State → ℕ → GroupNo → List ℕ → List (Bool × Refusal)
+cast_tests s k g payload =
+    (not (is_group s g), NoGroup)
+    ∷ (nat_lt MAX_PAYLOAD (length payload), TooLong)
+    ∷ (not (is_member ((s.process k).standing g)), NotMember)
+    ∷ (not (may_raise (s.process k).time g (local s k)), HeldFull) ∷ []
+
+abbrev pub tests_of : State → ℕ → Request → List (Bool × Refusal)
+tests_of s k (Join tag g) = join_tests s k g
+tests_of s k (Cast tag g payload) = cast_tests s k g payload
+
+abbrev pub tag_of : Request → ℕ
+tag_of (Join tag g) = tag
+tag_of (Cast tag g payload) = tag
+
+abbrev pub joining : State → ℕ → GroupNo → State
+joining s k g =
+    requesting
+    (set_standing s k g (Joining ((s.group g).asked + 1) (view_of (s.process k).time g)))
+    g change.Join (local s k)
+
+abbrev pub effect_of : State → ℕ → Request → State
+effect_of s k (Join tag g) = joining s k g
+effect_of s k (Cast tag g payload) = sending s g k (body.Causal payload)
+
+abbrev pub replying : State → ℕ → Request → Option Refusal → State
+replying s k r refusal = pushing s k (push.Reply (tag_of r) refusal)
+
+-- a refused request changes nothing but the reply that it pushes
+abbrev pub requested : State → ℕ → Request → State
+requested s k r =
+    elim (first_refusal (tests_of s k r)) [
+      | Some refusal ↦ replying s k r (Some refusal)
+      | None ↦ replying (effect_of s k r) k r None
+    ]
+
+abbrev pub commanded : State → ℕ → Command → State
+commanded s k (command.Request r) = requested s k r
+
+-- Data
+
+-- a message of the site's view, from the process's own site, which is another
+abbrev pub is_used : State → SiteNo → Message → Bool
+is_used s from m =
+    site_eq m.id.proc.site from && (not (site_eq from s.here) && ((m.id.view == (s.group m.id.group).number)
+    && is_well_formed s (members_of (s.group m.id.group)) m))
+
+-- received once, and acknowledged as often as it comes
+abbrev pub on_data : State → SiteNo → Message → State
+on_data s from m =
+    if is_used s from m
+    then emitted (if is_received s m.id then s else receiving s m) from (frame.Ack m.id)
+    else s
+
+-- Requests
+
+abbrev pub is_from_home : State → SiteNo → Bool
+is_from_home s from = site_eq from s.config.home
+
+-- the request after the last one is applied; that one and lower ones are answered again
+abbrev pub on_ask : State → SiteNo → GroupNo → ℕ → Change → Proc → State
+on_ask s from g number change.Join p =
+    let h : Home = s.home g in
+    if not (is_home s) then s
+    else if number == applied_of h from + 1
+    then emitted (set_home s g (after_request h from number p)) from (frame.Asked g number false)
+    else if nat_le number (applied_of h from) then emitted s from (frame.Asked g number false) else s
+on_ask s from g number change.Leave p = s
+
+-- the first request is answered: the next one is asked
+abbrev pub on_asked : State → SiteNo → GroupNo → ℕ → Bool → State
+on_asked s from g number true = s
+on_asked s from g number false =
+    elim (first_asking (s.group g).requests) [
+      | Some a ↦ (if is_from_home s from && (a.number == number) then asking (set_group s g (with_answer (s.group g))) g else s)
+      | None ↦ s
+    ]
+
+-- Views
+
+abbrev pub on_install : State → SiteNo → GroupNo → ℕ → Membership → ℕ → State
+on_install s from g n members request =
+    if is_from_home s from
+    then elim (verdict_of (s.group g) n) [
+      | Again ↦ emitted s s.config.home (frame.Installed g n)
+      | Completes ↦ completing s g n members request
+      | Ignored ↦ s
+    ]
+    else s
+
+abbrev pub on_installed : State → SiteNo → GroupNo → ℕ → State
+on_installed s from g n = if is_home s then set_home s g (after_installed (s.home g) from n) else s
+
+-- All frames
+
+abbrev pub group_of : SiteFrame → GroupNo
+group_of (frame.Data m) = m.id.group
+group_of (frame.Ack u) = u.group
+group_of (frame.Ask g number what p) = g
+group_of (frame.Asked g number full) = g
+group_of (frame.Install g view members request cut tail) = g
+group_of (frame.Installed g view) = g
+
+abbrev pub on_frame : State → SiteNo → SiteFrame → State
+on_frame s from (frame.Data m) = on_data s from m
+on_frame s from (frame.Ack u) = s
+on_frame s from (frame.Ask g number what p) = on_ask s from g number what p
+on_frame s from (frame.Asked g number full) = on_asked s from g number full
+on_frame s from (frame.Install g view members request cut tail) = on_install s from g view members request
+on_frame s from (frame.Installed g view) = on_installed s from g view
+
+-- frames from a site or for a group that is not configured are ignored
+abbrev pub framed : State → SiteNo → SiteFrame → State
+framed s from f = if is_site s from && is_group s (group_of f) then on_frame s from f else s
+
+-- Sessions
+
+abbrev pub opened : State → State
+opened s =
+    let k : ℕ = s.used + 1 in
+    set_session (record s { used = k }) k (first_session (local s k))
+
+-- Events
+
+-- what an event does to the state, and what it is answered
+abbrev pub Effect : Type 0
+Effect = State × Taken
+
+abbrev pub acted : State → Event → Effect
+acted s (event.Open d) =
+    if s.used == MAX_NUMBER then (s, taken.Refused TooManySessions) else (opened s, taken.Opened (s.used + 1))
+acted s (event.Command d k c) = if is_open (s.session k) then (commanded s k c, taken.Nothing) else (s, taken.Refused NotOpen)
+acted s (event.Frame d from f) = (framed s from f, taken.Nothing)

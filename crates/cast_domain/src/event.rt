@@ -1,0 +1,83 @@
+ghost use Rattle.std.specs.Prelude.{◌≡◌, ◌++◌, ◌∷◌, [], OnOk};
+
+use cast_frame::{Request, SiteFrame};
+use cast_types::{DomainNo, Listed, NoMemory, Proc, Refusal, SiteNo, Uid};
+use std::alloc::Global;
+
+/// What a program does.
+#[derive(Drop)]
+pub enum Command {
+    Request(Request),
+}
+
+/// What happens to a daemon.
+#[derive(Drop)]
+pub enum Event {
+    /// A program connects.
+    Open(DomainNo),
+    /// The program of a session asks for something.
+    Command {
+        domain: DomainNo,
+        serial: u32,
+        command: Command,
+    },
+    /// A frame comes from a site, which may be the own one.
+    Frame(DomainNo, SiteNo, SiteFrame),
+}
+
+impl Event {
+    ghost use Rattle.cast_domain.specs.Events.{domain_of};
+
+    /// The domain that the event names.
+    pub fn domain(&self) -> DomainNo
+        ensures { result ≡ domain_of self.now }
+    {
+        match self {
+            Event::Open(domain) => *domain,
+            Event::Command { domain, .. } => *domain,
+            Event::Frame(domain, _, _) => *domain,
+        }
+    }
+}
+
+/// What an event is answered.
+#[derive(Clone, Copy, Debug, PartialEq, Eq)]
+pub enum Taken {
+    Nothing,
+    /// The serial of the new session.
+    Opened(u32),
+    Refused(Refusal),
+}
+
+/// What comes of events, each list in order.
+#[derive(Drop)]
+pub struct Outs {
+    /// The frames sent, each with its domain and the site that it goes to.
+    pub frames: Listed<(DomainNo, SiteNo, SiteFrame)>,
+    /// The domains that were halted.
+    pub halted: Listed<DomainNo>,
+    /// Each delivery of a message to a process.
+    pub delivered: Listed<(DomainNo, Proc, Uid)>,
+}
+
+impl Outs {
+    /// Nothing.
+    pub fn new(alloc: Global) -> Self
+        ensures { (result.frames ≡ []) × (result.halted ≡ []) × (result.delivered ≡ []) }
+    {
+        Outs {
+            frames: Listed::new(alloc),
+            halted: Listed::new(alloc),
+            delivered: Listed::new(alloc),
+        }
+    }
+
+    /// Adds a frame of a domain to a site.
+    pub fn send(&mut self, domain: DomainNo, to: SiteNo, frame: SiteFrame) -> Result<(), NoMemory>
+        ensures frames { OnOk result (self.new.frames ≡ self.old.frames ++ (domain, to, frame) ∷ []) }
+        ensures halted { self.new.halted ≡ self.old.halted }
+        ensures delivered { self.new.delivered ≡ self.old.delivered }
+    {
+        self.frames.push((domain, to, frame))
+    }
+}

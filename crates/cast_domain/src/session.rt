@@ -1,0 +1,43 @@
+ghost use Rattle.std.specs.Prelude.{◌≡◌, IfOk, OnOk, OnErr};
+
+use cast_frame::Push;
+use cast_types::{Listed, NoMemory, Proc};
+use std::alloc::Global;
+
+/// Whether a session is told anything more.
+#[derive(Clone, Copy, Debug, PartialEq, Eq)]
+pub enum Status {
+    Open,
+    Gone,
+}
+
+/// The connection of a program: everything that was ever pushed to it, in order.
+#[derive(Drop)]
+pub struct Session {
+    pub pushed: Listed<Push>,
+    pub status: Status,
+}
+
+impl Session {
+    ghost use Rattle.cast_domain.specs.Session.{first_session, pushed_to};
+
+    /// The session of a process, which begins with its name.
+    pub fn new(alloc: Global, process: Proc) -> Result<Self, NoMemory>
+        ensures { IfOk result (λ s. s ≡ first_session process) }
+    {
+        let mut pushed = Listed::new(alloc);
+        pushed.push(Push::Opened(process))?;
+        Ok(Session {
+            pushed,
+            status: Status::Open,
+        })
+    }
+
+    /// Pushes an entry. `NoMemory` changes nothing.
+    pub fn push(&mut self, push: Push) -> Result<(), NoMemory>
+        ensures ok { OnOk result (self.new ≡ pushed_to self.old push) }
+        ensures err { OnErr result (self.new ≡ self.old) }
+    {
+        self.pushed.push(push)
+    }
+}

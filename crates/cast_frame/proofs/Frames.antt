@@ -1,0 +1,404 @@
+-- Frames are read as they were spelled: what is read is spelled so, and what is spelled so is read.
+use Rattle.std.proofs.Common.{◌≡◌, ℕ, ◌≤◌, Bool, true, false, cond, eqb, ltb, List, [], ◌++◌, length, Result, Ok, Err, refl, sym, ap, subst, ◌∙◌, append_assoc, arith, lit<, lit≤, inl, inr}
+use Rattle.std.specs.Int.{w16, w32}
+use Rattle.std.proofs.lemmas.Bool.{cases_Bool, false≢true, eqb-true, eq-eqb, le-ltb}
+use Rattle.std.proofs.lemmas.List.{append-nil, nil_from_length}
+use Rattle.cast_types.specs.declared.names.DomainNo.{DomainNo}
+use Rattle.cast_types.specs.declared.names.SiteNo.{SiteNo}
+use Rattle.cast_types.specs.declared.names.GroupNo.{GroupNo}
+use Rattle.cast_types.specs.declared.names.Proc.{Proc}
+use Rattle.cast_types.specs.declared.names.Uid.{Uid}
+use Rattle.cast_types.specs.declared.clock.Clock.{Clock}
+use Rattle.cast_types.specs.Names.{Entry}
+use Rattle.cast_frame.specs.declared.fault.FrameFault.{FrameFault}
+use Rattle.cast_frame.specs.declared.fault.FrameFault.TheVariants.{Magic, Version, WrongType, Length, Range}
+use Rattle.cast_frame.specs.declared.message.Body.{Body}
+use Rattle.cast_frame.specs.declared.message.Body.TheVariants as body
+use Rattle.cast_frame.specs.declared.message.Message.{Message}
+use Rattle.cast_frame.specs.declared.site.Change.{Change}
+use Rattle.cast_frame.specs.declared.site.Change.TheVariants.{Join, Leave}
+use Rattle.cast_frame.specs.declared.site.SiteFrame.{SiteFrame}
+use Rattle.cast_frame.specs.declared.site.SiteFrame.TheVariants.{Data, Ack, Ask, Asked, Install, Installed}
+use Rattle.cast_frame.specs.declared.reading.FrameType.{FrameType}
+use Rattle.cast_frame.specs.declared.reading.FrameType.TheVariants as types
+use Rattle.cast_frame.specs.Membership.{Membership}
+use Rattle.cast_frame.specs.Stretch.{Stretch}
+use Rattle.cast_frame.specs.Spelling.{byte, short, word, spelled_proc, spelled_uid, spelled_counts, spelled_times, spelled_payload, spelled_behind_id, spelled_message, spelled_members, spelled_tail, change_code, full_code, frame_code, spelled_fields, spelled_site}
+use Rattle.cast_frame.specs.Reading.{◌>>=◌, byte_at, number_at, domain_at, site_at, group_at, count_at, proc_at, uid_at, counts_at, times_at, payload_at, message_at, members_at, tail_at, change_of, full_of, data_at, ack_at, ask_at, asked_at, install_at, installed_at, type_of, type_at, fields_at, magic_at, version_at, frame_at, site_frame_of}
+use Rattle.cast_frame.specs.Spelled.{IsFrom, IsName, IsCount, IsProc, IsUid, AreTimes, IsBody, IsMessage, IsInstall, IsFrame, IsSpelled}
+use Rattle.cast_frame.proofs.Fields.{IsBytes, bind_ok, guard_ok, pass_ok, ok_is, Took, joined, Takes, Again, byte_takes, byte_again, short_takes, short_again, word_takes, word_again}
+use Rattle.cast_frame.proofs.Parts.{domain_takes, domain_again, site_takes, site_again, group_takes, group_again, count_takes, count_again, proc_takes, proc_again, uid_takes, uid_again, counts_takes, counts_again, times_takes, times_again, payload_takes, payload_again}
+use Rattle.cast_frame.proofs.Holders.{chosen, members_take, members_again, tail_takes, tail_again}
+
+pub message_takes : Takes message_at spelled_message IsMessage
+unfolding message_at spelled_message spelled_behind_id
+message_takes bytes x fits e =
+    let a1 = bind_ok (uid_at bytes) (λ id. byte_at 1 1 id.1 >>= λ kind. times_at kind.1 >>= λ times. payload_at times.1 >>= λ payload. Ok (record { id = id.0; times = times.0; body = body.Causal payload.0 }, payload.1)) x e in
+    let a2 = bind_ok (byte_at 1 1 a1.0.1) (λ kind. times_at kind.1 >>= λ times. payload_at times.1 >>= λ payload. Ok (record { id = a1.0.0; times = times.0; body = body.Causal payload.0 }, payload.1)) x a1.2 in
+    let a3 = bind_ok (times_at a2.0.1) (λ times. payload_at times.1 >>= λ payload. Ok (record { id = a1.0.0; times = times.0; body = body.Causal payload.0 }, payload.1)) x a2.2 in
+    let a4 = bind_ok (payload_at a3.0.1) (λ payload. Ok (record { id = a1.0.0; times = a3.0.0; body = body.Causal payload.0 }, payload.1)) x a3.2 in
+    let t1 = uid_takes bytes a1.0 fits a1.1 in
+    let t2 = byte_takes 1 1 a1.0.1 a2.0 t1.rest_fits a2.1 in
+    let t3 = times_takes a2.0.1 a3.0 t2.rest_fits a3.1 in
+    let t4 = payload_takes a3.0.1 a4.0 t3.rest_fits a4.1 in
+    let one : a2.0.0 ≡ 1 = omega (arith, t2.holds.above, t2.holds.below) in
+    let kind = t2.parts ∙ ap (λ (n : ℕ). byte n ++ a2.0.1) one in
+    let j3 = joined a2.0.1 (spelled_times a3.0.0) a3.0.1 (spelled_payload a4.0.0) a4.0.1 t3.parts t4.parts in
+    let j2 = joined a1.0.1 (byte 1) a2.0.1 (spelled_times a3.0.0 ++ spelled_payload a4.0.0) a4.0.1 kind j3 in
+    let j1 = joined bytes (spelled_uid a1.0.0) a1.0.1 (byte 1 ++ (spelled_times a3.0.0 ++ spelled_payload a4.0.0)) a4.0.1 t1.parts j2 in
+    let made : Message × List ℕ = (record { id = a1.0.0; times = a3.0.0; body = body.Causal a4.0.0 }, a4.0.1) in
+    subst (λ (y : Message × List ℕ). Took bytes (spelled_message y.0) y.1 (IsMessage y.0)) (ok_is made x a4.2)
+    (record { parts = j1; rest_fits = t4.rest_fits; holds = record { id = t1.holds; times = t3.holds; body = t4.holds } })
+
+causal_again : (id : Uid) (times : List (GroupNo × Clock)) (p : List ℕ) (rest : List ℕ) → IsUid id → AreTimes times → length p ≤ 16384 → message_at (spelled_message (record { id = id; times = times; body = body.Causal p }) ++ rest) ≡ Ok (record { id = id; times = times; body = body.Causal p }, rest)
+unfolding message_at spelled_message spelled_behind_id
+causal_again id times p rest is_id are_times few =
+    let regrouped : spelled_message (record { id = id; times = times; body = body.Causal p }) ++ rest ≡ (spelled_uid id) ++ ((byte 1) ++ ((spelled_times times) ++ ((spelled_payload p) ++ rest))) = append_assoc (spelled_uid id) (byte 1 ++ (spelled_times times ++ spelled_payload p)) rest ∙ ap (λ (t : List ℕ). (spelled_uid id) ++ t) (append_assoc (byte 1) (spelled_times times ++ spelled_payload p) rest ∙ ap (λ (t : List ℕ). (byte 1) ++ t) (append_assoc (spelled_times times) (spelled_payload p) rest)) in
+    ap message_at regrouped ∙ rw (uid_again (id) ((byte 1) ++ ((spelled_times times) ++ ((spelled_payload p) ++ rest))) is_id, byte_again 1 1 (1) ((spelled_times times) ++ ((spelled_payload p) ++ rest)) (record { above = lit≤ tt; below = lit≤ tt }), times_again (times) ((spelled_payload p) ++ rest) are_times, payload_again (p) (rest) few) refl
+
+holds_again : (id : Uid) (times : List (GroupNo × Clock)) (b : Body) (rest : List ℕ) → IsUid id → AreTimes times → IsBody b → message_at (spelled_message (record { id = id; times = times; body = b }) ++ rest) ≡ Ok (record { id = id; times = times; body = b }, rest)
+holds_again id times (body.Causal p) rest is_id are_times few = causal_again id times p rest is_id are_times few
+
+pub message_again : Again message_at spelled_message IsMessage
+message_again v rest fits = holds_again v.id v.times v.body rest fits.id fits.times fits.body
+
+-- ---- the fields of each frame
+
+change_back : (n : ℕ) → IsFrom 1 2 n → n ≡ change_code (change_of n)
+change_back n h =
+    elim (cases_Bool (eqb n 1)) [
+      | inl is ↦ rw is (eqb-true n 1 is)
+      | inr not_one ↦
+          let other : n ≡ 1 → ⊥ = λ z. false≢true (sym not_one ∙ eq-eqb n 1 z) in
+          rw not_one (omega (arith, h.above, h.below, other))
+    ]
+
+change_again : (c : Change) → change_of (change_code c) ≡ c
+change_again Join = refl
+change_again Leave = refl
+
+change_within : (c : Change) → IsFrom 1 2 (change_code c)
+change_within Join = record { above = lit≤ tt; below = lit≤ tt }
+change_within Leave = record { above = lit≤ tt; below = lit≤ tt }
+
+full_back : (n : ℕ) (full : Bool) → full_of n ≡ Ok full → n ≡ full_code full
+unfolding full_of
+full_back n full e =
+    elim (chosen (eqb n 0) (Ok false) (cond (eqb n 14) (Ok true) (Err Range)) (Ok full) e) [
+      | inl none ↦ eqb-true n 0 none.0 ∙ ap full_code (ok_is false full none.1)
+      | inr some ↦
+          let g = pass_ok (eqb n 14) Range (Ok true) full some.1 in
+          eqb-true n 14 g.0 ∙ ap full_code (ok_is true full g.1)
+    ]
+
+full_again : (full : Bool) → full_of (full_code full) ≡ Ok full
+unfolding full_of
+full_again true = refl
+full_again false = refl
+
+full_within : (full : Bool) → IsFrom 0 255 (full_code full)
+full_within true = record { above = lit≤ tt; below = lit≤ tt }
+full_within false = record { above = lit≤ tt; below = lit≤ tt }
+
+-- a frame of a type
+abbrev pub IsOf : ℕ → SiteFrame → Type 0
+IsOf code f = IsFrame f × (frame_code f ≡ code)
+
+pub data_takes : Takes data_at (spelled_fields) (IsOf 1)
+unfolding data_at spelled_fields
+data_takes bytes x fits e =
+    let a1 = bind_ok (message_at bytes) (λ message. Ok (Data message.0, message.1)) x e in
+    let t1 = message_takes bytes a1.0 fits a1.1 in
+    let made : SiteFrame × List ℕ = (Data a1.0.0, a1.0.1) in
+    subst (λ (y : SiteFrame × List ℕ). Took bytes ((spelled_fields) y.0) y.1 ((IsOf 1) y.0)) (ok_is made x a1.2)
+    (record { parts = t1.parts; rest_fits = t1.rest_fits; holds = (t1.holds, refl) })
+
+pub ack_takes : Takes ack_at (spelled_fields) (IsOf 2)
+unfolding ack_at spelled_fields
+ack_takes bytes x fits e =
+    let a1 = bind_ok (uid_at bytes) (λ id. Ok (Ack id.0, id.1)) x e in
+    let t1 = uid_takes bytes a1.0 fits a1.1 in
+    let made : SiteFrame × List ℕ = (Ack a1.0.0, a1.0.1) in
+    subst (λ (y : SiteFrame × List ℕ). Took bytes ((spelled_fields) y.0) y.1 ((IsOf 2) y.0)) (ok_is made x a1.2)
+    (record { parts = t1.parts; rest_fits = t1.rest_fits; holds = (t1.holds, refl) })
+
+pub ask_takes : Takes ask_at spelled_fields (IsOf 4)
+unfolding ask_at spelled_fields
+ask_takes bytes x fits e =
+    let a1 = bind_ok (group_at bytes) (λ group. count_at group.1 >>= λ number. byte_at 1 2 number.1 >>= λ change. proc_at change.1 >>= λ proc. Ok (Ask group.0 number.0 (change_of change.0) proc.0, proc.1)) x e in
+    let a2 = bind_ok (count_at a1.0.1) (λ number. byte_at 1 2 number.1 >>= λ change. proc_at change.1 >>= λ proc. Ok (Ask a1.0.0 number.0 (change_of change.0) proc.0, proc.1)) x a1.2 in
+    let a3 = bind_ok (byte_at 1 2 a2.0.1) (λ change. proc_at change.1 >>= λ proc. Ok (Ask a1.0.0 a2.0.0 (change_of change.0) proc.0, proc.1)) x a2.2 in
+    let a4 = bind_ok (proc_at a3.0.1) (λ proc. Ok (Ask a1.0.0 a2.0.0 (change_of a3.0.0) proc.0, proc.1)) x a3.2 in
+    let t1 = group_takes bytes a1.0 fits a1.1 in
+    let t2 = count_takes a1.0.1 a2.0 t1.rest_fits a2.1 in
+    let t3 = byte_takes 1 2 a2.0.1 a3.0 t2.rest_fits a3.1 in
+    let t4 = proc_takes a3.0.1 a4.0 t3.rest_fits a4.1 in
+    let code = change_code (change_of a3.0.0) in
+    let p3 = t3.parts ∙ ap (λ (n : ℕ). byte n ++ a3.0.1) (change_back a3.0.0 t3.holds) in
+    let j3 = joined a2.0.1 (byte code) a3.0.1 (spelled_proc a4.0.0) a4.0.1 p3 t4.parts in
+    let j2 = joined a1.0.1 (word a2.0.0) a2.0.1 (byte code ++ spelled_proc a4.0.0) a4.0.1 t2.parts j3 in
+    let j1 = joined bytes (short a1.0.0.0) a1.0.1 (word a2.0.0 ++ (byte code ++ spelled_proc a4.0.0)) a4.0.1 t1.parts j2 in
+    let made : SiteFrame × List ℕ = (Ask a1.0.0 a2.0.0 (change_of a3.0.0) a4.0.0, a4.0.1) in
+    subst (λ (y : SiteFrame × List ℕ). Took bytes (spelled_fields y.0) y.1 (IsOf 4 y.0)) (ok_is made x a4.2)
+    (record { parts = j1; rest_fits = t4.rest_fits; holds = ((t1.holds, t2.holds, t4.holds), refl) })
+
+pub asked_takes : Takes asked_at spelled_fields (IsOf 5)
+unfolding asked_at spelled_fields
+asked_takes bytes x fits e =
+    let a1 = bind_ok (group_at bytes) (λ group. count_at group.1 >>= λ number. byte_at 0 255 number.1 >>= λ code. full_of code.0 >>= λ full. Ok (Asked group.0 number.0 full, code.1)) x e in
+    let a2 = bind_ok (count_at a1.0.1) (λ number. byte_at 0 255 number.1 >>= λ code. full_of code.0 >>= λ full. Ok (Asked a1.0.0 number.0 full, code.1)) x a1.2 in
+    let a3 = bind_ok (byte_at 0 255 a2.0.1) (λ code. full_of code.0 >>= λ full. Ok (Asked a1.0.0 a2.0.0 full, code.1)) x a2.2 in
+    let a4 = bind_ok (full_of a3.0.0) (λ full. Ok (Asked a1.0.0 a2.0.0 full, a3.0.1)) x a3.2 in
+    let t1 = group_takes bytes a1.0 fits a1.1 in
+    let t2 = count_takes a1.0.1 a2.0 t1.rest_fits a2.1 in
+    let t3 = byte_takes 0 255 a2.0.1 a3.0 t2.rest_fits a3.1 in
+    let p3 = t3.parts ∙ ap (λ (n : ℕ). byte n ++ a3.0.1) (full_back a3.0.0 a4.0 a4.1) in
+    let j2 = joined a1.0.1 (word a2.0.0) a2.0.1 (byte (full_code a4.0)) a3.0.1 t2.parts p3 in
+    let j1 = joined bytes (short a1.0.0.0) a1.0.1 (word a2.0.0 ++ byte (full_code a4.0)) a3.0.1 t1.parts j2 in
+    let made : SiteFrame × List ℕ = (Asked a1.0.0 a2.0.0 a4.0, a3.0.1) in
+    subst (λ (y : SiteFrame × List ℕ). Took bytes (spelled_fields y.0) y.1 (IsOf 5 y.0)) (ok_is made x a4.2)
+    (record { parts = j1; rest_fits = t3.rest_fits; holds = ((t1.holds, t2.holds), refl) })
+
+pub install_takes : Takes install_at (spelled_fields) (IsOf 10)
+unfolding install_at spelled_fields
+install_takes bytes x fits e =
+    let a1 = bind_ok (group_at bytes) (λ group. count_at group.1 >>= λ view. members_at view.1 >>= λ members. number_at w32 0 4294967295 members.1 >>= λ request. counts_at request.1 >>= λ cut. tail_at cut.1 >>= λ tail. Ok (Install group.0 view.0 members.0 request.0 cut.0 tail.0, tail.1)) x e in
+    let a2 = bind_ok (count_at a1.0.1) (λ view. members_at view.1 >>= λ members. number_at w32 0 4294967295 members.1 >>= λ request. counts_at request.1 >>= λ cut. tail_at cut.1 >>= λ tail. Ok (Install a1.0.0 view.0 members.0 request.0 cut.0 tail.0, tail.1)) x a1.2 in
+    let a3 = bind_ok (members_at a2.0.1) (λ members. number_at w32 0 4294967295 members.1 >>= λ request. counts_at request.1 >>= λ cut. tail_at cut.1 >>= λ tail. Ok (Install a1.0.0 a2.0.0 members.0 request.0 cut.0 tail.0, tail.1)) x a2.2 in
+    let a4 = bind_ok (number_at w32 0 4294967295 a3.0.1) (λ request. counts_at request.1 >>= λ cut. tail_at cut.1 >>= λ tail. Ok (Install a1.0.0 a2.0.0 a3.0.0 request.0 cut.0 tail.0, tail.1)) x a3.2 in
+    let a5 = bind_ok (counts_at a4.0.1) (λ cut. tail_at cut.1 >>= λ tail. Ok (Install a1.0.0 a2.0.0 a3.0.0 a4.0.0 cut.0 tail.0, tail.1)) x a4.2 in
+    let a6 = bind_ok (tail_at a5.0.1) (λ tail. Ok (Install a1.0.0 a2.0.0 a3.0.0 a4.0.0 a5.0.0 tail.0, tail.1)) x a5.2 in
+    let t1 = group_takes bytes a1.0 fits a1.1 in
+    let t2 = count_takes a1.0.1 a2.0 t1.rest_fits a2.1 in
+    let t3 = members_take a2.0.1 a3.0 t2.rest_fits a3.1 in
+    let t4 = word_takes 0 4294967295 a3.0.1 a4.0 t3.rest_fits a4.1 in
+    let t5 = counts_takes a4.0.1 a5.0 t4.rest_fits a5.1 in
+    let t6 = tail_takes a5.0.1 a6.0 t5.rest_fits a6.1 in
+    let j5 = joined a4.0.1 (spelled_counts (a5.0.0)) a5.0.1 (spelled_tail (a6.0.0)) a6.0.1 t5.parts t6.parts in
+    let j4 = joined a3.0.1 (word (a4.0.0)) a4.0.1 (spelled_counts (a5.0.0) ++ spelled_tail (a6.0.0)) a6.0.1 t4.parts j5 in
+    let j3 = joined a2.0.1 (spelled_members (a3.0.0)) a3.0.1 (word (a4.0.0) ++ (spelled_counts (a5.0.0) ++ spelled_tail (a6.0.0))) a6.0.1 t3.parts j4 in
+    let j2 = joined a1.0.1 (word (a2.0.0)) a2.0.1 (spelled_members (a3.0.0) ++ (word (a4.0.0) ++ (spelled_counts (a5.0.0) ++ spelled_tail (a6.0.0)))) a6.0.1 t2.parts j3 in
+    let j1 = joined bytes (short (a1.0.0).0) a1.0.1 (word (a2.0.0) ++ (spelled_members (a3.0.0) ++ (word (a4.0.0) ++ (spelled_counts (a5.0.0) ++ spelled_tail (a6.0.0))))) a6.0.1 t1.parts j2 in
+    let made : SiteFrame × List ℕ = (Install a1.0.0 a2.0.0 a3.0.0 a4.0.0 a5.0.0 a6.0.0, a6.0.1) in
+    subst (λ (y : SiteFrame × List ℕ). Took bytes ((spelled_fields) y.0) y.1 ((IsOf 10) y.0)) (ok_is made x a6.2)
+    (record { parts = j1; rest_fits = t6.rest_fits; holds = (record { group = t1.holds; view = t2.holds; members = t3.holds; request = t4.holds; cut = t5.holds; tail = t6.holds }, refl) })
+
+pub installed_takes : Takes installed_at (spelled_fields) (IsOf 11)
+unfolding installed_at spelled_fields
+installed_takes bytes x fits e =
+    let a1 = bind_ok (group_at bytes) (λ group. count_at group.1 >>= λ view. Ok (Installed group.0 view.0, view.1)) x e in
+    let a2 = bind_ok (count_at a1.0.1) (λ view. Ok (Installed a1.0.0 view.0, view.1)) x a1.2 in
+    let t1 = group_takes bytes a1.0 fits a1.1 in
+    let t2 = count_takes a1.0.1 a2.0 t1.rest_fits a2.1 in
+    let j1 = joined bytes (short (a1.0.0).0) a1.0.1 (word (a2.0.0)) a2.0.1 t1.parts t2.parts in
+    let made : SiteFrame × List ℕ = (Installed a1.0.0 a2.0.0, a2.0.1) in
+    subst (λ (y : SiteFrame × List ℕ). Took bytes ((spelled_fields) y.0) y.1 ((IsOf 11) y.0)) (ok_is made x a2.2)
+    (record { parts = j1; rest_fits = t2.rest_fits; holds = ((t1.holds, t2.holds), refl) })
+
+data_again : (m : Message) (rest : List ℕ) → IsMessage m → data_at (spelled_fields (Data m) ++ rest) ≡ Ok (Data m, rest)
+unfolding data_at spelled_fields
+data_again m rest is_message =
+    rw (message_again (m) (rest) is_message) refl
+
+ack_again : (u : Uid) (rest : List ℕ) → IsUid u → ack_at (spelled_fields (Ack u) ++ rest) ≡ Ok (Ack u, rest)
+unfolding ack_at spelled_fields
+ack_again u rest is_id =
+    rw (uid_again (u) (rest) is_id) refl
+
+ask_again : (g : GroupNo) (n : ℕ) (c : Change) (p : Proc) (rest : List ℕ) → IsName g.0 → IsCount n → IsProc p → ask_at (spelled_fields (Ask g n c p) ++ rest) ≡ Ok (Ask g n c p, rest)
+unfolding ask_at spelled_fields
+ask_again g n c p rest is_group is_number is_proc =
+    let regrouped : spelled_fields (Ask g n c p) ++ rest ≡ (short g.0) ++ ((word n) ++ ((byte (change_code c)) ++ ((spelled_proc p) ++ rest))) = append_assoc (short g.0) (word n ++ (byte (change_code c) ++ spelled_proc p)) rest ∙ ap (λ (t : List ℕ). (short g.0) ++ t) (append_assoc (word n) (byte (change_code c) ++ spelled_proc p) rest ∙ ap (λ (t : List ℕ). (word n) ++ t) (append_assoc (byte (change_code c)) (spelled_proc p) rest)) in
+    ap ask_at regrouped ∙ rw (group_again (g) ((word n) ++ ((byte (change_code c)) ++ ((spelled_proc p) ++ rest))) is_group, count_again (n) ((byte (change_code c)) ++ ((spelled_proc p) ++ rest)) is_number, byte_again 1 2 (change_code c) ((spelled_proc p) ++ rest) (change_within c), proc_again (p) (rest) is_proc, change_again c) refl
+
+asked_again : (g : GroupNo) (n : ℕ) (full : Bool) (rest : List ℕ) → IsName g.0 → IsCount n → asked_at (spelled_fields (Asked g n full) ++ rest) ≡ Ok (Asked g n full, rest)
+unfolding asked_at spelled_fields
+asked_again g n full rest is_group is_number =
+    let regrouped : spelled_fields (Asked g n full) ++ rest ≡ (short g.0) ++ ((word n) ++ ((byte (full_code full)) ++ rest)) = append_assoc (short g.0) (word n ++ byte (full_code full)) rest ∙ ap (λ (t : List ℕ). (short g.0) ++ t) (append_assoc (word n) (byte (full_code full)) rest) in
+    ap asked_at regrouped ∙ rw (group_again (g) ((word n) ++ ((byte (full_code full)) ++ rest)) is_group, count_again (n) ((byte (full_code full)) ++ rest) is_number, byte_again 0 255 (full_code full) (rest) (full_within full), full_again full) refl
+
+install_again : (g : GroupNo) (view : ℕ) (m : Membership) (request : ℕ) (cut : List Entry) (tail : Stretch) (rest : List ℕ) → IsInstall g view m request cut tail → install_at (spelled_fields (Install g view m request cut tail) ++ rest) ≡ Ok (Install g view m request cut tail, rest)
+unfolding install_at spelled_fields
+install_again g view m request cut tail rest fits =
+    let regrouped : spelled_fields (Install g view m request cut tail) ++ rest ≡ (short g.0) ++ ((word view) ++ ((spelled_members m) ++ ((word request) ++ ((spelled_counts cut) ++ ((spelled_tail tail) ++ rest))))) = append_assoc (short g.0) (word view ++ (spelled_members m ++ (word request ++ (spelled_counts cut ++ spelled_tail tail)))) rest ∙ ap (λ (t : List ℕ). (short g.0) ++ t) (append_assoc (word view) (spelled_members m ++ (word request ++ (spelled_counts cut ++ spelled_tail tail))) rest ∙ ap (λ (t : List ℕ). (word view) ++ t) (append_assoc (spelled_members m) (word request ++ (spelled_counts cut ++ spelled_tail tail)) rest ∙ ap (λ (t : List ℕ). (spelled_members m) ++ t) (append_assoc (word request) (spelled_counts cut ++ spelled_tail tail) rest ∙ ap (λ (t : List ℕ). (word request) ++ t) (append_assoc (spelled_counts cut) (spelled_tail tail) rest)))) in
+    ap install_at regrouped ∙ rw (group_again (g) ((word view) ++ ((spelled_members m) ++ ((word request) ++ ((spelled_counts cut) ++ ((spelled_tail tail) ++ rest))))) fits.group, count_again (view) ((spelled_members m) ++ ((word request) ++ ((spelled_counts cut) ++ ((spelled_tail tail) ++ rest)))) fits.view, members_again (m) ((word request) ++ ((spelled_counts cut) ++ ((spelled_tail tail) ++ rest))) fits.members, word_again 0 4294967295 (lit< tt) (request) ((spelled_counts cut) ++ ((spelled_tail tail) ++ rest)) fits.request, counts_again (cut) ((spelled_tail tail) ++ rest) fits.cut, tail_again (tail) (rest) fits.tail) refl
+
+installed_again : (g : GroupNo) (view : ℕ) (rest : List ℕ) → IsName g.0 → IsCount view → installed_at (spelled_fields (Installed g view) ++ rest) ≡ Ok (Installed g view, rest)
+unfolding installed_at spelled_fields
+installed_again g view rest is_group is_view =
+    let regrouped : spelled_fields (Installed g view) ++ rest ≡ (short g.0) ++ ((word view) ++ rest) = append_assoc (short g.0) (word view) rest in
+    ap installed_at regrouped ∙ rw (group_again (g) ((word view) ++ rest) is_group, count_again (view) (rest) is_view) refl
+
+-- ---- the header
+
+abbrev pub type_code : FrameType → ℕ
+type_code types.Data = 1
+type_code types.Ack = 2
+type_code types.Ask = 4
+type_code types.Asked = 5
+type_code types.Install = 10
+type_code types.Installed = 11
+
+abbrev pub type_of_frame : SiteFrame → FrameType
+type_of_frame (Data m) = types.Data
+type_of_frame (Ack u) = types.Ack
+type_of_frame (Ask g n c p) = types.Ask
+type_of_frame (Asked g n full) = types.Asked
+type_of_frame (Install g view m request cut tail) = types.Install
+type_of_frame (Installed g view) = types.Installed
+
+frame_code_is : (f : SiteFrame) → frame_code f ≡ type_code (type_of_frame f)
+frame_code_is (Data m) = refl
+frame_code_is (Ack u) = refl
+frame_code_is (Ask g n c p) = refl
+frame_code_is (Asked g n full) = refl
+frame_code_is (Install g view m request cut tail) = refl
+frame_code_is (Installed g view) = refl
+
+fields_take : (t : FrameType) → Takes (fields_at t) spelled_fields (IsOf (type_code t))
+unfolding fields_at
+fields_take types.Data bytes x fits e = data_takes bytes x fits e
+fields_take types.Ack bytes x fits e = ack_takes bytes x fits e
+fields_take types.Ask bytes x fits e = ask_takes bytes x fits e
+fields_take types.Asked bytes x fits e = asked_takes bytes x fits e
+fields_take types.Install bytes x fits e = install_takes bytes x fits e
+fields_take types.Installed bytes x fits e = installed_takes bytes x fits e
+
+fields_again : (f : SiteFrame) (rest : List ℕ) → IsFrame f → fields_at (type_of_frame f) (spelled_fields f ++ rest) ≡ Ok (f, rest)
+unfolding fields_at
+fields_again (Data m) rest fits = data_again m rest fits
+fields_again (Ack u) rest fits = ack_again u rest fits
+fields_again (Ask g n c p) rest fits = ask_again g n c p rest fits.0 fits.1 fits.2
+fields_again (Asked g n full) rest fits = asked_again g n full rest fits.0 fits.1
+fields_again (Install g view m request cut tail) rest fits = install_again g view m request cut tail rest fits
+fields_again (Installed g view) rest fits = installed_again g view rest fits.0 fits.1
+
+type_of_is : (n : ℕ) (t : FrameType) → type_of n ≡ Ok t → n ≡ type_code t
+unfolding type_of
+type_of_is n t e =
+    elim (chosen (eqb n 1) (Ok types.Data) (cond (eqb n 2) (Ok types.Ack) (cond (eqb n 4) (Ok types.Ask) (cond (eqb n 5) (Ok types.Asked) (cond (eqb n 10) (Ok types.Install) (cond (eqb n 11) (Ok types.Installed) (Err WrongType)))))) (Ok t) e) [
+      | inl is ↦ eqb-true n 1 is.0 ∙ ap type_code (ok_is types.Data t is.1)
+      | inr e2 ↦ elim (chosen (eqb n 2) (Ok types.Ack) (cond (eqb n 4) (Ok types.Ask) (cond (eqb n 5) (Ok types.Asked) (cond (eqb n 10) (Ok types.Install) (cond (eqb n 11) (Ok types.Installed) (Err WrongType))))) (Ok t) e2.1) [
+        | inl is ↦ eqb-true n 2 is.0 ∙ ap type_code (ok_is types.Ack t is.1)
+        | inr e4 ↦ elim (chosen (eqb n 4) (Ok types.Ask) (cond (eqb n 5) (Ok types.Asked) (cond (eqb n 10) (Ok types.Install) (cond (eqb n 11) (Ok types.Installed) (Err WrongType)))) (Ok t) e4.1) [
+          | inl is ↦ eqb-true n 4 is.0 ∙ ap type_code (ok_is types.Ask t is.1)
+          | inr e5 ↦ elim (chosen (eqb n 5) (Ok types.Asked) (cond (eqb n 10) (Ok types.Install) (cond (eqb n 11) (Ok types.Installed) (Err WrongType))) (Ok t) e5.1) [
+            | inl is ↦ eqb-true n 5 is.0 ∙ ap type_code (ok_is types.Asked t is.1)
+            | inr e10 ↦ elim (chosen (eqb n 10) (Ok types.Install) (cond (eqb n 11) (Ok types.Installed) (Err WrongType)) (Ok t) e10.1) [
+              | inl is ↦ eqb-true n 10 is.0 ∙ ap type_code (ok_is types.Install t is.1)
+              | inr e11 ↦ let g = pass_ok (eqb n 11) WrongType (Ok types.Installed) t e11.1 in eqb-true n 11 g.0 ∙ ap type_code (ok_is types.Installed t g.1)
+            ]
+          ]
+        ]
+      ]
+    ]
+
+type_of_again : (t : FrameType) → type_of (type_code t) ≡ Ok t
+unfolding type_of
+type_of_again types.Data = refl
+type_of_again types.Ack = refl
+type_of_again types.Ask = refl
+type_of_again types.Asked = refl
+type_of_again types.Install = refl
+type_of_again types.Installed = refl
+
+type_within : (t : FrameType) → IsFrom 0 255 (type_code t)
+type_within types.Data = record { above = lit≤ tt; below = lit≤ tt }
+type_within types.Ack = record { above = lit≤ tt; below = lit≤ tt }
+type_within types.Ask = record { above = lit≤ tt; below = lit≤ tt }
+type_within types.Asked = record { above = lit≤ tt; below = lit≤ tt }
+type_within types.Install = record { above = lit≤ tt; below = lit≤ tt }
+type_within types.Installed = record { above = lit≤ tt; below = lit≤ tt }
+
+type_takes : (bytes : List ℕ) (x : FrameType × List ℕ) → IsBytes bytes → type_at bytes ≡ Ok x → Took bytes (byte (type_code x.0)) x.1 (Unit {0})
+unfolding type_at
+type_takes bytes x fits e =
+    let a1 = bind_ok (byte_at 0 255 bytes) (λ n. type_of n.0 >>= λ type. Ok (type, n.1)) x e in
+    let a2 = bind_ok (type_of a1.0.0) (λ type. Ok (type, a1.0.1)) x a1.2 in
+    let t1 = byte_takes 0 255 bytes a1.0 fits a1.1 in
+    let made : FrameType × List ℕ = (a2.0, a1.0.1) in
+    subst (λ (y : FrameType × List ℕ). Took bytes (byte (type_code y.0)) y.1 (Unit {0})) (ok_is made x a2.2)
+    (record { parts = t1.parts ∙ ap (λ (n : ℕ). byte n ++ a1.0.1) (type_of_is a1.0.0 a2.0 a2.1); rest_fits = t1.rest_fits; holds = tt })
+
+type_again : (t : FrameType) (rest : List ℕ) → type_at (byte (type_code t) ++ rest) ≡ Ok (t, rest)
+unfolding type_at
+type_again t rest = rw (byte_again 0 255 (type_code t) rest (type_within t), type_of_again t) refl
+
+magic_takes : (bytes rest : List ℕ) → IsBytes bytes → magic_at bytes ≡ Ok rest → Took bytes (short 0x4344) rest (Unit {0})
+unfolding magic_at
+magic_takes bytes rest fits e =
+    let a = bind_ok (number_at w16 0 65535 bytes) (λ n. cond (eqb n.0 0x4344) (Ok n.1) (Err Magic)) rest e in
+    let g = pass_ok (eqb a.0.0 0x4344) Magic (Ok a.0.1) rest a.2 in
+    let t = short_takes 0 65535 bytes a.0 fits a.1 in
+    subst (λ (y : List ℕ). Took bytes (short 0x4344) y (Unit {0})) (ok_is a.0.1 rest g.1)
+    (record { parts = t.parts ∙ ap (λ (n : ℕ). short n ++ a.0.1) (eqb-true a.0.0 0x4344 g.0); rest_fits = t.rest_fits; holds = tt })
+
+magic_again : (rest : List ℕ) → magic_at (short 0x4344 ++ rest) ≡ Ok rest
+unfolding magic_at
+magic_again rest = rw (short_again 0 65535 (lit< tt) 0x4344 rest (record { above = lit≤ tt; below = lit≤ tt })) refl
+
+version_takes : (bytes rest : List ℕ) → IsBytes bytes → version_at bytes ≡ Ok rest → Took bytes (byte 1) rest (Unit {0})
+unfolding version_at
+version_takes bytes rest fits e =
+    let a = bind_ok (byte_at 0 255 bytes) (λ n. cond (eqb n.0 1) (Ok n.1) (Err Version)) rest e in
+    let g = pass_ok (eqb a.0.0 1) Version (Ok a.0.1) rest a.2 in
+    let t = byte_takes 0 255 bytes a.0 fits a.1 in
+    subst (λ (y : List ℕ). Took bytes (byte 1) y (Unit {0})) (ok_is a.0.1 rest g.1)
+    (record { parts = t.parts ∙ ap (λ (n : ℕ). byte n ++ a.0.1) (eqb-true a.0.0 1 g.0); rest_fits = t.rest_fits; holds = tt })
+
+version_again : (rest : List ℕ) → version_at (byte 1 ++ rest) ≡ Ok rest
+unfolding version_at
+version_again rest = rw (byte_again 0 255 1 rest (record { above = lit≤ tt; below = lit≤ tt })) refl
+
+-- ---- all of the bytes
+
+abbrev ended : DomainNo × SiteNo × SiteFrame → List ℕ → Result (DomainNo × SiteNo × SiteFrame) FrameFault
+ended x rest = cond (eqb (length rest) 0) (Ok x) (Err Length)
+
+frame_takes : (bytes : List ℕ) (x : DomainNo × SiteNo × SiteFrame) → IsBytes bytes → frame_at bytes ≡ Ok x → IsSpelled x.0 x.1 x.2 × (bytes ≡ spelled_site x.0 x.1 x.2)
+unfolding frame_at spelled_site
+frame_takes bytes x fits e =
+    let a1 = bind_ok (magic_at bytes) (λ magic. version_at magic >>= λ version. type_at version >>= λ type. domain_at type.1 >>= λ domain. site_at domain.1 >>= λ site. fields_at type.0 site.1 >>= λ frame. ended (domain.0, site.0, frame.0) frame.1) x e in
+    let a2 = bind_ok (version_at a1.0) (λ version. type_at version >>= λ type. domain_at type.1 >>= λ domain. site_at domain.1 >>= λ site. fields_at type.0 site.1 >>= λ frame. ended (domain.0, site.0, frame.0) frame.1) x a1.2 in
+    let a3 = bind_ok (type_at a2.0) (λ type. domain_at type.1 >>= λ domain. site_at domain.1 >>= λ site. fields_at type.0 site.1 >>= λ frame. ended (domain.0, site.0, frame.0) frame.1) x a2.2 in
+    let a4 = bind_ok (domain_at a3.0.1) (λ domain. site_at domain.1 >>= λ site. fields_at a3.0.0 site.1 >>= λ frame. ended (domain.0, site.0, frame.0) frame.1) x a3.2 in
+    let a5 = bind_ok (site_at a4.0.1) (λ site. fields_at a3.0.0 site.1 >>= λ frame. ended (a4.0.0, site.0, frame.0) frame.1) x a4.2 in
+    let a6 = bind_ok (fields_at a3.0.0 a5.0.1) (λ frame. ended (a4.0.0, a5.0.0, frame.0) frame.1) x a5.2 in
+    let g = pass_ok (eqb (length a6.0.1) 0) Length (Ok (a4.0.0, a5.0.0, a6.0.0)) x a6.2 in
+    let nothing : a6.0.1 ≡ [] = nil_from_length a6.0.1 (eqb-true (length a6.0.1) 0 g.0) in
+    let t1 = magic_takes bytes a1.0 fits a1.1 in
+    let t2 = version_takes a1.0 a2.0 t1.rest_fits a2.1 in
+    let t3 = type_takes a2.0 a3.0 t2.rest_fits a3.1 in
+    let t4 = domain_takes a3.0.1 a4.0 t3.rest_fits a4.1 in
+    let t5 = site_takes a4.0.1 a5.0 t4.rest_fits a5.1 in
+    let t6 = fields_take a3.0.0 a5.0.1 a6.0 t5.rest_fits a6.1 in
+    let f = a6.0.0 in
+    let p3 = t3.parts ∙ ap (λ (n : ℕ). byte n ++ a3.0.1) (sym t6.holds.1) in
+    let p6 : a5.0.1 ≡ spelled_fields f = t6.parts ∙ ap (λ (r : List ℕ). spelled_fields f ++ r) nothing ∙ append-nil (spelled_fields f) in
+    let p5 : a4.0.1 ≡ short a5.0.0.0 ++ spelled_fields f = t5.parts ∙ ap (λ (r : List ℕ). short a5.0.0.0 ++ r) p6 in
+    let p4 : a3.0.1 ≡ byte a4.0.0.0 ++ (short a5.0.0.0 ++ spelled_fields f) = t4.parts ∙ ap (λ (r : List ℕ). byte a4.0.0.0 ++ r) p5 in
+    let q3 : a2.0 ≡ byte (frame_code f) ++ (byte a4.0.0.0 ++ (short a5.0.0.0 ++ spelled_fields f)) = p3 ∙ ap (λ (r : List ℕ). byte (frame_code f) ++ r) p4 in
+    let q2 : a1.0 ≡ byte 1 ++ (byte (frame_code f) ++ (byte a4.0.0.0 ++ (short a5.0.0.0 ++ spelled_fields f))) = t2.parts ∙ ap (λ (r : List ℕ). byte 1 ++ r) q3 in
+    let q1 : bytes ≡ spelled_site a4.0.0 a5.0.0 f = t1.parts ∙ ap (λ (r : List ℕ). short 0x4344 ++ r) q2 in
+    subst (λ (y : DomainNo × SiteNo × SiteFrame). IsSpelled y.0 y.1 y.2 × (bytes ≡ spelled_site y.0 y.1 y.2)) (ok_is (a4.0.0, a5.0.0, f) x g.1)
+    (record { domain = t4.holds; site = t5.holds; frame = t6.holds.0 }, q1)
+
+frame_again : (d : DomainNo) (s : SiteNo) (f : SiteFrame) → IsSpelled d s f → frame_at (spelled_site d s f) ≡ Ok (d, s, f)
+unfolding frame_at spelled_site
+frame_again d s f fits =
+    let t = type_of_frame f in
+    let r5 : List ℕ = spelled_fields f in
+    let r4 : List ℕ = short s.0 ++ spelled_fields f in
+    let r3 : List ℕ = byte d.0 ++ (short s.0 ++ spelled_fields f) in
+    let code : byte (frame_code f) ++ r3 ≡ byte (type_code t) ++ r3 = ap (λ (n : ℕ). byte n ++ r3) (frame_code_is f) in
+    let type : type_at (byte (frame_code f) ++ r3) ≡ Ok (t, r3) = ap type_at code ∙ type_again t r3 in
+    let fields : fields_at t (spelled_fields f) ≡ Ok (f, []) = ap (fields_at t) (sym (append-nil (spelled_fields f))) ∙ fields_again f [] fits.frame in
+    rw (magic_again (byte 1 ++ (byte (frame_code f) ++ r3)), version_again (byte (frame_code f) ++ r3), type, domain_again d r4 fits.domain, site_again s r5 fits.site, fields) refl
+
+pub found : (bytes : List ℕ) (x : DomainNo × SiteNo × SiteFrame) → IsBytes bytes → site_frame_of bytes ≡ Ok x → IsSpelled x.0 x.1 x.2 × (bytes ≡ spelled_site x.0 x.1 x.2)
+unfolding site_frame_of
+found bytes x fits e = frame_takes bytes x fits ((guard_ok (ltb 60000 (length bytes)) Length (frame_at bytes) (Ok x) e x refl).1)
+
+pub read_again : (d : DomainNo) (s : SiteNo) (f : SiteFrame) → IsSpelled d s f → length (spelled_site d s f) ≤ 60000 → site_frame_of (spelled_site d s f) ≡ Ok (d, s, f)
+unfolding site_frame_of
+read_again d s f fits few = rw (le-ltb _ _ few) (frame_again d s f fits)

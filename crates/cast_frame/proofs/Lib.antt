@@ -1,0 +1,9 @@
+pub mod Many
+pub mod Fields
+pub mod Lists
+pub mod Parts
+pub mod Holders
+pub mod Frames
+pub mod Sizes
+pub mod Places
+pub mod Vectors

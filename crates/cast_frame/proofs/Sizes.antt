@@ -1,0 +1,142 @@
+-- How many bytes spellings have.
+use Rattle.std.proofs.Common.{◌≡◌, ℕ, ◌+◌, ◌*◌, ◌≤◌, List, [], ◌∷◌, ◌++◌, length, Option, Some, None, Result, Ok, Err, refl, sym, ap, ◌∙◌, arith}
+use Rattle.std.specs.Prelude.{IfOk}
+use Rattle.std.specs.List.{flat_map, AllByRecursion}
+use Rattle.std.proofs.lemmas.List.{length-append}
+use Rattle.std.proofs.lemmas.List.Concat.{flat_map-cons}
+use Rattle.cast_types.specs.declared.names.DomainNo.{DomainNo}
+use Rattle.cast_types.specs.declared.names.SiteNo.{SiteNo}
+use Rattle.cast_types.specs.declared.names.GroupNo.{GroupNo}
+use Rattle.cast_types.specs.declared.names.Proc.{Proc}
+use Rattle.cast_types.specs.declared.names.Uid.{Uid}
+use Rattle.cast_types.specs.declared.clock.Clock.{Clock}
+use Rattle.cast_types.specs.Names.{Entry}
+use Rattle.cast_types.proofs.CountLists.{counts_parts}
+use Rattle.cast_frame.specs.declared.fault.FrameFault.{FrameFault}
+use Rattle.cast_frame.specs.declared.message.Body.{Body}
+use Rattle.cast_frame.specs.declared.message.Body.TheVariants as body
+use Rattle.cast_frame.specs.declared.message.Message.{Message}
+use Rattle.cast_frame.specs.declared.site.SiteFrame.{SiteFrame}
+use Rattle.cast_frame.specs.declared.site.SiteFrame.TheVariants.{Data, Ack, Ask, Asked, Install, Installed}
+use Rattle.cast_frame.specs.Membership.{Membership}
+use Rattle.cast_frame.specs.Stretch.{Stretch}
+use Rattle.cast_frame.specs.Spelling.{byte, short, word, spelled_proc, spelled_entry, spelled_uid, spelled_counts, spelled_clock, spelled_times, spelled_payload, spelled_behind_id, spelled_message, spelled_holder, spelled_members, spelled_tail, change_code, full_code, frame_code, spelled_fields, spelled_site}
+use Rattle.cast_frame.specs.Spelled.{AreCounts, IsClock, AreTimes, IsBody, IsMessage, AreMembers, IsTail, IsFrame, IsSpelled}
+use Rattle.cast_frame.specs.Reading.{Gives, site_frame_of}
+use Rattle.cast_frame.specs.Laws.{SpelledIsRead, SpellingsDiffer, SpelledFits}
+use Rattle.cast_frame.proofs.Fields.{IsBytes, ok_is}
+use Rattle.cast_frame.proofs.Parts.{stamp_parts}
+use Rattle.cast_frame.proofs.Holders.{members_parts, stretch_parts}
+use Rattle.cast_frame.proofs.Frames.{found, read_again}
+
+short_size : (n : ℕ) → length (short n) ≡ 2
+unfolding short
+short_size n = refl
+
+word_size : (n : ℕ) → length (word n) ≡ 4
+unfolding word
+word_size n = refl
+
+byte_size : (n : ℕ) → length (byte n) ≡ 1
+unfolding byte
+byte_size n = refl
+
+proc_size : (p : Proc) → length (spelled_proc p) ≡ 6
+unfolding spelled_proc short word
+proc_size p = refl
+
+entry_size : (e : Entry) → length (spelled_entry e) ≡ 10
+unfolding spelled_entry
+entry_size e = omega (arith, length-append (spelled_proc e.0) (word e.1), proc_size e.0, word_size e.1)
+
+uid_size : (u : Uid) → length (spelled_uid u) ≡ 16
+unfolding spelled_uid
+uid_size u =
+    simp length-append (omega (arith, short_size u.group.0, word_size u.view, proc_size u.proc, word_size u.count))
+
+cons_size : {A : Type 0} (spell : A → List ℕ) (x : A) (xs : List A) → length (flat_map spell (x ∷ xs)) ≡ length (spell x) + length (flat_map spell xs)
+cons_size spell x xs = ap length (flat_map-cons spell x xs) ∙ length-append (spell x) (flat_map spell xs)
+
+entries_size : (es : List Entry) → length (flat_map spelled_entry es) ≡ 10 * length es
+entries_size [] = omega arith
+entries_size (e ∷ es) = cons_size spelled_entry e es ∙ omega (arith, entry_size e, entries_size es)
+
+procs_size : (ps : List Proc) → length (flat_map spelled_proc ps) ≡ 6 * length ps
+procs_size [] = omega arith
+procs_size (p ∷ ps) = cons_size spelled_proc p ps ∙ omega (arith, proc_size p, procs_size ps)
+
+counts_size : (c : List Entry) → AreCounts c → length (spelled_counts c) ≤ 641
+unfolding spelled_counts
+counts_size c are =
+    let few = (counts_parts c are.sorted).1 in
+    omega (arith, length-append (byte (length c)) (flat_map spelled_entry c), byte_size (length c), entries_size c, few)
+
+clock_size : (e : GroupNo × Clock) → IsClock e → length (spelled_clock e) ≤ 647
+unfolding spelled_clock
+clock_size e is =
+    omega (arith, length-append (short e.0.0) (word e.1.view ++ spelled_counts e.1.counts), length-append (word e.1.view) (spelled_counts e.1.counts), short_size e.0.0, word_size e.1.view, counts_size e.1.counts is.counts)
+
+clocks_size : (t : List (GroupNo × Clock)) → AllByRecursion IsClock t → length (flat_map spelled_clock t) ≤ 647 * length t
+clocks_size [] are = omega arith
+clocks_size (e ∷ es) are = omega (arith, cons_size spelled_clock e es, clock_size e are.0, clocks_size es are.1)
+
+times_size : (t : List (GroupNo × Clock)) → AreTimes t → length (spelled_times t) ≤ 20705
+unfolding spelled_times
+times_size t are =
+    let few = (stamp_parts t are.sorted).1.below in
+    omega (arith, length-append (byte (length t)) (flat_map spelled_clock t), byte_size (length t), clocks_size t are.clocks, few)
+
+body_size : (t : List (GroupNo × Clock)) (b : Body) → AreTimes t → IsBody b → length (spelled_behind_id t b) ≤ 37092
+unfolding spelled_behind_id spelled_payload
+body_size t (body.Causal p) are few =
+    omega (arith, length-append (byte 1) (spelled_times t ++ (short (length p) ++ p)), length-append (spelled_times t) (short (length p) ++ p), length-append (short (length p)) p, byte_size 1, short_size (length p), times_size t are, few)
+
+message_size : (m : Message) → IsMessage m → length (spelled_message m) ≤ 37108
+unfolding spelled_message
+message_size m is =
+    omega (arith, length-append (spelled_uid m.id) (spelled_behind_id m.times m.body), uid_size m.id, body_size m.times m.body is.times is.body)
+
+holder_size : (ps : List Proc) (h : Option Proc) → length (spelled_holder ps h) ≤ 1
+unfolding spelled_holder byte
+holder_size ps None = omega arith
+holder_size ps (Some p) = omega arith
+
+members_size : (m : Membership) → AreMembers m → length (spelled_members m) ≤ 386
+unfolding spelled_members
+members_size m are =
+    let few = (members_parts m are.sorted).1 in
+    omega (arith, length-append (byte (length m.list)) (flat_map spelled_proc m.list ++ spelled_holder m.list m.holder), length-append (flat_map spelled_proc m.list) (spelled_holder m.list m.holder), byte_size (length m.list), procs_size m.list, holder_size m.list m.holder, few)
+
+tail_size : (t : Stretch) → IsTail t → length (spelled_tail t) ≤ 5766
+unfolding spelled_tail
+tail_size t is =
+    let few = (stretch_parts t is.short).1 in
+    omega (arith, length-append (word t.start) (short (length t.ids) ++ flat_map spelled_entry t.ids), length-append (short (length t.ids)) (flat_map spelled_entry t.ids), word_size t.start, short_size (length t.ids), entries_size t.ids, few)
+
+fields_size : (f : SiteFrame) → IsFrame f → length (spelled_fields f) ≤ 37108
+unfolding spelled_fields
+fields_size (Data m) is = message_size m is
+fields_size (Ack u) is = omega (arith, uid_size u)
+fields_size (Ask g n c p) is =
+    simp length-append (omega (arith, short_size g.0, word_size n, byte_size (change_code c), proc_size p))
+fields_size (Asked g n full) is = simp length-append (omega (arith, short_size g.0, word_size n, byte_size (full_code full)))
+fields_size (Install g view m request cut tail) is =
+    simp length-append (omega (arith, short_size g.0, word_size view, members_size m is.members, word_size request, counts_size cut is.cut, tail_size tail is.tail))
+fields_size (Installed g view) is = simp length-append (omega (arith, short_size g.0, word_size view))
+
+pub spelled_fits : SpelledFits
+unfolding spelled_site
+spelled_fits d s f is =
+    simp length-append (omega (arith, short_size 0x4344, byte_size 1, byte_size (frame_code f), byte_size d.0, short_size s.0, fields_size f is.frame))
+
+pub spelled_is_read : SpelledIsRead
+spelled_is_read d s f is = read_again d s f is (spelled_fits d s f is)
+
+pub spellings_differ : SpellingsDiffer
+spellings_differ d e s t f g a b same =
+    let one : (d, s, f) ≡ (e, t, g) = ok_is (d, s, f) (e, t, g) (sym (spelled_is_read d s f a) ∙ ap site_frame_of same ∙ spelled_is_read e t g b) in
+    (ap (λ (x : DomainNo × SiteNo × SiteFrame). x.0) one, ap (λ (x : DomainNo × SiteNo × SiteFrame). x.1) one, ap (λ (x : DomainNo × SiteNo × SiteFrame). x.2) one)
+
+pub is_found : (bytes : List ℕ) (r : Result (DomainNo × SiteNo × SiteFrame) FrameFault) → IsBytes bytes → Gives r (site_frame_of bytes) → IfOk r (λ x. IsSpelled x.0 x.1 x.2 × (bytes ≡ spelled_site x.0 x.1 x.2))
+is_found bytes (Ok x) fits given = found bytes x fits given
+is_found bytes (Err e) fits given = tt

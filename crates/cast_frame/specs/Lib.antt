@@ -1,0 +1,9 @@
+pub mod Faults
+pub mod Bodies
+pub mod Rising
+pub mod Membership
+pub mod Stretch
+pub mod Spelling
+pub mod Reading
+pub mod Spelled
+pub mod Laws

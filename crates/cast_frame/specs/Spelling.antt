@@ -1,0 +1,107 @@
+-- The one spelling of each frame between sites. All numbers have their high byte first.
+use Rattle.std.specs.Prelude.{ℕ, Bool, if◌then◌else◌, List, [], ◌∷◌, ◌++◌, length, Option, Some, None}
+use Rattle.std.specs.List.{flat_map, position_or_len}
+use Rattle.std.specs.Int.{w16, w32, to_be_bytes}
+use Rattle.cast_types.specs.declared.names.DomainNo.{DomainNo}
+use Rattle.cast_types.specs.declared.names.SiteNo.{SiteNo}
+use Rattle.cast_types.specs.declared.names.GroupNo.{GroupNo}
+use Rattle.cast_types.specs.declared.names.Proc.{Proc}
+use Rattle.cast_types.specs.declared.names.Uid.{Uid}
+use Rattle.cast_types.specs.declared.clock.Clock.{Clock}
+use Rattle.cast_types.specs.Names.{Entry, proc_eq}
+use Rattle.cast_frame.specs.declared.message.Body.{Body}
+use Rattle.cast_frame.specs.declared.message.Body.TheVariants as body
+use Rattle.cast_frame.specs.declared.message.Message.{Message}
+use Rattle.cast_frame.specs.declared.site.Change.{Change}
+use Rattle.cast_frame.specs.declared.site.Change.TheVariants.{Join, Leave}
+use Rattle.cast_frame.specs.declared.site.SiteFrame.{SiteFrame}
+use Rattle.cast_frame.specs.declared.site.SiteFrame.TheVariants.{Data, Ack, Ask, Asked, Install, Installed}
+use Rattle.cast_frame.specs.Membership.{Membership}
+use Rattle.cast_frame.specs.Stretch.{Stretch}
+
+unfoldable pub byte : ℕ → List ℕ
+byte n = n ∷ []
+
+unfoldable pub short : ℕ → List ℕ
+short n = to_be_bytes w16 n
+
+unfoldable pub word : ℕ → List ℕ
+word n = to_be_bytes w32 n
+
+-- site, serial
+unfoldable pub spelled_proc : Proc → List ℕ
+spelled_proc p = short p.site.0 ++ word p.serial
+
+-- process, count
+unfoldable pub spelled_entry : Entry → List ℕ
+spelled_entry e = spelled_proc e.0 ++ word e.1
+
+-- group, view, process, count
+unfoldable pub spelled_uid : Uid → List ℕ
+spelled_uid u = short u.group.0 ++ (word u.view ++ (spelled_proc u.proc ++ word u.count))
+
+-- how many, and the counts
+unfoldable pub spelled_counts : List Entry → List ℕ
+spelled_counts c = byte (length c) ++ flat_map spelled_entry c
+
+-- group, view, counts
+unfoldable pub spelled_clock : GroupNo × Clock → List ℕ
+spelled_clock e = short e.0.0 ++ (word e.1.view ++ spelled_counts e.1.counts)
+
+-- how many, and the clocks
+unfoldable pub spelled_times : List (GroupNo × Clock) → List ℕ
+spelled_times t = byte (length t) ++ flat_map spelled_clock t
+
+-- how many bytes, and the bytes
+unfoldable pub spelled_payload : List ℕ → List ℕ
+spelled_payload bytes = short (length bytes) ++ bytes
+
+-- kind, times, what the message holds
+unfoldable pub spelled_behind_id : List (GroupNo × Clock) → Body → List ℕ
+spelled_behind_id times (body.Causal payload) = byte 1 ++ (spelled_times times ++ spelled_payload payload)
+
+unfoldable pub spelled_message : Message → List ℕ
+spelled_message m = spelled_uid m.id ++ spelled_behind_id m.times m.body
+
+-- the holder stands by its place among the members
+unfoldable pub spelled_holder : List Proc → Option Proc → List ℕ
+spelled_holder members None = []
+spelled_holder members (Some p) = byte (position_or_len (proc_eq p) members)
+
+-- how many, the members, and the holder
+unfoldable pub spelled_members : Membership → List ℕ
+spelled_members m = byte (length m.list) ++ (flat_map spelled_proc m.list ++ spelled_holder m.list m.holder)
+
+-- how many before them, how many, and the ids
+unfoldable pub spelled_tail : Stretch → List ℕ
+spelled_tail t = word t.start ++ (short (length t.ids) ++ flat_map spelled_entry t.ids)
+
+abbrev pub change_code : Change → ℕ
+change_code Join = 1
+change_code Leave = 2
+
+-- 14 is the number of the refusal that the group is full
+abbrev pub full_code : Bool → ℕ
+full_code full = if full then 14 else 0
+
+abbrev pub frame_code : SiteFrame → ℕ
+frame_code (Data m) = 1
+frame_code (Ack u) = 2
+frame_code (Ask g number change p) = 4
+frame_code (Asked g number full) = 5
+frame_code (Install g view members request cut tail) = 10
+frame_code (Installed g view) = 11
+
+unfoldable pub spelled_fields : SiteFrame → List ℕ
+spelled_fields (Data m) = spelled_message m
+spelled_fields (Ack u) = spelled_uid u
+spelled_fields (Ask g number change p) = short g.0 ++ (word number ++ (byte (change_code change) ++ spelled_proc p))
+spelled_fields (Asked g number full) = short g.0 ++ (word number ++ byte (full_code full))
+spelled_fields (Install g view members request cut tail) =
+    short g.0 ++ (word view ++ (spelled_members members ++ (word request ++ (spelled_counts cut ++ spelled_tail tail))))
+spelled_fields (Installed g view) = short g.0 ++ word view
+
+-- a frame of a domain from a site: the magic, the version, the type, the domain, the sender and the fields
+unfoldable pub spelled_site : DomainNo → SiteNo → SiteFrame → List ℕ
+spelled_site d s f =
+    short 0x4344 ++ (byte 1 ++ (byte (frame_code f) ++ (byte d.0 ++ (short s.0 ++ spelled_fields f))))

@@ -1,0 +1,544 @@
+ghost use Rattle.std.specs.Prelude.{◌≡◌, ◌≤◌, None, List, Ok, IfOk, IsTrue, length};
+ghost use Rattle.std.specs.Int.{w16, w32};
+ghost use Rattle.cast_frame.specs.Reading.{Gives, GivesAs, GivesField, above, ack_at, ask_at, asked_at, byte_at, bytes_at, change_of, clock_above, count_at, counts_at, data_at, domain_at, entry_above, entry_at, fields_at, frame_at, full_of, group_above, group_at, group_of, holder_at, id_at, install_at, installed_at, magic_at, many, members_at, message_at, nothing_of, number_at, payload_at, proc_above, proc_at, process_of, site_at, site_frame_of, some_proc, tail_at, times_at, type_at, type_of, uid_at, version_at};
+ghost use Rattle.cast_frame.specs.Spelled.{IsSpelled};
+ghost use Rattle.cast_frame.specs.Spelling.{spelled_site};
+ghost use Rattle.cast_types.specs.Names.{group_cmp, proc_cmp};
+
+use crate::fault::FrameFault;
+use crate::header::{MAGIC, VERSION};
+use crate::members::{Members, Tail};
+use crate::message::{Body, Message};
+use crate::payload::Payload;
+use crate::site::{Change, SiteFrame};
+use bytes::Bytes;
+use cast_types::limits::{
+    MAX_GROUPS, MAX_MEMBERS, MAX_NUMBER, MAX_ORDER, MAX_PAYLOAD, MAX_POSITION, MAX_SITE_FRAME,
+};
+use cast_types::{Clock, Counts, DomainNo, GroupNo, Proc, SiteNo, Stamp, Uid};
+use std::alloc::Global;
+
+/// The types of the frames between sites.
+#[derive(Clone, Copy)]
+enum FrameType {
+    Data,
+    Ack,
+    Ask,
+    Asked,
+    Install,
+    Installed,
+}
+
+#[tactic(auto, unfolding(crate::specs::Reading::byte_at, crate::specs::Reading::within_range))]
+fn read_byte(low: u8, high: u8, bytes: &[u8]) -> Result<(u8, &[u8]), FrameFault>
+    ensures { GivesField result (byte_at low high bytes.now) }
+{
+    match bytes {
+        [] => Err(FrameFault::Short),
+        [number, rest @ ..] => {
+            if *number < low || *number > high {
+                return Err(FrameFault::Range);
+            }
+            Ok((*number, rest))
+        }
+    }
+}
+
+#[tactic(auto, unfolding(crate::specs::Reading::number_at, crate::specs::Reading::within_range))]
+fn read_short(low: u16, high: u16, bytes: &[u8]) -> Result<(u16, &[u8]), FrameFault>
+    ensures { GivesField result (number_at w16 low high bytes.now) }
+{
+    if bytes.len() < 2 {
+        return Err(FrameFault::Short);
+    }
+    let (front, rest) = bytes.split_at(2);
+    let number = u16::from_be_bytes([front[0], front[1]]);
+    if number < low || number > high {
+        return Err(FrameFault::Range);
+    }
+    Ok((number, rest))
+}
+
+#[tactic(auto, unfolding(crate::specs::Reading::number_at, crate::specs::Reading::within_range))]
+fn read_word(low: u32, high: u32, bytes: &[u8]) -> Result<(u32, &[u8]), FrameFault>
+    ensures { GivesField result (number_at w32 low high bytes.now) }
+{
+    if bytes.len() < 4 {
+        return Err(FrameFault::Short);
+    }
+    let (front, rest) = bytes.split_at(4);
+    let number = u32::from_be_bytes([front[0], front[1], front[2], front[3]]);
+    if number < low || number > high {
+        return Err(FrameFault::Range);
+    }
+    Ok((number, rest))
+}
+
+#[tactic(auto, unfolding(crate::specs::Reading::domain_at))]
+fn read_domain(bytes: &[u8]) -> Result<(DomainNo, &[u8]), FrameFault>
+    ensures { GivesField result (domain_at bytes.now) }
+{
+    let (number, rest) = read_byte(1, 255, bytes)?;
+    Ok((DomainNo(number), rest))
+}
+
+#[tactic(auto, unfolding(crate::specs::Reading::site_at))]
+fn read_site(bytes: &[u8]) -> Result<(SiteNo, &[u8]), FrameFault>
+    ensures { GivesField result (site_at bytes.now) }
+{
+    let (number, rest) = read_short(1, u16::MAX, bytes)?;
+    Ok((SiteNo(number), rest))
+}
+
+#[tactic(auto, unfolding(crate::specs::Reading::group_at))]
+fn read_group(bytes: &[u8]) -> Result<(GroupNo, &[u8]), FrameFault>
+    ensures { GivesField result (group_at bytes.now) }
+{
+    let (number, rest) = read_short(1, u16::MAX, bytes)?;
+    Ok((GroupNo(number), rest))
+}
+
+#[tactic(auto, unfolding(crate::specs::Reading::count_at))]
+fn read_count(bytes: &[u8]) -> Result<(u32, &[u8]), FrameFault>
+    ensures { GivesField result (count_at bytes.now) }
+{
+    read_word(1, MAX_NUMBER, bytes)
+}
+
+#[tactic(auto, unfolding(crate::specs::Reading::proc_at))]
+fn read_proc(bytes: &[u8]) -> Result<(Proc, &[u8]), FrameFault>
+    ensures { GivesField result (proc_at bytes.now) }
+{
+    let (site, rest) = read_site(bytes)?;
+    let (serial, rest) = read_count(rest)?;
+    Ok((Proc { site, serial }, rest))
+}
+
+#[tactic(auto, unfolding(crate::specs::Reading::uid_at))]
+fn read_uid(bytes: &[u8]) -> Result<(Uid, &[u8]), FrameFault>
+    ensures { GivesField result (uid_at bytes.now) }
+{
+    let (group, rest) = read_group(bytes)?;
+    let (view, rest) = read_count(rest)?;
+    let (proc, rest) = read_proc(rest)?;
+    let (count, rest) = read_count(rest)?;
+    Ok((
+        Uid {
+            group,
+            view,
+            proc,
+            count,
+        },
+        rest,
+    ))
+}
+
+#[tactic(auto, unfolding(crate::specs::Reading::type_of))]
+fn type_of_number(number: u8) -> Result<FrameType, FrameFault>
+    ensures { Gives result (type_of number) }
+{
+    match number {
+        1 => Ok(FrameType::Data),
+        2 => Ok(FrameType::Ack),
+        4 => Ok(FrameType::Ask),
+        5 => Ok(FrameType::Asked),
+        10 => Ok(FrameType::Install),
+        11 => Ok(FrameType::Installed),
+        _ => Err(FrameFault::WrongType),
+    }
+}
+
+#[tactic(auto, unfolding(crate::specs::Reading::type_at))]
+fn read_type(bytes: &[u8]) -> Result<(FrameType, &[u8]), FrameFault>
+    ensures { GivesField result (type_at bytes.now) }
+{
+    let (number, rest) = read_byte(0, 255, bytes)?;
+    let frame_type = type_of_number(number)?;
+    Ok((frame_type, rest))
+}
+
+#[tactic(auto, unfolding(crate::specs::Reading::proc_above, crate::specs::Reading::above))]
+fn read_proc_above(last: Option<Proc>, bytes: &[u8]) -> Result<(Proc, &[u8]), FrameFault>
+    ensures { GivesField result (proc_above last bytes.now) }
+{
+    let (proc, rest) = read_proc(bytes)?;
+    match last {
+        Some(last) if !last.cmp(&proc).is_lt() => Err(FrameFault::NotSorted),
+        _ => Ok((proc, rest)),
+    }
+}
+
+#[tactic(auto, unfolding(crate::specs::Reading::group_above, crate::specs::Reading::above))]
+fn read_group_above(last: Option<GroupNo>, bytes: &[u8]) -> Result<(GroupNo, &[u8]), FrameFault>
+    ensures { GivesField result (group_above last bytes.now) }
+{
+    let (group, rest) = read_group(bytes)?;
+    match last {
+        Some(last) if !last.cmp(&group).is_lt() => Err(FrameFault::NotSorted),
+        _ => Ok((group, rest)),
+    }
+}
+
+#[tactic(auto, unfolding(crate::specs::Reading::entry_above))]
+fn read_entry_above(last: Option<Proc>, bytes: &[u8]) -> Result<((Proc, u32), &[u8]), FrameFault>
+    ensures { GivesField result (entry_above last bytes.now) }
+{
+    let (proc, rest) = read_proc_above(last, bytes)?;
+    let (count, rest) = read_count(rest)?;
+    Ok(((proc, count), rest))
+}
+
+fn read_entries(
+    alloc: Global,
+    count: u8,
+    bytes: &[u8],
+) -> Result<(Vec<(Proc, u32)>, &[u8]), FrameFault>
+    ensures { GivesAs (λ x. (x.0.items, x.1.now)) result (many entry_above process_of count None bytes.now) }
+{
+    let mut entries = Vec::new(alloc);
+    let mut last = None;
+    let mut rest = bytes;
+    for _ in 0..count {
+        let (entry, after) = read_entry_above(last, rest)?;
+        last = Some(entry.0);
+        entries.push(entry)?;
+        rest = after;
+    }
+    Ok((entries, rest))
+}
+
+#[tactic(auto, unfolding(crate::specs::Reading::counts_at))]
+fn read_counts(alloc: Global, bytes: &[u8]) -> Result<(Counts, &[u8]), FrameFault>
+    ensures { GivesField result (counts_at bytes.now) }
+{
+    let (count, rest) = read_byte(0, MAX_MEMBERS as u8, bytes)?;
+    let (entries, rest) = read_entries(alloc, count, rest)?;
+    Ok((Counts::from_entries(entries), rest))
+}
+
+#[tactic(auto, unfolding(crate::specs::Reading::clock_above))]
+fn read_clock_above(
+    alloc: Global,
+    last: Option<GroupNo>,
+    bytes: &[u8],
+) -> Result<((GroupNo, Clock), &[u8]), FrameFault>
+    ensures { GivesField result (clock_above last bytes.now) }
+{
+    let (group, rest) = read_group_above(last, bytes)?;
+    let (view, rest) = read_count(rest)?;
+    let (counts, rest) = read_counts(alloc, rest)?;
+    Ok(((group, Clock { view, counts }), rest))
+}
+
+fn read_clocks(
+    alloc: Global,
+    count: u8,
+    bytes: &[u8],
+) -> Result<(Vec<(GroupNo, Clock)>, &[u8]), FrameFault>
+    ensures { GivesAs (λ x. (x.0.items, x.1.now)) result (many clock_above group_of count None bytes.now) }
+{
+    let mut clocks = Vec::new(alloc);
+    let mut last = None;
+    let mut rest = bytes;
+    for _ in 0..count {
+        let (clock, after) = read_clock_above(alloc, last, rest)?;
+        last = Some(clock.0);
+        clocks.push(clock)?;
+        rest = after;
+    }
+    Ok((clocks, rest))
+}
+
+#[tactic(auto, unfolding(crate::specs::Reading::times_at))]
+fn read_times(alloc: Global, bytes: &[u8]) -> Result<(Stamp, &[u8]), FrameFault>
+    ensures { GivesField result (times_at bytes.now) }
+{
+    let (count, rest) = read_byte(1, MAX_GROUPS as u8, bytes)?;
+    let (clocks, rest) = read_clocks(alloc, count, rest)?;
+    Ok((Stamp::from_clocks(clocks), rest))
+}
+
+#[tactic(auto, unfolding(crate::specs::Reading::bytes_at))]
+fn read_bytes(count: usize, bytes: &[u8]) -> Result<(&[u8], &[u8]), FrameFault>
+    ensures { GivesAs (λ x. (x.0.now, x.1.now)) result (bytes_at count bytes.now) }
+{
+    if bytes.len() < count {
+        return Err(FrameFault::Short);
+    }
+    Ok(bytes.split_at(count))
+}
+
+#[tactic(auto, unfolding(crate::specs::Reading::payload_at))]
+fn read_payload(alloc: Global, bytes: &[u8]) -> Result<(Payload, &[u8]), FrameFault>
+    ensures { GivesField result (payload_at bytes.now) }
+{
+    let (len, rest) = read_short(0, MAX_PAYLOAD as u16, bytes)?;
+    let (payload, rest) = read_bytes(len as usize, rest)?;
+    let payload = Bytes::copy_from_slice(alloc, payload)?;
+    Ok((Payload::from_bytes(payload), rest))
+}
+
+#[tactic(auto, unfolding(crate::specs::Reading::message_at))]
+fn read_message(alloc: Global, bytes: &[u8]) -> Result<(Message, &[u8]), FrameFault>
+    ensures { GivesField result (message_at bytes.now) }
+{
+    let (id, rest) = read_uid(bytes)?;
+    let (_kind, rest) = read_byte(1, 1, rest)?;
+    let (times, rest) = read_times(alloc, rest)?;
+    let (payload, rest) = read_payload(alloc, rest)?;
+    let body = Body::Causal(payload);
+    Ok((Message { id, times, body }, rest))
+}
+
+fn read_procs(alloc: Global, count: u8, bytes: &[u8]) -> Result<(Vec<Proc>, &[u8]), FrameFault>
+    ensures { GivesAs (λ x. (x.0.items, x.1.now)) result (many proc_above some_proc count None bytes.now) }
+{
+    let mut procs = Vec::new(alloc);
+    let mut last = None;
+    let mut rest = bytes;
+    for _ in 0..count {
+        let (proc, after) = read_proc_above(last, rest)?;
+        last = Some(proc);
+        procs.push(proc)?;
+        rest = after;
+    }
+    Ok((procs, rest))
+}
+
+#[tactic(auto, unfolding(crate::specs::Reading::holder_at))]
+fn read_holder<'a>(
+    members: &[Proc],
+    bytes: &'a [u8],
+) -> Result<(Option<Proc>, &'a [u8]), FrameFault>
+    requires { length members.now ≤ 64 }
+    ensures { GivesField result (holder_at members.now bytes.now) }
+{
+    if members.is_empty() {
+        return Ok((None, bytes));
+    }
+    let (place, rest) = read_byte(0, (members.len() - 1) as u8, bytes)?;
+    Ok((members.get(place as usize).copied(), rest))
+}
+
+#[tactic(auto, unfolding(crate::specs::Reading::members_at))]
+fn read_members(alloc: Global, bytes: &[u8]) -> Result<(Members, &[u8]), FrameFault>
+    ensures { GivesField result (members_at bytes.now) }
+{
+    let (count, rest) = read_byte(0, MAX_MEMBERS as u8, bytes)?;
+    let (list, rest) = read_procs(alloc, count, rest)?;
+    let (holder, rest) = read_holder(&list, rest)?;
+    Ok((Members::from_parts(list, holder), rest))
+}
+
+#[tactic(auto, unfolding(crate::specs::Reading::entry_at, crate::specs::Reading::id_at))]
+fn read_entry(bytes: &[u8]) -> Result<((Proc, u32), &[u8]), FrameFault>
+    ensures { GivesField result (entry_at bytes.now) }
+{
+    let (proc, rest) = read_proc(bytes)?;
+    let (count, rest) = read_count(rest)?;
+    Ok(((proc, count), rest))
+}
+
+fn read_ids(
+    alloc: Global,
+    count: u16,
+    bytes: &[u8],
+) -> Result<(Vec<(Proc, u32)>, &[u8]), FrameFault>
+    ensures { GivesAs (λ x. (x.0.items, x.1.now)) result (many id_at nothing_of count tt bytes.now) }
+{
+    let mut ids = Vec::new(alloc);
+    let mut rest = bytes;
+    for _ in 0..count {
+        let (id, after) = read_entry(rest)?;
+        ids.push(id)?;
+        rest = after;
+    }
+    Ok((ids, rest))
+}
+
+#[tactic(auto, unfolding(crate::specs::Reading::tail_at))]
+fn read_tail(alloc: Global, bytes: &[u8]) -> Result<(Tail, &[u8]), FrameFault>
+    ensures { GivesField result (tail_at bytes.now) }
+{
+    let (start, rest) = read_word(0, MAX_POSITION, bytes)?;
+    let (count, rest) = read_short(0, MAX_ORDER as u16, rest)?;
+    let (ids, rest) = read_ids(alloc, count, rest)?;
+    Ok((Tail::from_parts(start, ids), rest))
+}
+
+#[tactic(auto, unfolding(crate::specs::Reading::data_at))]
+fn read_data(alloc: Global, bytes: &[u8]) -> Result<(SiteFrame, &[u8]), FrameFault>
+    ensures { GivesField result (data_at bytes.now) }
+{
+    let (message, rest) = read_message(alloc, bytes)?;
+    Ok((SiteFrame::Data(message), rest))
+}
+
+#[tactic(auto, unfolding(crate::specs::Reading::ack_at))]
+fn read_ack(bytes: &[u8]) -> Result<(SiteFrame, &[u8]), FrameFault>
+    ensures { GivesField result (ack_at bytes.now) }
+{
+    let (id, rest) = read_uid(bytes)?;
+    Ok((SiteFrame::Ack(id), rest))
+}
+
+#[tactic(auto, unfolding(crate::specs::Reading::ask_at))]
+fn read_ask(bytes: &[u8]) -> Result<(SiteFrame, &[u8]), FrameFault>
+    ensures { GivesField result (ask_at bytes.now) }
+{
+    let (group, rest) = read_group(bytes)?;
+    let (number, rest) = read_count(rest)?;
+    let (code, rest) = read_byte(1, 2, rest)?;
+    let (proc, rest) = read_proc(rest)?;
+    let change = if code == 1 {
+        Change::Join
+    } else {
+        Change::Leave
+    };
+    let frame = SiteFrame::Ask {
+        group,
+        number,
+        change,
+        proc,
+    };
+    Ok((frame, rest))
+}
+
+#[tactic(auto, unfolding(crate::specs::Reading::full_of))]
+fn full_of_number(code: u8) -> Result<bool, FrameFault>
+    ensures { Gives result (full_of code) }
+{
+    match code {
+        0 => Ok(false),
+        14 => Ok(true),
+        _ => Err(FrameFault::Range),
+    }
+}
+
+#[tactic(auto, unfolding(crate::specs::Reading::asked_at))]
+fn read_asked(bytes: &[u8]) -> Result<(SiteFrame, &[u8]), FrameFault>
+    ensures { GivesField result (asked_at bytes.now) }
+{
+    let (group, rest) = read_group(bytes)?;
+    let (number, rest) = read_count(rest)?;
+    let (code, rest) = read_byte(0, 255, rest)?;
+    let full = full_of_number(code)?;
+    let frame = SiteFrame::Asked {
+        group,
+        number,
+        full,
+    };
+    Ok((frame, rest))
+}
+
+#[tactic(auto, unfolding(crate::specs::Reading::install_at))]
+fn read_install(alloc: Global, bytes: &[u8]) -> Result<(SiteFrame, &[u8]), FrameFault>
+    ensures { GivesField result (install_at bytes.now) }
+{
+    let (group, rest) = read_group(bytes)?;
+    let (view, rest) = read_count(rest)?;
+    let (members, rest) = read_members(alloc, rest)?;
+    let (request, rest) = read_word(0, MAX_NUMBER, rest)?;
+    let (cut, rest) = read_counts(alloc, rest)?;
+    let (tail, rest) = read_tail(alloc, rest)?;
+    let frame = SiteFrame::Install {
+        group,
+        view,
+        members,
+        request,
+        cut,
+        tail,
+    };
+    Ok((frame, rest))
+}
+
+#[tactic(auto, unfolding(crate::specs::Reading::installed_at))]
+fn read_installed(bytes: &[u8]) -> Result<(SiteFrame, &[u8]), FrameFault>
+    ensures { GivesField result (installed_at bytes.now) }
+{
+    let (group, rest) = read_group(bytes)?;
+    let (view, rest) = read_count(rest)?;
+    Ok((SiteFrame::Installed { group, view }, rest))
+}
+
+#[tactic(auto, unfolding(crate::specs::Reading::fields_at))]
+fn read_fields(
+    alloc: Global,
+    frame_type: FrameType,
+    bytes: &[u8],
+) -> Result<(SiteFrame, &[u8]), FrameFault>
+    ensures { GivesField result (fields_at frame_type bytes.now) }
+{
+    match frame_type {
+        FrameType::Data => read_data(alloc, bytes),
+        FrameType::Ack => read_ack(bytes),
+        FrameType::Ask => read_ask(bytes),
+        FrameType::Asked => read_asked(bytes),
+        FrameType::Install => read_install(alloc, bytes),
+        FrameType::Installed => read_installed(bytes),
+    }
+}
+
+#[tactic(auto, unfolding(crate::specs::Reading::magic_at))]
+fn read_magic(bytes: &[u8]) -> Result<&[u8], FrameFault>
+    ensures { GivesAs (λ x. x.now) result (magic_at bytes.now) }
+{
+    let (magic, rest) = read_short(0, u16::MAX, bytes)?;
+    if magic != MAGIC {
+        return Err(FrameFault::Magic);
+    }
+    Ok(rest)
+}
+
+#[tactic(auto, unfolding(crate::specs::Reading::version_at))]
+fn read_version(bytes: &[u8]) -> Result<&[u8], FrameFault>
+    ensures { GivesAs (λ x. x.now) result (version_at bytes.now) }
+{
+    let (version, rest) = read_byte(0, 255, bytes)?;
+    if version != VERSION {
+        return Err(FrameFault::Version);
+    }
+    Ok(rest)
+}
+
+#[tactic(auto, unfolding(crate::specs::Reading::frame_at))]
+fn read_frame(alloc: Global, bytes: &[u8]) -> Result<(DomainNo, SiteNo, SiteFrame), FrameFault>
+    ensures { Gives result (frame_at bytes.now) }
+{
+    let rest = read_magic(bytes)?;
+    let rest = read_version(rest)?;
+    let (frame_type, rest) = read_type(rest)?;
+    let (domain, rest) = read_domain(rest)?;
+    let (site, rest) = read_site(rest)?;
+    let (frame, rest) = read_fields(alloc, frame_type, rest)?;
+    if !rest.is_empty() {
+        return Err(FrameFault::Length);
+    }
+    Ok((domain, site, frame))
+}
+
+#[tactic(auto, unfolding(crate::specs::Reading::site_frame_of))]
+fn read_all(alloc: Global, bytes: &[u8]) -> Result<(DomainNo, SiteNo, SiteFrame), FrameFault>
+    ensures { Gives result (site_frame_of bytes.now) }
+{
+    if bytes.len() > MAX_SITE_FRAME {
+        return Err(FrameFault::Length);
+    }
+    read_frame(alloc, bytes)
+}
+
+/// Reads a frame between sites: its domain, the site that sends it, and the frame. The bytes are the frame, all of them.
+///
+/// The fault is the first one from left to right; more than 60,000 bytes are `Length` before anything else. `NoMemory`
+/// comes where an allocation was refused, and says nothing of the bytes.
+pub fn decode_site(alloc: Global, bytes: &[u8]) -> Result<(DomainNo, SiteNo, SiteFrame), FrameFault>
+    // Which frame, or which fault.
+    ensures exact { Gives result (site_frame_of bytes.now) }
+    // What is read is spelled so.
+    ensures found { IfOk result (λ x. IsSpelled x.0 x.1 x.2 × (bytes.now ≡ spelled_site x.0 x.1 x.2)) }
+    // What is spelled so is read, unless memory runs out.
+    ensures only { (d : DomainNo) (s : SiteNo) (f : SiteFrame) → IsSpelled d s f → bytes.now ≡ spelled_site d s f
+        → Gives result (Ok (d, s, f)) }
+{
+    read_all(alloc, bytes)
+}

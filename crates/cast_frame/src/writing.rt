@@ -1,0 +1,273 @@
+ghost use Rattle.std.specs.Prelude.{◌≡◌, ◌++◌, ◌≤◌, length, IfOk, OnOk};
+ghost use Rattle.std.specs.List.{flat_map, position, position_or_len};
+ghost use Rattle.cast_types.specs.Names.{proc_eq};
+ghost use Rattle.cast_frame.specs.Spelling.{change_code, frame_code, spelled_behind_id, spelled_clock, spelled_counts, spelled_entry, spelled_fields, spelled_holder, spelled_members, spelled_message, spelled_payload, spelled_proc, spelled_site, spelled_tail, spelled_times, spelled_uid};
+
+use crate::header::{MAGIC, VERSION};
+use crate::members::{Members, Tail};
+use crate::message::{Body, Message};
+use crate::payload::Payload;
+use crate::site::{Change, SiteFrame};
+use bytes::{BufMut, Bytes, BytesMut};
+use cast_types::{Clock, Counts, DomainNo, GroupNo, NoMemory, Proc, SiteNo, Stamp, Uid};
+use std::alloc::Global;
+
+#[tactic(auto, unfolding(crate::specs::Spelling::spelled_proc, crate::specs::Spelling::short, crate::specs::Spelling::word))]
+fn put_proc(out: &mut BytesMut, proc: Proc) -> Result<(), NoMemory>
+    ensures { OnOk result (out.new.items ≡ out.old.items ++ spelled_proc proc) }
+{
+    out.put_u16(proc.site.0)?;
+    out.put_u32(proc.serial)?;
+    Ok(())
+}
+
+#[tactic(auto, unfolding(crate::specs::Spelling::spelled_entry, crate::specs::Spelling::word))]
+fn put_entry(out: &mut BytesMut, entry: (Proc, u32)) -> Result<(), NoMemory>
+    ensures { OnOk result (out.new.items ≡ out.old.items ++ spelled_entry entry) }
+{
+    put_proc(out, entry.0)?;
+    out.put_u32(entry.1)?;
+    Ok(())
+}
+
+#[tactic(auto, unfolding(crate::specs::Spelling::spelled_uid, crate::specs::Spelling::short, crate::specs::Spelling::word))]
+fn put_uid(out: &mut BytesMut, id: Uid) -> Result<(), NoMemory>
+    ensures { OnOk result (out.new.items ≡ out.old.items ++ spelled_uid id) }
+{
+    out.put_u16(id.group.0)?;
+    out.put_u32(id.view)?;
+    put_proc(out, id.proc)?;
+    out.put_u32(id.count)?;
+    Ok(())
+}
+
+fn put_entries(out: &mut BytesMut, entries: &[(Proc, u32)]) -> Result<(), NoMemory>
+    ensures { OnOk result (out.new.items ≡ out.old.items ++ flat_map spelled_entry entries.now) }
+{
+    for entry in entries {
+        put_entry(out, *entry)?;
+    }
+    Ok(())
+}
+
+#[tactic(auto, unfolding(crate::specs::Spelling::spelled_counts, crate::specs::Spelling::byte))]
+fn put_counts(out: &mut BytesMut, counts: &Counts) -> Result<(), NoMemory>
+    ensures { OnOk result (out.new.items ≡ out.old.items ++ spelled_counts counts.now) }
+{
+    out.put_u8(counts.len() as u8)?;
+    put_entries(out, counts.entries())?;
+    Ok(())
+}
+
+#[tactic(auto, unfolding(crate::specs::Spelling::spelled_clock, crate::specs::Spelling::short, crate::specs::Spelling::word))]
+fn put_clock(out: &mut BytesMut, group: GroupNo, clock: &Clock) -> Result<(), NoMemory>
+    ensures { OnOk result (out.new.items ≡ out.old.items ++ spelled_clock (group, clock.now)) }
+{
+    out.put_u16(group.0)?;
+    out.put_u32(clock.view)?;
+    put_counts(out, &clock.counts)?;
+    Ok(())
+}
+
+fn put_clocks(out: &mut BytesMut, clocks: &[(GroupNo, Clock)]) -> Result<(), NoMemory>
+    ensures { OnOk result (out.new.items ≡ out.old.items ++ flat_map spelled_clock clocks.now) }
+{
+    for (group, clock) in clocks {
+        put_clock(out, *group, clock)?;
+    }
+    Ok(())
+}
+
+#[tactic(auto, unfolding(crate::specs::Spelling::spelled_times, crate::specs::Spelling::byte))]
+fn put_times(out: &mut BytesMut, times: &Stamp) -> Result<(), NoMemory>
+    ensures { OnOk result (out.new.items ≡ out.old.items ++ spelled_times times.now) }
+{
+    let clocks = times.clocks();
+    out.put_u8(clocks.len() as u8)?;
+    put_clocks(out, clocks)?;
+    Ok(())
+}
+
+#[tactic(auto, unfolding(crate::specs::Spelling::spelled_payload, crate::specs::Spelling::short))]
+fn put_payload(out: &mut BytesMut, payload: &Payload) -> Result<(), NoMemory>
+    ensures { OnOk result (out.new.items ≡ out.old.items ++ spelled_payload payload.now) }
+{
+    out.put_u16(payload.len() as u16)?;
+    out.put_slice(payload.as_slice())?;
+    Ok(())
+}
+
+#[tactic(auto, unfolding(crate::specs::Spelling::spelled_behind_id, crate::specs::Spelling::byte))]
+fn put_behind_id(out: &mut BytesMut, times: &Stamp, body: &Body) -> Result<(), NoMemory>
+    ensures { OnOk result (out.new.items ≡ out.old.items ++ spelled_behind_id times.now body.now) }
+{
+    match body {
+        Body::Causal(payload) => {
+            out.put_u8(1)?;
+            put_times(out, times)?;
+            put_payload(out, payload)?;
+            Ok(())
+        }
+    }
+}
+
+#[tactic(auto, unfolding(crate::specs::Spelling::spelled_message))]
+fn put_message(out: &mut BytesMut, message: &Message) -> Result<(), NoMemory>
+    ensures { OnOk result (out.new.items ≡ out.old.items ++ spelled_message message.now) }
+{
+    put_uid(out, message.id)?;
+    put_behind_id(out, &message.times, &message.body)?;
+    Ok(())
+}
+
+fn put_procs(out: &mut BytesMut, procs: &[Proc]) -> Result<(), NoMemory>
+    ensures { OnOk result (out.new.items ≡ out.old.items ++ flat_map spelled_proc procs.now) }
+{
+    for proc in procs {
+        put_proc(out, *proc)?;
+    }
+    Ok(())
+}
+
+fn position_of(members: &[Proc], holder: Proc) -> Option<usize>
+    ensures { result ≡ position (proc_eq holder) members.now }
+{
+    members.iter().position(|member| holder == *member)
+}
+
+#[tactic(auto, using(crate::proofs::Places::position_or_len_found, crate::proofs::Places::position_or_len_within))]
+fn place_of(members: &[Proc], holder: Proc) -> usize
+    ensures place { result ≡ position_or_len (proc_eq holder) members.now }
+    ensures bound { result ≤ length members.now }
+{
+    position_of(members, holder).unwrap_or(members.len())
+}
+
+#[tactic(auto, unfolding(crate::specs::Spelling::spelled_holder, crate::specs::Spelling::byte))]
+fn put_holder(out: &mut BytesMut, members: &[Proc], holder: Option<Proc>) -> Result<(), NoMemory>
+    requires { length members.now ≤ 64 }
+    ensures { OnOk result (out.new.items ≡ out.old.items ++ spelled_holder members.now holder) }
+{
+    match holder {
+        None => Ok(()),
+        Some(holder) => {
+            out.put_u8(place_of(members, holder) as u8)?;
+            Ok(())
+        }
+    }
+}
+
+#[tactic(auto, unfolding(crate::specs::Spelling::spelled_members, crate::specs::Spelling::byte))]
+fn put_members(out: &mut BytesMut, members: &Members) -> Result<(), NoMemory>
+    ensures { OnOk result (out.new.items ≡ out.old.items ++ spelled_members members.now) }
+{
+    let list = members.list();
+    out.put_u8(list.len() as u8)?;
+    put_procs(out, list)?;
+    put_holder(out, list, members.holder())?;
+    Ok(())
+}
+
+#[tactic(auto, unfolding(crate::specs::Spelling::spelled_tail, crate::specs::Spelling::short, crate::specs::Spelling::word))]
+fn put_tail(out: &mut BytesMut, tail: &Tail) -> Result<(), NoMemory>
+    ensures { OnOk result (out.new.items ≡ out.old.items ++ spelled_tail tail.now) }
+{
+    let ids = tail.ids();
+    out.put_u32(tail.start())?;
+    out.put_u16(ids.len() as u16)?;
+    put_entries(out, ids)?;
+    Ok(())
+}
+
+fn code_of_change(change: Change) -> u8
+    ensures { result ≡ change_code change }
+{
+    match change {
+        Change::Join => 1,
+        Change::Leave => 2,
+    }
+}
+
+fn code_of_frame(frame: &SiteFrame) -> u8
+    ensures { result ≡ frame_code frame.now }
+{
+    match frame {
+        SiteFrame::Data(_) => 1,
+        SiteFrame::Ack(_) => 2,
+        SiteFrame::Ask { .. } => 4,
+        SiteFrame::Asked { .. } => 5,
+        SiteFrame::Install { .. } => 10,
+        SiteFrame::Installed { .. } => 11,
+    }
+}
+
+#[tactic(auto, unfolding(crate::specs::Spelling::spelled_fields, crate::specs::Spelling::byte, crate::specs::Spelling::short, crate::specs::Spelling::word))]
+fn put_fields(out: &mut BytesMut, frame: &SiteFrame) -> Result<(), NoMemory>
+    ensures { OnOk result (out.new.items ≡ out.old.items ++ spelled_fields frame.now) }
+{
+    match frame {
+        SiteFrame::Data(message) => put_message(out, message)?,
+        SiteFrame::Ack(id) => put_uid(out, *id)?,
+        SiteFrame::Ask {
+            group,
+            number,
+            change,
+            proc,
+        } => {
+            out.put_u16(group.0)?;
+            out.put_u32(*number)?;
+            out.put_u8(code_of_change(*change))?;
+            put_proc(out, *proc)?;
+        }
+        SiteFrame::Asked {
+            group,
+            number,
+            full,
+        } => {
+            out.put_u16(group.0)?;
+            out.put_u32(*number)?;
+            out.put_u8(if *full { 14 } else { 0 })?;
+        }
+        SiteFrame::Install {
+            group,
+            view,
+            members,
+            request,
+            cut,
+            tail,
+        } => {
+            out.put_u16(group.0)?;
+            out.put_u32(*view)?;
+            put_members(out, members)?;
+            out.put_u32(*request)?;
+            put_counts(out, cut)?;
+            put_tail(out, tail)?;
+        }
+        SiteFrame::Installed { group, view } => {
+            out.put_u16(group.0)?;
+            out.put_u32(*view)?;
+        }
+    }
+    Ok(())
+}
+
+/// The one spelling of a frame of a domain from a site, at most 60,000 bytes where its numbers are in their ranges.
+/// The frame is only read; `NoMemory` comes where an allocation was refused.
+#[tactic(auto, unfolding(crate::specs::Spelling::spelled_site, crate::specs::Spelling::byte, crate::specs::Spelling::short))]
+pub fn encode_site(
+    alloc: Global,
+    domain: DomainNo,
+    site: SiteNo,
+    frame: &SiteFrame,
+) -> Result<Bytes, NoMemory>
+    ensures { IfOk result (λ b. b ≡ spelled_site domain site frame.now) }
+{
+    let mut out = BytesMut::new(alloc);
+    out.put_u16(MAGIC)?;
+    out.put_u8(VERSION)?;
+    out.put_u8(code_of_frame(frame))?;
+    out.put_u8(domain.0)?;
+    out.put_u16(site.0)?;
+    put_fields(&mut out, frame)?;
+    Ok(out.freeze()?)
+}

@@ -1,0 +1,62 @@
+ghost use Rattle.std.specs.Prelude.{◌≡◌, [], OnOk, OnErr};
+ghost use Rattle.std.specs.Option.{option_copied};
+ghost use Rattle.std.specs.FinMap.Entries.{find, put};
+
+use crate::{NoMemory, sorted};
+use std::alloc::Global;
+use std::marker::Model;
+
+/// A value for each key, in rising order of the keys. Contracts see the list of entries.
+#[derive(Drop)]
+pub struct Keyed<K, V> {
+    entries: Vec<(K, V)>,
+}
+
+impl<K, V> Model for Keyed<K, V> {
+    ghost use Rattle.std.specs.Prelude.{List};
+    ghost use Rattle.std.specs.Coded.{coded_list, coded×};
+
+    ghost Value = { List (K × V) };
+
+    ghost coded = { coded_list (coded× K.code V.code) };
+
+    ghost view = { λ m. m.entries.items };
+}
+
+impl<K, V> Keyed<K, V> {
+    /// No entries.
+    pub fn new(alloc: Global) -> Self
+        ensures { result ≡ [] }
+    {
+        Keyed {
+            entries: Vec::new(alloc),
+        }
+    }
+
+    /// The entries in rising order of their keys.
+    pub fn entries(&self) -> &[(K, V)]
+        ensures { result.now ≡ self.now }
+    {
+        &self.entries
+    }
+}
+
+impl<K: Ord, V> Keyed<K, V> {
+    /// The value at a key.
+    pub fn get(&self, key: &K) -> Option<&V>
+        ensures { option_copied result ≡ find K.cmp key.now self.now }
+    {
+        sorted::find(&self.entries, key)
+    }
+}
+
+impl<K: Ord + Drop, V: Drop> Keyed<K, V> {
+    /// Sets the value at a key. `NoMemory` changes nothing.
+    pub fn put(&mut self, key: K, value: V) -> Result<(), NoMemory>
+        ensures ok { OnOk result (self.new ≡ put K.cmp key value self.old) }
+        ensures err { OnErr result (self.new ≡ self.old) }
+    {
+        sorted::put(&mut self.entries, key, value)?;
+        Ok(())
+    }
+}
