@@ -1,0 +1,9 @@
+pub mod Listed
+pub mod Counted
+pub mod Means
+pub mod Finds
+pub mod Sources
+pub mod Delivers
+pub mod Rows
+pub mod Queues
+pub mod Words

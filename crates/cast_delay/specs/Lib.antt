@@ -2,3 +2,6 @@ pub mod Ready
 pub mod Sources
 pub mod Rows
 pub mod Queue
+pub mod Fits
+pub mod Rule
+pub mod Laws

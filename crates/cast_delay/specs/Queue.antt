@@ -1,12 +1,11 @@
 -- The queue as contracts see it: numbers of views, messages in order of receipt, and what is kept of each process.
-use Rattle.std.specs.Prelude.{ℕ, Bool, ◌==◌, if◌then◌else◌, List, [], ◌∷◌, ◌++◌, map, Option, Some, None}
+use Rattle.std.specs.Prelude.{ℕ, Bool, ◌==◌, if◌then◌else◌, List, [], map, Option, Some, None}
 use Rattle.std.specs.List.{find}
 use Rattle.std.specs.Option.{option_map, option_and_then}
 use Rattle.cast_types.specs.declared.names.GroupNo.{GroupNo}
 use Rattle.cast_types.specs.declared.names.Proc.{Proc}
 use Rattle.cast_types.specs.declared.names.Key.{Key}
 use Rattle.cast_types.specs.Names.{proc_eq}
-use Rattle.cast_types.specs.Stamps.{ClockList}
 use Rattle.cast_delay.specs.declared.row.Row.{Row}
 use Rattle.cast_delay.specs.declared.offered.Offered.{Offered}
 use Rattle.cast_delay.specs.Rows.{is_ready_row, delivered_row}

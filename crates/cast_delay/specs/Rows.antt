@@ -1,5 +1,5 @@
 -- What the queue keeps of a process, counts in place of ids, and the tests over it.
-use Rattle.std.specs.Prelude.{ℕ, ◌-◌, Bool, true, false, not, ◌&&◌, ◌||◌, ◌==◌, nat_lt, nat_le, if◌then◌else◌, List, unwrap_or}
+use Rattle.std.specs.Prelude.{ℕ, ◌-◌, Bool, true, ◌&&◌, ◌||◌, ◌==◌, nat_lt, nat_le, if◌then◌else◌, List, unwrap_or}
 use Rattle.std.specs.List.{list_all}
 use Rattle.std.specs.FinMap.Entries.{find, put}
 use Rattle.cast_types.specs.declared.names.GroupNo.{GroupNo}
@@ -12,7 +12,6 @@ use Rattle.cast_types.specs.Stamps.{ClockList}
 use Rattle.cast_clock.specs.Times.{clock_of, view_of, join, has_room}
 use Rattle.cast_delay.specs.Ready.{is_member}
 use Rattle.cast_delay.specs.Sources.{source, source_cmp}
-use Rattle.cast_delay.specs.declared.source.Source.{Source}
 use Rattle.cast_delay.specs.declared.row.Row.{Row}
 use Rattle.cast_delay.specs.declared.row.Fact.{Fact}
 use Rattle.cast_delay.specs.declared.row.Fact.TheVariants as fact

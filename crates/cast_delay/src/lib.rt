@@ -1,13 +1,21 @@
 //! The delay queue: which received message a process may deliver next.
 //!
-//! Promised: `next_ready` gives the first message in order of receipt, among those offered, that passes the delivery
-//! rule of causal multicast over overlapping groups for a process, by what the queue was told of views, standings,
-//! times and deliveries; it takes no memory.
+//! The rule is that of Birman, Schiper and Stephenson, "Lightweight Causal and Atomic Group Multicast", ACM TOCS 9(3),
+//! 1991, for groups that overlap: a message waits until its process has delivered all that happened before it.
 //!
-//! The definitions are in `specs/`: `Ready` has the rule over delivered ids (the meaning), `Rows` and `Queue` what
-//! the queue keeps of it, counts in place of ids.
+//! Promised: `next_ready` gives the key of the first message in order of receipt that a process may deliver, and
+//! `None` only where there is none, for all processes, groups and messages that the queue tells of. The rule speaks of
+//! the ids that a process delivered; the queue keeps counts in their place. It tells of what it was told: each call
+//! does to the queue what it does to these processes, groups and messages, where a message comes under a key of its
+//! own and names its own view and count, and is noted as delivered only when it is ready (`laws`). No answer takes
+//! memory. Where memory is refused, the queue is of no further use.
+//!
+//! The definitions are in `specs/`: `Ready` has the rule over delivered ids as a test and `Rule` in words, `Rows` and
+//! `Queue` what the queue keeps and does, exactly, `Fits` when it tells of given processes, groups and messages, and
+//! `Laws` that it goes on so.
 #![tactic(auto)]
 
+pub mod laws;
 mod offered;
 mod queue;
 mod row;
@@ -17,3 +25,6 @@ pub use offered::Offered;
 pub use queue::Delay;
 pub use row::{Fact, Row};
 pub use source::Source;
+
+#[cfg(test)]
+mod tests;

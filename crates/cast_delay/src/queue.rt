@@ -1,10 +1,15 @@
-ghost use Rattle.std.specs.Prelude.{◌≡◌, ◌++◌, ◌∷◌, [], OnOk};
+ghost use Rattle.std.specs.Prelude.{◌≡◌, ◌++◌, ◌∷◌, [], List, OnOk, MatchOption};
 ghost use Rattle.std.specs.Option.{option_copied, option_map, option_map_or};
 ghost use Rattle.std.specs.FinMap.Entries.{put};
 ghost use Rattle.cast_types.specs.Names.{group_cmp, proc_eq};
+ghost use Rattle.cast_types.specs.declared.names.GroupNo.{GroupNo};
+ghost use Rattle.cast_types.specs.declared.names.Proc.{Proc};
 ghost use Rattle.cast_types.specs.declared.names.Standing.TheVariants.{Outside};
+ghost use Rattle.cast_clock.specs.Times.{no_time};
+ghost use Rattle.cast_delay.specs.Ready.{Process, Gate};
 ghost use Rattle.cast_delay.specs.Rows.{delivered_row, told_row, standing_in};
 ghost use Rattle.cast_delay.specs.Queue.{new_row, row_of, change_row, first_for, offered_under, next_key, after_delivery};
+ghost use Rattle.cast_delay.specs.Fits.{Received, Fits, FirstReady};
 
 use crate::offered::Offered;
 use crate::row::{Fact, Row};
@@ -83,7 +88,9 @@ impl Delay {
     /// The first message in order of receipt that the process may deliver now, `None` where there is none. Takes no
     /// memory.
     pub fn next_ready(&self, process: Proc) -> Option<Key>
-        ensures { result ≡ next_key self.now process }
+        ensures value { result ≡ next_key self.now process }
+        ensures meaning { (groups : List GroupNo) (gate : GroupNo → Gate) (processes : Proc → Process) (received : List Received) →
+            Fits groups gate processes received self.now → FirstReady groups gate (processes process) received result }
     {
         let row = row_in(&self.rows, process)?;
         let offered = first_in(&self.numbers, &self.offered, row)?;
@@ -100,7 +107,9 @@ impl Delay {
 
     /// The time of a process, `None` of one that was not admitted.
     pub fn time(&self, process: Proc) -> Option<&Times>
-        ensures { option_copied result ≡ option_map (λ r. r.time) (row_of self.now.rows process) }
+        ensures value { option_copied result ≡ option_map (λ r. r.time) (row_of self.now.rows process) }
+        ensures meaning { (groups : List GroupNo) (gate : GroupNo → Gate) (processes : Proc → Process) (received : List Received) →
+            Fits groups gate processes received self.now → MatchOption result ((processes process).time ≡ no_time) (λ t. t.now ≡ (processes process).time) }
     {
         match row_in(&self.rows, process) {
             Some(row) => Some(&row.time),
@@ -110,7 +119,9 @@ impl Delay {
 
     /// What a process is in a group.
     pub fn standing(&self, process: Proc, group: GroupNo) -> Standing
-        ensures { result ≡ option_map_or (λ r. standing_in r group) (row_of self.now.rows process) Outside }
+        ensures value { result ≡ option_map_or (λ r. standing_in r group) (row_of self.now.rows process) Outside }
+        ensures meaning { (groups : List GroupNo) (gate : GroupNo → Gate) (processes : Proc → Process) (received : List Received) →
+            Fits groups gate processes received self.now → result ≡ (processes process).standing group }
     {
         match row_in(&self.rows, process) {
             Some(row) => row.standing(group),

@@ -7,7 +7,7 @@ use Rattle.cast_frame.specs.declared.client.Push.TheVariants as push
 use Rattle.cast_domain.specs.declared.event.Event.{Event}
 use Rattle.cast_domain.specs.declared.event.Taken.TheVariants as taken
 use Rattle.cast_domain.specs.Run.{Ran, run_of}
-use Rattle.cast_domain.proofs.Words.{site, group, proc, uid, members, config, opens, asks_join, casts, comes, install, then_run, pushed_after, p11}
+use Rattle.cast_domain.proofs.Words.{site, group, uid, members, config, opens, asks_join, casts, comes, install, then_run, pushed_after, p11}
 
 events : List Event
 events =

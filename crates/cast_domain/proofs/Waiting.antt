@@ -1,5 +1,5 @@
 -- A message waits for what happened before it, and is received once.
-use Rattle.std.specs.Prelude.{◌≡◌, List, [], ◌∷◌, refl}
+use Rattle.std.specs.Prelude.{◌≡◌, [], ◌∷◌, refl}
 use Rattle.cast_frame.specs.declared.site.SiteFrame.TheVariants as frame
 use Rattle.cast_frame.specs.declared.client.Push.TheVariants as push
 use Rattle.cast_domain.specs.Run.{Ran}

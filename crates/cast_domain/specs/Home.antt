@@ -1,6 +1,6 @@
 -- A group at the home: its last decided view, the joins that are to come, for each site the number of its last request
 -- that was applied, and whether a view is installed until some sites have answered.
-use Rattle.std.specs.Prelude.{ℕ, ◌+◌, Bool, true, false, not, ◌&&◌, ◌==◌, nat_le, if◌then◌else◌, List, [], ◌∷◌, length, Option, Some, None, unwrap_or}
+use Rattle.std.specs.Prelude.{ℕ, ◌+◌, Bool, true, false, not, ◌&&◌, ◌==◌, nat_le, if◌then◌else◌, List, [], ◌∷◌, length, None, unwrap_or}
 use Rattle.std.specs.FinMap.Entries.{find, put}
 use Rattle.cast_types.specs.declared.names.SiteNo.{SiteNo}
 use Rattle.cast_types.specs.declared.names.Proc.{Proc}

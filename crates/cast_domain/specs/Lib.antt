@@ -9,3 +9,4 @@ pub mod Rest
 pub mod Step
 pub mod Run
 pub mod Records
+pub mod Endings

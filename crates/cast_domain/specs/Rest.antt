@@ -1,5 +1,5 @@
 -- What a state does of itself after each event, until nothing changes.
-use Rattle.std.specs.Prelude.{◌≡◌, ℕ, if◌then◌else◌, [], List, length, Option, Some, None}
+use Rattle.std.specs.Prelude.{ℕ, if◌then◌else◌, [], length, Some, None}
 use Rattle.std.specs.List.{fold, find}
 use Rattle.cast_types.specs.declared.names.SiteNo.{SiteNo}
 use Rattle.cast_types.specs.declared.names.GroupNo.{GroupNo}

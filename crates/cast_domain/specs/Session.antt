@@ -1,5 +1,5 @@
 -- A session: everything ever pushed to it, and whether it is open.
-use Rattle.std.specs.Prelude.{Bool, true, false, List, [], ◌∷◌, ◌++◌}
+use Rattle.std.specs.Prelude.{Bool, true, false, [], ◌∷◌, ◌++◌}
 use Rattle.cast_types.specs.declared.names.Proc.{Proc}
 use Rattle.cast_frame.specs.declared.client.Push.{Push}
 use Rattle.cast_frame.specs.declared.client.Push.TheVariants.{Opened}

@@ -1,4 +1,4 @@
-ghost use Rattle.std.specs.Prelude.{◌≡◌, ◌<◌, true, false, IfSome, IfOk, OnErr, vec_len};
+ghost use Rattle.std.specs.Prelude.{◌≡◌, ◌<◌, true, false, IfSome, IfOk, OnOk, OnErr, vec_len};
 
 use crate::config::DomainConfig;
 use crate::event::{Event, Outs, Taken};
@@ -85,7 +85,7 @@ impl Domain {
 }
 
 impl Domain {
-    ghost use Rattle.cast_domain.specs.Records.{is_halted};
+    ghost use Rattle.cast_domain.specs.Records.{Keeps, answer_to, is_halted, number_of, used_after, used_of};
 
     /// The process of a session.
     pub(crate) fn process(&self, serial: u32) -> Proc {
@@ -118,7 +118,9 @@ impl Domain {
     }
 
     // Pushes an entry to a session that is open.
-    pub(crate) fn push(&mut self, serial: u32, push: Push) -> Result<(), NoMemory> {
+    pub(crate) fn push(&mut self, serial: u32, push: Push) -> Result<(), NoMemory>
+        ensures { Keeps self.old self.new }
+    {
         let place = serial as usize;
         if 0 < place && place <= self.sessions.len() {
             let session = &mut self.sessions[place - 1];
@@ -130,6 +132,9 @@ impl Domain {
     /// Makes one step: the event, and then what follows from it until nothing changes. What is sent and delivered is
     /// added to `outs`. `NoMemory` halts the domain, which from then on answers each event `Refused(Halted)`.
     pub fn step(&mut self, event: &Event, outs: &mut Outs) -> Result<Taken, NoMemory>
+        ensures answer { is_halted self.old ≡ false → IfOk result (λ t. t ≡ answer_to (used_of self.old) event.now) }
+        ensures used { is_halted self.old ≡ false → OnOk result (used_of self.new ≡ used_after (used_of self.old) event.now) }
+        ensures number { number_of self.new ≡ number_of self.old }
         ensures halts { OnErr result (is_halted self.new ≡ true) }
         ensures halted { is_halted self.old ≡ true → result ≡ Ok (Taken.Refused Refusal.Halted) }
     {
@@ -145,14 +150,22 @@ impl Domain {
         }
     }
 
-    fn serve(&mut self, event: &Event, outs: &mut Outs) -> Result<Taken, NoMemory> {
+    fn serve(&mut self, event: &Event, outs: &mut Outs) -> Result<Taken, NoMemory>
+        ensures answer { IfOk result (λ t. t ≡ answer_to self.old.used event.now) }
+        ensures used { OnOk result (self.new.used ≡ used_after self.old.used event.now) }
+        ensures same { (self.new.site ≡ self.old.site) × (self.new.config ≡ self.old.config) }
+    {
         let taken = self.act(event, outs)?;
         self.rest(outs)?;
         Ok(taken)
     }
 
     // What the event does at once.
-    fn act(&mut self, event: &Event, outs: &mut Outs) -> Result<Taken, NoMemory> {
+    fn act(&mut self, event: &Event, outs: &mut Outs) -> Result<Taken, NoMemory>
+        ensures answer { IfOk result (λ t. t ≡ answer_to self.old.used event.now) }
+        ensures used { OnOk result (self.new.used ≡ used_after self.old.used event.now) }
+        ensures same { (self.new.site ≡ self.old.site) × (self.new.config ≡ self.old.config) }
+    {
         match event {
             Event::Open(_) => self.open(),
             Event::Command {

@@ -20,6 +20,8 @@ fn group_of(frame: &SiteFrame) -> GroupNo {
 }
 
 impl Domain {
+    ghost use Rattle.cast_domain.specs.Records.{Keeps};
+
     // A frame comes from a site. One from a site or for a group that is not configured is ignored, as is every frame
     // that no rule uses.
     pub(crate) fn frame(
@@ -27,7 +29,9 @@ impl Domain {
         from: SiteNo,
         frame: &SiteFrame,
         outs: &mut Outs,
-    ) -> Result<(), NoMemory> {
+    ) -> Result<(), NoMemory>
+        ensures { Keeps self.old self.new }
+    {
         if !self.config.sites.as_slice().contains(&from) {
             return Ok(());
         }
@@ -66,6 +70,7 @@ impl Domain {
         outs: &mut Outs,
     ) -> Result<(), NoMemory>
         requires { place < vec_len self.old.groups }
+        ensures { Keeps self.old self.new }
     {
         let is_used = message.id.proc.site == from
             && from != self.site
@@ -116,6 +121,7 @@ impl Domain {
         outs: &mut Outs,
     ) -> Result<(), NoMemory>
         requires { place < vec_len self.old.groups }
+        ensures { Keeps self.old self.new }
     {
         if !self.is_home() || change == Change::Leave {
             return Ok(());
@@ -146,6 +152,7 @@ impl Domain {
         outs: &mut Outs,
     ) -> Result<(), NoMemory>
         requires { place < vec_len self.old.groups }
+        ensures { Keeps self.old self.new }
     {
         if full || from != self.config.home {
             return Ok(());
@@ -171,6 +178,7 @@ impl Domain {
         outs: &mut Outs,
     ) -> Result<(), NoMemory>
         requires { place < vec_len self.old.groups }
+        ensures { Keeps self.old self.new }
     {
         if from != self.config.home {
             return Ok(());
@@ -194,6 +202,7 @@ impl Domain {
         request: u32,
     ) -> Result<(), NoMemory>
         requires { place < vec_len self.old.groups }
+        ensures { Keeps self.old self.new }
     {
         let record = &mut self.groups[place];
         record.here.take_view(self.site, view, members)?;
@@ -227,7 +236,9 @@ impl Domain {
         group: GroupNo,
         view: u32,
         members: &Members,
-    ) -> Result<(), NoMemory> {
+    ) -> Result<(), NoMemory>
+        ensures { Keeps self.old self.new }
+    {
         if let Some(time) = self.delay.time(process) {
             let mut entered = time.copy()?;
             entered.enter(group, view)?;
@@ -246,6 +257,7 @@ impl Domain {
     // Installed: the home waits for the site no more.
     fn installed(&mut self, place: usize, from: SiteNo, view: u32) -> Result<(), NoMemory>
         requires { place < vec_len self.old.groups }
+        ensures { Keeps self.old self.new }
     {
         if self.is_home() {
             let home = &mut self.groups[place].home;

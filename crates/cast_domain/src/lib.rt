@@ -13,6 +13,7 @@ mod event;
 mod frames;
 mod group;
 mod home;
+pub mod laws;
 mod requests;
 mod rest;
 mod session;

@@ -1,4 +1,4 @@
-ghost use Rattle.std.specs.Prelude.{◌<◌, vec_len};
+ghost use Rattle.std.specs.Prelude.{◌≡◌, ◌<◌, ◌+◌, ◌==◌, if◌then◌else◌, IfOk, OnOk, vec_len};
 
 use crate::domain::Domain;
 use crate::event::{Command, Outs, Taken};
@@ -13,8 +13,14 @@ use cast_types::{GroupNo, Key, NoMemory, Proc, Refusal, Stamp, Standing, Uid};
 use std::alloc::AllocError;
 
 impl Domain {
+    ghost use Rattle.cast_domain.specs.Records.{Keeps, was_given};
+
     // A program connects.
-    pub(crate) fn open(&mut self) -> Result<Taken, NoMemory> {
+    pub(crate) fn open(&mut self) -> Result<Taken, NoMemory>
+        ensures answer { IfOk result (λ t. t ≡ (if self.old.used == MAX_NUMBER then Taken.Refused Refusal.TooManySessions else Taken.Opened (self.old.used + 1))) }
+        ensures used { OnOk result (self.new.used ≡ (if self.old.used == MAX_NUMBER then self.old.used else self.old.used + 1)) }
+        ensures same { (self.new.site ≡ self.old.site) × (self.new.config ≡ self.old.config) }
+    {
         if self.used == MAX_NUMBER {
             return Ok(Taken::Refused(Refusal::TooManySessions));
         }
@@ -33,7 +39,10 @@ impl Domain {
         serial: u32,
         command: &Command,
         outs: &mut Outs,
-    ) -> Result<Taken, NoMemory> {
+    ) -> Result<Taken, NoMemory>
+        ensures answer { IfOk result (λ t. t ≡ (if was_given self.old.used serial then Taken.Nothing else Taken.Refused Refusal.NotOpen)) }
+        ensures same { Keeps self.old self.new }
+    {
         if serial == 0 || serial > self.used {
             return Ok(Taken::Refused(Refusal::NotOpen));
         }
@@ -62,7 +71,9 @@ impl Domain {
         serial: u32,
         group: GroupNo,
         outs: &mut Outs,
-    ) -> Result<Option<Refusal>, NoMemory> {
+    ) -> Result<Option<Refusal>, NoMemory>
+        ensures { Keeps self.old self.new }
+    {
         let process = self.process(serial);
         let Some(place) = self.place_of(group) else {
             return Ok(Some(Refusal::NoGroup));
@@ -96,6 +107,7 @@ impl Domain {
         outs: &mut Outs,
     ) -> Result<(), NoMemory>
         requires { place < vec_len self.old.groups }
+        ensures { Keeps self.old self.new }
     {
         let group = &mut self.groups[place].here;
         if group.asked < MAX_NUMBER {
@@ -132,7 +144,9 @@ impl Domain {
         group: GroupNo,
         payload: &Bytes,
         outs: &mut Outs,
-    ) -> Result<Option<Refusal>, NoMemory> {
+    ) -> Result<Option<Refusal>, NoMemory>
+        ensures { Keeps self.old self.new }
+    {
         let process = self.process(serial);
         let Some(place) = self.place_of(group) else {
             return Ok(Some(Refusal::NoGroup));
@@ -190,6 +204,7 @@ impl Domain {
         outs: &mut Outs,
     ) -> Result<(), NoMemory>
         requires { place < vec_len self.old.groups }
+        ensures { Keeps self.old self.new }
     {
         let sites = sites_of(*self.got.allocator(), self.groups[place].here.members())?;
         for site in sites.as_slice() {
@@ -201,7 +216,9 @@ impl Domain {
     }
 
     // Receives a message: it is the last one in order of receipt.
-    pub(crate) fn receive(&mut self, message: Message) -> Result<(), NoMemory> {
+    pub(crate) fn receive(&mut self, message: Message) -> Result<(), NoMemory>
+        ensures { Keeps self.old self.new }
+    {
         self.delay.offer(Key(self.got.len()), &message)?;
         self.got.push(message)?;
         Ok(())

@@ -6,8 +6,12 @@ use cast_types::{Counts, DomainNo, Key, NoMemory, Proc};
 use std::alloc::AllocError;
 
 impl Domain {
+    ghost use Rattle.cast_domain.specs.Records.{Keeps};
+
     // What follows from an event, until nothing changes. No run makes 2^64 passes.
-    pub(crate) fn rest(&mut self, outs: &mut Outs) -> Result<(), NoMemory> {
+    pub(crate) fn rest(&mut self, outs: &mut Outs) -> Result<(), NoMemory>
+        ensures { Keeps self.old self.new }
+    {
         for _turn in 0..u64::MAX {
             if !self.pass(outs)? {
                 return Ok(());
@@ -17,14 +21,18 @@ impl Domain {
     }
 
     // Deliveries by serial; then by group the home. Answers whether anything changed.
-    fn pass(&mut self, outs: &mut Outs) -> Result<bool, NoMemory> {
+    fn pass(&mut self, outs: &mut Outs) -> Result<bool, NoMemory>
+        ensures { Keeps self.old self.new }
+    {
         let settled = self.settle(outs)?;
         let led = self.lead(outs)?;
         Ok(settled || led)
     }
 
     // Each process delivers until nothing is ready for it.
-    fn settle(&mut self, outs: &mut Outs) -> Result<bool, NoMemory> {
+    fn settle(&mut self, outs: &mut Outs) -> Result<bool, NoMemory>
+        ensures { Keeps self.old self.new }
+    {
         let mut changed = false;
         for earlier in 0..self.used {
             let process = self.process(earlier + 1);
@@ -36,7 +44,9 @@ impl Domain {
     }
 
     // A process delivers until nothing is ready for it. It delivers no message twice.
-    fn deliver_all(&mut self, process: Proc, outs: &mut Outs) -> Result<bool, NoMemory> {
+    fn deliver_all(&mut self, process: Proc, outs: &mut Outs) -> Result<bool, NoMemory>
+        ensures { Keeps self.old self.new }
+    {
         let mut changed = false;
         for _turn in 0..self.got.len() {
             let Some(key) = self.delay.next_ready(process) else {
@@ -49,7 +59,9 @@ impl Domain {
     }
 
     // A process delivers a message, and the program is told.
-    fn deliver(&mut self, process: Proc, key: Key, outs: &mut Outs) -> Result<(), NoMemory> {
+    fn deliver(&mut self, process: Proc, key: Key, outs: &mut Outs) -> Result<(), NoMemory>
+        ensures { Keeps self.old self.new }
+    {
         let Key(place) = key;
         let Some(message) = self.got.get(place) else {
             return Ok(());
@@ -67,7 +79,9 @@ impl Domain {
     }
 
     // The home decides, by group.
-    fn lead(&mut self, outs: &mut Outs) -> Result<bool, NoMemory> {
+    fn lead(&mut self, outs: &mut Outs) -> Result<bool, NoMemory>
+        ensures { Keeps self.old self.new }
+    {
         let mut changed = false;
         if self.is_home() {
             for record in self.groups.iter_mut() {

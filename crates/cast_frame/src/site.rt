@@ -22,14 +22,18 @@ pub enum SiteFrame {
     Ack(Uid),
     /// A site asks the home to change a group's members.
     Ask {
+        /// Whose members are to change.
         group: GroupNo,
         /// Counts the requests of the site from 1.
         number: u32,
+        /// What is to become of the process.
         change: Change,
+        /// The process, at the site that asks.
         proc: Proc,
     },
     /// The home has decided a request.
     Asked {
+        /// The group of the request.
         group: GroupNo,
         /// The number of the request.
         number: u32,
@@ -38,9 +42,11 @@ pub enum SiteFrame {
     },
     /// The home installs a view.
     Install {
+        /// The group of the view.
         group: GroupNo,
         /// The number of the new view, from 1 on.
         view: u32,
+        /// The members of the new view.
         members: Members,
         /// The number of the request that the view answers, 0 for none.
         request: u32,
@@ -51,6 +57,7 @@ pub enum SiteFrame {
     },
     /// The sender has installed a view.
     Installed {
+        /// The group of the view.
         group: GroupNo,
         /// The number of the view, from 1 on.
         view: u32,

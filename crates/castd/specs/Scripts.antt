@@ -1,6 +1,7 @@
 -- What a script may say of a daemon.
 use Rattle.std.specs.Prelude.{◌≡◌, ◌≢◌, ◌≤◌, ◌⊎◌, ℕ, Bool, true, false, not, ◌&&◌, ◌==◌, nat_lt, filter, List, [], ◌∷◌, ◌++◌, length, map, codes, IsTrue, Ok}
 use Rattle.std.specs.Borrow.{Bor}
+use Rattle.std.specs.List.{AllZip, Contains, slice_split}
 use Rattle.std.specs.Fmt.{decimal}
 use Rattle.hex.specs.Hex.{decode_of}
 use Rattle.cast_types.specs.declared.names.DomainNo.{DomainNo}
@@ -10,7 +11,6 @@ use Rattle.cast_frame.specs.Spelling.{spelled_site}
 use Rattle.cast_domain.specs.declared.event.Command.TheVariants as command
 use Rattle.cast_domain.specs.declared.event.Event.{Event}
 use Rattle.cast_domain.specs.declared.event.Event.TheVariants as event
-use Rattle.std.specs.List.{AllZip, Contains, slice_split}
 use Rattle.cast_types.specs.declared.names.SiteNo.{SiteNo}
 use Rattle.cast_types.specs.declared.names.GroupNo.{GroupNo}
 use Rattle.castd.specs.declared.script.Script.{Script}
@@ -51,29 +51,29 @@ pub record IsDomainAt (own : SiteNo) (d : DomainConfig) : Type 0 where
 abbrev pub HasOneDomain : Config → Type 0
 HasOneDomain c = (d : DomainConfig) × (c.domains ≡ d ∷ []) × IsDomainAt c.site d
 
--- hexadecimal digits of either case spell bytes, and `-` spells none
-abbrev pub SpellsBytes : List ℕ → List ℕ → Type 0
-SpellsBytes word bytes = ((word ≡ codes "-") × (bytes ≡ [])) ⊎ ((word ≢ []) × (decode_of word ≡ Ok bytes))
+-- a text's parts, parted by a byte
+abbrev pub parted : ℕ → List ℕ → List (List ℕ)
+parted by text = slice_split (λ b. b == by) text
 
--- the words of an event's line behind the first
-abbrev pub SpellsRequest : DomainNo → ℕ → List (List ℕ) → Request → Type 0
-SpellsRequest d serial ws (request.Join tag group) =
-    ws ≡ codes "join" ∷ decimal d.0 ∷ decimal serial ∷ decimal tag ∷ decimal group.0 ∷ []
-SpellsRequest d serial ws (request.Cast tag group payload) =
-    (hex : List ℕ)
-    × (ws ≡ codes "cast" ∷ decimal d.0 ∷ decimal serial ∷ decimal tag ∷ decimal group.0 ∷ hex ∷ [])
-    × SpellsBytes hex payload
-
--- the words of a line spell an event
-abbrev pub SpellsEvent : List (List ℕ) → Event → Type 0
-SpellsEvent ws (event.Open d) = ws ≡ codes "open" ∷ decimal d.0 ∷ []
-SpellsEvent ws (event.Command d serial (command.Request r)) = SpellsRequest d serial ws r
-SpellsEvent ws (event.Frame d s f) =
-    (hex : List ℕ) × (ws ≡ codes "frame" ∷ hex ∷ []) × SpellsBytes hex (spelled_site d s f)
+-- the words of a line, parted by one space each
+abbrev pub words_of : List ℕ → List (List ℕ)
+words_of line = parted 32 line
 
 -- the texts of words
 abbrev pub texts : List (Bor (List ℕ)) → List (List ℕ)
 texts ws = map (λ w. w.now) ws
+
+-- hexadecimal digits of either case spell bytes, and `-` spells none
+abbrev pub SpellsBytes : List ℕ → List ℕ → Type 0
+SpellsBytes word bytes = ((word ≡ codes "-") × (bytes ≡ [])) ⊎ ((word ≢ []) × (decode_of word ≡ Ok bytes))
+
+-- a word spells sites, parted by commas
+abbrev pub SpellsSites : List ℕ → List SiteNo → Type 0
+SpellsSites word sites = parted 44 word ≡ map (λ s. decimal s.0) sites
+
+-- a word spells groups, parted by commas
+abbrev pub SpellsGroups : List ℕ → List GroupNo → Type 0
+SpellsGroups word groups = parted 44 word ≡ map (λ g. decimal g.0) groups
 
 -- the first word of a line
 abbrev pub head_text : Head → List ℕ
@@ -84,21 +84,9 @@ head_text Join = codes "join"
 head_text Cast = codes "cast"
 head_text Frame = codes "frame"
 
--- a text's parts, parted by a byte
-abbrev pub parted : ℕ → List ℕ → List (List ℕ)
-parted by text = slice_split (λ b. b == by) text
-
--- the words of a line, parted by one space each
-abbrev pub words_of : List ℕ → List (List ℕ)
-words_of line = parted 32 line
-
--- a word spells sites, parted by commas
-abbrev pub SpellsSites : List ℕ → List SiteNo → Type 0
-SpellsSites word sites = parted 44 word ≡ map (λ s. decimal s.0) sites
-
--- a word spells groups, parted by commas
-abbrev pub SpellsGroups : List ℕ → List GroupNo → Type 0
-SpellsGroups word groups = parted 44 word ≡ map (λ g. decimal g.0) groups
+-- the words of a line spell a site
+abbrev pub SpellsSite : List (List ℕ) → SiteNo → Type 0
+SpellsSite ws s = ws ≡ codes "site" ∷ decimal s.0 ∷ []
 
 -- the words that name a domain and its home
 abbrev pub place_texts : DomainNo → SiteNo → List (List ℕ)
@@ -125,15 +113,27 @@ SpellsDomain ws d =
     × (ws ≡ codes "domain" ∷ (place_texts d.domain d.home ++ (lists ++ quota_texts d.quotas)))
     × SpellsLists lists d.sites d.groups
 
--- the words of a line spell a site
-abbrev pub SpellsSite : List (List ℕ) → SiteNo → Type 0
-SpellsSite ws s = ws ≡ codes "site" ∷ decimal s.0 ∷ []
-
 -- the words of a line spell the one domain of a daemon
 abbrev pub SpellsOnlyDomain : List (List ℕ) → List DomainConfig → Type 0
 SpellsOnlyDomain ws [] = ⊥
 SpellsOnlyDomain ws (d ∷ []) = SpellsDomain ws d
 SpellsOnlyDomain ws (d ∷ e ∷ ds) = ⊥
+
+-- the words of an event's line behind the first
+abbrev pub SpellsRequest : DomainNo → ℕ → List (List ℕ) → Request → Type 0
+SpellsRequest d serial ws (request.Join tag group) =
+    ws ≡ codes "join" ∷ decimal d.0 ∷ decimal serial ∷ decimal tag ∷ decimal group.0 ∷ []
+SpellsRequest d serial ws (request.Cast tag group payload) =
+    (hex : List ℕ)
+    × (ws ≡ codes "cast" ∷ decimal d.0 ∷ decimal serial ∷ decimal tag ∷ decimal group.0 ∷ hex ∷ [])
+    × SpellsBytes hex payload
+
+-- the words of a line spell an event
+abbrev pub SpellsEvent : List (List ℕ) → Event → Type 0
+SpellsEvent ws (event.Open d) = ws ≡ codes "open" ∷ decimal d.0 ∷ []
+SpellsEvent ws (event.Command d serial (command.Request r)) = SpellsRequest d serial ws r
+SpellsEvent ws (event.Frame d s f) =
+    (hex : List ℕ) × (ws ≡ codes "frame" ∷ hex ∷ []) × SpellsBytes hex (spelled_site d s f)
 
 -- a line that is neither empty nor a comment
 abbrev pub is_used : List ℕ → Bool
@@ -144,6 +144,10 @@ is_used (c ∷ cs) = not (c == 35)
 abbrev pub used_lines_of : List ℕ → List (List ℕ)
 used_lines_of text = filter is_used (parted 10 text)
 
+-- the texts of lines
+abbrev pub line_texts : List Line → List (List ℕ)
+line_texts lines = map (λ l. l.text.now) lines
+
 -- these lines spell a script: one for its site, one for its domain, and one for each event
 abbrev pub SpellsScript : List (List ℕ) → Script → Type 0
 SpellsScript [] s = ⊥
@@ -152,7 +156,3 @@ SpellsScript (first ∷ second ∷ lines) s =
     SpellsSite (words_of first) s.config.site
     × SpellsOnlyDomain (words_of second) s.config.domains
     × AllZip (λ line event. SpellsEvent (words_of line) event) lines s.events
-
--- the texts of lines
-abbrev pub line_texts : List Line → List (List ℕ)
-line_texts lines = map (λ l. l.text.now) lines

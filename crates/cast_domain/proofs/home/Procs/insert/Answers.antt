@@ -1,4 +1,3 @@
-use Rattle.std.proofs.Common.{◌≡◌}
 use Rattle.cast_types.specs.Names.{proc_cmp}
 use Rattle.cast_types.proofs.Orders.{proc_total}
 use Rattle.cast_domain.proofs.Risings.{rising-with_item}

@@ -1,0 +1,166 @@
+-- What is told of a process, and what it delivers, its row takes in.
+use Rattle.std.proofs.Common.{◌≡◌, ◌↔◌, ◌⊎◌, ℕ, ◌-◌, ◌<◌, ◌≤◌, true, false, cond, ◌&&◌, ◌||◌, List, [], ◌∷◌, Option, Some, unwrap_or, refl, sym, ap, subst, ◌∙◌, inl, inr, arith}
+use Rattle.std.specs.Prelude.{nat_lt, nat_le, ◌==◌, if◌then◌else◌}
+use Rattle.std.specs.Ordering.{eq_by_cmp}
+use Rattle.std.specs.FinMap.Entries.{find, find-put}
+use Rattle.std.proofs.lemmas.Bool.{cases_Bool, cases_eq, false≢true, ltb-true, leb-true, le-leb, eqb-true, and_parts, or_cases, or_left, or_right}
+use Rattle.cast_types.specs.declared.names.GroupNo.{GroupNo}
+use Rattle.cast_types.specs.declared.names.Uid.{Uid}
+use Rattle.cast_types.specs.declared.names.Standing.{Standing}
+use Rattle.cast_types.specs.declared.names.Standing.TheVariants.{Outside, Joining, Member}
+use Rattle.cast_types.specs.Names.{group_cmp, group_eq, uid_eq}
+use Rattle.cast_types.specs.Stamps.{ClockList}
+use Rattle.cast_types.proofs.Orders.{group_total, group_exact, proc_exact, same_uid, uid_itself, tie_self, tie_same}
+use Rattle.cast_types.proofs.CountLists.{sorted-put}
+use Rattle.cast_clock.specs.Times.{clock_of, view_of, join, has_room}
+use Rattle.cast_clock.proofs.Entries.{found_or}
+use Rattle.cast_frame.specs.declared.message.Message.{Message}
+use Rattle.cast_delay.specs.declared.source.Source.{Source}
+use Rattle.cast_delay.specs.declared.row.Row.{Row}
+use Rattle.cast_delay.specs.declared.row.Fact.{Fact}
+use Rattle.cast_delay.specs.declared.row.Fact.TheVariants as fact
+use Rattle.cast_delay.specs.Ready.{Process, is_member, has_delivered}
+use Rattle.cast_delay.specs.Sources.{source, source_cmp}
+use Rattle.cast_delay.specs.Rows.{number_of, standing_in, done_in, needed, has_past, row_allows, all_allow, is_ready_row, delivered_row, told_row}
+use Rattle.cast_delay.specs.Fits.{RowFits, IsSound, told, delivering}
+use Rattle.cast_delay.proofs.Listed.{list_any-append}
+use Rattle.cast_delay.proofs.Counted.{needed_own, within_entry}
+use Rattle.cast_delay.proofs.Finds.{put_at_group}
+use Rattle.cast_delay.proofs.Sources.{source_total, source_exact}
+
+-- a row takes in a fact as the process does
+pub told_fits : (p : Process) (row : Row) → RowFits p row → (f : Fact) → RowFits (told f p) (told_row f row)
+told_fits p row fits (fact.Standing g s) = record {
+  standing = λ h. put_at_group row.standings g h s Outside ∙ ap (λ old. if group_eq g h then s else old) (fits.standing h);
+  in_order = sorted-put group_cmp group_total g s row.standings fits.in_order;
+  time = fits.time;
+  counts = fits.counts;
+}
+told_fits p row fits (fact.Time time) = record {
+  standing = fits.standing;
+  in_order = fits.in_order;
+  time = refl;
+  counts = fits.counts;
+}
+
+pub only_member : (s : Standing) → is_member s ≡ true → s ≡ Member
+only_member Outside e = absurd (false≢true e)
+only_member (Joining request heard) e = absurd (false≢true e)
+only_member Member e = refl
+
+-- the parts of readiness by a row
+pub record RowReady (numbers : List (GroupNo × ℕ)) (row : Row) (id : Uid) (times : ClockList) : Type 0 where
+  pub member : standing_in row id.group ≡ Member
+  pub current : id.view ≡ number_of numbers id.group
+  pub fresh : done_in row id.group id.view id.proc < id.count
+  pub allowed : all_allow numbers row id times ≡ true
+  pub room : has_room (join row.time times) ≡ true
+
+pub ready_parts : (numbers : List (GroupNo × ℕ)) (row : Row) (id : Uid) (times : ClockList) → is_ready_row numbers row id times ≡ true → RowReady numbers row id times
+ready_parts numbers row id times ready =
+    let a = and_parts (is_member (standing_in row id.group)) ((id.view == number_of numbers id.group) && (nat_lt (done_in row id.group id.view id.proc) id.count && (all_allow numbers row id times && has_room (join row.time times)))) ready in
+    let b = and_parts (id.view == number_of numbers id.group) (nat_lt (done_in row id.group id.view id.proc) id.count && (all_allow numbers row id times && has_room (join row.time times))) a.1 in
+    let c = and_parts (nat_lt (done_in row id.group id.view id.proc) id.count) (all_allow numbers row id times && has_room (join row.time times)) b.1 in
+    let d = and_parts (all_allow numbers row id times) (has_room (join row.time times)) c.1 in
+    record {
+      member = only_member (standing_in row id.group) a.0;
+      current = eqb-true id.view (number_of numbers id.group) b.0;
+      fresh = ltb-true (done_in row id.group id.view id.proc) id.count c.0;
+      allowed = d.0;
+      room = d.1;
+    }
+
+module _ (p : Process) (row : Row) (fits : RowFits p row) (m : Message) (sound : IsSound m) (numbers : List (GroupNo × ℕ)) (ready : RowReady numbers row m.id m.times) where
+  -- what was delivered of the message's sender
+  abbrev before : ℕ
+  before = done_in row m.id.group m.id.view m.id.proc
+
+  own_past : has_past row m.id m.id.group (view_of m.times m.id.group) (clock_of m.times m.id.group).counts ≡ true
+  own_past =
+      let v = view_of m.times m.id.group in
+      let n = number_of numbers m.id.group in
+      let past = has_past row m.id m.id.group v (clock_of m.times m.id.group).counts in
+      let here : row_allows row n m.id m.times m.id.group Member ≡ true =
+      subst (λ s. row_allows row n m.id m.times m.id.group s ≡ true) ready.member (found_or group_exact (λ h s. row_allows row (number_of numbers h) m.id m.times h s) Outside (λ q. refl) row.standings ready.allowed m.id.group) in
+      elim (or_cases (nat_lt v n) ((v == n) && past) here) [
+        | inl lower ↦ absurd (omega (arith, ltb-true v n lower, sound.view, ready.current))
+        | inr rest ↦ (and_parts (v == n) past rest).1
+      ]
+
+  -- all before the message's own count
+  enough : m.id.count - 1 ≤ before
+  enough =
+      let g = m.id.group in
+      let v = view_of m.times g in
+      let counts = (clock_of m.times g).counts in
+      let found = found_or proc_exact (λ q n. nat_le (needed m.id g v (q, n)) (done_in row g v q)) 0
+      (λ q. le-leb (needed m.id g v (q, 0)) (done_in row g v q) (omega (arith, within_entry m.id g v (q, 0)))) counts own_past m.id.proc in
+      let own : nat_le (needed m.id g m.id.view (m.id.proc, m.id.count)) before ≡ true =
+      subst (λ w. nat_le (needed m.id g w (m.id.proc, m.id.count)) (done_in row g w m.id.proc) ≡ true) sound.view
+      (subst (λ n. nat_le (needed m.id g v (m.id.proc, n)) (done_in row g v m.id.proc) ≡ true) sound.count found) in
+      omega (arith, leb-true (needed m.id g m.id.view (m.id.proc, m.id.count)) before own, needed_own m.id g m.id.view (m.id.proc, m.id.count) (uid_itself m.id))
+
+  abbrev after : Row
+  after = delivered_row m.id m.times row
+
+  abbrev source_of : Uid → Source
+  source_of u = source u.group u.view u.proc
+
+  after_own : (u : Uid) → eq_by_cmp source_cmp (source_of u) (source_of m.id) ≡ true → done_in after u.group u.view u.proc ≡ m.id.count
+  after_own u tie =
+      ap (λ (o : Option ℕ). unwrap_or o 0) (find-put source_cmp source_total (source_of u) (source_of m.id) m.id.count row.done)
+      ∙ ap (λ b. unwrap_or (cond b (Some m.id.count) (find source_cmp (source_of u) row.done)) 0) tie
+
+  after_other : (u : Uid) → eq_by_cmp source_cmp (source_of u) (source_of m.id) ≡ false → done_in after u.group u.view u.proc ≡ done_in row u.group u.view u.proc
+  after_other u apart =
+      ap (λ (o : Option ℕ). unwrap_or o 0) (find-put source_cmp source_total (source_of u) (source_of m.id) m.id.count row.done)
+      ∙ ap (λ b. unwrap_or (cond b (Some m.id.count) (find source_cmp (source_of u) row.done)) 0) apart
+
+  has_now : (u : Uid) → has_delivered (delivering m p) u ≡ (has_delivered p u || (uid_eq u m.id || false))
+  has_now u = list_any-append (uid_eq u) p.delivered (m.id ∷ [])
+
+  old_or_own : (u : Uid) → has_delivered (delivering m p) u ≡ true → (has_delivered p u ≡ true) ⊎ (u ≡ m.id)
+  old_or_own u has = elim (or_cases (has_delivered p u) (uid_eq u m.id || false) (sym (has_now u) ∙ has)) [
+    | inl old ↦ inl old
+    | inr own ↦ elim (or_cases (uid_eq u m.id) false own) [ inl same ↦ inr (same_uid u m.id same) | inr neither ↦ absurd (false≢true neither) ]
+  ]
+
+  still : (u : Uid) → has_delivered p u ≡ true → has_delivered (delivering m p) u ≡ true
+  still u old = has_now u ∙ or_left (has_delivered p u) (uid_eq u m.id || false) old
+
+  own_now : (u : Uid) → u ≡ m.id → has_delivered (delivering m p) u ≡ true
+  own_now u same = has_now u ∙ or_right (has_delivered p u) (uid_eq u m.id || false) (or_left (uid_eq u m.id) false (ap (λ w. uid_eq u w) (sym same) ∙ uid_itself u))
+
+  counts_now : (u : Uid) → (has_delivered (delivering m p) u ≡ true) ↔ ((0 < u.count) × (u.count ≤ done_in after u.group u.view u.proc))
+  counts_now u = elim (cases_Bool (eq_by_cmp source_cmp (source_of u) (source_of m.id))) [
+    | inl tie ↦
+        let same : source_of u ≡ source_of m.id = tie_same source_exact (source_of u) (source_of m.id) tie in
+        let is = after_own u tie in
+        let was : done_in row u.group u.view u.proc ≡ before = ap (λ (s : Source). done_in row s.group s.view s.process) same in (
+          λ has. elim (old_or_own u has) [
+            | inl old ↦ let o = (fits.counts u).0 old in (o.0, omega (arith, o.1, is, was, ready.fresh))
+            | inr own ↦ let c = ap (λ (x : Uid). x.count) own in (omega (arith, sound.from_one, c), omega (arith, c, is))
+          ],
+          λ b. elim (cases_eq u.count m.id.count) [
+            | inl c ↦ own_now u (λ i. record { group = (same i).group; view = (same i).view; proc = (same i).process; count = c i })
+            | inr differ ↦ still u ((fits.counts u).1 (b.0, omega (arith, b.1, is, was, enough, differ)))
+          ],
+        )
+    | inr apart ↦
+        let is = after_other u apart in (
+          λ has. elim (old_or_own u has) [
+            | inl old ↦ let o = (fits.counts u).0 old in (o.0, omega (arith, o.1, is))
+            | inr own ↦ absurd (false≢true (sym apart ∙ tie_self source_total (source_of u) (source_of m.id) (ap source_of own)))
+          ],
+          λ b. still u ((fits.counts u).1 (b.0, omega (arith, b.1, is))),
+        )
+  ]
+
+  time_now : after.time ≡ join p.time m.times
+  time_now =
+      ap (λ b. if b then join row.time m.times else row.time) ready.room
+      ∙ ap (λ t. join t m.times) fits.time
+
+  -- a row takes in a delivery as the process does
+  pub delivered_fits : RowFits (delivering m p) after
+  delivered_fits = record { standing = fits.standing; in_order = fits.in_order; time = time_now; counts = counts_now }

@@ -1,0 +1,67 @@
+-- The first item of a list that passes a test, and what is found at a key after it was put there.
+use Rattle.std.proofs.Common.{◌≡◌, suc, Bool, true, false, cond, List, [], ◌∷◌, ◌++◌, map, Contains, Option, Some, None, unwrap_or, refl, sym, ap, subst, ◌∙◌, arith}
+use Rattle.std.specs.Prelude.{if◌then◌else◌}
+use Rattle.std.specs.List as list
+use Rattle.std.specs.Option.{option_map}
+use Rattle.std.specs.Ordering.{eq_by_cmp}
+use Rattle.std.specs.FinMap.Entries.{find, put, find-put}
+use Rattle.cast_types.specs.declared.names.GroupNo.{GroupNo}
+use Rattle.cast_types.specs.Names.{group_cmp, group_eq}
+use Rattle.cast_types.proofs.Orders.{group_total, group_exact, same_group, group_itself, tie_self, tie_same}
+use Rattle.cast_delay.proofs.Listed.{same_bools}
+
+pub contains_here : {A : Type 0} (x : A) (xs : List A) → Contains (x ∷ xs) x
+contains_here x xs = (0, omega arith, refl)
+
+pub contains_later : {A : Type 0} (x y : A) (xs : List A) → Contains xs x → Contains (y ∷ xs) x
+contains_later x y xs (k, lt, at) = (suc k, omega (arith, lt), at)
+
+-- what is found is in the list
+pub found_in : {A : Type 0} (t : A → Bool) (xs : List A) (x : A) → list.find t xs ≡ Some x → Contains xs x
+found_in t [] x is = cc
+found_in t (y ∷ xs) x is =
+    elim (t y) as (λ b. cond b (Some y) (list.find t xs) ≡ Some x → Contains (y ∷ xs) x) [
+      | true ↦ λ here. subst (λ z. Contains (y ∷ xs) z) (ap (λ (o : Option _). unwrap_or o y) here) (contains_here y xs)
+      | false ↦ λ later. contains_later x y xs (found_in t xs x later)
+    ] is
+
+-- tests that agree on a list find the same in it
+pub find_agree : {A : Type 0} (s t : A → Bool) (xs : List A) → ((x : A) → Contains xs x → s x ≡ t x) → list.find s xs ≡ list.find t xs
+find_agree s t [] same = refl
+find_agree s t (x ∷ xs) same =
+    let here = same x (contains_here x xs) in
+    let later = find_agree s t xs (λ y in_xs. same y (contains_later y x xs in_xs)) in
+    λ i. cond (here i) (Some x) (later i)
+
+pub find_mapped : {A B : Type 0} (f : A → B) (t : B → Bool) (xs : List A) → list.find t (map f xs) ≡ option_map f (list.find (λ x. t (f x)) xs)
+find_mapped f t [] = refl
+find_mapped f t (x ∷ xs) =
+    elim (t (f x)) as (λ b. cond b (Some (f x)) (list.find t (map f xs)) ≡ option_map f (cond b (Some x) (list.find (λ y. t (f y)) xs))) [ true ↦ refl | false ↦ find_mapped f t xs ]
+
+pub never_found : {A : Type 0} (t : A → Bool) (xs : List A) → ((x : A) → t x ≡ false) → list.find t xs ≡ None
+never_found t [] none = refl
+never_found t (x ∷ xs) none = ap (λ b. cond b (Some x) (list.find t xs)) (none x) ∙ never_found t xs none
+
+-- what is found stays found, and what is not found is looked for in what is added
+pub find-append_some : {A : Type 0} (t : A → Bool) (xs ys : List A) (x : A) → list.find t xs ≡ Some x → list.find t (xs ++ ys) ≡ Some x
+find-append_some t [] ys x is = cc
+find-append_some t (y ∷ xs) ys x is =
+    elim (t y) as (λ b. cond b (Some y) (list.find t xs) ≡ Some x → cond b (Some y) (list.find t (xs ++ ys)) ≡ Some x) [ true ↦ λ here. here | false ↦ λ later. find-append_some t xs ys x later ] is
+
+pub find-append_none : {A : Type 0} (t : A → Bool) (xs ys : List A) → list.find t xs ≡ None → list.find t (xs ++ ys) ≡ list.find t ys
+find-append_none t [] ys is = refl
+find-append_none t (y ∷ xs) ys is =
+    elim (t y) as (λ b. cond b (Some y) (list.find t xs) ≡ None → cond b (Some y) (list.find t (xs ++ ys)) ≡ list.find t ys) [ true ↦ λ here. cc here | false ↦ λ later. find-append_none t xs ys later ] is
+
+-- groups tie exactly if they are one
+tie_is : (g h : GroupNo) → eq_by_cmp group_cmp h g ≡ group_eq g h
+tie_is g h = same_bools (eq_by_cmp group_cmp h g) (group_eq g h)
+    (λ tie. ap (λ k. group_eq g k) (tie_same group_exact h g tie) ∙ group_itself g)
+    (λ same. tie_self group_total h g (sym (same_group g h same)))
+
+-- what a group has after a value was put at a group
+pub put_at_group : {V : Type 0} (es : List (GroupNo × V)) (g h : GroupNo) (v d : V) → unwrap_or (find group_cmp h (put group_cmp g v es)) d ≡ (if group_eq g h then v else unwrap_or (find group_cmp h es) d)
+put_at_group es g h v d =
+    ap (λ (o : Option _). unwrap_or o d) (find-put group_cmp group_total h g v es)
+    ∙ ap (λ b. unwrap_or (cond b (Some v) (find group_cmp h es)) d) (tie_is g h)
+    ∙ elim (group_eq g h) as (λ b. unwrap_or (cond b (Some v) (find group_cmp h es)) d ≡ cond b v (unwrap_or (find group_cmp h es) d)) [ true ↦ refl | false ↦ refl ]

@@ -1,0 +1,94 @@
+-- By what the queue keeps of a process, a message is ready exactly if it is by what the process delivered.
+use Rattle.std.proofs.Common.{◌≡◌, ℕ, Bool, true, false, not, ◌&&◌, ◌||◌, List, [], ◌∷◌, Option, unwrap_or, refl, sym, ap, subst, ◌∙◌, inl, inr, arith}
+use Rattle.std.specs.Prelude.{nat_lt, ◌==◌}
+use Rattle.std.specs.List.{list_all}
+use Rattle.std.specs.FinMap.Entries.{is_sorted}
+use Rattle.std.proofs.lemmas.Bool.{or_cases, false≢true, ltb-true, lt-ltb, cases_lt, not_from_false, not-true, false_from_ne_true, and_parts}
+use Rattle.cast_types.specs.declared.names.GroupNo.{GroupNo}
+use Rattle.cast_types.specs.declared.names.Standing.{Standing}
+use Rattle.cast_types.specs.declared.names.Standing.TheVariants.{Outside, Joining, Member}
+use Rattle.cast_types.specs.Names.{group_cmp, group_eq}
+use Rattle.cast_types.specs.Sets.{is_among}
+use Rattle.cast_types.proofs.Orders.{group_total, group_exact, same_group}
+use Rattle.cast_clock.specs.Times.{clock_of, view_of, join, has_room}
+use Rattle.cast_clock.proofs.Entries.{found_or, each_found, list_all_of, as_T}
+use Rattle.cast_frame.specs.declared.message.Message.{Message}
+use Rattle.cast_delay.specs.declared.row.Row.{Row}
+use Rattle.cast_delay.specs.Ready.{Process, Gate, is_member, is_outside, has_delivered, group_allows, is_causally_ready}
+use Rattle.cast_delay.specs.Rows.{number_of, standing_in, done_in, row_allows, all_allow, is_ready_row}
+use Rattle.cast_delay.specs.Fits.{RowFits, IsSound}
+use Rattle.cast_delay.proofs.Listed.{same_bools}
+use Rattle.cast_delay.proofs.Counted.{past_counted}
+
+-- what holds of all items of a list holds of one that is among them
+pub among_holds : (t : GroupNo → Bool) (gs : List GroupNo) (g : GroupNo) → list_all t gs ≡ true → is_among group_eq g gs ≡ true → t g ≡ true
+among_holds t [] g all among = absurd (false≢true among)
+among_holds t (h ∷ gs) g all among =
+    let parts = and_parts (t h) (list_all t gs) all in
+    elim (or_cases (group_eq g h) (is_among group_eq g gs) among) [
+      | inl here ↦ subst (λ k. t k ≡ true) (sym (same_group g h here)) parts.0
+      | inr later ↦ among_holds t gs g parts.1 later
+    ]
+
+module _ (p : Process) (row : Row) (fits : RowFits p row) (m : Message) where
+  -- a group allows it by the row as it does by the ids
+  group_means : (gate : Gate) (number : ℕ) → number ≡ gate.number → (h : GroupNo) (s : Standing) → row_allows row number m.id m.times h s ≡ group_allows s p gate m h
+  group_means gate number is h Outside = refl
+  group_means gate number is h (Joining request heard) = refl
+  group_means gate number is h Member =
+      let past = past_counted p row fits m.id h (view_of m.times h) (clock_of m.times h).counts in
+      λ i. nat_lt (view_of m.times h) (is i) || ((view_of m.times h == is i) && past i)
+
+  -- not delivered, by its count
+  fresh_means : IsSound m → nat_lt (done_in row m.id.group m.id.view m.id.proc) m.id.count ≡ not (has_delivered p m.id)
+  fresh_means sound = same_bools (nat_lt (done_in row m.id.group m.id.view m.id.proc) m.id.count) (not (has_delivered p m.id)) there back
+    where
+      there : nat_lt (done_in row m.id.group m.id.view m.id.proc) m.id.count ≡ true → not (has_delivered p m.id) ≡ true
+      there lt = not_from_false (has_delivered p m.id) (false_from_ne_true (has_delivered p m.id) (λ has.
+          omega (arith, ltb-true (done_in row m.id.group m.id.view m.id.proc) m.id.count lt, ((fits.counts m.id).0 has).1)))
+
+      back : not (has_delivered p m.id) ≡ true → nat_lt (done_in row m.id.group m.id.view m.id.proc) m.id.count ≡ true
+      back hasnt = elim (cases_lt (done_in row m.id.group m.id.view m.id.proc) m.id.count) [
+        | inl lt ↦ lt-ltb (done_in row m.id.group m.id.view m.id.proc) m.id.count lt
+        | inr le ↦ absurd (false≢true (sym (not-true (has_delivered p m.id) hasnt) ∙ (fits.counts m.id).1 (sound.from_one, le)))
+      ]
+
+  module _ (groups : List GroupNo) (gate : GroupNo → Gate) (numbers : List (GroupNo × ℕ)) (numbered : (g : GroupNo) → number_of numbers g ≡ (gate g).number) where
+    abbrev allows : GroupNo → Standing → Bool
+    allows h s = row_allows row (number_of numbers h) m.id m.times h s
+
+    -- what allows it in all of the row's groups allows it in each group
+    pub allowed_in : all_allow numbers row m.id m.times ≡ true → (h : GroupNo) → allows h (standing_in row h) ≡ true
+    allowed_in all h = found_or group_exact allows Outside (λ q. refl) row.standings all h
+
+    module _ (known : (g : GroupNo) → is_outside (p.standing g) ≡ false → is_among group_eq g groups ≡ true) where
+      abbrev rule : GroupNo → Bool
+      rule h = group_allows (p.standing h) p (gate h) m h
+
+      rule_at : (h : GroupNo) → allows h (standing_in row h) ≡ rule h
+      rule_at h = ap (λ s. allows h s) (fits.standing h) ∙ group_means (gate h) (number_of numbers h) (numbered h) h (p.standing h)
+
+      -- a group that is not the domain's holds nothing back
+      rule_outside : (h : GroupNo) (s : Standing) → (is_outside s ≡ false → group_allows s p (gate h) m h ≡ true) → group_allows s p (gate h) m h ≡ true
+      rule_outside h Outside inside = refl
+      rule_outside h (Joining request heard) inside = inside refl
+      rule_outside h Member inside = inside refl
+
+      rule_everywhere : list_all rule groups ≡ true → (h : GroupNo) → rule h ≡ true
+      rule_everywhere all h = rule_outside h (p.standing h) (λ inside. among_holds rule groups h all (known h inside))
+
+      all_means : all_allow numbers row m.id m.times ≡ list_all rule groups
+      all_means = same_bools (all_allow numbers row m.id m.times) (list_all rule groups)
+          (λ all. list_all_of rule groups (λ h. sym (rule_at h) ∙ allowed_in all h))
+          (λ all. each_found group_total allows row.standings (as_T (is_sorted group_cmp row.standings) fits.in_order) (λ q v is.
+          ap (λ (o : Option Standing). allows q (unwrap_or o Outside)) (sym is) ∙ rule_at q ∙ rule_everywhere all q))
+
+      -- the counts tell whether the message is ready
+      pub row_means : IsSound m → is_ready_row numbers row m.id m.times ≡ is_causally_ready groups gate p m
+      row_means sound =
+          let fresh = fresh_means sound in
+          λ i. is_member (fits.standing m.id.group i)
+          && ((m.id.view == numbered m.id.group i)
+          && (fresh i
+          && (all_means i
+          && has_room (join (fits.time i) m.times))))

@@ -1,0 +1,235 @@
+-- The queue names the first message that is ready, and keeps its meaning.
+use Rattle.std.proofs.Common.{◌≡◌, ℕ, Bool, true, false, cond, List, [], ◌∷◌, ◌++◌, Contains, Option, Some, None, unwrap_or, refl, sym, ap, subst, ◌∙◌, inl, inr, arith}
+use Rattle.std.specs.Prelude.{if◌then◌else◌}
+use Rattle.std.specs.List as list
+use Rattle.std.specs.Option.{IsSome, option_map, option_and_then}
+use Rattle.std.specs.FinMap.Entries.{put}
+use Rattle.std.proofs.lemmas.Bool.{cases_Bool, false≢true, eq-eqb}
+use Rattle.std.proofs.lemmas.List.{map-append}
+use Rattle.std.proofs.lemmas.List.Elements.{Contains-push_cases}
+use Rattle.cast_types.specs.declared.names.GroupNo.{GroupNo}
+use Rattle.cast_types.specs.declared.names.Proc.{Proc}
+use Rattle.cast_types.specs.declared.names.Key.{Key}
+use Rattle.cast_types.specs.Names.{group_cmp, group_eq, proc_eq}
+use Rattle.cast_types.specs.Sets.{is_among, set_at}
+use Rattle.cast_types.proofs.Orders.{same_group}
+use Rattle.cast_clock.proofs.Entries.{option_cases}
+use Rattle.cast_frame.specs.declared.message.Message.{Message}
+use Rattle.cast_delay.specs.declared.row.Row.{Row}
+use Rattle.cast_delay.specs.declared.row.Fact.{Fact}
+use Rattle.cast_delay.specs.declared.row.Fact.TheVariants as fact
+use Rattle.cast_delay.specs.declared.offered.Offered.{Offered}
+use Rattle.cast_delay.specs.Ready.{Process, Gate, is_outside, is_causally_ready}
+use Rattle.cast_delay.specs.Rows.{number_of, is_ready_row, delivered_row, told_row}
+use Rattle.cast_delay.specs.Queue.{Queue, key_eq, new_row, row_of, change_row, first_for, offered_under, next_key, after_delivery}
+use Rattle.cast_delay.specs.Fits.{Received, message_under, IsSound, RowFits, row_for, offer_of, Fits, FirstReady, set_process, told, delivering, FactFits}
+use Rattle.cast_delay.specs.Laws.{NewFits}
+use Rattle.cast_delay.proofs.Means.{row_means}
+use Rattle.cast_delay.proofs.Finds.{found_in, find_agree, find_mapped, never_found, find-append_some, find-append_none, put_at_group}
+use Rattle.cast_delay.proofs.Delivers.{told_fits, delivered_fits, ready_parts}
+use Rattle.cast_delay.proofs.Rows.{some_row, rows_changed, row_admitted}
+
+no_message : (m : Message) → None ≡ Some m → ⊥
+no_message m e = cc
+
+some_same : (m n : Message) → Some m ≡ Some n → m ≡ n
+some_same m n e = ap (λ (o : Option Message). unwrap_or o m) e
+
+-- what is under a key stays under it, whatever is added
+under_still : (received more : List Received) (key : Key) (m : Message) → message_under received key ≡ Some m → message_under (received ++ more) key ≡ Some m
+under_still received more key m at = elim (option_cases (list.find (λ x. key_eq x.key key) received)) [
+  | inl none ↦ absurd (no_message m (sym (ap (λ (o : Option Received). option_map (λ x. x.message) o) none) ∙ at))
+  | inr (r, some) ↦
+      ap (λ (o : Option Received). option_map (λ x. x.message) o) (find-append_some (λ x. key_eq x.key key) received more r some)
+      ∙ sym (ap (λ (o : Option Received). option_map (λ x. x.message) o) some) ∙ at
+]
+
+-- and a message under a key of its own is under that
+under_own : (received : List Received) (r : Received) → message_under received r.key ≡ None → message_under (received ++ r ∷ []) r.key ≡ Some r.message
+under_own received r apart = elim (option_cases (list.find (λ x. key_eq x.key r.key) received)) [
+  | inl none ↦
+      ap (λ (o : Option Received). option_map (λ x. x.message) o) (find-append_none (λ x. key_eq x.key r.key) received (r ∷ []) none)
+      ∙ ap (λ b. option_map (λ x. x.message) (cond b (Some r) None)) (eq-eqb r.key.0 r.key.0 refl)
+  | inr (x, some) ↦ absurd (no_message x.message (sym apart ∙ ap (λ (o : Option Received). option_map (λ y. y.message) o) some))
+]
+
+received_under : (received : List Received) (key : Key) (m : Message) → message_under received key ≡ Some m → (r : Received) × (list.find (λ x. key_eq x.key key) received ≡ Some r) × (r.message ≡ m)
+received_under received key m at = elim (option_cases (list.find (λ x. key_eq x.key key) received)) [
+  | inl none ↦ absurd (no_message m (sym (ap (λ (o : Option Received). option_map (λ x. x.message) o) none) ∙ at))
+  | inr (r, some) ↦ (r, some, some_same r.message m (sym (ap (λ (o : Option Received). option_map (λ x. x.message) o) some) ∙ at))
+]
+
+-- a delivery of the message under a key
+after_at : (offered : List Offered) (p : Proc) (key : Key) (rows : List Row) (o : Offered) → offered_under offered key ≡ Some o → after_delivery offered p key rows ≡ change_row p (delivered_row o.id o.times) rows
+after_at offered p key rows o at =
+    ap (λ (x : Option Offered). elim x as (λ _. List Row) [ Some y ↦ change_row p (delivered_row y.id y.times) rows | None ↦ rows ]) at
+
+module _ (groups : List GroupNo) (gate : GroupNo → Gate) (processes : Proc → Process) (received : List Received) (q : Queue) (fits : Fits groups gate processes received q) where
+  -- the row that a process stands for means the rule
+  pub stands_for : (p : Proc) (m : Message) → IsSound m → is_ready_row q.numbers (row_for q.rows p) m.id m.times ≡ is_causally_ready groups gate (processes p) m
+  stands_for p m sound = row_means (processes p) (row_for q.rows p) (fits.rows p) m groups gate q.numbers fits.numbers (fits.groups_known p) sound
+
+  pub row_rules : (p : Proc) (row : Row) (m : Message) → row_of q.rows p ≡ Some row → IsSound m → is_ready_row q.numbers row m.id m.times ≡ is_causally_ready groups gate (processes p) m
+  row_rules p row m at sound = ap (λ (o : Option Row). is_ready_row q.numbers (unwrap_or o (new_row p)) m.id m.times) (sym at) ∙ stands_for p m sound
+
+  -- a process that was not admitted is named no message, as a row of no group would be
+  next_is : (p : Proc) → next_key q p ≡ option_map (λ o. o.key) (first_for q.numbers q.offered (row_for q.rows p))
+  next_is p = elim (option_cases (row_of q.rows p)) [
+    | inl none ↦
+        ap (λ (o : Option Row). option_map (λ x. x.key) (option_and_then (first_for q.numbers q.offered) o)) none
+        ∙ ap (λ (o : Option Offered). option_map (λ x. x.key) o) (sym (never_found (λ o. is_ready_row q.numbers (new_row p) o.id o.times) q.offered (λ o. refl)))
+        ∙ ap (λ (o : Option Row). option_map (λ x. x.key) (first_for q.numbers q.offered (unwrap_or o (new_row p)))) (sym none)
+    | inr (row, some) ↦
+        ap (λ (o : Option Row). option_map (λ x. x.key) (option_and_then (first_for q.numbers q.offered) o)) some
+        ∙ ap (λ (o : Option Row). option_map (λ x. x.key) (first_for q.numbers q.offered (unwrap_or o (new_row p)))) (sym some)
+  ]
+
+  abbrev ready_at : Proc → Received → Bool
+  ready_at p r = is_causally_ready groups gate (processes p) r.message
+
+  -- the first that is ready by the rows is the first that is ready
+  first_is : (p : Proc) → first_for q.numbers q.offered (row_for q.rows p) ≡ option_map offer_of (list.find (ready_at p) received)
+  first_is p =
+      ap (λ os. first_for q.numbers os (row_for q.rows p)) fits.offered
+      ∙ find_mapped offer_of (λ o. is_ready_row q.numbers (row_for q.rows p) o.id o.times) received
+      ∙ ap (λ (o : Option Received). option_map offer_of o) (find_agree (λ r. is_ready_row q.numbers (row_for q.rows p) r.message.id r.message.times) (ready_at p) received (λ r in_it. stands_for p r.message (fits.sound r in_it)))
+
+  first_from : (p : Proc) (f : Option Received) → list.find (ready_at p) received ≡ f → FirstReady groups gate (processes p) received (option_map (λ o. o.key) (option_map offer_of f))
+  first_from p None is = find_mapped (λ r. r.message) (is_causally_ready groups gate (processes p)) received ∙ ap (λ (o : Option Received). option_map (λ r. r.message) o) is
+  first_from p (Some r) is = (
+    r.message,
+    fits.named r (found_in (ready_at p) received r is),
+    find_mapped (λ x. x.message) (is_causally_ready groups gate (processes p)) received ∙ ap (λ (o : Option Received). option_map (λ x. x.message) o) is,
+  )
+
+  -- the queue names the first message that is ready
+  pub next_rules : (p : Proc) → FirstReady groups gate (processes p) received (next_key q p)
+  next_rules p =
+      subst (λ k. FirstReady groups gate (processes p) received k) (sym (next_is p ∙ ap (λ (o : Option Offered). option_map (λ x. x.key) o) (first_is p))) (first_from p (list.find (ready_at p) received) refl)
+
+  -- a process that is admitted means what it meant
+  pub admit_fits : (p : Proc) → Fits groups gate processes received (record q { rows = q.rows ++ new_row p ∷ [] })
+  admit_fits p = record {
+    numbers = fits.numbers;
+    rows = λ x. subst (λ row. RowFits (processes x) row) (sym (row_admitted q.rows p x)) (fits.rows x);
+    groups_known = fits.groups_known;
+    offered = fits.offered;
+    named = fits.named;
+    sound = fits.sound;
+  }
+
+  row_at : (p : Proc) (row : Row) → row_of q.rows p ≡ Some row → RowFits (processes p) row
+  row_at p row at = subst (λ (o : Option Row). RowFits (processes p) (unwrap_or o (new_row p))) at (fits.rows p)
+
+  -- groups are known still where one process changes to one whose groups are known
+  known_still : (p : Proc) (v : Process) → ((g : GroupNo) → is_outside (v.standing g) ≡ false → is_among group_eq g groups ≡ true) → (x : Proc) (g : GroupNo) → is_outside ((set_process processes p v x).standing g) ≡ false → is_among group_eq g groups ≡ true
+  known_still p v known x g =
+      elim (proc_eq p x) as (λ b. is_outside ((if b then v else processes x).standing g) ≡ false → is_among group_eq g groups ≡ true) [
+        | true ↦ known g
+        | false ↦ fits.groups_known x g
+      ]
+
+  known_told : (p : Proc) (f : Fact) → FactFits groups f → (g : GroupNo) → is_outside ((told f (processes p)).standing g) ≡ false → is_among group_eq g groups ≡ true
+  known_told p (fact.Standing h s) ok g = elim (cases_Bool (group_eq h g)) [
+    | inl same ↦ λ inside. subst (λ k. is_among group_eq k groups ≡ true) (same_group h g same) (ok (ap (λ b. is_outside (if b then s else (processes p).standing g)) (sym same) ∙ inside))
+    | inr other ↦ λ inside. fits.groups_known p g (ap (λ b. is_outside (if b then s else (processes p).standing g)) (sym other) ∙ inside)
+  ]
+  known_told p (fact.Time time) ok g = fits.groups_known p g
+
+  told_keeps : (f : Fact) (r : Row) → (told_row f r).process ≡ r.process
+  told_keeps (fact.Standing h s) r = refl
+  told_keeps (fact.Time time) r = refl
+
+  -- a fact is taken in as the process takes it in
+  pub tell_fits : (p : Proc) (f : Fact) → IsSome (row_of q.rows p) → FactFits groups f → Fits groups gate (set_process processes p (told f (processes p))) received (record q { rows = change_row p (told_row f) q.rows })
+  tell_fits p f admitted ok =
+      let (row, at) = some_row (row_of q.rows p) admitted in
+      record {
+        numbers = fits.numbers;
+        rows = rows_changed p (told_row f) (told_keeps f) processes (told f (processes p)) q.rows row at (told_fits (processes p) row (row_at p row at) f) fits.rows;
+        groups_known = known_still p (told f (processes p)) (known_told p f ok);
+        offered = fits.offered;
+        named = fits.named;
+        sound = fits.sound;
+      }
+
+  -- and the number of a view
+  pub view_fits : (g : GroupNo) (number : ℕ) → Fits groups (set_at group_eq gate g (record { number = number })) processes received (record q { numbers = put group_cmp g number q.numbers })
+  view_fits g number = record {
+    numbers = λ h. put_at_group q.numbers g h number 0 ∙ numbered h;
+    rows = fits.rows;
+    groups_known = fits.groups_known;
+    offered = fits.offered;
+    named = fits.named;
+    sound = fits.sound;
+  }
+    where
+      numbered : (h : GroupNo) → (if group_eq g h then number else number_of q.numbers h) ≡ (set_at group_eq gate g (record { number = number }) h).number
+      numbered h = elim (group_eq g h) as (λ b. (if b then number else number_of q.numbers h) ≡ (if b then record { number = number } else gate h).number) [ true ↦ refl | false ↦ fits.numbers h ]
+
+  -- a process for which a message is ready was admitted
+  ready_row : (p : Proc) (m : Message) → IsSound m → is_causally_ready groups gate (processes p) m ≡ true → (row : Row) × (row_of q.rows p ≡ Some row)
+  ready_row p m sound ready = elim (option_cases (row_of q.rows p)) [
+    | inl none ↦
+        absurd (false≢true (ap (λ (o : Option Row). is_ready_row q.numbers (unwrap_or o (new_row p)) m.id m.times) (sym none) ∙ stands_for p m sound ∙ ready))
+    | inr some ↦ some
+  ]
+
+  -- a message under a key of its own is the last one received
+  pub offer_fits : (r : Received) → IsSound r.message → message_under received r.key ≡ None → Fits groups gate processes (received ++ r ∷ []) (record q { offered = q.offered ++ offer_of r ∷ [] })
+  offer_fits r sound apart = record {
+    numbers = fits.numbers;
+    rows = fits.rows;
+    groups_known = fits.groups_known;
+    offered = ap (λ os. os ++ offer_of r ∷ []) fits.offered ∙ sym (map-append offer_of received (r ∷ []));
+    named = named_now;
+    sound = sound_now;
+  }
+    where
+      sound_now : (x : Received) → Contains (received ++ r ∷ []) x → IsSound x.message
+      sound_now x in_it = elim (Contains-push_cases received r x in_it) [
+        | inl before ↦ fits.sound x before
+        | inr last ↦ subst (λ y. IsSound y.message) last sound
+      ]
+
+      named_now : (x : Received) → Contains (received ++ r ∷ []) x → message_under (received ++ r ∷ []) x.key ≡ Some x.message
+      named_now x in_it = elim (Contains-push_cases received r x in_it) [
+        | inl before ↦ under_still received (r ∷ []) x.key x.message (fits.named x before)
+        | inr last ↦ subst (λ y. message_under (received ++ r ∷ []) y.key ≡ Some y.message) last (under_own received r apart)
+      ]
+
+  -- a delivery of a message that is ready is taken in as the process takes it in
+  pub delivery_fits : (p : Proc) (key : Key) (m : Message) → message_under received key ≡ Some m → is_causally_ready groups gate (processes p) m ≡ true → Fits groups gate (set_process processes p (delivering m (processes p))) received (record q { rows = after_delivery q.offered p key q.rows })
+  delivery_fits p key m at ready =
+      let (r, found, same) = received_under received key m at in
+      let sound : IsSound m = subst IsSound same (fits.sound r (found_in (λ x. key_eq x.key key) received r found)) in
+      let (row, here) = ready_row p m sound ready in
+      let offer : offered_under q.offered key ≡ Some (offer_of r) =
+      ap (λ os. offered_under os key) fits.offered ∙ find_mapped offer_of (λ o. key_eq o.key key) received ∙ ap (λ (o : Option Received). option_map offer_of o) found in
+      let after : after_delivery q.offered p key q.rows ≡ change_row p (delivered_row m.id m.times) q.rows =
+      after_at q.offered p key q.rows (offer_of r) offer ∙ ap (λ (x : Message). change_row p (delivered_row x.id x.times) q.rows) same in
+      let parts = ready_parts q.numbers row m.id m.times (row_rules p row m here sound ∙ ready) in
+      record {
+        numbers = fits.numbers;
+        rows = subst (λ rows. (x : Proc) → RowFits (set_process processes p (delivering m (processes p)) x) (row_for rows x)) (sym after)
+            (rows_changed p (delivered_row m.id m.times) (λ _. refl) processes (delivering m (processes p)) q.rows row here (delivered_fits (processes p) row (row_at p row here) m sound q.numbers parts) fits.rows);
+        groups_known = known_still p (delivering m (processes p)) (fits.groups_known p);
+        offered = fits.offered;
+        named = fits.named;
+        sound = fits.sound;
+      }
+
+-- a new queue, and processes that have done nothing
+pub new_fits : NewFits
+new_fits groups = record {
+  numbers = λ g. refl;
+  rows = λ p. record { standing = λ g. refl; in_order = refl; time = refl; counts = λ u. (λ has. absurd (false≢true has), λ b. absurd (omega (arith, b.0, b.1))) };
+  groups_known = λ p g inside. absurd (false≢true (sym inside));
+  offered = refl;
+  named = λ r in_it. absurd (omega (arith, in_it.1));
+  sound = λ r in_it. absurd (omega (arith, in_it.1));
+}
+
+-- the clauses on what the queue answers
+pub next_means : (q : Queue) (p : Proc) (k : Option Key) → k ≡ next_key q p → (groups : List GroupNo) (gate : GroupNo → Gate) (processes : Proc → Process) (received : List Received) → Fits groups gate processes received q → FirstReady groups gate (processes p) received k
+next_means q p k is groups gate processes received fits = subst (λ x. FirstReady groups gate (processes p) received x) (sym is) (next_rules groups gate processes received q fits p)

@@ -1,0 +1,8 @@
+use Rattle.cast_delay.proofs.Queues.{row_rules, next_rules}
+use Rattle.cast_delay.proofs.laws.queue_means_the_rule.Goals as goal
+
+pub returns-clause-row : goal.returns-clause-row
+returns-clause-row c = row_rules
+
+pub returns-clause-next : goal.returns-clause-next
+returns-clause-next c = next_rules

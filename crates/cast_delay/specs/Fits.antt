@@ -1,0 +1,85 @@
+-- What the queue keeps means: processes with all that they delivered, and all messages received.
+use Rattle.std.specs.Prelude.{◌≡◌, ◌<◌, ◌≤◌, true, false, IsTrue, ◌↔◌, List, [], ◌∷◌, ◌++◌, map, Contains, Option, Some, None, unwrap_or}
+use Rattle.std.specs.List.{find}
+use Rattle.std.specs.Option.{option_map}
+use Rattle.std.specs.FinMap.Entries.{is_sorted}
+use Rattle.cast_types.specs.declared.names.GroupNo.{GroupNo}
+use Rattle.cast_types.specs.declared.names.Proc.{Proc}
+use Rattle.cast_types.specs.declared.names.Key.{Key}
+use Rattle.cast_types.specs.declared.names.Uid.{Uid}
+use Rattle.cast_types.specs.Names.{group_cmp, group_eq, proc_eq}
+use Rattle.cast_types.specs.Sets.{is_among, set_at}
+use Rattle.cast_clock.specs.Times.{view_of, count_in, join}
+use Rattle.cast_frame.specs.declared.message.Message.{Message}
+use Rattle.cast_delay.specs.declared.offered.Offered.{Offered}
+use Rattle.cast_delay.specs.declared.row.Row.{Row}
+use Rattle.cast_delay.specs.declared.row.Fact.{Fact}
+use Rattle.cast_delay.specs.declared.row.Fact.TheVariants as fact
+use Rattle.cast_delay.specs.Ready.{Process, Gate, is_outside, has_delivered, first_ready}
+use Rattle.cast_delay.specs.Rows.{number_of, standing_in, done_in}
+use Rattle.cast_delay.specs.Queue.{Queue, key_eq, new_row, row_of}
+
+-- a message, under the key by which its domain knows it
+pub record Received : Type 0 where
+  pub key : Key
+  pub message : Message
+
+abbrev pub messages : List Received → List Message
+messages received = map (λ r. r.message) received
+
+abbrev pub message_under : List Received → Key → Option Message
+message_under received key = option_map (λ r. r.message) (find (λ r. key_eq r.key key) received)
+
+-- the message's time has its own view and its own count, from 1 on
+pub record IsSound (m : Message) : Type 0 where
+  pub from_one : 0 < m.id.count
+  pub view : view_of m.times m.id.group ≡ m.id.view
+  pub count : count_in m.times m.id.group m.id.proc ≡ m.id.count
+
+-- the row tells of the process: the counts are those of all that it delivered
+pub record RowFits (p : Process) (row : Row) : Type 0 where
+  pub standing : (g : GroupNo) → standing_in row g ≡ p.standing g
+  pub in_order : IsTrue (is_sorted group_cmp row.standings)
+  pub time : row.time ≡ p.time
+  pub counts : (u : Uid) → (has_delivered p u ≡ true) ↔ ((0 < u.count) × (u.count ≤ done_in row u.group u.view u.proc))
+
+-- the row of a process; one that was not admitted is in no group, and has delivered nothing
+abbrev pub row_for : List Row → Proc → Row
+row_for rows p = unwrap_or (row_of rows p) (new_row p)
+
+abbrev pub offer_of : Received → Offered
+offer_of r = record { key = r.key; id = r.message.id; times = r.message.times }
+
+-- the queue tells of these groups, processes and messages in order of receipt
+pub record Fits (groups : List GroupNo) (gate : GroupNo → Gate) (processes : Proc → Process) (received : List Received) (q : Queue) : Type 0 where
+  pub numbers : (g : GroupNo) → number_of q.numbers g ≡ (gate g).number
+  pub rows : (p : Proc) → RowFits (processes p) (row_for q.rows p)
+  pub groups_known : (p : Proc) (g : GroupNo) → is_outside ((processes p).standing g) ≡ false → is_among group_eq g groups ≡ true
+  pub offered : q.offered ≡ map offer_of received
+  pub named : (r : Received) → Contains received r → message_under received r.key ≡ Some r.message
+  pub sound : (r : Received) → Contains received r → IsSound r.message
+
+-- the result is the key of the first message in order of receipt that is ready, and none only where none is
+abbrev pub FirstReady : List GroupNo → (GroupNo → Gate) → Process → List Received → Option Key → Type 0
+FirstReady groups gate p received None = first_ready groups gate p (messages received) ≡ None
+FirstReady groups gate p received (Some key) =
+    (m : Message) × (message_under received key ≡ Some m) × (first_ready groups gate p (messages received) ≡ Some m)
+
+-- Changes on the side of the meaning
+
+abbrev pub set_process : (Proc → Process) → Proc → Process → Proc → Process
+set_process processes p v = set_at proc_eq processes p v
+
+-- the process takes in a fact
+abbrev pub told : Fact → Process → Process
+told (fact.Standing g standing) p = record p { standing = set_at group_eq p.standing g standing }
+told (fact.Time time) p = record p { time = time }
+
+-- the process delivers a message
+abbrev pub delivering : Message → Process → Process
+delivering m p = record p { time = join p.time m.times; delivered = p.delivered ++ m.id ∷ [] }
+
+-- a fact that a process is in a group, or joins it, names one of the domain's groups
+abbrev pub FactFits : List GroupNo → Fact → Type 0
+FactFits groups (fact.Standing g standing) = is_outside standing ≡ false → is_among group_eq g groups ≡ true
+FactFits groups (fact.Time time) = Unit {0}

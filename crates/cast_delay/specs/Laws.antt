@@ -1,0 +1,78 @@
+-- The queue keeps its meaning: what changes it changes what it means in the same way.
+use Rattle.std.specs.Prelude.{◌≡◌, ℕ, true, List, [], ◌∷◌, ◌++◌, Some, None}
+use Rattle.std.specs.Option.{IsSome}
+use Rattle.std.specs.FinMap.Entries.{put}
+use Rattle.cast_types.specs.declared.names.GroupNo.{GroupNo}
+use Rattle.cast_types.specs.declared.names.Standing.TheVariants.{Outside}
+use Rattle.cast_types.specs.declared.names.Proc.{Proc}
+use Rattle.cast_types.specs.declared.names.Key.{Key}
+use Rattle.cast_types.specs.Names.{group_cmp, group_eq}
+use Rattle.cast_types.specs.Sets.{set_at}
+use Rattle.cast_clock.specs.Times.{no_time}
+use Rattle.cast_frame.specs.declared.message.Message.{Message}
+use Rattle.cast_delay.specs.declared.row.Row.{Row}
+use Rattle.cast_delay.specs.declared.row.Fact.{Fact}
+use Rattle.cast_delay.specs.Ready.{Process, Gate, is_causally_ready}
+use Rattle.cast_delay.specs.Rows.{told_row, is_ready_row}
+use Rattle.cast_delay.specs.Queue.{Queue, new_row, row_of, change_row, next_key, after_delivery}
+use Rattle.cast_delay.specs.Fits.{Received, Fits, FirstReady, IsSound, message_under, offer_of, set_process, told, delivering, FactFits}
+
+-- by what the queue keeps of a process, a message is ready exactly if it is by what the process delivered
+abbrev pub RowMeansTheRule : Type 0
+RowMeansTheRule =
+    (groups : List GroupNo) (gate : GroupNo → Gate) (processes : Proc → Process) (received : List Received) (q : Queue)
+    → Fits groups gate processes received q → (p : Proc) (row : Row) (m : Message)
+    → row_of q.rows p ≡ Some row → IsSound m
+    → is_ready_row q.numbers row m.id m.times ≡ is_causally_ready groups gate (processes p) m
+
+-- the queue names the first message that is ready
+abbrev pub QueueMeansTheRule : Type 0
+QueueMeansTheRule =
+    (groups : List GroupNo) (gate : GroupNo → Gate) (processes : Proc → Process) (received : List Received) (q : Queue)
+    → Fits groups gate processes received q → (p : Proc)
+    → FirstReady groups gate (processes p) received (next_key q p)
+
+-- a new queue means views of number 0, processes in no group, and no messages
+abbrev pub NewFits : Type 0
+NewFits =
+    (groups : List GroupNo)
+    → Fits groups (λ g. record { number = 0 }) (λ p. record { time = no_time; standing = λ g. Outside; delivered = [] }) []
+    (record { numbers = []; offered = []; rows = [] })
+
+abbrev pub AdmitKeepsMeaning : Type 0
+AdmitKeepsMeaning =
+    (groups : List GroupNo) (gate : GroupNo → Gate) (processes : Proc → Process) (received : List Received) (q : Queue)
+    → Fits groups gate processes received q → (p : Proc)
+    → Fits groups gate processes received (record q { rows = q.rows ++ new_row p ∷ [] })
+
+abbrev pub TellKeepsMeaning : Type 0
+TellKeepsMeaning =
+    (groups : List GroupNo) (gate : GroupNo → Gate) (processes : Proc → Process) (received : List Received) (q : Queue)
+    → Fits groups gate processes received q → (p : Proc) (f : Fact)
+    → IsSome (row_of q.rows p) → FactFits groups f
+    → Fits groups gate (set_process processes p (told f (processes p))) received
+    (record q { rows = change_row p (told_row f) q.rows })
+
+abbrev pub ViewKeepsMeaning : Type 0
+ViewKeepsMeaning =
+    (groups : List GroupNo) (gate : GroupNo → Gate) (processes : Proc → Process) (received : List Received) (q : Queue)
+    → Fits groups gate processes received q → (g : GroupNo) (number : ℕ)
+    → Fits groups (set_at group_eq gate g (record { number = number })) processes received
+    (record q { numbers = put group_cmp g number q.numbers })
+
+-- a message comes under a key of its own
+abbrev pub OfferKeepsMeaning : Type 0
+OfferKeepsMeaning =
+    (groups : List GroupNo) (gate : GroupNo → Gate) (processes : Proc → Process) (received : List Received) (q : Queue)
+    → Fits groups gate processes received q → (r : Received)
+    → IsSound r.message → message_under received r.key ≡ None
+    → Fits groups gate processes (received ++ r ∷ []) (record q { offered = q.offered ++ offer_of r ∷ [] })
+
+-- a process delivers a message that is ready for it
+abbrev pub DeliveryKeepsMeaning : Type 0
+DeliveryKeepsMeaning =
+    (groups : List GroupNo) (gate : GroupNo → Gate) (processes : Proc → Process) (received : List Received) (q : Queue)
+    → Fits groups gate processes received q → (p : Proc) (key : Key) (m : Message)
+    → message_under received key ≡ Some m → is_causally_ready groups gate (processes p) m ≡ true
+    → Fits groups gate (set_process processes p (delivering m (processes p))) received
+    (record q { rows = after_delivery q.offered p key q.rows })

@@ -1,0 +1,42 @@
+-- The delivery rule in words, id by id.
+use Rattle.std.specs.Prelude.{◌≡◌, ◌≢◌, ◌↔◌, ◌⊎◌, ◌<◌, ◌≤◌, true, IsTrue, List, Contains}
+use Rattle.cast_types.specs.declared.names.GroupNo.{GroupNo}
+use Rattle.cast_types.specs.declared.names.Uid.{Uid}
+use Rattle.cast_types.specs.declared.names.Standing.{Standing}
+use Rattle.cast_types.specs.declared.names.Standing.TheVariants.{Outside, Joining, Member}
+use Rattle.cast_clock.specs.Times.{view_of, count_in, join, has_room}
+use Rattle.cast_clock.specs.Laws.{is_in_order}
+use Rattle.cast_frame.specs.declared.message.Message.{Message}
+use Rattle.cast_delay.specs.Ready.{Process, Gate, is_causally_ready}
+
+-- a message of a group that the time of m covers, other than m
+pub record HappenedBefore (m : Message) (h : GroupNo) (u : Uid) : Type 0 where
+  pub group : u.group ≡ h
+  pub view : u.view ≡ view_of m.times h
+  pub from_one : 0 < u.count
+  pub covered : u.count ≤ count_in m.times h u.proc
+  pub other : u ≢ m.id
+
+-- what is asked of a group, by what the process is in it. A member has delivered all that happened before m in the
+-- group's view, unless m knows only an earlier view; a joining process takes no message that knows a later view than
+-- the process knew when it asked
+abbrev pub Allows : Standing → Process → Gate → Message → GroupNo → Type 0
+Allows Outside p gate m h = Unit {0}
+Allows (Joining request heard) p gate m h = view_of m.times h ≤ heard
+Allows Member p gate m h =
+    (view_of m.times h < gate.number)
+    ⊎ ((view_of m.times h ≡ gate.number) × ((u : Uid) → HappenedBefore m h u → Contains p.delivered u))
+
+-- m may be delivered to p now
+pub record MayBeDelivered (groups : List GroupNo) (gate : GroupNo → Gate) (p : Process) (m : Message) : Type 0 where
+  pub member : p.standing m.id.group ≡ Member
+  pub current : m.id.view ≡ (gate m.id.group).number
+  pub undelivered : ¬ (Contains p.delivered m.id)
+  pub allowed : (h : GroupNo) → Contains groups h → Allows (p.standing h) p (gate h) m h
+  pub room : has_room (join p.time m.times) ≡ true
+
+-- the test of readiness says this
+abbrev pub RuleInWords : Type 0
+RuleInWords =
+    (groups : List GroupNo) (gate : GroupNo → Gate) (p : Process) (m : Message) → IsTrue (is_in_order m.times)
+    → (is_causally_ready groups gate p m ≡ true) ↔ MayBeDelivered groups gate p m

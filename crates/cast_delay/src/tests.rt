@@ -1,0 +1,108 @@
+use crate::{Delay, Fact};
+use cast_clock::Times;
+use cast_frame::{Message, SiteFrame, decode_site};
+use cast_types::{GroupNo, Key, Proc, SiteNo, Standing};
+use std::alloc::Global;
+use std::test::Fail;
+
+const GROUP: GroupNo = GroupNo(1);
+
+const SENDER: Proc = Proc {
+    site: SiteNo(1),
+    serial: 1,
+};
+
+const MEMBER: Proc = Proc {
+    site: SiteNo(1),
+    serial: 2,
+};
+
+// Message 1 of the sender in view 1, at time 1:1[1.1=1].
+const FIRST: [u8; 44] = [
+    67, 68, 1, 1, 1, 0, 1, 0, 1, 0, 0, 0, 1, 0, 1, 0, 0, 0, 1, 0, 0, 0, 1, 1, 1, 0, 1, 0, 0, 0, 1,
+    1, 0, 1, 0, 0, 0, 1, 0, 0, 0, 1, 0, 0,
+];
+
+// Message 2 of the sender in view 1, at time 1:1[1.1=2].
+const SECOND: [u8; 44] = [
+    67, 68, 1, 1, 1, 0, 1, 0, 1, 0, 0, 0, 1, 0, 1, 0, 0, 0, 1, 0, 0, 0, 2, 1, 1, 0, 1, 0, 0, 0, 1,
+    1, 0, 1, 0, 0, 0, 1, 0, 0, 0, 2, 0, 0,
+];
+
+fn message(alloc: Global, bytes: &[u8]) -> Result<Message, Fail> {
+    match decode_site(alloc, bytes)? {
+        (_, _, SiteFrame::Data(message)) => Ok(message),
+        _ => Err(Fail::new("not a message")),
+    }
+}
+
+// The queue of a process in view 1 of the group.
+fn queue_of_a_member(alloc: Global) -> Result<Delay, Fail> {
+    let mut queue = Delay::new(alloc);
+    queue.admit(MEMBER)?;
+    queue.view_changed(GROUP, 1)?;
+    queue.tell(MEMBER, &Fact::Standing(GROUP, Standing::Member))?;
+    Ok(queue)
+}
+
+// Whether the message under the key is the next one; the process delivers it.
+fn takes(queue: &mut Delay, key: Key) -> Result<bool, Fail> {
+    let is_next = queue.next_ready(MEMBER) == Some(key);
+    queue.delivered(MEMBER, key)?;
+    Ok(is_next)
+}
+
+fn waits(queue: &Delay, process: Proc) -> bool {
+    queue.next_ready(process) == None
+}
+
+fn stands(queue: &Delay, process: Proc, standing: Standing) -> bool {
+    queue.standing(process, GROUP) == standing
+}
+
+fn count_of_the_sender(queue: &Delay) -> u32 {
+    match queue.time(MEMBER) {
+        Some(time) => time.count(GROUP, SENDER),
+        None => 0,
+    }
+}
+
+// The process is told that it is in view 1.
+fn enters(alloc: Global, queue: &mut Delay) -> Result<(), Fail> {
+    let mut time = Times::new(alloc);
+    time.enter(GROUP, 1)?;
+    queue.tell(MEMBER, &Fact::Time(time))?;
+    queue.tell(MEMBER, &Fact::Standing(GROUP, Standing::Member))?;
+    Ok(())
+}
+
+#[test]
+fn two_messages_in_the_wrong_order(rt: HostRuntime) -> Result<(), Fail> {
+    let mut queue = queue_of_a_member(rt.alloc())?;
+    queue.offer(Key(0), &message(rt.alloc(), &SECOND)?)?;
+    assert!(rt; waits(&queue, MEMBER));
+    queue.offer(Key(1), &message(rt.alloc(), &FIRST)?)?;
+    assert!(rt; takes(&mut queue, Key(1))?);
+    assert!(rt; takes(&mut queue, Key(0))?);
+    assert!(rt; waits(&queue, MEMBER));
+    assert_eq!(rt; count_of_the_sender(&queue), 2);
+    Ok(())
+}
+
+#[test]
+fn a_joining_process_takes_nothing_of_the_group(rt: HostRuntime) -> Result<(), Fail> {
+    let mut queue = queue_of_a_member(rt.alloc())?;
+    let joining = Standing::Joining {
+        request: 1,
+        heard: 0,
+    };
+    queue.tell(MEMBER, &Fact::Standing(GROUP, joining))?;
+    assert!(rt; stands(&queue, MEMBER, joining));
+    queue.offer(Key(7), &message(rt.alloc(), &FIRST)?)?;
+    assert!(rt; waits(&queue, MEMBER));
+    enters(rt.alloc(), &mut queue)?;
+    assert!(rt; takes(&mut queue, Key(7))?);
+    assert!(rt; waits(&queue, SENDER));
+    assert!(rt; stands(&queue, SENDER, Standing::Outside));
+    Ok(())
+}

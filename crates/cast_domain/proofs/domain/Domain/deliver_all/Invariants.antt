@@ -1,0 +1,6 @@
+use Rattle.cast_domain.specs.Records.{Keeps}
+use Rattle.cast_domain.proofs.domain.Domain.deliver_all.Given as goal
+
+-- site, configuration and serials stay
+abbrev pub invariant-loop-turn : goal.invariant-loop-turn
+invariant-loop-turn l = Keeps l.fn.self l.self
