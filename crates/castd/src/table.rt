@@ -1,4 +1,5 @@
-ghost use Rattle.std.specs.Prelude.{◌<◌, IfSome, length};
+ghost use Rattle.std.specs.Prelude.{◌≡◌, ◌<◌, ◌∷◌, ◌++◌, [], IfOk, IfSome, length};
+ghost use Rattle.castd.specs.Tables.{IsUnchanged, NotesHalt};
 
 use cast_domain::{Config, Domain, Event, Outs, Taken};
 use cast_frame::{Push, SiteFrame};
@@ -36,7 +37,10 @@ impl Table {
 
     /// Makes the step of the domain that the event names. What is sent and delivered, and the domain where it is
     /// halted, is added to `outs`.
-    pub fn apply(&mut self, event: &Event, outs: &mut Outs) -> Result<Taken, Fault> {
+    pub fn apply(&mut self, event: &Event, outs: &mut Outs) -> Result<Taken, Fault>
+        ensures unchanged { IsUnchanged result self.old self.new outs.old outs.new }
+        ensures halted { NotesHalt result event.now outs.old.halted outs.new.halted }
+    {
         let Some(place) = place_of(&self.domains, event.domain()) else {
             return Err(Fault::NoDomain);
         };
@@ -88,7 +92,9 @@ pub struct Log {
 }
 
 /// Applies events one after another to a daemon that was just started.
-pub fn replay(alloc: Global, config: Config, events: &[Event]) -> Result<Log, NoMemory> {
+pub fn replay(alloc: Global, config: Config, events: &[Event]) -> Result<Log, NoMemory>
+    ensures { IfOk result (λ log. length log.answers ≡ length events.now) }
+{
     let mut table = Table::new(alloc, config)?;
     let mut outs = Outs::new(alloc);
     let mut answers = Listed::new(alloc);
