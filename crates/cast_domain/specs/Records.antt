@@ -1,8 +1,10 @@
 -- What contracts say of a domain's records.
-use Rattle.std.specs.Prelude.{◌≡◌, ℕ, ◌+◌, Bool, true, false, ◌&&◌, ◌==◌, nat_lt, nat_le, if◌then◌else◌}
+use Rattle.std.specs.Prelude.{◌≡◌, ℕ, ◌+◌, Bool, ◌&&◌, ◌==◌, nat_lt, nat_le, if◌then◌else◌}
 use Rattle.cast_types.specs.declared.names.DomainNo.{DomainNo}
+use Rattle.cast_types.specs.declared.names.SiteNo.{SiteNo}
 use Rattle.cast_types.specs.declared.refusal.Refusal.TheVariants.{NotOpen, TooManySessions}
 use Rattle.cast_types.specs.declared.limits.TheConstants.{MAX_NUMBER}
+use Rattle.cast_domain.specs.declared.config.DomainConfig.{DomainConfig}
 use Rattle.cast_domain.specs.declared.domain.Domain.{Domain}
 use Rattle.cast_domain.specs.declared.event.Event.{Event}
 use Rattle.cast_domain.specs.declared.event.Event.TheVariants.{Open, Command, Frame}
@@ -19,6 +21,10 @@ is_halted d = d.halted
 -- how many serials were given
 abbrev pub used_of : Domain → ℕ
 used_of d = d.used
+
+-- a domain of this configuration at this site
+abbrev pub IsFor : SiteNo → DomainConfig → Domain → Type 0
+IsFor site config d = (d.site ≡ site) × (d.config ≡ config)
 
 -- no serial is given, and site and configuration stay
 pub record Keeps (old : Domain) (new : Domain) : Type 0 where

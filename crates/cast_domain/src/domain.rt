@@ -36,12 +36,13 @@ pub struct Domain {
 }
 
 impl Domain {
-    ghost use Rattle.cast_domain.specs.Records.{number_of, is_halted, used_of};
+    ghost use Rattle.cast_domain.specs.Records.{number_of, is_halted, used_of, IsFor};
 
     /// A domain before its first event.
     pub fn new(alloc: Global, site: SiteNo, config: DomainConfig) -> Result<Self, NoMemory>
         ensures number { IfOk result (λ d. number_of d ≡ config.domain) }
         ensures running { IfOk result (λ d. is_halted d ≡ false) }
+        ensures placed { IfOk result (λ d. IsFor site config d) }
         ensures unused { IfOk result (λ d. used_of d ≡ 0) }
     {
         let mut groups = Vec::new(alloc);
