@@ -6,3 +6,16 @@ pub mod Totals
 pub mod Alikes
 pub mod Settles
 pub mod Rests
+pub mod Places
+pub mod Attempts
+pub mod Loops
+pub mod Spots
+pub mod Lawful
+pub mod LawfulSteps
+pub mod Standing
+pub mod Turns
+pub mod Commands
+pub mod Entering
+pub mod Framing
+pub mod Events
+pub mod Passes

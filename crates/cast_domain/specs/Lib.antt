@@ -9,4 +9,7 @@ pub mod Rest
 pub mod Step
 pub mod Run
 pub mod Records
+pub mod Calls
+pub mod Fits
+pub mod Stepped
 pub mod Endings

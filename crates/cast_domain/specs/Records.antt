@@ -1,15 +1,60 @@
--- What contracts say of a domain's records.
-use Rattle.std.specs.Prelude.{◌≡◌, ℕ, ◌+◌, Bool, ◌&&◌, ◌==◌, nat_lt, nat_le, if◌then◌else◌}
+-- A domain's records as contracts see them: lists and what the queue keeps.
+use Rattle.std.specs.Prelude.{◌≡◌, ℕ, ◌+◌, Bool, ◌&&◌, ◌==◌, nat_lt, nat_le, if◌then◌else◌, List, [], ◌++◌}
 use Rattle.cast_types.specs.declared.names.DomainNo.{DomainNo}
 use Rattle.cast_types.specs.declared.names.SiteNo.{SiteNo}
+use Rattle.cast_types.specs.declared.names.Proc.{Proc}
+use Rattle.cast_types.specs.declared.names.Uid.{Uid}
 use Rattle.cast_types.specs.declared.refusal.Refusal.TheVariants.{NotOpen, TooManySessions}
 use Rattle.cast_types.specs.declared.limits.TheConstants.{MAX_NUMBER}
+use Rattle.cast_frame.specs.declared.message.Message.{Message}
+use Rattle.cast_frame.specs.declared.site.SiteFrame.{SiteFrame}
+use Rattle.cast_delay.specs.Queue.{Queue}
 use Rattle.cast_domain.specs.declared.config.DomainConfig.{DomainConfig}
 use Rattle.cast_domain.specs.declared.domain.Domain.{Domain}
+use Rattle.cast_domain.specs.declared.record.GroupRecord.{GroupRecord}
+use Rattle.cast_domain.specs.declared.session.Session.{Session}
+use Rattle.cast_domain.specs.declared.event.Outs.{Outs}
 use Rattle.cast_domain.specs.declared.event.Event.{Event}
 use Rattle.cast_domain.specs.declared.event.Event.TheVariants.{Open, Command, Frame}
 use Rattle.cast_domain.specs.declared.event.Taken.{Taken}
 use Rattle.cast_domain.specs.declared.event.Taken.TheVariants.{Nothing, Opened, Refused}
+
+-- what a domain keeps, and what a step has sent and delivered so far
+pub record Records : Type 0 where
+  pub site : SiteNo
+  pub config : DomainConfig
+  pub used : ℕ
+  pub sessions : List Session
+  pub groups : List GroupRecord
+  pub got : List Message
+  pub delay : Queue
+  pub frames : List (DomainNo × SiteNo × SiteFrame)
+  pub delivered : List (DomainNo × Proc × Uid)
+
+abbrev pub records_of : Domain → Outs → Records
+records_of d o =
+    record {
+      site = d.site;
+      config = d.config;
+      used = d.used;
+      sessions = d.sessions.items;
+      groups = d.groups.items;
+      got = d.got.items;
+      delay = d.delay;
+      frames = o.frames;
+      delivered = o.delivered;
+    }
+
+-- nothing was sent, delivered or halted
+abbrev pub no_outs : Outs
+no_outs = record { frames = []; halted = []; delivered = [] }
+
+-- a step's frames and deliveries come after those before it
+abbrev pub outs_then : Outs → Outs → Outs
+outs_then before step = record before { frames = before.frames ++ step.frames; delivered = before.delivered ++ step.delivered }
+
+abbrev pub sessions_of : Domain → List Session
+sessions_of d = d.sessions.items
 
 abbrev pub number_of : Domain → DomainNo
 number_of d = d.config.domain
@@ -26,11 +71,12 @@ used_of d = d.used
 abbrev pub IsFor : SiteNo → DomainConfig → Domain → Type 0
 IsFor site config d = (d.site ≡ site) × (d.config ≡ config)
 
--- no serial is given, and site and configuration stay
+-- no serial is given, and site and configuration stay, and what has halted the domain or not
 pub record Keeps (old : Domain) (new : Domain) : Type 0 where
   pub used : new.used ≡ old.used
   pub site : new.site ≡ old.site
   pub config : new.config ≡ old.config
+  pub halted : new.halted ≡ old.halted
 
 -- a serial that was given
 abbrev pub was_given : ℕ → ℕ → Bool

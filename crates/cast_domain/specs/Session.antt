@@ -1,5 +1,5 @@
 -- A session: everything ever pushed to it, and whether it is open.
-use Rattle.std.specs.Prelude.{Bool, true, false, [], ◌∷◌, ◌++◌}
+use Rattle.std.specs.Prelude.{Bool, true, false, if◌then◌else◌, [], ◌∷◌, ◌++◌}
 use Rattle.cast_types.specs.declared.names.Proc.{Proc}
 use Rattle.cast_frame.specs.declared.client.Push.{Push}
 use Rattle.cast_frame.specs.declared.client.Push.TheVariants.{Opened}
@@ -24,3 +24,7 @@ is_open s = is_open_status s.status
 
 abbrev pub pushed_to : Session → Push → Session
 pushed_to s push = record s { pushed = s.pushed ++ push ∷ [] }
+
+-- an open session is told of an entry
+abbrev pub told : Push → Session → Session
+told push s = if is_open s then pushed_to s push else s

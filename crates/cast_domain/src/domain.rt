@@ -1,22 +1,18 @@
 ghost use Rattle.std.specs.Prelude.{◌≡◌, ◌<◌, true, false, IfSome, IfOk, OnOk, OnErr, vec_len};
+ghost use Rattle.cast_types.specs.Places.{update};
+ghost use Rattle.cast_domain.specs.Session.{told};
 
 use crate::config::DomainConfig;
 use crate::event::{Event, Outs, Taken};
+use crate::frames::promised_by_types;
 use crate::group::Group;
 use crate::home::Home;
+use crate::record::{GroupRecord, place_among};
 use crate::session::Session;
-use cast_delay::Delay;
+use cast_delay::{Delay, Fact};
 use cast_frame::{Message, Push, SiteFrame};
 use cast_types::{DomainNo, GroupNo, NoMemory, Proc, Refusal, SiteNo};
 use std::alloc::Global;
-
-/// What a domain keeps of a group: the site's side, and, at the home's site, the home's.
-#[derive(Drop)]
-pub(crate) struct GroupRecord {
-    pub(crate) name: GroupNo,
-    pub(crate) here: Group,
-    pub(crate) home: Home,
-}
 
 /// One domain at one site: one tenant, alone.
 #[derive(Drop)]
@@ -36,7 +32,11 @@ pub struct Domain {
 }
 
 impl Domain {
-    ghost use Rattle.cast_domain.specs.Records.{number_of, is_halted, used_of, IsFor};
+    ghost use Rattle.cast_types.specs.Names.{group_cmp};
+    ghost use Rattle.cast_frame.specs.Rising.{is_rising};
+    ghost use Rattle.cast_domain.specs.State.{opening};
+    ghost use Rattle.cast_domain.specs.Records.{number_of, is_halted, used_of, sessions_of, IsFor};
+    ghost use Rattle.cast_domain.specs.Fits.{Means};
 
     /// A domain before its first event.
     pub fn new(alloc: Global, site: SiteNo, config: DomainConfig) -> Result<Self, NoMemory>
@@ -44,6 +44,7 @@ impl Domain {
         ensures running { IfOk result (λ d. is_halted d ≡ false) }
         ensures placed { IfOk result (λ d. IsFor site config d) }
         ensures unused { IfOk result (λ d. used_of d ≡ 0) }
+        ensures begins { IfOk result (λ d. is_rising group_cmp config.groups ≡ true → Means d (opening site config)) }
     {
         let mut groups = Vec::new(alloc);
         for group in config.groups.as_slice() {
@@ -80,16 +81,25 @@ impl Domain {
     }
 
     /// Everything that was pushed to each session, by serial.
-    pub fn into_sessions(self) -> Vec<Session> {
+    pub fn into_sessions(self) -> Vec<Session>
+        ensures { result.items ≡ sessions_of self }
+    {
         self.sessions
     }
 }
 
 impl Domain {
-    ghost use Rattle.cast_domain.specs.Records.{Keeps, answer_to, is_halted, number_of, used_after, used_of};
+    ghost use Rattle.cast_types.specs.Names.{site_eq};
+    ghost use Rattle.cast_domain.specs.declared.event.Outs.{Outs};
+    ghost use Rattle.cast_domain.specs.Records.{Keeps, answer_to, is_halted, number_of, records_of, used_after, used_of};
+    ghost use Rattle.cast_domain.specs.Fits.{IsTyped};
+    ghost use Rattle.cast_domain.specs.Stepped.{IsStepped};
+    ghost use Rattle.cast_domain.specs.Calls.{act_in, is_home_in, local_in, place_among, push_in, record_at, send_in, tell_in};
 
     /// The process of a session.
-    pub(crate) fn process(&self, serial: u32) -> Proc {
+    pub(crate) fn process(&self, serial: u32) -> Proc
+        ensures { result ≡ record { site = self.now.site; serial = serial } }
+    {
         Proc {
             site: self.site,
             serial,
@@ -98,34 +108,59 @@ impl Domain {
 
     // Where a group stands among those that are configured.
     pub(crate) fn place_of(&self, group: GroupNo) -> Option<usize>
-        ensures { IfSome result (λ i. i < vec_len self.now.groups) }
+        ensures place { result ≡ place_among group self.now.groups.items }
+        ensures within { IfSome result (λ i. i < vec_len self.now.groups) }
     {
-        self.groups.iter().position(|known| known.name == group)
+        place_among(&self.groups, group)
+    }
+
+    // The group at a place.
+    pub(crate) fn record(&self, place: usize) -> &GroupRecord
+        requires { place < vec_len self.now.groups }
+        ensures { result.now ≡ record_at self.now.groups.items place }
+    {
+        &self.groups[place]
     }
 
     // Whether the domain's home is here.
-    pub(crate) fn is_home(&self) -> bool {
+    pub(crate) fn is_home(&self) -> bool
+        ensures { result ≡ site_eq self.now.site self.now.config.home }
+    {
         self.site == self.config.home
     }
 
+    // Whether a site is the one of the domain's home.
+    pub(crate) fn is_from_home(&self, site: SiteNo) -> bool
+        ensures { result ≡ site_eq site self.now.config.home }
+    {
+        site == self.config.home
+    }
+
+    // Tells the delay queue of a process.
+    pub(crate) fn tell(&mut self, process: Proc, fact: Fact) -> Result<(), NoMemory>
+        ensures kept { Keeps self.old self.new }
+        ensures made { OnOk result ((o : Outs) → records_of self.new o ≡ tell_in (records_of self.old o) process fact) }
+        ensures groups { self.new.groups ≡ self.old.groups }
+    {
+        self.delay.tell(process, &fact)?;
+        Ok(())
+    }
+
     // Sends a frame to a site.
-    pub(crate) fn send(
-        &self,
-        outs: &mut Outs,
-        to: SiteNo,
-        frame: SiteFrame,
-    ) -> Result<(), NoMemory> {
+    pub(crate) fn send(&self, outs: &mut Outs, to: SiteNo, frame: SiteFrame) -> Result<(), NoMemory>
+        ensures { OnOk result (records_of self.now outs.new ≡ send_in (records_of self.now outs.old) to frame) }
+    {
         outs.send(self.config.domain, to, frame)
     }
 
-    // Pushes an entry to a session that is open.
+    // Pushes an entry to a session, if it is open.
     pub(crate) fn push(&mut self, serial: u32, push: Push) -> Result<(), NoMemory>
-        ensures { Keeps self.old self.new }
+        ensures kept { Keeps self.old self.new }
+        ensures made { OnOk result ((o : Outs) → records_of self.new o ≡ push_in (records_of self.old o) serial push) }
     {
         let place = serial as usize;
         if 0 < place && place <= self.sessions.len() {
-            let session = &mut self.sessions[place - 1];
-            session.push(push)?;
+            push_at(&mut self.sessions, place - 1, push)?;
         }
         Ok(())
     }
@@ -136,8 +171,11 @@ impl Domain {
         ensures answer { is_halted self.old ≡ false → IfOk result (λ t. t ≡ answer_to (used_of self.old) event.now) }
         ensures used { is_halted self.old ≡ false → OnOk result (used_of self.new ≡ used_after (used_of self.old) event.now) }
         ensures number { number_of self.new ≡ number_of self.old }
+        ensures running { is_halted self.old ≡ false → OnOk result (is_halted self.new ≡ false) }
         ensures halts { OnErr result (is_halted self.new ≡ true) }
-        ensures halted { is_halted self.old ≡ true → result ≡ Ok (Taken.Refused Refusal.Halted) }
+        ensures halted { is_halted self.old ≡ true → (result ≡ Ok (Taken.Refused Refusal.Halted)) × (self.new ≡ self.old) × (outs.new ≡ outs.old) }
+        ensures steps { is_halted self.old ≡ false → IfOk result (λ answer. IsStepped self.old event.now answer self.new outs.old outs.new) }
+        ensures nothing { OnErr result (outs.new ≡ outs.old) }
     {
         if self.halted {
             return Ok(Taken::Refused(Refusal::Halted));
@@ -154,10 +192,14 @@ impl Domain {
     fn serve(&mut self, event: &Event, outs: &mut Outs) -> Result<Taken, NoMemory>
         ensures answer { IfOk result (λ t. t ≡ answer_to self.old.used event.now) }
         ensures used { OnOk result (self.new.used ≡ used_after self.old.used event.now) }
-        ensures same { (self.new.site ≡ self.old.site) × (self.new.config ≡ self.old.config) }
+        ensures same { (self.new.site ≡ self.old.site) × (self.new.config ≡ self.old.config) × (self.new.halted ≡ self.old.halted) }
+        ensures steps { IfOk result (λ answer. IsStepped self.old event.now answer self.new outs.old outs.new) }
+        ensures nothing { OnErr result (outs.new ≡ outs.old) }
     {
-        let taken = self.act(event, outs)?;
-        self.rest(outs)?;
+        let mut step = Outs::new(outs.frames.alloc());
+        let taken = self.act(event, &mut step)?;
+        self.rest(&mut step)?;
+        outs.append(step)?;
         Ok(taken)
     }
 
@@ -165,7 +207,9 @@ impl Domain {
     fn act(&mut self, event: &Event, outs: &mut Outs) -> Result<Taken, NoMemory>
         ensures answer { IfOk result (λ t. t ≡ answer_to self.old.used event.now) }
         ensures used { OnOk result (self.new.used ≡ used_after self.old.used event.now) }
-        ensures same { (self.new.site ≡ self.old.site) × (self.new.config ≡ self.old.config) }
+        ensures same { (self.new.site ≡ self.old.site) × (self.new.config ≡ self.old.config) × (self.new.halted ≡ self.old.halted) }
+        ensures made { OnOk result (records_of self.new outs.new ≡ act_in (records_of self.old outs.old) event.now) }
+        ensures typed { IsTyped event.now }
     {
         match event {
             Event::Open(_) => self.open(),
@@ -175,9 +219,21 @@ impl Domain {
                 ..
             } => self.command(*serial, command, outs),
             Event::Frame(_, from, frame) => {
+                promised_by_types(frame);
                 self.frame(*from, frame, outs)?;
                 Ok(Taken::Nothing)
             }
         }
     }
+}
+
+// Pushes an entry to the session at a place.
+#[tactic(auto, using(cast_types::proofs::Updates::set_update))]
+fn push_at(sessions: &mut Vec<Session>, place: usize, push: Push) -> Result<(), NoMemory>
+    requires { place < vec_len sessions.old }
+    ensures { OnOk result (sessions.new.items ≡ update sessions.old.items place (told push)) }
+{
+    let session = &mut sessions[place];
+    session.push(push)?;
+    Ok(())
 }

@@ -1,4 +1,4 @@
-ghost use Rattle.std.specs.Prelude.{◌≡◌, ◌++◌, ◌∷◌, [], OnOk};
+ghost use Rattle.std.specs.Prelude.{◌≡◌, ◌++◌, ◌∷◌, [], OnOk, OnErr};
 
 use cast_frame::{Request, SiteFrame};
 use cast_types::{DomainNo, Listed, NoMemory, Proc, Refusal, SiteNo, Uid};
@@ -61,9 +61,11 @@ pub struct Outs {
 }
 
 impl Outs {
+    ghost use Rattle.cast_domain.specs.Records.{no_outs, outs_then};
+
     /// Nothing.
     pub fn new(alloc: Global) -> Self
-        ensures { (result.frames ≡ []) × (result.halted ≡ []) × (result.delivered ≡ []) }
+        ensures { result ≡ no_outs }
     {
         Outs {
             frames: Listed::new(alloc),
@@ -79,5 +81,26 @@ impl Outs {
         ensures delivered { self.new.delivered ≡ self.old.delivered }
     {
         self.frames.push((domain, to, frame))
+    }
+
+    /// Adds what a step sent and delivered. `NoMemory` changes nothing.
+    pub(crate) fn append(&mut self, step: Outs) -> Result<(), NoMemory>
+        ensures ok { OnOk result (self.new ≡ outs_then self.old step) }
+        ensures err { OnErr result (self.new ≡ self.old) }
+    {
+        let Outs {
+            frames,
+            delivered,
+            ..
+        } = step;
+        let sent = self.frames.len();
+        self.frames.append(frames)?;
+        match self.delivered.append(delivered) {
+            Ok(()) => Ok(()),
+            Err(error) => {
+                self.frames.truncate(sent);
+                Err(error)
+            }
+        }
     }
 }

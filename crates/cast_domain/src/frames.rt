@@ -1,14 +1,43 @@
-ghost use Rattle.std.specs.Prelude.{◌<◌, vec_len};
+ghost use Rattle.std.specs.Prelude.{◌≡◌, ◌<◌, IfOk, OnOk, vec_len};
+ghost use Rattle.std.specs.List.{fold, list_all, list_any};
+ghost use Rattle.cast_types.specs.Names.{group_eq, proc_eq, uid_eq};
+ghost use Rattle.cast_types.specs.Sets.{is_among};
+ghost use Rattle.cast_domain.specs.Step.{group_of};
+ghost use Rattle.cast_domain.specs.Fits.{IsTypedFrame};
+ghost use Rattle.cast_domain.specs.Calls.{counts_itself};
 
 use crate::domain::Domain;
 use crate::event::Outs;
 use crate::group::Verdict;
+use crate::home::is_among;
+use crate::record::{answer_at, apply_at, installed_at, view_at};
+use cast_clock::Times;
 use cast_delay::Fact;
 use cast_frame::{Change, Members, Message, Push, SiteFrame};
-use cast_types::{GroupNo, NoMemory, Proc, SiteNo, Standing, Uid};
+use cast_types::{Clock, GroupNo, NoMemory, Proc, SiteNo, Standing, Uid};
+
+// What the types of a frame's parts promise, for the proofs: nothing is done.
+pub(crate) fn promised_by_types(frame: &SiteFrame)
+    ensures { IsTypedFrame frame.now }
+{
+    match frame {
+        SiteFrame::Data(message) => {
+            message.times.clocks();
+        }
+        SiteFrame::Install { members, .. } => {
+            members.list();
+        }
+        SiteFrame::Ack(_)
+        | SiteFrame::Ask { .. }
+        | SiteFrame::Asked { .. }
+        | SiteFrame::Installed { .. } => {}
+    }
+}
 
 // The group that a frame is about.
-fn group_of(frame: &SiteFrame) -> GroupNo {
+fn group_of(frame: &SiteFrame) -> GroupNo
+    ensures { result ≡ group_of frame.now }
+{
     match frame {
         SiteFrame::Data(message) => message.id.group,
         SiteFrame::Ack(id) => id.group,
@@ -20,7 +49,11 @@ fn group_of(frame: &SiteFrame) -> GroupNo {
 }
 
 impl Domain {
-    ghost use Rattle.cast_domain.specs.Records.{Keeps};
+    ghost use Rattle.cast_domain.specs.declared.event.Outs.{Outs};
+    ghost use Rattle.cast_domain.specs.Group.{is_taken_in};
+    ghost use Rattle.cast_domain.specs.Records.{Keeps, records_of};
+    ghost use Rattle.cast_domain.specs.Calls.{answered_in, asked_of_home_in, complete_in, data_in, enter_in, frame_in, install_in, installed_in, is_used_in, is_well_formed_in, receive_once_in, standing_of, take_in, time_of};
+    ghost use Rattle.cast_clock.specs.Times.{entering};
 
     // A frame comes from a site. One from a site or for a group that is not configured is ignored, as is every frame
     // that no rule uses.
@@ -30,9 +63,10 @@ impl Domain {
         frame: &SiteFrame,
         outs: &mut Outs,
     ) -> Result<(), NoMemory>
-        ensures { Keeps self.old self.new }
+        ensures same { Keeps self.old self.new }
+        ensures made { OnOk result (records_of self.new outs.new ≡ frame_in (records_of self.old outs.old) from frame.now) }
     {
-        if !self.config.sites.as_slice().contains(&from) {
+        if !is_among(from, self.config.sites.as_slice()) {
             return Ok(());
         }
         let Some(place) = self.place_of(group_of(frame)) else {
@@ -70,23 +104,43 @@ impl Domain {
         outs: &mut Outs,
     ) -> Result<(), NoMemory>
         requires { place < vec_len self.old.groups }
-        ensures { Keeps self.old self.new }
+        ensures same { Keeps self.old self.new }
+        ensures made { OnOk result (records_of self.new outs.new ≡ data_in (records_of self.old outs.old) place from message.now) }
     {
-        let is_used = message.id.proc.site == from
-            && from != self.site
-            && message.id.view == self.groups[place].here.number
-            && self.is_well_formed(place, message);
-        if is_used {
-            if !self.is_received(message.id) {
-                self.receive(message.copy()?)?;
-            }
+        if self.is_used(place, from, message) {
+            self.receive_once(message)?;
             self.send(outs, from, SiteFrame::Ack(message.id))?;
         }
         Ok(())
     }
 
+    // Whether a message is of the site's view and comes from the process's own site, which is another.
+    fn is_used(&self, place: usize, from: SiteNo, message: &Message) -> bool
+        requires { place < vec_len self.now.groups }
+        ensures { (o : Outs) → result ≡ is_used_in (records_of self.now o) place from message.now }
+    {
+        message.id.proc.site == from
+            && !(from == self.site)
+            && message.id.view == self.record(place).here.number
+            && self.is_well_formed(place, message)
+    }
+
+    // Receives a message, if it was not received before.
+    fn receive_once(&mut self, message: &Message) -> Result<(), NoMemory>
+        ensures same { Keeps self.old self.new }
+        ensures made { OnOk result ((o : Outs) → records_of self.new o ≡ receive_once_in (records_of self.old o) message.now) }
+    {
+        if self.is_received(message.id) {
+            return Ok(());
+        }
+        self.receive(message.copy()?)?;
+        Ok(())
+    }
+
     // Whether a message was received before.
-    fn is_received(&self, id: Uid) -> bool {
+    fn is_received(&self, id: Uid) -> bool
+        ensures { result ≡ list_any (λ m. uid_eq m.id id) self.now.got.items }
+    {
         self.got.iter().any(|message| message.id == id)
     }
 
@@ -94,20 +148,18 @@ impl Domain {
     // counts it.
     fn is_well_formed(&self, place: usize, message: &Message) -> bool
         requires { place < vec_len self.now.groups }
+        ensures { (o : Outs) → result ≡ is_well_formed_in (records_of self.now o) place message.now }
     {
         self.knows_groups(message)
-            && self.groups[place].here.members().contains(&message.id.proc)
+            && is_member(message.id.proc, self.record(place).here.members())
             && counts_itself(message)
     }
 
     // Whether all groups of the message's time are configured.
-    fn knows_groups(&self, message: &Message) -> bool {
-        let groups = self.config.groups.as_slice();
-        message
-            .times
-            .clocks()
-            .iter()
-            .all(|clock| groups.contains(&clock.0))
+    fn knows_groups(&self, message: &Message) -> bool
+        ensures { result ≡ list_all (λ c. is_among group_eq c.0 self.now.config.groups) message.now.times }
+    {
+        are_known(self.config.groups.as_slice(), message.times.clocks())
     }
 
     // Ask: at the home the request after the last one is applied. That one and lower ones are answered again.
@@ -121,25 +173,27 @@ impl Domain {
         outs: &mut Outs,
     ) -> Result<(), NoMemory>
         requires { place < vec_len self.old.groups }
-        ensures { Keeps self.old self.new }
+        ensures same { Keeps self.old self.new }
+        ensures made { OnOk result (records_of self.new outs.new ≡ asked_of_home_in (records_of self.old outs.old) place from number change process) }
     {
         if !self.is_home() || change == Change::Leave {
             return Ok(());
         }
-        let record = &mut self.groups[place];
-        let group = record.name;
-        let applied = record.home.last_applied(from);
-        if number.checked_sub(applied) == Some(1) {
-            record.home.apply_join(from, number, process)?;
-        } else if number > applied {
-            return Ok(());
+        let group = self.record(place).name;
+        let applied = self.record(place).home.last_applied(from);
+        if number > applied {
+            if number - applied > 1 {
+                return Ok(());
+            }
+            apply_at(&mut self.groups, place, from, number, process)?;
         }
         let frame = SiteFrame::Asked {
             group,
             number,
             full: false,
         };
-        self.send(outs, from, frame)
+        self.send(outs, from, frame)?;
+        Ok(())
     }
 
     // Asked: the first request is answered, and the next one is asked.
@@ -152,18 +206,21 @@ impl Domain {
         outs: &mut Outs,
     ) -> Result<(), NoMemory>
         requires { place < vec_len self.old.groups }
-        ensures { Keeps self.old self.new }
+        ensures same { Keeps self.old self.new }
+        ensures made { OnOk result (records_of self.new outs.new ≡ answered_in (records_of self.old outs.old) place from number full) }
     {
-        if full || from != self.config.home {
+        if full {
             return Ok(());
         }
-        let group = &mut self.groups[place].here;
-        match group.first_request() {
-            Some(asking) if asking.number == number => {
-                group.take_answer()?;
-                self.ask_home(place, outs)
+        match self.record(place).here.first_request() {
+            Some(asking) => {
+                if self.is_from_home(from) && asking.number == number {
+                    answer_at(&mut self.groups, place)?;
+                    self.ask_home(place, outs)?;
+                }
+                Ok(())
             }
-            Some(_) | None => Ok(()),
+            None => Ok(()),
         }
     }
 
@@ -178,19 +235,22 @@ impl Domain {
         outs: &mut Outs,
     ) -> Result<(), NoMemory>
         requires { place < vec_len self.old.groups }
-        ensures { Keeps self.old self.new }
+        ensures same { Keeps self.old self.new }
+        ensures made { OnOk result (records_of self.new outs.new ≡ install_in (records_of self.old outs.old) place from view members.now request) }
     {
-        if from != self.config.home {
+        if !self.is_from_home(from) {
             return Ok(());
         }
-        let record = &self.groups[place];
-        let group = record.name;
-        match record.here.verdict(view) {
-            Verdict::Ignored => return Ok(()),
-            Verdict::Again => {}
-            Verdict::Completes => self.complete(place, view, members, request)?,
+        let group = self.record(place).name;
+        match self.record(place).here.verdict(view) {
+            Verdict::Ignored => Ok(()),
+            Verdict::Again => self.send(outs, from, SiteFrame::Installed { group, view }),
+            Verdict::Completes => {
+                self.complete(place, view, members, request)?;
+                self.send(outs, from, SiteFrame::Installed { group, view })?;
+                Ok(())
+            }
         }
-        self.send(outs, from, SiteFrame::Installed { group, view })
     }
 
     // A view is complete: the processes here that it takes in enter it, and are told.
@@ -202,23 +262,56 @@ impl Domain {
         request: u32,
     ) -> Result<(), NoMemory>
         requires { place < vec_len self.old.groups }
-        ensures { Keeps self.old self.new }
+        ensures same { Keeps self.old self.new }
+        ensures made { OnOk result ((o : Outs) → records_of self.new o ≡ complete_in (records_of self.old o) place view members.now request) }
     {
-        let record = &mut self.groups[place];
-        record.here.take_view(self.site, view, members)?;
-        let group = record.name;
+        let group = self.record(place).name;
+        view_at(&mut self.groups, place, self.site, view, members)?;
         self.delay.view_changed(group, view)?;
+        self.take_all_in(group, view, members, request)?;
+        Ok(())
+    }
+
+    // Each process here that a view takes in enters it.
+    fn take_all_in(
+        &mut self,
+        group: GroupNo,
+        view: u32,
+        members: &Members,
+        request: u32,
+    ) -> Result<(), NoMemory>
+        ensures same { Keeps self.old self.new }
+        ensures made { OnOk result ((o : Outs) → records_of self.new o ≡ fold (take_in group view members.now request) (records_of self.old o) members.now.list) }
+    {
         for process in members.list() {
-            if process.site == self.site && self.is_taken_in(*process, group, request) {
-                self.enter(*process, group, view, members)?;
-            }
+            self.take_in(*process, group, view, members, request)?;
+        }
+        Ok(())
+    }
+
+    // A process that a view names enters it, if it is here and is taken in.
+    fn take_in(
+        &mut self,
+        process: Proc,
+        group: GroupNo,
+        view: u32,
+        members: &Members,
+        request: u32,
+    ) -> Result<(), NoMemory>
+        ensures same { Keeps self.old self.new }
+        ensures made { OnOk result ((o : Outs) → records_of self.new o ≡ take_in group view members.now request (records_of self.old o) process) }
+    {
+        if process.site == self.site && self.is_taken_in(process, group, request) {
+            self.enter(process, group, view, members)?;
         }
         Ok(())
     }
 
     // Whether a process that a view names is taken in: it is a member, or joins by a request that the home had
     // applied.
-    fn is_taken_in(&self, process: Proc, group: GroupNo, request: u32) -> bool {
+    fn is_taken_in(&self, process: Proc, group: GroupNo, request: u32) -> bool
+        ensures { result ≡ is_taken_in request (standing_of self.now.delay process group) }
+    {
         match self.delay.standing(process, group) {
             Standing::Outside => false,
             Standing::Joining {
@@ -237,38 +330,71 @@ impl Domain {
         view: u32,
         members: &Members,
     ) -> Result<(), NoMemory>
-        ensures { Keeps self.old self.new }
+        ensures same { Keeps self.old self.new }
+        ensures made { OnOk result ((o : Outs) → records_of self.new o ≡ enter_in group view members.now (records_of self.old o) process) }
     {
-        if let Some(time) = self.delay.time(process) {
-            let mut entered = time.copy()?;
-            entered.enter(group, view)?;
-            self.delay.tell(process, &Fact::Time(entered))?;
-        }
-        self.delay
-            .tell(process, &Fact::Standing(group, Standing::Member))?;
+        let entered = self.entered(process, group, view)?;
+        self.tell(process, Fact::Time(entered))?;
+        self.tell(process, Fact::Standing(group, Standing::Member))?;
         let push = Push::View {
             group,
             view,
             members: members.copy()?,
         };
-        self.push(process.serial, push)
+        self.push(process.serial, push)?;
+        Ok(())
+    }
+
+    // The time of a process that enters a view.
+    fn entered(&self, process: Proc, group: GroupNo, view: u32) -> Result<Times, NoMemory>
+        ensures { IfOk result (λ t. t ≡ entering (time_of self.now.delay process) group view) }
+    {
+        let mut entered = match self.delay.time(process) {
+            Some(time) => time.copy()?,
+            None => Times::new(*self.got.allocator()),
+        };
+        entered.enter(group, view)?;
+        Ok(entered)
     }
 
     // Installed: the home waits for the site no more.
     fn installed(&mut self, place: usize, from: SiteNo, view: u32) -> Result<(), NoMemory>
         requires { place < vec_len self.old.groups }
-        ensures { Keeps self.old self.new }
+        ensures same { Keeps self.old self.new }
+        ensures made { OnOk result ((o : Outs) → records_of self.new o ≡ installed_in (records_of self.old o) place from view) }
     {
         if self.is_home() {
-            let home = &mut self.groups[place].home;
-            home.take_installed(from, view)?;
+            installed_at(&mut self.groups, place, from, view)?;
         }
         Ok(())
     }
 }
 
+// Whether a process is one of these.
+fn is_member(process: Proc, members: &[Proc]) -> bool
+    ensures { result ≡ is_among proc_eq process members.now }
+{
+    members.iter().any(|member| process == *member)
+}
+
+// Whether a group is one of these.
+fn is_known(group: GroupNo, groups: &[GroupNo]) -> bool
+    ensures { result ≡ is_among group_eq group groups.now }
+{
+    groups.iter().any(|known| group == *known)
+}
+
+// Whether the groups of all clocks are among these.
+fn are_known(groups: &[GroupNo], clocks: &[(GroupNo, Clock)]) -> bool
+    ensures { result ≡ list_all (λ c. is_among group_eq c.0 groups.now) clocks.now }
+{
+    clocks.iter().all(|clock| is_known(clock.0, groups))
+}
+
 // Whether the message's own time has its view, and its count, from 1 on.
-fn counts_itself(message: &Message) -> bool {
+fn counts_itself(message: &Message) -> bool
+    ensures { result ≡ counts_itself message.now }
+{
     match message.times.get(message.id.group) {
         Some(clock) => {
             clock.view == message.id.view

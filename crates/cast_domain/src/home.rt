@@ -2,7 +2,7 @@ ghost use Rattle.std.specs.Prelude.{◌≡◌, ◌<◌, ◌≤◌, [], IfOk, OnO
 ghost use Rattle.cast_types.specs.Names.{proc_cmp, site_eq};
 ghost use Rattle.cast_types.specs.Sets.{with_item, without, is_among};
 ghost use Rattle.cast_frame.specs.Rising.{is_rising};
-ghost use Rattle.cast_domain.specs.Group.{sites_of};
+ghost use Rattle.cast_domain.specs.Group.{sites_of, other_sites};
 ghost use Rattle.cast_domain.specs.Phase.{installing, is_idle, least};
 
 use cast_frame::Members;
@@ -196,8 +196,8 @@ fn is_idle(phase: &Phase) -> bool
     }
 }
 
-// Whether a site is one of these.
-fn is_among(site: SiteNo, sites: &[SiteNo]) -> bool
+/// Whether a site is one of these.
+pub(crate) fn is_among(site: SiteNo, sites: &[SiteNo]) -> bool
     ensures { result ≡ is_among site_eq site sites.now }
 {
     sites.iter().any(|other| site == *other)
@@ -234,4 +234,16 @@ pub fn sites_of(alloc: Global, processes: &[Proc]) -> Result<Listed<SiteNo>, NoM
         sorted::insert(&mut sites, process.site)?;
     }
     Ok(Listed::from_vec(sites))
+}
+
+/// The sites of processes but for one site, each once, in rising order.
+pub fn other_sites(
+    alloc: Global,
+    site: SiteNo,
+    processes: &[Proc],
+) -> Result<Listed<SiteNo>, NoMemory>
+    ensures { IfOk result (λ l. l ≡ other_sites site processes.now) }
+{
+    let sites = sites_of(alloc, processes)?;
+    others(alloc, site, sites.as_slice())
 }

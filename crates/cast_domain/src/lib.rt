@@ -1,10 +1,14 @@
 //! One domain at one site: its sessions, groups and messages, and what it makes of each event.
 //!
-//! Promised so far: every call is safe and returns. Want of memory inside a step halts the domain, which then
-//! answers each event with `Refused(Halted)`. That a step is the model's step is not proved yet.
+//! Promised: a step is the history's step. Whatever history the domain stands for before an event, after it the domain
+//! stands for one to which the event leads with the given answer, at rest, and what that step of the history sends and
+//! delivers is what was added to `Outs` (`Domain::step`). Every call is safe and returns. Want of memory inside a step
+//! adds nothing and halts the domain, which then answers each event with `Refused(Halted)`.
 //!
 //! The definitions are in `specs/`: `State` has the whole history of a domain, `Effects`, `Rest` and `Step` say what
-//! events do to it, and `Run` what a domain that is served alone answers, pushes and sends.
+//! events do to it, and `Run` what a domain that is served alone answers, pushes and sends. `Records` is what the code
+//! keeps, `Calls` what its calls do to that, exactly, and `Fits` when records stand for a history; `Stepped` is what the
+//! contract of a step says.
 #![tactic(auto)]
 
 mod config;
@@ -14,6 +18,7 @@ mod frames;
 mod group;
 mod home;
 pub mod laws;
+mod record;
 mod requests;
 mod rest;
 mod session;

@@ -1,16 +1,27 @@
-use crate::domain::{Domain, GroupRecord};
+ghost use Rattle.std.specs.Prelude.{◌≡◌, ◌<◌, false, IfOk, OnOk, slice_get, vec_len};
+ghost use Rattle.std.specs.Option.{option_copied};
+ghost use Rattle.std.specs.List.{fold};
+ghost use Rattle.cast_frame.specs.declared.client.Push.TheVariants as push;
+ghost use Rattle.cast_domain.specs.Effects.{payload_of};
+
+use crate::domain::Domain;
 use crate::event::Outs;
 use crate::home::sites_of;
-use cast_frame::{Body, Push, SiteFrame, Tail};
-use cast_types::{Counts, DomainNo, Key, NoMemory, Proc};
+use crate::record::decide_at;
+use cast_frame::{Body, Message, Push, SiteFrame, Tail};
+use cast_types::{Counts, Key, NoMemory, Proc, SiteNo};
 use std::alloc::AllocError;
 
 impl Domain {
-    ghost use Rattle.cast_domain.specs.Records.{Keeps};
+    ghost use Rattle.cast_domain.specs.Rest.{install_frame};
+    ghost use Rattle.cast_domain.specs.Records.{Keeps, records_of};
+    ghost use Rattle.cast_domain.specs.Stepped.{IsRested};
+    ghost use Rattle.cast_domain.specs.Calls.{decide_in, deliver_all_in, deliver_in, lead_in, pass_in, record_at, send_install_in, settle_in};
 
     // What follows from an event, until nothing changes. No run makes 2^64 passes.
     pub(crate) fn rest(&mut self, outs: &mut Outs) -> Result<(), NoMemory>
-        ensures { Keeps self.old self.new }
+        ensures same { Keeps self.old self.new }
+        ensures rests { OnOk result (IsRested (records_of self.old outs.old) (records_of self.new outs.new)) }
     {
         for _turn in 0..u64::MAX {
             if !self.pass(outs)? {
@@ -22,7 +33,9 @@ impl Domain {
 
     // Deliveries by serial; then by group the home. Answers whether anything changed.
     fn pass(&mut self, outs: &mut Outs) -> Result<bool, NoMemory>
-        ensures { Keeps self.old self.new }
+        ensures same { Keeps self.old self.new }
+        ensures made { OnOk result (records_of self.new outs.new ≡ pass_in (records_of self.old outs.old)) }
+        ensures still { IfOk result (λ changed. changed ≡ false → records_of self.new outs.new ≡ records_of self.old outs.old) }
     {
         let settled = self.settle(outs)?;
         let led = self.lead(outs)?;
@@ -31,28 +44,31 @@ impl Domain {
 
     // Each process delivers until nothing is ready for it.
     fn settle(&mut self, outs: &mut Outs) -> Result<bool, NoMemory>
-        ensures { Keeps self.old self.new }
+        ensures same { Keeps self.old self.new }
+        ensures made { OnOk result (records_of self.new outs.new ≡ settle_in (records_of self.old outs.old)) }
+        ensures still { IfOk result (λ changed. changed ≡ false → records_of self.new outs.new ≡ records_of self.old outs.old) }
     {
         let mut changed = false;
         for earlier in 0..self.used {
             let process = self.process(earlier + 1);
-            if self.deliver_all(process, outs)? {
-                changed = true;
-            }
+            let delivered = self.deliver_all(process, outs)?;
+            changed = changed | delivered;
         }
         Ok(changed)
     }
 
     // A process delivers until nothing is ready for it. It delivers no message twice.
     fn deliver_all(&mut self, process: Proc, outs: &mut Outs) -> Result<bool, NoMemory>
-        ensures { Keeps self.old self.new }
+        ensures same { Keeps self.old self.new }
+        ensures made { OnOk result (records_of self.new outs.new ≡ deliver_all_in (records_of self.old outs.old) process) }
+        ensures still { IfOk result (λ changed. changed ≡ false → records_of self.new outs.new ≡ records_of self.old outs.old) }
     {
         let mut changed = false;
         for _turn in 0..self.got.len() {
-            let Some(key) = self.delay.next_ready(process) else {
-                break;
-            };
-            self.deliver(process, key, outs)?;
+            match self.delay.next_ready(process) {
+                Some(key) => self.deliver(process, key, outs)?,
+                None => return Ok(changed),
+            }
             changed = true;
         }
         Ok(changed)
@@ -60,58 +76,98 @@ impl Domain {
 
     // A process delivers a message, and the program is told.
     fn deliver(&mut self, process: Proc, key: Key, outs: &mut Outs) -> Result<(), NoMemory>
-        ensures { Keeps self.old self.new }
+        ensures same { Keeps self.old self.new }
+        ensures made { OnOk result (records_of self.new outs.new ≡ deliver_in process (records_of self.old outs.old) key) }
     {
-        let Key(place) = key;
-        let Some(message) = self.got.get(place) else {
+        let Some(message) = message_under(&self.got, key) else {
             return Ok(());
         };
         let id = message.id;
-        let push = match &message.body {
-            Body::Causal(payload) => Push::Deliver {
-                id,
-                payload: payload.copy()?,
-            },
-        };
+        let push = push_of(message)?;
         self.delay.delivered(process, key)?;
         outs.delivered.push((self.config.domain, process, id))?;
-        self.push(process.serial, push)
+        self.push(process.serial, push)?;
+        Ok(())
     }
 
     // The home decides, by group.
     fn lead(&mut self, outs: &mut Outs) -> Result<bool, NoMemory>
-        ensures { Keeps self.old self.new }
+        ensures same { Keeps self.old self.new }
+        ensures made { OnOk result (records_of self.new outs.new ≡ lead_in (records_of self.old outs.old)) }
+        ensures still { IfOk result (λ changed. changed ≡ false → records_of self.new outs.new ≡ records_of self.old outs.old) }
     {
         let mut changed = false;
         if self.is_home() {
-            for record in self.groups.iter_mut() {
-                if decide(record, self.config.domain, outs)? {
-                    changed = true;
-                }
+            for place in 0..self.groups.len() {
+                let decided = self.decide(place, outs)?;
+                changed = changed | decided;
             }
         }
         Ok(changed)
     }
-}
 
-// The home decides a view, where one is to be decided, and sends it to the sites of its members.
-fn decide(record: &mut GroupRecord, domain: DomainNo, outs: &mut Outs) -> Result<bool, NoMemory> {
-    if !record.home.decide()? {
-        return Ok(false);
+    // The home decides a view, where one is to be decided, and sends it to the sites of its members.
+    fn decide(&mut self, place: usize, outs: &mut Outs) -> Result<bool, NoMemory>
+        requires { place < vec_len self.old.groups }
+        ensures same { Keeps self.old self.new }
+        ensures made { OnOk result (records_of self.new outs.new ≡ decide_in (records_of self.old outs.old) place) }
+        ensures still { IfOk result (λ changed. changed ≡ false → records_of self.new outs.new ≡ records_of self.old outs.old) }
+        ensures len { vec_len self.new.groups ≡ vec_len self.old.groups }
+    {
+        if !decide_at(&mut self.groups, place)? {
+            return Ok(false);
+        }
+        let alloc = *self.got.allocator();
+        let sites = sites_of(alloc, self.record(place).home.members.list())?;
+        self.send_installs(place, sites.as_slice(), outs)?;
+        Ok(true)
     }
-    let home = &record.home;
-    let alloc = home.joins.alloc();
-    let sites = sites_of(alloc, home.members.list())?;
-    for site in sites.as_slice() {
-        let frame = SiteFrame::Install {
+
+    // Sends the decided view of the group at a place to sites.
+    fn send_installs(&self, place: usize, sites: &[SiteNo], outs: &mut Outs) -> Result<(), NoMemory>
+        requires { place < vec_len self.now.groups }
+        ensures { OnOk result (records_of self.now outs.new ≡ fold (send_install_in (record_at self.now.groups.items place).name (record_at self.now.groups.items place).home) (records_of self.now outs.old) sites.now) }
+    {
+        for site in sites {
+            self.send(outs, *site, self.install_for(place, *site)?)?;
+        }
+        Ok(())
+    }
+
+    // The Install of the decided view of the group at a place for a site.
+    fn install_for(&self, place: usize, site: SiteNo) -> Result<SiteFrame, NoMemory>
+        requires { place < vec_len self.now.groups }
+        ensures { IfOk result (λ f. f ≡ install_frame (record_at self.now.groups.items place).name (record_at self.now.groups.items place).home site) }
+    {
+        let alloc = *self.got.allocator();
+        let record = self.record(place);
+        Ok(SiteFrame::Install {
             group: record.name,
-            view: home.number,
-            members: home.members.copy()?,
-            request: home.last_applied(*site),
+            view: record.home.number,
+            members: record.home.members.copy()?,
+            request: record.home.last_applied(site),
             cut: Counts::new(alloc),
             tail: Tail::new(alloc),
-        };
-        outs.send(domain, *site, frame)?;
+        })
     }
-    Ok(true)
+}
+
+// The message under a key, which is its place.
+fn message_under(got: &[Message], key: Key) -> Option<&Message>
+    ensures { option_copied result ≡ slice_get got.now key.0 }
+{
+    let Key(place) = key;
+    got.get(place)
+}
+
+// What a program is told of a message that it delivers.
+fn push_of(message: &Message) -> Result<Push, NoMemory>
+    ensures { IfOk result (λ p. p ≡ push.Deliver message.now.id (payload_of message.now.body)) }
+{
+    match &message.body {
+        Body::Causal(payload) => Ok(Push::Deliver {
+            id: message.id,
+            payload: payload.copy()?,
+        }),
+    }
 }

@@ -19,7 +19,7 @@ pub struct Session {
 }
 
 impl Session {
-    ghost use Rattle.cast_domain.specs.Session.{first_session, pushed_to};
+    ghost use Rattle.cast_domain.specs.Session.{first_session, told};
 
     /// The session of a process, which begins with its name.
     pub fn new(alloc: Global, process: Proc) -> Result<Self, NoMemory>
@@ -33,11 +33,14 @@ impl Session {
         })
     }
 
-    /// Pushes an entry. `NoMemory` changes nothing.
+    /// Pushes an entry; a session that is gone is told nothing. `NoMemory` changes nothing.
     pub fn push(&mut self, push: Push) -> Result<(), NoMemory>
-        ensures ok { OnOk result (self.new ≡ pushed_to self.old push) }
+        ensures ok { OnOk result (self.new ≡ told push self.old) }
         ensures err { OnErr result (self.new ≡ self.old) }
     {
-        self.pushed.push(push)
+        match self.status {
+            Status::Open => self.pushed.push(push),
+            Status::Gone => Ok(()),
+        }
     }
 }

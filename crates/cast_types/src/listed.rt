@@ -1,4 +1,4 @@
-ghost use Rattle.std.specs.Prelude.{◌≡◌, ◌∷◌, ◌++◌, [], IfOk, OnOk, OnErr, length, IsTrue, ◌↔◌};
+ghost use Rattle.std.specs.Prelude.{◌≡◌, ◌∷◌, ◌++◌, [], IfOk, OnOk, OnErr, length, take, IsTrue, ◌↔◌};
 
 use crate::NoMemory;
 use std::alloc::Global;
@@ -81,6 +81,23 @@ impl<T: Drop> Listed<T> {
     {
         self.cells.push(item)?;
         Ok(())
+    }
+
+    /// Adds items at the end. `NoMemory` changes nothing.
+    pub fn append(&mut self, items: Listed<T>) -> Result<(), NoMemory>
+        ensures ok { OnOk result (self.new ≡ self.old ++ items) }
+        ensures err { OnErr result (self.new ≡ self.old) }
+    {
+        let mut more = items.into_vec();
+        self.cells.append(&mut more)?;
+        Ok(())
+    }
+
+    /// Keeps the first items, at most so many. Takes no memory.
+    pub fn truncate(&mut self, len: usize)
+        ensures { self.new ≡ take len self.old }
+    {
+        self.cells.truncate(len);
     }
 }
 

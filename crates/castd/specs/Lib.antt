@@ -1,3 +1,4 @@
 pub mod Scripts
 pub mod Texts
 pub mod Tables
+pub mod Replays

@@ -1,6 +1,14 @@
-use Rattle.cast_domain.specs.Records.{Keeps}
+use Rattle.cast_domain.specs.State.{State}
+use Rattle.cast_domain.specs.Rest.{pass}
+use Rattle.cast_domain.specs.Fits.{Fits, IsLawful}
+use Rattle.cast_domain.specs.Records.{Keeps, records_of}
+use Rattle.cast_types.proofs.Iterates.{Led}
+use Rattle.cast_domain.proofs.Passes.{Stands}
 use Rattle.cast_domain.proofs.domain.Domain.rest.Given as goal
 
--- site, configuration and serials stay
+-- some number of passes has led to what the records stand for
 abbrev pub invariant-loop-turn : goal.invariant-loop-turn
-invariant-loop-turn l = Keeps l.fn.self l.self
+invariant-loop-turn l = record {
+  same : Keeps l.fn.self l.self;
+  led : (s : State) → Fits (records_of l.fn.self l.fn.outs) s → IsLawful s → Led Stands pass (records_of l.self l.outs) s;
+}

@@ -1,0 +1,228 @@
+-- What a session asks for changes a domain's records as it changes their history.
+use Rattle.std.proofs.Common.{◌≡◌, ℕ, ◌+◌, ◌<◌, Bool, true, false, not, List, [], ◌∷◌, length, Option, Some, None, refl, sym, ap, subst, ◌∙◌, arith}
+use Rattle.std.specs.Prelude.{◌==◌, nat_lt, if◌then◌else◌, slice_get}
+use Rattle.std.specs.List.{fold}
+use Rattle.std.specs.Option.{option_map_or}
+use Rattle.std.proofs.lemmas.Bool.{not-false}
+use Rattle.cast_types.specs.declared.names.SiteNo.{SiteNo}
+use Rattle.cast_types.specs.declared.names.GroupNo.{GroupNo}
+use Rattle.cast_types.specs.declared.names.Proc.{Proc}
+use Rattle.cast_types.specs.declared.names.Standing.{Standing}
+use Rattle.cast_types.specs.declared.names.Standing.TheVariants.{Joining}
+use Rattle.cast_types.specs.declared.refusal.Refusal.{Refusal}
+use Rattle.cast_types.specs.declared.refusal.Refusal.TheVariants.{NoGroup, NotMember, AlreadyMember, HeldFull, TooLong}
+use Rattle.cast_types.specs.declared.limits.TheConstants.{MAX_NUMBER, MAX_PAYLOAD}
+use Rattle.cast_types.specs.Places.{update}
+use Rattle.cast_types.specs.Stamps.{ClockList}
+use Rattle.cast_clock.specs.Times.{view_of, count_in, bumped}
+use Rattle.cast_clock.proofs.Raised.{bump_raises, bump_leaves_views}
+use Rattle.cast_frame.specs.declared.message.Body.{Body}
+use Rattle.cast_frame.specs.declared.message.Body.TheVariants as body
+use Rattle.cast_frame.specs.declared.message.Message.{Message}
+use Rattle.cast_frame.specs.declared.site.Change.{Change}
+use Rattle.cast_frame.specs.declared.site.Change.TheVariants as change
+use Rattle.cast_frame.specs.declared.site.SiteFrame.TheVariants as frame
+use Rattle.cast_frame.specs.declared.client.Request.{Request}
+use Rattle.cast_frame.specs.declared.client.Request.TheVariants.{Join, Cast}
+use Rattle.cast_frame.specs.declared.client.Push.TheVariants as push
+use Rattle.cast_delay.specs.Ready.{is_member, is_outside}
+use Rattle.cast_delay.specs.declared.row.Fact.TheVariants as fact
+use Rattle.cast_delay.specs.Fits.{IsSound}
+use Rattle.cast_domain.specs.declared.record.GroupRecord.{GroupRecord}
+use Rattle.cast_domain.specs.Group.{first_asking, members_of, other_sites, with_request}
+use Rattle.cast_domain.specs.Home.{is_empty}
+use Rattle.cast_domain.specs.declared.event.Command.{Command}
+use Rattle.cast_domain.specs.declared.event.Command.TheVariants as command
+use Rattle.cast_domain.specs.State.{State, local, is_group, set_process, set_group, set_standing, emitted, others_of}
+use Rattle.cast_domain.specs.Effects.{ask_frame, asking, requesting, receiving, sending_to, next_message, sending}
+use Rattle.cast_domain.specs.Step.{first_refusal, join_tests, cast_tests, tests_of, tag_of, may_raise, joining, effect_of, replying, requested, commanded}
+use Rattle.cast_domain.specs.Records.{Records, was_given}
+use Rattle.cast_domain.specs.Calls.{place_in, record_at, standing_of, time_of, send_in, push_in, tell_in, ask_home_in, request_in, Attempt, join_at, join_in, receive_in, send_data_in, send_message_in, next_message_in, cast_at, cast_in, reply_in, requested_in, command_in}
+use Rattle.cast_domain.specs.Fits.{Fits, IsLawful}
+use Rattle.cast_domain.proofs.Lawful.{lawful_standing}
+use Rattle.cast_domain.proofs.Standing.{fits_if, record_there, place_some, place_none, standing_there, time_there, fits_send, fits_push, fits_here, fits_standing, fits_time, fits_receive}
+
+-- the records with the parts that the history has, as it has them
+abbrev written : Records → State → Records
+written r s = record r { site = s.here; config = s.config; used = s.used; got = s.got }
+
+-- what holds of the records so written holds of them
+as_written : (P : Records → Type 0) (r : Records) (s : State) → Fits r s → (Fits (written r s) s → P (written r s)) → P r
+as_written P r s f h =
+    let same : r ≡ written r s = (λ i. record r { site = f.site i; config = f.config i; used = f.used i; got = f.got i }) in
+    subst P (sym same) (h (subst (λ x. Fits x s) same f))
+
+-- Requests of a group
+
+-- the home is asked what the first request asks
+pub fits_ask_home : (r : Records) (s : State) → Fits r s → (i : ℕ) (g : GroupNo) → slice_get s.config.groups i ≡ Some g → Fits (ask_home_in r i) (asking s g)
+fits_ask_home r s f i g at =
+    as_written (λ x. Fits (ask_home_in x i) (asking s g)) r s f
+    (λ w.
+    let now : Records = written r s in
+    subst (λ (x : GroupRecord). Fits (elim (first_asking x.here.requests) [ Some a ↦ send_in now s.config.home (ask_frame x.name a) | None ↦ now ]) (asking s g)) (sym (record_there now s w i g at))
+    (elim (first_asking (s.group g).requests) as (λ o. Fits (elim o [ Some a ↦ send_in now s.config.home (ask_frame g a) | None ↦ now ]) (elim o [ Some a ↦ emitted s s.config.home (ask_frame g a) | None ↦ s ])) [
+      | Some a ↦ fits_send now s w s.config.home (ask_frame g a)
+      | None ↦ w
+    ]))
+
+-- a request is queued
+fits_request : (r : Records) (s : State) → Fits r s → IsLawful s → (i : ℕ) (g : GroupNo) → slice_get s.config.groups i ≡ Some g → (what : Change) (p : Proc) → Fits (request_in r i what p) (requesting s g what p)
+fits_request r s f l i g at what p =
+    let next : Records = record r { groups = update r.groups i (λ x. record x { here = with_request x.here what p }) } in
+    let t : State = set_group s g (with_request (s.group g) what p) in
+    let now : Fits next t = fits_here r s f l i g at (λ x. with_request x what p) refl in
+    fits_if (is_empty (record_at r.groups i).here.requests) (is_empty (s.group g).requests) (ask_home_in next i) next (asking t g) t
+    (ap (λ (x : GroupRecord). is_empty x.here.requests) (record_there r s f i g at))
+    (λ _. fits_ask_home next t now i g at)
+    (λ _. now)
+
+-- Calls that may be refused
+
+-- what is left where nothing is refused, or where something is
+abbrev pub left_by : State → State → Option Refusal → State
+left_by s effect refusal = elim refusal [ Some x ↦ s | None ↦ effect ]
+
+-- the call refuses what the tests refuse, and where they let pass it has its effect
+pub record Attempts (a : Attempt) (s : State) (tests : List (Bool × Refusal)) (effect : State) : Type 0 where
+  pub refusal : a.1 ≡ first_refusal tests
+  pub fits : Fits a.0 (left_by s effect (first_refusal tests))
+
+-- a test lets pass
+passes : (a : Attempt) (s : State) (b : Bool) (x : Refusal) (tests : List (Bool × Refusal)) (effect : State) → b ≡ false → Attempts a s tests effect → Attempts a s ((b, x) ∷ tests) effect
+passes a s b x tests effect pass h = subst (λ c. Attempts a s ((c, x) ∷ tests) effect) (sym pass) (record { refusal = h.refusal; fits = h.fits })
+
+-- a test refuses
+refused : (r : Records) (s : State) (b : Bool) (x : Refusal) (tests : List (Bool × Refusal)) (effect : State) → b ≡ true → Fits r s → Attempts (r, Some x) s ((b, x) ∷ tests) effect
+refused r s b x tests effect fails f = subst (λ c. Attempts (r, Some x) s ((c, x) ∷ tests) effect) (sym fails) (record { refusal = refl; fits = f })
+
+-- the same test on both sides
+tested : (r : Records) (s : State) (b c : Bool) (x : Refusal) (a : Attempt) (tests : List (Bool × Refusal)) (effect : State) → b ≡ c → Fits r s → (c ≡ false → Attempts a s tests effect) → Attempts (if◌then◌else◌ {A = Attempt} b (r, Some x) a) s ((c, x) ∷ tests) effect
+tested r s b true x a tests effect same f h = subst (λ d. Attempts (if◌then◌else◌ {A = Attempt} d (r, Some x) a) s ((true, x) ∷ tests) effect) (sym same) (record { refusal = refl; fits = f })
+tested r s b false x a tests effect same f h = subst (λ d. Attempts (if◌then◌else◌ {A = Attempt} d (r, Some x) a) s ((false, x) ∷ tests) effect) (sym same) (record { refusal = (h refl).refusal; fits = (h refl).fits })
+
+-- no test is left
+passed : (r : Records) (s effect : State) → Fits r effect → Attempts (r, None) s [] effect
+passed r s effect f = record { refusal = refl; fits = f }
+
+-- the group must be one of the domain's
+at_place : (r : Records) (s : State) → Fits r s → (g : GroupNo) (there : ℕ → Attempt) (tests : List (Bool × Refusal)) (effect : State) → ((i : ℕ) → slice_get s.config.groups i ≡ Some g → is_group s g ≡ true → Attempts (there i) s tests effect) → Attempts (option_map_or there (place_in r g) (r, Some NoGroup)) s ((not (is_group s g), NoGroup) ∷ tests) effect
+at_place r s f g there tests effect h =
+    elim (place_in r g) as (λ o. place_in r g ≡ o → Attempts (option_map_or there o (r, Some NoGroup)) s ((not (is_group s g), NoGroup) ∷ tests) effect) [
+      | Some i ↦ λ is. let at = place_some r s f g i is in passes (there i) s (not (is_group s g)) NoGroup tests effect (ap not at.1) (h i at.0 at.1)
+      | None ↦ λ is. refused r s (not (is_group s g)) NoGroup tests effect (ap not (place_none r s f g is)) f
+    ] refl
+
+-- a process joins a group
+pub fits_join : (r : Records) (s : State) → Fits r s → IsLawful s → (k : ℕ) → was_given s.used k ≡ true → (g : GroupNo) → Attempts (join_in r k g) s (join_tests s k g) (joining s k g)
+fits_join r s f l k given g =
+    as_written (λ x. Attempts (join_in x k g) s (join_tests s k g) (joining s k g)) r s f
+    (λ w. at_place (written r s) s w g (join_at (written r s) k g) _ (joining s k g) (placed w))
+  where
+    placed : Fits (written r s) s → (i : ℕ) → slice_get s.config.groups i ≡ Some g → is_group s g ≡ true → Attempts (join_at (written r s) k g i) s ((not (is_outside ((s.process k).standing g)), AlreadyMember) ∷ ((s.group g).asked == MAX_NUMBER, HeldFull) ∷ []) (joining s k g)
+    placed w i at listed =
+        let x : Records = written r s in
+        let p : Proc = local s k in
+        let there = record_there x s w i g at in
+        let asked : (record_at x.groups i).here.asked ≡ (s.group g).asked = ap (λ (y : GroupRecord). y.here.asked) there in
+        let heard : ClockList = (s.process k).time in
+        let v : Standing = Joining ((s.group g).asked + 1) (view_of heard g) in
+        let told : Joining ((record_at x.groups i).here.asked + 1) (view_of (time_of x.delay p) g) ≡ v = (λ j. Joining (asked j + 1) (view_of (time_there x s w k j) g)) in
+        let next : Records = request_in (tell_in x p (fact.Standing g (Joining ((record_at x.groups i).here.asked + 1) (view_of (time_of x.delay p) g)))) i change.Join p in
+        let joins : Fits next (joining s k g) =
+        subst (λ y. Fits (request_in (tell_in x p (fact.Standing g y)) i change.Join p) (joining s k g)) (sym told)
+        (fits_request (tell_in x p (fact.Standing g v)) (set_standing s k g v) (fits_standing x s w k given g v (λ _. listed)) (lawful_standing s k g ((s.group g).asked + 1) (view_of heard g) l listed) i g at change.Join p) in
+        tested x s (not (is_outside (standing_of x.delay p g))) (not (is_outside ((s.process k).standing g))) AlreadyMember
+        (if◌then◌else◌ {A = Attempt} ((record_at x.groups i).here.asked == MAX_NUMBER) (x, Some HeldFull) (next, None)) _ (joining s k g)
+        (ap (λ y. not (is_outside y)) (standing_there x s w k g)) w
+        (λ _. tested x s ((record_at x.groups i).here.asked == MAX_NUMBER) ((s.group g).asked == MAX_NUMBER) HeldFull (next, None) [] (joining s k g)
+        (ap (λ n. n == MAX_NUMBER) asked) w
+        (λ _. passed next s (joining s k g) joins))
+
+-- Casts
+
+-- a message is sent to each of some sites
+fits_sends : (m : Message) (sites : List SiteNo) (r : Records) (s : State) → Fits r s → Fits (fold (send_data_in m) r sites) (fold (sending_to m) s sites)
+fits_sends m [] r s f = f
+fits_sends m (to ∷ sites) r s f = fits_sends m sites (send_data_in m r to) (sending_to m s to) (fits_send r s f to (frame.Data m))
+
+-- it is the same to receive a message before it is sent on, or after
+receive_after : (m : Message) (sites : List SiteNo) (s : State) → receiving (fold (sending_to m) s sites) m ≡ fold (sending_to m) (receiving s m) sites
+receive_after m [] s = refl
+receive_after m (to ∷ sites) s = receive_after m sites (sending_to m s to)
+
+-- a message is sent to the other sites of the view, and received here
+fits_send_message : (r : Records) (s : State) → Fits r s → (i : ℕ) (m : Message) → slice_get s.config.groups i ≡ Some m.id.group → IsSound m → Fits (send_message_in r i m) (fold (sending_to m) (receiving s m) (others_of s m.id.group))
+fits_send_message r s f i m at sound =
+    let there = record_there r s f i m.id.group at in
+    let sites : other_sites r.site (members_of (record_at r.groups i).here) ≡ others_of s m.id.group = (λ j. other_sites (f.site j) (members_of (there j).here)) in
+    subst (λ to. Fits (receive_in (fold (send_data_in m) r to) m) (fold (sending_to m) (receiving s m) (others_of s m.id.group))) (sym sites)
+    (subst (λ t. Fits (receive_in (fold (send_data_in m) r (others_of s m.id.group)) m) t) (receive_after m (others_of s m.id.group) s)
+    (fits_receive (fold (send_data_in m) r (others_of s m.id.group)) (fold (sending_to m) s (others_of s m.id.group)) (fits_sends m (others_of s m.id.group) r s f) m sound))
+
+-- a member's next message has its view, and a count from 1 on
+next_sound : (s : State) (g : GroupNo) (k : ℕ) (content : Body) → IsLawful s → is_member ((s.process k).standing g) ≡ true → IsSound (next_message s g k content)
+next_sound s g k content l member =
+    let t = (s.process k).time in
+    record {
+      from_one = subst (λ n. 0 < n) (sym (bump_raises t g (local s k))) (omega arith);
+      view = bump_leaves_views t g g (local s k) ∙ l.current k g member;
+      count = refl;
+    }
+
+-- what the cast of a member does
+fits_casting : (r : Records) (s : State) → Fits r s → IsLawful s → (k : ℕ) → was_given s.used k ≡ true → (i : ℕ) (g : GroupNo) → slice_get s.config.groups i ≡ Some g → (content : Body) → is_member ((s.process k).standing g) ≡ true → Fits (send_message_in (tell_in r (local s k) (fact.Time (bumped (time_of r.delay (local s k)) g (local s k)))) i (next_message_in r (local s k) g i content)) (sending s g k content)
+fits_casting r s f l k given i g at content member =
+    let p : Proc = local s k in
+    let there = record_there r s f i g at in
+    let m : Message = next_message s g k content in
+    let same : send_message_in (tell_in r p (fact.Time (bumped (time_of r.delay p) g p))) i (next_message_in r p g i content) ≡ send_message_in (tell_in r p (fact.Time m.times)) i m = (λ j.
+    send_message_in (tell_in r p (fact.Time (bumped (time_there r s f k j) g p))) i (record {
+      id = record { group = g; view = (there j).here.number; proc = p; count = count_in (bumped (time_there r s f k j) g p) g p };
+      times = bumped (time_there r s f k j) g p;
+      body = content;
+    })) in
+    subst (λ x. Fits x (sending s g k content)) (sym same)
+    (fits_send_message (tell_in r p (fact.Time m.times)) (set_process s k (record (s.process k) { time = m.times })) (fits_time r s f k given m.times) i m at (next_sound s g k content l member))
+
+-- a process casts a message to a group
+pub fits_cast : (r : Records) (s : State) → Fits r s → IsLawful s → (k : ℕ) → was_given s.used k ≡ true → (g : GroupNo) (payload : List ℕ) → Attempts (cast_in r k g payload) s (cast_tests s k g payload) (sending s g k (body.Causal payload))
+fits_cast r s f l k given g payload =
+    as_written (λ x. Attempts (cast_in x k g payload) s (cast_tests s k g payload) (sending s g k (body.Causal payload))) r s f
+    (λ w. at_place (written r s) s w g (cast_at (written r s) k g payload) _ (sending s g k (body.Causal payload)) (placed w))
+  where
+    placed : Fits (written r s) s → (i : ℕ) → slice_get s.config.groups i ≡ Some g → is_group s g ≡ true → Attempts (cast_at (written r s) k g payload i) s ((nat_lt MAX_PAYLOAD (length payload), TooLong) ∷ (not (is_member ((s.process k).standing g)), NotMember) ∷ (not (may_raise (s.process k).time g (local s k)), HeldFull) ∷ []) (sending s g k (body.Causal payload))
+    placed w i at listed =
+        let x : Records = written r s in
+        let p : Proc = local s k in
+        let t : State = sending s g k (body.Causal payload) in
+        let next : Records = send_message_in (tell_in x p (fact.Time (bumped (time_of x.delay p) g p))) i (next_message_in x p g i (body.Causal payload)) in
+        let last : Attempt = if◌then◌else◌ {A = Attempt} (not (may_raise (time_of x.delay p) g p)) (x, Some HeldFull) (next, None) in
+        tested x s (nat_lt MAX_PAYLOAD (length payload)) (nat_lt MAX_PAYLOAD (length payload)) TooLong
+        (if◌then◌else◌ {A = Attempt} (not (is_member (standing_of x.delay p g))) (x, Some NotMember) last) _ t refl w
+        (λ _. tested x s (not (is_member (standing_of x.delay p g))) (not (is_member ((s.process k).standing g))) NotMember last _ t
+        (ap (λ y. not (is_member y)) (standing_there x s w k g)) w
+        (λ member. tested x s (not (may_raise (time_of x.delay p) g p)) (not (may_raise (s.process k).time g p)) HeldFull (next, None) [] t
+        (ap (λ y. not (may_raise y g p)) (time_there x s w k)) w
+        (λ _. passed next s t (fits_casting x s w l k given i g at (body.Causal payload) (not-false (is_member ((s.process k).standing g)) member)))))
+
+-- Replies
+
+-- the session is told whether its request was refused
+fits_reply : (a : Attempt) (s : State) (k : ℕ) (q : Request) → Attempts a s (tests_of s k q) (effect_of s k q) → Fits (reply_in a k (tag_of q)) (requested s k q)
+fits_reply a s k q h =
+    subst (λ o. Fits (push_in a.0 k (push.Reply (tag_of q) o)) (requested s k q)) (sym h.refusal) (replied (first_refusal (tests_of s k q)) h.fits)
+  where
+    replied : (o : Option Refusal) → Fits a.0 (left_by s (effect_of s k q) o) → Fits (push_in a.0 k (push.Reply (tag_of q) o)) (elim o [ Some x ↦ replying s k q (Some x) | None ↦ replying (effect_of s k q) k q None ])
+    replied (Some x) f = fits_push a.0 s f k (push.Reply (tag_of q) (Some x))
+    replied None f = fits_push a.0 (effect_of s k q) f k (push.Reply (tag_of q) None)
+
+-- each request
+pub fits_requested : (r : Records) (s : State) → Fits r s → IsLawful s → (k : ℕ) → was_given s.used k ≡ true → (q : Request) → Fits (requested_in r k q) (requested s k q)
+fits_requested r s f l k given (Join tag g) = fits_reply (join_in r k g) s k (Join tag g) (fits_join r s f l k given g)
+fits_requested r s f l k given (Cast tag g payload) = fits_reply (cast_in r k g payload) s k (Cast tag g payload) (fits_cast r s f l k given g payload)
+
+-- and each command of a session that is open
+pub fits_commanded : (r : Records) (s : State) → Fits r s → IsLawful s → (k : ℕ) → was_given s.used k ≡ true → (c : Command) → Fits (command_in r k c) (commanded s k c)
+fits_commanded r s f l k given (command.Request q) =
+    subst (λ b. Fits (if b then requested_in r k q else r) (requested s k q)) (sym (ap (λ n. was_given n k) f.used ∙ given)) (fits_requested r s f l k given q)

@@ -1,0 +1,316 @@
+-- Processes enter a view one by one, and in the history at once.
+use Rattle.std.proofs.Common.{◌≡◌, ℕ, zero, suc, ◌+◌, ◌<◌, ◌≤◌, Bool, true, false, ◌&&◌, ◌||◌, List, [], ◌∷◌, Option, Some, None, ◌⊎◌, refl, sym, ap, subst, ◌∙◌, inl, inr, arith}
+use Rattle.std.specs.Prelude.{◌==◌, nat_lt, nat_le, if◌then◌else◌, filter, slice_get}
+use Rattle.std.specs.List.{fold, list_any, list_all, range_with_len}
+use Rattle.std.specs.Option.{IsSome, option_map_or}
+use Rattle.std.specs.Ordering.{is_lt}
+use Rattle.std.proofs.lemmas.Bool.{cases_Bool, cases_eq, false≢true, false_from_ne_true, and_parts, and_from, or_cases, or_from, or_left, or_right, eqb-true, eq-eqb, ne_eqb, ltb-true, leb-true}
+use Rattle.std.proofs.lemmas.Cmp.{tied_itself}
+use Rattle.cast_types.specs.declared.names.GroupNo.{GroupNo}
+use Rattle.cast_types.specs.declared.names.Proc.{Proc}
+use Rattle.cast_types.specs.declared.names.Standing.{Standing}
+use Rattle.cast_types.specs.declared.names.Standing.TheVariants.{Outside, Joining, Member}
+use Rattle.cast_types.specs.Names.{site_eq, group_eq, proc_eq, proc_cmp}
+use Rattle.cast_types.specs.Sets.{is_among, set_at}
+use Rattle.cast_types.proofs.Orders.{proc_total, same_site, same_proc, site_itself, proc_itself}
+use Rattle.cast_clock.specs.Times.{entering}
+use Rattle.cast_frame.specs.declared.site.SiteFrame.TheVariants as frame
+use Rattle.cast_frame.specs.declared.client.Push.{Push}
+use Rattle.cast_frame.specs.declared.client.Push.TheVariants as push
+use Rattle.cast_frame.specs.Membership.{Membership, is_members}
+use Rattle.cast_frame.specs.Rising.{is_rising}
+use Rattle.cast_delay.specs.declared.row.Row.{Row}
+use Rattle.cast_delay.specs.declared.row.Fact.TheVariants as fact
+use Rattle.cast_delay.specs.Ready.{Process, is_outside}
+use Rattle.cast_delay.specs.Rows.{standing_in, told_row}
+use Rattle.cast_delay.specs.Queue.{row_of}
+use Rattle.cast_domain.specs.declared.record.GroupRecord.{GroupRecord}
+use Rattle.cast_domain.specs.declared.session.Session.{Session}
+use Rattle.cast_domain.specs.Session.{is_open, pushed_to, told}
+use Rattle.cast_domain.specs.Group.{with_view, is_taken_in}
+use Rattle.cast_domain.specs.State.{State, local, serials, is_group, set_session, set_process, set_group, set_standing}
+use Rattle.cast_domain.specs.Effects.{pushing, enters, in_view, push_view, completing}
+use Rattle.cast_domain.specs.Records.{Records, was_given}
+use Rattle.cast_domain.specs.Calls.{record_at, standing_of, send_in, push_in, tell_in, enter_in, take_in, view_in, complete_in}
+use Rattle.cast_domain.specs.Fits.{Fits, IsLawful}
+use Rattle.cast_domain.proofs.Standing.{fits_told, fits_if, record_there, standing_there, time_there, fits_send, fits_push, fits_view, still_in}
+
+-- Small truths of tests
+
+or_none : (a : Bool) → (a || false) ≡ a
+or_none true = refl
+or_none false = refl
+
+and_none : (a : Bool) → (a && false) ≡ false
+and_none true = refl
+and_none false = refl
+
+and_true : (a : Bool) → (a && true) ≡ a
+and_true true = refl
+and_true false = refl
+
+-- picked out before, or now by one test or by the other
+either_of : (a b c d : Bool) → ((a || (b && c)) || (b && d)) ≡ (a || (b && (c || d)))
+either_of true b c d = refl
+either_of false true c d = refl
+either_of false false c d = refl
+
+-- what is changed where one test picks it out, or else where another does
+later_changed : {X : Type 0} (f : X → X) (x : X) (a b : Bool) → (b ≡ true → a ≡ false) → (if b then f (if a then f x else x) else (if a then f x else x)) ≡ (if a || b then f x else x)
+later_changed f x true true apart = absurd (false≢true (sym (apart refl)))
+later_changed f x true false apart = refl
+later_changed f x false true apart = refl
+later_changed f x false false apart = refl
+
+-- Whose serials are told
+
+-- all sessions that a test picks out are told of an entry
+abbrev told_where : Push → State → (ℕ → Bool) → State
+told_where p s e = record s { session = λ k. if e k then told p (s.session k) else s.session k }
+
+-- one is told
+push_one : (p : Push) (s : State) (k : ℕ) → pushing s k p ≡ told_where p s (λ j. k == j)
+push_one p s k = elim (is_open (s.session k)) as (λ b. is_open (s.session k) ≡ b → (if b then set_session s k (pushed_to (s.session k) p) else s) ≡ told_where p s (λ j. k == j)) [
+  | true ↦ λ is. λ i. record s { session = λ j. opened is j i }
+  | false ↦ λ is. λ i. record s { session = λ j. shut is j i }
+] refl
+  where
+    opened : is_open (s.session k) ≡ true → (j : ℕ) → (if k == j then pushed_to (s.session k) p else s.session j) ≡ (if k == j then told p (s.session j) else s.session j)
+    opened is j = elim (k == j) as (λ b. (k == j) ≡ b → (if b then pushed_to (s.session k) p else s.session j) ≡ (if b then told p (s.session j) else s.session j)) [
+      | true ↦ λ same. sym (ap (λ b. if b then pushed_to (s.session k) p else s.session k) is) ∙ ap (λ x. told p (s.session x)) (eqb-true k j same)
+      | false ↦ λ _. refl
+    ] refl
+
+    shut : is_open (s.session k) ≡ false → (j : ℕ) → s.session j ≡ (if k == j then told p (s.session j) else s.session j)
+    shut is j = elim (k == j) as (λ b. (k == j) ≡ b → s.session j ≡ (if b then told p (s.session j) else s.session j)) [
+      | true ↦ λ same. subst (λ x. s.session x ≡ told p (s.session x)) (eqb-true k j same) (sym (ap (λ b. if b then pushed_to (s.session k) p else s.session k) is))
+      | false ↦ λ _. refl
+    ] refl
+
+-- whether a number is one of n numbers, from a on
+abbrev within : ℕ → ℕ → ℕ → Bool
+within a n j = list_any (λ x. x == j) (range_with_len a n)
+
+-- a number below a range is not in it
+below_range : (n a j : ℕ) → j < a → within a n j ≡ false
+below_range zero a j less = refl
+below_range (suc n) a j less = or_from (a == j) (within (a + 1) n j) (ne_eqb a j (λ same. omega (arith, same, less))) (below_range n (a + 1) j (omega arith))
+
+-- and one between its ends is
+in_range : (n a j : ℕ) → a ≤ j → j < a + n → within a n j ≡ true
+in_range zero a j from less = absurd (omega arith)
+in_range (suc n) a j from less = elim (cases_eq a j) [
+  | inl same ↦ or_left (a == j) (within (a + 1) n j) (eq-eqb a j same)
+  | inr other ↦ or_right (a == j) (within (a + 1) n j) (in_range n (a + 1) j (omega (arith, other, from)) (omega arith))
+]
+
+-- those of a range that a test picks out are told, one after another
+push_all : (p : Push) (e : ℕ → Bool) (n a : ℕ) (s : State) → fold (λ t k. pushing t k p) s (filter e (range_with_len a n)) ≡ told_where p s (λ j. e j && within a n j)
+push_all p e zero a s = λ i. record s { session = λ j. ap (λ b. if b then told p (s.session j) else s.session j) (sym (and_none (e j))) i }
+push_all p e (suc n) a s =
+    elim (e a) as (λ b. e a ≡ b → fold (λ t k. pushing t k p) s (if b then a ∷ filter e (range_with_len (a + 1) n) else filter e (range_with_len (a + 1) n)) ≡ told_where p s (λ j. e j && within a (suc n) j)) [
+      | true ↦ λ is.
+          push_all p e n (a + 1) (pushing s a p)
+          ∙ ap (λ t. told_where p t (λ j. e j && within (a + 1) n j)) (push_one p s a)
+          ∙ (λ i. record s { session = λ j. first is j i })
+      | false ↦ λ is. push_all p e n (a + 1) s ∙ (λ i. record s { session = λ j. skipped is j i })
+    ] refl
+  where
+    once : (x w : Bool) (q r u : Session) → x ≡ true → w ≡ false → (if x && w then u else r) ≡ (if x && (true || w) then r else q)
+    once true true q r u is none = absurd (false≢true (sym none))
+    once true false q r u is none = refl
+    once false w q r u is none = absurd (false≢true is)
+
+    never : (x w : Bool) (q r : Session) → x ≡ false → (if x && w then r else q) ≡ (if x && (true || w) then r else q)
+    never true w q r is = absurd (false≢true (sym is))
+    never false w q r is = refl
+
+    first : e a ≡ true → (j : ℕ) → (told_where p (told_where p s (λ x. a == x)) (λ x. e x && within (a + 1) n x)).session j ≡ (told_where p s (λ x. e x && within a (suc n) x)).session j
+    first is j = elim (a == j) as (λ b. (a == j) ≡ b → (if e j && within (a + 1) n j then told p (if b then told p (s.session j) else s.session j) else (if b then told p (s.session j) else s.session j)) ≡ (if e j && (b || within (a + 1) n j) then told p (s.session j) else s.session j)) [
+      | true ↦ λ same.
+          let one : a ≡ j = eqb-true a j same in
+          once (e j) (within (a + 1) n j) (s.session j) (told p (s.session j)) (told p (told p (s.session j))) (sym (ap e one) ∙ is) (below_range n (a + 1) j (omega (arith, one)))
+      | false ↦ λ _. refl
+    ] refl
+
+    skipped : e a ≡ false → (j : ℕ) → (told_where p s (λ x. e x && within (a + 1) n x)).session j ≡ (told_where p s (λ x. e x && within a (suc n) x)).session j
+    skipped is j = elim (a == j) as (λ b. (a == j) ≡ b → (if e j && within (a + 1) n j then told p (s.session j) else s.session j) ≡ (if e j && (b || within (a + 1) n j) then told p (s.session j) else s.session j)) [
+      | true ↦ λ same. never (e j) (within (a + 1) n j) (s.session j) (told p (s.session j)) (sym (ap e (eqb-true a j same)) ∙ is)
+      | false ↦ λ _. refl
+    ] refl
+
+-- Facts of a process that has a row
+
+-- who is taken in is in the group or joins it
+taken_inside : (request : ℕ) (v : Standing) → is_taken_in request v ≡ true → is_outside v ≡ false
+taken_inside request Outside is = absurd (false≢true is)
+taken_inside request (Joining number heard) is = refl
+taken_inside request Member is = refl
+
+-- of a process without a row the queue says that it is in no group
+has_row : (o : Option Row) (g : GroupNo) → is_outside (option_map_or (λ row. standing_in row g) o Outside) ≡ false → IsSome o
+has_row None g inside = absurd (false≢true (sym inside))
+has_row (Some row) g inside = refl
+
+-- nothing is below itself
+below_none : (p : Proc) (ps : List Proc) → list_all (λ q. is_lt (proc_cmp p q)) ps ≡ true → is_among proc_eq p ps ≡ true → ⊥
+below_none p [] below among = false≢true among
+below_none p (q ∷ ps) below among =
+    let parts = and_parts (is_lt (proc_cmp p q)) (list_all (λ x. is_lt (proc_cmp p x)) ps) below in
+    elim (or_cases (proc_eq p q) (is_among proc_eq p ps) among) [
+      | inl same ↦ false≢true (sym (ap is_lt (tied_itself proc_total p)) ∙ subst (λ x. is_lt (proc_cmp p x) ≡ true) (sym (same_proc p q same)) parts.0)
+      | inr later ↦ below_none p ps parts.1 later
+    ]
+
+module _ (g : GroupNo) (n : ℕ) (members : Membership) (request : ℕ) (t : State) where
+  -- the processes that a test picks out entered the view, and their sessions were told
+  abbrev entered : (ℕ → Bool) → State
+  entered e =
+      record t {
+        process = λ k. if e k then in_view g n (t.process k) else t.process k;
+        session = λ k. if e k then told (push.View g n members) (t.session k) else t.session k;
+      }
+
+  abbrev taken : ℕ → Bool
+  taken k = is_taken_in request ((t.process k).standing g)
+
+  abbrev take : Records → Proc → Records
+  take r p = take_in g n members request r p
+
+  -- in the history: all at once, and then one push after another
+  at_once : (e : ℕ → Bool) → ((k : ℕ) → is_open (t.session k) ≡ was_given t.used k) → fold (push_view g n members) (record t { process = λ k. if e k then in_view g n (t.process k) else t.process k }) (filter e (serials t)) ≡ entered e
+  at_once e all_open =
+      let s : State = record t { process = λ k. if e k then in_view g n (t.process k) else t.process k } in
+      push_all (push.View g n members) e t.used 1 s ∙ (λ i. record s { session = λ j. told_all j (cases_Bool (within 1 t.used j)) i })
+    where
+      unknown : (j : ℕ) → within 1 t.used j ≡ false → is_open (t.session j) ≡ false
+      unknown j past = all_open j ∙ false_from_ne_true (was_given t.used j) (λ given.
+          let parts = and_parts (nat_lt 0 j) (nat_le j t.used) given in
+          let above = ltb-true 0 j parts.0 in
+          let below = leb-true j t.used parts.1 in
+          false≢true (sym past ∙ in_range t.used 1 j (omega (arith, above)) (omega (arith, below))))
+
+      unheard : (j : ℕ) (b : Bool) → is_open (t.session j) ≡ false → t.session j ≡ (if b then told (push.View g n members) (t.session j) else t.session j)
+      unheard j true shut = sym (ap (λ b. if b then pushed_to (t.session j) (push.View g n members) else t.session j) shut)
+      unheard j false shut = refl
+
+      told_all : (j : ℕ) → (within 1 t.used j ≡ true) ⊎ (within 1 t.used j ≡ false) → (if e j && within 1 t.used j then told (push.View g n members) (t.session j) else t.session j) ≡ (if e j then told (push.View g n members) (t.session j) else t.session j)
+      told_all j (inl is) = ap (λ b. if b then told (push.View g n members) (t.session j) else t.session j) (ap (λ w. e j && w) is ∙ and_true (e j))
+      told_all j (inr past) = ap (λ b. if b then told (push.View g n members) (t.session j) else t.session j) (ap (λ w. e j && w) past ∙ and_none (e j)) ∙ unheard j (e j) (unknown j past)
+
+  -- one process enters, by two facts
+  viewed : (s : State) (k : ℕ) → set_standing (set_process s k (record (s.process k) { time = entering (s.process k).time g n })) k g Member ≡ record s { process = λ j. if k == j then in_view g n (s.process j) else s.process j }
+  viewed s k = λ i. record s { process = λ j. at j i }
+    where
+      at : (j : ℕ) → (set_standing (set_process s k (record (s.process k) { time = entering (s.process k).time g n })) k g Member).process j ≡ (if k == j then in_view g n (s.process j) else s.process j)
+      at j =
+          let timed : Process = record (s.process k) { time = entering (s.process k).time g n } in
+          let now : Bool → Process = λ b. if b then timed else s.process k in
+          elim (k == j) as (λ b. (k == j) ≡ b → (if b then record (now (k == k)) { standing = set_at group_eq (now (k == k)).standing g Member } else (if b then timed else s.process j)) ≡ (if b then in_view g n (s.process j) else s.process j)) [
+            | true ↦ λ same. ap (λ b. record (now b) { standing = set_at group_eq (now b).standing g Member }) (eq-eqb k k refl) ∙ ap (λ x. in_view g n (s.process x)) (eqb-true k j same)
+            | false ↦ λ _. refl
+          ] refl
+
+  -- one more process enters, and its session is told
+  enter_one : (e : ℕ → Bool) (k : ℕ) → e k ≡ false → pushing (set_standing (set_process (entered e) k (record ((entered e).process k) { time = entering ((entered e).process k).time g n })) k g Member) k (push.View g n members) ≡ entered (λ j. e j || (k == j))
+  enter_one e k fresh =
+      let view : Push = push.View g n members in
+      let u : State = entered e in
+      let apart : (j : ℕ) → (k == j) ≡ true → e j ≡ false = (λ j same. sym (ap e (eqb-true k j same)) ∙ fresh) in
+      push_one view (set_standing (set_process u k (record (u.process k) { time = entering (u.process k).time g n })) k g Member) k
+      ∙ ap (λ s. told_where view s (λ j. k == j)) (viewed u k)
+      ∙ (λ i. record t {
+        process = λ j. later_changed (in_view g n) (t.process j) (e j) (k == j) (apart j) i;
+        session = λ j. later_changed (told view) (t.session j) (e j) (k == j) (apart j) i;
+      })
+
+  -- a process that did not enter yet has the standing that it had
+  standing_now : (r : Records) (e : ℕ → Bool) → Fits r (entered e) → (k : ℕ) → e k ≡ false → standing_of r.delay (local t k) g ≡ (t.process k).standing g
+  standing_now r e f k fresh = standing_there r (entered e) f k g ∙ ap (λ b. (if b then in_view g n (t.process k) else t.process k).standing g) fresh
+
+  -- among the records: a process enters
+  fits_enter : (r : Records) (e : ℕ → Bool) → Fits r (entered e) → is_group t g ≡ true → (k : ℕ) → e k ≡ false → taken k ≡ true → Fits (enter_in g n members r (local t k)) (entered (λ j. e j || (k == j)))
+  fits_enter r e f listed k fresh in_it =
+      let u : State = entered e in
+      let p : Proc = local t k in
+      let view : Push = push.View g n members in
+      let time = entering (u.process k).time g n in
+      let row : IsSome (row_of r.delay.rows p) = has_row (row_of r.delay.rows p) g (ap is_outside (standing_now r e f k fresh) ∙ taken_inside request ((t.process k).standing g) in_it) in
+      let r1 : Records = tell_in r p (fact.Time time) in
+      let u1 : State = set_process u k (record (u.process k) { time = time }) in
+      let f1 : Fits r1 u1 = fits_told r u f k row (fact.Time time) tt in
+      let r2 : Records = tell_in r1 p (fact.Standing g Member) in
+      let u2 : State = set_standing u1 k g Member in
+      let f2 : Fits r2 u2 = fits_told r1 u1 f1 k (still_in p (told_row (fact.Time time)) (λ _. refl) p r.delay.rows row) (fact.Standing g Member) (λ _. listed) in
+      subst (λ x. Fits (push_in (tell_in (tell_in r p (fact.Time (entering x g n))) p (fact.Standing g Member)) k view) (entered (λ j. e j || (k == j)))) (sym (time_there r u f k))
+      (subst (λ x. Fits (push_in r2 k view) x) (enter_one e k fresh) (fits_push r2 u2 f2 k view))
+
+  -- a process of this site is taken in or not
+  fits_take_here : (r : Records) (e : ℕ → Bool) → Fits r (entered e) → is_group t g ≡ true → (k : ℕ) → e k ≡ false → Fits (take r (local t k)) (entered (λ j. e j || (taken k && (k == j))))
+  fits_take_here r e f listed k fresh =
+      let p : Proc = local t k in
+      let here : site_eq t.here r.site ≡ true = ap (λ x. site_eq t.here x) f.site ∙ site_itself t.here in
+      let same : (site_eq t.here r.site && is_taken_in request (standing_of r.delay p g)) ≡ taken k =
+      ap (λ b. b && is_taken_in request (standing_of r.delay p g)) here ∙ ap (is_taken_in request) (standing_now r e f k fresh) in
+      let more : State = entered (λ j. e j || (k == j)) in
+      let known : (if taken k then more else entered e) ≡ entered (λ j. e j || (taken k && (k == j))) =
+      elim (taken k) as (λ b. (if b then more else entered e) ≡ entered (λ j. e j || (b && (k == j)))) [ true ↦ refl | false ↦ λ i. entered (λ j. sym (or_none (e j)) i) ] in
+      subst (λ x. Fits (take r p) x) known
+      (fits_if (site_eq t.here r.site && is_taken_in request (standing_of r.delay p g)) (taken k) (enter_in g n members r p) r more (entered e) same
+      (λ is. fits_enter r e f listed k fresh (sym same ∙ is))
+      (λ _. f))
+
+  -- one of any site
+  fits_take : (r : Records) (e : ℕ → Bool) → Fits r (entered e) → is_group t g ≡ true → (p : Proc) → ((k : ℕ) → proc_eq (local t k) p ≡ true → e k ≡ false) → Fits (take r p) (entered (λ j. e j || (taken j && proc_eq (local t j) p)))
+  fits_take r e f listed p fresh = elim (cases_Bool (site_eq p.site t.here)) [
+    | inl here ↦
+        let q : local t p.serial ≡ p = (λ i. record { site = sym (same_site p.site t.here here) i; serial = p.serial }) in
+        let own : proc_eq (local t p.serial) p ≡ true = subst (λ x. proc_eq (local t p.serial) x ≡ true) q (proc_itself (local t p.serial)) in
+        subst (λ x. Fits (take r x) (entered (λ j. e j || (taken j && proc_eq (local t j) x)))) q
+        (subst (λ x. Fits (take r (local t p.serial)) (entered x)) (λ i j. e j || one p.serial j (cases_eq p.serial j) i)
+        (fits_take_here r e f listed p.serial (fresh p.serial own)))
+    | inr other ↦
+        subst (λ b. Fits (if b && is_taken_in request (standing_of r.delay p g) then enter_in g n members r p else r) (entered (λ j. e j || (taken j && proc_eq (local t j) p)))) (sym (ap (λ x. site_eq p.site x) f.site ∙ other))
+        (subst (λ x. Fits r (entered x)) (λ i j. none other j i) f)
+  ]
+    where
+      one : (k j : ℕ) → (k ≡ j) ⊎ (k ≡ j → ⊥) → (taken k && (k == j)) ≡ (taken j && proc_eq (local t j) (local t k))
+      one k j (inl same) =
+          ap (λ b. taken k && b) (eq-eqb k j same)
+          ∙ ap (λ x. taken x && true) same
+          ∙ ap (λ b. taken j && b) (sym (and_from (site_eq t.here t.here) (j == k) (site_itself t.here) (eq-eqb j k (sym same))))
+      one k j (inr differ) =
+          ap (λ b. taken k && b) (ne_eqb k j differ)
+          ∙ and_none (taken k)
+          ∙ sym (ap (λ b. taken j && (site_eq t.here t.here && b)) (ne_eqb j k (λ same. differ (sym same))) ∙ ap (λ b. taken j && b) (and_none (site_eq t.here t.here)) ∙ and_none (taken j))
+
+      none : site_eq p.site t.here ≡ false → (j : ℕ) → e j ≡ (e j || (taken j && proc_eq (local t j) p))
+      none other j =
+          let apart : site_eq t.here p.site ≡ false = false_from_ne_true (site_eq t.here p.site) (λ same. false≢true (sym other ∙ subst (λ x. site_eq x t.here ≡ true) (same_site t.here p.site same) (site_itself t.here))) in
+          sym (ap (λ b. e j || (taken j && (b && (j == p.serial)))) apart ∙ ap (λ b. e j || b) (and_none (taken j)) ∙ or_none (e j))
+
+  -- all that a view names
+  fits_take_all : (ps : List Proc) (r : Records) (e : ℕ → Bool) → Fits r (entered e) → is_group t g ≡ true → is_rising proc_cmp ps ≡ true → ((k : ℕ) → is_among proc_eq (local t k) ps ≡ true → e k ≡ false) → Fits (fold take r ps) (entered (λ k. e k || (taken k && is_among proc_eq (local t k) ps)))
+  fits_take_all [] r e f listed rising fresh = subst (λ x. Fits r (entered x)) (λ i j. sym (ap (λ b. e j || b) (and_none (taken j)) ∙ or_none (e j)) i) f
+  fits_take_all (p ∷ ps) r e f listed rising fresh =
+      let parts = and_parts (list_all (λ q. is_lt (proc_cmp p q)) ps) (is_rising proc_cmp ps) rising in
+      let next : ℕ → Bool = λ k. e k || (taken k && proc_eq (local t k) p) in
+      let step : Fits (take r p) (entered next) = fits_take r e f listed p (λ k own. fresh k (or_left (proc_eq (local t k) p) (is_among proc_eq (local t k) ps) own)) in
+      let apart : (k : ℕ) → is_among proc_eq (local t k) ps ≡ true → proc_eq (local t k) p ≡ false =
+      (λ k later. false_from_ne_true (proc_eq (local t k) p) (λ own. below_none p ps parts.0 (subst (λ x. is_among proc_eq x ps ≡ true) (same_proc (local t k) p own) later))) in
+      subst (λ x. Fits (fold take (take r p) ps) (entered x)) (λ i k. either_of (e k) (taken k) (proc_eq (local t k) p) (is_among proc_eq (local t k) ps) i)
+      (fits_take_all ps (take r p) next step listed parts.1
+      (λ k later. or_from (e k) (taken k && proc_eq (local t k) p) (fresh k (or_right (proc_eq (local t k) p) (is_among proc_eq (local t k) ps) later)) (ap (λ b. taken k && b) (apart k later) ∙ and_none (taken k))))
+
+-- a view is complete
+pub fits_complete : (r : Records) (s : State) → Fits r s → IsLawful s → (i : ℕ) (g : GroupNo) → slice_get s.config.groups i ≡ Some g → is_group s g ≡ true → (n : ℕ) (members : Membership) (request : ℕ) → is_members members ≡ true → Fits (send_in (complete_in r i n members request) s.config.home (frame.Installed g n)) (completing s g n members request)
+fits_complete r s f l i g at listed n members request typed =
+    let now : State = set_group s g (with_view s.here n members (s.group g)) in
+    let first : Records = view_in r i n members in
+    let f0 : Fits first now = fits_view r s f l i g at n members in
+    let rising = (and_parts (is_rising proc_cmp members.list) _ typed).0 in
+    let all = fits_take_all g n members request now members.list first (λ k. false) f0 listed rising (λ k _. refl) in
+    let one_by_one = subst (λ x. Fits (fold (take_in g n members request) first members.list) x) (sym (at_once g n members request now (enters s g members request) f0.all_open)) all in
+    let name : (record_at r.groups i).name ≡ g = ap (λ (x : GroupRecord). x.name) (record_there r s f i g at) in
+    subst (λ h. Fits (send_in (fold (take_in h n members request) first members.list) s.config.home (frame.Installed g n)) (completing s g n members request)) (sym name)
+    (fits_send (fold (take_in g n members request) first members.list) _ one_by_one s.config.home (frame.Installed g n))

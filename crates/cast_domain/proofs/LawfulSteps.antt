@@ -1,0 +1,223 @@
+-- What holds of each history that events lead to is kept by each event, and until the state rests.
+use Rattle.std.proofs.Common.{◌≡◌, ℕ, ◌+◌, zero, suc, Bool, true, false, not, List, [], ◌∷◌, length, Option, Some, None, refl, subst}
+use Rattle.std.specs.Prelude.{◌&&◌, ◌==◌, nat_lt, nat_le, if◌then◌else◌}
+use Rattle.std.specs.List.{fold, find}
+use Rattle.std.specs.FinMap.Entries.{is_sorted}
+use Rattle.std.proofs.lemmas.Bool.{and_parts, not-false}
+use Rattle.cast_types.specs.declared.names.SiteNo.{SiteNo}
+use Rattle.cast_types.specs.declared.names.GroupNo.{GroupNo}
+use Rattle.cast_types.specs.declared.names.Proc.{Proc}
+use Rattle.cast_types.specs.declared.names.Standing.TheVariants.{Joining}
+use Rattle.cast_types.specs.declared.refusal.Refusal.{Refusal}
+use Rattle.cast_types.specs.declared.refusal.Refusal.TheVariants.{NotOpen, TooManySessions}
+use Rattle.cast_types.specs.declared.limits.TheConstants.{MAX_NUMBER}
+use Rattle.cast_types.specs.Names.{group_cmp}
+use Rattle.cast_types.specs.Repeat.{iterate}
+use Rattle.cast_types.specs.Stamps.{ClockList, is_stamp}
+use Rattle.cast_clock.specs.Times.{view_of, count_in, bumped, has_room}
+use Rattle.cast_frame.specs.declared.message.Body.TheVariants as body
+use Rattle.cast_frame.specs.declared.message.Message.{Message}
+use Rattle.cast_frame.specs.declared.site.Change.{Change}
+use Rattle.cast_frame.specs.declared.site.Change.TheVariants as change
+use Rattle.cast_frame.specs.declared.site.SiteFrame.{SiteFrame}
+use Rattle.cast_frame.specs.declared.site.SiteFrame.TheVariants as frame
+use Rattle.cast_frame.specs.declared.client.Request.{Request}
+use Rattle.cast_frame.specs.declared.client.Request.TheVariants.{Join, Cast}
+use Rattle.cast_frame.specs.declared.client.Push.TheVariants as push
+use Rattle.cast_frame.specs.Membership.{Membership}
+use Rattle.cast_delay.proofs.Finds.{found_in}
+use Rattle.cast_domain.specs.Session.{is_open}
+use Rattle.cast_domain.specs.declared.group.Group.{Group}
+use Rattle.cast_domain.specs.declared.group.Verdict.TheVariants.{Again, Completes, Ignored}
+use Rattle.cast_domain.specs.Group.{first_asking, has_view, with_answer, verdict_of, sites_of}
+use Rattle.cast_domain.specs.declared.home.Home.{Home}
+use Rattle.cast_domain.specs.Home.{applied_of, after_request, after_installed, may_decide, decided}
+use Rattle.cast_domain.specs.declared.event.Command.{Command}
+use Rattle.cast_domain.specs.declared.event.Command.TheVariants as command
+use Rattle.cast_domain.specs.declared.event.Event.{Event}
+use Rattle.cast_domain.specs.declared.event.Event.TheVariants as event
+use Rattle.cast_domain.specs.declared.event.Taken.TheVariants as taken
+use Rattle.cast_domain.specs.State.{State, local, serials, is_home, is_site, is_group, is_received, is_ready_for, set_group, set_home, set_standing, emitted}
+use Rattle.cast_domain.specs.Effects.{asking, receiving, delivering, completing}
+use Rattle.cast_domain.specs.Step.{first_refusal, join_tests, cast_tests, tests_of, tag_of, may_raise, joining, effect_of, replying, requested, commanded, is_used, on_data, is_from_home, on_ask, on_asked, on_install, on_installed, group_of, on_frame, framed, opened, Effect, acted}
+use Rattle.cast_domain.specs.Rest.{deliver_first, deliver_all, settle, install_frame, send_install, decide, lead_all, pass, RestsAt}
+use Rattle.cast_domain.specs.Fits.{IsLawful, IsTypedFrame, IsTyped}
+use Rattle.cast_domain.proofs.Spots.{found_passes}
+use Rattle.cast_domain.proofs.Lawful.{SameLaw, same_self, same_then, same_if, same_fold, same_home, same_emitted, same_group_set, same_asking, lawful_same, lawful_pushing, lawful_emitted, lawful_requesting, lawful_if, lawful_fold, lawful_standing, lawful_receiving, lawful_sending, lawful_delivering, lawful_completing}
+
+-- a stamp is in order
+stamp_sorted : (t : ClockList) → is_stamp t ≡ true → is_sorted group_cmp t ≡ true
+stamp_sorted t stamp = (and_parts (is_sorted group_cmp t) _ stamp).0
+
+-- Commands
+
+-- each test lets pass
+abbrev Passed : List (Bool × Refusal) → Type 0
+Passed [] = Unit {0}
+Passed (t ∷ tests) = (t.0 ≡ false) × Passed tests
+
+-- where nothing is refused, each test lets pass
+each_passes : (tests : List (Bool × Refusal)) → first_refusal tests ≡ None → Passed tests
+each_passes [] none = tt
+each_passes (t ∷ tests) none =
+    elim t.0 as (λ b. (if b then Some t.1 else first_refusal tests) ≡ None → (b ≡ false) × Passed tests) [
+      | true ↦ λ some. cc
+      | false ↦ λ rest. (refl, each_passes tests rest)
+    ] none
+
+pub lawful_joining : (s : State) (k : ℕ) (g : GroupNo) → IsLawful s → is_group s g ≡ true → IsLawful (joining s k g)
+lawful_joining s k g l listed =
+    let now : State = set_standing s k g (Joining ((s.group g).asked + 1) (view_of (s.process k).time g)) in
+    lawful_requesting now g change.Join (local s k) (lawful_standing s k g ((s.group g).asked + 1) (view_of (s.process k).time g) l listed)
+
+pub lawful_effect : (s : State) (k : ℕ) (r : Request) → IsLawful s → first_refusal (tests_of s k r) ≡ None → IsLawful (effect_of s k r)
+lawful_effect s k (Join tag g) l none = lawful_joining s k g l (not-false (is_group s g) (each_passes (join_tests s k g) none).0)
+lawful_effect s k (Cast tag g payload) l none =
+    let times = bumped (s.process k).time g (local s k) in
+    let raises = not-false (may_raise (s.process k).time g (local s k)) (each_passes (cast_tests s k g payload) none).1.1.1.0 in
+    let room = and_parts (nat_lt (count_in (s.process k).time g (local s k)) MAX_NUMBER) (has_room times && is_stamp times) raises in
+    lawful_sending s g k (body.Causal payload) l (stamp_sorted times (and_parts (has_room times) (is_stamp times) room.1).1)
+
+pub lawful_replying : (s : State) (k : ℕ) (r : Request) (refusal : Option Refusal) → IsLawful s → IsLawful (replying s k r refusal)
+lawful_replying s k r refusal l = lawful_pushing s k (push.Reply (tag_of r) refusal) l
+
+pub lawful_requested : (s : State) (k : ℕ) (r : Request) → IsLawful s → IsLawful (requested s k r)
+lawful_requested s k r l =
+    elim (first_refusal (tests_of s k r)) as (λ o. first_refusal (tests_of s k r) ≡ o → IsLawful (elim o [ Some refusal ↦ replying s k r (Some refusal) | None ↦ replying (effect_of s k r) k r None ])) [
+      | Some refusal ↦ λ _. lawful_replying s k r (Some refusal) l
+      | None ↦ λ none. lawful_replying (effect_of s k r) k r None (lawful_effect s k r l none)
+    ] refl
+
+pub lawful_commanded : (s : State) (k : ℕ) (c : Command) → IsLawful s → IsLawful (commanded s k c)
+lawful_commanded s k (command.Request r) l = lawful_requested s k r l
+
+-- Frames
+
+pub lawful_on_data : (s : State) (from : SiteNo) (m : Message) → IsLawful s → is_stamp m.times ≡ true → IsLawful (on_data s from m)
+lawful_on_data s from m l stamp =
+    let now : State = if is_received s m.id then s else receiving s m in
+    lawful_if (emitted now from (frame.Ack m.id)) s (is_used s from m)
+    (λ _. lawful_emitted now from (frame.Ack m.id) (lawful_if s (receiving s m) (is_received s m.id) (λ _. l) (λ _. lawful_receiving s m l (stamp_sorted m.times stamp))))
+    (λ _. l)
+
+pub same_on_ask : (s : State) (from : SiteNo) (g : GroupNo) (number : ℕ) (what : Change) (p : Proc) → SameLaw s (on_ask s from g number what p)
+same_on_ask s from g number change.Join p =
+    let h : Home = s.home g in
+    let applied : State = set_home s g (after_request h from number p) in
+    let answer : SiteFrame = frame.Asked g number false in
+    let again : State = if nat_le number (applied_of h from) then emitted s from answer else s in
+    let next : State = if number == applied_of h from + 1 then emitted applied from answer else again in
+    same_if s s next (not (is_home s)) (same_self s)
+    (same_if s (emitted applied from answer) again (number == applied_of h from + 1)
+    (same_then s applied (emitted applied from answer) (same_home s g (after_request h from number p)) (same_emitted applied from answer))
+    (same_if s (emitted s from answer) s (nat_le number (applied_of h from)) (same_emitted s from answer) (same_self s)))
+same_on_ask s from g number change.Leave p = same_self s
+
+pub same_on_asked : (s : State) (from : SiteNo) (g : GroupNo) (number : ℕ) (full : Bool) → SameLaw s (on_asked s from g number full)
+same_on_asked s from g number true = same_self s
+same_on_asked s from g number false =
+    let now : State = set_group s g (with_answer (s.group g)) in
+    let answered : SameLaw s now = same_group_set s g (with_answer (s.group g)) refl refl in
+    elim (first_asking (s.group g).requests) as (λ o. SameLaw s (elim o [ Some a ↦ (if is_from_home s from && (a.number == number) then asking now g else s) | None ↦ s ])) [
+      | Some a ↦ same_if s (asking now g) s (is_from_home s from && (a.number == number)) (same_then s now (asking now g) answered (same_asking now g)) (same_self s)
+      | None ↦ same_self s
+    ]
+
+-- a view is completed where the group has none
+completes_unseen : (group : Group) (n : ℕ) → verdict_of group n ≡ Completes → has_view group ≡ false
+completes_unseen group n is = completes (nat_le n group.number) (has_view group) is
+  where
+    completes : (known seen : Bool) → (if known then Again else if seen then Ignored else Completes) ≡ Completes → seen ≡ false
+    completes true seen e = cc
+    completes false true e = cc
+    completes false false e = refl
+
+pub lawful_on_install : (s : State) (from : SiteNo) (g : GroupNo) (n : ℕ) (members : Membership) (request : ℕ) → IsLawful s → is_group s g ≡ true → IsLawful (on_install s from g n members request)
+lawful_on_install s from g n members request l listed =
+    let again : State = emitted s s.config.home (frame.Installed g n) in
+    lawful_if (elim (verdict_of (s.group g) n) [ Again ↦ again | Completes ↦ completing s g n members request | Ignored ↦ s ]) s (is_from_home s from)
+    (λ _. elim (verdict_of (s.group g) n) as (λ v. verdict_of (s.group g) n ≡ v → IsLawful (elim v [ Again ↦ again | Completes ↦ completing s g n members request | Ignored ↦ s ])) [
+      | Again ↦ λ _. lawful_emitted s s.config.home (frame.Installed g n) l
+      | Completes ↦ λ is. lawful_completing s g n members request l listed (completes_unseen (s.group g) n is)
+      | Ignored ↦ λ _. l
+    ] refl)
+    (λ _. l)
+
+pub same_on_installed : (s : State) (from : SiteNo) (g : GroupNo) (n : ℕ) → SameLaw s (on_installed s from g n)
+same_on_installed s from g n = same_if s (set_home s g (after_installed (s.home g) from n)) s (is_home s) (same_home s g (after_installed (s.home g) from n)) (same_self s)
+
+pub lawful_on_frame : (s : State) (from : SiteNo) (f : SiteFrame) → IsLawful s → is_group s (group_of f) ≡ true → IsTypedFrame f → IsLawful (on_frame s from f)
+lawful_on_frame s from (frame.Data m) l listed typed = lawful_on_data s from m l typed
+lawful_on_frame s from (frame.Ack u) l listed typed = l
+lawful_on_frame s from (frame.Ask g number what p) l listed typed = lawful_same s (on_ask s from g number what p) (same_on_ask s from g number what p) l
+lawful_on_frame s from (frame.Asked g number full) l listed typed = lawful_same s (on_asked s from g number full) (same_on_asked s from g number full) l
+lawful_on_frame s from (frame.Install g view members request cut tail) l listed typed = lawful_on_install s from g view members request l listed
+lawful_on_frame s from (frame.Installed g view) l listed typed = lawful_same s (on_installed s from g view) (same_on_installed s from g view) l
+
+pub lawful_framed : (s : State) (from : SiteNo) (f : SiteFrame) → IsLawful s → IsTypedFrame f → IsLawful (framed s from f)
+lawful_framed s from f l typed =
+    lawful_if (on_frame s from f) s (is_site s from && is_group s (group_of f))
+    (λ ours. lawful_on_frame s from f l (and_parts (is_site s from) (is_group s (group_of f)) ours).1 typed)
+    (λ _. l)
+
+-- Events
+
+pub same_opened : (s : State) → SameLaw s (opened s)
+same_opened s = record { config = refl; got = refl; standing = λ k g. refl; view_in = λ k g. refl; number = λ g. refl; view = λ g. refl }
+
+pub lawful_acted : (s : State) (e : Event) → IsLawful s → IsTyped e → IsLawful (acted s e).0
+lawful_acted s (event.Open d) l typed =
+    elim (s.used == MAX_NUMBER) as (λ b. IsLawful (if◌then◌else◌ {A = Effect} b (s, taken.Refused TooManySessions) (opened s, taken.Opened (s.used + 1))).0) [
+      | true ↦ l
+      | false ↦ lawful_same s (opened s) (same_opened s) l
+    ]
+lawful_acted s (event.Command d k c) l typed =
+    elim (is_open (s.session k)) as (λ b. IsLawful (if◌then◌else◌ {A = Effect} b (commanded s k c, taken.Nothing) (s, taken.Refused NotOpen)).0) [
+      | true ↦ lawful_commanded s k c l
+      | false ↦ l
+    ]
+lawful_acted s (event.Frame d from f) l typed = lawful_framed s from f l typed
+
+-- Deliveries
+
+pub lawful_first : (s : State) (k : ℕ) → IsLawful s → IsLawful (deliver_first k s)
+lawful_first s k l =
+    elim (find (is_ready_for s k) s.got) as (λ o. find (is_ready_for s k) s.got ≡ o → IsLawful (elim o [ Some m ↦ delivering s k m | None ↦ s ])) [
+      | Some m ↦ λ is. lawful_delivering s k m l (found_in (is_ready_for s k) s.got m is) (found_passes (is_ready_for s k) s.got m is)
+      | None ↦ λ _. l
+    ] refl
+
+pub lawful_iterate : (n : ℕ) (f : State → State) → ((s : State) → IsLawful s → IsLawful (f s)) → (s : State) → IsLawful s → IsLawful (iterate n f s)
+lawful_iterate zero f h s l = l
+lawful_iterate (suc n) f h s l = lawful_iterate n f h (f s) (h s l)
+
+pub lawful_deliver_all : (s : State) (k : ℕ) → IsLawful s → IsLawful (deliver_all s k)
+lawful_deliver_all s k l = lawful_iterate (length s.got) (deliver_first k) (λ t. lawful_first t k) s l
+
+pub lawful_settle : (s : State) → IsLawful s → IsLawful (settle s)
+lawful_settle s l = lawful_fold deliver_all lawful_deliver_all (serials s) s l
+
+-- The home
+
+pub same_decide : (s : State) (g : GroupNo) → SameLaw s (decide s g)
+same_decide s g =
+    let h : Home = decided (s.home g) in
+    let now : State = set_home s g h in
+    let sent : State = fold (send_install g h) now (sites_of (s.home g).joins) in
+    same_if s sent s (may_decide (s.home g))
+    (same_then s now sent (same_home s g h) (same_fold (send_install g h) (λ t to. same_emitted t to (install_frame g h to)) (sites_of (s.home g).joins) now))
+    (same_self s)
+
+pub lawful_decide : (s : State) (g : GroupNo) → IsLawful s → IsLawful (decide s g)
+lawful_decide s g l = lawful_same s (decide s g) (same_decide s g) l
+
+pub lawful_lead_all : (s : State) → IsLawful s → IsLawful (lead_all s)
+lawful_lead_all s l = lawful_if (fold decide s s.config.groups) s (is_home s) (λ _. lawful_fold decide lawful_decide s.config.groups s l) (λ _. l)
+
+-- The whole
+
+pub lawful_pass : (s : State) → IsLawful s → IsLawful (pass s)
+lawful_pass s l = lawful_lead_all (settle s) (lawful_settle s l)
+
+pub lawful_rests : (s t : State) → IsLawful s → RestsAt s t → IsLawful t
+lawful_rests s t l rests = subst IsLawful rests.1 (lawful_iterate rests.0 pass lawful_pass s l)

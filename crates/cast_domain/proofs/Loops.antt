@@ -1,0 +1,52 @@
+-- Loops over serials, places and turns.
+use Rattle.std.proofs.Common.{◌≡◌, ℕ, ◌<◌, ◌+◌, ◌-◌, zero, suc, List, [], ◌∷◌, length, get_or, drop, refl, sym, ap, ◌∙◌, arith}
+use Rattle.std.specs.List.{fold, range_with_len}
+use Rattle.std.proofs.lemmas.List.{drop_more}
+use Rattle.cast_types.specs.Places.{update}
+use Rattle.cast_types.specs.Repeat.{iterate}
+use Rattle.cast_domain.specs.declared.domain.Domain.{Domain}
+use Rattle.cast_domain.specs.declared.record.GroupRecord.{GroupRecord}
+use Rattle.cast_domain.specs.Calls.{record_at}
+use Rattle.cast_domain.specs.Records.{Keeps}
+
+pub keeps_then : (a b c : Domain) → Keeps a b → Keeps b c → Keeps a c
+keeps_then a b c first then = record {
+  used = then.used ∙ first.used;
+  site = then.site ∙ first.site;
+  config = then.config ∙ first.config;
+  halted = then.halted ∙ first.halted;
+}
+
+-- one more of a fold over a list
+pub fold_item : {A B : Type 0} (f : A → B → A) (x : A) (xs : List B) (i : ℕ) (d : B) → i < length xs → fold f (f x (get_or xs i d)) (drop (i + 1) xs) ≡ fold f x (drop i xs)
+fold_item f x xs i d lt = sym (ap (fold f x) (drop_more xs i d lt))
+
+-- one more of a fold over numbers
+pub fold_more : {A : Type 0} (f : A → ℕ → A) (x : A) (i n : ℕ) → i < n → fold f (f x i) (range_with_len (i + 1) (n - (i + 1))) ≡ fold f x (range_with_len i (n - i))
+fold_more f x i n lt =
+    let one : n - i ≡ suc (n - (i + 1)) = omega arith in
+    sym (ap (λ m. fold f x (range_with_len i m)) one)
+
+-- one more turn
+pub turn_more : {A : Type 0} (f : A → A) (x : A) (i n : ℕ) → i < n → iterate (n - (i + 1)) f (f x) ≡ iterate (n - i) f x
+turn_more f x i n lt =
+    let one : n - i ≡ suc (n - (i + 1)) = omega arith in
+    sym (ap (λ m. iterate m f x) one)
+
+-- at a place that is written, what is written stands
+pub record_at_update : (f : GroupRecord → GroupRecord) (xs : List GroupRecord) (i : ℕ) → i < length xs → record_at (update xs i f) i ≡ f (record_at xs i)
+record_at_update f [] i lt = absurd (omega arith)
+record_at_update f (x ∷ xs) zero lt = refl
+record_at_update f (x ∷ xs) (suc i) lt = record_at_update f xs i (omega arith)
+
+-- to write the same is to write the same
+pub update_same : (f g : GroupRecord → GroupRecord) (xs : List GroupRecord) (i : ℕ) → f (record_at xs i) ≡ g (record_at xs i) → update xs i f ≡ update xs i g
+update_same f g [] i same = refl
+update_same f g (x ∷ xs) zero same = ap (λ y. y ∷ xs) same
+update_same f g (x ∷ xs) (suc i) same = ap (λ ys. x ∷ ys) (update_same f g xs i same)
+
+-- to write what stands there changes nothing
+pub update_still : (f : GroupRecord → GroupRecord) (xs : List GroupRecord) (i : ℕ) → f (record_at xs i) ≡ record_at xs i → update xs i f ≡ xs
+update_still f [] i same = refl
+update_still f (x ∷ xs) zero same = ap (λ y. y ∷ xs) same
+update_still f (x ∷ xs) (suc i) same = ap (λ ys. x ∷ ys) (update_still f xs i same)

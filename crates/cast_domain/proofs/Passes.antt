@@ -1,0 +1,50 @@
+-- Passes of the records are passes of what they stand for.
+use Rattle.std.proofs.Common.{◌≡◌, zero, [], refl, sym, subst}
+use Rattle.cast_types.proofs.Iterates.{Led, led_on, led_rests}
+use Rattle.cast_domain.specs.State.{State}
+use Rattle.cast_domain.specs.Rest.{pass, RestsAt}
+use Rattle.cast_domain.specs.Run.{before_event}
+use Rattle.cast_domain.specs.Records.{Records}
+use Rattle.cast_domain.specs.Calls.{pass_in}
+use Rattle.cast_domain.specs.Fits.{Fits, IsLawful}
+use Rattle.cast_domain.proofs.LawfulSteps.{lawful_settle, lawful_pass}
+use Rattle.cast_domain.proofs.Turns.{fits_pass, still_pass}
+
+-- the records stand for a lawful history
+abbrev pub Stands : Records → State → Type 0
+Stands r s = Fits r s × IsLawful s
+
+pub stands_pass : (w v : Records) → v ≡ pass_in w → (s : State) → Stands w s → Stands v (pass s)
+stands_pass w v made s h = (subst (λ r. Fits r (pass s)) (sym made) (fits_pass w s h.0 (lawful_settle s h.1)), lawful_pass s h.1)
+
+-- between two steps nothing is sent or delivered
+pub fits_between : (r : Records) (s : State) → Fits r s → Fits (record r { frames = []; delivered = [] }) (before_event s)
+fits_between r s fits = record {
+  site = fits.site;
+  config = fits.config;
+  used = fits.used;
+  given = fits.given;
+  sessions = fits.sessions;
+  all_open = fits.all_open;
+  groups = fits.groups;
+  got = fits.got;
+  delay = fits.delay;
+  admitted = fits.admitted;
+  frames = refl;
+  delivered = refl;
+}
+
+-- at the start no pass was made
+pub led_start : (w : Records) (s : State) → Fits w s → IsLawful s → Led Stands pass w s
+led_start w s fits lawful = (zero, (fits, lawful))
+
+-- one more pass
+pub led_pass : (w v : Records) → v ≡ pass_in w → (s : State) → Led Stands pass w s → Led Stands pass v s
+led_pass w v made s led = led_on Stands pass w v s led (stands_pass w v made)
+
+-- a pass that changes no record is the end
+pub led_end : (w v : Records) → v ≡ pass_in w → v ≡ w → (s : State) → Led Stands pass w s → (t : State) × RestsAt s t × Fits v t
+led_end w v made still s led =
+    let rest = led_rests Stands pass w v s led (stands_pass w v made)
+    (λ t h. still_pass w t h.0 (subst (λ r. Fits r (pass t)) still (stands_pass w v made t h).0)) in
+    (rest.0, rest.1, rest.2.0)

@@ -1,0 +1,507 @@
+-- What changes a domain's records changes the history that they stand for in the same way: one change at a time.
+use Rattle.std.proofs.Common.{◌≡◌, ℕ, zero, suc, ◌+◌, ◌-◌, ◌<◌, ◌≤◌, Bool, true, false, cond, ◌&&◌, List, [], ◌∷◌, ◌++◌, length, map, Option, Some, None, unwrap_or, refl, sym, ap, subst, ◌∙◌, inl, inr, arith}
+use Rattle.std.specs.Prelude.{◌==◌, nat_lt, nat_le, if◌then◌else◌, slice_get, is_some}
+use Rattle.std.specs.List.{find}
+use Rattle.std.specs.FinMap.Entries.{put}
+use Rattle.std.specs.Option.{IsSome, option_map, option_map_or}
+use Rattle.std.proofs.lemmas.Bool.{cases_Bool, cases_eq, false≢true, false_from_ne_true, and_parts, and_from, eqb-true, eq-eqb, ne_eqb, ltb-true, lt-ltb, leb-true, le-leb, or_from, or_left, or_right}
+use Rattle.std.proofs.lemmas.List.{map-append, length-append}
+use Rattle.std.proofs.lemmas.Option.{none-some, same_Some, slice_get-map, get_or_from_slice_get}
+use Rattle.cast_types.specs.declared.names.SiteNo.{SiteNo}
+use Rattle.cast_types.specs.declared.names.GroupNo.{GroupNo}
+use Rattle.cast_types.specs.declared.names.Proc.{Proc}
+use Rattle.cast_types.specs.declared.names.Standing.{Standing}
+use Rattle.cast_types.specs.declared.limits.TheConstants.{MAX_NUMBER}
+use Rattle.cast_types.specs.Names.{site_eq, group_cmp, group_eq, proc_eq}
+use Rattle.cast_types.specs.Places.{update}
+use Rattle.cast_types.specs.Sets.{is_among, set_at}
+use Rattle.cast_types.specs.Stamps.{ClockList}
+use Rattle.cast_types.proofs.Orders.{same_group, same_site, group_itself, site_itself, proc_itself}
+use Rattle.cast_clock.proofs.Entries.{option_cases}
+use Rattle.cast_frame.specs.declared.message.Message.{Message}
+use Rattle.cast_frame.specs.declared.site.SiteFrame.{SiteFrame}
+use Rattle.cast_frame.specs.declared.client.Push.{Push}
+use Rattle.cast_frame.specs.Membership.{Membership}
+use Rattle.cast_delay.specs.declared.row.Row.{Row}
+use Rattle.cast_delay.specs.declared.row.Fact.{Fact}
+use Rattle.cast_delay.specs.declared.row.Fact.TheVariants as fact
+use Rattle.cast_delay.specs.Ready.{Process, Gate, is_outside}
+use Rattle.cast_delay.specs.Rows.{standing_in, told_row}
+use Rattle.cast_delay.specs.Queue.{key_eq, new_row, row_of, change_row}
+use Rattle.cast_delay.specs.Fits.{Received, message_under, IsSound, FactFits, Fits as QueueFits, set_process as set_named, told as told_of}
+use Rattle.cast_delay.proofs.Queues.{new_fits, admit_fits, tell_fits, view_fits, offer_fits}
+use Rattle.cast_delay.proofs.Listed.{same_bools}
+use Rattle.cast_delay.proofs.Finds.{find-append_some, find-append_none}
+use Rattle.cast_domain.specs.declared.config.DomainConfig.{DomainConfig}
+use Rattle.cast_domain.specs.declared.record.GroupRecord.{GroupRecord}
+use Rattle.cast_domain.specs.declared.session.Session.{Session}
+use Rattle.cast_domain.specs.declared.group.Group.{Group}
+use Rattle.cast_domain.specs.declared.home.Home.{Home}
+use Rattle.cast_domain.specs.Session.{no_session, first_session, is_open, pushed_to, told}
+use Rattle.cast_domain.specs.Group.{with_view}
+use Rattle.cast_domain.specs.State.{State, opening, no_process, local, is_group, gate_of, set_session, set_process, set_group, set_home, set_standing, emitted}
+use Rattle.cast_domain.specs.Effects.{pushing, receiving}
+use Rattle.cast_domain.specs.Step.{opened}
+use Rattle.cast_domain.specs.Run.{before_event}
+use Rattle.cast_domain.specs.Records.{Records, was_given}
+use Rattle.cast_domain.specs.Calls.{place_among, local_in, place_in, no_record, record_at, standing_of, time_of, send_in, push_in, tell_in, open_in, receive_in, view_in}
+use Rattle.cast_domain.specs.Fits.{keyed, process_named, record_for, session_in, Fits, IsLawful}
+use Rattle.cast_domain.proofs.Spots.{length_update, update_own, update_other, push_last, push_other, update_mapped}
+
+-- Choices on both sides
+
+-- the same choice on both sides
+pub fits_if : (a b : Bool) (x y : Records) (u v : State) → a ≡ b → (a ≡ true → Fits x u) → (a ≡ false → Fits y v) → Fits (if a then x else y) (if b then u else v)
+fits_if true true x y u v same then_fits else_fits = then_fits refl
+fits_if true false x y u v same then_fits else_fits = absurd (false≢true (sym same))
+fits_if false true x y u v same then_fits else_fits = absurd (false≢true same)
+fits_if false false x y u v same then_fits else_fits = else_fits refl
+
+-- Groups
+
+-- the record at a place is that of the group at that place
+pub record_there : (r : Records) (s : State) → Fits r s → (i : ℕ) (g : GroupNo) → slice_get s.config.groups i ≡ Some g → record_at r.groups i ≡ record_for s g
+record_there r s fits i g at =
+    ap (λ gs. record_at gs i) fits.groups
+    ∙ get_or_from_slice_get (map (record_for s) s.config.groups) i (record_for s g) no_record
+    (slice_get-map (record_for s) s.config.groups i ∙ ap (λ (o : Option GroupNo). option_map (record_for s) o) at)
+
+-- where a group stands among the records
+mapped_some : {A B : Type 0} (f : A → B) (o : Option A) (y : B) → option_map f o ≡ Some y → (x : A) × (o ≡ Some x) × (f x ≡ y)
+mapped_some f None y at = absurd (none-some y at)
+mapped_some f (Some x) y at = (x, refl, same_Some (f x) y at)
+
+mapped_none : {A B : Type 0} (f : A → B) (o : Option A) → option_map f o ≡ None → o ≡ None
+mapped_none f None at = refl
+mapped_none f (Some x) at = absurd (none-some (f x) (sym at))
+
+place_found : (s : State) (g : GroupNo) (gs : List GroupNo) (i : ℕ) → place_among g (map (record_for s) gs) ≡ Some i → (slice_get gs i ≡ Some g) × (is_among group_eq g gs ≡ true)
+place_found s g [] i at = absurd (none-some i at)
+place_found s g (x ∷ gs) i at = elim (cases_Bool (group_eq x g)) [
+  | inl here ↦
+      let is : x ≡ g = same_group x g here in
+      let zeroth : ◌≡◌ {A = ℕ} 0 i = same_Some 0 i (sym (ap (λ b. if b then Some 0 else option_map (λ j. j + 1) (place_among g (map (record_for s) gs))) here) ∙ at) in (
+        subst (λ j. slice_get (x ∷ gs) j ≡ Some g) zeroth (ap Some is),
+        or_left (group_eq g x) (is_among group_eq g gs) (ap (group_eq g) is ∙ group_itself g),
+      )
+  | inr later ↦
+      let (j, found, next) = mapped_some (λ j. j + 1) (place_among g (map (record_for s) gs)) i
+      (sym (ap (λ b. if b then Some 0 else option_map (λ j. j + 1) (place_among g (map (record_for s) gs))) later) ∙ at) in
+      let rest = place_found s g gs j found in
+      let is : suc j ≡ i = omega (arith, next) in (
+        subst (λ n. slice_get (x ∷ gs) n ≡ Some g) is rest.0,
+        or_right (group_eq g x) (is_among group_eq g gs) rest.1,
+      )
+]
+
+place_lost : (s : State) (g : GroupNo) (gs : List GroupNo) → place_among g (map (record_for s) gs) ≡ None → is_among group_eq g gs ≡ false
+place_lost s g [] at = refl
+place_lost s g (x ∷ gs) at = elim (cases_Bool (group_eq x g)) [
+  | inl here ↦ absurd (none-some 0 (sym at ∙ ap (λ b. if b then Some 0 else option_map (λ j. j + 1) (place_among g (map (record_for s) gs))) here))
+  | inr later ↦
+      or_from (group_eq g x) (is_among group_eq g gs)
+      (false_from_ne_true (group_eq g x) (λ same. false≢true (sym later ∙ ap (λ h. group_eq h g) (sym (same_group g x same)) ∙ group_itself g)))
+      (place_lost s g gs (mapped_none (λ j. j + 1) (place_among g (map (record_for s) gs)) (sym (ap (λ b. if b then Some 0 else option_map (λ j. j + 1) (place_among g (map (record_for s) gs))) later) ∙ at)))
+]
+
+-- a group that is found is configured, and stands at that place
+pub place_some : (r : Records) (s : State) → Fits r s → (g : GroupNo) (i : ℕ) → place_in r g ≡ Some i → (slice_get s.config.groups i ≡ Some g) × (is_group s g ≡ true)
+place_some r s fits g i at = place_found s g s.config.groups i (sym (ap (place_among g) fits.groups) ∙ at)
+
+-- and one that is not found is not configured
+pub place_none : (r : Records) (s : State) → Fits r s → (g : GroupNo) → place_in r g ≡ None → is_group s g ≡ false
+place_none r s fits g at = place_lost s g s.config.groups (sym (ap (place_among g) fits.groups) ∙ at)
+
+-- Processes
+
+-- a local process by its name
+pub process_here : (s : State) (k : ℕ) → process_named s (local s k) ≡ s.process k
+process_here s k = ap (λ b. if b then s.process k else no_process) (site_itself s.here)
+
+site_turned : (a b : SiteNo) → site_eq a b ≡ site_eq b a
+site_turned a b = same_bools (site_eq a b) (site_eq b a)
+    (λ e. ap (site_eq b) (same_site a b e) ∙ site_itself b)
+    (λ e. ap (site_eq a) (same_site b a e) ∙ site_itself a)
+
+-- a process changed by its serial is changed by its name
+pub process_set : (s : State) (k : ℕ) (v : Process) → process_named (set_process s k v) ≡ set_named (process_named s) (local s k) v
+process_set s k v = λ i p. at_name p i
+  where
+    at_tests : (b c : Bool) (x y : Process) → (if b then (if c then v else x) else y) ≡ (if b && c then v else if b then x else y)
+    at_tests true true x y = refl
+    at_tests true false x y = refl
+    at_tests false c x y = refl
+
+    at_name : (p : Proc) → process_named (set_process s k v) p ≡ set_named (process_named s) (local s k) v p
+    at_name p =
+        at_tests (site_eq p.site s.here) (k == p.serial) (s.process p.serial) no_process
+        ∙ ap (λ b. if b && (k == p.serial) then v else process_named s p) (site_turned p.site s.here)
+
+-- of a process with no row holds what holds of a new row
+row_or : {A : Type 0} (f : Row → A) (o : Option Row) (row : Row) → option_map_or f o (f row) ≡ f (unwrap_or o row)
+row_or f None row = refl
+row_or f (Some x) row = refl
+
+-- the queue knows the standing and the time of each local process
+pub standing_there : (r : Records) (s : State) → Fits r s → (k : ℕ) (g : GroupNo) → standing_of r.delay (local s k) g ≡ (s.process k).standing g
+standing_there r s fits k g =
+    row_or (λ row. standing_in row g) (row_of r.delay.rows (local s k)) (new_row (local s k))
+    ∙ (fits.delay.rows (local s k)).standing g
+    ∙ ap (λ (p : Process). p.standing g) (process_here s k)
+
+pub time_there : (r : Records) (s : State) → Fits r s → (k : ℕ) → time_of r.delay (local s k) ≡ (s.process k).time
+time_there r s fits k =
+    row_or (λ row. row.time) (row_of r.delay.rows (local s k)) (new_row (local s k))
+    ∙ (fits.delay.rows (local s k)).time
+    ∙ ap (λ (p : Process). p.time) (process_here s k)
+
+-- What is sent and pushed
+
+-- a frame is sent
+pub fits_send : (r : Records) (s : State) → Fits r s → (to : SiteNo) (f : SiteFrame) → Fits (send_in r to f) (emitted s to f)
+fits_send r s fits to f = record {
+  site = fits.site;
+  config = fits.config;
+  used = fits.used;
+  given = fits.given;
+  sessions = fits.sessions;
+  all_open = fits.all_open;
+  groups = fits.groups;
+  got = fits.got;
+  delay = fits.delay;
+  admitted = fits.admitted;
+  frames = (λ i. fits.frames i ++ ((fits.config i).domain, to, f) ∷ []) ∙ sym (map-append (λ (x : SiteNo × SiteFrame). (s.config.domain, x.0, x.1)) s.frames ((to, f) ∷ []));
+  delivered = fits.delivered;
+}
+
+-- a session is told of an entry
+pub fits_push : (r : Records) (s : State) → Fits r s → (k : ℕ) (p : Push) → Fits (push_in r k p) (pushing s k p)
+fits_push r s fits k p =
+    fits_if (was_given (length r.sessions) k) (is_open (s.session k)) (record r { sessions = update r.sessions (k - 1) (told p) }) r (set_session s k (pushed_to (s.session k) p)) s
+    (ap (λ n. was_given n k) fits.given ∙ sym (fits.all_open k))
+    (λ was. pushed_on (fits.all_open k ∙ ap (λ n. was_given n k) (sym fits.given) ∙ was) (and_parts (nat_lt 0 k) (nat_le k (length r.sessions)) was).0)
+    (λ _. fits)
+  where
+    told_open : (x : Session) → is_open x ≡ true → told p x ≡ pushed_to x p
+    told_open x is_so = ap (λ b. if b then pushed_to x p else x) is_so
+
+    told_or : (o : Option Session) → unwrap_or (option_map (told p) o) no_session ≡ told p (unwrap_or o no_session)
+    told_or None = refl
+    told_or (Some x) = refl
+
+    pushed_now : (j : ℕ) → is_open (s.session k) ≡ true → 0 < k → (set_session s k (pushed_to (s.session k) p)).session j ≡ session_in (update r.sessions (k - 1) (told p)) j
+    pushed_now zero is_so above =
+        ap (λ b. if b then pushed_to (s.session k) p else s.session 0) (ne_eqb k 0 (λ same. omega (arith, same, above)))
+        ∙ fits.sessions 0
+    pushed_now (suc i) is_so above = elim (cases_eq k (suc i)) [
+      | inl same ↦
+          let place : ◌≡◌ {A = ℕ} (k - 1) i = omega (arith, same) in
+          ap (λ b. if b then pushed_to (s.session k) p else s.session (suc i)) (eq-eqb k (suc i) same)
+          ∙ sym (told_open (s.session k) is_so)
+          ∙ ap (λ n. told p (s.session n)) same
+          ∙ ap (told p) (fits.sessions (suc i))
+          ∙ sym (told_or (slice_get r.sessions i))
+          ∙ ap (λ (o : Option Session). unwrap_or o no_session) (sym (update_own (told p) r.sessions i))
+          ∙ ap (λ n. unwrap_or (slice_get (update r.sessions n (told p)) i) no_session) (sym place)
+      | inr other ↦
+          ap (λ b. if b then pushed_to (s.session k) p else s.session (suc i)) (ne_eqb k (suc i) other)
+          ∙ fits.sessions (suc i)
+          ∙ ap (λ (o : Option Session). unwrap_or o no_session) (sym (update_other (told p) r.sessions (k - 1) i (λ same. other (omega (arith, same, above)))))
+    ]
+
+    still_open : (j : ℕ) → is_open ((set_session s k (pushed_to (s.session k) p)).session j) ≡ was_given s.used j
+    still_open j = elim (cases_Bool (k == j)) [
+      | inl here ↦
+          ap (λ b. is_open (if b then pushed_to (s.session k) p else s.session j)) here
+          ∙ ap (λ n. is_open (s.session n)) (eqb-true k j here)
+          ∙ fits.all_open j
+      | inr other ↦ ap (λ b. is_open (if b then pushed_to (s.session k) p else s.session j)) other ∙ fits.all_open j
+    ]
+
+    pushed_on : is_open (s.session k) ≡ true → nat_lt 0 k ≡ true → Fits (record r { sessions = update r.sessions (k - 1) (told p) }) (set_session s k (pushed_to (s.session k) p))
+    pushed_on is_so above = record {
+      site = fits.site;
+      config = fits.config;
+      used = fits.used;
+      given = length_update (told p) r.sessions (k - 1) ∙ fits.given;
+      sessions = λ j. pushed_now j is_so (ltb-true 0 k above);
+      all_open = still_open;
+      groups = fits.groups;
+      got = fits.got;
+      delay = fits.delay;
+      admitted = fits.admitted;
+      frames = fits.frames;
+      delivered = fits.delivered;
+    }
+
+-- Changes of one group
+
+-- the number of a group, as the queue has it
+gate_told : (s : State) (g : GroupNo) (v : Group) → set_at group_eq (gate_of s) g (record { number = v.number }) ≡ gate_of (set_group s g v)
+gate_told s g v = λ i h. at_group h i
+  where
+    at_group : (h : GroupNo) → set_at group_eq (gate_of s) g (record { number = v.number }) h ≡ gate_of (set_group s g v) h
+    at_group h =
+        elim (group_eq g h) as (λ b. ◌≡◌ {A = Gate} (if b then record { number = v.number } else record { number = (s.group h).number }) (record { number = (if b then v else s.group h).number })) [ true ↦ refl | false ↦ refl ]
+
+gate_same : (s : State) (g : GroupNo) (v : Group) → v.number ≡ (s.group g).number → gate_of s ≡ gate_of (set_group s g v)
+gate_same s g v same = λ i h. record { number = at_group h i }
+  where
+    at_group : (h : GroupNo) → (s.group h).number ≡ ((set_group s g v).group h).number
+    at_group h = elim (cases_Bool (group_eq g h)) [
+      | inl here ↦ ap (λ k. (s.group k).number) (sym (same_group g h here)) ∙ sym same ∙ ap (λ b. (if b then v else s.group h).number) (sym here)
+      | inr other ↦ ap (λ b. (if b then v else s.group h).number) (sym other)
+    ]
+
+-- the record of a group with another state
+groups_here : (s : State) → IsLawful s → (i : ℕ) (g : GroupNo) → slice_get s.config.groups i ≡ Some g → (change : Group → Group) → update (map (record_for s) s.config.groups) i (λ x. record x { here = change x.here }) ≡ map (record_for (set_group s g (change (s.group g)))) s.config.groups
+groups_here s lawful i g at change =
+    update_mapped (record_for s) (record_for (set_group s g (change (s.group g)))) (λ x. record x { here = change x.here }) s.config.groups i g lawful.rising at
+    (ap (λ b. record { name = g; here = if b then change (s.group g) else s.group g; home = s.home g }) (sym (group_itself g)))
+    (λ h other. ap (λ b. record { name = h; here = if b then change (s.group g) else s.group h; home = s.home h }) (sym other))
+
+groups_home : (s : State) → IsLawful s → (i : ℕ) (g : GroupNo) → slice_get s.config.groups i ≡ Some g → (change : Home → Home) → update (map (record_for s) s.config.groups) i (λ x. record x { home = change x.home }) ≡ map (record_for (set_home s g (change (s.home g)))) s.config.groups
+groups_home s lawful i g at change =
+    update_mapped (record_for s) (record_for (set_home s g (change (s.home g)))) (λ x. record x { home = change x.home }) s.config.groups i g lawful.rising at
+    (ap (λ b. record { name = g; here = s.group g; home = if b then change (s.home g) else s.home g }) (sym (group_itself g)))
+    (λ h other. ap (λ b. record { name = h; here = s.group h; home = if b then change (s.home g) else s.home h }) (sym other))
+
+-- a change of the group at this site that leaves its number
+pub fits_here : (r : Records) (s : State) → Fits r s → IsLawful s → (i : ℕ) (g : GroupNo) → slice_get s.config.groups i ≡ Some g → (change : Group → Group) → (change (s.group g)).number ≡ (s.group g).number → Fits (record r { groups = update r.groups i (λ x. record x { here = change x.here }) }) (set_group s g (change (s.group g)))
+fits_here r s fits lawful i g at change same = record {
+  site = fits.site;
+  config = fits.config;
+  used = fits.used;
+  given = fits.given;
+  sessions = fits.sessions;
+  all_open = fits.all_open;
+  groups = ap (λ gs. update gs i (λ x. record x { here = change x.here })) fits.groups ∙ groups_here s lawful i g at change;
+  got = fits.got;
+  delay = subst (λ gate. QueueFits s.config.groups gate (process_named s) (keyed 0 s.got) r.delay) (gate_same s g (change (s.group g)) same) fits.delay;
+  admitted = fits.admitted;
+  frames = fits.frames;
+  delivered = fits.delivered;
+}
+
+-- a view is known, and the queue is told of its number
+pub fits_view : (r : Records) (s : State) → Fits r s → IsLawful s → (i : ℕ) (g : GroupNo) → slice_get s.config.groups i ≡ Some g → (n : ℕ) (members : Membership) → Fits (view_in r i n members) (set_group s g (with_view s.here n members (s.group g)))
+fits_view r s fits lawful i g at n members = record {
+  site = fits.site;
+  config = fits.config;
+  used = fits.used;
+  given = fits.given;
+  sessions = fits.sessions;
+  all_open = fits.all_open;
+  groups = (λ j. update (fits.groups j) i (λ x. record x { here = with_view (fits.site j) n members x.here })) ∙ groups_here s lawful i g at (with_view s.here n members);
+  got = fits.got;
+  delay = subst (λ h. QueueFits s.config.groups (gate_of (set_group s g (with_view s.here n members (s.group g)))) (process_named s) (keyed 0 s.got) (record r.delay { numbers = put group_cmp h n r.delay.numbers }))
+      (sym (ap (λ (x : GroupRecord). x.name) (record_there r s fits i g at)))
+      (subst (λ gate. QueueFits s.config.groups gate (process_named s) (keyed 0 s.got) (record r.delay { numbers = put group_cmp g n r.delay.numbers })) (gate_told s g (with_view s.here n members (s.group g)))
+      (view_fits s.config.groups (gate_of s) (process_named s) (keyed 0 s.got) r.delay fits.delay g n));
+  admitted = fits.admitted;
+  frames = fits.frames;
+  delivered = fits.delivered;
+}
+
+-- a change of the group at the home
+pub fits_home : (r : Records) (s : State) → Fits r s → IsLawful s → (i : ℕ) (g : GroupNo) → slice_get s.config.groups i ≡ Some g → (change : Home → Home) → Fits (record r { groups = update r.groups i (λ x. record x { home = change x.home }) }) (set_home s g (change (s.home g)))
+fits_home r s fits lawful i g at change = record {
+  site = fits.site;
+  config = fits.config;
+  used = fits.used;
+  given = fits.given;
+  sessions = fits.sessions;
+  all_open = fits.all_open;
+  groups = ap (λ gs. update gs i (λ x. record x { home = change x.home })) fits.groups ∙ groups_home s lawful i g at change;
+  got = fits.got;
+  delay = fits.delay;
+  admitted = fits.admitted;
+  frames = fits.frames;
+  delivered = fits.delivered;
+}
+
+-- Changes of one process
+
+-- a row that is told something is the row of the same process
+told_keeps : (f : Fact) (r : Row) → (told_row f r).process ≡ r.process
+told_keeps (fact.Standing h s) r = refl
+told_keeps (fact.Time time) r = refl
+
+-- who has a row has one still, whichever row changes
+pub still_in : (p : Proc) (f : Row → Row) → ((r : Row) → (f r).process ≡ r.process) → (q : Proc) (rows : List Row) → IsSome (row_of rows q) → IsSome (row_of (change_row p f rows) q)
+still_in p f keeps q rows was = same_in rows ∙ was
+  where
+    same_name : (b : Bool) (r : Row) → (cond b (f r) r).process ≡ r.process
+    same_name true r = keeps r
+    same_name false r = refl
+
+    same_in : (rows : List Row) → is_some (row_of (change_row p f rows) q) ≡ is_some (row_of rows q)
+    same_in [] = refl
+    same_in (r ∷ rows) =
+        ap (λ x. is_some (cond (proc_eq x q) (Some (cond (proc_eq r.process p) (f r) r)) (row_of (change_row p f rows) q))) (same_name (proc_eq r.process p) r)
+        ∙ elim (proc_eq r.process q) as (λ b. is_some (cond b (Some (cond (proc_eq r.process p) (f r) r)) (row_of (change_row p f rows) q)) ≡ is_some (cond b (Some r) (row_of rows q))) [
+          | true ↦ refl
+          | false ↦ same_in rows
+        ]
+
+-- what changes a process by its name changes it by its serial
+pub named_set : (s : State) (k : ℕ) (f : Process → Process) → set_named (process_named s) (local s k) (f (process_named s (local s k))) ≡ process_named (set_process s k (f (s.process k)))
+named_set s k f = ap (λ p. set_named (process_named s) (local s k) (f p)) (process_here s k) ∙ sym (process_set s k (f (s.process k)))
+
+-- a process that was admitted is told of a fact
+pub fits_told : (r : Records) (s : State) → Fits r s → (k : ℕ) → IsSome (row_of r.delay.rows (local s k)) → (f : Fact) → FactFits s.config.groups f → Fits (tell_in r (local s k) f) (set_process s k (told_of f (s.process k)))
+fits_told r s fits k row f ok = record {
+  site = fits.site;
+  config = fits.config;
+  used = fits.used;
+  given = fits.given;
+  sessions = fits.sessions;
+  all_open = fits.all_open;
+  groups = fits.groups;
+  got = fits.got;
+  delay = subst (λ ps. QueueFits s.config.groups (gate_of s) ps (keyed 0 s.got) (record r.delay { rows = change_row (local s k) (told_row f) r.delay.rows })) (named_set s k (told_of f))
+      (tell_fits s.config.groups (gate_of s) (process_named s) (keyed 0 s.got) r.delay fits.delay (local s k) f row ok);
+  admitted = λ j was. still_in (local s k) (told_row f) (told_keeps f) (local s j) r.delay.rows (fits.admitted j was);
+  frames = fits.frames;
+  delivered = fits.delivered;
+}
+
+-- each given serial has a row
+pub fits_tell : (r : Records) (s : State) → Fits r s → (k : ℕ) → was_given s.used k ≡ true → (f : Fact) → FactFits s.config.groups f → Fits (tell_in r (local s k) f) (set_process s k (told_of f (s.process k)))
+fits_tell r s fits k given f ok = fits_told r s fits k (fits.admitted k given) f ok
+
+pub fits_standing : (r : Records) (s : State) → Fits r s → (k : ℕ) → was_given s.used k ≡ true → (g : GroupNo) (v : Standing) → (is_outside v ≡ false → is_group s g ≡ true) → Fits (tell_in r (local s k) (fact.Standing g v)) (set_standing s k g v)
+fits_standing r s fits k given g v ok = fits_tell r s fits k given (fact.Standing g v) ok
+
+pub fits_time : (r : Records) (s : State) → Fits r s → (k : ℕ) → was_given s.used k ≡ true → (t : ClockList) → Fits (tell_in r (local s k) (fact.Time t)) (set_process s k (record (s.process k) { time = t }))
+fits_time r s fits k given t = fits_tell r s fits k given (fact.Time t) tt
+
+-- Messages and sessions that come
+
+-- the last message stands under a key of its own
+pub keyed_push : (n : ℕ) (got : List Message) (m : Message) → keyed n (got ++ m ∷ []) ≡ keyed n got ++ record { key = record { 0 = n + length got }; message = m } ∷ []
+keyed_push n [] m = ap (λ k. record { key = record { 0 = k }; message = m } ∷ []) (omega arith)
+keyed_push n (x ∷ got) m =
+    ap (λ rest. record { key = record { 0 = n }; message = x } ∷ rest) (keyed_push (n + 1) got m)
+    ∙ ap (λ k. record { key = record { 0 = n }; message = x } ∷ (keyed (n + 1) got ++ record { key = record { 0 = k }; message = m } ∷ [])) (omega arith)
+
+-- nothing stands under a key past the end
+pub key_past : (n : ℕ) (got : List Message) (j : ℕ) → n + length got ≤ j → message_under (keyed n got) (record { 0 = j }) ≡ None
+key_past n [] j past = refl
+key_past n (x ∷ got) j past =
+    ap (λ b. option_map (λ (r : Received). r.message) (cond b (Some (record { key = record { 0 = n }; message = x })) (find (λ r. key_eq r.key (record { 0 = j })) (keyed (n + 1) got)))) (ne_eqb n j (λ same. omega (arith, same, past)))
+    ∙ key_past (n + 1) got j (omega (arith, past))
+
+-- a message is received
+pub fits_receive : (r : Records) (s : State) → Fits r s → (m : Message) → IsSound m → Fits (receive_in r m) (receiving s m)
+fits_receive r s fits m sound = record {
+  site = fits.site;
+  config = fits.config;
+  used = fits.used;
+  given = fits.given;
+  sessions = fits.sessions;
+  all_open = fits.all_open;
+  groups = fits.groups;
+  got = ap (λ got. got ++ m ∷ []) fits.got;
+  delay = subst (λ n. QueueFits s.config.groups (gate_of s) (process_named s) (keyed 0 (s.got ++ m ∷ [])) (record r.delay { offered = r.delay.offered ++ record { key = record { 0 = n }; id = m.id; times = m.times } ∷ [] }))
+      (ap length (sym fits.got))
+      (subst (λ rs. QueueFits s.config.groups (gate_of s) (process_named s) rs (record r.delay { offered = r.delay.offered ++ record { key = record { 0 = length s.got }; id = m.id; times = m.times } ∷ [] }))
+      (sym (keyed_push 0 s.got m ∙ ap (λ n. keyed 0 s.got ++ record { key = record { 0 = n }; message = m } ∷ []) (omega arith)))
+      (offer_fits s.config.groups (gate_of s) (process_named s) (keyed 0 s.got) r.delay fits.delay (record { key = record { 0 = length s.got }; message = m }) sound (key_past 0 s.got (length s.got) (omega arith))));
+  admitted = fits.admitted;
+  frames = fits.frames;
+  delivered = fits.delivered;
+}
+
+-- which serials were given after one more
+given_more : (used k : ℕ) → (used + 1 ≡ k → ⊥) → was_given used k ≡ was_given (used + 1) k
+given_more used k other = ap (λ b. nat_lt 0 k && b) (same_bools (nat_le k used) (nat_le k (used + 1))
+    (λ e. le-leb k (used + 1) (omega (arith, leb-true k used e)))
+    (λ e. le-leb k used (omega (arith, leb-true k (used + 1) e, other))))
+
+-- a session is opened
+pub fits_open : (r : Records) (s : State) → Fits r s → (s.used == MAX_NUMBER) ≡ false → Fits (open_in r) (opened s)
+fits_open r s fits room = record {
+  site = fits.site;
+  config = fits.config;
+  used = ap (λ n. n + 1) fits.used;
+  given = length-append r.sessions (first_session named ∷ []) ∙ ap (λ n. n + 1) fits.given;
+  sessions = opened_now;
+  all_open = open_now;
+  groups = fits.groups;
+  got = fits.got;
+  delay = admit_fits s.config.groups (gate_of s) (process_named s) (keyed 0 s.got) r.delay fits.delay named;
+  admitted = admitted_now;
+  frames = fits.frames;
+  delivered = fits.delivered;
+}
+  where
+    named : Proc
+    named = local_in r (r.used + 1)
+
+    open_now : (k : ℕ) → is_open ((opened s).session k) ≡ was_given (s.used + 1) k
+    open_now k = elim (cases_eq (s.used + 1) k) [
+      | inl same ↦
+          ap (λ b. is_open (if b then first_session (local s (s.used + 1)) else s.session k)) (eq-eqb (s.used + 1) k same)
+          ∙ sym (and_from (nat_lt 0 k) (nat_le k (s.used + 1)) (lt-ltb 0 k (omega (arith, same))) (le-leb k (s.used + 1) (omega (arith, same))))
+      | inr other ↦
+          ap (λ b. is_open (if b then first_session (local s (s.used + 1)) else s.session k)) (ne_eqb (s.used + 1) k other)
+          ∙ fits.all_open k
+          ∙ given_more s.used k other
+    ]
+
+    opened_now : (k : ℕ) → (opened s).session k ≡ session_in (r.sessions ++ first_session named ∷ []) k
+    opened_now zero = ap (λ b. if b then first_session (local s (s.used + 1)) else s.session 0) (ne_eqb (s.used + 1) 0 (λ same. omega (arith, same))) ∙ fits.sessions 0
+    opened_now (suc i) = elim (cases_eq (s.used + 1) (suc i)) [
+      | inl same ↦
+          let place : length r.sessions ≡ i = omega (arith, same, fits.given) in
+          ap (λ b. if b then first_session (local s (s.used + 1)) else s.session (suc i)) (eq-eqb (s.used + 1) (suc i) same)
+          ∙ (λ j. first_session (record { site = sym fits.site j; serial = sym fits.used j + 1 }))
+          ∙ ap (λ (o : Option Session). unwrap_or o no_session) (sym (push_last r.sessions (first_session named)))
+          ∙ ap (λ n. unwrap_or (slice_get (r.sessions ++ first_session named ∷ []) n) no_session) place
+      | inr other ↦
+          ap (λ b. if b then first_session (local s (s.used + 1)) else s.session (suc i)) (ne_eqb (s.used + 1) (suc i) other)
+          ∙ fits.sessions (suc i)
+          ∙ ap (λ (o : Option Session). unwrap_or o no_session) (sym (push_other r.sessions (first_session named) i (λ same. other (omega (arith, same, fits.given)))))
+    ]
+
+    admitted_now : (k : ℕ) → was_given (s.used + 1) k ≡ true → IsSome (row_of (r.delay.rows ++ new_row named ∷ []) (local s k))
+    admitted_now k was = elim (option_cases (row_of r.delay.rows (local s k))) [
+      | inr (row, some) ↦ ap is_some (find-append_some (λ (x : Row). proc_eq x.process (local s k)) r.delay.rows (new_row named ∷ []) row some)
+      | inl none ↦ elim (cases_eq (s.used + 1) k) [
+        | inl same ↦
+            let is : named ≡ local s k = λ j. record { site = fits.site j; serial = (ap (λ n. n + 1) fits.used ∙ same) j } in
+            ap is_some (find-append_none (λ (x : Row). proc_eq x.process (local s k)) r.delay.rows (new_row named ∷ []) none)
+            ∙ ap (λ b. is_some (cond b (Some (new_row named)) None)) (ap (λ p. proc_eq p (local s k)) is ∙ proc_itself (local s k))
+        | inr other ↦ absurd (false≢true (ap is_some (sym none) ∙ fits.admitted k (given_more s.used k other ∙ was)))
+      ]
+    ]
+
+-- a new domain stands for the history before its first event
+pub fits_before : (here : SiteNo) (config : DomainConfig) → Fits (record { site = here; config = config; used = 0; sessions = []; groups = map (record_for (opening here config)) config.groups; got = []; delay = record { numbers = []; offered = []; rows = [] }; frames = []; delivered = [] }) (before_event (opening here config))
+fits_before here config = record {
+  site = refl;
+  config = refl;
+  used = refl;
+  given = refl;
+  sessions = λ k. none_in k;
+  all_open = λ k. sym (none_given k);
+  groups = refl;
+  got = refl;
+  delay = subst (λ ps. QueueFits config.groups (λ g. record { number = 0 }) ps [] (record { numbers = []; offered = []; rows = [] })) (λ i p. idle p i) (new_fits config.groups);
+  admitted = λ k was. absurd (false≢true (sym (none_given k) ∙ was));
+  frames = refl;
+  delivered = refl;
+}
+  where
+    idle : (p : Proc) → no_process ≡ process_named (before_event (opening here config)) p
+    idle p = elim (site_eq p.site here) as (λ b. no_process ≡ (if b then no_process else no_process)) [ true ↦ refl | false ↦ refl ]
+
+    none_given : (k : ℕ) → was_given 0 k ≡ false
+    none_given k = false_from_ne_true (was_given 0 k) (λ was.
+        let parts = and_parts (nat_lt 0 k) (nat_le k 0) was in
+        omega (arith, ltb-true 0 k parts.0, leb-true k 0 parts.1))
+
+    none_in : (k : ℕ) → no_session ≡ session_in [] k
+    none_in zero = refl
+    none_in (suc i) = refl

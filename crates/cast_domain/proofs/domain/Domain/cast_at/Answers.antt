@@ -1,0 +1,45 @@
+use Rattle.std.proofs.Common.{◌≡◌, ◌∙◌, sym, ap, false, true, None, length, arith}
+use Rattle.std.specs.Prelude.{nat_lt}
+use Rattle.std.proofs.lemmas.Bool.Decides.{nat_tests}
+use Rattle.cast_types.specs.declared.limits.TheConstants.{MAX_PAYLOAD}
+use Rattle.cast_clock.specs.Times.{bumped, count_in}
+use Rattle.cast_frame.specs.declared.message.Body.TheVariants as body
+use Rattle.cast_delay.specs.Ready.{is_member}
+use Rattle.cast_delay.specs.declared.row.Fact.TheVariants as fact
+use Rattle.cast_domain.specs.Records.{records_of}
+use Rattle.cast_domain.specs.Step.{may_raise}
+use Rattle.cast_domain.specs.Calls.{record_at, send_message_in, tell_in, standing_of, time_of, local_in}
+use Rattle.cast_domain.proofs.Attempts.{cast_made, raised_some}
+use Rattle.cast_domain.proofs.domain.Domain.cast_at.Goals as goal
+
+pub returns-clause-made : goal.returns-clause-made
+returns-clause-made c =
+    let r = records_of c.args.self.now c.args.outs.now in
+    let k = c.args.serial in
+    let i = c.args.place in
+    let g = c.args.group in
+    let p : c.process-process.result ≡ local_in r k = c.process-process.ensures in
+    let q = c.process-process.result in
+    let raised = raised_some (may_raise (time_of r.delay q) g q) (bumped (time_of r.delay q) g q) c.in-Some.time c.in-Some.stamp
+    (sym c.in-Some.is ∙ c.in_ok-time.ensures) in
+    let time : c.in-Some.time ≡ bumped (time_of r.delay (local_in r k)) g (local_in r k) = raised.1 ∙ ap (λ x. bumped (time_of r.delay x) g x) p in
+    let stamp : c.in-Some.stamp ≡ bumped (time_of r.delay (local_in r k)) g (local_in r k) = raised.2 ∙ ap (λ x. bumped (time_of r.delay x) g x) p in
+    let view : c.record.result.now.here.number ≡ (record_at r.groups i).here.number = ap (λ x. x.here.number) c.record.ensures in
+    let count : c.count.result ≡ count_in (bumped (time_of r.delay (local_in r k)) g (local_in r k)) g (local_in r k) = c.count.ensures ∙ λ j. count_in (time j) g (p j) in
+    let short : nat_lt MAX_PAYLOAD (length c.args.payload.now) ≡ false = grind (arith, nat_tests) in
+    let member : is_member (standing_of r.delay (local_in r k) g) ≡ true =
+    ap is_member (sym (c.standing.ensures.value ∙ ap (λ x. standing_of r.delay x g) p) ∙ c.in-Member.is) in
+    let may : may_raise (time_of r.delay (local_in r k)) g (local_in r k) ≡ true = ap (λ x. may_raise (time_of r.delay x) g x) (sym p) ∙ raised.0 in
+    ap (λ x. (x, None))
+    (c.in_ok-send_message.ensures.made
+    ∙ (λ j. send_message_in (c.in_ok-tell.ensures.made c.args.outs.now j) i (record {
+      id = record { group = g; view = c.record.result.now.here.number; proc = q; count = c.count.result };
+      times = c.in-Some.stamp;
+      body = body.Causal (c.in_ok-content.ensures j);
+    }))
+    ∙ λ j. send_message_in (tell_in r (p j) (fact.Time (time j))) i (record {
+      id = record { group = g; view = view j; proc = p j; count = count j };
+      times = stamp j;
+      body = body.Causal c.args.payload.now;
+    }))
+    ∙ sym (cast_made r k g c.args.payload.now i short member may)

@@ -1,0 +1,31 @@
+use Rattle.std.proofs.Common.{◌≡◌, ◌+◌, ◌∙◌, sym, ap, false, true, None, arith}
+use Rattle.std.specs.Prelude.{◌==◌}
+use Rattle.std.proofs.lemmas.Bool.Decides.{nat_tests}
+use Rattle.cast_types.specs.declared.limits.TheConstants.{MAX_NUMBER}
+use Rattle.cast_types.specs.declared.names.Standing.TheVariants.{Joining}
+use Rattle.cast_clock.specs.Times.{view_of}
+use Rattle.cast_frame.specs.declared.site.Change.TheVariants as change
+use Rattle.cast_delay.specs.Ready.{is_outside}
+use Rattle.cast_delay.specs.declared.row.Fact.TheVariants as fact
+use Rattle.cast_domain.specs.Records.{records_of}
+use Rattle.cast_domain.specs.Calls.{record_at, request_in, tell_in, standing_of, time_of, local_in}
+use Rattle.cast_domain.proofs.Attempts.{join_made}
+use Rattle.cast_domain.proofs.domain.Domain.join_at.Goals as goal
+
+pub returns-clause-made : goal.returns-clause-made
+returns-clause-made c =
+    let r = records_of c.args.self.now c.args.outs.now in
+    let k = c.args.serial in
+    let i = c.args.place in
+    let g = c.args.group in
+    let p : c.process-process.result ≡ local_in r k = c.process-process.ensures in
+    let asked : c.record.result.now.here.asked ≡ (record_at r.groups i).here.asked = ap (λ x. x.here.asked) c.record.ensures in
+    let heard : c.heard.result ≡ view_of (time_of r.delay (local_in r k)) g = c.heard.ensures ∙ ap (λ q. view_of (time_of r.delay q) g) p in
+    let below : (c.record.result.now.here.asked == MAX_NUMBER) ≡ false = grind (arith, nat_tests) in
+    let outside : is_outside (standing_of r.delay (local_in r k) g) ≡ true =
+    ap is_outside (sym (c.standing.ensures.value ∙ ap (λ q. standing_of r.delay q g) p) ∙ c.in-Outside.is) in
+    ap (λ x. (x, None))
+    (c.in_ok-ask.ensures.made
+    ∙ ap (λ x. request_in x i change.Join c.process-process.result) (c.in_ok-tell.ensures.made c.args.outs.now)
+    ∙ λ j. request_in (tell_in r (p j) (fact.Standing g (Joining (asked j + 1) (heard j)))) i change.Join (p j))
+    ∙ sym (join_made r k g i outside (sym (ap (λ n. n == MAX_NUMBER) asked) ∙ below))

@@ -1,0 +1,32 @@
+use Rattle.std.proofs.Common.{◌≡◌, ◌∙◌, [], map, take, sym, ap, subst, arith}
+use Rattle.std.proofs.lemmas.List.{take_all}
+use Rattle.cast_domain.specs.State.{opening}
+use Rattle.cast_domain.specs.Records.{Records}
+use Rattle.cast_domain.specs.Run.{before_event}
+use Rattle.cast_domain.specs.Fits.{Fits, record_for}
+use Rattle.cast_domain.proofs.Lawful.{lawful_opening}
+use Rattle.cast_domain.proofs.Standing.{fits_before}
+use Rattle.cast_domain.proofs.domain.Domain.new.Goals as goal
+
+pub returns-clause-begins : goal.returns-clause-begins
+returns-clause-begins c rising =
+    let here = c.args.site in
+    let config = c.args.config in
+    let s = opening here config in
+    let all : take c.loop-group.group-index c.as_slice-group-items.result.now ≡ c.as_slice-group-items.result.now = take_all _ _ (omega arith) in
+    let groups : c.loop-group.groups.items ≡ map (record_for s) config.groups =
+    c.loop-group.invariant ∙ ap (map (record_for s)) (all ∙ c.as_slice-group-items.ensures) in
+    record {
+      fits = subst (λ (r : Records). Fits r (before_event s)) (sym (λ j. record {
+        site = here;
+        config = config;
+        used = 0;
+        sessions = c.new-2.ensures.items j;
+        groups = groups j;
+        got = c.new-3.ensures.items j;
+        delay = c.new-4.ensures j;
+        frames = [];
+        delivered = [];
+      })) (fits_before here config);
+      lawful = lawful_opening here config rising;
+    }

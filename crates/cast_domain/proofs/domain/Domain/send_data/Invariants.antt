@@ -1,0 +1,10 @@
+use Rattle.std.proofs.Common.{◌≡◌, drop}
+use Rattle.std.specs.List.{fold}
+use Rattle.cast_domain.specs.Calls.{send_data_in}
+use Rattle.cast_domain.specs.Records.{records_of}
+use Rattle.cast_domain.proofs.domain.Domain.send_data.Given as goal
+
+-- what is left to send leads to the same records
+abbrev pub invariant-loop-site : goal.invariant-loop-site
+invariant-loop-site l =
+    fold (send_data_in l.message) (records_of l.self l.outs) (drop l.site-index l.sites) ≡ fold (send_data_in l.message) (records_of l.self l.fn.outs) l.sites

@@ -1,0 +1,340 @@
+-- What the calls of a domain do to its records, exactly.
+use Rattle.std.specs.Prelude.{ℕ, ◌+◌, ◌-◌, Bool, true, false, not, ◌&&◌, ◌==◌, nat_lt, nat_le, if◌then◌else◌, List, [], ◌∷◌, ◌++◌, length, get_or, slice_get, Option, Some, None}
+use Rattle.std.specs.List.{fold, list_any, list_all, range_with_len}
+use Rattle.std.specs.Option.{option_map, option_map_or}
+use Rattle.std.specs.FinMap.Entries.{put}
+use Rattle.cast_types.specs.declared.names.SiteNo.{SiteNo}
+use Rattle.cast_types.specs.declared.names.GroupNo.{GroupNo}
+use Rattle.cast_types.specs.declared.names.Proc.{Proc}
+use Rattle.cast_types.specs.declared.names.Uid.{Uid}
+use Rattle.cast_types.specs.declared.names.Key.{Key}
+use Rattle.cast_types.specs.declared.names.Standing.{Standing}
+use Rattle.cast_types.specs.declared.names.Standing.TheVariants.{Outside, Joining, Member}
+use Rattle.cast_types.specs.declared.refusal.Refusal.{Refusal}
+use Rattle.cast_types.specs.declared.refusal.Refusal.TheVariants.{NoGroup, NotMember, AlreadyMember, HeldFull, TooLong}
+use Rattle.cast_types.specs.declared.limits.TheConstants.{MAX_NUMBER, MAX_PAYLOAD}
+use Rattle.cast_types.specs.Names.{site_eq, group_eq, group_cmp, proc_eq, uid_eq}
+use Rattle.cast_types.specs.Sets.{is_among}
+use Rattle.cast_types.specs.Places.{update}
+use Rattle.cast_types.specs.Repeat.{iterate}
+use Rattle.cast_types.specs.Stamps.{ClockList}
+use Rattle.cast_clock.specs.Times.{no_time, clock_of, view_of, count_in, bumped, entering}
+use Rattle.cast_frame.specs.declared.message.Body.{Body}
+use Rattle.cast_frame.specs.declared.message.Body.TheVariants as body
+use Rattle.cast_frame.specs.declared.message.Message.{Message}
+use Rattle.cast_frame.specs.declared.site.Change.{Change}
+use Rattle.cast_frame.specs.declared.site.Change.TheVariants as change
+use Rattle.cast_frame.specs.declared.site.SiteFrame.{SiteFrame}
+use Rattle.cast_frame.specs.declared.site.SiteFrame.TheVariants as frame
+use Rattle.cast_frame.specs.declared.client.Request.{Request}
+use Rattle.cast_frame.specs.declared.client.Request.TheVariants.{Join, Cast}
+use Rattle.cast_frame.specs.declared.client.Push.{Push}
+use Rattle.cast_frame.specs.declared.client.Push.TheVariants as push
+use Rattle.cast_frame.specs.Membership.{Membership}
+use Rattle.cast_delay.specs.Ready.{is_member, is_outside}
+use Rattle.cast_delay.specs.Rows.{standing_in}
+use Rattle.cast_delay.specs.declared.row.Fact.{Fact}
+use Rattle.cast_delay.specs.declared.row.Fact.TheVariants as fact
+use Rattle.cast_delay.specs.Rows.{told_row}
+use Rattle.cast_delay.specs.Queue.{Queue, new_row, row_of, change_row, next_key, after_delivery}
+use Rattle.cast_domain.specs.declared.record.GroupRecord.{GroupRecord}
+use Rattle.cast_domain.specs.declared.event.Command.{Command}
+use Rattle.cast_domain.specs.declared.event.Command.TheVariants as command
+use Rattle.cast_domain.specs.declared.event.Event.{Event}
+use Rattle.cast_domain.specs.declared.event.Event.TheVariants as event
+use Rattle.cast_domain.specs.declared.group.Verdict.TheVariants.{Again, Completes, Ignored}
+use Rattle.cast_domain.specs.Session.{first_session, told}
+use Rattle.cast_domain.specs.Group.{no_group, members_of, other_sites, sites_of, first_asking, with_request, with_answer, with_view, verdict_of, is_taken_in}
+use Rattle.cast_domain.specs.declared.home.Home.{Home}
+use Rattle.cast_domain.specs.Home.{first_home, is_empty, applied_of, after_request, after_installed, may_decide, decided}
+use Rattle.cast_domain.specs.Effects.{ask_frame, payload_of}
+use Rattle.cast_domain.specs.Rest.{install_frame}
+use Rattle.cast_domain.specs.Step.{may_raise, group_of}
+use Rattle.cast_domain.specs.Records.{Records, was_given}
+
+-- Names
+
+abbrev pub local_in : Records → ℕ → Proc
+local_in r k = record { site = r.site; serial = k }
+
+abbrev pub is_home_in : Records → Bool
+is_home_in r = site_eq r.site r.config.home
+
+-- where a group stands
+abbrev pub place_among : GroupNo → List GroupRecord → Option ℕ
+place_among g [] = None
+place_among g (x ∷ groups) = if group_eq x.name g then Some 0 else option_map (λ i. i + 1) (place_among g groups)
+
+abbrev pub place_in : Records → GroupNo → Option ℕ
+place_in r g = place_among g r.groups
+
+abbrev pub no_record : GroupRecord
+no_record = record { name = record { 0 = 0 }; here = no_group; home = first_home }
+
+-- the group at a place
+abbrev pub record_at : List GroupRecord → ℕ → GroupRecord
+record_at groups i = get_or groups i no_record
+
+abbrev pub standing_of : Queue → Proc → GroupNo → Standing
+standing_of q p g = option_map_or (λ row. standing_in row g) (row_of q.rows p) Outside
+
+abbrev pub time_of : Queue → Proc → ClockList
+time_of q p = option_map_or (λ row. row.time) (row_of q.rows p) no_time
+
+-- Changes of one part
+
+abbrev pub send_in : Records → SiteNo → SiteFrame → Records
+send_in r to f = record r { frames = r.frames ++ (r.config.domain, to, f) ∷ [] }
+
+abbrev pub push_in : Records → ℕ → Push → Records
+push_in r k p = if was_given (length r.sessions) k then record r { sessions = update r.sessions (k - 1) (told p) } else r
+
+abbrev pub tell_in : Records → Proc → Fact → Records
+tell_in r p f = record r { delay = record r.delay { rows = change_row p (told_row f) r.delay.rows } }
+
+abbrev pub with_here : (GroupRecord → GroupRecord) → Records → ℕ → Records
+with_here f r i = record r { groups = update r.groups i f }
+
+-- Sessions
+
+abbrev pub open_in : Records → Records
+open_in r =
+    let p : Proc = local_in r (r.used + 1) in
+    record r {
+      used = r.used + 1;
+      sessions = r.sessions ++ first_session p ∷ [];
+      delay = record r.delay { rows = r.delay.rows ++ new_row p ∷ [] };
+    }
+
+-- Requests
+
+-- the first request of a group is asked of the home
+abbrev pub ask_home_in : Records → ℕ → Records
+ask_home_in r i =
+    elim (first_asking (record_at r.groups i).here.requests) [
+      | Some a ↦ send_in r r.config.home (ask_frame (record_at r.groups i).name a)
+      | None ↦ r
+    ]
+
+abbrev pub request_in : Records → ℕ → Change → Proc → Records
+request_in r i what p =
+    let next : Records = record r { groups = update r.groups i (λ x. record x { here = with_request x.here what p }) } in
+    if is_empty (record_at r.groups i).here.requests then ask_home_in next i else next
+
+-- a call that may be refused leaves records and a refusal
+abbrev pub Attempt : Type 0
+Attempt = Records × Option Refusal
+
+abbrev pub join_at : Records → ℕ → GroupNo → ℕ → Attempt
+join_at r k g i =
+    let p : Proc = local_in r k in
+    let asked : ℕ = (record_at r.groups i).here.asked in
+    if not (is_outside (standing_of r.delay p g)) then (r, Some AlreadyMember)
+    else if asked == MAX_NUMBER then (r, Some HeldFull)
+    else (request_in (tell_in r p (fact.Standing g (Joining (asked + 1) (view_of (time_of r.delay p) g)))) i change.Join p, None)
+
+abbrev pub join_in : Records → ℕ → GroupNo → Attempt
+join_in r k g = option_map_or (join_at r k g) (place_in r g) (r, Some NoGroup)
+
+abbrev pub receive_in : Records → Message → Records
+receive_in r m =
+    record r {
+      got = r.got ++ m ∷ [];
+      delay = record r.delay { offered = r.delay.offered ++ record { key = record { 0 = length r.got }; id = m.id; times = m.times } ∷ [] };
+    }
+
+abbrev pub send_data_in : Message → Records → SiteNo → Records
+send_data_in m r to = send_in r to (frame.Data m)
+
+abbrev pub send_message_in : Records → ℕ → Message → Records
+send_message_in r i m = receive_in (fold (send_data_in m) r (other_sites r.site (members_of (record_at r.groups i).here))) m
+
+abbrev pub next_message_in : Records → Proc → GroupNo → ℕ → Body → Message
+next_message_in r p g i content =
+    let times : ClockList = bumped (time_of r.delay p) g p in
+    record {
+      id = record { group = g; view = (record_at r.groups i).here.number; proc = p; count = count_in times g p };
+      times = times;
+      body = content;
+    }
+
+abbrev pub cast_at : Records → ℕ → GroupNo → List ℕ → ℕ → Attempt
+cast_at r k g payload i =
+    let p : Proc = local_in r k in
+    if nat_lt MAX_PAYLOAD (length payload) then (r, Some TooLong)
+    else if not (is_member (standing_of r.delay p g)) then (r, Some NotMember)
+    else if not (may_raise (time_of r.delay p) g p) then (r, Some HeldFull)
+    else (send_message_in (tell_in r p (fact.Time (bumped (time_of r.delay p) g p))) i (next_message_in r p g i (body.Causal payload)), None)
+
+abbrev pub cast_in : Records → ℕ → GroupNo → List ℕ → Attempt
+cast_in r k g payload = option_map_or (cast_at r k g payload) (place_in r g) (r, Some NoGroup)
+
+abbrev pub reply_in : Attempt → ℕ → ℕ → Records
+reply_in a k tag = push_in a.0 k (push.Reply tag a.1)
+
+abbrev pub requested_in : Records → ℕ → Request → Records
+requested_in r k (Join tag g) = reply_in (join_in r k g) k tag
+requested_in r k (Cast tag g payload) = reply_in (cast_in r k g payload) k tag
+
+abbrev pub command_in : Records → ℕ → Command → Records
+command_in r k (command.Request q) = if was_given r.used k then requested_in r k q else r
+
+-- Frames
+
+abbrev pub is_received_in : Records → Uid → Bool
+is_received_in r u = list_any (λ m. uid_eq m.id u) r.got
+
+abbrev pub knows_groups_in : Records → Message → Bool
+knows_groups_in r m = list_all (λ c. is_among group_eq c.0 r.config.groups) m.times
+
+-- the message's own time has its view and its count, from 1 on
+abbrev pub counts_itself : Message → Bool
+counts_itself m =
+    ((clock_of m.times m.id.group).view == m.id.view)
+    && (nat_lt 0 m.id.count && (count_in m.times m.id.group m.id.proc == m.id.count))
+
+abbrev pub is_well_formed_in : Records → ℕ → Message → Bool
+is_well_formed_in r i m =
+    knows_groups_in r m && (is_among proc_eq m.id.proc (members_of (record_at r.groups i).here) && counts_itself m)
+
+abbrev pub is_used_in : Records → ℕ → SiteNo → Message → Bool
+is_used_in r i from m =
+    site_eq m.id.proc.site from && (not (site_eq from r.site) && ((m.id.view == (record_at r.groups i).here.number)
+    && is_well_formed_in r i m))
+
+abbrev pub receive_once_in : Records → Message → Records
+receive_once_in r m = if is_received_in r m.id then r else receive_in r m
+
+abbrev pub data_in : Records → ℕ → SiteNo → Message → Records
+data_in r i from m =
+    if is_used_in r i from m
+    then send_in (receive_once_in r m) from (frame.Ack m.id)
+    else r
+
+abbrev pub asked_frame_at : Records → ℕ → ℕ → SiteFrame
+asked_frame_at r i number = frame.Asked (record_at r.groups i).name number false
+
+abbrev pub asked_of_home_in : Records → ℕ → SiteNo → ℕ → Change → Proc → Records
+asked_of_home_in r i from number change.Join p =
+    let applied : ℕ = applied_of (record_at r.groups i).home from in
+    if not (is_home_in r) then r
+    else if number == applied + 1
+    then send_in (record r { groups = update r.groups i (λ x. record x { home = after_request x.home from number p }) }) from (asked_frame_at r i number)
+    else if nat_le number applied then send_in r from (asked_frame_at r i number) else r
+asked_of_home_in r i from number change.Leave p = r
+
+abbrev pub answered_in : Records → ℕ → SiteNo → ℕ → Bool → Records
+answered_in r i from number true = r
+answered_in r i from number false =
+    elim (first_asking (record_at r.groups i).here.requests) [
+      | Some a ↦
+          (if site_eq from r.config.home && (a.number == number)
+          then ask_home_in (record r { groups = update r.groups i (λ x. record x { here = with_answer x.here }) }) i
+          else r)
+      | None ↦ r
+    ]
+
+-- a process enters a view, and is told
+abbrev pub enter_in : GroupNo → ℕ → Membership → Records → Proc → Records
+enter_in g n members r p =
+    push_in
+    (tell_in
+    (tell_in r p (fact.Time (entering (time_of r.delay p) g n)))
+    p (fact.Standing g Member))
+    p.serial (push.View g n members)
+
+-- a process that a view names, where it is here and is taken in
+abbrev pub take_in : GroupNo → ℕ → Membership → ℕ → Records → Proc → Records
+take_in g n members request r p =
+    if site_eq p.site r.site && is_taken_in request (standing_of r.delay p g) then enter_in g n members r p else r
+
+abbrev pub view_in : Records → ℕ → ℕ → Membership → Records
+view_in r i n members =
+    record r {
+      groups = update r.groups i (λ x. record x { here = with_view r.site n members x.here });
+      delay = record r.delay { numbers = put group_cmp (record_at r.groups i).name n r.delay.numbers };
+    }
+
+abbrev pub complete_in : Records → ℕ → ℕ → Membership → ℕ → Records
+complete_in r i n members request =
+    fold (take_in (record_at r.groups i).name n members request) (view_in r i n members) members.list
+
+abbrev pub install_in : Records → ℕ → SiteNo → ℕ → Membership → ℕ → Records
+install_in r i from n members request =
+    if site_eq from r.config.home
+    then elim (verdict_of (record_at r.groups i).here n) [
+      | Again ↦ send_in r from (frame.Installed (record_at r.groups i).name n)
+      | Completes ↦ send_in (complete_in r i n members request) from (frame.Installed (record_at r.groups i).name n)
+      | Ignored ↦ r
+    ]
+    else r
+
+abbrev pub installed_in : Records → ℕ → SiteNo → ℕ → Records
+installed_in r i from n =
+    if is_home_in r
+    then record r { groups = update r.groups i (λ x. record x { home = after_installed x.home from n }) }
+    else r
+
+abbrev pub frame_at : Records → SiteNo → SiteFrame → ℕ → Records
+frame_at r from (frame.Data m) i = data_in r i from m
+frame_at r from (frame.Ack u) i = r
+frame_at r from (frame.Ask g number what p) i = asked_of_home_in r i from number what p
+frame_at r from (frame.Asked g number full) i = answered_in r i from number full
+frame_at r from (frame.Install g view members request cut tail) i = install_in r i from view members request
+frame_at r from (frame.Installed g view) i = installed_in r i from view
+
+abbrev pub frame_in : Records → SiteNo → SiteFrame → Records
+frame_in r from f =
+    if is_among site_eq from r.config.sites
+    then option_map_or (frame_at r from f) (place_in r (group_of f)) r
+    else r
+
+-- Events
+
+abbrev pub act_in : Records → Event → Records
+act_in r (event.Open d) = if r.used == MAX_NUMBER then r else open_in r
+act_in r (event.Command d k c) = command_in r k c
+act_in r (event.Frame d from f) = frame_in r from f
+
+-- The rest
+
+-- a process delivers the message under a key, and is told
+abbrev pub deliver_message_in : Records → Proc → Key → Message → Records
+deliver_message_in r p key m =
+    push_in
+    (record r {
+      delay = record r.delay { rows = after_delivery r.delay.offered p key r.delay.rows };
+      delivered = r.delivered ++ (r.config.domain, p, m.id) ∷ [];
+    })
+    p.serial (push.Deliver m.id (payload_of m.body))
+
+abbrev pub deliver_in : Proc → Records → Key → Records
+deliver_in p r key = option_map_or (deliver_message_in r p key) (slice_get r.got key.0) r
+
+abbrev pub deliver_first_in : Proc → Records → Records
+deliver_first_in p r = option_map_or (deliver_in p r) (next_key r.delay p) r
+
+abbrev pub deliver_all_in : Records → Proc → Records
+deliver_all_in r p = iterate (length r.got) (deliver_first_in p) r
+
+abbrev pub settle_at : Records → ℕ → Records
+settle_at r k = deliver_all_in r (local_in r (k + 1))
+
+abbrev pub settle_in : Records → Records
+settle_in r = fold settle_at r (range_with_len 0 r.used)
+
+abbrev pub send_install_in : GroupNo → Home → Records → SiteNo → Records
+send_install_in g h r to = send_in r to (install_frame g h to)
+
+abbrev pub decide_in : Records → ℕ → Records
+decide_in r i =
+    let x : GroupRecord = record_at r.groups i in
+    if may_decide x.home
+    then fold (send_install_in x.name (decided x.home)) (record r { groups = update r.groups i (λ y. record y { home = decided y.home }) }) (sites_of x.home.joins)
+    else r
+
+abbrev pub lead_in : Records → Records
+lead_in r = if is_home_in r then fold decide_in r (range_with_len 0 (length r.groups)) else r
+
+abbrev pub pass_in : Records → Records
+pass_in r = lead_in (settle_in r)

@@ -1,0 +1,94 @@
+-- When a domain's records stand for a history.
+use Rattle.std.specs.Prelude.{◌≡◌, ℕ, zero, suc, ◌+◌, true, false, if◌then◌else◌, List, [], ◌∷◌, length, map, Contains, slice_get, unwrap_or}
+use Rattle.std.specs.Option.{IsSome}
+use Rattle.std.specs.FinMap.Entries.{is_sorted}
+use Rattle.cast_types.specs.declared.names.DomainNo.{DomainNo}
+use Rattle.cast_types.specs.declared.names.GroupNo.{GroupNo}
+use Rattle.cast_types.specs.declared.names.Proc.{Proc}
+use Rattle.cast_types.specs.Names.{site_eq, group_cmp}
+use Rattle.cast_types.specs.Stamps.{is_stamp}
+use Rattle.cast_clock.specs.Times.{view_of}
+use Rattle.cast_frame.specs.declared.message.Message.{Message}
+use Rattle.cast_frame.specs.declared.site.SiteFrame.{SiteFrame}
+use Rattle.cast_frame.specs.declared.site.SiteFrame.TheVariants as frame
+use Rattle.cast_frame.specs.Rising.{is_rising}
+use Rattle.cast_frame.specs.Membership.{is_members}
+use Rattle.cast_delay.specs.Ready.{Process, is_member, is_outside}
+use Rattle.cast_delay.specs.Queue.{row_of}
+use Rattle.cast_delay.specs.Fits.{Received, Fits as QueueFits}
+use Rattle.cast_domain.specs.declared.domain.Domain.{Domain}
+use Rattle.cast_domain.specs.declared.record.GroupRecord.{GroupRecord}
+use Rattle.cast_domain.specs.declared.event.Event.{Event}
+use Rattle.cast_domain.specs.declared.event.Event.TheVariants as event
+use Rattle.cast_domain.specs.declared.session.Session.{Session}
+use Rattle.cast_domain.specs.Session.{no_session, is_open}
+use Rattle.cast_domain.specs.Group.{has_view}
+use Rattle.cast_domain.specs.State.{State, no_process, local, gate_of, is_group}
+use Rattle.cast_domain.specs.Run.{before_event}
+use Rattle.cast_domain.specs.Records.{Records, records_of, no_outs, was_given}
+
+-- messages in order of receipt, each under its place as key
+abbrev pub keyed : ℕ → List Message → List Received
+keyed n [] = []
+keyed n (m ∷ got) = record { key = record { 0 = n }; message = m } ∷ keyed (n + 1) got
+
+-- a process by its name
+abbrev pub process_named : State → Proc → Process
+process_named s p = if site_eq p.site s.here then s.process p.serial else no_process
+
+-- what is kept of a group
+abbrev pub record_for : State → GroupNo → GroupRecord
+record_for s g = record { name = g; here = s.group g; home = s.home g }
+
+-- the session of a serial; serials count from 1
+abbrev pub session_in : List Session → ℕ → Session
+session_in sessions zero = no_session
+session_in sessions (suc i) = unwrap_or (slice_get sessions i) no_session
+
+-- with the number of the domain
+abbrev pub tagged : {A B : Type 0} → DomainNo → List (A × B) → List (DomainNo × A × B)
+tagged d xs = map (λ x. (d, x.0, x.1)) xs
+
+-- the records of a step so far stand for the state
+pub record Fits (r : Records) (s : State) : Type 0 where
+  pub site : r.site ≡ s.here
+  pub config : r.config ≡ s.config
+  pub used : r.used ≡ s.used
+  pub given : length r.sessions ≡ s.used
+  pub sessions : (k : ℕ) → s.session k ≡ session_in r.sessions k
+  -- no session is closed yet
+  pub all_open : (k : ℕ) → is_open (s.session k) ≡ was_given s.used k
+  pub groups : r.groups ≡ map (record_for s) s.config.groups
+  pub got : r.got ≡ s.got
+  pub delay : QueueFits s.config.groups (gate_of s) (process_named s) (keyed 0 s.got) r.delay
+  pub admitted : (k : ℕ) → was_given s.used k ≡ true → IsSome (row_of r.delay.rows (local s k))
+  pub frames : r.frames ≡ tagged s.config.domain s.frames
+  pub delivered : r.delivered ≡ tagged s.config.domain s.deliveries
+
+-- what holds of each history that events lead to: a member's time is in the view of its group, and the site has that
+-- view; groups are those that are configured, each once; and the times of messages are in order
+pub record IsLawful (s : State) : Type 0 where
+  pub rising : is_rising group_cmp s.config.groups ≡ true
+  pub known : (k : ℕ) (g : GroupNo) → is_outside ((s.process k).standing g) ≡ false → is_group s g ≡ true
+  pub current : (k : ℕ) (g : GroupNo) → is_member ((s.process k).standing g) ≡ true → view_of (s.process k).time g ≡ (s.group g).number
+  pub viewed : (k : ℕ) (g : GroupNo) → is_member ((s.process k).standing g) ≡ true → has_view (s.group g) ≡ true
+  pub stamped : (m : Message) → Contains s.got m → is_sorted group_cmp m.times ≡ true
+
+-- a domain between two steps stands for a history
+pub record Means (d : Domain) (s : State) : Type 0 where
+  pub fits : Fits (records_of d no_outs) (before_event s)
+  pub lawful : IsLawful s
+
+-- what the types of a frame's parts say
+abbrev pub IsTypedFrame : SiteFrame → Type 0
+IsTypedFrame (frame.Data m) = is_stamp m.times ≡ true
+IsTypedFrame (frame.Ack u) = Unit {0}
+IsTypedFrame (frame.Ask g number what p) = Unit {0}
+IsTypedFrame (frame.Asked g number full) = Unit {0}
+IsTypedFrame (frame.Install g view members request cut tail) = is_members members ≡ true
+IsTypedFrame (frame.Installed g view) = Unit {0}
+
+abbrev pub IsTyped : Event → Type 0
+IsTyped (event.Open d) = Unit {0}
+IsTyped (event.Command d k c) = Unit {0}
+IsTyped (event.Frame d from f) = IsTypedFrame f

@@ -1,0 +1,32 @@
+-- What a step of a domain is: the step of the history that its records stand for.
+use Rattle.std.specs.Prelude.{◌≡◌, []}
+use Rattle.cast_domain.specs.declared.domain.Domain.{Domain}
+use Rattle.cast_domain.specs.declared.event.Event.{Event}
+use Rattle.cast_domain.specs.declared.event.Outs.{Outs}
+use Rattle.cast_domain.specs.declared.event.Taken.{Taken}
+use Rattle.cast_domain.specs.State.{State}
+use Rattle.cast_domain.specs.Run.{IsStep}
+use Rattle.cast_domain.specs.Rest.{RestsAt}
+use Rattle.cast_domain.specs.Records.{Records, outs_then}
+use Rattle.cast_domain.specs.Fits.{Fits, IsLawful, Means, tagged}
+
+-- whatever lawful history the old records stand for, the new ones stand for the one in which it comes to rest
+abbrev pub IsRested : Records → Records → Type 0
+IsRested old new = (s : State) → Fits old s → IsLawful s → (t : State) × RestsAt s t × Fits new t
+
+-- what the last step of a history sent and delivered
+abbrev pub step_outs : State → Outs
+step_outs s =
+    record { frames = tagged s.config.domain s.frames; halted = []; delivered = tagged s.config.domain s.deliveries }
+
+-- from a history s the event leads with this answer to one for which the domain then stands, and what that step sent
+-- and delivered is added
+pub record IsStepOf (s : State) (e : Event) (answer : Taken) (new : Domain) (before : Outs) (after : Outs) : Type 0 where
+  pub end : State
+  pub steps : IsStep s e answer end
+  pub means : Means new end
+  pub outs : after ≡ outs_then before (step_outs end)
+
+-- whatever history the domain stood for
+abbrev pub IsStepped : Domain → Event → Taken → Domain → Outs → Outs → Type 0
+IsStepped old e answer new before after = (s : State) → Means old s → IsStepOf s e answer new before after

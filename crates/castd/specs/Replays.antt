@@ -1,0 +1,113 @@
+-- What a replay gives: for each domain, what a daemon gives that serves it alone.
+use Rattle.std.specs.Prelude.{◌≡◌, ℕ, zero, suc, Bool, true, false, not, ◌&&◌, if◌then◌else◌, List, [], ◌∷◌, map, filter, slice_get, unwrap_or, Result, Ok, Err, ◌↔◌}
+use Rattle.std.specs.List.{AllZip, list_any, list_all}
+use Rattle.cast_types.specs.declared.names.DomainNo.{DomainNo}
+use Rattle.cast_types.specs.declared.names.SiteNo.{SiteNo}
+use Rattle.cast_types.specs.Names.{group_cmp}
+use Rattle.cast_frame.specs.Rising.{is_rising}
+use Rattle.cast_frame.specs.declared.client.Push.{Push}
+use Rattle.cast_frame.specs.declared.site.SiteFrame.{SiteFrame}
+use Rattle.cast_domain.specs.declared.config.Config.{Config}
+use Rattle.cast_domain.specs.declared.config.DomainConfig.{DomainConfig}
+use Rattle.cast_domain.specs.declared.domain.Domain.{Domain}
+use Rattle.cast_domain.specs.declared.event.Event.{Event}
+use Rattle.cast_domain.specs.declared.event.Taken.{Taken}
+use Rattle.cast_domain.specs.Events.{domain_of}
+use Rattle.cast_domain.specs.Records.{number_of, is_halted, sessions_of}
+use Rattle.cast_domain.specs.Run.{IsAlone}
+use Rattle.castd.specs.declared.table.Fault.{Fault}
+use Rattle.castd.specs.declared.table.Fault.TheVariants.{NoMemory, Halted, NoDomain}
+use Rattle.castd.specs.declared.table.Given.{Given}
+use Rattle.castd.specs.declared.table.Log.{Log}
+use Rattle.castd.specs.Tables.{domain_eq}
+
+-- Configurations
+
+-- a domain of this number is among the configured ones
+abbrev pub is_configured : DomainNo → List DomainConfig → Bool
+is_configured d configs = list_any (λ c. domain_eq c.domain d) configs
+
+-- no two domains have one number
+abbrev pub are_distinct : List DomainConfig → Bool
+are_distinct [] = true
+are_distinct (c ∷ configs) = not (is_configured c.domain configs) && are_distinct configs
+
+-- each domain names its groups in rising order
+abbrev pub have_rising_groups : List DomainConfig → Bool
+have_rising_groups configs = list_all (λ c. is_rising group_cmp c.groups) configs
+
+-- The part of one domain
+
+-- the events that name a domain
+abbrev pub events_of : DomainNo → List Event → List Event
+events_of d events = filter (λ e. domain_eq (domain_of e) d) events
+
+-- the answers to the events that name a domain
+abbrev pub answers_of : DomainNo → List Event → List (Result Taken Fault) → List (Result Taken Fault)
+answers_of d [] answers = []
+answers_of d (e ∷ events) [] = []
+answers_of d (e ∷ events) (a ∷ answers) =
+    if domain_eq (domain_of e) d then a ∷ answers_of d events answers else answers_of d events answers
+
+-- the frames sent for a domain, each with the site that it goes to
+abbrev pub frames_of : DomainNo → List (DomainNo × SiteNo × SiteFrame) → List (SiteNo × SiteFrame)
+frames_of d frames = map (λ f. (f.1, f.2)) (filter (λ f. domain_eq f.0 d) frames)
+
+-- an answer says that its event halted a domain
+abbrev pub says_halted : Result Taken Fault → Bool
+says_halted (Ok taken) = false
+says_halted (Err NoMemory) = false
+says_halted (Err (Halted d)) = true
+says_halted (Err NoDomain) = false
+
+-- an answer says that there was no memory to begin with
+abbrev pub lacks_memory : Result Taken Fault → Bool
+lacks_memory (Ok taken) = false
+lacks_memory (Err NoMemory) = true
+lacks_memory (Err (Halted d)) = false
+lacks_memory (Err NoDomain) = false
+
+-- all pushes to the session of a serial; serials count from 1
+abbrev pub pushes_at : List (List Push) → ℕ → List Push
+pushes_at pushes zero = []
+pushes_at pushes (suc i) = unwrap_or (slice_get pushes i) []
+
+-- what a domain gave, where these frames were sent for it and for others
+abbrev pub given_of : List (DomainNo × SiteNo × SiteFrame) → Domain → Given
+given_of frames d =
+    record {
+      domain = number_of d;
+      pushes = map (λ s. s.pushed) (sessions_of d);
+      sent = frames_of (number_of d) frames;
+      halted = is_halted d;
+    }
+
+-- Whole replays
+
+-- a domain answered, pushed and sent what a daemon does that serves it alone, with no other event
+pub record IsServedAlone (here : SiteNo) (config : DomainConfig) (events : List Event) (answers : List (Result Taken Fault)) (g : Given) : Type 0 where
+  pub taken : List Taken
+  pub answered : answers ≡ map Ok taken
+  pub alone : IsAlone here config events taken g.sent (pushes_at g.pushes)
+
+-- what is given for a domain: it is shown as halted exactly where an answer to its own events says so, and where it is
+-- not, it is served as if alone
+pub record IsServed (here : SiteNo) (events : List Event) (answers : List (Result Taken Fault)) (config : DomainConfig) (g : Given) : Type 0 where
+  pub domain : g.domain ≡ config.domain
+  pub halted : g.halted ≡ list_any says_halted (answers_of config.domain events answers)
+  pub alone : g.halted ≡ false → IsServedAlone here config (events_of config.domain events) (answers_of config.domain events answers) g
+
+-- each configured domain is served as if alone, in the order of the configuration
+abbrev pub ServesEachAlone : Config → List Event → Log → Type 0
+ServesEachAlone config events log =
+    are_distinct config.domains ≡ true
+    → have_rising_groups config.domains ≡ true
+    → AllZip (IsServed config.site events log.answers) config.domains log.given
+
+-- an event is answered that it names no domain exactly where it names none that is configured
+abbrev pub TellsNoDomain : List DomainConfig → Event → Result Taken Fault → Type 0
+TellsNoDomain configs event answer = (answer ≡ Err NoDomain) ↔ (is_configured (domain_of event) configs ≡ false)
+
+-- the same of each event
+abbrev pub AnswersNoDomain : Config → List Event → Log → Type 0
+AnswersNoDomain config events log = AllZip (TellsNoDomain config.domains) events log.answers
