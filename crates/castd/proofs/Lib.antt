@@ -5,3 +5,4 @@ pub mod Parts
 pub mod Runs
 pub mod Served
 pub mod Replayed
+pub mod Shown

@@ -19,7 +19,10 @@ use Rattle.castd.specs.declared.table.Fault.{Fault}
 use Rattle.castd.specs.declared.table.Fault.TheVariants.{NoMemory, Halted, NoDomain}
 use Rattle.castd.specs.declared.table.Given.{Given}
 use Rattle.castd.specs.declared.table.Log.{Log}
+use Rattle.castd.specs.declared.script.Script.{Script}
 use Rattle.castd.specs.Tables.{domain_eq}
+use Rattle.castd.specs.Scripts.{SpellsScript, used_lines_of}
+use Rattle.castd.specs.Texts.{log_text}
 
 -- Configurations
 
@@ -111,3 +114,11 @@ TellsNoDomain configs event answer = (answer ≡ Err NoDomain) ↔ (is_configure
 -- the same of each event
 abbrev pub AnswersNoDomain : Config → List Event → Log → Type 0
 AnswersNoDomain config events log = AllZip (TellsNoDomain config.domains) events log.answers
+
+-- a text shows what comes of the script that the bytes spell, each domain served as if alone
+pub record Shows (bytes : List ℕ) (text : List ℕ) : Type 0 where
+  pub script : Script
+  pub spelled : SpellsScript (used_lines_of bytes) script
+  pub log : Log
+  pub alone : AllZip (IsServed script.config.site script.events log.answers) script.config.domains log.given
+  pub printed : text ≡ log_text script.config.site log

@@ -1,4 +1,6 @@
-ghost use Rattle.std.specs.Prelude.{◌≡◌, ◌≢◌, ◌≤◌, ◌↔◌};
+ghost use Rattle.std.specs.Prelude.{◌≡◌, ◌≢◌, ◌≤◌, ◌↔◌, IfOk};
+ghost use Rattle.std.specs.String.{string_bytes};
+ghost use Rattle.castd.specs.Replays.{Shows};
 ghost use Rattle.std.specs.Str.{IsUtf8};
 ghost use Rattle.castd.specs.declared.run.RunFault.TheVariants.{NotText, Script, NoMemory};
 
@@ -86,11 +88,23 @@ pub fn run_script<O: Write, E: Write>(
     }
 }
 
+// The bytes as a text.
+fn text_of(bytes: &[u8]) -> Result<&str, RunFault>
+    ensures text { (result ≡ Err NotText) ↔ ¬ (IsUtf8 bytes.now) }
+    ensures same { IfOk result (λ text. text.now ≡ bytes.now) }
+{
+    match str::from_utf8(bytes) {
+        Ok(text) => Ok(text),
+        Err(_) => Err(RunFault::NotText),
+    }
+}
+
 // The printed log of a script.
 fn printed_log(alloc: Global, bytes: &[u8]) -> Result<String, RunFault>
-    ensures { (result ≡ Err NotText) ↔ ¬ (IsUtf8 bytes.now) }
+    ensures text { (result ≡ Err NotText) ↔ ¬ (IsUtf8 bytes.now) }
+    ensures shown { IfOk result (λ text. Shows bytes.now (string_bytes text)) }
 {
-    let text = str::from_utf8(bytes).map_err(|_| RunFault::NotText)?;
+    let text = text_of(bytes)?;
     let script = parse(alloc, text)?;
     let site = script.config.site;
     let log = replay(alloc, script.config, script.events.as_slice())?;
