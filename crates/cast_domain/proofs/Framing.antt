@@ -7,7 +7,7 @@ use Rattle.std.proofs.lemmas.Bool.{and_parts, eqb-true, ltb-true}
 use Rattle.cast_types.specs.declared.names.SiteNo.{SiteNo}
 use Rattle.cast_types.specs.declared.names.GroupNo.{GroupNo}
 use Rattle.cast_types.specs.declared.names.Proc.{Proc}
-use Rattle.cast_types.specs.Names.{site_eq, group_eq, proc_eq, uid_eq}
+use Rattle.cast_types.specs.Names.{site_eq, group_eq, proc_eq, uid_eq, is_causal}
 use Rattle.cast_types.specs.Places.{update}
 use Rattle.cast_types.specs.Sets.{is_among}
 use Rattle.cast_types.proofs.Orders.{same_site}
@@ -17,6 +17,7 @@ use Rattle.cast_frame.specs.declared.site.Change.{Change}
 use Rattle.cast_frame.specs.declared.site.Change.TheVariants as change
 use Rattle.cast_frame.specs.declared.site.SiteFrame.{SiteFrame}
 use Rattle.cast_frame.specs.declared.site.SiteFrame.TheVariants as frame
+use Rattle.cast_frame.specs.Bodies.{kind_of}
 use Rattle.cast_frame.specs.Membership.{Membership, is_members}
 use Rattle.cast_delay.specs.Fits.{IsSound}
 use Rattle.cast_domain.specs.declared.record.GroupRecord.{GroupRecord}
@@ -28,7 +29,7 @@ use Rattle.cast_domain.specs.State.{State, is_home, is_site, is_group, set_group
 use Rattle.cast_domain.specs.Effects.{asking, receiving, completing}
 use Rattle.cast_domain.specs.Step.{is_used, on_data, is_from_home, on_ask, on_asked, on_install, on_installed, group_of, on_frame, framed}
 use Rattle.cast_domain.specs.Records.{Records}
-use Rattle.cast_domain.specs.Calls.{is_home_in, place_in, record_at, send_in, ask_home_in, receive_in, is_received_in, counts_itself, is_used_in, data_in, asked_of_home_in, answered_in, complete_in, install_in, installed_in, frame_at, frame_in}
+use Rattle.cast_domain.specs.Calls.{is_home_in, place_in, record_at, send_in, ask_home_in, receive_in, is_received_in, counts_itself, is_well_formed_in, is_used_in, data_in, asked_of_home_in, answered_in, complete_in, install_in, installed_in, frame_at, frame_in}
 use Rattle.cast_domain.specs.Fits.{Fits, IsLawful, IsTypedFrame}
 use Rattle.cast_domain.proofs.Standing.{fits_if, record_there, place_some, place_none, fits_send, fits_here, fits_home, fits_receive}
 use Rattle.cast_domain.proofs.Commands.{fits_ask_home}
@@ -57,7 +58,8 @@ used_counts r i from m used =
     let a = and_parts (site_eq m.id.proc.site from) _ used in
     let b = and_parts (not (site_eq from r.site)) _ a.1 in
     let c = and_parts (m.id.view == (record_at r.groups i).here.number) _ b.1 in
-    let d = and_parts (list_all (λ x. is_among group_eq x.0 r.config.groups) m.times) _ c.1 in
+    let whole = and_parts (is_well_formed_in r i m) (is_causal (kind_of m.body)) c.1 in
+    let d = and_parts (list_all (λ x. is_among group_eq x.0 r.config.groups) m.times) _ whole.0 in
     (and_parts (is_among proc_eq m.id.proc (members_of (record_at r.groups i).here)) (counts_itself m) d.1).1
 
 -- a message is received once, and acknowledged each time
@@ -66,7 +68,7 @@ fits_data r s f i from m at listed =
     let there = record_there r s f i m.id.group at in
     let same : is_used_in r i from m ≡ is_used s from m = (λ j.
     site_eq m.id.proc.site from && (not (site_eq from (f.site j)) && ((m.id.view == (there j).here.number)
-    && (sym listed j && (list_all (λ c. is_among group_eq c.0 (f.config j).groups) m.times && (is_among proc_eq m.id.proc (members_of (there j).here) && counts_itself m)))))) in
+    && ((sym listed j && (list_all (λ c. is_among group_eq c.0 (f.config j).groups) m.times && (is_among proc_eq m.id.proc (members_of (there j).here) && counts_itself m))) && is_causal (kind_of m.body))))) in
     let next : Records = if is_received_in r m.id then r else receive_in r m in
     let t : State = if is_received s m.id then s else receiving s m in
     fits_if (is_used_in r i from m) (is_used s from m) (send_in next from (frame.Ack m.id)) r (emitted t from (frame.Ack m.id)) s same
@@ -151,10 +153,16 @@ fits_installed r s f l i g at from n =
 fits_frame_at : (r : Records) (s : State) → Fits r s → IsLawful s → (i : ℕ) (from : SiteNo) (x : SiteFrame) → slice_get s.config.groups i ≡ Some (group_of x) → is_group s (group_of x) ≡ true → IsTypedFrame x → Fits (frame_at r from x i) (on_frame s from x)
 fits_frame_at r s f l i from (frame.Data m) at listed typed = fits_data r s f i from m at listed
 fits_frame_at r s f l i from (frame.Ack u) at listed typed = f
+fits_frame_at r s f l i from (frame.Stable u) at listed typed = f
 fits_frame_at r s f l i from (frame.Ask g number what p) at listed typed = fits_ask r s f l i g at from number what p
 fits_frame_at r s f l i from (frame.Asked g number full) at listed typed = fits_asked r s f l i g at from number full
+fits_frame_at r s f l i from (frame.Prepare g view) at listed typed = f
+fits_frame_at r s f l i from (frame.Flushed g view counts tail kept) at listed typed = f
+fits_frame_at r s f l i from (frame.Want u) at listed typed = f
+fits_frame_at r s f l i from (frame.Forward m) at listed typed = f
 fits_frame_at r s f l i from (frame.Install g view members request cut tail) at listed typed = fits_install r s f l i g at listed from view members request typed
 fits_frame_at r s f l i from (frame.Installed g view) at listed typed = fits_installed r s f l i g at from view
+fits_frame_at r s f l i from (frame.Out g view) at listed typed = f
 
 -- one test after another, or both at once
 both_tests : (a b : Bool) (u v : State) → (if a then (if b then u else v) else v) ≡ (if a && b then u else v)

@@ -149,10 +149,16 @@ same_on_installed s from g n = same_if s (set_home s g (after_installed (s.home 
 pub lawful_on_frame : (s : State) (from : SiteNo) (f : SiteFrame) → IsLawful s → is_group s (group_of f) ≡ true → IsTypedFrame f → IsLawful (on_frame s from f)
 lawful_on_frame s from (frame.Data m) l listed typed = lawful_on_data s from m l typed
 lawful_on_frame s from (frame.Ack u) l listed typed = l
+lawful_on_frame s from (frame.Stable u) l listed typed = l
 lawful_on_frame s from (frame.Ask g number what p) l listed typed = lawful_same s (on_ask s from g number what p) (same_on_ask s from g number what p) l
 lawful_on_frame s from (frame.Asked g number full) l listed typed = lawful_same s (on_asked s from g number full) (same_on_asked s from g number full) l
+lawful_on_frame s from (frame.Prepare g view) l listed typed = l
+lawful_on_frame s from (frame.Flushed g view counts tail kept) l listed typed = l
+lawful_on_frame s from (frame.Want u) l listed typed = l
+lawful_on_frame s from (frame.Forward m) l listed typed = l
 lawful_on_frame s from (frame.Install g view members request cut tail) l listed typed = lawful_on_install s from g view members request l listed
 lawful_on_frame s from (frame.Installed g view) l listed typed = lawful_same s (on_installed s from g view) (same_on_installed s from g view) l
+lawful_on_frame s from (frame.Out g view) l listed typed = l
 
 pub lawful_framed : (s : State) (from : SiteNo) (f : SiteFrame) → IsLawful s → IsTypedFrame f → IsLawful (framed s from f)
 lawful_framed s from f l typed =

@@ -13,7 +13,7 @@ use Rattle.cast_types.specs.declared.names.Standing.TheVariants.{Outside, Joinin
 use Rattle.cast_types.specs.declared.refusal.Refusal.{Refusal}
 use Rattle.cast_types.specs.declared.refusal.Refusal.TheVariants.{NoGroup, NotMember, AlreadyMember, HeldFull, TooLong}
 use Rattle.cast_types.specs.declared.limits.TheConstants.{MAX_NUMBER, MAX_PAYLOAD}
-use Rattle.cast_types.specs.Names.{site_eq, group_eq, group_cmp, proc_eq, uid_eq}
+use Rattle.cast_types.specs.Names.{site_eq, group_eq, group_cmp, proc_eq, uid_eq, is_causal}
 use Rattle.cast_types.specs.Sets.{is_among}
 use Rattle.cast_types.specs.Places.{update}
 use Rattle.cast_types.specs.Repeat.{iterate}
@@ -30,6 +30,7 @@ use Rattle.cast_frame.specs.declared.client.Request.{Request}
 use Rattle.cast_frame.specs.declared.client.Request.TheVariants.{Join, Cast}
 use Rattle.cast_frame.specs.declared.client.Push.{Push}
 use Rattle.cast_frame.specs.declared.client.Push.TheVariants as push
+use Rattle.cast_frame.specs.Bodies.{kind_of}
 use Rattle.cast_frame.specs.Membership.{Membership}
 use Rattle.cast_delay.specs.Ready.{is_member, is_outside}
 use Rattle.cast_delay.specs.Rows.{standing_in}
@@ -200,7 +201,7 @@ is_well_formed_in r i m =
 abbrev pub is_used_in : Records → ℕ → SiteNo → Message → Bool
 is_used_in r i from m =
     site_eq m.id.proc.site from && (not (site_eq from r.site) && ((m.id.view == (record_at r.groups i).here.number)
-    && is_well_formed_in r i m))
+    && (is_well_formed_in r i m && is_causal (kind_of m.body))))
 
 abbrev pub receive_once_in : Records → Message → Records
 receive_once_in r m = if is_received_in r m.id then r else receive_in r m
@@ -278,10 +279,16 @@ installed_in r i from n =
 abbrev pub frame_at : Records → SiteNo → SiteFrame → ℕ → Records
 frame_at r from (frame.Data m) i = data_in r i from m
 frame_at r from (frame.Ack u) i = r
+frame_at r from (frame.Stable u) i = r
 frame_at r from (frame.Ask g number what p) i = asked_of_home_in r i from number what p
 frame_at r from (frame.Asked g number full) i = answered_in r i from number full
+frame_at r from (frame.Prepare g view) i = r
+frame_at r from (frame.Flushed g view counts tail kept) i = r
+frame_at r from (frame.Want u) i = r
+frame_at r from (frame.Forward m) i = r
 frame_at r from (frame.Install g view members request cut tail) i = install_in r i from view members request
 frame_at r from (frame.Installed g view) i = installed_in r i from view
+frame_at r from (frame.Out g view) i = r
 
 abbrev pub frame_in : Records → SiteNo → SiteFrame → Records
 frame_in r from f =

@@ -72,8 +72,11 @@ sending_message s k m =
 abbrev pub sending : State → GroupNo → ℕ → Body → State
 sending s g k content = sending_message s k (next_message s g k content)
 
+-- what a program is told of a body; one without a payload is never delivered, and stands here for no bytes
 abbrev pub payload_of : Body → List ℕ
 payload_of (body.Causal payload) = payload
+payload_of (body.Atomic payload) = payload
+payload_of (body.Order sequence) = []
 
 -- a process delivers a message, and the program is told
 abbrev pub delivering : State → ℕ → Message → State

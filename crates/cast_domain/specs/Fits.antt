@@ -83,10 +83,16 @@ pub record Means (d : Domain) (s : State) : Type 0 where
 abbrev pub IsTypedFrame : SiteFrame → Type 0
 IsTypedFrame (frame.Data m) = is_stamp m.times ≡ true
 IsTypedFrame (frame.Ack u) = Unit {0}
+IsTypedFrame (frame.Stable u) = Unit {0}
 IsTypedFrame (frame.Ask g number what p) = Unit {0}
 IsTypedFrame (frame.Asked g number full) = Unit {0}
+IsTypedFrame (frame.Prepare g view) = Unit {0}
+IsTypedFrame (frame.Flushed g view counts tail kept) = Unit {0}
+IsTypedFrame (frame.Want u) = Unit {0}
+IsTypedFrame (frame.Forward m) = Unit {0}
 IsTypedFrame (frame.Install g view members request cut tail) = is_members members ≡ true
 IsTypedFrame (frame.Installed g view) = Unit {0}
+IsTypedFrame (frame.Out g view) = Unit {0}
 
 abbrev pub IsTyped : Event → Type 0
 IsTyped (event.Open d) = Unit {0}

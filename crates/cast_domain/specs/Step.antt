@@ -7,7 +7,7 @@ use Rattle.cast_types.specs.declared.names.Standing.TheVariants.{Joining}
 use Rattle.cast_types.specs.declared.refusal.Refusal.{Refusal}
 use Rattle.cast_types.specs.declared.refusal.Refusal.TheVariants.{NotOpen, TooManySessions, NoGroup, NotMember, AlreadyMember, HeldFull, TooLong}
 use Rattle.cast_types.specs.declared.limits.TheConstants.{MAX_NUMBER, MAX_PAYLOAD}
-use Rattle.cast_types.specs.Names.{site_eq}
+use Rattle.cast_types.specs.Names.{site_eq, is_causal}
 use Rattle.cast_types.specs.Stamps.{ClockList, is_stamp}
 use Rattle.cast_clock.specs.Times.{view_of, count_in, bumped, has_room}
 use Rattle.cast_frame.specs.declared.message.Body.TheVariants as body
@@ -19,6 +19,7 @@ use Rattle.cast_frame.specs.declared.site.SiteFrame.TheVariants as frame
 use Rattle.cast_frame.specs.declared.client.Request.{Request}
 use Rattle.cast_frame.specs.declared.client.Request.TheVariants.{Join, Cast}
 use Rattle.cast_frame.specs.declared.client.Push.TheVariants as push
+use Rattle.cast_frame.specs.Bodies.{kind_of}
 use Rattle.cast_frame.specs.Membership.{Membership}
 use Rattle.cast_delay.specs.Ready.{is_member, is_outside}
 use Rattle.cast_domain.specs.Session.{first_session, is_open}
@@ -94,11 +95,11 @@ commanded s k (command.Request r) = requested s k r
 
 -- Data
 
--- a message of the site's view, from the process's own site, which is another
+-- a message of the site's view, from the process's own site, which is another; messages of other kinds are ignored
 abbrev pub is_used : State → SiteNo → Message → Bool
 is_used s from m =
     site_eq m.id.proc.site from && (not (site_eq from s.here) && ((m.id.view == (s.group m.id.group).number)
-    && is_well_formed s (members_of (s.group m.id.group)) m))
+    && (is_well_formed s (members_of (s.group m.id.group)) m && is_causal (kind_of m.body))))
 
 -- received once, and acknowledged as often as it comes
 abbrev pub on_data : State → SiteNo → Message → State
@@ -151,18 +152,31 @@ on_installed s from g n = if is_home s then set_home s g (after_installed (s.hom
 abbrev pub group_of : SiteFrame → GroupNo
 group_of (frame.Data m) = m.id.group
 group_of (frame.Ack u) = u.group
+group_of (frame.Stable u) = u.group
 group_of (frame.Ask g number what p) = g
 group_of (frame.Asked g number full) = g
+group_of (frame.Prepare g view) = g
+group_of (frame.Flushed g view counts tail kept) = g
+group_of (frame.Want u) = u.group
+group_of (frame.Forward m) = m.id.group
 group_of (frame.Install g view members request cut tail) = g
 group_of (frame.Installed g view) = g
+group_of (frame.Out g view) = g
 
+-- a frame that no rule uses is ignored
 abbrev pub on_frame : State → SiteNo → SiteFrame → State
 on_frame s from (frame.Data m) = on_data s from m
 on_frame s from (frame.Ack u) = s
+on_frame s from (frame.Stable u) = s
 on_frame s from (frame.Ask g number what p) = on_ask s from g number what p
 on_frame s from (frame.Asked g number full) = on_asked s from g number full
+on_frame s from (frame.Prepare g view) = s
+on_frame s from (frame.Flushed g view counts tail kept) = s
+on_frame s from (frame.Want u) = s
+on_frame s from (frame.Forward m) = s
 on_frame s from (frame.Install g view members request cut tail) = on_install s from g view members request
 on_frame s from (frame.Installed g view) = on_installed s from g view
+on_frame s from (frame.Out g view) = s
 
 -- frames from a site or for a group that is not configured are ignored
 abbrev pub framed : State → SiteNo → SiteFrame → State

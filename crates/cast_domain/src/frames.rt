@@ -1,6 +1,6 @@
 ghost use Rattle.std.specs.Prelude.{◌≡◌, ◌<◌, IfOk, OnOk, vec_len};
 ghost use Rattle.std.specs.List.{fold, list_all, list_any};
-ghost use Rattle.cast_types.specs.Names.{group_eq, proc_eq, uid_eq};
+ghost use Rattle.cast_types.specs.Names.{group_eq, is_causal, proc_eq, uid_eq};
 ghost use Rattle.cast_types.specs.Sets.{is_among};
 ghost use Rattle.cast_domain.specs.Step.{group_of};
 ghost use Rattle.cast_domain.specs.Fits.{IsTypedFrame};
@@ -14,7 +14,7 @@ use crate::record::{answer_at, apply_at, installed_at, view_at};
 use cast_clock::Times;
 use cast_delay::Fact;
 use cast_frame::{Change, Members, Message, Push, SiteFrame};
-use cast_types::{Clock, GroupNo, NoMemory, Proc, SiteNo, Standing, Uid};
+use cast_types::{Clock, GroupNo, Kind, NoMemory, Proc, SiteNo, Standing, Uid};
 
 // What the types of a frame's parts promise, for the proofs: nothing is done.
 pub(crate) fn promised_by_types(frame: &SiteFrame)
@@ -28,9 +28,15 @@ pub(crate) fn promised_by_types(frame: &SiteFrame)
             members.list();
         }
         SiteFrame::Ack(_)
+        | SiteFrame::Stable(_)
         | SiteFrame::Ask { .. }
         | SiteFrame::Asked { .. }
-        | SiteFrame::Installed { .. } => {}
+        | SiteFrame::Prepare { .. }
+        | SiteFrame::Flushed { .. }
+        | SiteFrame::Want(_)
+        | SiteFrame::Forward(_)
+        | SiteFrame::Installed { .. }
+        | SiteFrame::Out { .. } => {}
     }
 }
 
@@ -39,12 +45,15 @@ fn group_of(frame: &SiteFrame) -> GroupNo
     ensures { result ≡ group_of frame.now }
 {
     match frame {
-        SiteFrame::Data(message) => message.id.group,
-        SiteFrame::Ack(id) => id.group,
+        SiteFrame::Data(message) | SiteFrame::Forward(message) => message.id.group,
+        SiteFrame::Ack(id) | SiteFrame::Stable(id) | SiteFrame::Want(id) => id.group,
         SiteFrame::Ask { group, .. }
         | SiteFrame::Asked { group, .. }
+        | SiteFrame::Prepare { group, .. }
+        | SiteFrame::Flushed { group, .. }
         | SiteFrame::Install { group, .. }
-        | SiteFrame::Installed { group, .. } => *group,
+        | SiteFrame::Installed { group, .. }
+        | SiteFrame::Out { group, .. } => *group,
     }
 }
 
@@ -52,11 +61,10 @@ impl Domain {
     ghost use Rattle.cast_domain.specs.declared.event.Outs.{Outs};
     ghost use Rattle.cast_domain.specs.Group.{is_taken_in};
     ghost use Rattle.cast_domain.specs.Records.{Keeps, records_of};
-    ghost use Rattle.cast_domain.specs.Calls.{answered_in, asked_of_home_in, complete_in, data_in, enter_in, frame_in, install_in, installed_in, is_used_in, is_well_formed_in, receive_once_in, standing_of, take_in, time_of};
+    ghost use Rattle.cast_domain.specs.Calls.{answered_in, asked_of_home_in, complete_in, data_in, enter_in, frame_at, frame_in, install_in, installed_in, is_used_in, is_well_formed_in, receive_once_in, standing_of, take_in, time_of};
     ghost use Rattle.cast_clock.specs.Times.{entering};
 
-    // A frame comes from a site. One from a site or for a group that is not configured is ignored, as is every frame
-    // that no rule uses.
+    // A frame comes from a site. One from a site or for a group that is not configured is ignored.
     pub(crate) fn frame(
         &mut self,
         from: SiteNo,
@@ -72,9 +80,23 @@ impl Domain {
         let Some(place) = self.place_of(group_of(frame)) else {
             return Ok(());
         };
+        self.frame_at(place, from, frame, outs)
+    }
+
+    // A frame about the group at a place. One that no rule uses is ignored.
+    fn frame_at(
+        &mut self,
+        place: usize,
+        from: SiteNo,
+        frame: &SiteFrame,
+        outs: &mut Outs,
+    ) -> Result<(), NoMemory>
+        requires { place < vec_len self.old.groups }
+        ensures same { Keeps self.old self.new }
+        ensures made { OnOk result (records_of self.new outs.new ≡ frame_at (records_of self.old outs.old) from frame.now place) }
+    {
         match frame {
             SiteFrame::Data(message) => self.data(place, from, message, outs),
-            SiteFrame::Ack(_) => Ok(()),
             SiteFrame::Ask {
                 number,
                 change,
@@ -91,11 +113,18 @@ impl Domain {
                 ..
             } => self.install(place, from, *view, members, *request, outs),
             SiteFrame::Installed { view, .. } => self.installed(place, from, *view),
+            SiteFrame::Ack(_)
+            | SiteFrame::Stable(_)
+            | SiteFrame::Prepare { .. }
+            | SiteFrame::Flushed { .. }
+            | SiteFrame::Want(_)
+            | SiteFrame::Forward(_)
+            | SiteFrame::Out { .. } => Ok(()),
         }
     }
 
-    // Data: a message of the site's view, from the process's own site, which is another. It is received once, and
-    // acknowledged as often as it comes.
+    // Data: a causal message of the site's view, from the process's own site, which is another. It is received once,
+    // and acknowledged as often as it comes.
     fn data(
         &mut self,
         place: usize,
@@ -114,7 +143,7 @@ impl Domain {
         Ok(())
     }
 
-    // Whether a message is of the site's view and comes from the process's own site, which is another.
+    // Whether a message is of the site's view, comes from the process's own site, which is another, and is causal.
     fn is_used(&self, place: usize, from: SiteNo, message: &Message) -> bool
         requires { place < vec_len self.now.groups }
         ensures { (o : Outs) → result ≡ is_used_in (records_of self.now o) place from message.now }
@@ -123,6 +152,7 @@ impl Domain {
             && !(from == self.site)
             && message.id.view == self.record(place).here.number
             && self.is_well_formed(place, message)
+            && is_causal(message.kind())
     }
 
     // Receives a message, if it was not received before.
@@ -367,6 +397,16 @@ impl Domain {
             installed_at(&mut self.groups, place, from, view)?;
         }
         Ok(())
+    }
+}
+
+// Whether a kind is the causal one.
+fn is_causal(kind: Kind) -> bool
+    ensures { result ≡ is_causal kind }
+{
+    match kind {
+        Kind::Causal => true,
+        Kind::Atomic | Kind::Order => false,
     }
 }
 

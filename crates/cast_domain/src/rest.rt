@@ -8,7 +8,8 @@ use crate::domain::Domain;
 use crate::event::Outs;
 use crate::home::sites_of;
 use crate::record::decide_at;
-use cast_frame::{Body, Message, Push, SiteFrame, Tail};
+use bytes::Bytes;
+use cast_frame::{Body, Message, Payload, Push, SiteFrame, Tail};
 use cast_types::{Counts, Key, NoMemory, Proc, SiteNo};
 use std::alloc::AllocError;
 
@@ -160,14 +161,16 @@ fn message_under(got: &[Message], key: Key) -> Option<&Message>
     got.get(place)
 }
 
-// What a program is told of a message that it delivers.
+// What a program is told of a message that it delivers. One without a payload is never delivered.
 fn push_of(message: &Message) -> Result<Push, NoMemory>
     ensures { IfOk result (λ p. p ≡ push.Deliver message.now.id (payload_of message.now.body)) }
 {
-    match &message.body {
-        Body::Causal(payload) => Ok(Push::Deliver {
-            id: message.id,
-            payload: payload.copy()?,
-        }),
-    }
+    let payload = match &message.body {
+        Body::Causal(payload) | Body::Atomic(payload) => payload.copy()?,
+        Body::Order(_) => Payload::from_bytes(Bytes::new()),
+    };
+    Ok(Push::Deliver {
+        id: message.id,
+        payload,
+    })
 }

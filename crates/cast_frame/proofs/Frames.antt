@@ -8,59 +8,27 @@ use Rattle.cast_types.specs.declared.names.SiteNo.{SiteNo}
 use Rattle.cast_types.specs.declared.names.GroupNo.{GroupNo}
 use Rattle.cast_types.specs.declared.names.Proc.{Proc}
 use Rattle.cast_types.specs.declared.names.Uid.{Uid}
-use Rattle.cast_types.specs.declared.clock.Clock.{Clock}
 use Rattle.cast_types.specs.Names.{Entry}
 use Rattle.cast_frame.specs.declared.fault.FrameFault.{FrameFault}
 use Rattle.cast_frame.specs.declared.fault.FrameFault.TheVariants.{Magic, Version, WrongType, Length, Range}
-use Rattle.cast_frame.specs.declared.message.Body.{Body}
-use Rattle.cast_frame.specs.declared.message.Body.TheVariants as body
 use Rattle.cast_frame.specs.declared.message.Message.{Message}
 use Rattle.cast_frame.specs.declared.site.Change.{Change}
 use Rattle.cast_frame.specs.declared.site.Change.TheVariants.{Join, Leave}
 use Rattle.cast_frame.specs.declared.site.SiteFrame.{SiteFrame}
-use Rattle.cast_frame.specs.declared.site.SiteFrame.TheVariants.{Data, Ack, Ask, Asked, Install, Installed}
+use Rattle.cast_frame.specs.declared.site.SiteFrame.TheVariants.{Data, Ack, Stable, Ask, Asked, Prepare, Flushed, Want, Forward, Install, Installed, Out}
 use Rattle.cast_frame.specs.declared.reading.FrameType.{FrameType}
 use Rattle.cast_frame.specs.declared.reading.FrameType.TheVariants as types
 use Rattle.cast_frame.specs.Membership.{Membership}
 use Rattle.cast_frame.specs.Stretch.{Stretch}
-use Rattle.cast_frame.specs.Spelling.{byte, short, word, spelled_proc, spelled_uid, spelled_counts, spelled_times, spelled_payload, spelled_behind_id, spelled_message, spelled_members, spelled_tail, change_code, full_code, frame_code, spelled_fields, spelled_site}
-use Rattle.cast_frame.specs.Reading.{◌>>=◌, byte_at, number_at, domain_at, site_at, group_at, count_at, proc_at, uid_at, counts_at, times_at, payload_at, message_at, members_at, tail_at, change_of, full_of, data_at, ack_at, ask_at, asked_at, install_at, installed_at, type_of, type_at, fields_at, magic_at, version_at, frame_at, site_frame_of}
-use Rattle.cast_frame.specs.Spelled.{IsFrom, IsName, IsCount, IsProc, IsUid, AreTimes, IsBody, IsMessage, IsInstall, IsFrame, IsSpelled}
-use Rattle.cast_frame.proofs.Fields.{IsBytes, bind_ok, guard_ok, pass_ok, ok_is, Took, joined, Takes, Again, byte_takes, byte_again, short_takes, short_again, word_takes, word_again}
-use Rattle.cast_frame.proofs.Parts.{domain_takes, domain_again, site_takes, site_again, group_takes, group_again, count_takes, count_again, proc_takes, proc_again, uid_takes, uid_again, counts_takes, counts_again, times_takes, times_again, payload_takes, payload_again}
-use Rattle.cast_frame.proofs.Holders.{chosen, members_take, members_again, tail_takes, tail_again}
-
-pub message_takes : Takes message_at spelled_message IsMessage
-unfolding message_at spelled_message spelled_behind_id
-message_takes bytes x fits e =
-    let a1 = bind_ok (uid_at bytes) (λ id. byte_at 1 1 id.1 >>= λ kind. times_at kind.1 >>= λ times. payload_at times.1 >>= λ payload. Ok (record { id = id.0; times = times.0; body = body.Causal payload.0 }, payload.1)) x e in
-    let a2 = bind_ok (byte_at 1 1 a1.0.1) (λ kind. times_at kind.1 >>= λ times. payload_at times.1 >>= λ payload. Ok (record { id = a1.0.0; times = times.0; body = body.Causal payload.0 }, payload.1)) x a1.2 in
-    let a3 = bind_ok (times_at a2.0.1) (λ times. payload_at times.1 >>= λ payload. Ok (record { id = a1.0.0; times = times.0; body = body.Causal payload.0 }, payload.1)) x a2.2 in
-    let a4 = bind_ok (payload_at a3.0.1) (λ payload. Ok (record { id = a1.0.0; times = a3.0.0; body = body.Causal payload.0 }, payload.1)) x a3.2 in
-    let t1 = uid_takes bytes a1.0 fits a1.1 in
-    let t2 = byte_takes 1 1 a1.0.1 a2.0 t1.rest_fits a2.1 in
-    let t3 = times_takes a2.0.1 a3.0 t2.rest_fits a3.1 in
-    let t4 = payload_takes a3.0.1 a4.0 t3.rest_fits a4.1 in
-    let one : a2.0.0 ≡ 1 = omega (arith, t2.holds.above, t2.holds.below) in
-    let kind = t2.parts ∙ ap (λ (n : ℕ). byte n ++ a2.0.1) one in
-    let j3 = joined a2.0.1 (spelled_times a3.0.0) a3.0.1 (spelled_payload a4.0.0) a4.0.1 t3.parts t4.parts in
-    let j2 = joined a1.0.1 (byte 1) a2.0.1 (spelled_times a3.0.0 ++ spelled_payload a4.0.0) a4.0.1 kind j3 in
-    let j1 = joined bytes (spelled_uid a1.0.0) a1.0.1 (byte 1 ++ (spelled_times a3.0.0 ++ spelled_payload a4.0.0)) a4.0.1 t1.parts j2 in
-    let made : Message × List ℕ = (record { id = a1.0.0; times = a3.0.0; body = body.Causal a4.0.0 }, a4.0.1) in
-    subst (λ (y : Message × List ℕ). Took bytes (spelled_message y.0) y.1 (IsMessage y.0)) (ok_is made x a4.2)
-    (record { parts = j1; rest_fits = t4.rest_fits; holds = record { id = t1.holds; times = t3.holds; body = t4.holds } })
-
-causal_again : (id : Uid) (times : List (GroupNo × Clock)) (p : List ℕ) (rest : List ℕ) → IsUid id → AreTimes times → length p ≤ 16384 → message_at (spelled_message (record { id = id; times = times; body = body.Causal p }) ++ rest) ≡ Ok (record { id = id; times = times; body = body.Causal p }, rest)
-unfolding message_at spelled_message spelled_behind_id
-causal_again id times p rest is_id are_times few =
-    let regrouped : spelled_message (record { id = id; times = times; body = body.Causal p }) ++ rest ≡ (spelled_uid id) ++ ((byte 1) ++ ((spelled_times times) ++ ((spelled_payload p) ++ rest))) = append_assoc (spelled_uid id) (byte 1 ++ (spelled_times times ++ spelled_payload p)) rest ∙ ap (λ (t : List ℕ). (spelled_uid id) ++ t) (append_assoc (byte 1) (spelled_times times ++ spelled_payload p) rest ∙ ap (λ (t : List ℕ). (byte 1) ++ t) (append_assoc (spelled_times times) (spelled_payload p) rest)) in
-    ap message_at regrouped ∙ rw (uid_again (id) ((byte 1) ++ ((spelled_times times) ++ ((spelled_payload p) ++ rest))) is_id, byte_again 1 1 (1) ((spelled_times times) ++ ((spelled_payload p) ++ rest)) (record { above = lit≤ tt; below = lit≤ tt }), times_again (times) ((spelled_payload p) ++ rest) are_times, payload_again (p) (rest) few) refl
-
-holds_again : (id : Uid) (times : List (GroupNo × Clock)) (b : Body) (rest : List ℕ) → IsUid id → AreTimes times → IsBody b → message_at (spelled_message (record { id = id; times = times; body = b }) ++ rest) ≡ Ok (record { id = id; times = times; body = b }, rest)
-holds_again id times (body.Causal p) rest is_id are_times few = causal_again id times p rest is_id are_times few
-
-pub message_again : Again message_at spelled_message IsMessage
-message_again v rest fits = holds_again v.id v.times v.body rest fits.id fits.times fits.body
+use Rattle.cast_frame.specs.Keeping.{KeptList}
+use Rattle.cast_frame.specs.Spelling.{byte, short, word, spelled_proc, spelled_counts, spelled_members, spelled_tail, spelled_kept, change_code, full_code, frame_code, spelled_fields, spelled_site}
+use Rattle.cast_frame.specs.Reading.{◌>>=◌, byte_at, number_at, domain_at, site_at, group_at, count_at, proc_at, uid_at, counts_at, message_at, members_at, tail_at, kept_at, change_of, full_of, data_at, ack_at, stable_at, ask_at, asked_at, prepare_at, flushed_at, want_at, forward_at, install_at, installed_at, out_at, type_of, type_at, fields_at, magic_at, version_at, frame_at, site_frame_of}
+use Rattle.cast_frame.specs.Spelled.{IsFrom, IsName, IsCount, IsProc, IsUid, IsMessage, IsFlushed, IsInstall, IsFrame, IsSpelled}
+use Rattle.cast_frame.proofs.Fields.{IsBytes, bind_ok, guard_ok, pass_ok, ok_is, Took, joined, Takes, byte_takes, byte_again, short_takes, short_again, word_takes, word_again}
+use Rattle.cast_frame.proofs.Parts.{domain_takes, domain_again, site_takes, site_again, group_takes, group_again, count_takes, count_again, proc_takes, proc_again, uid_takes, uid_again, counts_takes, counts_again}
+use Rattle.cast_frame.proofs.Holders.{chosen, members_take, members_again}
+use Rattle.cast_frame.proofs.Orders.{stretch_parts, tail_takes, tail_again, kept_takes, kept_again}
+use Rattle.cast_frame.proofs.Messages.{message_takes, message_again}
 
 -- ---- the fields of each frame
 
@@ -122,6 +90,15 @@ ack_takes bytes x fits e =
     subst (λ (y : SiteFrame × List ℕ). Took bytes ((spelled_fields) y.0) y.1 ((IsOf 2) y.0)) (ok_is made x a1.2)
     (record { parts = t1.parts; rest_fits = t1.rest_fits; holds = (t1.holds, refl) })
 
+pub stable_takes : Takes stable_at spelled_fields (IsOf 3)
+unfolding stable_at spelled_fields
+stable_takes bytes x fits e =
+    let a1 = bind_ok (uid_at bytes) (λ id. Ok (Stable id.0, id.1)) x e in
+    let t1 = uid_takes bytes a1.0 fits a1.1 in
+    let made : SiteFrame × List ℕ = (Stable a1.0.0, a1.0.1) in
+    subst (λ (y : SiteFrame × List ℕ). Took bytes (spelled_fields y.0) y.1 (IsOf 3 y.0)) (ok_is made x a1.2)
+    (record { parts = t1.parts; rest_fits = t1.rest_fits; holds = (t1.holds, refl) })
+
 pub ask_takes : Takes ask_at spelled_fields (IsOf 4)
 unfolding ask_at spelled_fields
 ask_takes bytes x fits e =
@@ -159,21 +136,72 @@ asked_takes bytes x fits e =
     subst (λ (y : SiteFrame × List ℕ). Took bytes (spelled_fields y.0) y.1 (IsOf 5 y.0)) (ok_is made x a4.2)
     (record { parts = j1; rest_fits = t3.rest_fits; holds = ((t1.holds, t2.holds), refl) })
 
+pub prepare_takes : Takes prepare_at spelled_fields (IsOf 6)
+unfolding prepare_at spelled_fields
+prepare_takes bytes x fits e =
+    let a1 = bind_ok (group_at bytes) (λ group. count_at group.1 >>= λ view. Ok (Prepare group.0 view.0, view.1)) x e in
+    let a2 = bind_ok (count_at a1.0.1) (λ view. Ok (Prepare a1.0.0 view.0, view.1)) x a1.2 in
+    let t1 = group_takes bytes a1.0 fits a1.1 in
+    let t2 = count_takes a1.0.1 a2.0 t1.rest_fits a2.1 in
+    let j1 = joined bytes (short a1.0.0.0) a1.0.1 (word a2.0.0) a2.0.1 t1.parts t2.parts in
+    let made : SiteFrame × List ℕ = (Prepare a1.0.0 a2.0.0, a2.0.1) in
+    subst (λ (y : SiteFrame × List ℕ). Took bytes (spelled_fields y.0) y.1 (IsOf 6 y.0)) (ok_is made x a2.2)
+    (record { parts = j1; rest_fits = t2.rest_fits; holds = ((t1.holds, t2.holds), refl) })
+
+pub flushed_takes : Takes flushed_at spelled_fields (IsOf 7)
+unfolding flushed_at spelled_fields
+flushed_takes bytes x fits e =
+    let a1 = bind_ok (group_at bytes) (λ group. count_at group.1 >>= λ view. counts_at view.1 >>= λ counts. tail_at 512 counts.1 >>= λ tail. kept_at tail.1 >>= λ kept. Ok (Flushed group.0 view.0 counts.0 tail.0 kept.0, kept.1)) x e in
+    let a2 = bind_ok (count_at a1.0.1) (λ view. counts_at view.1 >>= λ counts. tail_at 512 counts.1 >>= λ tail. kept_at tail.1 >>= λ kept. Ok (Flushed a1.0.0 view.0 counts.0 tail.0 kept.0, kept.1)) x a1.2 in
+    let a3 = bind_ok (counts_at a2.0.1) (λ counts. tail_at 512 counts.1 >>= λ tail. kept_at tail.1 >>= λ kept. Ok (Flushed a1.0.0 a2.0.0 counts.0 tail.0 kept.0, kept.1)) x a2.2 in
+    let a4 = bind_ok (tail_at 512 a3.0.1) (λ tail. kept_at tail.1 >>= λ kept. Ok (Flushed a1.0.0 a2.0.0 a3.0.0 tail.0 kept.0, kept.1)) x a3.2 in
+    let a5 = bind_ok (kept_at a4.0.1) (λ kept. Ok (Flushed a1.0.0 a2.0.0 a3.0.0 a4.0.0 kept.0, kept.1)) x a4.2 in
+    let t1 = group_takes bytes a1.0 fits a1.1 in
+    let t2 = count_takes a1.0.1 a2.0 t1.rest_fits a2.1 in
+    let t3 = counts_takes a2.0.1 a3.0 t2.rest_fits a3.1 in
+    let t4 = tail_takes 512 (lit≤ tt) a3.0.1 a4.0 t3.rest_fits a4.1 in
+    let t5 = kept_takes a4.0.1 a5.0 t4.rest_fits a5.1 in
+    let j4 = joined a3.0.1 (spelled_tail a4.0.0) a4.0.1 (spelled_kept a5.0.0) a5.0.1 t4.parts t5.parts in
+    let j3 = joined a2.0.1 (spelled_counts a3.0.0) a3.0.1 (spelled_tail a4.0.0 ++ spelled_kept a5.0.0) a5.0.1 t3.parts j4 in
+    let j2 = joined a1.0.1 (word a2.0.0) a2.0.1 (spelled_counts a3.0.0 ++ (spelled_tail a4.0.0 ++ spelled_kept a5.0.0)) a5.0.1 t2.parts j3 in
+    let j1 = joined bytes (short a1.0.0.0) a1.0.1 (word a2.0.0 ++ (spelled_counts a3.0.0 ++ (spelled_tail a4.0.0 ++ spelled_kept a5.0.0))) a5.0.1 t1.parts j2 in
+    let made : SiteFrame × List ℕ = (Flushed a1.0.0 a2.0.0 a3.0.0 a4.0.0 a5.0.0, a5.0.1) in
+    subst (λ (y : SiteFrame × List ℕ). Took bytes (spelled_fields y.0) y.1 (IsOf 7 y.0)) (ok_is made x a5.2)
+    (record { parts = j1; rest_fits = t5.rest_fits; holds = (record { group = t1.holds; view = t2.holds; counts = t3.holds; tail = t4.holds.0; few = t4.holds.1; kept = t5.holds }, refl) })
+
+pub want_takes : Takes want_at spelled_fields (IsOf 8)
+unfolding want_at spelled_fields
+want_takes bytes x fits e =
+    let a1 = bind_ok (uid_at bytes) (λ id. Ok (Want id.0, id.1)) x e in
+    let t1 = uid_takes bytes a1.0 fits a1.1 in
+    let made : SiteFrame × List ℕ = (Want a1.0.0, a1.0.1) in
+    subst (λ (y : SiteFrame × List ℕ). Took bytes (spelled_fields y.0) y.1 (IsOf 8 y.0)) (ok_is made x a1.2)
+    (record { parts = t1.parts; rest_fits = t1.rest_fits; holds = (t1.holds, refl) })
+
+pub forward_takes : Takes forward_at spelled_fields (IsOf 9)
+unfolding forward_at spelled_fields
+forward_takes bytes x fits e =
+    let a1 = bind_ok (message_at bytes) (λ message. Ok (Forward message.0, message.1)) x e in
+    let t1 = message_takes bytes a1.0 fits a1.1 in
+    let made : SiteFrame × List ℕ = (Forward a1.0.0, a1.0.1) in
+    subst (λ (y : SiteFrame × List ℕ). Took bytes (spelled_fields y.0) y.1 (IsOf 9 y.0)) (ok_is made x a1.2)
+    (record { parts = t1.parts; rest_fits = t1.rest_fits; holds = (t1.holds, refl) })
+
 pub install_takes : Takes install_at (spelled_fields) (IsOf 10)
 unfolding install_at spelled_fields
 install_takes bytes x fits e =
-    let a1 = bind_ok (group_at bytes) (λ group. count_at group.1 >>= λ view. members_at view.1 >>= λ members. number_at w32 0 4294967295 members.1 >>= λ request. counts_at request.1 >>= λ cut. tail_at cut.1 >>= λ tail. Ok (Install group.0 view.0 members.0 request.0 cut.0 tail.0, tail.1)) x e in
-    let a2 = bind_ok (count_at a1.0.1) (λ view. members_at view.1 >>= λ members. number_at w32 0 4294967295 members.1 >>= λ request. counts_at request.1 >>= λ cut. tail_at cut.1 >>= λ tail. Ok (Install a1.0.0 view.0 members.0 request.0 cut.0 tail.0, tail.1)) x a1.2 in
-    let a3 = bind_ok (members_at a2.0.1) (λ members. number_at w32 0 4294967295 members.1 >>= λ request. counts_at request.1 >>= λ cut. tail_at cut.1 >>= λ tail. Ok (Install a1.0.0 a2.0.0 members.0 request.0 cut.0 tail.0, tail.1)) x a2.2 in
-    let a4 = bind_ok (number_at w32 0 4294967295 a3.0.1) (λ request. counts_at request.1 >>= λ cut. tail_at cut.1 >>= λ tail. Ok (Install a1.0.0 a2.0.0 a3.0.0 request.0 cut.0 tail.0, tail.1)) x a3.2 in
-    let a5 = bind_ok (counts_at a4.0.1) (λ cut. tail_at cut.1 >>= λ tail. Ok (Install a1.0.0 a2.0.0 a3.0.0 a4.0.0 cut.0 tail.0, tail.1)) x a4.2 in
-    let a6 = bind_ok (tail_at a5.0.1) (λ tail. Ok (Install a1.0.0 a2.0.0 a3.0.0 a4.0.0 a5.0.0 tail.0, tail.1)) x a5.2 in
+    let a1 = bind_ok (group_at bytes) (λ group. count_at group.1 >>= λ view. members_at view.1 >>= λ members. number_at w32 0 4294967295 members.1 >>= λ request. counts_at request.1 >>= λ cut. tail_at 576 cut.1 >>= λ tail. Ok (Install group.0 view.0 members.0 request.0 cut.0 tail.0, tail.1)) x e in
+    let a2 = bind_ok (count_at a1.0.1) (λ view. members_at view.1 >>= λ members. number_at w32 0 4294967295 members.1 >>= λ request. counts_at request.1 >>= λ cut. tail_at 576 cut.1 >>= λ tail. Ok (Install a1.0.0 view.0 members.0 request.0 cut.0 tail.0, tail.1)) x a1.2 in
+    let a3 = bind_ok (members_at a2.0.1) (λ members. number_at w32 0 4294967295 members.1 >>= λ request. counts_at request.1 >>= λ cut. tail_at 576 cut.1 >>= λ tail. Ok (Install a1.0.0 a2.0.0 members.0 request.0 cut.0 tail.0, tail.1)) x a2.2 in
+    let a4 = bind_ok (number_at w32 0 4294967295 a3.0.1) (λ request. counts_at request.1 >>= λ cut. tail_at 576 cut.1 >>= λ tail. Ok (Install a1.0.0 a2.0.0 a3.0.0 request.0 cut.0 tail.0, tail.1)) x a3.2 in
+    let a5 = bind_ok (counts_at a4.0.1) (λ cut. tail_at 576 cut.1 >>= λ tail. Ok (Install a1.0.0 a2.0.0 a3.0.0 a4.0.0 cut.0 tail.0, tail.1)) x a4.2 in
+    let a6 = bind_ok (tail_at 576 a5.0.1) (λ tail. Ok (Install a1.0.0 a2.0.0 a3.0.0 a4.0.0 a5.0.0 tail.0, tail.1)) x a5.2 in
     let t1 = group_takes bytes a1.0 fits a1.1 in
     let t2 = count_takes a1.0.1 a2.0 t1.rest_fits a2.1 in
     let t3 = members_take a2.0.1 a3.0 t2.rest_fits a3.1 in
     let t4 = word_takes 0 4294967295 a3.0.1 a4.0 t3.rest_fits a4.1 in
     let t5 = counts_takes a4.0.1 a5.0 t4.rest_fits a5.1 in
-    let t6 = tail_takes a5.0.1 a6.0 t5.rest_fits a6.1 in
+    let t6 = tail_takes 576 (lit≤ tt) a5.0.1 a6.0 t5.rest_fits a6.1 in
     let j5 = joined a4.0.1 (spelled_counts (a5.0.0)) a5.0.1 (spelled_tail (a6.0.0)) a6.0.1 t5.parts t6.parts in
     let j4 = joined a3.0.1 (word (a4.0.0)) a4.0.1 (spelled_counts (a5.0.0) ++ spelled_tail (a6.0.0)) a6.0.1 t4.parts j5 in
     let j3 = joined a2.0.1 (spelled_members (a3.0.0)) a3.0.1 (word (a4.0.0) ++ (spelled_counts (a5.0.0) ++ spelled_tail (a6.0.0))) a6.0.1 t3.parts j4 in
@@ -181,7 +209,7 @@ install_takes bytes x fits e =
     let j1 = joined bytes (short (a1.0.0).0) a1.0.1 (word (a2.0.0) ++ (spelled_members (a3.0.0) ++ (word (a4.0.0) ++ (spelled_counts (a5.0.0) ++ spelled_tail (a6.0.0))))) a6.0.1 t1.parts j2 in
     let made : SiteFrame × List ℕ = (Install a1.0.0 a2.0.0 a3.0.0 a4.0.0 a5.0.0 a6.0.0, a6.0.1) in
     subst (λ (y : SiteFrame × List ℕ). Took bytes ((spelled_fields) y.0) y.1 ((IsOf 10) y.0)) (ok_is made x a6.2)
-    (record { parts = j1; rest_fits = t6.rest_fits; holds = (record { group = t1.holds; view = t2.holds; members = t3.holds; request = t4.holds; cut = t5.holds; tail = t6.holds }, refl) })
+    (record { parts = j1; rest_fits = t6.rest_fits; holds = (record { group = t1.holds; view = t2.holds; members = t3.holds; request = t4.holds; cut = t5.holds; tail = t6.holds.0 }, refl) })
 
 pub installed_takes : Takes installed_at (spelled_fields) (IsOf 11)
 unfolding installed_at spelled_fields
@@ -195,6 +223,18 @@ installed_takes bytes x fits e =
     subst (λ (y : SiteFrame × List ℕ). Took bytes ((spelled_fields) y.0) y.1 ((IsOf 11) y.0)) (ok_is made x a2.2)
     (record { parts = j1; rest_fits = t2.rest_fits; holds = ((t1.holds, t2.holds), refl) })
 
+pub out_takes : Takes out_at spelled_fields (IsOf 12)
+unfolding out_at spelled_fields
+out_takes bytes x fits e =
+    let a1 = bind_ok (group_at bytes) (λ group. count_at group.1 >>= λ view. Ok (Out group.0 view.0, view.1)) x e in
+    let a2 = bind_ok (count_at a1.0.1) (λ view. Ok (Out a1.0.0 view.0, view.1)) x a1.2 in
+    let t1 = group_takes bytes a1.0 fits a1.1 in
+    let t2 = count_takes a1.0.1 a2.0 t1.rest_fits a2.1 in
+    let j1 = joined bytes (short a1.0.0.0) a1.0.1 (word a2.0.0) a2.0.1 t1.parts t2.parts in
+    let made : SiteFrame × List ℕ = (Out a1.0.0 a2.0.0, a2.0.1) in
+    subst (λ (y : SiteFrame × List ℕ). Took bytes (spelled_fields y.0) y.1 (IsOf 12 y.0)) (ok_is made x a2.2)
+    (record { parts = j1; rest_fits = t2.rest_fits; holds = ((t1.holds, t2.holds), refl) })
+
 data_again : (m : Message) (rest : List ℕ) → IsMessage m → data_at (spelled_fields (Data m) ++ rest) ≡ Ok (Data m, rest)
 unfolding data_at spelled_fields
 data_again m rest is_message =
@@ -204,6 +244,10 @@ ack_again : (u : Uid) (rest : List ℕ) → IsUid u → ack_at (spelled_fields (
 unfolding ack_at spelled_fields
 ack_again u rest is_id =
     rw (uid_again (u) (rest) is_id) refl
+
+stable_again : (u : Uid) (rest : List ℕ) → IsUid u → stable_at (spelled_fields (Stable u) ++ rest) ≡ Ok (Stable u, rest)
+unfolding stable_at spelled_fields
+stable_again u rest is_id = rw (uid_again u rest is_id) refl
 
 ask_again : (g : GroupNo) (n : ℕ) (c : Change) (p : Proc) (rest : List ℕ) → IsName g.0 → IsCount n → IsProc p → ask_at (spelled_fields (Ask g n c p) ++ rest) ≡ Ok (Ask g n c p, rest)
 unfolding ask_at spelled_fields
@@ -217,11 +261,34 @@ asked_again g n full rest is_group is_number =
     let regrouped : spelled_fields (Asked g n full) ++ rest ≡ (short g.0) ++ ((word n) ++ ((byte (full_code full)) ++ rest)) = append_assoc (short g.0) (word n ++ byte (full_code full)) rest ∙ ap (λ (t : List ℕ). (short g.0) ++ t) (append_assoc (word n) (byte (full_code full)) rest) in
     ap asked_at regrouped ∙ rw (group_again (g) ((word n) ++ ((byte (full_code full)) ++ rest)) is_group, count_again (n) ((byte (full_code full)) ++ rest) is_number, byte_again 0 255 (full_code full) (rest) (full_within full), full_again full) refl
 
+prepare_again : (g : GroupNo) (view : ℕ) (rest : List ℕ) → IsName g.0 → IsCount view → prepare_at (spelled_fields (Prepare g view) ++ rest) ≡ Ok (Prepare g view, rest)
+unfolding prepare_at spelled_fields
+prepare_again g view rest is_group is_view =
+    ap prepare_at (append_assoc (short g.0) (word view) rest) ∙ rw (group_again g (word view ++ rest) is_group, count_again view rest is_view) refl
+
+flushed_again : (g : GroupNo) (view : ℕ) (counts : List Entry) (tail : Stretch) (kept : KeptList) (rest : List ℕ) → IsFlushed g view counts tail kept → flushed_at (spelled_fields (Flushed g view counts tail kept) ++ rest) ≡ Ok (Flushed g view counts tail kept, rest)
+unfolding flushed_at spelled_fields
+flushed_again g view counts tail kept rest fits =
+    let r4 : List ℕ = spelled_kept kept ++ rest in
+    let r3 : List ℕ = spelled_tail tail ++ r4 in
+    let r2 : List ℕ = spelled_counts counts ++ r3 in
+    let r1 : List ℕ = word view ++ r2 in
+    let regrouped : spelled_fields (Flushed g view counts tail kept) ++ rest ≡ short g.0 ++ r1 = append_assoc (short g.0) (word view ++ (spelled_counts counts ++ (spelled_tail tail ++ spelled_kept kept))) rest ∙ ap (λ (t : List ℕ). short g.0 ++ t) (append_assoc (word view) (spelled_counts counts ++ (spelled_tail tail ++ spelled_kept kept)) rest ∙ ap (λ (t : List ℕ). word view ++ t) (append_assoc (spelled_counts counts) (spelled_tail tail ++ spelled_kept kept) rest ∙ ap (λ (t : List ℕ). spelled_counts counts ++ t) (append_assoc (spelled_tail tail) (spelled_kept kept) rest))) in
+    ap flushed_at regrouped ∙ rw (group_again g r1 fits.group, count_again view r2 fits.view, counts_again counts r3 fits.counts, tail_again 512 (lit< tt) tail r4 (fits.tail, fits.few), kept_again kept rest fits.kept) refl
+
+want_again : (u : Uid) (rest : List ℕ) → IsUid u → want_at (spelled_fields (Want u) ++ rest) ≡ Ok (Want u, rest)
+unfolding want_at spelled_fields
+want_again u rest is_id = rw (uid_again u rest is_id) refl
+
+forward_again : (m : Message) (rest : List ℕ) → IsMessage m → forward_at (spelled_fields (Forward m) ++ rest) ≡ Ok (Forward m, rest)
+unfolding forward_at spelled_fields
+forward_again m rest is_message = rw (message_again m rest is_message) refl
+
 install_again : (g : GroupNo) (view : ℕ) (m : Membership) (request : ℕ) (cut : List Entry) (tail : Stretch) (rest : List ℕ) → IsInstall g view m request cut tail → install_at (spelled_fields (Install g view m request cut tail) ++ rest) ≡ Ok (Install g view m request cut tail, rest)
 unfolding install_at spelled_fields
 install_again g view m request cut tail rest fits =
     let regrouped : spelled_fields (Install g view m request cut tail) ++ rest ≡ (short g.0) ++ ((word view) ++ ((spelled_members m) ++ ((word request) ++ ((spelled_counts cut) ++ ((spelled_tail tail) ++ rest))))) = append_assoc (short g.0) (word view ++ (spelled_members m ++ (word request ++ (spelled_counts cut ++ spelled_tail tail)))) rest ∙ ap (λ (t : List ℕ). (short g.0) ++ t) (append_assoc (word view) (spelled_members m ++ (word request ++ (spelled_counts cut ++ spelled_tail tail))) rest ∙ ap (λ (t : List ℕ). (word view) ++ t) (append_assoc (spelled_members m) (word request ++ (spelled_counts cut ++ spelled_tail tail)) rest ∙ ap (λ (t : List ℕ). (spelled_members m) ++ t) (append_assoc (word request) (spelled_counts cut ++ spelled_tail tail) rest ∙ ap (λ (t : List ℕ). (word request) ++ t) (append_assoc (spelled_counts cut) (spelled_tail tail) rest)))) in
-    ap install_at regrouped ∙ rw (group_again (g) ((word view) ++ ((spelled_members m) ++ ((word request) ++ ((spelled_counts cut) ++ ((spelled_tail tail) ++ rest))))) fits.group, count_again (view) ((spelled_members m) ++ ((word request) ++ ((spelled_counts cut) ++ ((spelled_tail tail) ++ rest)))) fits.view, members_again (m) ((word request) ++ ((spelled_counts cut) ++ ((spelled_tail tail) ++ rest))) fits.members, word_again 0 4294967295 (lit< tt) (request) ((spelled_counts cut) ++ ((spelled_tail tail) ++ rest)) fits.request, counts_again (cut) ((spelled_tail tail) ++ rest) fits.cut, tail_again (tail) (rest) fits.tail) refl
+    ap install_at regrouped ∙ rw (group_again (g) ((word view) ++ ((spelled_members m) ++ ((word request) ++ ((spelled_counts cut) ++ ((spelled_tail tail) ++ rest))))) fits.group, count_again (view) ((spelled_members m) ++ ((word request) ++ ((spelled_counts cut) ++ ((spelled_tail tail) ++ rest)))) fits.view, members_again (m) ((word request) ++ ((spelled_counts cut) ++ ((spelled_tail tail) ++ rest))) fits.members, word_again 0 4294967295 (lit< tt) (request) ((spelled_counts cut) ++ ((spelled_tail tail) ++ rest)) fits.request, counts_again (cut) ((spelled_tail tail) ++ rest) fits.cut, tail_again 576 (lit< tt) tail rest (fits.tail, (stretch_parts tail fits.tail.short).1)) refl
 
 installed_again : (g : GroupNo) (view : ℕ) (rest : List ℕ) → IsName g.0 → IsCount view → installed_at (spelled_fields (Installed g view) ++ rest) ≡ Ok (Installed g view, rest)
 unfolding installed_at spelled_fields
@@ -229,86 +296,141 @@ installed_again g view rest is_group is_view =
     let regrouped : spelled_fields (Installed g view) ++ rest ≡ (short g.0) ++ ((word view) ++ rest) = append_assoc (short g.0) (word view) rest in
     ap installed_at regrouped ∙ rw (group_again (g) ((word view) ++ rest) is_group, count_again (view) (rest) is_view) refl
 
+out_again : (g : GroupNo) (view : ℕ) (rest : List ℕ) → IsName g.0 → IsCount view → out_at (spelled_fields (Out g view) ++ rest) ≡ Ok (Out g view, rest)
+unfolding out_at spelled_fields
+out_again g view rest is_group is_view =
+    ap out_at (append_assoc (short g.0) (word view) rest) ∙ rw (group_again g (word view ++ rest) is_group, count_again view rest is_view) refl
+
 -- ---- the header
 
 abbrev pub type_code : FrameType → ℕ
 type_code types.Data = 1
 type_code types.Ack = 2
+type_code types.Stable = 3
 type_code types.Ask = 4
 type_code types.Asked = 5
+type_code types.Prepare = 6
+type_code types.Flushed = 7
+type_code types.Want = 8
+type_code types.Forward = 9
 type_code types.Install = 10
 type_code types.Installed = 11
+type_code types.Out = 12
 
 abbrev pub type_of_frame : SiteFrame → FrameType
 type_of_frame (Data m) = types.Data
 type_of_frame (Ack u) = types.Ack
+type_of_frame (Stable u) = types.Stable
 type_of_frame (Ask g n c p) = types.Ask
 type_of_frame (Asked g n full) = types.Asked
+type_of_frame (Prepare g view) = types.Prepare
+type_of_frame (Flushed g view counts tail kept) = types.Flushed
+type_of_frame (Want u) = types.Want
+type_of_frame (Forward m) = types.Forward
 type_of_frame (Install g view m request cut tail) = types.Install
 type_of_frame (Installed g view) = types.Installed
+type_of_frame (Out g view) = types.Out
 
 frame_code_is : (f : SiteFrame) → frame_code f ≡ type_code (type_of_frame f)
 frame_code_is (Data m) = refl
 frame_code_is (Ack u) = refl
+frame_code_is (Stable u) = refl
 frame_code_is (Ask g n c p) = refl
 frame_code_is (Asked g n full) = refl
+frame_code_is (Prepare g view) = refl
+frame_code_is (Flushed g view counts tail kept) = refl
+frame_code_is (Want u) = refl
+frame_code_is (Forward m) = refl
 frame_code_is (Install g view m request cut tail) = refl
 frame_code_is (Installed g view) = refl
+frame_code_is (Out g view) = refl
 
 fields_take : (t : FrameType) → Takes (fields_at t) spelled_fields (IsOf (type_code t))
 unfolding fields_at
 fields_take types.Data bytes x fits e = data_takes bytes x fits e
 fields_take types.Ack bytes x fits e = ack_takes bytes x fits e
+fields_take types.Stable bytes x fits e = stable_takes bytes x fits e
 fields_take types.Ask bytes x fits e = ask_takes bytes x fits e
 fields_take types.Asked bytes x fits e = asked_takes bytes x fits e
+fields_take types.Prepare bytes x fits e = prepare_takes bytes x fits e
+fields_take types.Flushed bytes x fits e = flushed_takes bytes x fits e
+fields_take types.Want bytes x fits e = want_takes bytes x fits e
+fields_take types.Forward bytes x fits e = forward_takes bytes x fits e
 fields_take types.Install bytes x fits e = install_takes bytes x fits e
 fields_take types.Installed bytes x fits e = installed_takes bytes x fits e
+fields_take types.Out bytes x fits e = out_takes bytes x fits e
 
 fields_again : (f : SiteFrame) (rest : List ℕ) → IsFrame f → fields_at (type_of_frame f) (spelled_fields f ++ rest) ≡ Ok (f, rest)
 unfolding fields_at
 fields_again (Data m) rest fits = data_again m rest fits
 fields_again (Ack u) rest fits = ack_again u rest fits
+fields_again (Stable u) rest fits = stable_again u rest fits
 fields_again (Ask g n c p) rest fits = ask_again g n c p rest fits.0 fits.1 fits.2
 fields_again (Asked g n full) rest fits = asked_again g n full rest fits.0 fits.1
+fields_again (Prepare g view) rest fits = prepare_again g view rest fits.0 fits.1
+fields_again (Flushed g view counts tail kept) rest fits = flushed_again g view counts tail kept rest fits
+fields_again (Want u) rest fits = want_again u rest fits
+fields_again (Forward m) rest fits = forward_again m rest fits
 fields_again (Install g view m request cut tail) rest fits = install_again g view m request cut tail rest fits
 fields_again (Installed g view) rest fits = installed_again g view rest fits.0 fits.1
+fields_again (Out g view) rest fits = out_again g view rest fits.0 fits.1
+
+-- the number is a type's, or one of those that come later
+one_of : (n k : ℕ) (a t : FrameType) (later : Result FrameType FrameFault) → k ≡ type_code a → (later ≡ Ok t → n ≡ type_code t) → cond (eqb n k) (Ok a) later ≡ Ok t → n ≡ type_code t
+one_of n k a t later code next e =
+    elim (chosen (eqb n k) (Ok a) later (Ok t) e) [
+      | inl is ↦ eqb-true n k is.0 ∙ code ∙ ap type_code (ok_is a t is.1)
+      | inr other ↦ next other.1
+    ]
+
+none_of : (n : ℕ) (t : FrameType) → Err WrongType ≡ Ok t → n ≡ type_code t
+none_of n t e = absurd cc
 
 type_of_is : (n : ℕ) (t : FrameType) → type_of n ≡ Ok t → n ≡ type_code t
 unfolding type_of
-type_of_is n t e =
-    elim (chosen (eqb n 1) (Ok types.Data) (cond (eqb n 2) (Ok types.Ack) (cond (eqb n 4) (Ok types.Ask) (cond (eqb n 5) (Ok types.Asked) (cond (eqb n 10) (Ok types.Install) (cond (eqb n 11) (Ok types.Installed) (Err WrongType)))))) (Ok t) e) [
-      | inl is ↦ eqb-true n 1 is.0 ∙ ap type_code (ok_is types.Data t is.1)
-      | inr e2 ↦ elim (chosen (eqb n 2) (Ok types.Ack) (cond (eqb n 4) (Ok types.Ask) (cond (eqb n 5) (Ok types.Asked) (cond (eqb n 10) (Ok types.Install) (cond (eqb n 11) (Ok types.Installed) (Err WrongType))))) (Ok t) e2.1) [
-        | inl is ↦ eqb-true n 2 is.0 ∙ ap type_code (ok_is types.Ack t is.1)
-        | inr e4 ↦ elim (chosen (eqb n 4) (Ok types.Ask) (cond (eqb n 5) (Ok types.Asked) (cond (eqb n 10) (Ok types.Install) (cond (eqb n 11) (Ok types.Installed) (Err WrongType)))) (Ok t) e4.1) [
-          | inl is ↦ eqb-true n 4 is.0 ∙ ap type_code (ok_is types.Ask t is.1)
-          | inr e5 ↦ elim (chosen (eqb n 5) (Ok types.Asked) (cond (eqb n 10) (Ok types.Install) (cond (eqb n 11) (Ok types.Installed) (Err WrongType))) (Ok t) e5.1) [
-            | inl is ↦ eqb-true n 5 is.0 ∙ ap type_code (ok_is types.Asked t is.1)
-            | inr e10 ↦ elim (chosen (eqb n 10) (Ok types.Install) (cond (eqb n 11) (Ok types.Installed) (Err WrongType)) (Ok t) e10.1) [
-              | inl is ↦ eqb-true n 10 is.0 ∙ ap type_code (ok_is types.Install t is.1)
-              | inr e11 ↦ let g = pass_ok (eqb n 11) WrongType (Ok types.Installed) t e11.1 in eqb-true n 11 g.0 ∙ ap type_code (ok_is types.Installed t g.1)
-            ]
-          ]
-        ]
-      ]
-    ]
+type_of_is n t =
+    one_of n 1 types.Data t _ refl
+    (one_of n 2 types.Ack t _ refl
+    (one_of n 3 types.Stable t _ refl
+    (one_of n 4 types.Ask t _ refl
+    (one_of n 5 types.Asked t _ refl
+    (one_of n 6 types.Prepare t _ refl
+    (one_of n 7 types.Flushed t _ refl
+    (one_of n 8 types.Want t _ refl
+    (one_of n 9 types.Forward t _ refl
+    (one_of n 10 types.Install t _ refl
+    (one_of n 11 types.Installed t _ refl
+    (one_of n 12 types.Out t _ refl
+    (none_of n t))))))))))))
 
 type_of_again : (t : FrameType) → type_of (type_code t) ≡ Ok t
 unfolding type_of
 type_of_again types.Data = refl
 type_of_again types.Ack = refl
+type_of_again types.Stable = refl
 type_of_again types.Ask = refl
 type_of_again types.Asked = refl
+type_of_again types.Prepare = refl
+type_of_again types.Flushed = refl
+type_of_again types.Want = refl
+type_of_again types.Forward = refl
 type_of_again types.Install = refl
 type_of_again types.Installed = refl
+type_of_again types.Out = refl
 
 type_within : (t : FrameType) → IsFrom 0 255 (type_code t)
 type_within types.Data = record { above = lit≤ tt; below = lit≤ tt }
 type_within types.Ack = record { above = lit≤ tt; below = lit≤ tt }
+type_within types.Stable = record { above = lit≤ tt; below = lit≤ tt }
 type_within types.Ask = record { above = lit≤ tt; below = lit≤ tt }
 type_within types.Asked = record { above = lit≤ tt; below = lit≤ tt }
+type_within types.Prepare = record { above = lit≤ tt; below = lit≤ tt }
+type_within types.Flushed = record { above = lit≤ tt; below = lit≤ tt }
+type_within types.Want = record { above = lit≤ tt; below = lit≤ tt }
+type_within types.Forward = record { above = lit≤ tt; below = lit≤ tt }
 type_within types.Install = record { above = lit≤ tt; below = lit≤ tt }
 type_within types.Installed = record { above = lit≤ tt; below = lit≤ tt }
+type_within types.Out = record { above = lit≤ tt; below = lit≤ tt }
 
 type_takes : (bytes : List ℕ) (x : FrameType × List ℕ) → IsBytes bytes → type_at bytes ≡ Ok x → Took bytes (byte (type_code x.0)) x.1 (Unit {0})
 unfolding type_at

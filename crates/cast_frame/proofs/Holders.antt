@@ -1,24 +1,22 @@
--- Members, tails and whole frames are read as they were spelled.
-use Rattle.std.proofs.Common.{◌≡◌, ℕ, zero, suc, ◌+◌, ◌-◌, ◌≤◌, ◌<◌, Bool, true, false, cond, ◌&&◌, eqb, ◌⊎◌, List, [], ◌∷◌, ◌++◌, length, get_or, Option, Some, None, Ok, refl, sym, ap, subst, ◌∙◌, append_assoc, arith, lit<, inl, inr}
+-- Members and their holder are read as they were spelled.
+use Rattle.std.proofs.Common.{◌≡◌, ℕ, zero, suc, ◌+◌, ◌-◌, ◌≤◌, ◌<◌, Bool, true, false, cond, ◌&&◌, eqb, ◌⊎◌, List, [], ◌∷◌, ◌++◌, length, get_or, Option, Some, None, Ok, refl, sym, ap, subst, ◌∙◌, append_assoc, arith, inl, inr}
 use Rattle.std.specs.Prelude.{nat_le, slice_get}
 use Rattle.std.proofs.lemmas.Option.{slice_get-get_or}
-use Rattle.std.specs.List.{flat_map, list_all, list_any, position_or_len, AllByRecursion}
-use Rattle.std.specs.Int.{w16, w32}
+use Rattle.std.specs.List.{flat_map, list_all, list_any, position_or_len}
 use Rattle.std.specs.Ordering.{is_lt}
 use Rattle.std.proofs.lemmas.Cmp.{tied_itself}
 use Rattle.std.proofs.lemmas.Bool.{and_parts, and_from, cases_Bool, false_from_ne_true, false≢true, le-leb, leb-true, eqb-true, eq-eqb}
 use Rattle.cast_types.specs.declared.names.Proc.{Proc}
-use Rattle.cast_types.specs.Names.{Entry, proc_cmp, proc_eq}
+use Rattle.cast_types.specs.Names.{proc_cmp, proc_eq}
 use Rattle.cast_types.proofs.Orders.{proc_total, same_proc, proc_itself}
 use Rattle.cast_frame.specs.Rising.{is_rising}
 use Rattle.cast_frame.specs.Membership.{Membership, is_held, is_members}
-use Rattle.cast_frame.specs.Stretch.{Stretch, is_stretch}
-use Rattle.cast_frame.specs.Spelling.{byte, short, word, spelled_proc, spelled_entry, spelled_holder, spelled_members, spelled_tail}
-use Rattle.cast_frame.specs.Reading.{◌>>=◌, byte_at, number_at, many, proc_above, some_proc, holder_at, members_at, id_at, nothing_of, tail_at}
-use Rattle.cast_frame.specs.Spelled.{IsFrom, IsProc, IsEntry, AreMembers, IsTail}
-use Rattle.cast_frame.proofs.Fields.{IsBytes, bind_ok, ok_is, Took, joined, Takes, Again, byte_takes, byte_again, short_takes, short_again, word_takes, word_again}
+use Rattle.cast_frame.specs.Spelling.{byte, spelled_proc, spelled_holder, spelled_members}
+use Rattle.cast_frame.specs.Reading.{◌>>=◌, byte_at, many, proc_above, some_proc, holder_at, members_at}
+use Rattle.cast_frame.specs.Spelled.{IsFrom, IsProc, AreMembers}
+use Rattle.cast_frame.proofs.Fields.{IsBytes, bind_ok, ok_is, Took, joined, Takes, Again, byte_takes, byte_again}
 use Rattle.cast_frame.proofs.Lists.{AllFrom, many_takes, many_again, Placed, rising_from, placed_from}
-use Rattle.cast_frame.proofs.Parts.{entry_takes, entry_again, proc_above_takes, proc_above_again}
+use Rattle.cast_frame.proofs.Parts.{proc_above_takes, proc_above_again}
 
 nobody : Proc
 nobody = record { site = record { 0 = 0 }; serial = 0 }
@@ -132,59 +130,3 @@ members_again v rest fits =
     let size : IsFrom 0 64 (length v.list) = record { above = omega arith; below = known.1 } in
     let list = many_again proc_above some_proc spelled_proc (Placed proc_cmp IsProc) proc_above_again v.list None (spelled_holder v.list v.holder ++ rest) (placed_from proc_cmp proc_total IsProc None v.list known.0 tt fits.procs) in
     ap members_at regrouped ∙ rw (byte_again 0 64 (length v.list) (flat_map spelled_proc v.list ++ (spelled_holder v.list v.holder ++ rest)) size, list, holder_again v.list v.holder rest known.2) refl
-
--- ---- the end of the order
-
-abbrev Known : Unit {0} → Entry → Type 0
-Known last e = IsEntry e
-
-ids_known : (es : List Entry) → AllFrom Known nothing_of tt es → AllByRecursion IsEntry es
-ids_known [] h = tt
-ids_known (e ∷ es) h = (h.0, ids_known es h.1)
-
-known_ids : (es : List Entry) → AllByRecursion IsEntry es → AllFrom Known nothing_of tt es
-known_ids [] h = tt
-known_ids (e ∷ es) h = (h.0, known_ids es h.1)
-
-id_takes : (last : Unit {0}) → Takes (id_at last) spelled_entry (Known last)
-unfolding id_at
-id_takes last bytes x fits e = entry_takes bytes x fits e
-
-id_again : (last : Unit {0}) → Again (id_at last) spelled_entry (Known last)
-unfolding id_at
-id_again last v rest fits = entry_again v rest fits
-
-stretch_from : (t : Stretch) → t.start ≤ 4000000000 → length t.ids ≤ 576 → is_stretch t ≡ true
-stretch_from t low few = and_from (nat_le t.start 4000000000) (nat_le (length t.ids) 576) (le-leb t.start 4000000000 low) (le-leb (length t.ids) 576 few)
-
-pub stretch_parts : (t : Stretch) → is_stretch t ≡ true → (t.start ≤ 4000000000) × (length t.ids ≤ 576)
-stretch_parts t h =
-    let parts = and_parts (nat_le t.start 4000000000) (nat_le (length t.ids) 576) h in
-    (leb-true t.start 4000000000 parts.0, leb-true (length t.ids) 576 parts.1)
-
-pub tail_takes : Takes tail_at spelled_tail IsTail
-unfolding tail_at spelled_tail
-tail_takes bytes x fits e =
-    let a1 = bind_ok (number_at w32 0 4000000000 bytes) (λ start. number_at w16 0 576 start.1 >>= λ n. many id_at nothing_of n.0 tt n.1 >>= λ ids. Ok (record { start = start.0; ids = ids.0 }, ids.1)) x e in
-    let a2 = bind_ok (number_at w16 0 576 a1.0.1) (λ n. many id_at nothing_of n.0 tt n.1 >>= λ ids. Ok (record { start = a1.0.0; ids = ids.0 }, ids.1)) x a1.2 in
-    let a3 = bind_ok (many id_at nothing_of a2.0.0 tt a2.0.1) (λ ids. Ok (record { start = a1.0.0; ids = ids.0 }, ids.1)) x a2.2 in
-    let t1 = word_takes 0 4000000000 bytes a1.0 fits a1.1 in
-    let t2 = short_takes 0 576 a1.0.1 a2.0 t1.rest_fits a2.1 in
-    let t3 = many_takes id_at nothing_of spelled_entry Known id_takes a2.0.0 tt a2.0.1 a3.0 t2.rest_fits a3.1 in
-    let j2 = joined a1.0.1 (short a2.0.0) a2.0.1 (flat_map spelled_entry a3.0.0) a3.0.1 t2.parts t3.parts in
-    let j1 = joined bytes (word a1.0.0) a1.0.1 (short a2.0.0 ++ flat_map spelled_entry a3.0.0) a3.0.1 t1.parts j2 in
-    let whole = j1 ∙ ap (λ (n : ℕ). (word a1.0.0 ++ (short n ++ flat_map spelled_entry a3.0.0)) ++ a3.0.1) (sym t3.holds.0) in
-    let few : length a3.0.0 ≤ 576 = omega (arith, t2.holds.below, t3.holds.0) in
-    let made : Stretch × List ℕ = (record { start = a1.0.0; ids = a3.0.0 }, a3.0.1) in
-    subst (λ (y : Stretch × List ℕ). Took bytes (spelled_tail y.0) y.1 (IsTail y.0)) (ok_is made x a3.2)
-    (record { parts = whole; rest_fits = t3.rest_fits; holds = record { short = stretch_from (record { start = a1.0.0; ids = a3.0.0 }) t1.holds.below few; ids = ids_known a3.0.0 t3.holds.1 } })
-
-pub tail_again : Again tail_at spelled_tail IsTail
-unfolding tail_at spelled_tail
-tail_again v rest fits =
-    let known = stretch_parts v fits.short in
-    let regrouped : (word v.start ++ (short (length v.ids) ++ flat_map spelled_entry v.ids)) ++ rest ≡ word v.start ++ (short (length v.ids) ++ (flat_map spelled_entry v.ids ++ rest)) = append_assoc (word v.start) (short (length v.ids) ++ flat_map spelled_entry v.ids) rest ∙ ap (λ (t : List ℕ). word v.start ++ t) (append_assoc (short (length v.ids)) (flat_map spelled_entry v.ids) rest) in
-    let start : IsFrom 0 4000000000 v.start = record { above = omega arith; below = known.0 } in
-    let size : IsFrom 0 576 (length v.ids) = record { above = omega arith; below = known.1 } in
-    let ids = many_again id_at nothing_of spelled_entry Known id_again v.ids tt rest (known_ids v.ids fits.ids) in
-    ap tail_at regrouped ∙ rw (word_again 0 4000000000 (lit< tt) v.start (short (length v.ids) ++ (flat_map spelled_entry v.ids ++ rest)) start, short_again 0 576 (lit< tt) (length v.ids) (flat_map spelled_entry v.ids ++ rest) size, ids) refl

@@ -3,6 +3,8 @@ pub mod Fields
 pub mod Lists
 pub mod Parts
 pub mod Holders
+pub mod Orders
+pub mod Messages
 pub mod Frames
 pub mod Sizes
 pub mod Places

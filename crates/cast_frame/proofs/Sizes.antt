@@ -17,16 +17,20 @@ use Rattle.cast_frame.specs.declared.message.Body.{Body}
 use Rattle.cast_frame.specs.declared.message.Body.TheVariants as body
 use Rattle.cast_frame.specs.declared.message.Message.{Message}
 use Rattle.cast_frame.specs.declared.site.SiteFrame.{SiteFrame}
-use Rattle.cast_frame.specs.declared.site.SiteFrame.TheVariants.{Data, Ack, Ask, Asked, Install, Installed}
+use Rattle.cast_frame.specs.declared.site.SiteFrame.TheVariants.{Data, Ack, Stable, Ask, Asked, Prepare, Flushed, Want, Forward, Install, Installed, Out}
 use Rattle.cast_frame.specs.Membership.{Membership}
 use Rattle.cast_frame.specs.Stretch.{Stretch}
-use Rattle.cast_frame.specs.Spelling.{byte, short, word, spelled_proc, spelled_entry, spelled_uid, spelled_counts, spelled_clock, spelled_times, spelled_payload, spelled_behind_id, spelled_message, spelled_holder, spelled_members, spelled_tail, change_code, full_code, frame_code, spelled_fields, spelled_site}
-use Rattle.cast_frame.specs.Spelled.{AreCounts, IsClock, AreTimes, IsBody, IsMessage, AreMembers, IsTail, IsFrame, IsSpelled}
+use Rattle.cast_frame.specs.Sequence.{Sequence}
+use Rattle.cast_frame.specs.Keeping.{Marked, KeptList}
+use Rattle.cast_frame.specs.Bodies.{kind_of}
+use Rattle.cast_frame.specs.Spelling.{byte, short, word, spelled_proc, spelled_entry, spelled_uid, spelled_counts, spelled_clock, spelled_times, spelled_payload, spelled_sequence, kind_code, spelled_body, spelled_message, spelled_holder, spelled_members, spelled_tail, mark_code, spelled_marked, spelled_kept, change_code, full_code, frame_code, spelled_fields, spelled_site}
+use Rattle.cast_frame.specs.Spelled.{AreCounts, IsClock, AreTimes, ArePlaced, IsBody, IsMessage, AreMembers, IsTail, AreKept, IsFrame, IsSpelled}
 use Rattle.cast_frame.specs.Reading.{Gives, site_frame_of}
 use Rattle.cast_frame.specs.Laws.{SpelledIsRead, SpellingsDiffer, SpelledFits}
 use Rattle.cast_frame.proofs.Fields.{IsBytes, ok_is}
 use Rattle.cast_frame.proofs.Parts.{stamp_parts}
-use Rattle.cast_frame.proofs.Holders.{members_parts, stretch_parts}
+use Rattle.cast_frame.proofs.Holders.{members_parts}
+use Rattle.cast_frame.proofs.Orders.{stretch_parts, sequence_parts, kept_parts}
 use Rattle.cast_frame.proofs.Frames.{found, read_again}
 
 short_size : (n : ℕ) → length (short n) ≡ 2
@@ -86,15 +90,26 @@ times_size t are =
     let few = (stamp_parts t are.sorted).1.below in
     omega (arith, length-append (byte (length t)) (flat_map spelled_clock t), byte_size (length t), clocks_size t are.clocks, few)
 
-body_size : (t : List (GroupNo × Clock)) (b : Body) → AreTimes t → IsBody b → length (spelled_behind_id t b) ≤ 37092
-unfolding spelled_behind_id spelled_payload
-body_size t (body.Causal p) are few =
-    omega (arith, length-append (byte 1) (spelled_times t ++ (short (length p) ++ p)), length-append (spelled_times t) (short (length p) ++ p), length-append (short (length p)) p, byte_size 1, short_size (length p), times_size t are, few)
+payload_size : (p : List ℕ) → length p ≤ 16384 → length (spelled_payload p) ≤ 16386
+unfolding spelled_payload
+payload_size p few = omega (arith, length-append (short (length p)) p, short_size (length p), few)
+
+sequence_size : (s : Sequence) → ArePlaced s → length (spelled_sequence s) ≤ 645
+unfolding spelled_sequence
+sequence_size s are =
+    let few = (sequence_parts s are.short).1.below in
+    omega (arith, length-append (word s.first) (byte (length s.ids) ++ flat_map spelled_entry s.ids), length-append (byte (length s.ids)) (flat_map spelled_entry s.ids), word_size s.first, byte_size (length s.ids), entries_size s.ids, few)
+
+body_size : (b : Body) → IsBody b → length (spelled_body b) ≤ 16386
+unfolding spelled_body
+body_size (body.Causal p) few = payload_size p few
+body_size (body.Atomic p) few = payload_size p few
+body_size (body.Order s) are = omega (arith, sequence_size s are)
 
 message_size : (m : Message) → IsMessage m → length (spelled_message m) ≤ 37108
 unfolding spelled_message
 message_size m is =
-    omega (arith, length-append (spelled_uid m.id) (spelled_behind_id m.times m.body), uid_size m.id, body_size m.times m.body is.times is.body)
+    simp length-append (omega (arith, uid_size m.id, byte_size (kind_code (kind_of m.body)), times_size m.times is.times, body_size m.body is.body))
 
 holder_size : (ps : List Proc) (h : Option Proc) → length (spelled_holder ps h) ≤ 1
 unfolding spelled_holder byte
@@ -113,16 +128,37 @@ tail_size t is =
     let few = (stretch_parts t is.short).1 in
     omega (arith, length-append (word t.start) (short (length t.ids) ++ flat_map spelled_entry t.ids), length-append (short (length t.ids)) (flat_map spelled_entry t.ids), word_size t.start, short_size (length t.ids), entries_size t.ids, few)
 
+marked_size : (e : Marked) → length (spelled_marked e) ≡ 11
+unfolding spelled_marked
+marked_size e = omega (arith, length-append (spelled_entry e.0) (byte (mark_code e.1)), entry_size e.0, byte_size (mark_code e.1))
+
+all_marked_size : (k : KeptList) → length (flat_map spelled_marked k) ≡ 11 * length k
+all_marked_size [] = omega arith
+all_marked_size (e ∷ es) = cons_size spelled_marked e es ∙ omega (arith, marked_size e, all_marked_size es)
+
+kept_size : (k : KeptList) → AreKept k → length (spelled_kept k) ≤ 22530
+unfolding spelled_kept
+kept_size k are =
+    let few = (kept_parts k are.sorted).1 in
+    omega (arith, length-append (short (length k)) (flat_map spelled_marked k), short_size (length k), all_marked_size k, few)
+
 fields_size : (f : SiteFrame) → IsFrame f → length (spelled_fields f) ≤ 37108
 unfolding spelled_fields
 fields_size (Data m) is = message_size m is
 fields_size (Ack u) is = omega (arith, uid_size u)
+fields_size (Stable u) is = omega (arith, uid_size u)
 fields_size (Ask g n c p) is =
     simp length-append (omega (arith, short_size g.0, word_size n, byte_size (change_code c), proc_size p))
 fields_size (Asked g n full) is = simp length-append (omega (arith, short_size g.0, word_size n, byte_size (full_code full)))
+fields_size (Prepare g view) is = simp length-append (omega (arith, short_size g.0, word_size view))
+fields_size (Flushed g view counts tail kept) is =
+    simp length-append (omega (arith, short_size g.0, word_size view, counts_size counts is.counts, tail_size tail is.tail, kept_size kept is.kept))
+fields_size (Want u) is = omega (arith, uid_size u)
+fields_size (Forward m) is = message_size m is
 fields_size (Install g view m request cut tail) is =
     simp length-append (omega (arith, short_size g.0, word_size view, members_size m is.members, word_size request, counts_size cut is.cut, tail_size tail is.tail))
 fields_size (Installed g view) is = simp length-append (omega (arith, short_size g.0, word_size view))
+fields_size (Out g view) is = simp length-append (omega (arith, short_size g.0, word_size view))
 
 pub spelled_fits : SpelledFits
 unfolding spelled_site

@@ -6,3 +6,5 @@ use Rattle.cast_frame.specs.declared.message.Body.TheVariants as body
 
 abbrev pub kind_of : Body → Kind
 kind_of (body.Causal payload) = kind.Causal
+kind_of (body.Atomic payload) = kind.Atomic
+kind_of (body.Order sequence) = kind.Order

@@ -3,6 +3,8 @@ pub mod Bodies
 pub mod Rising
 pub mod Membership
 pub mod Stretch
+pub mod Sequence
+pub mod Keeping
 pub mod Spelling
 pub mod Reading
 pub mod Spelled

@@ -9,20 +9,25 @@ use Rattle.cast_types.specs.declared.names.SiteNo.{SiteNo}
 use Rattle.cast_types.specs.declared.names.GroupNo.{GroupNo}
 use Rattle.cast_types.specs.declared.names.Proc.{Proc}
 use Rattle.cast_types.specs.declared.names.Uid.{Uid}
+use Rattle.cast_types.specs.declared.names.Kind.{Kind}
+use Rattle.cast_types.specs.declared.names.Kind.TheVariants as kind
 use Rattle.cast_types.specs.declared.clock.Clock.{Clock}
-use Rattle.cast_types.specs.Names.{Entry, proc_cmp, group_cmp}
+use Rattle.cast_types.specs.Names.{Entry, proc_cmp, group_cmp, entry_cmp}
 use Rattle.cast_frame.specs.declared.fault.FrameFault.{FrameFault}
 use Rattle.cast_frame.specs.declared.fault.FrameFault.TheVariants.{Short, Magic, Version, WrongType, Length, NotSorted, Range, NoMemory}
+use Rattle.cast_frame.specs.declared.message.Body.{Body}
 use Rattle.cast_frame.specs.declared.message.Body.TheVariants as body
 use Rattle.cast_frame.specs.declared.message.Message.{Message}
 use Rattle.cast_frame.specs.declared.site.Change.{Change}
 use Rattle.cast_frame.specs.declared.site.Change.TheVariants.{Join, Leave}
 use Rattle.cast_frame.specs.declared.site.SiteFrame.{SiteFrame}
-use Rattle.cast_frame.specs.declared.site.SiteFrame.TheVariants.{Data, Ack, Ask, Asked, Install, Installed}
+use Rattle.cast_frame.specs.declared.site.SiteFrame.TheVariants.{Data, Ack, Stable, Ask, Asked, Prepare, Flushed, Want, Forward, Install, Installed, Out}
 use Rattle.cast_frame.specs.declared.reading.FrameType.{FrameType}
 use Rattle.cast_frame.specs.declared.reading.FrameType.TheVariants as types
 use Rattle.cast_frame.specs.Membership.{Membership}
 use Rattle.cast_frame.specs.Stretch.{Stretch}
+use Rattle.cast_frame.specs.Sequence.{Sequence}
+use Rattle.cast_frame.specs.Keeping.{Marked, KeptList}
 
 infixl 10 ◌>>=◌
 abbrev pub ◌>>=◌ : {A B : Type 0} → Result A FrameFault → (A → Result B FrameFault) → Result B FrameFault
@@ -163,14 +168,57 @@ payload_at bytes = do
   n ← number_at w16 0 16384 bytes
   bytes_at n.0 n.1
 
--- causal messages alone are read so far
+-- an id, whatever id came before
+unfoldable pub id_at : Unit {0} → Reader Entry
+id_at last bytes = entry_at bytes
+
+abbrev pub nothing_of : Entry → Unit {0}
+nothing_of e = tt
+
+-- the first place, and the ids from it on
+unfoldable pub sequence_at : Reader Sequence
+sequence_at bytes = do
+  first ← number_at w32 1 4000000000 bytes
+  n ← byte_at 1 64 first.1
+  ids ← many id_at nothing_of n.0 tt n.1
+  Ok (record { first = first.0; ids = ids.0 }, ids.1)
+
+abbrev pub kind_numbered : ℕ → Kind
+kind_numbered n = if n == 1 then kind.Causal else if n == 2 then kind.Atomic else kind.Order
+
+unfoldable pub kind_at : Reader Kind
+kind_at bytes = do
+  n ← byte_at 1 3 bytes
+  Ok (kind_numbered n.0, n.1)
+
+unfoldable pub causal_at : Reader Body
+causal_at bytes = do
+  payload ← payload_at bytes
+  Ok (body.Causal payload.0, payload.1)
+
+unfoldable pub atomic_at : Reader Body
+atomic_at bytes = do
+  payload ← payload_at bytes
+  Ok (body.Atomic payload.0, payload.1)
+
+unfoldable pub order_at : Reader Body
+order_at bytes = do
+  sequence ← sequence_at bytes
+  Ok (body.Order sequence.0, sequence.1)
+
+-- the kind of a message says what it holds
+unfoldable pub body_at : Kind → Reader Body
+body_at kind.Causal bytes = causal_at bytes
+body_at kind.Atomic bytes = atomic_at bytes
+body_at kind.Order bytes = order_at bytes
+
 unfoldable pub message_at : Reader Message
 message_at bytes = do
   id ← uid_at bytes
-  kind ← byte_at 1 1 id.1
+  kind ← kind_at id.1
   times ← times_at kind.1
-  payload ← payload_at times.1
-  Ok (record { id = id.0; times = times.0; body = body.Causal payload.0 }, payload.1)
+  body ← body_at kind.0 times.1
+  Ok (record { id = id.0; times = times.0; body = body.0 }, body.1)
 
 abbrev pub some_proc : Proc → Option Proc
 some_proc p = Some p
@@ -188,19 +236,40 @@ members_at bytes = do
   holder ← holder_at list.0 list.1
   Ok (record { list = list.0; holder = holder.0 }, holder.1)
 
--- an id, whatever id came before
-unfoldable pub id_at : Unit {0} → Reader Entry
-id_at last bytes = entry_at bytes
-
-abbrev pub nothing_of : Entry → Unit {0}
-nothing_of e = tt
-
-unfoldable pub tail_at : Reader Stretch
-tail_at bytes = do
+-- the end of an order, with at most so many ids
+unfoldable pub tail_at : ℕ → Reader Stretch
+tail_at most bytes = do
   start ← number_at w32 0 4000000000 bytes
-  n ← number_at w16 0 576 start.1
+  n ← number_at w16 0 most start.1
   ids ← many id_at nothing_of n.0 tt n.1
   Ok (record { start = start.0; ids = ids.0 }, ids.1)
+
+-- a process and a count, above those before
+unfoldable pub id_above : Option Entry → Reader Entry
+id_above last bytes = do
+  id ← entry_at bytes
+  above entry_cmp last id
+
+-- a mark is 0 or 1
+unfoldable pub mark_at : Reader Bool
+mark_at bytes = do
+  n ← byte_at 0 1 bytes
+  Ok (n.0 == 1, n.1)
+
+-- an id above the one before, and its mark
+unfoldable pub marked_above : Option Entry → Reader Marked
+marked_above last bytes = do
+  id ← id_above last bytes
+  mark ← mark_at id.1
+  Ok ((id.0, mark.0), mark.1)
+
+abbrev pub id_of : Marked → Option Entry
+id_of e = Some e.0
+
+unfoldable pub kept_at : Reader KeptList
+kept_at bytes = do
+  n ← number_at w16 0 2048 bytes
+  many marked_above id_of n.0 None n.1
 
 abbrev pub change_of : ℕ → Change
 change_of n = if n == 1 then Join else Leave
@@ -219,6 +288,11 @@ ack_at bytes = do
   id ← uid_at bytes
   Ok (Ack id.0, id.1)
 
+unfoldable pub stable_at : Reader SiteFrame
+stable_at bytes = do
+  id ← uid_at bytes
+  Ok (Stable id.0, id.1)
+
 unfoldable pub ask_at : Reader SiteFrame
 ask_at bytes = do
   group ← group_at bytes
@@ -235,6 +309,31 @@ asked_at bytes = do
   full ← full_of code.0
   Ok (Asked group.0 number.0 full, code.1)
 
+unfoldable pub prepare_at : Reader SiteFrame
+prepare_at bytes = do
+  group ← group_at bytes
+  view ← count_at group.1
+  Ok (Prepare group.0 view.0, view.1)
+
+unfoldable pub flushed_at : Reader SiteFrame
+flushed_at bytes = do
+  group ← group_at bytes
+  view ← count_at group.1
+  counts ← counts_at view.1
+  tail ← tail_at 512 counts.1
+  kept ← kept_at tail.1
+  Ok (Flushed group.0 view.0 counts.0 tail.0 kept.0, kept.1)
+
+unfoldable pub want_at : Reader SiteFrame
+want_at bytes = do
+  id ← uid_at bytes
+  Ok (Want id.0, id.1)
+
+unfoldable pub forward_at : Reader SiteFrame
+forward_at bytes = do
+  message ← message_at bytes
+  Ok (Forward message.0, message.1)
+
 unfoldable pub install_at : Reader SiteFrame
 install_at bytes = do
   group ← group_at bytes
@@ -242,7 +341,7 @@ install_at bytes = do
   members ← members_at view.1
   request ← number_at w32 0 4294967295 members.1
   cut ← counts_at request.1
-  tail ← tail_at cut.1
+  tail ← tail_at 576 cut.1
   Ok (Install group.0 view.0 members.0 request.0 cut.0 tail.0, tail.1)
 
 unfoldable pub installed_at : Reader SiteFrame
@@ -251,10 +350,18 @@ installed_at bytes = do
   view ← count_at group.1
   Ok (Installed group.0 view.0, view.1)
 
+unfoldable pub out_at : Reader SiteFrame
+out_at bytes = do
+  group ← group_at bytes
+  view ← count_at group.1
+  Ok (Out group.0 view.0, view.1)
+
 unfoldable pub type_of : ℕ → Result FrameType FrameFault
 type_of n =
-    if n == 1 then Ok types.Data else if n == 2 then Ok types.Ack else if n == 4 then Ok types.Ask
-    else if n == 5 then Ok types.Asked else if n == 10 then Ok types.Install else if n == 11 then Ok types.Installed
+    if n == 1 then Ok types.Data else if n == 2 then Ok types.Ack else if n == 3 then Ok types.Stable
+    else if n == 4 then Ok types.Ask else if n == 5 then Ok types.Asked else if n == 6 then Ok types.Prepare
+    else if n == 7 then Ok types.Flushed else if n == 8 then Ok types.Want else if n == 9 then Ok types.Forward
+    else if n == 10 then Ok types.Install else if n == 11 then Ok types.Installed else if n == 12 then Ok types.Out
     else Err WrongType
 
 unfoldable pub type_at : Reader FrameType
@@ -267,10 +374,16 @@ type_at bytes = do
 unfoldable pub fields_at : FrameType → Reader SiteFrame
 fields_at types.Data bytes = data_at bytes
 fields_at types.Ack bytes = ack_at bytes
+fields_at types.Stable bytes = stable_at bytes
 fields_at types.Ask bytes = ask_at bytes
 fields_at types.Asked bytes = asked_at bytes
+fields_at types.Prepare bytes = prepare_at bytes
+fields_at types.Flushed bytes = flushed_at bytes
+fields_at types.Want bytes = want_at bytes
+fields_at types.Forward bytes = forward_at bytes
 fields_at types.Install bytes = install_at bytes
 fields_at types.Installed bytes = installed_at bytes
+fields_at types.Out bytes = out_at bytes
 
 -- the two bytes of the magic are one field
 unfoldable pub magic_at : List ℕ → Result (List ℕ) FrameFault

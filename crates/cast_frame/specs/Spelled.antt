@@ -14,9 +14,11 @@ use Rattle.cast_frame.specs.declared.message.Body.{Body}
 use Rattle.cast_frame.specs.declared.message.Body.TheVariants as body
 use Rattle.cast_frame.specs.declared.message.Message.{Message}
 use Rattle.cast_frame.specs.declared.site.SiteFrame.{SiteFrame}
-use Rattle.cast_frame.specs.declared.site.SiteFrame.TheVariants.{Data, Ack, Ask, Asked, Install, Installed}
+use Rattle.cast_frame.specs.declared.site.SiteFrame.TheVariants.{Data, Ack, Stable, Ask, Asked, Prepare, Flushed, Want, Forward, Install, Installed, Out}
 use Rattle.cast_frame.specs.Membership.{Membership, is_members}
 use Rattle.cast_frame.specs.Stretch.{Stretch, is_stretch}
+use Rattle.cast_frame.specs.Sequence.{Sequence, is_sequence}
+use Rattle.cast_frame.specs.Keeping.{Marked, KeptList, is_kept}
 
 -- low ≤ n ≤ high
 pub record IsFrom (low high n : ℕ) : Type 0 where
@@ -58,8 +60,14 @@ pub record AreTimes (t : List (GroupNo × Clock)) : Type 0 where
   pub sorted : IsTrue (is_stamp t)
   pub clocks : AllByRecursion IsClock t
 
+pub record ArePlaced (s : Sequence) : Type 0 where
+  pub short : IsTrue (is_sequence s)
+  pub ids : AllByRecursion IsEntry s.ids
+
 abbrev pub IsBody : Body → Type 0
 IsBody (body.Causal payload) = length payload ≤ 16384
+IsBody (body.Atomic payload) = length payload ≤ 16384
+IsBody (body.Order sequence) = ArePlaced sequence
 
 pub record IsMessage (m : Message) : Type 0 where
   pub id : IsUid m.id
@@ -74,6 +82,22 @@ pub record IsTail (t : Stretch) : Type 0 where
   pub short : IsTrue (is_stretch t)
   pub ids : AllByRecursion IsEntry t.ids
 
+abbrev pub IsMarked : Marked → Type 0
+IsMarked e = IsEntry e.0
+
+pub record AreKept (k : KeptList) : Type 0 where
+  pub sorted : IsTrue (is_kept k)
+  pub ids : AllByRecursion IsMarked k
+
+pub record IsFlushed (g : GroupNo) (v : ℕ) (c : List Entry) (t : Stretch) (k : KeptList) : Type 0 where
+  pub group : IsName g.0
+  pub view : IsCount v
+  pub counts : AreCounts c
+  pub tail : IsTail t
+  -- fewer than a tail may have elsewhere
+  pub few : length t.ids ≤ 512
+  pub kept : AreKept k
+
 pub record IsInstall (g : GroupNo) (v : ℕ) (m : Membership) (r : ℕ) (c : List Entry) (t : Stretch) : Type 0 where
   pub group : IsName g.0
   pub view : IsCount v
@@ -85,10 +109,16 @@ pub record IsInstall (g : GroupNo) (v : ℕ) (m : Membership) (r : ℕ) (c : Lis
 abbrev pub IsFrame : SiteFrame → Type 0
 IsFrame (Data m) = IsMessage m
 IsFrame (Ack u) = IsUid u
+IsFrame (Stable u) = IsUid u
 IsFrame (Ask g number change p) = IsName g.0 × IsCount number × IsProc p
 IsFrame (Asked g number full) = IsName g.0 × IsCount number
+IsFrame (Prepare g view) = IsName g.0 × IsCount view
+IsFrame (Flushed g view counts tail kept) = IsFlushed g view counts tail kept
+IsFrame (Want u) = IsUid u
+IsFrame (Forward m) = IsMessage m
 IsFrame (Install g view members request cut tail) = IsInstall g view members request cut tail
 IsFrame (Installed g view) = IsName g.0 × IsCount view
+IsFrame (Out g view) = IsName g.0 × IsCount view
 
 -- a frame of this domain from this site
 pub record IsSpelled (d : DomainNo) (s : SiteNo) (f : SiteFrame) : Type 0 where

@@ -7,6 +7,8 @@ use Rattle.cast_types.specs.declared.names.SiteNo.{SiteNo}
 use Rattle.cast_types.specs.declared.names.GroupNo.{GroupNo}
 use Rattle.cast_types.specs.declared.names.Proc.{Proc}
 use Rattle.cast_types.specs.declared.names.Uid.{Uid}
+use Rattle.cast_types.specs.declared.names.Kind.{Kind}
+use Rattle.cast_types.specs.declared.names.Kind.TheVariants as kind
 use Rattle.cast_types.specs.declared.clock.Clock.{Clock}
 use Rattle.cast_types.specs.Names.{Entry, proc_eq}
 use Rattle.cast_frame.specs.declared.message.Body.{Body}
@@ -15,9 +17,12 @@ use Rattle.cast_frame.specs.declared.message.Message.{Message}
 use Rattle.cast_frame.specs.declared.site.Change.{Change}
 use Rattle.cast_frame.specs.declared.site.Change.TheVariants.{Join, Leave}
 use Rattle.cast_frame.specs.declared.site.SiteFrame.{SiteFrame}
-use Rattle.cast_frame.specs.declared.site.SiteFrame.TheVariants.{Data, Ack, Ask, Asked, Install, Installed}
+use Rattle.cast_frame.specs.declared.site.SiteFrame.TheVariants.{Data, Ack, Stable, Ask, Asked, Prepare, Flushed, Want, Forward, Install, Installed, Out}
 use Rattle.cast_frame.specs.Membership.{Membership}
 use Rattle.cast_frame.specs.Stretch.{Stretch}
+use Rattle.cast_frame.specs.Sequence.{Sequence}
+use Rattle.cast_frame.specs.Keeping.{Marked, KeptList}
+use Rattle.cast_frame.specs.Bodies.{kind_of}
 
 unfoldable pub byte : ℕ → List ℕ
 byte n = n ∷ []
@@ -56,12 +61,23 @@ spelled_times t = byte (length t) ++ flat_map spelled_clock t
 unfoldable pub spelled_payload : List ℕ → List ℕ
 spelled_payload bytes = short (length bytes) ++ bytes
 
--- kind, times, what the message holds
-unfoldable pub spelled_behind_id : List (GroupNo × Clock) → Body → List ℕ
-spelled_behind_id times (body.Causal payload) = byte 1 ++ (spelled_times times ++ spelled_payload payload)
+-- the first place, how many, and the ids
+unfoldable pub spelled_sequence : Sequence → List ℕ
+spelled_sequence s = word s.first ++ (byte (length s.ids) ++ flat_map spelled_entry s.ids)
 
+abbrev pub kind_code : Kind → ℕ
+kind_code kind.Causal = 1
+kind_code kind.Atomic = 2
+kind_code kind.Order = 3
+
+unfoldable pub spelled_body : Body → List ℕ
+spelled_body (body.Causal payload) = spelled_payload payload
+spelled_body (body.Atomic payload) = spelled_payload payload
+spelled_body (body.Order sequence) = spelled_sequence sequence
+
+-- name, kind, times, what the message holds
 unfoldable pub spelled_message : Message → List ℕ
-spelled_message m = spelled_uid m.id ++ spelled_behind_id m.times m.body
+spelled_message m = spelled_uid m.id ++ (byte (kind_code (kind_of m.body)) ++ (spelled_times m.times ++ spelled_body m.body))
 
 -- the holder stands by its place among the members
 unfoldable pub spelled_holder : List Proc → Option Proc → List ℕ
@@ -76,6 +92,17 @@ spelled_members m = byte (length m.list) ++ (flat_map spelled_proc m.list ++ spe
 unfoldable pub spelled_tail : Stretch → List ℕ
 spelled_tail t = word t.start ++ (short (length t.ids) ++ flat_map spelled_entry t.ids)
 
+abbrev pub mark_code : Bool → ℕ
+mark_code mark = if mark then 1 else 0
+
+-- process, count, mark
+unfoldable pub spelled_marked : Marked → List ℕ
+spelled_marked e = spelled_entry e.0 ++ byte (mark_code e.1)
+
+-- how many, and the ids with their marks
+unfoldable pub spelled_kept : KeptList → List ℕ
+spelled_kept k = short (length k) ++ flat_map spelled_marked k
+
 abbrev pub change_code : Change → ℕ
 change_code Join = 1
 change_code Leave = 2
@@ -87,19 +114,32 @@ full_code full = if full then 14 else 0
 abbrev pub frame_code : SiteFrame → ℕ
 frame_code (Data m) = 1
 frame_code (Ack u) = 2
+frame_code (Stable u) = 3
 frame_code (Ask g number change p) = 4
 frame_code (Asked g number full) = 5
+frame_code (Prepare g view) = 6
+frame_code (Flushed g view counts tail kept) = 7
+frame_code (Want u) = 8
+frame_code (Forward m) = 9
 frame_code (Install g view members request cut tail) = 10
 frame_code (Installed g view) = 11
+frame_code (Out g view) = 12
 
 unfoldable pub spelled_fields : SiteFrame → List ℕ
 spelled_fields (Data m) = spelled_message m
 spelled_fields (Ack u) = spelled_uid u
+spelled_fields (Stable u) = spelled_uid u
 spelled_fields (Ask g number change p) = short g.0 ++ (word number ++ (byte (change_code change) ++ spelled_proc p))
 spelled_fields (Asked g number full) = short g.0 ++ (word number ++ byte (full_code full))
+spelled_fields (Prepare g view) = short g.0 ++ word view
+spelled_fields (Flushed g view counts tail kept) =
+    short g.0 ++ (word view ++ (spelled_counts counts ++ (spelled_tail tail ++ spelled_kept kept)))
+spelled_fields (Want u) = spelled_uid u
+spelled_fields (Forward m) = spelled_message m
 spelled_fields (Install g view members request cut tail) =
     short g.0 ++ (word view ++ (spelled_members members ++ (word request ++ (spelled_counts cut ++ spelled_tail tail))))
 spelled_fields (Installed g view) = short g.0 ++ word view
+spelled_fields (Out g view) = short g.0 ++ word view
 
 -- a frame of a domain from a site: the magic, the version, the type, the domain, the sender and the fields
 unfoldable pub spelled_site : DomainNo → SiteNo → SiteFrame → List ℕ

@@ -1,6 +1,7 @@
 ghost use Rattle.std.specs.Prelude.{◌≡◌, IfOk};
 
 use crate::payload::Payload;
+use crate::placement::Placement;
 use cast_types::{Kind, NoMemory, Stamp, Uid};
 
 /// What a message holds, by its kind.
@@ -8,6 +9,10 @@ use cast_types::{Kind, NoMemory, Stamp, Uid};
 pub enum Body {
     /// The payload of a causal message.
     Causal(Payload),
+    /// The payload of an atomic message.
+    Atomic(Payload),
+    /// The places that a message sets in the order of its view.
+    Order(Placement),
 }
 
 impl Body {
@@ -19,6 +24,8 @@ impl Body {
     {
         match self {
             Body::Causal(_) => Kind::Causal,
+            Body::Atomic(_) => Kind::Atomic,
+            Body::Order(_) => Kind::Order,
         }
     }
 
@@ -28,6 +35,8 @@ impl Body {
     {
         match self {
             Body::Causal(payload) => Ok(Body::Causal(payload.copy()?)),
+            Body::Atomic(payload) => Ok(Body::Atomic(payload.copy()?)),
+            Body::Order(placement) => Ok(Body::Order(placement.copy()?)),
         }
     }
 }

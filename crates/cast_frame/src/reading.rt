@@ -1,21 +1,24 @@
 ghost use Rattle.std.specs.Prelude.{◌≡◌, ◌≤◌, None, List, Ok, IfOk, IsTrue, length};
 ghost use Rattle.std.specs.Int.{w16, w32};
-ghost use Rattle.cast_frame.specs.Reading.{Gives, GivesAs, GivesField, above, ack_at, ask_at, asked_at, byte_at, bytes_at, change_of, clock_above, count_at, counts_at, data_at, domain_at, entry_above, entry_at, fields_at, frame_at, full_of, group_above, group_at, group_of, holder_at, id_at, install_at, installed_at, magic_at, many, members_at, message_at, nothing_of, number_at, payload_at, proc_above, proc_at, process_of, site_at, site_frame_of, some_proc, tail_at, times_at, type_at, type_of, uid_at, version_at};
+ghost use Rattle.cast_frame.specs.Reading.{Gives, GivesAs, GivesField, above, ack_at, ask_at, asked_at, atomic_at, body_at, byte_at, bytes_at, causal_at, change_of, clock_above, count_at, counts_at, data_at, domain_at, entry_above, entry_at, fields_at, flushed_at, forward_at, frame_at, full_of, group_above, group_at, group_of, holder_at, id_above, id_at, id_of, install_at, installed_at, kept_at, kind_at, magic_at, many, mark_at, marked_above, members_at, message_at, nothing_of, number_at, order_at, out_at, payload_at, prepare_at, proc_above, proc_at, process_of, sequence_at, site_at, site_frame_of, some_proc, stable_at, tail_at, times_at, type_at, type_of, uid_at, version_at, want_at};
 ghost use Rattle.cast_frame.specs.Spelled.{IsSpelled};
 ghost use Rattle.cast_frame.specs.Spelling.{spelled_site};
 ghost use Rattle.cast_types.specs.Names.{group_cmp, proc_cmp};
 
 use crate::fault::FrameFault;
 use crate::header::{MAGIC, VERSION};
+use crate::kept::Kept;
 use crate::members::{Members, Tail};
 use crate::message::{Body, Message};
 use crate::payload::Payload;
+use crate::placement::Placement;
 use crate::site::{Change, SiteFrame};
 use bytes::Bytes;
 use cast_types::limits::{
-    MAX_GROUPS, MAX_MEMBERS, MAX_NUMBER, MAX_ORDER, MAX_PAYLOAD, MAX_POSITION, MAX_SITE_FRAME,
+    MAX_GROUPS, MAX_KEPT, MAX_MEMBERS, MAX_NUMBER, MAX_ORDER, MAX_PAYLOAD, MAX_PLACED,
+    MAX_POSITION, MAX_SITE_FRAME, MAX_TAIL,
 };
-use cast_types::{Clock, Counts, DomainNo, GroupNo, Proc, SiteNo, Stamp, Uid};
+use cast_types::{Clock, Counts, DomainNo, GroupNo, Kind, Proc, SiteNo, Stamp, Uid};
 use std::alloc::Global;
 
 /// The types of the frames between sites.
@@ -23,10 +26,16 @@ use std::alloc::Global;
 enum FrameType {
     Data,
     Ack,
+    Stable,
     Ask,
     Asked,
+    Prepare,
+    Flushed,
+    Want,
+    Forward,
     Install,
     Installed,
+    Out,
 }
 
 #[tactic(auto, unfolding(crate::specs::Reading::byte_at, crate::specs::Reading::within_range))]
@@ -140,10 +149,16 @@ fn type_of_number(number: u8) -> Result<FrameType, FrameFault>
     match number {
         1 => Ok(FrameType::Data),
         2 => Ok(FrameType::Ack),
+        3 => Ok(FrameType::Stable),
         4 => Ok(FrameType::Ask),
         5 => Ok(FrameType::Asked),
+        6 => Ok(FrameType::Prepare),
+        7 => Ok(FrameType::Flushed),
+        8 => Ok(FrameType::Want),
+        9 => Ok(FrameType::Forward),
         10 => Ok(FrameType::Install),
         11 => Ok(FrameType::Installed),
+        12 => Ok(FrameType::Out),
         _ => Err(FrameFault::WrongType),
     }
 }
@@ -278,15 +293,98 @@ fn read_payload(alloc: Global, bytes: &[u8]) -> Result<(Payload, &[u8]), FrameFa
     Ok((Payload::from_bytes(payload), rest))
 }
 
+#[tactic(auto, unfolding(crate::specs::Reading::entry_at, crate::specs::Reading::id_at))]
+fn read_entry(bytes: &[u8]) -> Result<((Proc, u32), &[u8]), FrameFault>
+    ensures { GivesField result (entry_at bytes.now) }
+{
+    let (proc, rest) = read_proc(bytes)?;
+    let (count, rest) = read_count(rest)?;
+    Ok(((proc, count), rest))
+}
+
+fn read_ids(
+    alloc: Global,
+    count: u16,
+    bytes: &[u8],
+) -> Result<(Vec<(Proc, u32)>, &[u8]), FrameFault>
+    ensures { GivesAs (λ x. (x.0.items, x.1.now)) result (many id_at nothing_of count tt bytes.now) }
+{
+    let mut ids = Vec::new(alloc);
+    let mut rest = bytes;
+    for _ in 0..count {
+        let (id, after) = read_entry(rest)?;
+        ids.push(id)?;
+        rest = after;
+    }
+    Ok((ids, rest))
+}
+
+#[tactic(auto, unfolding(crate::specs::Reading::sequence_at))]
+fn read_placement(alloc: Global, bytes: &[u8]) -> Result<(Placement, &[u8]), FrameFault>
+    ensures { GivesField result (sequence_at bytes.now) }
+{
+    let (first, rest) = read_word(1, MAX_POSITION, bytes)?;
+    let (count, rest) = read_byte(1, MAX_PLACED as u8, rest)?;
+    let (ids, rest) = read_ids(alloc, count as u16, rest)?;
+    Ok((Placement::from_parts(first, ids), rest))
+}
+
+#[tactic(auto, unfolding(crate::specs::Reading::kind_at))]
+fn read_kind(bytes: &[u8]) -> Result<(Kind, &[u8]), FrameFault>
+    ensures { GivesField result (kind_at bytes.now) }
+{
+    let (number, rest) = read_byte(1, 3, bytes)?;
+    let kind = match number {
+        1 => Kind::Causal,
+        2 => Kind::Atomic,
+        _ => Kind::Order,
+    };
+    Ok((kind, rest))
+}
+
+#[tactic(auto, unfolding(crate::specs::Reading::causal_at))]
+fn read_causal(alloc: Global, bytes: &[u8]) -> Result<(Body, &[u8]), FrameFault>
+    ensures { GivesField result (causal_at bytes.now) }
+{
+    let (payload, rest) = read_payload(alloc, bytes)?;
+    Ok((Body::Causal(payload), rest))
+}
+
+#[tactic(auto, unfolding(crate::specs::Reading::atomic_at))]
+fn read_atomic(alloc: Global, bytes: &[u8]) -> Result<(Body, &[u8]), FrameFault>
+    ensures { GivesField result (atomic_at bytes.now) }
+{
+    let (payload, rest) = read_payload(alloc, bytes)?;
+    Ok((Body::Atomic(payload), rest))
+}
+
+#[tactic(auto, unfolding(crate::specs::Reading::order_at))]
+fn read_order(alloc: Global, bytes: &[u8]) -> Result<(Body, &[u8]), FrameFault>
+    ensures { GivesField result (order_at bytes.now) }
+{
+    let (placement, rest) = read_placement(alloc, bytes)?;
+    Ok((Body::Order(placement), rest))
+}
+
+#[tactic(auto, unfolding(crate::specs::Reading::body_at))]
+fn read_body(alloc: Global, kind: Kind, bytes: &[u8]) -> Result<(Body, &[u8]), FrameFault>
+    ensures { GivesField result (body_at kind bytes.now) }
+{
+    match kind {
+        Kind::Causal => read_causal(alloc, bytes),
+        Kind::Atomic => read_atomic(alloc, bytes),
+        Kind::Order => read_order(alloc, bytes),
+    }
+}
+
 #[tactic(auto, unfolding(crate::specs::Reading::message_at))]
 fn read_message(alloc: Global, bytes: &[u8]) -> Result<(Message, &[u8]), FrameFault>
     ensures { GivesField result (message_at bytes.now) }
 {
     let (id, rest) = read_uid(bytes)?;
-    let (_kind, rest) = read_byte(1, 1, rest)?;
+    let (kind, rest) = read_kind(rest)?;
     let (times, rest) = read_times(alloc, rest)?;
-    let (payload, rest) = read_payload(alloc, rest)?;
-    let body = Body::Causal(payload);
+    let (body, rest) = read_body(alloc, kind, rest)?;
     Ok((Message { id, times, body }, rest))
 }
 
@@ -330,40 +428,77 @@ fn read_members(alloc: Global, bytes: &[u8]) -> Result<(Members, &[u8]), FrameFa
     Ok((Members::from_parts(list, holder), rest))
 }
 
-#[tactic(auto, unfolding(crate::specs::Reading::entry_at, crate::specs::Reading::id_at))]
-fn read_entry(bytes: &[u8]) -> Result<((Proc, u32), &[u8]), FrameFault>
-    ensures { GivesField result (entry_at bytes.now) }
+#[tactic(auto, unfolding(crate::specs::Reading::tail_at))]
+fn read_tail(alloc: Global, most: u16, bytes: &[u8]) -> Result<(Tail, &[u8]), FrameFault>
+    requires { most ≤ 576 }
+    ensures { GivesField result (tail_at most bytes.now) }
 {
-    let (proc, rest) = read_proc(bytes)?;
-    let (count, rest) = read_count(rest)?;
-    Ok(((proc, count), rest))
+    let (start, rest) = read_word(0, MAX_POSITION, bytes)?;
+    let (count, rest) = read_short(0, most, rest)?;
+    let (ids, rest) = read_ids(alloc, count, rest)?;
+    Ok((Tail::from_parts(start, ids), rest))
 }
 
-fn read_ids(
+#[tactic(auto, unfolding(crate::specs::Reading::id_above, crate::specs::Reading::above))]
+fn read_id_above(
+    last: Option<(Proc, u32)>,
+    bytes: &[u8],
+) -> Result<((Proc, u32), &[u8]), FrameFault>
+    ensures { GivesField result (id_above last bytes.now) }
+{
+    let (id, rest) = read_entry(bytes)?;
+    match last {
+        Some(last) if !last.cmp(&id).is_lt() => Err(FrameFault::NotSorted),
+        _ => Ok((id, rest)),
+    }
+}
+
+#[tactic(auto, unfolding(crate::specs::Reading::mark_at))]
+fn read_mark(bytes: &[u8]) -> Result<(bool, &[u8]), FrameFault>
+    ensures { GivesField result (mark_at bytes.now) }
+{
+    let (number, rest) = read_byte(0, 1, bytes)?;
+    Ok((number == 1, rest))
+}
+
+#[tactic(auto, unfolding(crate::specs::Reading::marked_above))]
+fn read_marked_above(
+    last: Option<(Proc, u32)>,
+    bytes: &[u8],
+) -> Result<(((Proc, u32), bool), &[u8]), FrameFault>
+    ensures { GivesField result (marked_above last bytes.now) }
+{
+    let (id, rest) = read_id_above(last, bytes)?;
+    let (mark, rest) = read_mark(rest)?;
+    Ok(((id, mark), rest))
+}
+
+fn read_all_marked(
     alloc: Global,
     count: u16,
     bytes: &[u8],
-) -> Result<(Vec<(Proc, u32)>, &[u8]), FrameFault>
-    ensures { GivesAs (λ x. (x.0.items, x.1.now)) result (many id_at nothing_of count tt bytes.now) }
+) -> Result<(Vec<((Proc, u32), bool)>, &[u8]), FrameFault>
+    ensures { GivesAs (λ x. (x.0.items, x.1.now)) result (many marked_above id_of count None bytes.now) }
 {
-    let mut ids = Vec::new(alloc);
+    let mut entries = Vec::new(alloc);
+    let mut last = None;
     let mut rest = bytes;
     for _ in 0..count {
-        let (id, after) = read_entry(rest)?;
-        ids.push(id)?;
+        let (entry, after) = read_marked_above(last, rest)?;
+        last = Some(entry.0);
+        entries.push(entry)?;
         rest = after;
     }
-    Ok((ids, rest))
+    Ok((entries, rest))
 }
 
-#[tactic(auto, unfolding(crate::specs::Reading::tail_at))]
-fn read_tail(alloc: Global, bytes: &[u8]) -> Result<(Tail, &[u8]), FrameFault>
-    ensures { GivesField result (tail_at bytes.now) }
+#[tactic(auto, unfolding(crate::specs::Reading::kept_at))]
+fn read_kept(alloc: Global, bytes: &[u8]) -> Result<(Kept, &[u8]), FrameFault>
+    ensures { GivesField result (kept_at bytes.now) }
 {
-    let (start, rest) = read_word(0, MAX_POSITION, bytes)?;
-    let (count, rest) = read_short(0, MAX_ORDER as u16, rest)?;
-    let (ids, rest) = read_ids(alloc, count, rest)?;
-    Ok((Tail::from_parts(start, ids), rest))
+    let (count, rest) = read_short(0, MAX_KEPT as u16, bytes)?;
+    let (entries, rest) = read_all_marked(alloc, count, rest)?;
+    Ok((Kept::from_entries(entries), rest))
 }
 
 #[tactic(auto, unfolding(crate::specs::Reading::data_at))]
@@ -380,6 +515,14 @@ fn read_ack(bytes: &[u8]) -> Result<(SiteFrame, &[u8]), FrameFault>
 {
     let (id, rest) = read_uid(bytes)?;
     Ok((SiteFrame::Ack(id), rest))
+}
+
+#[tactic(auto, unfolding(crate::specs::Reading::stable_at))]
+fn read_stable(bytes: &[u8]) -> Result<(SiteFrame, &[u8]), FrameFault>
+    ensures { GivesField result (stable_at bytes.now) }
+{
+    let (id, rest) = read_uid(bytes)?;
+    Ok((SiteFrame::Stable(id), rest))
 }
 
 #[tactic(auto, unfolding(crate::specs::Reading::ask_at))]
@@ -431,6 +574,50 @@ fn read_asked(bytes: &[u8]) -> Result<(SiteFrame, &[u8]), FrameFault>
     Ok((frame, rest))
 }
 
+#[tactic(auto, unfolding(crate::specs::Reading::prepare_at))]
+fn read_prepare(bytes: &[u8]) -> Result<(SiteFrame, &[u8]), FrameFault>
+    ensures { GivesField result (prepare_at bytes.now) }
+{
+    let (group, rest) = read_group(bytes)?;
+    let (view, rest) = read_count(rest)?;
+    Ok((SiteFrame::Prepare { group, view }, rest))
+}
+
+#[tactic(auto, unfolding(crate::specs::Reading::flushed_at))]
+fn read_flushed(alloc: Global, bytes: &[u8]) -> Result<(SiteFrame, &[u8]), FrameFault>
+    ensures { GivesField result (flushed_at bytes.now) }
+{
+    let (group, rest) = read_group(bytes)?;
+    let (view, rest) = read_count(rest)?;
+    let (counts, rest) = read_counts(alloc, rest)?;
+    let (tail, rest) = read_tail(alloc, MAX_TAIL as u16, rest)?;
+    let (kept, rest) = read_kept(alloc, rest)?;
+    let frame = SiteFrame::Flushed {
+        group,
+        view,
+        counts,
+        tail,
+        kept,
+    };
+    Ok((frame, rest))
+}
+
+#[tactic(auto, unfolding(crate::specs::Reading::want_at))]
+fn read_want(bytes: &[u8]) -> Result<(SiteFrame, &[u8]), FrameFault>
+    ensures { GivesField result (want_at bytes.now) }
+{
+    let (id, rest) = read_uid(bytes)?;
+    Ok((SiteFrame::Want(id), rest))
+}
+
+#[tactic(auto, unfolding(crate::specs::Reading::forward_at))]
+fn read_forward(alloc: Global, bytes: &[u8]) -> Result<(SiteFrame, &[u8]), FrameFault>
+    ensures { GivesField result (forward_at bytes.now) }
+{
+    let (message, rest) = read_message(alloc, bytes)?;
+    Ok((SiteFrame::Forward(message), rest))
+}
+
 #[tactic(auto, unfolding(crate::specs::Reading::install_at))]
 fn read_install(alloc: Global, bytes: &[u8]) -> Result<(SiteFrame, &[u8]), FrameFault>
     ensures { GivesField result (install_at bytes.now) }
@@ -440,7 +627,7 @@ fn read_install(alloc: Global, bytes: &[u8]) -> Result<(SiteFrame, &[u8]), Frame
     let (members, rest) = read_members(alloc, rest)?;
     let (request, rest) = read_word(0, MAX_NUMBER, rest)?;
     let (cut, rest) = read_counts(alloc, rest)?;
-    let (tail, rest) = read_tail(alloc, rest)?;
+    let (tail, rest) = read_tail(alloc, MAX_ORDER as u16, rest)?;
     let frame = SiteFrame::Install {
         group,
         view,
@@ -461,6 +648,15 @@ fn read_installed(bytes: &[u8]) -> Result<(SiteFrame, &[u8]), FrameFault>
     Ok((SiteFrame::Installed { group, view }, rest))
 }
 
+#[tactic(auto, unfolding(crate::specs::Reading::out_at))]
+fn read_out(bytes: &[u8]) -> Result<(SiteFrame, &[u8]), FrameFault>
+    ensures { GivesField result (out_at bytes.now) }
+{
+    let (group, rest) = read_group(bytes)?;
+    let (view, rest) = read_count(rest)?;
+    Ok((SiteFrame::Out { group, view }, rest))
+}
+
 #[tactic(auto, unfolding(crate::specs::Reading::fields_at))]
 fn read_fields(
     alloc: Global,
@@ -472,10 +668,16 @@ fn read_fields(
     match frame_type {
         FrameType::Data => read_data(alloc, bytes),
         FrameType::Ack => read_ack(bytes),
+        FrameType::Stable => read_stable(bytes),
         FrameType::Ask => read_ask(bytes),
         FrameType::Asked => read_asked(bytes),
+        FrameType::Prepare => read_prepare(bytes),
+        FrameType::Flushed => read_flushed(alloc, bytes),
+        FrameType::Want => read_want(bytes),
+        FrameType::Forward => read_forward(alloc, bytes),
         FrameType::Install => read_install(alloc, bytes),
         FrameType::Installed => read_installed(bytes),
+        FrameType::Out => read_out(bytes),
     }
 }
 

@@ -1,15 +1,18 @@
 ghost use Rattle.std.specs.Prelude.{◌≡◌, ◌++◌, ◌≤◌, length, IfOk, OnOk};
 ghost use Rattle.std.specs.List.{flat_map, position, position_or_len};
 ghost use Rattle.cast_types.specs.Names.{proc_eq};
-ghost use Rattle.cast_frame.specs.Spelling.{change_code, frame_code, spelled_behind_id, spelled_clock, spelled_counts, spelled_entry, spelled_fields, spelled_holder, spelled_members, spelled_message, spelled_payload, spelled_proc, spelled_site, spelled_tail, spelled_times, spelled_uid};
+ghost use Rattle.cast_frame.specs.declared.site.SiteFrame.TheVariants.{Ask, Asked, Flushed, Install};
+ghost use Rattle.cast_frame.specs.Spelling.{change_code, frame_code, kind_code, short, spelled_body, spelled_clock, spelled_counts, spelled_entry, spelled_fields, spelled_holder, spelled_kept, spelled_marked, spelled_members, spelled_message, spelled_payload, spelled_proc, spelled_sequence, spelled_site, spelled_tail, spelled_times, spelled_uid, word};
 
 use crate::header::{MAGIC, VERSION};
+use crate::kept::Kept;
 use crate::members::{Members, Tail};
 use crate::message::{Body, Message};
 use crate::payload::Payload;
+use crate::placement::Placement;
 use crate::site::{Change, SiteFrame};
 use bytes::{BufMut, Bytes, BytesMut};
-use cast_types::{Clock, Counts, DomainNo, GroupNo, NoMemory, Proc, SiteNo, Stamp, Uid};
+use cast_types::{Clock, Counts, DomainNo, GroupNo, Kind, NoMemory, Proc, SiteNo, Stamp, Uid};
 use std::alloc::Global;
 
 #[tactic(auto, unfolding(crate::specs::Spelling::spelled_proc, crate::specs::Spelling::short, crate::specs::Spelling::word))]
@@ -97,26 +100,46 @@ fn put_payload(out: &mut BytesMut, payload: &Payload) -> Result<(), NoMemory>
     Ok(())
 }
 
-#[tactic(auto, unfolding(crate::specs::Spelling::spelled_behind_id, crate::specs::Spelling::byte))]
-fn put_behind_id(out: &mut BytesMut, times: &Stamp, body: &Body) -> Result<(), NoMemory>
-    ensures { OnOk result (out.new.items ≡ out.old.items ++ spelled_behind_id times.now body.now) }
+#[tactic(auto, unfolding(crate::specs::Spelling::spelled_sequence, crate::specs::Spelling::byte, crate::specs::Spelling::word))]
+fn put_placement(out: &mut BytesMut, placement: &Placement) -> Result<(), NoMemory>
+    ensures { OnOk result (out.new.items ≡ out.old.items ++ spelled_sequence placement.now) }
+{
+    let ids = placement.ids();
+    out.put_u32(placement.first())?;
+    out.put_u8(ids.len() as u8)?;
+    put_entries(out, ids)?;
+    Ok(())
+}
+
+#[tactic(auto, unfolding(crate::specs::Spelling::spelled_body))]
+fn put_body(out: &mut BytesMut, body: &Body) -> Result<(), NoMemory>
+    ensures { OnOk result (out.new.items ≡ out.old.items ++ spelled_body body.now) }
 {
     match body {
-        Body::Causal(payload) => {
-            out.put_u8(1)?;
-            put_times(out, times)?;
-            put_payload(out, payload)?;
-            Ok(())
-        }
+        Body::Causal(payload) => put_payload(out, payload),
+        Body::Atomic(payload) => put_payload(out, payload),
+        Body::Order(placement) => put_placement(out, placement),
     }
 }
 
-#[tactic(auto, unfolding(crate::specs::Spelling::spelled_message))]
+fn code_of_kind(kind: Kind) -> u8
+    ensures { result ≡ kind_code kind }
+{
+    match kind {
+        Kind::Causal => 1,
+        Kind::Atomic => 2,
+        Kind::Order => 3,
+    }
+}
+
+#[tactic(auto, unfolding(crate::specs::Spelling::spelled_message, crate::specs::Spelling::byte))]
 fn put_message(out: &mut BytesMut, message: &Message) -> Result<(), NoMemory>
     ensures { OnOk result (out.new.items ≡ out.old.items ++ spelled_message message.now) }
 {
     put_uid(out, message.id)?;
-    put_behind_id(out, &message.times, &message.body)?;
+    out.put_u8(code_of_kind(message.kind()))?;
+    put_times(out, &message.times)?;
+    put_body(out, &message.body)?;
     Ok(())
 }
 
@@ -179,6 +202,34 @@ fn put_tail(out: &mut BytesMut, tail: &Tail) -> Result<(), NoMemory>
     Ok(())
 }
 
+#[tactic(auto, unfolding(crate::specs::Spelling::spelled_marked, crate::specs::Spelling::byte))]
+fn put_marked(out: &mut BytesMut, marked: ((Proc, u32), bool)) -> Result<(), NoMemory>
+    ensures { OnOk result (out.new.items ≡ out.old.items ++ spelled_marked marked) }
+{
+    put_entry(out, marked.0)?;
+    out.put_u8(if marked.1 { 1 } else { 0 })?;
+    Ok(())
+}
+
+fn put_all_marked(out: &mut BytesMut, entries: &[((Proc, u32), bool)]) -> Result<(), NoMemory>
+    ensures { OnOk result (out.new.items ≡ out.old.items ++ flat_map spelled_marked entries.now) }
+{
+    for entry in entries {
+        put_marked(out, *entry)?;
+    }
+    Ok(())
+}
+
+#[tactic(auto, unfolding(crate::specs::Spelling::spelled_kept, crate::specs::Spelling::short))]
+fn put_kept(out: &mut BytesMut, kept: &Kept) -> Result<(), NoMemory>
+    ensures { OnOk result (out.new.items ≡ out.old.items ++ spelled_kept kept.now) }
+{
+    let entries = kept.entries();
+    out.put_u16(entries.len() as u16)?;
+    put_all_marked(out, entries)?;
+    Ok(())
+}
+
 fn code_of_change(change: Change) -> u8
     ensures { result ≡ change_code change }
 {
@@ -194,40 +245,120 @@ fn code_of_frame(frame: &SiteFrame) -> u8
     match frame {
         SiteFrame::Data(_) => 1,
         SiteFrame::Ack(_) => 2,
+        SiteFrame::Stable(_) => 3,
         SiteFrame::Ask { .. } => 4,
         SiteFrame::Asked { .. } => 5,
+        SiteFrame::Prepare { .. } => 6,
+        SiteFrame::Flushed { .. } => 7,
+        SiteFrame::Want(_) => 8,
+        SiteFrame::Forward(_) => 9,
         SiteFrame::Install { .. } => 10,
         SiteFrame::Installed { .. } => 11,
+        SiteFrame::Out { .. } => 12,
     }
 }
 
+#[tactic(auto, unfolding(crate::specs::Spelling::short, crate::specs::Spelling::word))]
+fn put_view(out: &mut BytesMut, group: GroupNo, view: u32) -> Result<(), NoMemory>
+    ensures { OnOk result (out.new.items ≡ out.old.items ++ (short group.0 ++ word view)) }
+{
+    out.put_u16(group.0)?;
+    out.put_u32(view)?;
+    Ok(())
+}
+
 #[tactic(auto, unfolding(crate::specs::Spelling::spelled_fields, crate::specs::Spelling::byte, crate::specs::Spelling::short, crate::specs::Spelling::word))]
+fn put_ask(
+    out: &mut BytesMut,
+    group: GroupNo,
+    number: u32,
+    change: Change,
+    proc: Proc,
+) -> Result<(), NoMemory>
+    ensures { OnOk result (out.new.items ≡ out.old.items ++ spelled_fields (Ask group number change proc)) }
+{
+    out.put_u16(group.0)?;
+    out.put_u32(number)?;
+    out.put_u8(code_of_change(change))?;
+    put_proc(out, proc)?;
+    Ok(())
+}
+
+#[tactic(auto, unfolding(crate::specs::Spelling::spelled_fields, crate::specs::Spelling::byte, crate::specs::Spelling::short, crate::specs::Spelling::word))]
+fn put_asked(out: &mut BytesMut, group: GroupNo, number: u32, full: bool) -> Result<(), NoMemory>
+    ensures { OnOk result (out.new.items ≡ out.old.items ++ spelled_fields (Asked group number full)) }
+{
+    out.put_u16(group.0)?;
+    out.put_u32(number)?;
+    out.put_u8(if full { 14 } else { 0 })?;
+    Ok(())
+}
+
+#[tactic(auto, unfolding(crate::specs::Spelling::spelled_fields, crate::specs::Spelling::short, crate::specs::Spelling::word))]
+fn put_flushed(
+    out: &mut BytesMut,
+    group: GroupNo,
+    view: u32,
+    counts: &Counts,
+    tail: &Tail,
+    kept: &Kept,
+) -> Result<(), NoMemory>
+    ensures { OnOk result (out.new.items ≡ out.old.items ++ spelled_fields (Flushed group view counts.now tail.now kept.now)) }
+{
+    out.put_u16(group.0)?;
+    out.put_u32(view)?;
+    put_counts(out, counts)?;
+    put_tail(out, tail)?;
+    put_kept(out, kept)?;
+    Ok(())
+}
+
+#[tactic(auto, unfolding(crate::specs::Spelling::spelled_fields, crate::specs::Spelling::short, crate::specs::Spelling::word))]
+fn put_install(
+    out: &mut BytesMut,
+    group: GroupNo,
+    view: u32,
+    members: &Members,
+    request: u32,
+    cut: &Counts,
+    tail: &Tail,
+) -> Result<(), NoMemory>
+    ensures { OnOk result (out.new.items ≡ out.old.items ++ spelled_fields (Install group view members.now request cut.now tail.now)) }
+{
+    out.put_u16(group.0)?;
+    out.put_u32(view)?;
+    put_members(out, members)?;
+    out.put_u32(request)?;
+    put_counts(out, cut)?;
+    put_tail(out, tail)?;
+    Ok(())
+}
+
+#[tactic(auto, unfolding(crate::specs::Spelling::spelled_fields))]
 fn put_fields(out: &mut BytesMut, frame: &SiteFrame) -> Result<(), NoMemory>
     ensures { OnOk result (out.new.items ≡ out.old.items ++ spelled_fields frame.now) }
 {
     match frame {
-        SiteFrame::Data(message) => put_message(out, message)?,
-        SiteFrame::Ack(id) => put_uid(out, *id)?,
+        SiteFrame::Data(message) | SiteFrame::Forward(message) => put_message(out, message),
+        SiteFrame::Ack(id) | SiteFrame::Stable(id) | SiteFrame::Want(id) => put_uid(out, *id),
         SiteFrame::Ask {
             group,
             number,
             change,
             proc,
-        } => {
-            out.put_u16(group.0)?;
-            out.put_u32(*number)?;
-            out.put_u8(code_of_change(*change))?;
-            put_proc(out, *proc)?;
-        }
+        } => put_ask(out, *group, *number, *change, *proc),
         SiteFrame::Asked {
             group,
             number,
             full,
-        } => {
-            out.put_u16(group.0)?;
-            out.put_u32(*number)?;
-            out.put_u8(if *full { 14 } else { 0 })?;
-        }
+        } => put_asked(out, *group, *number, *full),
+        SiteFrame::Flushed {
+            group,
+            view,
+            counts,
+            tail,
+            kept,
+        } => put_flushed(out, *group, *view, counts, tail, kept),
         SiteFrame::Install {
             group,
             view,
@@ -235,20 +366,11 @@ fn put_fields(out: &mut BytesMut, frame: &SiteFrame) -> Result<(), NoMemory>
             request,
             cut,
             tail,
-        } => {
-            out.put_u16(group.0)?;
-            out.put_u32(*view)?;
-            put_members(out, members)?;
-            out.put_u32(*request)?;
-            put_counts(out, cut)?;
-            put_tail(out, tail)?;
-        }
-        SiteFrame::Installed { group, view } => {
-            out.put_u16(group.0)?;
-            out.put_u32(*view)?;
-        }
+        } => put_install(out, *group, *view, members, *request, cut, tail),
+        SiteFrame::Prepare { group, view }
+        | SiteFrame::Installed { group, view }
+        | SiteFrame::Out { group, view } => put_view(out, *group, *view),
     }
-    Ok(())
 }
 
 /// The one spelling of a frame of a domain from a site, at most 60,000 bytes where its numbers are in their ranges.

@@ -22,6 +22,15 @@ pub const MAX_CLIENT_FRAME: usize = 20_000;
 /// Most ids of the order that an Install carries.
 pub const MAX_ORDER: usize = 576;
 
+/// Most ids of the order that a Flushed carries.
+pub const MAX_TAIL: usize = 512;
+
+/// Most kept messages that a Flushed names.
+pub const MAX_KEPT: usize = 2_048;
+
+/// Most ids whose places in a view's order one message sets.
+pub const MAX_PLACED: usize = 64;
+
 /// The last place of a view's order.
 pub const MAX_POSITION: u32 = 4_000_000_000;
 
