@@ -28,7 +28,7 @@ fits_acted r s (event.Open d) f l typed =
     subst (λ n. Fits (if n == MAX_NUMBER then r else open_in r) (acted s (event.Open d)).0) (sym f.used)
     (elim (s.used == MAX_NUMBER) as (λ b. (s.used == MAX_NUMBER) ≡ b → Fits (if b then r else open_in r) (if◌then◌else◌ {A = Effect} b (s, taken.Refused TooManySessions) (opened s, taken.Opened (s.used + 1))).0) [
       | true ↦ λ _. f
-      | false ↦ λ room. fits_open r s f room
+      | false ↦ λ _. fits_open r s f
     ] refl)
 fits_acted r s (event.Command d k c) f l typed =
     elim (is_open (s.session k)) as (λ b. is_open (s.session k) ≡ b → Fits (command_in r k c) (if◌then◌else◌ {A = Effect} b (commanded s k c, taken.Nothing) (s, taken.Refused NotOpen)).0) [

@@ -25,11 +25,11 @@ use Rattle.cast_domain.specs.declared.group.Group.{Group}
 use Rattle.cast_domain.specs.declared.group.Verdict.TheVariants.{Again, Completes, Ignored}
 use Rattle.cast_domain.specs.Group.{first_asking, members_of, with_answer, verdict_of}
 use Rattle.cast_domain.specs.Home.{applied_of, after_request, after_installed}
-use Rattle.cast_domain.specs.State.{State, is_home, is_site, is_group, set_group, set_home, emitted, is_received}
+use Rattle.cast_domain.specs.State.{State, is_home, is_site, is_group, set_group, set_home, emitted, is_received, counts_itself}
 use Rattle.cast_domain.specs.Effects.{asking, receiving, completing}
 use Rattle.cast_domain.specs.Step.{is_used, on_data, is_from_home, on_ask, on_asked, on_install, on_installed, group_of, on_frame, framed}
 use Rattle.cast_domain.specs.Records.{Records}
-use Rattle.cast_domain.specs.Calls.{is_home_in, place_in, record_at, send_in, ask_home_in, receive_in, is_received_in, counts_itself, is_well_formed_in, is_used_in, data_in, asked_of_home_in, answered_in, complete_in, install_in, installed_in, frame_at, frame_in}
+use Rattle.cast_domain.specs.Calls.{is_home_in, place_in, record_at, send_in, ask_home_in, receive_in, is_received_in, is_well_formed_in, is_used_in, data_in, asked_of_home_in, answered_in, complete_in, install_in, installed_in, frame_at, frame_in}
 use Rattle.cast_domain.specs.Fits.{Fits, IsLawful, IsTypedFrame}
 use Rattle.cast_domain.proofs.Standing.{fits_if, record_there, place_some, place_none, fits_send, fits_here, fits_home, fits_receive}
 use Rattle.cast_domain.proofs.Commands.{fits_ask_home}

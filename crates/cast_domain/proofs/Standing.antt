@@ -11,7 +11,6 @@ use Rattle.cast_types.specs.declared.names.SiteNo.{SiteNo}
 use Rattle.cast_types.specs.declared.names.GroupNo.{GroupNo}
 use Rattle.cast_types.specs.declared.names.Proc.{Proc}
 use Rattle.cast_types.specs.declared.names.Standing.{Standing}
-use Rattle.cast_types.specs.declared.limits.TheConstants.{MAX_NUMBER}
 use Rattle.cast_types.specs.Names.{site_eq, group_cmp, group_eq, proc_eq}
 use Rattle.cast_types.specs.Places.{update}
 use Rattle.cast_types.specs.Sets.{is_among, set_at}
@@ -420,8 +419,8 @@ given_more used k other = ap (λ b. nat_lt 0 k && b) (same_bools (nat_le k used)
     (λ e. le-leb k used (omega (arith, leb-true k (used + 1) e, other))))
 
 -- a session is opened
-pub fits_open : (r : Records) (s : State) → Fits r s → (s.used == MAX_NUMBER) ≡ false → Fits (open_in r) (opened s)
-fits_open r s fits room = record {
+pub fits_open : (r : Records) (s : State) → Fits r s → Fits (open_in r) (opened s)
+fits_open r s fits = record {
   site = fits.site;
   config = fits.config;
   used = ap (λ n. n + 1) fits.used;

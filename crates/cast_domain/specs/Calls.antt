@@ -18,7 +18,7 @@ use Rattle.cast_types.specs.Sets.{is_among}
 use Rattle.cast_types.specs.Places.{update}
 use Rattle.cast_types.specs.Repeat.{iterate}
 use Rattle.cast_types.specs.Stamps.{ClockList}
-use Rattle.cast_clock.specs.Times.{no_time, clock_of, view_of, count_in, bumped, entering}
+use Rattle.cast_clock.specs.Times.{no_time, view_of, count_in, bumped, entering}
 use Rattle.cast_frame.specs.declared.message.Body.{Body}
 use Rattle.cast_frame.specs.declared.message.Body.TheVariants as body
 use Rattle.cast_frame.specs.declared.message.Message.{Message}
@@ -50,6 +50,7 @@ use Rattle.cast_domain.specs.declared.home.Home.{Home}
 use Rattle.cast_domain.specs.Home.{first_home, is_empty, applied_of, after_request, after_installed, may_decide, decided}
 use Rattle.cast_domain.specs.Effects.{ask_frame, payload_of}
 use Rattle.cast_domain.specs.Rest.{install_frame}
+use Rattle.cast_domain.specs.State.{counts_itself}
 use Rattle.cast_domain.specs.Step.{may_raise, group_of}
 use Rattle.cast_domain.specs.Records.{Records, was_given}
 
@@ -92,9 +93,6 @@ push_in r k p = if was_given (length r.sessions) k then record r { sessions = up
 
 abbrev pub tell_in : Records → Proc → Fact → Records
 tell_in r p f = record r { delay = record r.delay { rows = change_row p (told_row f) r.delay.rows } }
-
-abbrev pub with_here : (GroupRecord → GroupRecord) → Records → ℕ → Records
-with_here f r i = record r { groups = update r.groups i f }
 
 -- Sessions
 
@@ -187,12 +185,6 @@ is_received_in r u = list_any (λ m. uid_eq m.id u) r.got
 
 abbrev pub knows_groups_in : Records → Message → Bool
 knows_groups_in r m = list_all (λ c. is_among group_eq c.0 r.config.groups) m.times
-
--- the message's own time has its view and its count, from 1 on
-abbrev pub counts_itself : Message → Bool
-counts_itself m =
-    ((clock_of m.times m.id.group).view == m.id.view)
-    && (nat_lt 0 m.id.count && (count_in m.times m.id.group m.id.proc == m.id.count))
 
 abbrev pub is_well_formed_in : Records → ℕ → Message → Bool
 is_well_formed_in r i m =

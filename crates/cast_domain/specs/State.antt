@@ -107,11 +107,13 @@ gate_of s g = record { number = (s.group g).number }
 abbrev pub is_ready_for : State → ℕ → Message → Bool
 is_ready_for s k m = is_causally_ready s.config.groups (gate_of s) (s.process k) m
 
--- well formed: all its groups are configured, its process is one of these, and its own time has its view and its
--- count, from 1 on
+-- the message's own time has its view and its count, from 1 on
+abbrev pub counts_itself : Message → Bool
+counts_itself m =
+    ((clock_of m.times m.id.group).view == m.id.view)
+    && (nat_lt 0 m.id.count && (count_in m.times m.id.group m.id.proc == m.id.count))
+
+-- well formed: all its groups are configured, its process is one of these, and its own time counts it
 abbrev pub is_well_formed : State → List Proc → Message → Bool
 is_well_formed s members m =
-    is_group s m.id.group && (list_all (λ c. is_group s c.0) m.times
-    && (is_among proc_eq m.id.proc members
-    && (((clock_of m.times m.id.group).view == m.id.view)
-    && (nat_lt 0 m.id.count && (count_in m.times m.id.group m.id.proc == m.id.count)))))
+    is_group s m.id.group && (list_all (λ c. is_group s c.0) m.times && (is_among proc_eq m.id.proc members && counts_itself m))

@@ -4,7 +4,7 @@ ghost use Rattle.cast_types.specs.Names.{group_eq, is_causal, proc_eq, uid_eq};
 ghost use Rattle.cast_types.specs.Sets.{is_among};
 ghost use Rattle.cast_domain.specs.Step.{group_of};
 ghost use Rattle.cast_domain.specs.Fits.{IsTypedFrame};
-ghost use Rattle.cast_domain.specs.Calls.{counts_itself};
+ghost use Rattle.cast_domain.specs.State.{counts_itself};
 
 use crate::domain::Domain;
 use crate::event::Outs;

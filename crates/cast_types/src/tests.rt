@@ -55,7 +55,10 @@ fn counts_stand_in_order(rt: HostRuntime) -> Result<(), Fail> {
     let mut copy = listed.copy()?;
     copy.push((proc(3, 1), 1))?;
     assert_eq!(rt; copy.len(), 2);
-    assert_eq!(rt; listed.into_vec().len(), 1);
+    copy.append(listed)?;
+    assert_eq!(rt; copy.as_slice()[2], (proc(1, 2), 7));
+    copy.truncate(1);
+    assert_eq!(rt; copy.into_vec().len(), 1);
     Ok(())
 }
 

@@ -1,5 +1,12 @@
 //! `castd`, a group communication daemon. `castd replay FILE` replays a script, which says how a daemon is configured
 //! and what happens to it, and prints what it answers, what it pushes to its programs and what it sends to other sites.
+//!
+//! Promised: a script that is accepted spells what it is read as (`script::parse`). What is printed for it is the text of
+//! a log in which the domain, unless want of memory halted it, answers, pushes and sends what a daemon that serves it
+//! alone does (`run`, `table::replay`).
+//!
+//! The definitions are in `specs/`: `Scripts` has what a script spells, `Tables` what one event does to a table of
+//! domains, `Replays` what a whole list of events gives, and `Texts` how it is printed.
 #![tactic(auto)]
 
 pub mod print;
