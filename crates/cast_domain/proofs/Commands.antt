@@ -22,8 +22,9 @@ use Rattle.cast_frame.specs.declared.message.Message.{Message}
 use Rattle.cast_frame.specs.declared.site.Change.{Change}
 use Rattle.cast_frame.specs.declared.site.Change.TheVariants as change
 use Rattle.cast_frame.specs.declared.site.SiteFrame.TheVariants as frame
+use Rattle.cast_frame.specs.declared.client.CastKind.TheVariants as kind
 use Rattle.cast_frame.specs.declared.client.Request.{Request}
-use Rattle.cast_frame.specs.declared.client.Request.TheVariants.{Join, Cast}
+use Rattle.cast_frame.specs.declared.client.Request.TheVariants.{Join, Leave, Cast}
 use Rattle.cast_frame.specs.declared.client.Push.TheVariants as push
 use Rattle.cast_delay.specs.Ready.{is_member, is_outside}
 use Rattle.cast_delay.specs.declared.row.Fact.TheVariants as fact
@@ -31,11 +32,11 @@ use Rattle.cast_delay.specs.Fits.{IsSound}
 use Rattle.cast_domain.specs.declared.record.GroupRecord.{GroupRecord}
 use Rattle.cast_domain.specs.Group.{first_asking, members_of, other_sites, with_request}
 use Rattle.cast_domain.specs.Home.{is_empty}
-use Rattle.cast_domain.specs.declared.event.Command.{Command}
-use Rattle.cast_domain.specs.declared.event.Command.TheVariants as command
+use Rattle.cast_frame.specs.declared.client.Command.{Command}
+use Rattle.cast_frame.specs.declared.client.Command.TheVariants as command
 use Rattle.cast_domain.specs.State.{State, local, is_group, set_process, set_group, set_standing, emitted, others_of}
-use Rattle.cast_domain.specs.Effects.{ask_frame, asking, requesting, receiving, sending_to, next_message, sending}
-use Rattle.cast_domain.specs.Step.{first_refusal, join_tests, cast_tests, tests_of, tag_of, may_raise, joining, effect_of, replying, requested, commanded}
+use Rattle.cast_domain.specs.Effects.{ask_frame, asking, requesting, pushing, receiving, sending_to, next_message, sending}
+use Rattle.cast_domain.specs.Step.{first_refusal, join_tests, cast_tests, may_raise, joining, attempting, requested, commanded}
 use Rattle.cast_domain.specs.Records.{Records, was_given}
 use Rattle.cast_domain.specs.Calls.{place_in, record_at, standing_of, time_of, send_in, push_in, tell_in, ask_home_in, request_in, Attempt, join_at, join_in, receive_in, send_data_in, send_message_in, next_message_in, cast_at, cast_in, reply_in, requested_in, command_in}
 use Rattle.cast_domain.specs.Fits.{Fits, IsLawful}
@@ -209,20 +210,23 @@ fits_cast r s f l k given g payload =
 -- Replies
 
 -- the session is told whether its request was refused
-fits_reply : (a : Attempt) (s : State) (k : ℕ) (q : Request) → Attempts a s (tests_of s k q) (effect_of s k q) → Fits (reply_in a k (tag_of q)) (requested s k q)
-fits_reply a s k q h =
-    subst (λ o. Fits (push_in a.0 k (push.Reply (tag_of q) o)) (requested s k q)) (sym h.refusal) (replied (first_refusal (tests_of s k q)) h.fits)
+fits_reply : (a : Attempt) (s : State) (k tag : ℕ) (tests : List (Bool × Refusal)) (effect : State) → Attempts a s tests effect → Fits (reply_in a k tag) (attempting s k tag tests effect)
+fits_reply a s k tag tests effect h =
+    subst (λ o. Fits (push_in a.0 k (push.Reply tag o)) (attempting s k tag tests effect)) (sym h.refusal) (replied (first_refusal tests) h.fits)
   where
-    replied : (o : Option Refusal) → Fits a.0 (left_by s (effect_of s k q) o) → Fits (push_in a.0 k (push.Reply (tag_of q) o)) (elim o [ Some x ↦ replying s k q (Some x) | None ↦ replying (effect_of s k q) k q None ])
-    replied (Some x) f = fits_push a.0 s f k (push.Reply (tag_of q) (Some x))
-    replied None f = fits_push a.0 (effect_of s k q) f k (push.Reply (tag_of q) None)
+    replied : (o : Option Refusal) → Fits a.0 (left_by s effect o) → Fits (push_in a.0 k (push.Reply tag o)) (elim o [ Some x ↦ pushing s k (push.Reply tag (Some x)) | None ↦ pushing effect k (push.Reply tag None) ])
+    replied (Some x) f = fits_push a.0 s f k (push.Reply tag (Some x))
+    replied None f = fits_push a.0 effect f k (push.Reply tag None)
 
 -- each request
 pub fits_requested : (r : Records) (s : State) → Fits r s → IsLawful s → (k : ℕ) → was_given s.used k ≡ true → (q : Request) → Fits (requested_in r k q) (requested s k q)
-fits_requested r s f l k given (Join tag g) = fits_reply (join_in r k g) s k (Join tag g) (fits_join r s f l k given g)
-fits_requested r s f l k given (Cast tag g payload) = fits_reply (cast_in r k g payload) s k (Cast tag g payload) (fits_cast r s f l k given g payload)
+fits_requested r s f l k given (Join tag g) = fits_reply (join_in r k g) s k tag (join_tests s k g) (joining s k g) (fits_join r s f l k given g)
+fits_requested r s f l k given (Leave tag g) = f
+fits_requested r s f l k given (Cast tag g kind.Causal payload) = fits_reply (cast_in r k g payload) s k tag (cast_tests s k g payload) (sending s g k (body.Causal payload)) (fits_cast r s f l k given g payload)
+fits_requested r s f l k given (Cast tag g kind.Atomic payload) = f
 
 -- and each command of a session that is open
 pub fits_commanded : (r : Records) (s : State) → Fits r s → IsLawful s → (k : ℕ) → was_given s.used k ≡ true → (c : Command) → Fits (command_in r k c) (commanded s k c)
 fits_commanded r s f l k given (command.Request q) =
     subst (λ b. Fits (if b then requested_in r k q else r) (requested s k q)) (sym (ap (λ n. was_given n k) f.used ∙ given)) (fits_requested r s f l k given q)
+fits_commanded r s f l k given command.Bad = f

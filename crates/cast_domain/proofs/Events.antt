@@ -6,8 +6,8 @@ use Rattle.cast_types.specs.declared.limits.TheConstants.{MAX_NUMBER}
 use Rattle.cast_domain.specs.Session.{is_open}
 use Rattle.cast_domain.specs.declared.event.Event.{Event}
 use Rattle.cast_domain.specs.declared.event.Event.TheVariants as event
-use Rattle.cast_domain.specs.declared.event.Command.{Command}
-use Rattle.cast_domain.specs.declared.event.Command.TheVariants as command
+use Rattle.cast_frame.specs.declared.client.Command.{Command}
+use Rattle.cast_frame.specs.declared.client.Command.TheVariants as command
 use Rattle.cast_domain.specs.declared.event.Taken.TheVariants as taken
 use Rattle.cast_domain.specs.State.{State}
 use Rattle.cast_domain.specs.Step.{commanded, opened, Effect, acted}
@@ -21,6 +21,7 @@ use Rattle.cast_domain.proofs.Framing.{fits_framed}
 -- a command of a serial that was not given changes nothing
 fits_unasked : (r : Records) (s : State) → Fits r s → (k : ℕ) → was_given s.used k ≡ false → (c : Command) → Fits (command_in r k c) s
 fits_unasked r s f k unknown (command.Request q) = subst (λ b. Fits (if b then requested_in r k q else r) s) (sym (ap (λ n. was_given n k) f.used ∙ unknown)) f
+fits_unasked r s f k unknown command.Bad = f
 
 -- each event
 pub fits_acted : (r : Records) (s : State) (e : Event) → Fits r s → IsLawful s → IsTyped e → Fits (act_in r e) (acted s e).0

@@ -3,6 +3,7 @@ use Rattle.std.specs.Prelude.{◌≡◌, ℕ, zero, suc, false, List, [], ◌∷
 use Rattle.cast_types.specs.declared.refusal.Refusal.TheVariants.{TooLong}
 use Rattle.cast_frame.specs.declared.site.Change.TheVariants as change
 use Rattle.cast_frame.specs.declared.site.SiteFrame.TheVariants as frame
+use Rattle.cast_frame.specs.declared.client.CastKind.TheVariants as kind
 use Rattle.cast_frame.specs.declared.client.Push.TheVariants as push
 use Rattle.cast_domain.specs.declared.event.Event.{Event}
 use Rattle.cast_domain.specs.declared.event.Taken.TheVariants as taken
@@ -28,7 +29,7 @@ answers = refl
 
 pushes : (ran.state.session 1).pushed ≡
     push.Opened p11 ∷ push.Reply 7 None ∷ push.View (group 1) 1 (members (p11 ∷ []) p11)
-    ∷ push.Reply 8 None ∷ push.Deliver (uid 1 1 p11 1) (104 ∷ 105 ∷ []) ∷ []
+    ∷ push.Reply 8 None ∷ push.Deliver (uid 1 1 p11 1) kind.Causal (104 ∷ 105 ∷ []) ∷ []
 unfolding ran events
 pushes = refl
 
@@ -42,7 +43,7 @@ sent = refl
 again : Ran
 again = then_run ran (casts 1 9 1 [] ∷ [])
 
-again_pushes : pushed_after 5 again ≡ push.Reply 9 None ∷ push.Deliver (uid 1 1 p11 2) [] ∷ []
+again_pushes : pushed_after 5 again ≡ push.Reply 9 None ∷ push.Deliver (uid 1 1 p11 2) kind.Causal [] ∷ []
 unfolding again ran events
 again_pushes = refl
 
@@ -59,7 +60,7 @@ zeros (suc n) = 0 ∷ zeros n
 longest : Ran
 longest = then_run ran (casts 1 9 1 (zeros 16384) ∷ [])
 
-longest_pushes : pushed_after 5 longest ≡ push.Reply 9 None ∷ push.Deliver (uid 1 1 p11 2) (zeros 16384) ∷ []
+longest_pushes : pushed_after 5 longest ≡ push.Reply 9 None ∷ push.Deliver (uid 1 1 p11 2) kind.Causal (zeros 16384) ∷ []
 unfolding longest ran events zeros
 longest_pushes = refl
 

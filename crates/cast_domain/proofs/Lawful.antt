@@ -40,7 +40,7 @@ use Rattle.cast_domain.specs.declared.home.Home.{Home}
 use Rattle.cast_domain.specs.Home.{is_empty}
 use Rattle.cast_domain.specs.declared.config.DomainConfig.{DomainConfig}
 use Rattle.cast_domain.specs.State.{State, opening, local, serials, is_group, set_session, set_process, set_group, set_home, set_standing, emitted, others_of, gate_of, is_ready_for}
-use Rattle.cast_domain.specs.Effects.{ask_frame, asking, requesting, pushing, receiving, sending_to, next_message, sending_message, sending, payload_of, delivering, enters, in_view, all_in_view, push_view, completing}
+use Rattle.cast_domain.specs.Effects.{ask_frame, asking, requesting, pushing, receiving, sending_to, next_message, sending_message, sending, payload_of, cast_kind_of, delivering, enters, in_view, all_in_view, push_view, completing}
 use Rattle.cast_domain.specs.Run.{before_event}
 use Rattle.cast_domain.specs.Fits.{IsLawful}
 
@@ -275,7 +275,7 @@ lawful_delivering s k m l at ready =
     let set : State = set_process s k v in
     let now : State = record set { deliveries = s.deliveries ++ (local s k, m.id) ∷ [] } in
     let taken : IsLawful set = lawful_process s k v l (λ g. record { known = l.known k g; current = delivered_view s k m l at ready g; viewed = l.viewed k g }) in
-    lawful_pushing now k (push.Deliver m.id (payload_of m.body)) (lawful_from set now taken refl (placed_of set taken) taken.stamped)
+    lawful_pushing now k (push.Deliver m.id (cast_kind_of m.body) (payload_of m.body)) (lawful_from set now taken refl (placed_of set taken) taken.stamped)
 
 -- Views
 

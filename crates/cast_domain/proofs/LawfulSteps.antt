@@ -1,5 +1,5 @@
 -- What holds of each history that events lead to is kept by each event, and until the state rests.
-use Rattle.std.proofs.Common.{◌≡◌, ℕ, ◌+◌, zero, suc, Bool, true, false, not, List, [], ◌∷◌, length, Option, Some, None, refl, subst}
+use Rattle.std.proofs.Common.{◌≡◌, ℕ, ◌+◌, zero, suc, Bool, true, false, not, List, [], ◌∷◌, length, Some, None, refl, subst}
 use Rattle.std.specs.Prelude.{◌&&◌, ◌==◌, nat_lt, nat_le, if◌then◌else◌}
 use Rattle.std.specs.List.{fold, find}
 use Rattle.std.specs.FinMap.Entries.{is_sorted}
@@ -21,8 +21,9 @@ use Rattle.cast_frame.specs.declared.site.Change.{Change}
 use Rattle.cast_frame.specs.declared.site.Change.TheVariants as change
 use Rattle.cast_frame.specs.declared.site.SiteFrame.{SiteFrame}
 use Rattle.cast_frame.specs.declared.site.SiteFrame.TheVariants as frame
+use Rattle.cast_frame.specs.declared.client.CastKind.TheVariants as kind
 use Rattle.cast_frame.specs.declared.client.Request.{Request}
-use Rattle.cast_frame.specs.declared.client.Request.TheVariants.{Join, Cast}
+use Rattle.cast_frame.specs.declared.client.Request.TheVariants.{Join, Leave, Cast}
 use Rattle.cast_frame.specs.declared.client.Push.TheVariants as push
 use Rattle.cast_frame.specs.Membership.{Membership}
 use Rattle.cast_delay.proofs.Finds.{found_in}
@@ -32,14 +33,14 @@ use Rattle.cast_domain.specs.declared.group.Verdict.TheVariants.{Again, Complete
 use Rattle.cast_domain.specs.Group.{first_asking, has_view, with_answer, verdict_of, sites_of}
 use Rattle.cast_domain.specs.declared.home.Home.{Home}
 use Rattle.cast_domain.specs.Home.{applied_of, after_request, after_installed, may_decide, decided}
-use Rattle.cast_domain.specs.declared.event.Command.{Command}
-use Rattle.cast_domain.specs.declared.event.Command.TheVariants as command
+use Rattle.cast_frame.specs.declared.client.Command.{Command}
+use Rattle.cast_frame.specs.declared.client.Command.TheVariants as command
 use Rattle.cast_domain.specs.declared.event.Event.{Event}
 use Rattle.cast_domain.specs.declared.event.Event.TheVariants as event
 use Rattle.cast_domain.specs.declared.event.Taken.TheVariants as taken
 use Rattle.cast_domain.specs.State.{State, local, serials, is_home, is_site, is_group, is_received, is_ready_for, set_group, set_home, set_standing, emitted}
-use Rattle.cast_domain.specs.Effects.{asking, receiving, delivering, completing}
-use Rattle.cast_domain.specs.Step.{first_refusal, join_tests, cast_tests, tests_of, tag_of, may_raise, joining, effect_of, replying, requested, commanded, is_used, on_data, is_from_home, on_ask, on_asked, on_install, on_installed, group_of, on_frame, framed, opened, Effect, acted}
+use Rattle.cast_domain.specs.Effects.{asking, pushing, receiving, sending, delivering, completing}
+use Rattle.cast_domain.specs.Step.{first_refusal, join_tests, cast_tests, may_raise, joining, attempting, requested, commanded, is_used, on_data, is_from_home, on_ask, on_asked, on_install, on_installed, group_of, on_frame, framed, opened, Effect, acted}
 use Rattle.cast_domain.specs.Rest.{deliver_first, deliver_all, settle, install_frame, send_install, decide, lead_all, pass, RestsAt}
 use Rattle.cast_domain.specs.Fits.{IsLawful, IsTypedFrame, IsTyped}
 use Rattle.cast_domain.proofs.Spots.{found_passes}
@@ -65,31 +66,35 @@ each_passes (t ∷ tests) none =
       | false ↦ λ rest. (refl, each_passes tests rest)
     ] none
 
-pub lawful_joining : (s : State) (k : ℕ) (g : GroupNo) → IsLawful s → is_group s g ≡ true → IsLawful (joining s k g)
-lawful_joining s k g l listed =
+pub lawful_joining : (s : State) (k : ℕ) (g : GroupNo) → IsLawful s → first_refusal (join_tests s k g) ≡ None → IsLawful (joining s k g)
+lawful_joining s k g l none =
     let now : State = set_standing s k g (Joining ((s.group g).asked + 1) (view_of (s.process k).time g)) in
+    let listed : is_group s g ≡ true = not-false (is_group s g) (each_passes (join_tests s k g) none).0 in
     lawful_requesting now g change.Join (local s k) (lawful_standing s k g ((s.group g).asked + 1) (view_of (s.process k).time g) l listed)
 
-pub lawful_effect : (s : State) (k : ℕ) (r : Request) → IsLawful s → first_refusal (tests_of s k r) ≡ None → IsLawful (effect_of s k r)
-lawful_effect s k (Join tag g) l none = lawful_joining s k g l (not-false (is_group s g) (each_passes (join_tests s k g) none).0)
-lawful_effect s k (Cast tag g payload) l none =
+pub lawful_casting : (s : State) (k : ℕ) (g : GroupNo) (payload : List ℕ) → IsLawful s → first_refusal (cast_tests s k g payload) ≡ None → IsLawful (sending s g k (body.Causal payload))
+lawful_casting s k g payload l none =
     let times = bumped (s.process k).time g (local s k) in
     let raises = not-false (may_raise (s.process k).time g (local s k)) (each_passes (cast_tests s k g payload) none).1.1.1.0 in
     let room = and_parts (nat_lt (count_in (s.process k).time g (local s k)) MAX_NUMBER) (has_room times && is_stamp times) raises in
     lawful_sending s g k (body.Causal payload) l (stamp_sorted times (and_parts (has_room times) (is_stamp times) room.1).1)
 
-pub lawful_replying : (s : State) (k : ℕ) (r : Request) (refusal : Option Refusal) → IsLawful s → IsLawful (replying s k r refusal)
-lawful_replying s k r refusal l = lawful_pushing s k (push.Reply (tag_of r) refusal) l
+pub lawful_attempting : (s : State) (k tag : ℕ) (tests : List (Bool × Refusal)) (effect : State) → IsLawful s → (first_refusal tests ≡ None → IsLawful effect) → IsLawful (attempting s k tag tests effect)
+lawful_attempting s k tag tests effect l lawful =
+    elim (first_refusal tests) as (λ o. first_refusal tests ≡ o → IsLawful (elim o [ Some refusal ↦ pushing s k (push.Reply tag (Some refusal)) | None ↦ pushing effect k (push.Reply tag None) ])) [
+      | Some refusal ↦ λ _. lawful_pushing s k (push.Reply tag (Some refusal)) l
+      | None ↦ λ none. lawful_pushing effect k (push.Reply tag None) (lawful none)
+    ] refl
 
 pub lawful_requested : (s : State) (k : ℕ) (r : Request) → IsLawful s → IsLawful (requested s k r)
-lawful_requested s k r l =
-    elim (first_refusal (tests_of s k r)) as (λ o. first_refusal (tests_of s k r) ≡ o → IsLawful (elim o [ Some refusal ↦ replying s k r (Some refusal) | None ↦ replying (effect_of s k r) k r None ])) [
-      | Some refusal ↦ λ _. lawful_replying s k r (Some refusal) l
-      | None ↦ λ none. lawful_replying (effect_of s k r) k r None (lawful_effect s k r l none)
-    ] refl
+lawful_requested s k (Join tag g) l = lawful_attempting s k tag (join_tests s k g) (joining s k g) l (lawful_joining s k g l)
+lawful_requested s k (Leave tag g) l = l
+lawful_requested s k (Cast tag g kind.Causal payload) l = lawful_attempting s k tag (cast_tests s k g payload) (sending s g k (body.Causal payload)) l (lawful_casting s k g payload l)
+lawful_requested s k (Cast tag g kind.Atomic payload) l = l
 
 pub lawful_commanded : (s : State) (k : ℕ) (c : Command) → IsLawful s → IsLawful (commanded s k c)
 lawful_commanded s k (command.Request r) l = lawful_requested s k r l
+lawful_commanded s k command.Bad l = l
 
 -- Frames
 

@@ -2,6 +2,7 @@ pub mod Risings
 pub mod Words
 pub mod FirstCast
 pub mod Waiting
+pub mod Overlapping
 pub mod Ignored
 pub mod Totals
 pub mod Alikes

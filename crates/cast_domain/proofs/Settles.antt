@@ -12,7 +12,7 @@ use Rattle.cast_frame.specs.declared.client.Push.TheVariants as push
 use Rattle.cast_frame.specs.declared.message.Message.{Message}
 use Rattle.cast_delay.specs.Ready.{Process, has_delivered, is_member}
 use Rattle.cast_domain.specs.State.{State, local, set_process, gate_of, is_ready_for}
-use Rattle.cast_domain.specs.Effects.{delivering, payload_of}
+use Rattle.cast_domain.specs.Effects.{delivering, payload_of, cast_kind_of}
 use Rattle.cast_domain.specs.Rest.{deliver_first, deliver_all}
 use Rattle.cast_domain.specs.Endings.{left, SettlesOne, TurnsAreEnough}
 use Rattle.cast_domain.proofs.Alikes.{Alike, alike_pushing}
@@ -52,7 +52,7 @@ delivers_before s k m = record { config = refl; used = refl; got = refl; home = 
 pub delivers : (s : State) (k : ℕ) (m : Message) → Delivers k m s (delivering s k m)
 delivers s k m =
     let n : State = after_delivery s k m in
-    delivers_then k m s n (delivering s k m) (delivers_before s k m) (alike_pushing n k (push.Deliver m.id (payload_of m.body)))
+    delivers_then k m s n (delivering s k m) (delivers_before s k m) (alike_pushing n k (push.Deliver m.id (cast_kind_of m.body) (payload_of m.body)))
 
 -- what is ready was not delivered
 pub ready_new : (s : State) (k : ℕ) (m : Message) → is_ready_for s k m ≡ true → list_any (uid_eq m.id) (s.process k).delivered ≡ false

@@ -30,7 +30,7 @@ use Rattle.cast_domain.specs.Session.{is_open, pushed_to}
 use Rattle.cast_domain.specs.Group.{sites_of}
 use Rattle.cast_domain.specs.Home.{may_decide, decided}
 use Rattle.cast_domain.specs.State.{State, local, gate_of, is_home, is_ready_for, set_session, set_process, set_home}
-use Rattle.cast_domain.specs.Effects.{pushing, delivering, payload_of}
+use Rattle.cast_domain.specs.Effects.{pushing, delivering, payload_of, cast_kind_of}
 use Rattle.cast_domain.specs.Rest.{deliver_first, deliver_all, settle, send_install, install_frame, decide, lead_all, pass}
 use Rattle.cast_domain.specs.Endings.{total, one_if, left, rank, ranks, undelivered, to_do}
 use Rattle.cast_domain.specs.Records.{Records, was_given}
@@ -80,7 +80,7 @@ kept_pushing s k p =
 
 pub kept_delivering : (s : State) (k : ℕ) (m : Message) → Kept s (delivering s k m)
 kept_delivering s k m =
-    let told : Push = push.Deliver m.id (payload_of m.body) in
+    let told : Push = push.Deliver m.id (cast_kind_of m.body) (payload_of m.body) in
     kept_then s (after_turn s k m) (pushing (after_turn s k m) k told) (record { here = refl; config = refl; used = refl }) (kept_pushing (after_turn s k m) k told)
 
 pub kept_first : (k : ℕ) (s : State) → Kept s (deliver_first k s)
@@ -155,7 +155,7 @@ fits_delivering r s fits k given key m under ready =
     subst (λ (o : Option Message). Fits (option_map_or (deliver_message_in r (local s k) key) o r) (delivering s k m))
     (sym under ∙ got_under s.got key ∙ ap (λ got. slice_get got key.0) (sym fits.got))
     (fits_push (record r { delay = record r.delay { rows = after_delivery r.delay.offered (local s k) key r.delay.rows }; delivered = r.delivered ++ (r.config.domain, local s k, m.id) ∷ [] })
-    (after_turn s k m) (fits_turn r s fits k given key m under ready) k (push.Deliver m.id (payload_of m.body)))
+    (after_turn s k m) (fits_turn r s fits k given key m under ready) k (push.Deliver m.id (cast_kind_of m.body) (payload_of m.body)))
 
 -- the queue names the message that the rule names
 pub fits_first : (r : Records) (s : State) → Fits r s → (k : ℕ) → was_given s.used k ≡ true → Fits (deliver_first_in (local s k) r) (deliver_first k s)

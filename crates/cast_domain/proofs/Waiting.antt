@@ -1,6 +1,7 @@
 -- A message waits for what happened before it, and is received once.
 use Rattle.std.specs.Prelude.{◌≡◌, [], ◌∷◌, refl}
 use Rattle.cast_frame.specs.declared.site.SiteFrame.TheVariants as frame
+use Rattle.cast_frame.specs.declared.client.CastKind.TheVariants as kind
 use Rattle.cast_frame.specs.declared.client.Push.TheVariants as push
 use Rattle.cast_domain.specs.Run.{Ran}
 use Rattle.cast_domain.proofs.Words.{site, uid, alone, data_from, in_second_view, then_run, pushed_after, p21}
@@ -20,7 +21,7 @@ second_alone_sent = refl
 both : Ran
 both = then_run in_second_view (data_from 2 (alone 1 2 p21 2) ∷ data_from 2 (alone 1 2 p21 1) ∷ [])
 
-both_pushes : pushed_after 3 both ≡ push.Deliver (uid 1 2 p21 1) [] ∷ push.Deliver (uid 1 2 p21 2) [] ∷ []
+both_pushes : pushed_after 3 both ≡ push.Deliver (uid 1 2 p21 1) kind.Causal [] ∷ push.Deliver (uid 1 2 p21 2) kind.Causal [] ∷ []
 unfolding both
 both_pushes = refl
 
@@ -28,7 +29,7 @@ both_pushes = refl
 thrice : Ran
 thrice = then_run in_second_view (data_from 2 (alone 1 2 p21 1) ∷ data_from 2 (alone 1 2 p21 1) ∷ data_from 2 (alone 1 2 p21 1) ∷ [])
 
-thrice_pushes : pushed_after 3 thrice ≡ push.Deliver (uid 1 2 p21 1) [] ∷ []
+thrice_pushes : pushed_after 3 thrice ≡ push.Deliver (uid 1 2 p21 1) kind.Causal [] ∷ []
 unfolding thrice
 thrice_pushes = refl
 

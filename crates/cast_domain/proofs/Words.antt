@@ -12,10 +12,12 @@ use Rattle.cast_frame.specs.declared.message.Message.{Message}
 use Rattle.cast_frame.specs.declared.site.SiteFrame.{SiteFrame}
 use Rattle.cast_frame.specs.declared.site.SiteFrame.TheVariants as frame
 use Rattle.cast_frame.specs.declared.client.Push.{Push}
-use Rattle.cast_frame.specs.declared.client.Request.TheVariants.{Join, Cast}
+use Rattle.cast_frame.specs.declared.client.CastKind.{CastKind}
+use Rattle.cast_frame.specs.declared.client.CastKind.TheVariants as kind
+use Rattle.cast_frame.specs.declared.client.Request.TheVariants.{Join, Leave, Cast}
 use Rattle.cast_frame.specs.Membership.{Membership}
 use Rattle.cast_domain.specs.declared.config.DomainConfig.{DomainConfig}
-use Rattle.cast_domain.specs.declared.event.Command.TheVariants as command
+use Rattle.cast_frame.specs.declared.client.Command.TheVariants as command
 use Rattle.cast_domain.specs.declared.event.Event.{Event}
 use Rattle.cast_domain.specs.declared.event.Event.TheVariants as event
 use Rattle.cast_domain.specs.Run.{Ran, run_of, run_in}
@@ -61,8 +63,17 @@ opens = event.Open domain
 abbrev pub asks_join : ℕ → ℕ → ℕ → Event
 asks_join k tag g = event.Command domain k (command.Request (Join tag (group g)))
 
+abbrev pub asks_leave : ℕ → ℕ → ℕ → Event
+asks_leave k tag g = event.Command domain k (command.Request (Leave tag (group g)))
+
+abbrev pub casts_as : CastKind → ℕ → ℕ → ℕ → List ℕ → Event
+casts_as how k tag g payload = event.Command domain k (command.Request (Cast tag (group g) how payload))
+
 abbrev pub casts : ℕ → ℕ → ℕ → List ℕ → Event
-casts k tag g payload = event.Command domain k (command.Request (Cast tag (group g) payload))
+casts k tag g payload = casts_as kind.Causal k tag g payload
+
+abbrev pub sends_bad : ℕ → Event
+sends_bad k = event.Command domain k command.Bad
 
 abbrev pub comes : ℕ → SiteFrame → Event
 comes from f = event.Frame domain (site from) f

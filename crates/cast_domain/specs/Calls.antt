@@ -26,8 +26,9 @@ use Rattle.cast_frame.specs.declared.site.Change.{Change}
 use Rattle.cast_frame.specs.declared.site.Change.TheVariants as change
 use Rattle.cast_frame.specs.declared.site.SiteFrame.{SiteFrame}
 use Rattle.cast_frame.specs.declared.site.SiteFrame.TheVariants as frame
+use Rattle.cast_frame.specs.declared.client.CastKind.TheVariants as kind
 use Rattle.cast_frame.specs.declared.client.Request.{Request}
-use Rattle.cast_frame.specs.declared.client.Request.TheVariants.{Join, Cast}
+use Rattle.cast_frame.specs.declared.client.Request.TheVariants.{Join, Leave, Cast}
 use Rattle.cast_frame.specs.declared.client.Push.{Push}
 use Rattle.cast_frame.specs.declared.client.Push.TheVariants as push
 use Rattle.cast_frame.specs.Bodies.{kind_of}
@@ -39,8 +40,8 @@ use Rattle.cast_delay.specs.declared.row.Fact.TheVariants as fact
 use Rattle.cast_delay.specs.Rows.{told_row}
 use Rattle.cast_delay.specs.Queue.{Queue, new_row, row_of, change_row, next_key, after_delivery}
 use Rattle.cast_domain.specs.declared.record.GroupRecord.{GroupRecord}
-use Rattle.cast_domain.specs.declared.event.Command.{Command}
-use Rattle.cast_domain.specs.declared.event.Command.TheVariants as command
+use Rattle.cast_frame.specs.declared.client.Command.{Command}
+use Rattle.cast_frame.specs.declared.client.Command.TheVariants as command
 use Rattle.cast_domain.specs.declared.event.Event.{Event}
 use Rattle.cast_domain.specs.declared.event.Event.TheVariants as event
 use Rattle.cast_domain.specs.declared.group.Verdict.TheVariants.{Again, Completes, Ignored}
@@ -48,7 +49,7 @@ use Rattle.cast_domain.specs.Session.{first_session, told}
 use Rattle.cast_domain.specs.Group.{no_group, members_of, other_sites, sites_of, first_asking, with_request, with_answer, with_view, verdict_of, is_taken_in}
 use Rattle.cast_domain.specs.declared.home.Home.{Home}
 use Rattle.cast_domain.specs.Home.{first_home, is_empty, applied_of, after_request, after_installed, may_decide, decided}
-use Rattle.cast_domain.specs.Effects.{ask_frame, payload_of}
+use Rattle.cast_domain.specs.Effects.{ask_frame, payload_of, cast_kind_of}
 use Rattle.cast_domain.specs.Rest.{install_frame}
 use Rattle.cast_domain.specs.State.{counts_itself}
 use Rattle.cast_domain.specs.Step.{may_raise, group_of}
@@ -173,10 +174,13 @@ reply_in a k tag = push_in a.0 k (push.Reply tag a.1)
 
 abbrev pub requested_in : Records → ℕ → Request → Records
 requested_in r k (Join tag g) = reply_in (join_in r k g) k tag
-requested_in r k (Cast tag g payload) = reply_in (cast_in r k g payload) k tag
+requested_in r k (Leave tag g) = r
+requested_in r k (Cast tag g kind.Causal payload) = reply_in (cast_in r k g payload) k tag
+requested_in r k (Cast tag g kind.Atomic payload) = r
 
 abbrev pub command_in : Records → ℕ → Command → Records
 command_in r k (command.Request q) = if was_given r.used k then requested_in r k q else r
+command_in r k command.Bad = r
 
 -- Frames
 
@@ -305,7 +309,7 @@ deliver_message_in r p key m =
       delay = record r.delay { rows = after_delivery r.delay.offered p key r.delay.rows };
       delivered = r.delivered ++ (r.config.domain, p, m.id) ∷ [];
     })
-    p.serial (push.Deliver m.id (payload_of m.body))
+    p.serial (push.Deliver m.id (cast_kind_of m.body) (payload_of m.body))
 
 abbrev pub deliver_in : Proc → Records → Key → Records
 deliver_in p r key = option_map_or (deliver_message_in r p key) (slice_get r.got key.0) r

@@ -14,6 +14,8 @@ use Rattle.cast_frame.specs.declared.message.Message.{Message}
 use Rattle.cast_frame.specs.declared.site.Change.{Change}
 use Rattle.cast_frame.specs.declared.site.SiteFrame.{SiteFrame}
 use Rattle.cast_frame.specs.declared.site.SiteFrame.TheVariants as frame
+use Rattle.cast_frame.specs.declared.client.CastKind.{CastKind}
+use Rattle.cast_frame.specs.declared.client.CastKind.TheVariants as kind
 use Rattle.cast_frame.specs.declared.client.Push.{Push}
 use Rattle.cast_frame.specs.declared.client.Push.TheVariants as push
 use Rattle.cast_frame.specs.Membership.{Membership}
@@ -78,6 +80,12 @@ payload_of (body.Causal payload) = payload
 payload_of (body.Atomic payload) = payload
 payload_of (body.Order sequence) = []
 
+-- and how its delivery is ordered; one that is never delivered stands here for causal
+abbrev pub cast_kind_of : Body → CastKind
+cast_kind_of (body.Causal payload) = kind.Causal
+cast_kind_of (body.Atomic payload) = kind.Atomic
+cast_kind_of (body.Order sequence) = kind.Causal
+
 -- a process delivers a message, and the program is told
 abbrev pub delivering : State → ℕ → Message → State
 delivering s k m =
@@ -86,7 +94,7 @@ delivering s k m =
     (record (set_process s k (record p { time = join p.time m.times; delivered = p.delivered ++ m.id ∷ [] })) {
       deliveries = s.deliveries ++ (local s k, m.id) ∷ [];
     })
-    k (push.Deliver m.id (payload_of m.body))
+    k (push.Deliver m.id (cast_kind_of m.body) (payload_of m.body))
 
 -- Views
 

@@ -16,8 +16,9 @@ use Rattle.cast_frame.specs.declared.site.Change.{Change}
 use Rattle.cast_frame.specs.declared.site.Change.TheVariants as change
 use Rattle.cast_frame.specs.declared.site.SiteFrame.{SiteFrame}
 use Rattle.cast_frame.specs.declared.site.SiteFrame.TheVariants as frame
+use Rattle.cast_frame.specs.declared.client.CastKind.TheVariants as kind
 use Rattle.cast_frame.specs.declared.client.Request.{Request}
-use Rattle.cast_frame.specs.declared.client.Request.TheVariants.{Join, Cast}
+use Rattle.cast_frame.specs.declared.client.Request.TheVariants.{Join, Leave, Cast}
 use Rattle.cast_frame.specs.declared.client.Push.TheVariants as push
 use Rattle.cast_frame.specs.Bodies.{kind_of}
 use Rattle.cast_frame.specs.Membership.{Membership}
@@ -27,8 +28,8 @@ use Rattle.cast_domain.specs.declared.group.Verdict.TheVariants.{Again, Complete
 use Rattle.cast_domain.specs.Group.{first_asking, members_of, with_answer, verdict_of}
 use Rattle.cast_domain.specs.declared.home.Home.{Home}
 use Rattle.cast_domain.specs.Home.{applied_of, after_request, after_installed}
-use Rattle.cast_domain.specs.declared.event.Command.{Command}
-use Rattle.cast_domain.specs.declared.event.Command.TheVariants as command
+use Rattle.cast_frame.specs.declared.client.Command.{Command}
+use Rattle.cast_frame.specs.declared.client.Command.TheVariants as command
 use Rattle.cast_domain.specs.declared.event.Event.{Event}
 use Rattle.cast_domain.specs.declared.event.Event.TheVariants as event
 use Rattle.cast_domain.specs.declared.event.Taken.{Taken}
@@ -61,37 +62,31 @@ cast_tests s k g payload =
     ∷ (not (is_member ((s.process k).standing g)), NotMember)
     ∷ (not (may_raise (s.process k).time g (local s k)), HeldFull) ∷ []
 
-abbrev pub tests_of : State → ℕ → Request → List (Bool × Refusal)
-tests_of s k (Join tag g) = join_tests s k g
-tests_of s k (Cast tag g payload) = cast_tests s k g payload
-
-abbrev pub tag_of : Request → ℕ
-tag_of (Join tag g) = tag
-tag_of (Cast tag g payload) = tag
-
 abbrev pub joining : State → ℕ → GroupNo → State
 joining s k g =
     requesting
     (set_standing s k g (Joining ((s.group g).asked + 1) (view_of (s.process k).time g)))
     g change.Join (local s k)
 
-abbrev pub effect_of : State → ℕ → Request → State
-effect_of s k (Join tag g) = joining s k g
-effect_of s k (Cast tag g payload) = sending s g k (body.Causal payload)
-
-abbrev pub replying : State → ℕ → Request → Option Refusal → State
-replying s k r refusal = pushing s k (push.Reply (tag_of r) refusal)
-
--- a refused request changes nothing but the reply that it pushes
-abbrev pub requested : State → ℕ → Request → State
-requested s k r =
-    elim (first_refusal (tests_of s k r)) [
-      | Some refusal ↦ replying s k r (Some refusal)
-      | None ↦ replying (effect_of s k r) k r None
+-- a refused request changes nothing but the reply that it pushes; else comes the effect, and then the reply
+abbrev pub attempting : State → ℕ → ℕ → List (Bool × Refusal) → State → State
+attempting s k tag tests effect =
+    elim (first_refusal tests) [
+      | Some refusal ↦ pushing s k (push.Reply tag (Some refusal))
+      | None ↦ pushing effect k (push.Reply tag None)
     ]
 
+-- there are no rules for leaves and atomic casts yet: they are ignored
+abbrev pub requested : State → ℕ → Request → State
+requested s k (Join tag g) = attempting s k tag (join_tests s k g) (joining s k g)
+requested s k (Leave tag g) = s
+requested s k (Cast tag g kind.Causal payload) = attempting s k tag (cast_tests s k g payload) (sending s g k (body.Causal payload))
+requested s k (Cast tag g kind.Atomic payload) = s
+
+-- and so are bytes that are no frame
 abbrev pub commanded : State → ℕ → Command → State
 commanded s k (command.Request r) = requested s k r
+commanded s k command.Bad = s
 
 -- Data
 

@@ -1,21 +1,15 @@
 ghost use Rattle.std.specs.Prelude.{◌≡◌, ◌++◌, ◌∷◌, [], OnOk, OnErr};
 
-use cast_frame::{Request, SiteFrame};
+use cast_frame::{Command, SiteFrame};
 use cast_types::{DomainNo, Listed, NoMemory, Proc, Refusal, SiteNo, Uid};
 use std::alloc::Global;
-
-/// What a program does.
-#[derive(Drop)]
-pub enum Command {
-    Request(Request),
-}
 
 /// What happens to a daemon.
 #[derive(Drop)]
 pub enum Event {
     /// A program connects.
     Open(DomainNo),
-    /// The program of a session asks for something.
+    /// The program of a session does something.
     Command {
         domain: DomainNo,
         serial: u32,

@@ -25,7 +25,7 @@ mod session;
 
 pub use config::{Config, DomainConfig, Quotas};
 pub use domain::Domain;
-pub use event::{Command, Event, Outs, Taken};
+pub use event::{Event, Outs, Taken};
 pub use group::{Asking, Group, Verdict};
 pub use home::{Home, Phase, Procs};
 pub use session::{Session, Status};

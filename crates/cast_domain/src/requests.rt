@@ -3,14 +3,14 @@ ghost use Rattle.std.specs.List.{fold};
 ghost use Rattle.cast_domain.specs.Calls.{record_at};
 
 use crate::domain::Domain;
-use crate::event::{Command, Outs, Taken};
+use crate::event::{Outs, Taken};
 use crate::home::other_sites;
 use crate::record::ask_at;
 use crate::session::Session;
 use bytes::Bytes;
 use cast_clock::{ClockFault, Times};
 use cast_delay::Fact;
-use cast_frame::{Body, Change, Message, Payload, Push, Request, SiteFrame};
+use cast_frame::{Body, CastKind, Change, Command, Message, Payload, Push, Request, SiteFrame};
 use cast_types::limits::{MAX_NUMBER, MAX_PAYLOAD};
 use cast_types::{GroupNo, Key, NoMemory, Proc, Refusal, SiteNo, Stamp, Standing, Uid};
 use std::alloc::AllocError;
@@ -41,7 +41,7 @@ impl Domain {
         Ok(Taken::Opened(serial))
     }
 
-    // A program asks for something.
+    // A program does something.
     pub(crate) fn command(
         &mut self,
         serial: u32,
@@ -57,11 +57,12 @@ impl Domain {
         }
         match command {
             Command::Request(request) => self.request(serial, request, outs)?,
+            Command::Bad => {}
         }
         Ok(Taken::Nothing)
     }
 
-    // Does what a program asks for, or refuses it, and replies.
+    // Does what a program asks for, or refuses it, and replies. There are no rules for leaves and atomic casts yet.
     fn request(&mut self, serial: u32, request: &Request, outs: &mut Outs) -> Result<(), NoMemory>
         ensures same { Keeps self.old self.new }
         ensures made { OnOk result (records_of self.new outs.new ≡ requested_in (records_of self.old outs.old) serial request.now) }
@@ -74,11 +75,17 @@ impl Domain {
             Request::Cast {
                 tag,
                 group,
+                kind: CastKind::Causal,
                 payload,
             } => {
                 let refusal = self.cast(serial, *group, payload, outs)?;
                 self.push(serial, Push::Reply { tag: *tag, refusal })
             }
+            Request::Leave { .. }
+            | Request::Cast {
+                kind: CastKind::Atomic,
+                ..
+            } => Ok(()),
         }
     }
 

@@ -2,14 +2,14 @@ ghost use Rattle.std.specs.Prelude.{◌≡◌, ◌<◌, false, IfOk, OnOk, slice
 ghost use Rattle.std.specs.Option.{option_copied};
 ghost use Rattle.std.specs.List.{fold};
 ghost use Rattle.cast_frame.specs.declared.client.Push.TheVariants as push;
-ghost use Rattle.cast_domain.specs.Effects.{payload_of};
+ghost use Rattle.cast_domain.specs.Effects.{cast_kind_of, payload_of};
 
 use crate::domain::Domain;
 use crate::event::Outs;
 use crate::home::sites_of;
 use crate::record::decide_at;
 use bytes::Bytes;
-use cast_frame::{Body, Message, Payload, Push, SiteFrame, Tail};
+use cast_frame::{Body, CastKind, Message, Payload, Push, SiteFrame, Tail};
 use cast_types::{Counts, Key, NoMemory, Proc, SiteNo};
 use std::alloc::AllocError;
 
@@ -163,14 +163,16 @@ fn message_under(got: &[Message], key: Key) -> Option<&Message>
 
 // What a program is told of a message that it delivers. One without a payload is never delivered.
 fn push_of(message: &Message) -> Result<Push, NoMemory>
-    ensures { IfOk result (λ p. p ≡ push.Deliver message.now.id (payload_of message.now.body)) }
+    ensures { IfOk result (λ p. p ≡ push.Deliver message.now.id (cast_kind_of message.now.body) (payload_of message.now.body)) }
 {
-    let payload = match &message.body {
-        Body::Causal(payload) | Body::Atomic(payload) => payload.copy()?,
-        Body::Order(_) => Payload::from_bytes(Bytes::new()),
+    let (kind, payload) = match &message.body {
+        Body::Causal(payload) => (CastKind::Causal, payload.copy()?),
+        Body::Atomic(payload) => (CastKind::Atomic, payload.copy()?),
+        Body::Order(_) => (CastKind::Causal, Payload::from_bytes(Bytes::new())),
     };
     Ok(Push::Deliver {
         id: message.id,
+        kind,
         payload,
     })
 }

@@ -16,7 +16,7 @@ IsBytes bytes = (i : ℕ) → get_or bytes i 0 < 256
 pub IsBytes-drop : (n : ℕ) (bytes : List ℕ) → IsBytes bytes → IsBytes (drop n bytes)
 IsBytes-drop n bytes h i = rw get_or-drop (h (n + i))
 
-IsBytes-take : (n : ℕ) (bytes : List ℕ) → IsBytes bytes → IsBytes (take n bytes)
+pub IsBytes-take : (n : ℕ) (bytes : List ℕ) → IsBytes bytes → IsBytes (take n bytes)
 IsBytes-take n bytes h i =
     elim (cases_lt i n) [
       | inl lt ↦ rw (get_or-take n bytes i 0 lt) (h i)
@@ -40,7 +40,7 @@ pub pass_ok : {A : Type 0} (b : Bool) (d : FrameFault) (x : Result A FrameFault)
 pass_ok true d x y e = (refl, e)
 pass_ok false d x y e = absurd cc
 
-abbrev done : {A : Type 0} → A → Result A FrameFault
+abbrev pub done : {A : Type 0} → A → Result A FrameFault
 done x = Ok x
 
 pub ok_is : {A : Type 0} (x y : A) → done x ≡ done y → x ≡ y

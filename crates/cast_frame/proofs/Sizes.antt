@@ -33,19 +33,19 @@ use Rattle.cast_frame.proofs.Holders.{members_parts}
 use Rattle.cast_frame.proofs.Orders.{stretch_parts, sequence_parts, kept_parts}
 use Rattle.cast_frame.proofs.Frames.{found, read_again}
 
-short_size : (n : ℕ) → length (short n) ≡ 2
+pub short_size : (n : ℕ) → length (short n) ≡ 2
 unfolding short
 short_size n = refl
 
-word_size : (n : ℕ) → length (word n) ≡ 4
+pub word_size : (n : ℕ) → length (word n) ≡ 4
 unfolding word
 word_size n = refl
 
-byte_size : (n : ℕ) → length (byte n) ≡ 1
+pub byte_size : (n : ℕ) → length (byte n) ≡ 1
 unfolding byte
 byte_size n = refl
 
-proc_size : (p : Proc) → length (spelled_proc p) ≡ 6
+pub proc_size : (p : Proc) → length (spelled_proc p) ≡ 6
 unfolding spelled_proc short word
 proc_size p = refl
 
@@ -53,7 +53,7 @@ entry_size : (e : Entry) → length (spelled_entry e) ≡ 10
 unfolding spelled_entry
 entry_size e = omega (arith, length-append (spelled_proc e.0) (word e.1), proc_size e.0, word_size e.1)
 
-uid_size : (u : Uid) → length (spelled_uid u) ≡ 16
+pub uid_size : (u : Uid) → length (spelled_uid u) ≡ 16
 unfolding spelled_uid
 uid_size u =
     simp length-append (omega (arith, short_size u.group.0, word_size u.view, proc_size u.proc, word_size u.count))
@@ -65,7 +65,7 @@ entries_size : (es : List Entry) → length (flat_map spelled_entry es) ≡ 10 *
 entries_size [] = omega arith
 entries_size (e ∷ es) = cons_size spelled_entry e es ∙ omega (arith, entry_size e, entries_size es)
 
-procs_size : (ps : List Proc) → length (flat_map spelled_proc ps) ≡ 6 * length ps
+pub procs_size : (ps : List Proc) → length (flat_map spelled_proc ps) ≡ 6 * length ps
 procs_size [] = omega arith
 procs_size (p ∷ ps) = cons_size spelled_proc p ps ∙ omega (arith, proc_size p, procs_size ps)
 
@@ -116,7 +116,7 @@ unfolding spelled_holder byte
 holder_size ps None = omega arith
 holder_size ps (Some p) = omega arith
 
-members_size : (m : Membership) → AreMembers m → length (spelled_members m) ≤ 386
+pub members_size : (m : Membership) → AreMembers m → length (spelled_members m) ≤ 386
 unfolding spelled_members
 members_size m are =
     let few = (members_parts m are.sorted).1 in

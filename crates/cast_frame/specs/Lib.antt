@@ -9,3 +9,7 @@ pub mod Spelling
 pub mod Reading
 pub mod Spelled
 pub mod Laws
+pub mod ClientSpelling
+pub mod ClientReading
+pub mod ClientSpelled
+pub mod ClientLaws

@@ -15,8 +15,11 @@ use bytes::{BufMut, Bytes, BytesMut};
 use cast_types::{Clock, Counts, DomainNo, GroupNo, Kind, NoMemory, Proc, SiteNo, Stamp, Uid};
 use std::alloc::Global;
 
+// Bytes for which most frames have room.
+const USUAL_LEN: usize = 512;
+
 #[tactic(auto, unfolding(crate::specs::Spelling::spelled_proc, crate::specs::Spelling::short, crate::specs::Spelling::word))]
-fn put_proc(out: &mut BytesMut, proc: Proc) -> Result<(), NoMemory>
+pub(crate) fn put_proc(out: &mut BytesMut, proc: Proc) -> Result<(), NoMemory>
     ensures { OnOk result (out.new.items ≡ out.old.items ++ spelled_proc proc) }
 {
     out.put_u16(proc.site.0)?;
@@ -34,7 +37,7 @@ fn put_entry(out: &mut BytesMut, entry: (Proc, u32)) -> Result<(), NoMemory>
 }
 
 #[tactic(auto, unfolding(crate::specs::Spelling::spelled_uid, crate::specs::Spelling::short, crate::specs::Spelling::word))]
-fn put_uid(out: &mut BytesMut, id: Uid) -> Result<(), NoMemory>
+pub(crate) fn put_uid(out: &mut BytesMut, id: Uid) -> Result<(), NoMemory>
     ensures { OnOk result (out.new.items ≡ out.old.items ++ spelled_uid id) }
 {
     out.put_u16(id.group.0)?;
@@ -181,7 +184,7 @@ fn put_holder(out: &mut BytesMut, members: &[Proc], holder: Option<Proc>) -> Res
 }
 
 #[tactic(auto, unfolding(crate::specs::Spelling::spelled_members, crate::specs::Spelling::byte))]
-fn put_members(out: &mut BytesMut, members: &Members) -> Result<(), NoMemory>
+pub(crate) fn put_members(out: &mut BytesMut, members: &Members) -> Result<(), NoMemory>
     ensures { OnOk result (out.new.items ≡ out.old.items ++ spelled_members members.now) }
 {
     let list = members.list();
@@ -259,7 +262,7 @@ fn code_of_frame(frame: &SiteFrame) -> u8
 }
 
 #[tactic(auto, unfolding(crate::specs::Spelling::short, crate::specs::Spelling::word))]
-fn put_view(out: &mut BytesMut, group: GroupNo, view: u32) -> Result<(), NoMemory>
+pub(crate) fn put_view(out: &mut BytesMut, group: GroupNo, view: u32) -> Result<(), NoMemory>
     ensures { OnOk result (out.new.items ≡ out.old.items ++ (short group.0 ++ word view)) }
 {
     out.put_u16(group.0)?;
@@ -384,7 +387,7 @@ pub fn encode_site(
 ) -> Result<Bytes, NoMemory>
     ensures { IfOk result (λ b. b ≡ spelled_site domain site frame.now) }
 {
-    let mut out = BytesMut::new(alloc);
+    let mut out = BytesMut::with_capacity(alloc, USUAL_LEN)?;
     out.put_u16(MAGIC)?;
     out.put_u8(VERSION)?;
     out.put_u8(code_of_frame(frame))?;

@@ -5,10 +5,12 @@ use Rattle.std.specs.List.{AllZip, Contains, slice_split}
 use Rattle.std.specs.Fmt.{decimal}
 use Rattle.hex.specs.Hex.{decode_of}
 use Rattle.cast_types.specs.declared.names.DomainNo.{DomainNo}
+use Rattle.cast_frame.specs.declared.client.CastKind.{CastKind}
+use Rattle.cast_frame.specs.declared.client.CastKind.TheVariants as kind
 use Rattle.cast_frame.specs.declared.client.Request.{Request}
 use Rattle.cast_frame.specs.declared.client.Request.TheVariants as request
 use Rattle.cast_frame.specs.Spelling.{spelled_site}
-use Rattle.cast_domain.specs.declared.event.Command.TheVariants as command
+use Rattle.cast_frame.specs.declared.client.Command.TheVariants as command
 use Rattle.cast_domain.specs.declared.event.Event.{Event}
 use Rattle.cast_domain.specs.declared.event.Event.TheVariants as event
 use Rattle.cast_types.specs.declared.names.SiteNo.{SiteNo}
@@ -16,15 +18,23 @@ use Rattle.cast_types.specs.declared.names.GroupNo.{GroupNo}
 use Rattle.castd.specs.declared.script.Script.{Script}
 use Rattle.castd.specs.declared.script.Line.{Line}
 use Rattle.castd.specs.declared.script.Head.{Head}
-use Rattle.castd.specs.declared.script.Head.TheVariants.{Site, Domain, Open, Join, Cast, Frame}
+use Rattle.castd.specs.declared.script.Head.TheVariants.{Site, Domain, Open, Join, Leave, Cast, Abcast, Bad, Frame}
 use Rattle.cast_domain.specs.declared.config.DomainConfig.{DomainConfig}
 use Rattle.cast_domain.specs.declared.config.Quotas.{Quotas}
 use Rattle.cast_domain.specs.declared.config.Config.{Config}
 
--- each site is above the one before it, and the first above n
-abbrev pub rises_from : ℕ → List SiteNo → Bool
-rises_from n [] = true
-rises_from n (s ∷ ss) = nat_lt n s.0 && rises_from s.0 ss
+-- each item's number is above that of the one before it, and the first above n
+abbrev pub rises_from : {A : Type 0} → (A → ℕ) → ℕ → List A → Bool
+rises_from number n [] = true
+rises_from number n (x ∷ xs) = nat_lt n (number x) && rises_from number (number x) xs
+
+-- sites in rising order, from 1 on
+abbrev pub sites_rise : List SiteNo → Bool
+sites_rise sites = rises_from (λ s. s.0) 0 sites
+
+-- groups in rising order, from 1 on
+abbrev pub groups_rise : List GroupNo → Bool
+groups_rise groups = rises_from (λ g. g.0) 0 groups
 
 -- a number from least to most
 abbrev pub IsBetween : ℕ → ℕ → ℕ → Type 0
@@ -37,14 +47,15 @@ pub record AreWithinLimits (q : Quotas) : Type 0 where
   pub outbox : IsBetween 1 4096 q.outbox
   pub resend : IsBetween 10 60000 q.resend
 
--- a domain of one group, within its limits, at this site
+-- a domain within its limits, at this site
 pub record IsDomainAt (own : SiteNo) (d : DomainConfig) : Type 0 where
   pub numbered : IsBetween 1 255 d.domain.0
   pub few_sites : length d.sites ≤ 16
-  pub rising : IsTrue (rises_from 0 d.sites)
+  pub rising : IsTrue (sites_rise d.sites)
   pub has_home : Contains d.sites d.home
   pub has_own : Contains d.sites own
-  pub one_group : length d.groups ≡ 1
+  pub few_groups : length d.groups ≤ 32
+  pub rising_groups : IsTrue (groups_rise d.groups)
   pub within : AreWithinLimits d.quotas
 
 -- a daemon of one such domain
@@ -81,7 +92,10 @@ head_text Site = codes "site"
 head_text Domain = codes "domain"
 head_text Open = codes "open"
 head_text Join = codes "join"
+head_text Leave = codes "leave"
 head_text Cast = codes "cast"
+head_text Abcast = codes "abcast"
+head_text Bad = codes "bad"
 head_text Frame = codes "frame"
 
 -- the words of a line spell a site
@@ -119,19 +133,29 @@ SpellsOnlyDomain ws [] = ⊥
 SpellsOnlyDomain ws (d ∷ []) = SpellsDomain ws d
 SpellsOnlyDomain ws (d ∷ e ∷ ds) = ⊥
 
--- the words of an event's line behind the first
+-- the words of each request behind the first
+abbrev pub request_texts : DomainNo → ℕ → ℕ → GroupNo → List (List ℕ)
+request_texts d serial tag group = decimal d.0 ∷ decimal serial ∷ decimal tag ∷ decimal group.0 ∷ []
+
+-- the first word of a cast
+abbrev pub cast_text : CastKind → List ℕ
+cast_text kind.Causal = codes "cast"
+cast_text kind.Atomic = codes "abcast"
+
+-- the words of a line spell a request of a session
 abbrev pub SpellsRequest : DomainNo → ℕ → List (List ℕ) → Request → Type 0
-SpellsRequest d serial ws (request.Join tag group) =
-    ws ≡ codes "join" ∷ decimal d.0 ∷ decimal serial ∷ decimal tag ∷ decimal group.0 ∷ []
-SpellsRequest d serial ws (request.Cast tag group payload) =
+SpellsRequest d serial ws (request.Join tag group) = ws ≡ codes "join" ∷ request_texts d serial tag group
+SpellsRequest d serial ws (request.Leave tag group) = ws ≡ codes "leave" ∷ request_texts d serial tag group
+SpellsRequest d serial ws (request.Cast tag group how payload) =
     (hex : List ℕ)
-    × (ws ≡ codes "cast" ∷ decimal d.0 ∷ decimal serial ∷ decimal tag ∷ decimal group.0 ∷ hex ∷ [])
+    × (ws ≡ cast_text how ∷ (request_texts d serial tag group ++ hex ∷ []))
     × SpellsBytes hex payload
 
 -- the words of a line spell an event
 abbrev pub SpellsEvent : List (List ℕ) → Event → Type 0
 SpellsEvent ws (event.Open d) = ws ≡ codes "open" ∷ decimal d.0 ∷ []
 SpellsEvent ws (event.Command d serial (command.Request r)) = SpellsRequest d serial ws r
+SpellsEvent ws (event.Command d serial command.Bad) = ws ≡ codes "bad" ∷ decimal d.0 ∷ decimal serial ∷ []
 SpellsEvent ws (event.Frame d s f) =
     (hex : List ℕ) × (ws ≡ codes "frame" ∷ hex ∷ []) × SpellsBytes hex (spelled_site d s f)
 

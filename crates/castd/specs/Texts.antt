@@ -7,12 +7,14 @@ use Rattle.cast_types.specs.declared.names.DomainNo.{DomainNo}
 use Rattle.cast_types.specs.declared.names.SiteNo.{SiteNo}
 use Rattle.cast_types.specs.declared.names.Proc.{Proc}
 use Rattle.cast_types.specs.declared.names.Uid.{Uid}
-use Rattle.cast_types.specs.declared.refusal.Refusal.{Refusal}
 use Rattle.cast_types.specs.Refusals.{refusal_code}
+use Rattle.cast_frame.specs.declared.client.CastKind.{CastKind}
+use Rattle.cast_frame.specs.declared.client.CastKind.TheVariants as kind
 use Rattle.cast_frame.specs.declared.client.Push.{Push}
 use Rattle.cast_frame.specs.declared.client.Push.TheVariants as push
 use Rattle.cast_frame.specs.declared.site.SiteFrame.{SiteFrame}
 use Rattle.cast_frame.specs.Membership.{Membership}
+use Rattle.cast_frame.specs.ClientSpelling.{reply_code}
 use Rattle.cast_frame.specs.Spelling.{spelled_site}
 use Rattle.cast_domain.specs.declared.event.Taken.{Taken}
 use Rattle.cast_domain.specs.declared.event.Taken.TheVariants as taken
@@ -55,16 +57,20 @@ abbrev pub members_text : Membership → List ℕ
 members_text m = holder_text m.holder ++ (codes " members" ++ flat_map member_text m.list)
 
 -- 0 where nothing is refused
-abbrev pub reply_code : Option Refusal → ℕ
-reply_code None = 0
-reply_code (Some r) = refusal_code r
+abbrev pub kind_text : CastKind → List ℕ
+kind_text kind.Causal = codes "causal"
+kind_text kind.Atomic = codes "atomic"
 
 abbrev pub push_text : Push → List ℕ
 push_text (push.Opened p) = codes "opened " ++ proc_text p
 push_text (push.Reply tag refusal) = codes "reply " ++ (decimal tag ++ (codes " " ++ decimal (reply_code refusal)))
 push_text (push.View group view members) =
     codes "view " ++ (decimal group.0 ++ (codes " " ++ (decimal view ++ members_text members)))
-push_text (push.Deliver id payload) = codes "deliver " ++ (uid_text id ++ (codes " causal " ++ payload_text payload))
+push_text (push.Deliver id how payload) =
+    codes "deliver " ++ (uid_text id ++ (codes " " ++ (kind_text how ++ (codes " " ++ payload_text payload))))
+push_text (push.Ejected group view) = codes "ejected " ++ (decimal group.0 ++ (codes " " ++ decimal view))
+push_text (push.Denied group refusal) = codes "denied " ++ (decimal group.0 ++ (codes " " ++ decimal (refusal_code refusal)))
+push_text (push.Closed refusal) = codes "closed " ++ decimal (refusal_code refusal)
 
 -- a push of a domain's session
 abbrev pub push_line : DomainNo → ℕ → Push → List ℕ

@@ -1,11 +1,11 @@
-ghost use Rattle.std.specs.Prelude.{◌≡◌, ◌++◌, IfOk, OnOk};
+ghost use Rattle.std.specs.Prelude.{◌≡◌, ◌++◌, IfOk, OnOk, codes};
 ghost use Rattle.std.specs.List.{flat_map};
 ghost use Rattle.std.specs.String.{string_bytes};
-ghost use Rattle.castd.specs.Texts.{answer_line, frame_line, given_text, halted_text, log_text, member_text, members_text, numbered, payload_text, proc_text, push_line, push_text, session_text, uid_text};
+ghost use Rattle.castd.specs.Texts.{answer_line, frame_line, given_text, halted_text, kind_text, log_text, member_text, members_text, numbered, payload_text, proc_text, push_line, push_text, session_text, uid_text};
 
 use crate::table::{Fault, Given, Log};
 use cast_domain::Taken;
-use cast_frame::{Members, Push, SiteFrame, encode_site};
+use cast_frame::{CastKind, Members, Push, SiteFrame, encode_site};
 use cast_types::{DomainNo, Listed, NoMemory, Proc, Refusal, SiteNo, Uid};
 use std::alloc::Global;
 
@@ -128,11 +128,24 @@ fn print_push(alloc: Global, text: &mut String, push: &Push) -> Result<(), NoMem
             write!(text, "view {number} {view}")?;
             print_members(text, members)
         }
-        Push::Deliver { id, payload } => {
+        Push::Deliver { id, kind, payload } => {
             text.push_str("deliver ")?;
             print_uid(text, *id)?;
-            text.push_str(" causal ")?;
+            print_kind(text, *kind)?;
             print_payload(alloc, text, payload.as_slice())
+        }
+        Push::Ejected { group, view } => {
+            let number = group.0;
+            write!(text, "ejected {number} {view}")
+        }
+        Push::Denied { group, refusal } => {
+            let number = group.0;
+            let code = refusal.number();
+            write!(text, "denied {number} {code}")
+        }
+        Push::Closed(refusal) => {
+            let code = refusal.number();
+            write!(text, "closed {code}")
         }
     }
 }
@@ -189,6 +202,16 @@ fn print_uid(text: &mut String, id: Uid) -> Result<(), NoMemory>
     write!(text, "{group}/{view}/")?;
     print_proc(text, id.proc)?;
     write!(text, "/{count}")
+}
+
+// ` causal ` or ` atomic `
+fn print_kind(text: &mut String, kind: CastKind) -> Result<(), NoMemory>
+    ensures { OnOk result (string_bytes text.new ≡ string_bytes text.old ++ (codes " " ++ (kind_text kind ++ codes " "))) }
+{
+    text.push_str(match kind {
+        CastKind::Causal => " causal ",
+        CastKind::Atomic => " atomic ",
+    })
 }
 
 // The bytes in hexadecimal, `-` where there are none.

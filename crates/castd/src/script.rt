@@ -1,17 +1,17 @@
 ghost use Rattle.std.specs.Prelude.{◌≡◌, ◌≢◌, ◌≤◌, ◌∷◌, [], IfOk, IfErr, IsTrue, codes, filter, length};
 ghost use Rattle.std.specs.List.{AllZip, Contains};
-ghost use Rattle.castd.specs.Scripts.{AreWithinLimits, HasOneDomain, IsBetween, IsDomainAt, SpellsDomain, SpellsEvent, SpellsGroups, SpellsLists, SpellsScript, SpellsSite, SpellsSites, head_text, is_used as is_used_text, line_texts, parted, place_texts, quota_texts, rises_from, texts, used_lines_of, words_of};
+ghost use Rattle.castd.specs.Scripts.{AreWithinLimits, HasOneDomain, IsBetween, IsDomainAt, SpellsDomain, SpellsEvent, SpellsGroups, SpellsLists, SpellsScript, SpellsSite, SpellsSites, cast_text, head_text, is_used as is_used_text, line_texts, parted, place_texts, quota_texts, request_texts, groups_rise as are_rising_groups, sites_rise as are_rising_sites, texts, used_lines_of, words_of};
 ghost use Rattle.castd.specs.declared.script.Head.{Head};
 ghost use Rattle.castd.specs.declared.words.Reason.TheVariants.{UnknownWord};
 
 use crate::words::{
-    LineFault, Reason, bytes_word, domain_word, fixed_word, group_list, group_word, is_rising,
-    number, number_between, site_list, site_word,
+    LineFault, Reason, bytes_word, domain_word, fixed_word, group_list, group_word, groups_rise,
+    number, number_between, site_list, site_word, sites_rise,
 };
 use bytes::Bytes;
-use cast_domain::{Command, Config, DomainConfig, Event, Quotas};
-use cast_frame::{FrameFault, Request, decode_site};
-use cast_types::limits::MAX_SITES;
+use cast_domain::{Config, DomainConfig, Event, Quotas};
+use cast_frame::{CastKind, Command, FrameFault, Request, decode_site};
+use cast_types::limits::{MAX_GROUPS, MAX_SITES};
 use cast_types::{DomainNo, GroupNo, Listed, NoMemory, SiteNo};
 use std::alloc::{AllocError, AllocFailed, Global};
 use thiserror::Error;
@@ -72,8 +72,33 @@ enum Head {
     Domain,
     Open,
     Join,
+    Leave,
     Cast,
+    Abcast,
+    Bad,
     Frame,
+}
+
+// What each request of a session says.
+#[derive(Clone, Copy)]
+struct RequestParts {
+    domain: DomainNo,
+    serial: u32,
+    tag: u32,
+    group: GroupNo,
+}
+
+impl RequestParts {
+    // The event that is a request with these parts.
+    fn event(self, request: Request) -> Event
+        ensures { result ≡ Event.Command self.domain self.serial (Command.Request request) }
+    {
+        Event::Command {
+            domain: self.domain,
+            serial: self.serial,
+            command: Command::Request(request),
+        }
+    }
 }
 
 /// Reads a script: one `site` line, one `domain` line, then the events.
@@ -178,7 +203,10 @@ fn head_of(word: &str) -> Result<Head, Reason>
         "domain" => Ok(Head::Domain),
         "open" => Ok(Head::Open),
         "join" => Ok(Head::Join),
+        "leave" => Ok(Head::Leave),
         "cast" => Ok(Head::Cast),
+        "abcast" => Ok(Head::Abcast),
+        "bad" => Ok(Head::Bad),
         "frame" => Ok(Head::Frame),
         _ => Err(Reason::UnknownWord),
     }
@@ -199,7 +227,7 @@ fn site_line(alloc: Global, line: &str) -> Result<SiteNo, LineFault>
     Ok(site_word(site)?)
 }
 
-// `domain D home S sites S,.. groups G quotas SESSIONS HELD OUTBOX RESEND`
+// `domain D home S sites S,.. groups G,.. quotas SESSIONS HELD OUTBOX RESEND`
 fn domain_line(alloc: Global, line: &str, own: SiteNo) -> Result<DomainConfig, LineFault>
     ensures spelled { IfOk result (SpellsDomain (words_of line.now)) }
     ensures valid { IfOk result (IsDomainAt own) }
@@ -246,7 +274,7 @@ fn place_words(words: &[&str]) -> Result<(DomainNo, SiteNo), Reason>
     Ok((domain, site_word(home)?))
 }
 
-// `sites S,.. groups G`
+// `sites S,.. groups G,..`
 fn list_words(
     alloc: Global,
     words: &[&str],
@@ -255,10 +283,11 @@ fn list_words(
 ) -> Result<(Listed<SiteNo>, Listed<GroupNo>), LineFault>
     ensures spelled { IfOk result (λ r. SpellsLists (texts words.now) r.0 r.1) }
     ensures few { IfOk result (λ r. length r.0 ≤ 16) }
-    ensures rising { IfOk result (λ r. IsTrue (rises_from 0 r.0)) }
+    ensures rising { IfOk result (λ r. IsTrue (are_rising_sites r.0)) }
     ensures home { IfOk result (λ r. Contains r.0 home) }
     ensures own { IfOk result (λ r. Contains r.0 own) }
-    ensures one { IfOk result (λ r. length r.1 ≡ 1) }
+    ensures few_groups { IfOk result (λ r. length r.1 ≤ 32) }
+    ensures rising_groups { IfOk result (λ r. IsTrue (are_rising_groups r.1)) }
 {
     let [sites_are, sites, groups_are, groups] = words else {
         return Err(LineFault::Refused(Reason::WrongCount));
@@ -278,7 +307,7 @@ fn sites_word(
 ) -> Result<Listed<SiteNo>, LineFault>
     ensures spelled { IfOk result (SpellsSites word.now) }
     ensures few { IfOk result (λ sites. length sites ≤ 16) }
-    ensures rising { IfOk result (λ sites. IsTrue (rises_from 0 sites)) }
+    ensures rising { IfOk result (λ sites. IsTrue (are_rising_sites sites)) }
     ensures home { IfOk result (λ sites. Contains sites home) }
     ensures own { IfOk result (λ sites. Contains sites own) }
 {
@@ -286,23 +315,27 @@ fn sites_word(
     if sites.len() > MAX_SITES {
         return Err(LineFault::Refused(Reason::BadNumber));
     }
-    if is_rising(&sites) && sites.contains(&home) && sites.contains(&own) {
+    if sites_rise(&sites) && sites.contains(&home) && sites.contains(&own) {
         Ok(Listed::from_vec(sites))
     } else {
         Err(LineFault::Refused(Reason::Order))
     }
 }
 
-// The groups of a domain: exactly one.
+// The groups of a domain: 1 to 32, rising.
 fn groups_word(alloc: Global, word: &str) -> Result<Listed<GroupNo>, LineFault>
     ensures spelled { IfOk result (SpellsGroups word.now) }
-    ensures one { IfOk result (λ groups. length groups ≡ 1) }
+    ensures few { IfOk result (λ groups. length groups ≤ 32) }
+    ensures rising { IfOk result (λ groups. IsTrue (are_rising_groups groups)) }
 {
     let groups = group_list(alloc, word)?;
-    if groups.len() == 1 {
+    if groups.len() > MAX_GROUPS {
+        return Err(LineFault::Refused(Reason::BadNumber));
+    }
+    if groups_rise(&groups) {
         Ok(Listed::from_vec(groups))
     } else {
-        Err(LineFault::Refused(Reason::BadNumber))
+        Err(LineFault::Refused(Reason::Order))
     }
 }
 
@@ -333,7 +366,10 @@ fn event_line(alloc: Global, line: &str) -> Result<Event, LineFault>
         Head::Site | Head::Domain => Err(LineFault::Refused(Reason::Order)),
         Head::Open => Ok(open(words)?),
         Head::Join => Ok(join(words)?),
-        Head::Cast => cast(alloc, words),
+        Head::Leave => Ok(leave(words)?),
+        Head::Cast => cast(alloc, words, CastKind::Causal),
+        Head::Abcast => cast(alloc, words, CastKind::Atomic),
+        Head::Bad => Ok(bad(words)?),
         Head::Frame => frame_event(alloc, words),
     }
 }
@@ -352,34 +388,66 @@ fn open(words: &[&str]) -> Result<Event, Reason>
 fn join(words: &[&str]) -> Result<Event, Reason>
     ensures { IfOk result (SpellsEvent (codes "join" ∷ texts words.now)) }
 {
+    let parts = request_words(words)?;
+    Ok(parts.event(Request::Join {
+        tag: parts.tag,
+        group: parts.group,
+    }))
+}
+
+// `leave D K TAG G`, from the second word on
+fn leave(words: &[&str]) -> Result<Event, Reason>
+    ensures { IfOk result (SpellsEvent (codes "leave" ∷ texts words.now)) }
+{
+    let parts = request_words(words)?;
+    Ok(parts.event(Request::Leave {
+        tag: parts.tag,
+        group: parts.group,
+    }))
+}
+
+// `cast D K TAG G HEX` or `abcast D K TAG G HEX`, from the second word on
+fn cast(alloc: Global, words: &[&str], kind: CastKind) -> Result<Event, LineFault>
+    ensures { IfOk result (SpellsEvent (cast_text kind ∷ texts words.now)) }
+{
+    let [front @ .., payload] = words else {
+        return Err(LineFault::Refused(Reason::WrongCount));
+    };
+    let parts = request_words(front)?;
+    Ok(parts.event(Request::Cast {
+        tag: parts.tag,
+        group: parts.group,
+        kind,
+        payload: Bytes::from_vec(bytes_word(alloc, payload)?)?,
+    }))
+}
+
+// `D K TAG G`
+fn request_words(words: &[&str]) -> Result<RequestParts, Reason>
+    ensures { IfOk result (λ parts. texts words.now ≡ request_texts parts.domain parts.serial parts.tag parts.group) }
+{
     let [domain, serial, tag, group] = words else {
+        return Err(Reason::WrongCount);
+    };
+    Ok(RequestParts {
+        domain: domain_word(domain)?,
+        serial: number(serial)?,
+        tag: number(tag)?,
+        group: group_word(group)?,
+    })
+}
+
+// `bad D K`, from the second word on
+fn bad(words: &[&str]) -> Result<Event, Reason>
+    ensures { IfOk result (SpellsEvent (codes "bad" ∷ texts words.now)) }
+{
+    let [domain, serial] = words else {
         return Err(Reason::WrongCount);
     };
     Ok(Event::Command {
         domain: domain_word(domain)?,
         serial: number(serial)?,
-        command: Command::Request(Request::Join {
-            tag: number(tag)?,
-            group: group_word(group)?,
-        }),
-    })
-}
-
-// `cast D K TAG G HEX`, from the second word on
-fn cast(alloc: Global, words: &[&str]) -> Result<Event, LineFault>
-    ensures { IfOk result (SpellsEvent (codes "cast" ∷ texts words.now)) }
-{
-    let [domain, serial, tag, group, payload] = words else {
-        return Err(LineFault::Refused(Reason::WrongCount));
-    };
-    Ok(Event::Command {
-        domain: domain_word(domain)?,
-        serial: number(serial)?,
-        command: Command::Request(Request::Cast {
-            tag: number(tag)?,
-            group: group_word(group)?,
-            payload: Bytes::from_vec(bytes_word(alloc, payload)?)?,
-        }),
+        command: Command::Bad,
     })
 }
 

@@ -1,4 +1,11 @@
+mod groups;
+
+use crate::print::print;
 use crate::run::run_script;
+use crate::table::{Given, Log};
+use bytes::Bytes;
+use cast_frame::{CastKind, Payload, Push};
+use cast_types::{DomainNo, GroupNo, Listed, Proc, Refusal, SiteNo, Uid};
 use std::alloc::{AllocError, Global};
 use std::io;
 use std::io::Write;
@@ -178,6 +185,109 @@ send 1 9 4344010b010001000100000002
 }
 
 #[test]
+fn ignores_commands_without_a_rule(rt: HostRuntime) -> Result<(), Fail> {
+    let alloc = rt.alloc();
+    let commands = "leave 1 1 8 1\nabcast 1 1 8 1 6869\nbad 1 1\n";
+    let unopened = "event 1 refused 2\nevent 2 refused 2\nevent 3 refused 2\n";
+    assert!(rt; prints(alloc, &[QUIET, commands], &[unopened])?);
+    let opened = "push 1 1 opened 1.1\n";
+    assert!(rt; prints(alloc, &[QUIET, "open 1\n", commands], &[opened])?);
+    assert!(rt; prints(alloc, &[QUIET, "bad 9 1\n"], &["event 1 no domain\n"])?);
+    let joined = "push 1 1 reply 7 0\npush 1 1 view 1 1 holder 1.1 members 1.1\n";
+    let delivered = "push 1 1 reply 9 0\npush 1 1 deliver 1/1/1.1/1 causal -\n";
+    let sent = "send 1 1 4344010401000100010000000101000100000001
+send 1 1 4344010501000100010000000100
+send 1 1 4344010a01000100010000000101000100000001000000000100000000000000
+send 1 1 4344010b010001000100000001
+";
+    let parts = [QUIET, JOINED, commands, "cast 1 1 9 1 -\n"];
+    assert!(rt; prints(alloc, &parts, &[opened, joined, delivered, sent])?);
+    Ok(())
+}
+
+// The text of a log in which this push to the one session of domain 7 is all.
+fn printed(alloc: Global, push: Push) -> Result<String, AllocError> {
+    let mut pushes = Listed::new(alloc);
+    pushes.push(push)?;
+    let mut sessions = Listed::new(alloc);
+    sessions.push(pushes)?;
+    let mut given = Listed::new(alloc);
+    given.push(Given {
+        domain: DomainNo(7),
+        pushes: sessions,
+        sent: Listed::new(alloc),
+        halted: false,
+    })?;
+    let answers = Listed::new(alloc);
+    print(alloc, SiteNo(1), &Log { answers, given })
+}
+
+#[test]
+fn prints_each_push(rt: HostRuntime) -> Result<(), Fail> {
+    let alloc = rt.alloc();
+    let group = GroupNo(4);
+    let proc = Proc {
+        site: SiteNo(2),
+        serial: 3,
+    };
+    let id = Uid {
+        group,
+        view: 5,
+        proc,
+        count: 6,
+    };
+    let payload = Payload::from_bytes(Bytes::from_vec(vec![in alloc; 0, 255]?)?);
+    let empty = Payload::from_bytes(Bytes::new());
+    let rows = [
+        (Push::Opened(proc), "opened 2.3"),
+        (
+            Push::Reply {
+                tag: 8,
+                refusal: None,
+            },
+            "reply 8 0",
+        ),
+        (
+            Push::Reply {
+                tag: 8,
+                refusal: Some(Refusal::OutOfRange),
+            },
+            "reply 8 15",
+        ),
+        (
+            Push::Deliver {
+                id,
+                kind: CastKind::Causal,
+                payload: empty,
+            },
+            "deliver 4/5/2.3/6 causal -",
+        ),
+        (
+            Push::Deliver {
+                id,
+                kind: CastKind::Atomic,
+                payload,
+            },
+            "deliver 4/5/2.3/6 atomic 00ff",
+        ),
+        (Push::Ejected { group, view: 5 }, "ejected 4 5"),
+        (
+            Push::Denied {
+                group,
+                refusal: Refusal::GroupFull,
+            },
+            "denied 4 14",
+        ),
+        (Push::Closed(Refusal::BadFrame), "closed 1"),
+    ];
+    for (push, text) in rows {
+        let expected = joined(alloc, &["push 7 1 ", text, "\n"])?;
+        assert_eq!(rt; printed(alloc, push)?.as_str(), expected.as_str());
+    }
+    Ok(())
+}
+
+#[test]
 fn names_the_line_of_a_bad_head(rt: HostRuntime) -> Result<(), Fail> {
     let alloc = rt.alloc();
     let rows = [
@@ -199,7 +309,8 @@ fn names_the_line_of_a_bad_head(rt: HostRuntime) -> Result<(), Fail> {
         ("site 65536\n", "1: bad number"),
         ("site 1\nsite 1\n", "2: order"),
         ("site 1\n\n# next\nopen 1\n", "4: order"),
-        ("site 1\nleave 1 1 7 1\n", "2: unknown word"),
+        ("site 1\nleave 1 1 7 1\n", "2: order"),
+        ("site 1\ntick 1\n", "2: unknown word"),
     ];
     for (text, fault) in rows {
         assert!(rt; refused(alloc, &[text], fault)?, "{text}");
@@ -277,7 +388,19 @@ fn names_the_line_of_a_bad_domain(rt: HostRuntime) -> Result<(), Fail> {
             "bad number",
         ),
         (
-            "domain 1 home 1 sites 1 groups 1,2 quotas 16 256 256 200",
+            "domain 1 home 1 sites 1 groups 2,1 quotas 16 256 256 200",
+            "order",
+        ),
+        (
+            "domain 1 home 1 sites 1 groups 1,1 quotas 16 256 256 200",
+            "order",
+        ),
+        (
+            "domain 1 home 1 sites 1 groups 2,1,0 quotas 16 256 256 200",
+            "bad number",
+        ),
+        (
+            "domain 1 home 1 sites 1 groups 9,1,2,3,4,5,6,7,8,10,11,12,13,14,15,16,17,18,19,20,21,22,23,24,25,26,27,28,29,30,31,32,33 quotas 1 1 1 10",
             "bad number",
         ),
         (
@@ -329,7 +452,7 @@ fn names_the_line_of_a_bad_event(rt: HostRuntime) -> Result<(), Fail> {
             "order",
         ),
         ("domain", "order"),
-        ("abcast 1 1 8 1 -", "unknown word"),
+        ("ABCAST 1 1 8 1 -", "unknown word"),
         ("tick 1", "unknown word"),
         ("open", "wrong count"),
         ("open 1 1", "wrong count"),
@@ -339,11 +462,24 @@ fn names_the_line_of_a_bad_event(rt: HostRuntime) -> Result<(), Fail> {
         ("join 1 1 4294967296 1", "bad number"),
         ("join 1 00 7 1", "bad number"),
         ("join 1 1 7 0", "bad number"),
+        ("leave 1 1 7", "wrong count"),
+        ("leave 1 1 7 1 -", "wrong count"),
+        ("leave 256 1 7 1", "bad number"),
+        ("leave 1 1 7 x", "bad number"),
         ("cast 1 1 8 1", "wrong count"),
         ("cast 1 1 8 1 ", "bad hex"),
         ("cast 1 1 8 1 686", "bad hex"),
         ("cast 1 1 8 1 6g", "bad hex"),
         ("cast 1 x 8 1 6", "bad number"),
+        ("abcast", "wrong count"),
+        ("abcast 0 1 8 1", "wrong count"),
+        ("abcast 1 1 8 1 - -", "wrong count"),
+        ("abcast 1 1 8 65536 6", "bad number"),
+        ("abcast 1 1 8 1 6", "bad hex"),
+        ("bad 1", "wrong count"),
+        ("bad 0 1 1", "wrong count"),
+        ("bad 0 1", "bad number"),
+        ("bad 1 4294967296", "bad number"),
         ("frame", "wrong count"),
         ("frame ", "bad hex"),
         ("frame zz", "bad hex"),

@@ -1,6 +1,6 @@
 ghost use Rattle.std.specs.Prelude.{◌≡◌, ◌≢◌, ◌<◌, ◌≤◌, ◌^◌, ◌↔◌, ◌⊎◌, ℕ, IfOk, IfErr, IsTrue, false, length, slice_index};
 ghost use Rattle.std.specs.Fmt.{decimal};
-ghost use Rattle.castd.specs.Scripts.{IsBetween, SpellsBytes, SpellsGroups, SpellsSites, parted, rises_from, texts};
+ghost use Rattle.castd.specs.Scripts.{IsBetween, SpellsBytes, SpellsGroups, SpellsSites, groups_rise as are_rising_groups, parted, sites_rise as are_rising_sites, texts};
 ghost use Rattle.castd.specs.declared.words.Reason.TheVariants.{BadHex, BadNumber, UnknownWord};
 ghost use Rattle.castd.specs.declared.words.LineFault.TheVariants.{Refused, NoMemory};
 
@@ -155,9 +155,9 @@ pub fn group_list(alloc: Global, word: &str) -> Result<Vec<GroupNo>, LineFault>
     Ok(groups)
 }
 
-/// Whether each number is above the one before it.
-pub fn is_rising(sites: &[SiteNo]) -> bool
-    ensures { result ≡ rises_from 0 sites.now }
+/// Whether each site is above the one before it, and the first above 0.
+pub fn sites_rise(sites: &[SiteNo]) -> bool
+    ensures { result ≡ are_rising_sites sites.now }
 {
     let mut last = 0;
     for site in sites {
@@ -165,6 +165,20 @@ pub fn is_rising(sites: &[SiteNo]) -> bool
             return false;
         }
         last = site.0;
+    }
+    true
+}
+
+/// Whether each group is above the one before it, and the first above 0.
+pub fn groups_rise(groups: &[GroupNo]) -> bool
+    ensures { result ≡ are_rising_groups groups.now }
+{
+    let mut last = 0;
+    for group in groups {
+        if group.0 <= last {
+            return false;
+        }
+        last = group.0;
     }
     true
 }

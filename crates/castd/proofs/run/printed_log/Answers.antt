@@ -1,6 +1,5 @@
-use Rattle.std.proofs.Common.{◌≡◌, ◌∙◌, ap, subst}
-use Rattle.std.specs.List.{AllZip}
-use Rattle.castd.specs.Replays.{IsServed, ServesEachAlone}
+use Rattle.std.proofs.Common.{subst}
+use Rattle.castd.specs.Replays.{ServesEachAlone}
 use Rattle.castd.specs.Scripts.{SpellsScript, used_lines_of}
 use Rattle.castd.proofs.Shown.{one_alone}
 use Rattle.castd.proofs.run.printed_log.Goals as goal
