@@ -1,0 +1,30 @@
+-- What one call of `read` came to, for the frame that is being read.
+use Rattle.std.specs.Prelude.{◌≡◌, ◌≢◌, ℕ, List, [], ◌++◌, length, Option, Ok, Err}
+use Rattle.std.specs.Io.KnownBytes.{Consumes, IsAtEnd}
+use Rattle.cast_frame.specs.declared.fault.FrameFault.TheVariants.{NoMemory}
+use Rattle.cast_frame.specs.declared.client.ClientRead.TheVariants as read
+use Rattle.cast_frame.specs.ClientReading.{client_of}
+use Rattle.cast_session.specs.declared.frames.Turn.{Turn}
+use Rattle.cast_session.specs.declared.frames.Turn.TheVariants.{Frame, Part, End, Fault, ReadFault}
+
+-- by all bytes of the frame that have come, and those that are kept for the next turn
+abbrev pub Added : Turn → List ℕ → List ℕ → Type 0
+Added (Frame f) all kept = (n : ℕ) × (client_of all ≡ Ok (read.Frame f n)) × (kept ≡ [])
+Added Part all kept = kept ≡ all
+Added (Fault e) all kept = e ≢ NoMemory → client_of all ≡ Err e
+Added End all kept = ⊥
+Added ReadFault all kept = ⊥
+
+-- and by how many of them came in this turn, and what is left of the reader: a frame ends with the last byte that came
+abbrev pub CameTo : Turn → List ℕ → List ℕ → List ℕ → Option (List ℕ) → Type 0
+CameTo (Frame f) all kept came left = (client_of all ≡ Ok (read.Frame f (length all))) × (kept ≡ [])
+CameTo Part all kept came left = kept ≡ all
+CameTo (Fault e) all kept came left = e ≢ NoMemory → client_of all ≡ Err e
+CameTo End all kept came left = (came ≡ []) × (kept ≡ all) × IsAtEnd left
+CameTo ReadFault all kept came left = came ≡ []
+
+pub record Turned (before left : Option (List ℕ)) (old kept : List ℕ) (turn : Turn) : Type 0 where
+  -- the bytes that came
+  pub came : List ℕ
+  pub consumed : Consumes before left came
+  pub is : CameTo turn (old ++ came) kept came left

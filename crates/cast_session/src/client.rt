@@ -1,0 +1,68 @@
+ghost use Rattle.std.specs.Prelude.{◌≡◌, Err, IsTrue};
+ghost use Rattle.cast_frame.specs.ClientSpelled.{client_fits};
+ghost use Rattle.cast_frame.specs.ClientSpelling.{spelled_client};
+ghost use Rattle.cast_session.specs.Known.{Between};
+ghost use Rattle.cast_session.specs.Outgoing.{Writes};
+ghost use Rattle.cast_session.specs.Pushes.{ReadsPush};
+ghost use Rattle.cast_session.specs.Watching.{HasFailed, HasFailedOrLasted};
+
+use crate::frames::{Incoming, TURNS, Turn};
+use crate::outgoing::{OutFault, write_whole};
+use crate::watched::Watched;
+use cast_frame::{ClientFrame, FrameFault, Push, encode_client};
+use std::alloc::Global;
+use std::io::{Read, Write};
+use thiserror::Error;
+
+/// Why no push was read.
+#[derive(Clone, Copy, Debug, PartialEq, Eq, Error)]
+pub enum PushFault {
+    /// This fault stands in the push's place. An end within a frame is `Short`, a request is `WrongType`, and `NoMemory` says
+    /// that an allocation was refused.
+    #[error("no push: {0}")]
+    Frame(FrameFault),
+    /// The reader failed, or 2^32 calls of `read` were made.
+    #[error("the reader failed")]
+    ReadFault,
+}
+
+/// Reads the first push, and no byte behind it. `None` is the reader's end before a frame. An interrupted call of `read` is
+/// made again.
+pub fn read_push<R: Read>(alloc: Global, reader: &mut Watched<R>) -> Result<Option<Push>, PushFault>
+    // What stands at the front of the bytes that the reader had, and which bytes it has left.
+    ensures read { Between (R.remaining reader.old.device) (R.remaining reader.new.device) (ReadsPush result) }
+    // And the reader's fault comes only where a call failed, or at the last of them.
+    ensures failed { result ≡ Err PushFault.ReadFault → HasFailedOrLasted reader.new }
+{
+    let mut incoming = Incoming::new(alloc);
+    reader.begin();
+    for _turn in 0..TURNS {
+        match incoming.turn(alloc, reader) {
+            Turn::Part => {}
+            Turn::Frame(ClientFrame::Push(push)) => return Ok(Some(push)),
+            Turn::Frame(ClientFrame::Request(_)) => {
+                return Err(PushFault::Frame(FrameFault::WrongType));
+            }
+            Turn::Fault(fault) => return Err(PushFault::Frame(fault)),
+            Turn::End if incoming.is_empty() => return Ok(None),
+            Turn::End => return Err(PushFault::Frame(FrameFault::Short)),
+            Turn::ReadFault => return Err(PushFault::ReadFault),
+        }
+    }
+    Err(PushFault::ReadFault)
+}
+
+/// Writes the spelling of a frame: what a program sends.
+pub fn write_command<W: Write>(
+    alloc: Global,
+    writer: &mut Watched<W>,
+    frame: &ClientFrame,
+) -> Result<(), OutFault>
+    requires { IsTrue (client_fits frame.now) }
+    ensures written { Writes (W.contents writer.old.device) (W.contents writer.new.device) result (spelled_client frame.now) }
+    ensures failed { result ≡ Err OutFault.WriteFault → HasFailed writer.new }
+{
+    writer.begin();
+    let bytes = encode_client(alloc, frame)?;
+    write_whole(writer, bytes.as_slice())
+}

@@ -1,0 +1,106 @@
+ghost use Rattle.std.specs.Prelude.{◌≡◌, ◌+◌, ◌^◌, ◌<◌, ◌++◌, ◌↔◌, [], IsTrue, Ok};
+ghost use Rattle.cast_frame.specs.ClientReading.{client_of};
+ghost use Rattle.cast_frame.specs.declared.client.ClientRead.TheVariants.{More};
+
+use crate::watched::Watched;
+use cast_frame::{ClientFrame, ClientRead, FrameFault, decode_client};
+use std::alloc::Global;
+use std::io::{ErrorKind, Read};
+
+/// Calls of `read` before a reader counts as failed.
+pub const TURNS: u64 = 4_294_967_296;
+
+/// Bytes of the length of a frame.
+const LENGTH: usize = 4;
+
+/// Most bytes that one call of `read` is asked for.
+const CHUNK: usize = 4096;
+
+/// What one call of `read` came to.
+#[derive(Drop)]
+pub enum Turn {
+    /// The frame is whole.
+    Frame(ClientFrame),
+    /// It is not, and no fault stands there. Also where the call was interrupted.
+    Part,
+    /// The reader is at its end.
+    End,
+    /// A fault stands in the frame's place, or an allocation was refused.
+    Fault(FrameFault),
+    /// The reader failed.
+    ReadFault,
+}
+
+/// The frame that is being read: the bytes of it that have come, and how many are wanting before more can be said.
+#[derive(Drop)]
+pub struct Incoming {
+    bytes: Vec<u8>,
+    wanting: usize,
+    ghost is_part: { client_of bytes.items ≡ Ok (More wanting) },
+}
+
+impl Incoming {
+    ghost use Rattle.cast_session.specs.Turns.{Added, Turned};
+    ghost use Rattle.cast_session.specs.Watching.{HasFailed};
+
+    /// No byte of a frame.
+    #[tactic(auto, using(crate::proofs::Fronts::no_front))]
+    pub fn new(alloc: Global) -> Self
+        ensures { result.bytes.items ≡ [] }
+    {
+        Incoming {
+            bytes: Vec::new(alloc),
+            wanting: LENGTH,
+        }
+    }
+
+    /// Whether no byte of the frame has come.
+    pub fn is_empty(&self) -> bool
+        ensures { IsTrue result ↔ (self.now.bytes.items ≡ []) }
+    {
+        self.bytes.is_empty()
+    }
+
+    /// One call of `read`, for no more bytes than are wanting.
+    pub fn turn<R: Read>(&mut self, alloc: Global, reader: &mut Watched<R>) -> Turn
+        requires { reader.old.calls < 2 ^ 32 }
+        ensures turned { Turned (R.remaining reader.old.device) (R.remaining reader.new.device) self.old.bytes.items self.new.bytes.items result }
+        ensures calls { reader.new.calls ≡ reader.old.calls + 1 }
+        ensures failed { result ≡ Turn.ReadFault → HasFailed reader.new }
+    {
+        let mut chunk = [0; CHUNK];
+        let room = &mut chunk[..self.wanting.min(CHUNK)];
+        match reader.read(room) {
+            Ok(0) => Turn::End,
+            Ok(count) => self.add(alloc, &room[..count]),
+            Err(error) if error.kind() == ErrorKind::Interrupted => Turn::Part,
+            Err(_) => Turn::ReadFault,
+        }
+    }
+
+    // Takes in bytes that came.
+    #[tactic(auto, using(crate::proofs::Fronts::no_front))]
+    fn add(&mut self, alloc: Global, bytes: &[u8]) -> Turn
+        ensures { Added result (self.old.bytes.items ++ bytes.now) self.new.bytes.items }
+    {
+        if self.bytes.extend_from_slice(bytes).is_err() {
+            return Turn::Fault(FrameFault::NoMemory);
+        }
+        match decode_client(alloc, &self.bytes) {
+            Ok(ClientRead::More(wanting)) => {
+                self.wanting = wanting;
+                Turn::Part
+            }
+            Ok(ClientRead::Frame(frame, _)) => {
+                self.bytes.clear();
+                self.wanting = LENGTH;
+                Turn::Frame(frame)
+            }
+            Err(fault) => {
+                self.bytes.clear();
+                self.wanting = LENGTH;
+                Turn::Fault(fault)
+            }
+        }
+    }
+}

@@ -1,0 +1,32 @@
+//! The bytes between a daemon and its programs: commands that a program sends, pushes that a daemon sends, and the same
+//! from the program's end.
+//!
+//! Promised: `pump_in` hands on the commands that the bytes of a reader say, in their order and each once, and says what
+//! ended them; `pump_out` writes the pushes' spellings one after the other; `read_push` gives the push that stands first
+//! and leaves what is behind it; `write_command` writes one spelling. Where a call ends early, it says what was handed on,
+//! or that a beginning was written. Nothing behind a frame is read before the frame is handed on, and no call of a
+//! writer is given bytes of two frames. Readers and writers are `Watched`: a fault of theirs is answered only where one of
+//! their calls failed, or where a reader was called 2^32 times.
+//!
+//! The definitions are in `specs/`: `Commands` says what bytes say, `Incoming`, `Outgoing` and `Pushes` what a pump of
+//! commands, a writer and a reader of pushes did, `Known` has words for lists that are known at some types only, `Turns` is
+//! what one call of `read` comes to, `Watching` what is known of a device that failed, and `Laws` that it does not matter
+//! how the bytes are cut.
+#![tactic(auto)]
+
+mod client;
+mod frames;
+mod incoming;
+pub mod laws;
+mod outgoing;
+mod sink;
+mod watched;
+
+pub use client::{PushFault, read_push, write_command};
+pub use incoming::{InEnd, pump_in};
+pub use outgoing::{OutFault, pump_out};
+pub use sink::Sink;
+pub use watched::Watched;
+
+#[cfg(test)]
+mod tests;
