@@ -25,18 +25,19 @@ only_bad e = record { commands = Bad ∷ []; fault = Some e }
 abbrev pub and_then : List Command → Heard → Heard
 and_then commands behind = record { commands = commands ++ behind.commands; fault = behind.fault }
 
--- by what stands at the front: a request and then what is heard behind it, or a fault, or a part of a frame; a push is a fault
+-- by what stands at the front: a request, and then what is heard behind it; a push and a fault end it, and a part of a
+-- frame says nothing
 abbrev pub heard : Result ClientRead FrameFault → (ℕ → Heard) → Heard
 heard (Ok (Frame (client.Request r) n)) behind = and_then (Request r ∷ []) (behind n)
 heard (Ok (Frame (client.Push p) n)) behind = only_bad WrongType
 heard (Ok (More n)) behind = nothing
 heard (Err e) behind = only_bad e
 
--- at most so many frames
+-- of at most so many frames
 unfoldable pub commands_within : ℕ → List ℕ → Heard
 commands_within zero bytes = nothing
 commands_within (suc frames) bytes = heard (client_of bytes) (λ n. commands_within frames (drop n bytes))
 
--- all of them: no frame is without a byte
+-- of all frames, each of which has a byte at least
 unfoldable pub commands_of : List ℕ → Heard
 commands_of bytes = commands_within (length bytes) bytes

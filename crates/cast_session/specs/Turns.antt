@@ -7,7 +7,7 @@ use Rattle.cast_frame.specs.ClientReading.{client_of}
 use Rattle.cast_session.specs.declared.frames.Turn.{Turn}
 use Rattle.cast_session.specs.declared.frames.Turn.TheVariants.{Frame, Part, End, Fault, ReadFault}
 
--- by all bytes of the frame that have come, and those that are kept for the next turn
+-- what it is by all bytes of the frame that have come, and which bytes are kept for the next turn
 abbrev pub Added : Turn → List ℕ → List ℕ → Type 0
 Added (Frame f) all kept = (n : ℕ) × (client_of all ≡ Ok (read.Frame f n)) × (kept ≡ [])
 Added Part all kept = kept ≡ all
@@ -15,7 +15,7 @@ Added (Fault e) all kept = e ≢ NoMemory → client_of all ≡ Err e
 Added End all kept = ⊥
 Added ReadFault all kept = ⊥
 
--- and by how many of them came in this turn, and what is left of the reader: a frame ends with the last byte that came
+-- the same by those of them that came in this turn, and by what is left of the reader: a frame ends with the last byte
 abbrev pub CameTo : Turn → List ℕ → List ℕ → List ℕ → Option (List ℕ) → Type 0
 CameTo (Frame f) all kept came left = (client_of all ≡ Ok (read.Frame f (length all))) × (kept ≡ [])
 CameTo Part all kept came left = kept ≡ all

@@ -3,15 +3,18 @@
 //!
 //! Promised: `pump_in` hands on the commands that the bytes of a reader say, in their order and each once, and says what
 //! ended them; `pump_out` writes the pushes' spellings one after the other; `read_push` gives the push that stands first
-//! and leaves what is behind it; `write_command` writes one spelling. Where a call ends early, it says what was handed on,
-//! or that a beginning was written. Nothing behind a frame is read before the frame is handed on, and no call of a
-//! writer is given bytes of two frames. Readers and writers are `Watched`: a fault of theirs is answered only where one of
-//! their calls failed, or where a reader was called 2^32 times.
+//! and leaves what is behind it; `write_command` writes one spelling. Where a call ends early, its contract says what was
+//! handed on, or that a beginning was written. What is heard does not depend on how the bytes come (`laws`). Readers and
+//! writers are `Watched`: a fault of theirs is answered only where one of their calls failed, or where a reader was called
+//! 2^32 times.
+//!
+//! In no contract, and tested: `pump_in` reads nothing behind a frame before it has handed the frame on, and no call of a
+//! writer is given bytes of two frames.
 //!
 //! The definitions are in `specs/`: `Commands` says what bytes say, `Incoming`, `Outgoing` and `Pushes` what a pump of
-//! commands, a writer and a reader of pushes did, `Known` has words for lists that are known at some types only, `Turns` is
-//! what one call of `read` comes to, `Watching` what is known of a device that failed, and `Laws` that it does not matter
-//! how the bytes are cut.
+//! commands, a writer and a reader of pushes did, `Known` has words for lists that are known at some types only, `Turns`
+//! says what one call of `read` came to, `Watching` what is known of a device that failed, and `Laws` what holds of all
+//! bytes.
 #![tactic(auto)]
 
 mod client;
