@@ -168,17 +168,27 @@ fn a_view(rt: HostRuntime) -> Result<(), Fail> {
 }
 
 #[test]
-fn ends_of_membership_and_session(rt: HostRuntime) -> Result<(), Fail> {
+fn an_ejection(rt: HostRuntime) -> Result<(), Fail> {
     let Some(ClientFrame::Push(Push::Ejected { group, view })) = passed(rt.alloc(), &EJECTED)?
     else {
         return Err(Fail::new("not an ejection"));
     };
     assert!(rt; group == GroupNo(1) && view == 2);
+    Ok(())
+}
+
+#[test]
+fn a_denial(rt: HostRuntime) -> Result<(), Fail> {
     let Some(ClientFrame::Push(Push::Denied { group, refusal })) = passed(rt.alloc(), &DENIED)?
     else {
         return Err(Fail::new("not a denial"));
     };
     assert!(rt; group == GroupNo(1) && refusal == Refusal::GroupFull);
+    Ok(())
+}
+
+#[test]
+fn the_end_of_a_session(rt: HostRuntime) -> Result<(), Fail> {
     let Some(ClientFrame::Push(Push::Closed(refusal))) = passed(rt.alloc(), &CLOSED)? else {
         return Err(Fail::new("not the end of a session"));
     };
