@@ -1,0 +1,82 @@
+-- The derived orders are those of the definitions.
+use Rattle.std.proofs.Common.{◌≡◌, Ordering, List, [], ◌∷◌, refl, ap, ◌∙◌}
+use Rattle.std.specs.Ordering.{nat_cmp, ordering_then}
+use Rattle.cast_types.specs.Names.{group_cmp, proc_cmp, site_cmp}
+use Rattle.cast_types.specs.Sets.{with_item, at_order}
+use Rattle.cast_timer.specs.declared.key.OwedKind.{OwedKind}
+use Rattle.cast_timer.specs.declared.key.OwedKind.TheVariants.{Ask, Data, Prepare, Want, Install, Ack}
+use Rattle.cast_timer.specs.declared.key.Side.{Side}
+use Rattle.cast_timer.specs.declared.key.Side.TheVariants.{Site, Home}
+use Rattle.cast_timer.specs.declared.key.Owed.{Owed}
+use Rattle.cast_timer.specs.Owed.{kind_rank, side_rank, owed_cmp}
+use Rattle.cast_timer.specs.contracts.key.OwedKindOrd.TheImpl as kind
+use Rattle.cast_timer.specs.contracts.key.SideOrd.TheImpl as side
+use Rattle.cast_timer.specs.contracts.key.OwedOrd.TheImpl as owed
+
+kinds : (a b : OwedKind) → kind.cmp-value.it a b ≡ nat_cmp (kind_rank a) (kind_rank b)
+kinds Ask Ask = refl
+kinds Ask Data = refl
+kinds Ask Prepare = refl
+kinds Ask Want = refl
+kinds Ask Install = refl
+kinds Ask Ack = refl
+kinds Data Ask = refl
+kinds Data Data = refl
+kinds Data Prepare = refl
+kinds Data Want = refl
+kinds Data Install = refl
+kinds Data Ack = refl
+kinds Prepare Ask = refl
+kinds Prepare Data = refl
+kinds Prepare Prepare = refl
+kinds Prepare Want = refl
+kinds Prepare Install = refl
+kinds Prepare Ack = refl
+kinds Want Ask = refl
+kinds Want Data = refl
+kinds Want Prepare = refl
+kinds Want Want = refl
+kinds Want Install = refl
+kinds Want Ack = refl
+kinds Install Ask = refl
+kinds Install Data = refl
+kinds Install Prepare = refl
+kinds Install Want = refl
+kinds Install Install = refl
+kinds Install Ack = refl
+kinds Ack Ask = refl
+kinds Ack Data = refl
+kinds Ack Prepare = refl
+kinds Ack Want = refl
+kinds Ack Install = refl
+kinds Ack Ack = refl
+
+sides : (a b : Side) → side.cmp-value.it a b ≡ nat_cmp (side_rank a) (side_rank b)
+sides Site Site = refl
+sides Site Home = refl
+sides Home Site = refl
+sides Home Home = refl
+
+pub owed_order : (a b : Owed) → owed.cmp-value.it a b ≡ owed_cmp a b
+owed_order a b =
+    ap (λ (o : Ordering). in_order o (side.cmp-value.it a.key.side b.key.side)) (kinds a.key.kind b.key.kind)
+    ∙ ap (in_order (nat_cmp (kind_rank a.key.kind) (kind_rank b.key.kind))) (sides a.key.side b.key.side)
+  where
+    in_order : Ordering → Ordering → Ordering
+    in_order by_kind by_side =
+        ordering_then (nat_cmp a.due b.due)
+        (ordering_then by_kind
+        (ordering_then (group_cmp a.key.group b.key.group)
+        (ordering_then (proc_cmp a.key.proc b.key.proc)
+        (ordering_then (nat_cmp a.key.count b.key.count)
+        (ordering_then (site_cmp a.key.site b.key.site) by_side)))))
+
+-- so the sets are the same
+pub same_set : {A : Type 0} (R S : A → A → Ordering) → ((a b : A) → R a b ≡ S a b) → (x : A) (xs : List A) → with_item R x xs ≡ with_item S x xs
+same_set R S same x [] = refl
+same_set R S same x (y ∷ ys) =
+    ap (λ (o : Ordering). at_order o (x ∷ y ∷ ys) (y ∷ ys) (y ∷ with_item R x ys)) (same x y)
+    ∙ ap (λ rest. at_order (S x y) (x ∷ y ∷ ys) (y ∷ ys) (y ∷ rest)) (same_set R S same x ys)
+
+pub owed_set : (x : Owed) (xs : List Owed) → with_item owed.cmp-value.it x xs ≡ with_item owed_cmp x xs
+owed_set = same_set owed.cmp-value.it owed_cmp owed_order

@@ -1,0 +1,4 @@
+pub mod Rows
+pub mod Derived
+pub mod Rising
+pub mod Owing

@@ -1,0 +1,50 @@
+use cast_types::{GroupNo, Proc, SiteNo};
+
+/// What kind of frame is owed, in the order in which frames that are due at one moment are sent.
+#[derive(Clone, Copy, Debug, PartialEq, Eq, PartialOrd, Ord)]
+pub enum OwedKind {
+    /// A request to the home.
+    Ask,
+    /// A message.
+    Data,
+    /// The beginning of a flush.
+    Prepare,
+    /// A call for messages that a site lacks.
+    Want,
+    /// A view that was decided.
+    Install,
+    /// What a site has received.
+    Ack,
+}
+
+/// Who owes a frame: the site for itself, or as the home of the group.
+#[derive(Clone, Copy, Debug, PartialEq, Eq, PartialOrd, Ord)]
+pub enum Side {
+    Site,
+    Home,
+}
+
+/// Which frame is owed. Two keys are ordered by their parts from first to last; a part that a kind lacks is 0.
+#[derive(Clone, Copy, Debug, PartialEq, Eq, PartialOrd, Ord)]
+pub struct OwedKey {
+    pub kind: OwedKind,
+    /// The group that the frame is about.
+    pub group: GroupNo,
+    /// The process that the frame is about.
+    pub proc: Proc,
+    /// The number of the message, request or view.
+    pub count: u32,
+    /// The site that the frame goes to.
+    pub site: SiteNo,
+    /// Who owes it.
+    pub side: Side,
+}
+
+/// A frame that is owed. Frames are ordered by the moment at which they are due, and at one moment by key.
+#[derive(Clone, Copy, Debug, PartialEq, Eq, PartialOrd, Ord)]
+pub struct Owed {
+    /// The moment at which it is due to be sent again, in milliseconds.
+    pub due: u64,
+    /// Which frame it is.
+    pub key: OwedKey,
+}

@@ -1,0 +1,158 @@
+ghost use Rattle.std.specs.Prelude.{◌≡◌, ◌≢◌, ◌<◌, ◌∷◌, ◌++◌, [], IfOk, IsTrue, IfSome, OnOk, OnErr, filter, length, not, vec_len};
+ghost use Rattle.std.specs.List.{position};
+ghost use Rattle.std.specs.Option.{option_copied};
+ghost use Rattle.cast_types.specs.declared.names.DomainNo.{DomainNo};
+ghost use Rattle.cast_types.specs.Sets.{with_item};
+ghost use Rattle.cast_types.specs.Places.{update};
+ghost use Rattle.cast_timer.specs.Owed.{owed_cmp, key_eq, with_owed, is_owed, paid, due_frames, due_at, is_rising};
+ghost use Rattle.cast_timer.specs.Rows.{is_of, row_of, owed_in};
+
+use crate::frames::Frames;
+use crate::key::{Owed, OwedKey};
+use cast_types::{DomainNo, NoMemory};
+use std::alloc::Global;
+use std::marker::Model;
+
+/// What a domain owes.
+#[derive(Drop)]
+pub(crate) struct Row {
+    pub(crate) domain: DomainNo,
+    pub(crate) frames: Frames,
+}
+
+/// The frames that all domains owe. Contracts say `owed_in` of it and a domain: the list of what that domain owes, in
+/// order of due moments and then of keys.
+#[derive(Drop)]
+pub struct Timers {
+    rows: Vec<Row>,
+}
+
+impl Model for Timers {
+    ghost use Rattle.std.specs.Prelude.{List};
+    ghost use Rattle.cast_timer.specs.declared.timers.Row.{Row};
+
+    ghost Value = { List Row };
+
+    ghost view = { λ t. t.rows.items };
+}
+
+impl Timers {
+    /// No domain owes a frame.
+    pub fn new(alloc: Global) -> Self
+        ensures { (d : DomainNo) → owed_in result d ≡ [] }
+    {
+        Timers {
+            rows: Vec::new(alloc),
+        }
+    }
+
+    /// Owes the domain's frame of a key from now on, to be sent again at the moment `due`, in milliseconds. Where it is
+    /// owed for that moment already, nothing changes; where it is owed for another, it is owed for both. `NoMemory`
+    /// changes nothing.
+    pub fn owe(&mut self, domain: DomainNo, key: OwedKey, due: u64) -> Result<(), NoMemory>
+        ensures own { OnOk result (owed_in self.new domain ≡ with_owed (owed_in self.old domain) key due) }
+        ensures err { OnErr result (self.new ≡ self.old) }
+        ensures others { (e : DomainNo) → e ≢ domain → owed_in self.new e ≡ owed_in self.old e }
+    {
+        let frame = Owed { due, key };
+        match place_among(&self.rows, domain) {
+            Some(place) => owe_at(&mut self.rows, place, frame),
+            None => owe_first(&mut self.rows, domain, frame),
+        }
+    }
+
+    /// Owes the domain's frame of a key no more, for whichever moments it was owed. Takes no memory.
+    pub fn pay(&mut self, domain: DomainNo, key: &OwedKey)
+        ensures own { owed_in self.new domain ≡ paid (key_eq key.now) (owed_in self.old domain) }
+        ensures others { (e : DomainNo) → e ≢ domain → owed_in self.new e ≡ owed_in self.old e }
+    {
+        if let Some(place) = place_among(&self.rows, domain) {
+            pay_at(&mut self.rows, place, key);
+        }
+    }
+
+    /// Whether the domain owes the frame of a key, for whichever moment. Takes no memory.
+    pub fn is_owed(&self, domain: DomainNo, key: &OwedKey) -> bool
+        ensures { result ≡ is_owed (owed_in self.now domain) key.now }
+    {
+        match row_among(&self.rows, domain) {
+            Some(row) => row.frames.is_owed(key),
+            None => false,
+        }
+    }
+
+    /// The keys of the domain's frames that are due at the moment `now`, in milliseconds: those of that moment and of
+    /// earlier ones, in order of their moments and then of their keys. They stay owed. `NoMemory`: the list was refused
+    /// memory.
+    pub fn due(&self, alloc: Global, domain: DomainNo, now: u64) -> Result<Vec<OwedKey>, NoMemory>
+        ensures value { IfOk result (λ keys. keys.items ≡ due_at now (owed_in self.now domain)) }
+        ensures rising { IsTrue (is_rising (due_frames now (owed_in self.now domain))) }
+    {
+        match row_among(&self.rows, domain) {
+            Some(row) => row.frames.due(alloc, now),
+            None => Ok(Vec::new(alloc)),
+        }
+    }
+
+    /// The domain owes nothing any more. Takes no memory.
+    pub fn drop_domain(&mut self, domain: DomainNo)
+        ensures own { owed_in self.new domain ≡ [] }
+        ensures others { (e : DomainNo) → e ≢ domain → owed_in self.new e ≡ owed_in self.old e }
+    {
+        drop_rows(&mut self.rows, domain);
+    }
+}
+
+// What is kept of a domain.
+fn row_among(rows: &[Row], domain: DomainNo) -> Option<&Row>
+    ensures { option_copied result ≡ row_of rows.now domain }
+{
+    rows.iter().find(|row| row.domain == domain)
+}
+
+// Where it is kept.
+fn place_among(rows: &[Row], domain: DomainNo) -> Option<usize>
+    ensures place { result ≡ position (is_of domain) rows.now }
+    ensures within { IfSome result (λ i. i < length rows.now) }
+{
+    rows.iter().position(|row| row.domain == domain)
+}
+
+// Owes a frame of the domain of a place. `NoMemory` changes nothing.
+#[tactic(auto, using(cast_types::proofs::Updates::set_update))]
+fn owe_at(rows: &mut Vec<Row>, place: usize, frame: Owed) -> Result<(), NoMemory>
+    requires { place < vec_len rows.old }
+    ensures ok { OnOk result (rows.new.items ≡ update rows.old.items place (λ r. record r { frames = with_item owed_cmp frame r.frames })) }
+    ensures err { OnErr result (rows.new.items ≡ rows.old.items) }
+{
+    let row = &mut rows[place];
+    row.frames.owe(frame)
+}
+
+// Owes a frame of a domain that has no row. `NoMemory` changes nothing.
+fn owe_first(rows: &mut Vec<Row>, domain: DomainNo, frame: Owed) -> Result<(), NoMemory>
+    ensures ok { OnOk result (rows.new.items ≡ rows.old.items ++ record { domain = domain; frames = frame ∷ [] } ∷ []) }
+    ensures err { OnErr result (rows.new.items ≡ rows.old.items) }
+{
+    let mut frames = Frames::new(*rows.allocator());
+    frames.owe(frame)?;
+    rows.push(Row { domain, frames })?;
+    Ok(())
+}
+
+// Owes the frames of a key no more in the domain of a place.
+#[tactic(auto, using(cast_types::proofs::Updates::set_update))]
+fn pay_at(rows: &mut Vec<Row>, place: usize, key: &OwedKey)
+    requires { place < vec_len rows.old }
+    ensures { rows.new.items ≡ update rows.old.items place (λ r. record r { frames = paid (key_eq key.now) r.frames }) }
+{
+    let row = &mut rows[place];
+    row.frames.pay(key);
+}
+
+// Keeps the rows of other domains.
+fn drop_rows(rows: &mut Vec<Row>, domain: DomainNo)
+    ensures { rows.new.items ≡ filter (λ r. not (is_of domain r)) rows.old.items }
+{
+    rows.retain(|row| row.domain != domain);
+}
