@@ -54,7 +54,7 @@ pub record IsDomainAt (own : SiteNo) (d : DomainConfig) : Type 0 where
   pub rising : IsTrue (sites_rise d.sites)
   pub has_home : Contains d.sites d.home
   pub has_own : Contains d.sites own
-  pub few_groups : length d.groups ≤ 32
+  pub few_groups : IsBetween 1 32 (length d.groups)
   pub rising_groups : IsTrue (groups_rise d.groups)
   pub within : AreWithinLimits d.quotas
 

@@ -56,7 +56,6 @@ member_text p = codes " " ++ proc_text p
 abbrev pub members_text : Membership → List ℕ
 members_text m = holder_text m.holder ++ (codes " members" ++ flat_map member_text m.list)
 
--- 0 where nothing is refused
 abbrev pub kind_text : CastKind → List ℕ
 kind_text kind.Causal = codes "causal"
 kind_text kind.Atomic = codes "atomic"

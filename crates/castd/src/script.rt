@@ -286,7 +286,7 @@ fn list_words(
     ensures rising { IfOk result (λ r. IsTrue (are_rising_sites r.0)) }
     ensures home { IfOk result (λ r. Contains r.0 home) }
     ensures own { IfOk result (λ r. Contains r.0 own) }
-    ensures few_groups { IfOk result (λ r. length r.1 ≤ 32) }
+    ensures few_groups { IfOk result (λ r. IsBetween 1 32 (length r.1)) }
     ensures rising_groups { IfOk result (λ r. IsTrue (are_rising_groups r.1)) }
 {
     let [sites_are, sites, groups_are, groups] = words else {
@@ -325,11 +325,11 @@ fn sites_word(
 // The groups of a domain: 1 to 32, rising.
 fn groups_word(alloc: Global, word: &str) -> Result<Listed<GroupNo>, LineFault>
     ensures spelled { IfOk result (SpellsGroups word.now) }
-    ensures few { IfOk result (λ groups. length groups ≤ 32) }
+    ensures few { IfOk result (λ groups. IsBetween 1 32 (length groups)) }
     ensures rising { IfOk result (λ groups. IsTrue (are_rising_groups groups)) }
 {
     let groups = group_list(alloc, word)?;
-    if groups.len() > MAX_GROUPS {
+    if groups.is_empty() || groups.len() > MAX_GROUPS {
         return Err(LineFault::Refused(Reason::BadNumber));
     }
     if groups_rise(&groups) {
