@@ -267,7 +267,7 @@ fn a_reader_that_fails(rt: HostRuntime) {
     reader.device.fails_at = 3;
     let mut sink = Taken::new(alloc, 9);
     assert_eq!(rt; pump_in(alloc, &mut reader, &mut sink), InEnd::ReadFault);
-    assert!(rt; reader.has_failed);
+    assert!(rt; reader.has_failed());
     assert!(rt; is_join_alone(&sink.commands));
 }
 
@@ -280,7 +280,7 @@ fn an_interrupted_read_is_made_again(rt: HostRuntime) {
     let mut sink = Taken::new(alloc, 9);
     assert_eq!(rt; pump_in(alloc, &mut reader, &mut sink), InEnd::End);
     assert!(rt; are_both(&sink.commands));
-    assert!(rt; !reader.has_failed);
+    assert!(rt; !reader.has_failed());
 }
 
 #[test]

@@ -6,17 +6,14 @@ ghost use Rattle.std.specs.IoError.{error_kind};
 use std::io;
 use std::io::{ErrorKind, Read, Write};
 
-/// A reader or a writer, and what is known of its calls since a pump last began. So a contract can say that a fault is
-/// answered only where the device failed.
+/// A reader or a writer, and what is known of its calls since a pump last began, which its own calls alone note. So a
+/// contract can say that a fault is answered only where the device failed.
 #[derive(Drop)]
 pub struct Watched<D> {
     /// The reader or the writer.
     pub device: D,
-    /// How many calls of `read` were made.
-    pub calls: u64,
-    /// Whether a call failed: one of `read` with an error other than an interruption, or one of `write` with any error or
-    /// with no byte taken.
-    pub has_failed: bool,
+    calls: u64,
+    has_failed: bool,
 }
 
 impl<D> Watched<D> {
@@ -31,6 +28,21 @@ impl<D> Watched<D> {
             calls: 0,
             has_failed: false,
         }
+    }
+
+    /// How many calls of `read` the last pump made.
+    pub fn calls(&self) -> u64
+        ensures { result ≡ self.now.calls }
+    {
+        self.calls
+    }
+
+    /// Whether a call of the last pump failed: one of `read` with an error other than an interruption, or one of `write`
+    /// with any error or with no byte taken.
+    pub fn has_failed(&self) -> bool
+        ensures { result ≡ self.now.has_failed }
+    {
+        self.has_failed
     }
 
     // A pump begins.
