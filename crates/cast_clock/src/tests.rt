@@ -1,4 +1,4 @@
-use crate::{ClockFault, Times, laws};
+use crate::{ClockFault, Times};
 use cast_types::{GroupNo, Proc, SiteNo};
 use std::alloc::Global;
 use std::test::Fail;
@@ -92,14 +92,4 @@ fn an_empty_time_has_no_stamp(rt: HostRuntime) -> Result<(), Fail> {
     time.enter(GROUP, 1)?;
     assert!(rt; time.stamp()?.is_some());
     Ok(())
-}
-
-#[test]
-fn laws_are_called() {
-    laws::join_is_pointwise();
-    laws::order_is_pointwise();
-    laws::join_is_least();
-    laws::bump_raises_one();
-    laws::enter_begins_one();
-    laws::times_stay_times();
 }

@@ -1,4 +1,4 @@
-use crate::{OwedKey, OwedKind, Side, Timers, laws};
+use crate::{OwedKey, OwedKind, Side, Timers};
 use cast_types::{DomainNo, GroupNo, Proc, SiteNo};
 use std::alloc::Global;
 use std::test::Fail;
@@ -101,9 +101,4 @@ fn a_dropped_domain_owes_nothing(rt: HostRuntime) -> Result<(), Fail> {
         [first()].as_slice()
     );
     Ok(())
-}
-
-#[test]
-fn laws_are_called() {
-    laws::owed_until_paid();
 }
