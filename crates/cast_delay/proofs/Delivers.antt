@@ -15,18 +15,18 @@ use Rattle.cast_types.proofs.CountLists.{sorted-put}
 use Rattle.cast_clock.specs.Times.{clock_of, view_of, join, has_room}
 use Rattle.cast_clock.proofs.Entries.{found_or}
 use Rattle.cast_frame.specs.declared.message.Message.{Message}
-use Rattle.cast_delay.specs.declared.source.Source.{Source}
+use Rattle.cast_types.specs.declared.source.Source.{Source}
 use Rattle.cast_delay.specs.declared.row.Row.{Row}
 use Rattle.cast_delay.specs.declared.row.Fact.{Fact}
 use Rattle.cast_delay.specs.declared.row.Fact.TheVariants as fact
 use Rattle.cast_delay.specs.Ready.{Process, is_member, has_delivered}
-use Rattle.cast_delay.specs.Sources.{source, source_cmp}
+use Rattle.cast_types.specs.Sources.{source, source_cmp}
 use Rattle.cast_delay.specs.Rows.{number_of, standing_in, done_in, needed, has_past, row_allows, all_allow, is_ready_row, delivered_row, told_row}
 use Rattle.cast_delay.specs.Fits.{RowFits, IsSound, told, delivering}
 use Rattle.cast_delay.proofs.Listed.{list_any-append}
 use Rattle.cast_delay.proofs.Counted.{needed_own, within_entry}
 use Rattle.cast_delay.proofs.Finds.{put_at_group}
-use Rattle.cast_delay.proofs.Sources.{source_total, source_exact}
+use Rattle.cast_types.proofs.Sources.{source_total, source_exact}
 
 -- a row takes in a fact as the process does
 pub told_fits : (p : Process) (row : Row) → RowFits p row → (f : Fact) → RowFits (told f p) (told_row f row)

@@ -1,10 +1,11 @@
 -- The first item of a list that passes a test, and what is found at a key after it was put there.
-use Rattle.std.proofs.Common.{◌≡◌, suc, Bool, true, false, cond, List, [], ◌∷◌, ◌++◌, map, Contains, Option, Some, None, unwrap_or, refl, sym, ap, subst, ◌∙◌, arith}
+use Rattle.std.proofs.Common.{◌≡◌, zero, suc, Bool, true, false, cond, List, [], ◌∷◌, ◌++◌, map, filter, Contains, Option, Some, None, unwrap_or, refl, sym, ap, subst, ◌∙◌, inl, inr, arith}
 use Rattle.std.specs.Prelude.{if◌then◌else◌}
 use Rattle.std.specs.List as list
 use Rattle.std.specs.Option.{option_map}
 use Rattle.std.specs.Ordering.{eq_by_cmp}
 use Rattle.std.specs.FinMap.Entries.{find, put, find-put}
+use Rattle.std.proofs.lemmas.Bool.{cases_Bool, false≢true, or_cases, or_left, or_right}
 use Rattle.cast_types.specs.declared.names.GroupNo.{GroupNo}
 use Rattle.cast_types.specs.Names.{group_cmp, group_eq}
 use Rattle.cast_types.proofs.Orders.{group_total, group_exact, same_group, group_itself, tie_self, tie_same}
@@ -52,6 +53,48 @@ pub find-append_none : {A : Type 0} (t : A → Bool) (xs ys : List A) → list.f
 find-append_none t [] ys is = refl
 find-append_none t (y ∷ xs) ys is =
     elim (t y) as (λ b. cond b (Some y) (list.find t xs) ≡ None → cond b (Some y) (list.find t (xs ++ ys)) ≡ list.find t ys) [ true ↦ λ here. cc here | false ↦ λ later. find-append_none t xs ys later ] is
+
+-- a search is not changed where only what it passes over is taken out
+pub find_kept : {A : Type 0} (t keep : A → Bool) → ((x : A) → keep x ≡ false → t x ≡ false) → (xs : List A) → list.find t (filter keep xs) ≡ list.find t xs
+find_kept t keep passed [] = refl
+find_kept t keep passed (x ∷ xs) = elim (cases_Bool (keep x)) [
+  | inl stays ↦ rw stays (ap (λ o. cond (t x) (Some x) o) (find_kept t keep passed xs))
+  | inr goes ↦ rw (goes, passed x goes) (find_kept t keep passed xs)
+]
+
+-- what a filter keeps is of the list, and passes
+kept_step : {A : Type 0} (keep : A → Bool) (y : A) (ys : List A) (x : A) → (Contains (filter keep ys) x → Contains ys x × (keep x ≡ true)) → (b : Bool) → keep y ≡ b → Contains (cond b (y ∷ filter keep ys) (filter keep ys)) x → Contains (y ∷ ys) x × (keep x ≡ true)
+kept_step keep y ys x rest true stays (zero, lt, at) = (subst (λ z. Contains (y ∷ ys) z) at (contains_here y ys), subst (λ z. keep z ≡ true) at stays)
+kept_step keep y ys x rest true stays (suc k, lt, at) = let later = rest (k, omega (arith, lt), at) in (contains_later x y ys later.0, later.1)
+kept_step keep y ys x rest false goes inside = let later = rest inside in (contains_later x y ys later.0, later.1)
+
+pub kept_parts : {A : Type 0} (keep : A → Bool) (xs : List A) (x : A) → Contains (filter keep xs) x → Contains xs x × (keep x ≡ true)
+kept_parts keep [] x in_it = absurd (omega (arith, in_it.1))
+kept_parts keep (y ∷ ys) x in_it = kept_step keep y ys x (kept_parts keep ys x) (keep y) refl in_it
+
+pub filter_mapped : {A B : Type 0} (f : A → B) (keep : B → Bool) (xs : List A) → filter keep (map f xs) ≡ map f (filter (λ x. keep (f x)) xs)
+filter_mapped f keep [] = refl
+filter_mapped f keep (x ∷ xs) =
+    elim (keep (f x)) as (λ b. cond b (f x ∷ filter keep (map f xs)) (filter keep (map f xs)) ≡ map f (cond b (x ∷ filter (λ y. keep (f y)) xs) (filter (λ y. keep (f y)) xs))) [
+      | true ↦ ap (λ rest. f x ∷ rest) (filter_mapped f keep xs)
+      | false ↦ filter_mapped f keep xs
+    ]
+
+-- an item that passes, where one does
+pub any_in : {A : Type 0} (t : A → Bool) (xs : List A) → list.list_any t xs ≡ true → (x : A) × (Contains xs x × (t x ≡ true))
+any_in t [] some = absurd (false≢true some)
+any_in t (x ∷ xs) some = elim (or_cases (t x) (list.list_any t xs) some) [
+  | inl here ↦ (x, (contains_here x xs, here))
+  | inr later ↦ let rest = any_in t xs later in (rest.0, (contains_later rest.0 x xs rest.1.0, rest.1.1))
+]
+
+pub found_any : {A : Type 0} (t u : A → Bool) (xs : List A) (x : A) → list.find u xs ≡ Some x → t x ≡ true → list.list_any t xs ≡ true
+found_any t u [] x is passes = cc
+found_any t u (y ∷ ys) x is passes =
+    elim (u y) as (λ b. cond b (Some y) (list.find u ys) ≡ Some x → list.list_any t (y ∷ ys) ≡ true) [
+      | true ↦ λ here. or_left (t y) (list.list_any t ys) (subst (λ z. t z ≡ true) (sym (ap (λ (o : Option _). unwrap_or o y) here)) passes)
+      | false ↦ λ later. or_right (t y) (list.list_any t ys) (found_any t u ys x later passes)
+    ] is
 
 -- groups tie exactly if they are one
 tie_is : (g h : GroupNo) → eq_by_cmp group_cmp h g ≡ group_eq g h

@@ -2,7 +2,6 @@ pub mod Listed
 pub mod Counted
 pub mod Means
 pub mod Finds
-pub mod Sources
 pub mod Delivers
 pub mod Rows
 pub mod Queues

@@ -1,10 +1,11 @@
 -- By what the queue keeps of a process, a message is ready exactly if it is by what the process delivered.
-use Rattle.std.proofs.Common.{◌≡◌, ℕ, Bool, true, false, not, ◌&&◌, ◌||◌, List, [], ◌∷◌, Option, unwrap_or, refl, sym, ap, subst, ◌∙◌, inl, inr, arith}
+use Rattle.std.proofs.Common.{◌≡◌, ℕ, ◌<◌, Bool, true, false, not, ◌&&◌, ◌||◌, List, [], ◌∷◌, Option, unwrap_or, refl, sym, ap, subst, ◌∙◌, inl, inr, arith}
 use Rattle.std.specs.Prelude.{nat_lt, ◌==◌}
 use Rattle.std.specs.List.{list_all}
 use Rattle.std.specs.FinMap.Entries.{is_sorted}
 use Rattle.std.proofs.lemmas.Bool.{or_cases, false≢true, ltb-true, lt-ltb, cases_lt, not_from_false, not-true, false_from_ne_true, and_parts}
 use Rattle.cast_types.specs.declared.names.GroupNo.{GroupNo}
+use Rattle.cast_types.specs.declared.names.Uid.{Uid}
 use Rattle.cast_types.specs.declared.names.Standing.{Standing}
 use Rattle.cast_types.specs.declared.names.Standing.TheVariants.{Outside, Joining, Member}
 use Rattle.cast_types.specs.Names.{group_cmp, group_eq}
@@ -14,8 +15,8 @@ use Rattle.cast_clock.specs.Times.{clock_of, view_of, join, has_room}
 use Rattle.cast_clock.proofs.Entries.{found_or, each_found, list_all_of, as_T}
 use Rattle.cast_frame.specs.declared.message.Message.{Message}
 use Rattle.cast_delay.specs.declared.row.Row.{Row}
-use Rattle.cast_delay.specs.Ready.{Process, Gate, is_member, is_outside, has_delivered, group_allows, is_causally_ready}
-use Rattle.cast_delay.specs.Rows.{number_of, standing_in, done_in, row_allows, all_allow, is_ready_row}
+use Rattle.cast_delay.specs.Ready.{Process, Gate, is_member, is_outside, has_delivered, awaits, group_allows, is_causally_ready}
+use Rattle.cast_delay.specs.Rows.{number_of, standing_in, done_in, row_allows, all_allow, is_ready_row, awaits_row}
 use Rattle.cast_delay.specs.Fits.{RowFits, IsSound}
 use Rattle.cast_delay.proofs.Listed.{same_bools}
 use Rattle.cast_delay.proofs.Counted.{past_counted}
@@ -30,6 +31,25 @@ among_holds t (h ∷ gs) g all among =
       | inr later ↦ among_holds t gs g parts.1 later
     ]
 
+module _ (p : Process) (row : Row) (fits : RowFits p row) (id : Uid) (from_one : 0 < id.count) where
+  -- not delivered, by its count
+  pub undelivered_means : nat_lt (done_in row id.group id.view id.proc) id.count ≡ not (has_delivered p id)
+  undelivered_means = same_bools (nat_lt (done_in row id.group id.view id.proc) id.count) (not (has_delivered p id)) there back
+    where
+      there : nat_lt (done_in row id.group id.view id.proc) id.count ≡ true → not (has_delivered p id) ≡ true
+      there lt = not_from_false (has_delivered p id) (false_from_ne_true (has_delivered p id) (λ has.
+          omega (arith, ltb-true (done_in row id.group id.view id.proc) id.count lt, ((fits.counts id).0 has).1)))
+
+      back : not (has_delivered p id) ≡ true → nat_lt (done_in row id.group id.view id.proc) id.count ≡ true
+      back hasnt = elim (cases_lt (done_in row id.group id.view id.proc) id.count) [
+        | inl lt ↦ lt-ltb (done_in row id.group id.view id.proc) id.count lt
+        | inr le ↦ absurd (false≢true (sym (not-true (has_delivered p id) hasnt) ∙ (fits.counts id).1 (from_one, le)))
+      ]
+
+  -- and so whether it is awaited
+  pub awaits_means : awaits_row row id ≡ awaits p id
+  awaits_means = let undelivered = undelivered_means in λ i. is_member (fits.standing id.group i) && undelivered i
+
 module _ (p : Process) (row : Row) (fits : RowFits p row) (m : Message) where
   -- a group allows it by the row as it does by the ids
   group_means : (gate : Gate) (number : ℕ) → number ≡ gate.number → (h : GroupNo) (s : Standing) → row_allows row number m.id m.times h s ≡ group_allows s p gate m h
@@ -38,20 +58,6 @@ module _ (p : Process) (row : Row) (fits : RowFits p row) (m : Message) where
   group_means gate number is h Member =
       let past = past_counted p row fits m.id h (view_of m.times h) (clock_of m.times h).counts in
       λ i. nat_lt (view_of m.times h) (is i) || ((view_of m.times h == is i) && past i)
-
-  -- not delivered, by its count
-  fresh_means : IsSound m → nat_lt (done_in row m.id.group m.id.view m.id.proc) m.id.count ≡ not (has_delivered p m.id)
-  fresh_means sound = same_bools (nat_lt (done_in row m.id.group m.id.view m.id.proc) m.id.count) (not (has_delivered p m.id)) there back
-    where
-      there : nat_lt (done_in row m.id.group m.id.view m.id.proc) m.id.count ≡ true → not (has_delivered p m.id) ≡ true
-      there lt = not_from_false (has_delivered p m.id) (false_from_ne_true (has_delivered p m.id) (λ has.
-          omega (arith, ltb-true (done_in row m.id.group m.id.view m.id.proc) m.id.count lt, ((fits.counts m.id).0 has).1)))
-
-      back : not (has_delivered p m.id) ≡ true → nat_lt (done_in row m.id.group m.id.view m.id.proc) m.id.count ≡ true
-      back hasnt = elim (cases_lt (done_in row m.id.group m.id.view m.id.proc) m.id.count) [
-        | inl lt ↦ lt-ltb (done_in row m.id.group m.id.view m.id.proc) m.id.count lt
-        | inr le ↦ absurd (false≢true (sym (not-true (has_delivered p m.id) hasnt) ∙ (fits.counts m.id).1 (sound.from_one, le)))
-      ]
 
   module _ (groups : List GroupNo) (gate : GroupNo → Gate) (numbers : List (GroupNo × ℕ)) (numbered : (g : GroupNo) → number_of numbers g ≡ (gate g).number) where
     abbrev allows : GroupNo → Standing → Bool
@@ -86,7 +92,7 @@ module _ (p : Process) (row : Row) (fits : RowFits p row) (m : Message) where
       -- the counts tell whether the message is ready
       pub row_means : IsSound m → is_ready_row numbers row m.id m.times ≡ is_causally_ready groups gate p m
       row_means sound =
-          let fresh = fresh_means sound in
+          let fresh = undelivered_means p row fits m.id sound.from_one in
           λ i. is_member (fits.standing m.id.group i)
           && ((m.id.view == numbered m.id.group i)
           && (fresh i

@@ -1,31 +1,34 @@
 -- The queue names the first message that is ready, and keeps its meaning.
-use Rattle.std.proofs.Common.{◌≡◌, ℕ, Bool, true, false, cond, List, [], ◌∷◌, ◌++◌, Contains, Option, Some, None, unwrap_or, refl, sym, ap, subst, ◌∙◌, inl, inr, arith}
+use Rattle.std.proofs.Common.{◌≡◌, ◌↔◌, ℕ, ◌<◌, Bool, true, false, cond, not, List, [], ◌∷◌, ◌++◌, filter, Contains, Option, Some, None, unwrap_or, refl, sym, ap, subst, ◌∙◌, inl, inr, arith}
 use Rattle.std.specs.Prelude.{if◌then◌else◌}
 use Rattle.std.specs.List as list
 use Rattle.std.specs.Option.{IsSome, option_map, option_and_then}
 use Rattle.std.specs.FinMap.Entries.{put}
-use Rattle.std.proofs.lemmas.Bool.{cases_Bool, false≢true, eq-eqb}
+use Rattle.std.proofs.lemmas.Bool.{cases_Bool, false≢true, not-false, and_parts, eqb-true, eq-eqb, ne_eqb}
 use Rattle.std.proofs.lemmas.List.{map-append}
 use Rattle.std.proofs.lemmas.List.Elements.{Contains-push_cases}
 use Rattle.cast_types.specs.declared.names.GroupNo.{GroupNo}
 use Rattle.cast_types.specs.declared.names.Proc.{Proc}
 use Rattle.cast_types.specs.declared.names.Key.{Key}
+use Rattle.cast_types.specs.declared.names.Uid.{Uid}
 use Rattle.cast_types.specs.Names.{group_cmp, group_eq, proc_eq}
 use Rattle.cast_types.specs.Sets.{is_among, set_at}
 use Rattle.cast_types.proofs.Orders.{same_group}
 use Rattle.cast_clock.proofs.Entries.{option_cases}
 use Rattle.cast_frame.specs.declared.message.Message.{Message}
+use Rattle.cast_frame.specs.declared.message.Received.{Received}
+use Rattle.cast_frame.specs.Receipts.{key_eq, message_under}
 use Rattle.cast_delay.specs.declared.row.Row.{Row}
 use Rattle.cast_delay.specs.declared.row.Fact.{Fact}
 use Rattle.cast_delay.specs.declared.row.Fact.TheVariants as fact
 use Rattle.cast_delay.specs.declared.offered.Offered.{Offered}
-use Rattle.cast_delay.specs.Ready.{Process, Gate, is_outside, is_causally_ready}
-use Rattle.cast_delay.specs.Rows.{number_of, is_ready_row, delivered_row, told_row}
-use Rattle.cast_delay.specs.Queue.{Queue, key_eq, new_row, row_of, change_row, first_for, offered_under, next_key, after_delivery}
-use Rattle.cast_delay.specs.Fits.{Received, message_under, IsSound, RowFits, row_for, offer_of, Fits, FirstReady, set_process, told, delivering, FactFits}
+use Rattle.cast_delay.specs.Ready.{Process, Gate, is_member, is_outside, has_delivered, awaits, is_causally_ready}
+use Rattle.cast_delay.specs.Rows.{number_of, standing_in, is_ready_row, awaits_row, delivered_row, told_row}
+use Rattle.cast_delay.specs.Queue.{Queue, new_row, row_of, change_row, first_for, offered_under, next_key, but_offered, is_awaited, HasOneRowEach, after_delivery}
+use Rattle.cast_delay.specs.Fits.{IsSound, RowFits, row_for, offer_of, Fits, FirstReady, IsAwaited, set_process, told, delivering, FactFits}
 use Rattle.cast_delay.specs.Laws.{NewFits}
-use Rattle.cast_delay.proofs.Means.{row_means}
-use Rattle.cast_delay.proofs.Finds.{found_in, find_agree, find_mapped, never_found, find-append_some, find-append_none, put_at_group}
+use Rattle.cast_delay.proofs.Means.{row_means, awaits_means}
+use Rattle.cast_delay.proofs.Finds.{found_in, find_agree, find_mapped, never_found, find-append_some, find-append_none, find_kept, kept_parts, filter_mapped, any_in, found_any, put_at_group}
 use Rattle.cast_delay.proofs.Delivers.{told_fits, delivered_fits, ready_parts}
 use Rattle.cast_delay.proofs.Rows.{some_row, rows_changed, row_admitted}
 
@@ -140,6 +143,33 @@ module _ (groups : List GroupNo) (gate : GroupNo → Gate) (processes : Proc →
   told_keeps (fact.Standing h s) r = refl
   told_keeps (fact.Time time) r = refl
 
+  -- a process awaits a message by its row as it does by what it delivered
+  pub awaited_by : (p : Proc) (row : Row) → row_of q.rows p ≡ Some row → (id : Uid) → 0 < id.count → awaits_row row id ≡ awaits (processes p) id
+  awaited_by p row at id from_one = awaits_means (processes p) row (row_at p row at) id from_one
+
+  -- who awaits a message was admitted
+  awaits_admitted : (p : Proc) (id : Uid) → awaits (processes p) id ≡ true → (row : Row) × (row_of q.rows p ≡ Some row)
+  awaits_admitted p id waits = elim (option_cases (row_of q.rows p)) [
+    | inl none ↦
+        let member = (and_parts (is_member ((processes p).standing id.group)) (not (has_delivered (processes p) id)) waits).0 in
+        absurd (false≢true (ap (λ (o : Option Row). is_member (standing_in (unwrap_or o (new_row p)) id.group)) (sym none) ∙ ap is_member ((fits.rows p).standing id.group) ∙ member))
+    | inr some ↦ some
+  ]
+
+  -- some row awaits a message exactly if some process does
+  pub awaited_rules : HasOneRowEach q.rows → (id : Uid) → 0 < id.count → (is_awaited q.rows id ≡ true) ↔ IsAwaited processes id
+  awaited_rules one id from_one = (there, back)
+    where
+      there : is_awaited q.rows id ≡ true → IsAwaited processes id
+      there some =
+          let (row, (in_it, waits)) = any_in (λ r. awaits_row r id) q.rows some in
+          (row.process, sym (awaited_by row.process row (one row in_it) id from_one) ∙ waits)
+
+      back : IsAwaited processes id → is_awaited q.rows id ≡ true
+      back (p, waits) =
+          let (row, at) = awaits_admitted p id waits in
+          found_any (λ r. awaits_row r id) (λ r. proc_eq r.process p) q.rows row at (awaited_by p row at id from_one ∙ waits)
+
   -- a fact is taken in as the process takes it in
   pub tell_fits : (p : Proc) (f : Fact) → IsSome (row_of q.rows p) → FactFits groups f → Fits groups gate (set_process processes p (told f (processes p))) received (record q { rows = change_row p (told_row f) q.rows })
   tell_fits p f admitted ok =
@@ -198,6 +228,30 @@ module _ (groups : List GroupNo) (gate : GroupNo → Gate) (processes : Proc →
         | inr last ↦ subst (λ y. message_under (received ++ r ∷ []) y.key ≡ Some y.message) last (under_own received r apart)
       ]
 
+  -- what is let go is told of no more
+  pub forget_fits : (key : Key) → Fits groups gate processes (filter (λ r. not (key_eq r.key key)) received) (record q { offered = but_offered key q.offered })
+  forget_fits key = record {
+    numbers = fits.numbers;
+    rows = fits.rows;
+    groups_known = fits.groups_known;
+    offered = ap (but_offered key) fits.offered ∙ filter_mapped offer_of (λ o. not (key_eq o.key key)) received;
+    named = named_now;
+    sound = λ r in_it. fits.sound r (kept_parts (λ x. not (key_eq x.key key)) received r in_it).0;
+  }
+    where
+      -- what goes is under no other key
+      goes : (r x : Received) → not (key_eq r.key key) ≡ true → not (key_eq x.key key) ≡ false → key_eq x.key r.key ≡ false
+      goes r x stays out =
+          let other : r.key.0 ≡ key.0 → ⊥ = λ same. false≢true (sym (ap not (eq-eqb r.key.0 key.0 same)) ∙ stays) in
+          let this : x.key.0 ≡ key.0 = eqb-true x.key.0 key.0 (not-false (key_eq x.key key) out) in
+          ne_eqb x.key.0 r.key.0 (λ same. other (sym same ∙ this))
+
+      named_now : (r : Received) → Contains (filter (λ x. not (key_eq x.key key)) received) r → message_under (filter (λ x. not (key_eq x.key key)) received) r.key ≡ Some r.message
+      named_now r in_it =
+          let parts = kept_parts (λ x. not (key_eq x.key key)) received r in_it in
+          ap (λ (o : Option Received). option_map (λ x. x.message) o) (find_kept (λ x. key_eq x.key r.key) (λ x. not (key_eq x.key key)) (λ x out. goes r x parts.1 out) received)
+          ∙ fits.named r parts.0
+
   -- a delivery of a message that is ready is taken in as the process takes it in
   pub delivery_fits : (p : Proc) (key : Key) (m : Message) → message_under received key ≡ Some m → is_causally_ready groups gate (processes p) m ≡ true → Fits groups gate (set_process processes p (delivering m (processes p))) received (record q { rows = after_delivery q.offered p key q.rows })
   delivery_fits p key m at ready =
@@ -233,3 +287,6 @@ new_fits groups = record {
 -- the clauses on what the queue answers
 pub next_means : (q : Queue) (p : Proc) (k : Option Key) → k ≡ next_key q p → (groups : List GroupNo) (gate : GroupNo → Gate) (processes : Proc → Process) (received : List Received) → Fits groups gate processes received q → FirstReady groups gate (processes p) received k
 next_means q p k is groups gate processes received fits = subst (λ x. FirstReady groups gate (processes p) received x) (sym is) (next_rules groups gate processes received q fits p)
+
+pub awaited_means : (q : Queue) (id : Uid) (b : Bool) → b ≡ is_awaited q.rows id → (groups : List GroupNo) (gate : GroupNo → Gate) (processes : Proc → Process) (received : List Received) → Fits groups gate processes received q → 0 < id.count → HasOneRowEach q.rows → (b ≡ true) ↔ IsAwaited processes id
+awaited_means q id b is groups gate processes received fits from_one one = subst (λ x. (x ≡ true) ↔ IsAwaited processes id) (sym is) (awaited_rules groups gate processes received q fits one id from_one)

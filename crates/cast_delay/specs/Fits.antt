@@ -1,7 +1,5 @@
 -- What the queue keeps means: processes with all that they delivered, and all messages received.
 use Rattle.std.specs.Prelude.{◌≡◌, ◌<◌, ◌≤◌, true, false, IsTrue, ◌↔◌, List, [], ◌∷◌, ◌++◌, map, Contains, Option, Some, None, unwrap_or}
-use Rattle.std.specs.List.{find}
-use Rattle.std.specs.Option.{option_map}
 use Rattle.std.specs.FinMap.Entries.{is_sorted}
 use Rattle.cast_types.specs.declared.names.GroupNo.{GroupNo}
 use Rattle.cast_types.specs.declared.names.Proc.{Proc}
@@ -11,24 +9,15 @@ use Rattle.cast_types.specs.Names.{group_cmp, group_eq, proc_eq}
 use Rattle.cast_types.specs.Sets.{is_among, set_at}
 use Rattle.cast_clock.specs.Times.{view_of, count_in, join}
 use Rattle.cast_frame.specs.declared.message.Message.{Message}
+use Rattle.cast_frame.specs.declared.message.Received.{Received}
+use Rattle.cast_frame.specs.Receipts.{messages, message_under}
 use Rattle.cast_delay.specs.declared.offered.Offered.{Offered}
 use Rattle.cast_delay.specs.declared.row.Row.{Row}
 use Rattle.cast_delay.specs.declared.row.Fact.{Fact}
 use Rattle.cast_delay.specs.declared.row.Fact.TheVariants as fact
-use Rattle.cast_delay.specs.Ready.{Process, Gate, is_outside, has_delivered, first_ready}
+use Rattle.cast_delay.specs.Ready.{Process, Gate, is_outside, has_delivered, awaits, first_ready}
 use Rattle.cast_delay.specs.Rows.{number_of, standing_in, done_in}
-use Rattle.cast_delay.specs.Queue.{Queue, key_eq, new_row, row_of}
-
--- a message, under the key by which its domain knows it
-pub record Received : Type 0 where
-  pub key : Key
-  pub message : Message
-
-abbrev pub messages : List Received → List Message
-messages received = map (λ r. r.message) received
-
-abbrev pub message_under : List Received → Key → Option Message
-message_under received key = option_map (λ r. r.message) (find (λ r. key_eq r.key key) received)
+use Rattle.cast_delay.specs.Queue.{Queue, new_row, row_of}
 
 -- the message's time has its own view and its own count, from 1 on
 pub record IsSound (m : Message) : Type 0 where
@@ -64,6 +53,10 @@ abbrev pub FirstReady : List GroupNo → (GroupNo → Gate) → Process → List
 FirstReady groups gate p received None = first_ready groups gate p (messages received) ≡ None
 FirstReady groups gate p received (Some key) =
     (m : Message) × (message_under received key ≡ Some m) × (first_ready groups gate p (messages received) ≡ Some m)
+
+-- some process that is a member of the message's group has not delivered it
+abbrev pub IsAwaited : (Proc → Process) → Uid → Type 0
+IsAwaited processes id = (p : Proc) × (awaits (processes p) id ≡ true)
 
 -- Changes on the side of the meaning
 

@@ -1,21 +1,24 @@
 -- The queue keeps its meaning: what changes it changes what it means in the same way.
-use Rattle.std.specs.Prelude.{◌≡◌, ℕ, true, List, [], ◌∷◌, ◌++◌, Some, None}
+use Rattle.std.specs.Prelude.{◌≡◌, ℕ, ◌<◌, true, not, List, [], ◌∷◌, ◌++◌, filter, Some, None}
 use Rattle.std.specs.Option.{IsSome}
 use Rattle.std.specs.FinMap.Entries.{put}
 use Rattle.cast_types.specs.declared.names.GroupNo.{GroupNo}
 use Rattle.cast_types.specs.declared.names.Standing.TheVariants.{Outside}
 use Rattle.cast_types.specs.declared.names.Proc.{Proc}
 use Rattle.cast_types.specs.declared.names.Key.{Key}
+use Rattle.cast_types.specs.declared.names.Uid.{Uid}
 use Rattle.cast_types.specs.Names.{group_cmp, group_eq}
 use Rattle.cast_types.specs.Sets.{set_at}
 use Rattle.cast_clock.specs.Times.{no_time}
 use Rattle.cast_frame.specs.declared.message.Message.{Message}
+use Rattle.cast_frame.specs.declared.message.Received.{Received}
+use Rattle.cast_frame.specs.Receipts.{key_eq, message_under}
 use Rattle.cast_delay.specs.declared.row.Row.{Row}
 use Rattle.cast_delay.specs.declared.row.Fact.{Fact}
-use Rattle.cast_delay.specs.Ready.{Process, Gate, is_causally_ready}
-use Rattle.cast_delay.specs.Rows.{told_row, is_ready_row}
-use Rattle.cast_delay.specs.Queue.{Queue, new_row, row_of, change_row, next_key, after_delivery}
-use Rattle.cast_delay.specs.Fits.{Received, Fits, FirstReady, IsSound, message_under, offer_of, set_process, told, delivering, FactFits}
+use Rattle.cast_delay.specs.Ready.{Process, Gate, awaits, is_causally_ready}
+use Rattle.cast_delay.specs.Rows.{told_row, is_ready_row, awaits_row}
+use Rattle.cast_delay.specs.Queue.{Queue, new_row, row_of, change_row, next_key, but_offered, after_delivery}
+use Rattle.cast_delay.specs.Fits.{Fits, FirstReady, IsSound, offer_of, set_process, told, delivering, FactFits}
 
 -- by what the queue keeps of a process, a message is ready exactly if it is by what the process delivered
 abbrev pub RowMeansTheRule : Type 0
@@ -24,6 +27,14 @@ RowMeansTheRule =
     → Fits groups gate processes received q → (p : Proc) (row : Row) (m : Message)
     → row_of q.rows p ≡ Some row → IsSound m
     → is_ready_row q.numbers row m.id m.times ≡ is_causally_ready groups gate (processes p) m
+
+-- by what the queue keeps of a process, it awaits a message exactly if it does by what it delivered
+abbrev pub AwaitedIsTheRule : Type 0
+AwaitedIsTheRule =
+    (groups : List GroupNo) (gate : GroupNo → Gate) (processes : Proc → Process) (received : List Received) (q : Queue)
+    → Fits groups gate processes received q → (p : Proc) (row : Row)
+    → row_of q.rows p ≡ Some row → (id : Uid) → 0 < id.count
+    → awaits_row row id ≡ awaits (processes p) id
 
 -- the queue names the first message that is ready
 abbrev pub QueueMeansTheRule : Type 0
@@ -59,6 +70,13 @@ ViewKeepsMeaning =
     → Fits groups gate processes received q → (g : GroupNo) (number : ℕ)
     → Fits groups (set_at group_eq gate g (record { number = number })) processes received
     (record q { numbers = put group_cmp g number q.numbers })
+
+-- the message under a key is let go
+abbrev pub ForgetKeepsMeaning : Type 0
+ForgetKeepsMeaning =
+    (groups : List GroupNo) (gate : GroupNo → Gate) (processes : Proc → Process) (received : List Received) (q : Queue)
+    → Fits groups gate processes received q → (key : Key)
+    → Fits groups gate processes (filter (λ r. not (key_eq r.key key)) received) (record q { offered = but_offered key q.offered })
 
 -- a message comes under a key of its own
 abbrev pub OfferKeepsMeaning : Type 0

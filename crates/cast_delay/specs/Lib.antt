@@ -1,5 +1,4 @@
 pub mod Ready
-pub mod Sources
 pub mod Rows
 pub mod Queue
 pub mod Fits

@@ -1,22 +1,21 @@
 -- The queue as contracts see it: numbers of views, messages in order of receipt, and what is kept of each process.
-use Rattle.std.specs.Prelude.{ℕ, Bool, ◌==◌, if◌then◌else◌, List, [], map, Option, Some, None}
-use Rattle.std.specs.List.{find}
+use Rattle.std.specs.Prelude.{◌≡◌, ℕ, Bool, not, if◌then◌else◌, List, [], map, filter, Contains, Option, Some, None}
+use Rattle.std.specs.List.{find, list_any}
 use Rattle.std.specs.Option.{option_map, option_and_then}
 use Rattle.cast_types.specs.declared.names.GroupNo.{GroupNo}
 use Rattle.cast_types.specs.declared.names.Proc.{Proc}
 use Rattle.cast_types.specs.declared.names.Key.{Key}
+use Rattle.cast_types.specs.declared.names.Uid.{Uid}
 use Rattle.cast_types.specs.Names.{proc_eq}
+use Rattle.cast_frame.specs.Receipts.{key_eq}
 use Rattle.cast_delay.specs.declared.row.Row.{Row}
 use Rattle.cast_delay.specs.declared.offered.Offered.{Offered}
-use Rattle.cast_delay.specs.Rows.{is_ready_row, delivered_row}
+use Rattle.cast_delay.specs.Rows.{is_ready_row, awaits_row, delivered_row}
 
 pub record Queue : Type 0 where
   pub numbers : List (GroupNo × ℕ)
   pub offered : List Offered
   pub rows : List Row
-
-abbrev pub key_eq : Key → Key → Bool
-key_eq a b = a.0 == b.0
 
 abbrev pub new_row : Proc → Row
 new_row p = record { process = p; standings = []; time = []; done = [] }
@@ -43,3 +42,15 @@ next_key q p = option_map (λ o. o.key) (option_and_then (first_for q.numbers q.
 abbrev pub after_delivery : List Offered → Proc → Key → List Row → List Row
 after_delivery offered p key rows =
     elim (offered_under offered key) [ Some o ↦ change_row p (delivered_row o.id o.times) rows | None ↦ rows ]
+
+-- offered no more what is under a key
+abbrev pub but_offered : Key → List Offered → List Offered
+but_offered key offered = filter (λ o. not (key_eq o.key key)) offered
+
+-- whether some process that is a member of the message's group has not delivered it
+abbrev pub is_awaited : List Row → Uid → Bool
+is_awaited rows id = list_any (λ row. awaits_row row id) rows
+
+-- no process has two rows
+abbrev pub HasOneRowEach : List Row → Type 0
+HasOneRowEach rows = (row : Row) → Contains rows row → row_of rows row.process ≡ Some row

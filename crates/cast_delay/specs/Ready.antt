@@ -51,6 +51,10 @@ past m = flat_map (λ c. past_in m c.0) m.times
 abbrev pub has_delivered : Process → Uid → Bool
 has_delivered p u = is_among uid_eq u p.delivered
 
+-- the process is a member of the message's group and has not delivered it
+abbrev pub awaits : Process → Uid → Bool
+awaits p id = is_member (p.standing id.group) && not (has_delivered p id)
+
 -- nothing of the group that happened before m is still to be delivered; a joining process takes nothing of a view
 -- above the one that it had heard of
 abbrev pub group_allows : Standing → Process → Gate → Message → GroupNo → Bool

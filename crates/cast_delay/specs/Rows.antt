@@ -11,7 +11,7 @@ use Rattle.cast_types.specs.Names.{Entry, group_cmp, uid_eq, named}
 use Rattle.cast_types.specs.Stamps.{ClockList}
 use Rattle.cast_clock.specs.Times.{clock_of, view_of, join, has_room}
 use Rattle.cast_delay.specs.Ready.{is_member}
-use Rattle.cast_delay.specs.Sources.{source, source_cmp}
+use Rattle.cast_types.specs.Sources.{source, source_cmp}
 use Rattle.cast_delay.specs.declared.row.Row.{Row}
 use Rattle.cast_delay.specs.declared.row.Fact.{Fact}
 use Rattle.cast_delay.specs.declared.row.Fact.TheVariants as fact
@@ -52,6 +52,10 @@ is_ready_row numbers row id times =
     && (nat_lt (done_in row id.group id.view id.proc) id.count
     && (all_allow numbers row id times
     && has_room (join row.time times))))
+
+-- the process is a member of the message's group and has not delivered it, by what the queue keeps
+abbrev pub awaits_row : Row → Uid → Bool
+awaits_row row id = is_member (standing_in row id.group) && nat_lt (done_in row id.group id.view id.proc) id.count
 
 -- the row after a delivery. A join without room changes no time; no ready message has one
 abbrev pub delivered_row : Uid → ClockList → Row → Row

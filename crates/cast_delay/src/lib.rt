@@ -4,11 +4,12 @@
 //! 1991, for groups that overlap: a message waits until its process has delivered all that happened before it.
 //!
 //! Promised: `next_ready` gives the key of the first message in order of receipt that a process may deliver, and
-//! `None` only where there is none, for all processes, groups and messages that the queue tells of. The rule speaks of
+//! `None` only where there is none, for all processes, groups and messages that the queue tells of. `is_awaited` says
+//! whether some member of a message's group has not delivered it, so that it may not be let go yet. The rule speaks of
 //! the ids that a process delivered; the queue keeps counts in their place. It tells of what it was told: each call
 //! does to the queue what it does to these processes, groups and messages, where a message comes under a key of its
 //! own and names its own view and count, and is noted as delivered only when it is ready (`laws`). No answer takes
-//! memory. Where memory is refused, the queue is of no further use.
+//! memory, nor does `forget`. Where memory is refused, the queue is of no further use.
 //!
 //! The definitions are in `specs/`: `Ready` has the rule over delivered ids as a test and `Rule` in words, `Rows` and
 //! `Queue` what the queue keeps and does, exactly, `Fits` when it tells of given processes, groups and messages, and
@@ -19,12 +20,10 @@ pub mod laws;
 mod offered;
 mod queue;
 mod row;
-mod source;
 
 pub use offered::Offered;
 pub use queue::Delay;
 pub use row::{Fact, Row};
-pub use source::Source;
 
 #[cfg(test)]
 mod tests;

@@ -1,4 +1,5 @@
-ghost use Rattle.std.specs.Prelude.{◌≡◌, ◌++◌, ◌∷◌, [], List, OnOk, MatchOption};
+ghost use Rattle.std.specs.Prelude.{◌≡◌, ◌<◌, ◌↔◌, ◌&&◌, ◌++◌, ◌∷◌, [], List, OnOk, IsTrue, MatchOption, nat_lt, not, filter};
+ghost use Rattle.std.specs.List.{list_any};
 ghost use Rattle.std.specs.Option.{option_copied, option_map, option_map_or};
 ghost use Rattle.std.specs.FinMap.Entries.{put};
 ghost use Rattle.cast_types.specs.Names.{group_cmp, proc_eq};
@@ -6,16 +7,18 @@ ghost use Rattle.cast_types.specs.declared.names.GroupNo.{GroupNo};
 ghost use Rattle.cast_types.specs.declared.names.Proc.{Proc};
 ghost use Rattle.cast_types.specs.declared.names.Standing.TheVariants.{Outside};
 ghost use Rattle.cast_clock.specs.Times.{no_time};
-ghost use Rattle.cast_delay.specs.Ready.{Process, Gate};
-ghost use Rattle.cast_delay.specs.Rows.{delivered_row, told_row, standing_in};
-ghost use Rattle.cast_delay.specs.Queue.{new_row, row_of, change_row, first_for, offered_under, next_key, after_delivery};
-ghost use Rattle.cast_delay.specs.Fits.{Received, Fits, FirstReady};
+ghost use Rattle.cast_frame.specs.declared.message.Received.{Received};
+ghost use Rattle.cast_frame.specs.Receipts.{key_eq};
+ghost use Rattle.cast_delay.specs.Ready.{Process, Gate, is_member};
+ghost use Rattle.cast_delay.specs.Rows.{delivered_row, told_row, standing_in, done_in};
+ghost use Rattle.cast_delay.specs.Queue.{new_row, row_of, change_row, first_for, offered_under, next_key, but_offered, is_awaited, HasOneRowEach, after_delivery};
+ghost use Rattle.cast_delay.specs.Fits.{Fits, FirstReady, IsAwaited};
 
 use crate::offered::Offered;
 use crate::row::{Fact, Row};
 use cast_clock::Times;
 use cast_frame::Message;
-use cast_types::{GroupNo, Key, Keyed, NoMemory, Proc, Standing};
+use cast_types::{GroupNo, Key, Keyed, NoMemory, Proc, Standing, Uid};
 use std::alloc::Global;
 use std::marker::Model;
 
@@ -83,6 +86,23 @@ impl Delay {
             times: message.times.copy()?,
         })?;
         Ok(())
+    }
+
+    /// Offers the message under a key no more; where there is none, nothing changes. Takes no memory.
+    pub fn forget(&mut self, key: Key)
+        ensures { self.new ≡ record self.old { offered = filter (λ o. not (key_eq o.key key)) self.old.offered } }
+    {
+        forget_in(&mut self.offered, key);
+    }
+
+    /// Whether some process that is a member of a message's group has not delivered the message, whose count is from 1
+    /// on. Takes no memory.
+    pub fn is_awaited(&self, id: Uid) -> bool
+        ensures value { result ≡ list_any (λ row. is_member (standing_in row id.group) && nat_lt (done_in row id.group id.view id.proc) id.count) self.now.rows }
+        ensures meaning { (groups : List GroupNo) (gate : GroupNo → Gate) (processes : Proc → Process) (received : List Received) →
+            Fits groups gate processes received self.now → 0 < id.count → HasOneRowEach self.now.rows → IsTrue result ↔ IsAwaited processes id }
+    {
+        awaited_in(&self.rows, id)
     }
 
     /// The first message in order of receipt that the process may deliver now, `None` where there is none. Takes no
@@ -153,6 +173,20 @@ fn under(offered: &[Offered], key: Key) -> Option<&Offered>
     ensures { option_copied result ≡ offered_under offered.now key }
 {
     offered.iter().find(|offered| offered.key == key)
+}
+
+// Keeps what is under other keys.
+fn forget_in(offered: &mut Vec<Offered>, key: Key)
+    ensures { offered.new.items ≡ but_offered key offered.old.items }
+{
+    offered.retain(|offered| offered.key != key);
+}
+
+// Whether some row awaits a message.
+fn awaited_in(rows: &[Row], id: Uid) -> bool
+    ensures { result ≡ is_awaited rows.now id }
+{
+    rows.iter().any(|row| row.awaits(id))
 }
 
 // Each row of the process takes in a fact.

@@ -4,9 +4,8 @@ ghost use Rattle.cast_clock.specs.Times.{clock_of, view_of};
 ghost use Rattle.cast_delay.specs.Ready.{is_member};
 ghost use Rattle.cast_delay.specs.Rows.{number_of, needed};
 
-use crate::source::Source;
 use cast_clock::{ClockFault, Times};
-use cast_types::{GroupNo, Keyed, NoMemory, Proc, Stamp, Standing, Uid};
+use cast_types::{GroupNo, Keyed, NoMemory, Proc, Source, Stamp, Standing, Uid};
 use std::alloc::{AllocError, Global};
 
 /// What is told of a process.
@@ -49,7 +48,7 @@ fn counts_in(times: &Stamp, group: GroupNo) -> &[(Proc, u32)]
 }
 
 impl Row {
-    ghost use Rattle.cast_delay.specs.Rows.{standing_in, done_in, needed, has_past, row_allows, all_allow, is_ready_row, delivered_row, told_row};
+    ghost use Rattle.cast_delay.specs.Rows.{standing_in, done_in, needed, has_past, row_allows, all_allow, is_ready_row, awaits_row, delivered_row, told_row};
     ghost use Rattle.cast_delay.specs.Queue.{new_row};
 
     /// A process that is in no group.
@@ -151,6 +150,14 @@ impl Row {
             && self.done(id.group, id.view, id.proc) < id.count
             && self.all_allow(numbers, id, times)
             && self.time.has_room_for(times)
+    }
+
+    /// Whether the process is a member of a message's group and has not delivered the message.
+    pub fn awaits(&self, id: Uid) -> bool
+        ensures { result ≡ awaits_row self.now id }
+    {
+        let done = self.done(id.group, id.view, id.proc);
+        self.is_member(id.group) && done < id.count
     }
 
     /// Notes that a message was delivered to the process. After `NoMemory` the row may be of no use.

@@ -106,3 +106,26 @@ fn a_joining_process_takes_nothing_of_the_group(rt: HostRuntime) -> Result<(), F
     assert!(rt; stands(&queue, SENDER, Standing::Outside));
     Ok(())
 }
+
+#[test]
+fn a_message_is_awaited_until_it_is_delivered(rt: HostRuntime) -> Result<(), Fail> {
+    let mut queue = queue_of_a_member(rt.alloc())?;
+    let first = message(rt.alloc(), &FIRST)?;
+    queue.offer(Key(3), &first)?;
+    assert!(rt; queue.is_awaited(first.id));
+    assert!(rt; takes(&mut queue, Key(3))?);
+    assert!(rt; !queue.is_awaited(first.id));
+    assert!(rt; queue.is_awaited(message(rt.alloc(), &SECOND)?.id));
+    Ok(())
+}
+
+#[test]
+fn a_message_that_is_let_go_is_not_offered(rt: HostRuntime) -> Result<(), Fail> {
+    let mut queue = queue_of_a_member(rt.alloc())?;
+    queue.offer(Key(3), &message(rt.alloc(), &FIRST)?)?;
+    queue.forget(Key(2));
+    assert!(rt; queue.next_ready(MEMBER) == Some(Key(3)));
+    queue.forget(Key(3));
+    assert!(rt; waits(&queue, MEMBER));
+    Ok(())
+}

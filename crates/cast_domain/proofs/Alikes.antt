@@ -7,7 +7,7 @@ use Rattle.cast_frame.specs.declared.site.SiteFrame.{SiteFrame}
 use Rattle.cast_frame.specs.declared.client.Push.{Push}
 use Rattle.cast_domain.specs.declared.session.Session.{Session}
 use Rattle.cast_domain.specs.Session.{is_open, pushed_to}
-use Rattle.cast_domain.specs.State.{State, set_session, emitted}
+use Rattle.cast_domain.specs.State.{State, set_session, emitted, let_go}
 use Rattle.cast_domain.specs.Effects.{pushing}
 
 -- alike but for sessions, standings, times, requests and what is sent
@@ -46,3 +46,6 @@ alike_emitted s to f = record { config = refl; used = refl; got = refl; home = r
 
 pub alike_pushing : (s : State) (k : ℕ) (p : Push) → Alike s (pushing s k p)
 alike_pushing s k p = alike_if s (set_session s k (pushed_to (s.session k) p)) s (is_open (s.session k)) (alike_session s k (pushed_to (s.session k) p)) (alike_self s)
+
+pub alike_let_go : (s : State) → Alike s (let_go s)
+alike_let_go s = record { config = refl; used = refl; got = refl; home = refl; delivered = λ j. refl }

@@ -12,7 +12,7 @@ use Rattle.cast_delay.specs.Ready.{is_member, is_outside}
 use Rattle.cast_delay.specs.declared.row.Fact.TheVariants as fact
 use Rattle.cast_domain.specs.Records.{Records}
 use Rattle.cast_domain.specs.Step.{may_raise}
-use Rattle.cast_domain.specs.Calls.{Attempt, record_at, standing_of, time_of, local_in, tell_in, request_in, join_at, cast_at, send_message_in, next_message_in}
+use Rattle.cast_domain.specs.Calls.{Attempt, has_room_in, record_at, standing_of, time_of, local_in, tell_in, request_in, join_at, cast_at, send_message_in, next_message_in}
 
 -- what a join does that is not refused
 abbrev pub joined : Records → ℕ → GroupNo → ℕ → Records
@@ -31,14 +31,25 @@ abbrev pub sent : Records → ℕ → GroupNo → List ℕ → ℕ → Records
 sent r k g payload i =
     send_message_in
     (tell_in r (local_in r k) (fact.Time (bumped (time_of r.delay (local_in r k)) g (local_in r k))))
-    i (next_message_in r (local_in r k) g i (body.Causal payload))
+    (next_message_in r (local_in r k) g i (body.Causal payload))
 
-pub cast_made : (r : Records) (k : ℕ) (g : GroupNo) (payload : List ℕ) (i : ℕ) → nat_lt MAX_PAYLOAD (length payload) ≡ false → is_member (standing_of r.delay (local_in r k) g) ≡ true → may_raise (time_of r.delay (local_in r k)) g (local_in r k) ≡ true → cast_at r k g payload i ≡ (sent r k g payload i, None)
-cast_made r k g payload i short member may =
-    let last : Attempt = if not (may_raise (time_of r.delay (local_in r k)) g (local_in r k)) then (r, Some HeldFull) else (sent r k g payload i, None) in
+pub cast_made : (r : Records) (k : ℕ) (g : GroupNo) (payload : List ℕ) (i : ℕ) → nat_lt MAX_PAYLOAD (length payload) ≡ false → is_member (standing_of r.delay (local_in r k) g) ≡ true → has_room_in r ≡ true → may_raise (time_of r.delay (local_in r k)) g (local_in r k) ≡ true → cast_at r k g payload i ≡ (sent r k g payload i, None)
+cast_made r k g payload i short member room may =
+    let raised : Attempt = if not (may_raise (time_of r.delay (local_in r k)) g (local_in r k)) then (r, Some HeldFull) else (sent r k g payload i, None) in
+    let last : Attempt = if not (has_room_in r) then (r, Some HeldFull) else raised in
     ap (λ b. if b then (r, Some TooLong) else if not (is_member (standing_of r.delay (local_in r k) g)) then (r, Some NotMember) else last) short
     ∙ ap (λ b. if not b then (r, Some NotMember) else last) member
+    ∙ ap (λ b. if not b then (r, Some HeldFull) else raised) room
     ∙ ap (λ b. if not b then (r, Some HeldFull) else (sent r k g payload i, None)) may
+
+-- a cast beside too many messages is refused
+pub cast_full : (r : Records) (k : ℕ) (g : GroupNo) (payload : List ℕ) (i : ℕ) → nat_lt MAX_PAYLOAD (length payload) ≡ false → is_member (standing_of r.delay (local_in r k) g) ≡ true → has_room_in r ≡ false → cast_at r k g payload i ≡ (r, Some HeldFull)
+cast_full r k g payload i short member full =
+    let raised : Attempt = if not (may_raise (time_of r.delay (local_in r k)) g (local_in r k)) then (r, Some HeldFull) else (sent r k g payload i, None) in
+    let last : Attempt = if not (has_room_in r) then (r, Some HeldFull) else raised in
+    ap (λ b. if b then (r, Some TooLong) else if not (is_member (standing_of r.delay (local_in r k) g)) then (r, Some NotMember) else last) short
+    ∙ ap (λ b. if not b then (r, Some NotMember) else last) member
+    ∙ ap (λ b. if not b then (r, Some HeldFull) else raised) full
 
 -- what a choice gives that gives something
 pub raised_some : {A : Type 0} (b : Bool) (x : A) (t : A) (u : A) → ◌≡◌ {A = Option (A × A)} (Some (t, u)) (if b then Some (x, x) else None) → (b ≡ true) × (t ≡ x) × (u ≡ x)

@@ -4,9 +4,11 @@ use Rattle.std.specs.Prelude.{◌==◌, nat_lt, if◌then◌else◌, slice_get}
 use Rattle.std.specs.List.{fold}
 use Rattle.std.specs.Option.{option_map_or}
 use Rattle.std.proofs.lemmas.Bool.{not-false}
+use Rattle.std.proofs.lemmas.List.{length-map}
 use Rattle.cast_types.specs.declared.names.SiteNo.{SiteNo}
 use Rattle.cast_types.specs.declared.names.GroupNo.{GroupNo}
 use Rattle.cast_types.specs.declared.names.Proc.{Proc}
+use Rattle.cast_types.specs.declared.names.Uid.{Uid}
 use Rattle.cast_types.specs.declared.names.Standing.{Standing}
 use Rattle.cast_types.specs.declared.names.Standing.TheVariants.{Joining}
 use Rattle.cast_types.specs.declared.refusal.Refusal.{Refusal}
@@ -21,58 +23,60 @@ use Rattle.cast_frame.specs.declared.message.Body.TheVariants as body
 use Rattle.cast_frame.specs.declared.message.Message.{Message}
 use Rattle.cast_frame.specs.declared.site.Change.{Change}
 use Rattle.cast_frame.specs.declared.site.Change.TheVariants as change
-use Rattle.cast_frame.specs.declared.site.SiteFrame.TheVariants as frame
 use Rattle.cast_frame.specs.declared.client.CastKind.TheVariants as kind
 use Rattle.cast_frame.specs.declared.client.Request.{Request}
 use Rattle.cast_frame.specs.declared.client.Request.TheVariants.{Join, Leave, Cast}
 use Rattle.cast_frame.specs.declared.client.Push.TheVariants as push
+use Rattle.cast_frame.specs.declared.message.Received.{Received}
+use Rattle.cast_stable.specs.Stable.{has_acked}
+use Rattle.cast_stable.specs.Ledger.{has_acked_in}
+use Rattle.cast_timer.specs.declared.key.OwedKind.TheVariants as kinds
 use Rattle.cast_delay.specs.Ready.{is_member, is_outside}
 use Rattle.cast_delay.specs.declared.row.Fact.TheVariants as fact
 use Rattle.cast_delay.specs.Fits.{IsSound}
 use Rattle.cast_domain.specs.declared.record.GroupRecord.{GroupRecord}
-use Rattle.cast_domain.specs.Group.{first_asking, members_of, other_sites, with_request}
+use Rattle.cast_domain.specs.Group.{with_request}
 use Rattle.cast_domain.specs.Home.{is_empty}
 use Rattle.cast_frame.specs.declared.client.Command.{Command}
 use Rattle.cast_frame.specs.declared.client.Command.TheVariants as command
-use Rattle.cast_domain.specs.State.{State, local, is_group, set_process, set_group, set_standing, emitted, others_of}
-use Rattle.cast_domain.specs.Effects.{ask_frame, asking, requesting, pushing, receiving, sending_to, next_message, sending}
+use Rattle.cast_domain.specs.State.{State, local, is_group, set_process, set_group, set_standing, others_of, may_receive}
+use Rattle.cast_domain.specs.Owing.{ask_key, message_key, sent_for, owing}
+use Rattle.cast_domain.specs.Effects.{asking, requesting, pushing, receiving, sending_to, next_message, sending}
 use Rattle.cast_domain.specs.Step.{first_refusal, join_tests, cast_tests, may_raise, joining, attempting, requested, commanded}
 use Rattle.cast_domain.specs.Records.{Records, was_given}
-use Rattle.cast_domain.specs.Calls.{place_in, record_at, standing_of, time_of, send_in, push_in, tell_in, ask_home_in, request_in, Attempt, join_at, join_in, receive_in, send_data_in, send_message_in, next_message_in, cast_at, cast_in, reply_in, requested_in, command_in}
+use Rattle.cast_domain.specs.Calls.{has_room_in, place_in, record_at, standing_of, time_of, send_for_in, owe_in, push_in, tell_in, ask_home_in, request_in, Attempt, join_at, join_in, receive_in, send_data_in, send_message_in, next_message_in, cast_at, cast_in, reply_in, requested_in, command_in}
 use Rattle.cast_domain.specs.Fits.{Fits, IsLawful}
 use Rattle.cast_domain.proofs.Lawful.{lawful_standing}
-use Rattle.cast_domain.proofs.Standing.{fits_if, record_there, place_some, place_none, standing_there, time_there, fits_send, fits_push, fits_here, fits_standing, fits_time, fits_receive}
+use Rattle.cast_domain.proofs.Owings.{fits_send_for, fits_owe}
+use Rattle.cast_domain.proofs.Standing.{fits_if, record_there, place_some, place_none, standing_there, time_there, fits_push, fits_here, fits_standing, fits_time, fits_receive}
 
 -- the records with the parts that the history has, as it has them
 abbrev written : Records → State → Records
-written r s = record r { site = s.here; config = s.config; used = s.used; got = s.got }
+written r s = record r { site = s.here; config = s.config; used = s.used }
 
 -- what holds of the records so written holds of them
 as_written : (P : Records → Type 0) (r : Records) (s : State) → Fits r s → (Fits (written r s) s → P (written r s)) → P r
 as_written P r s f h =
-    let same : r ≡ written r s = (λ i. record r { site = f.site i; config = f.config i; used = f.used i; got = f.got i }) in
+    let same : r ≡ written r s = (λ i. record r { site = f.site i; config = f.config i; used = f.used i }) in
     subst P (sym same) (h (subst (λ x. Fits x s) same f))
 
 -- Requests of a group
 
--- the home is asked what the first request asks
+-- the home is owed the first request
 pub fits_ask_home : (r : Records) (s : State) → Fits r s → (i : ℕ) (g : GroupNo) → slice_get s.config.groups i ≡ Some g → Fits (ask_home_in r i) (asking s g)
 fits_ask_home r s f i g at =
-    as_written (λ x. Fits (ask_home_in x i) (asking s g)) r s f
-    (λ w.
-    let now : Records = written r s in
-    subst (λ (x : GroupRecord). Fits (elim (first_asking x.here.requests) [ Some a ↦ send_in now s.config.home (ask_frame x.name a) | None ↦ now ]) (asking s g)) (sym (record_there now s w i g at))
-    (elim (first_asking (s.group g).requests) as (λ o. Fits (elim o [ Some a ↦ send_in now s.config.home (ask_frame g a) | None ↦ now ]) (elim o [ Some a ↦ emitted s s.config.home (ask_frame g a) | None ↦ s ])) [
-      | Some a ↦ fits_send now s w s.config.home (ask_frame g a)
-      | None ↦ w
-    ]))
+    let there = record_there r s f i g at in
+    fits_if (is_empty (record_at r.groups i).here.requests) (is_empty (s.group g).requests) r (owe_in r (ask_key (record_at r.groups i).name r.config.home)) s (owing s (ask_key g s.config.home))
+    (ap (λ (x : GroupRecord). is_empty x.here.requests) there)
+    (λ _. f)
+    (λ _. subst (λ key. Fits (owe_in r key) (owing s (ask_key g s.config.home))) (λ j. ask_key (sym there j).name (sym f.config j).home) (fits_owe r s f (ask_key g s.config.home)))
 
 -- a request is queued
 fits_request : (r : Records) (s : State) → Fits r s → IsLawful s → (i : ℕ) (g : GroupNo) → slice_get s.config.groups i ≡ Some g → (what : Change) (p : Proc) → Fits (request_in r i what p) (requesting s g what p)
 fits_request r s f l i g at what p =
     let next : Records = record r { groups = update r.groups i (λ x. record x { here = with_request x.here what p }) } in
     let t : State = set_group s g (with_request (s.group g) what p) in
-    let now : Fits next t = fits_here r s f l i g at (λ x. with_request x what p) refl in
+    let now : Fits next t = fits_here r s f l i g at (λ x. with_request x what p) refl refl in
     fits_if (is_empty (record_at r.groups i).here.requests) (is_empty (s.group g).requests) (ask_home_in next i) next (asking t g) t
     (ap (λ (x : GroupRecord). is_empty x.here.requests) (record_there r s f i g at))
     (λ _. fits_ask_home next t now i g at)
@@ -142,24 +146,27 @@ fits_join r s f l k given g =
 
 -- Casts
 
--- a message is sent to each of some sites
-fits_sends : (m : Message) (sites : List SiteNo) (r : Records) (s : State) → Fits r s → Fits (fold (send_data_in m) r sites) (fold (sending_to m) s sites)
-fits_sends m [] r s f = f
-fits_sends m (to ∷ sites) r s f = fits_sends m sites (send_data_in m r to) (sending_to m s to) (fits_send r s f to (frame.Data m))
+-- there is room for one more message, or there is none, on both sides
+pub room_there : (r : Records) (s : State) → Fits r s → has_room_in r ≡ may_receive s
+room_there r s f = (λ j. nat_lt ((sym (length-map r.part.kept (λ (x : Received). x.message)) ∙ ap length f.kept) j) (f.config j).quotas.held)
 
--- it is the same to receive a message before it is sent on, or after
-receive_after : (m : Message) (sites : List SiteNo) (s : State) → receiving (fold (sending_to m) s sites) m ≡ fold (sending_to m) (receiving s m) sites
-receive_after m [] s = refl
-receive_after m (to ∷ sites) s = receive_after m sites (sending_to m s to)
+-- a message is sent to a site, and owed to it unless that has acknowledged it
+fits_sending : (u : Uid) → 0 < u.count → (r : Records) (s : State) → Fits r s → (to : SiteNo) → Fits (send_data_in u r to) (sending_to u s to)
+fits_sending u counted r s f to =
+    fits_if (has_acked_in r.acks to u) (has_acked s.acks u to) (send_for_in r (message_key kinds.Data u to)) (owe_in r (message_key kinds.Data u to)) (sent_for s (message_key kinds.Data u to)) (owing s (message_key kinds.Data u to))
+    (f.acks.acked to u counted)
+    (λ _. fits_send_for r s f (message_key kinds.Data u to))
+    (λ _. fits_owe r s f (message_key kinds.Data u to))
 
--- a message is sent to the other sites of the view, and received here
-fits_send_message : (r : Records) (s : State) → Fits r s → (i : ℕ) (m : Message) → slice_get s.config.groups i ≡ Some m.id.group → IsSound m → Fits (send_message_in r i m) (fold (sending_to m) (receiving s m) (others_of s m.id.group))
-fits_send_message r s f i m at sound =
-    let there = record_there r s f i m.id.group at in
-    let sites : other_sites r.site (members_of (record_at r.groups i).here) ≡ others_of s m.id.group = (λ j. other_sites (f.site j) (members_of (there j).here)) in
-    subst (λ to. Fits (receive_in (fold (send_data_in m) r to) m) (fold (sending_to m) (receiving s m) (others_of s m.id.group))) (sym sites)
-    (subst (λ t. Fits (receive_in (fold (send_data_in m) r (others_of s m.id.group)) m) t) (receive_after m (others_of s m.id.group) s)
-    (fits_receive (fold (send_data_in m) r (others_of s m.id.group)) (fold (sending_to m) s (others_of s m.id.group)) (fits_sends m (others_of s m.id.group) r s f) m sound))
+fits_sends : (u : Uid) → 0 < u.count → (sites : List SiteNo) (r : Records) (s : State) → Fits r s → Fits (fold (send_data_in u) r sites) (fold (sending_to u) s sites)
+fits_sends u counted [] r s f = f
+fits_sends u counted (to ∷ sites) r s f = fits_sends u counted sites (send_data_in u r to) (sending_to u s to) (fits_sending u counted r s f to)
+
+-- a message is received here, and sent to the other sites of the view
+fits_send_message : (r : Records) (s : State) → Fits r s → (m : Message) → IsSound m → Fits (send_message_in r m) (fold (sending_to m.id) (receiving s m) (others_of s m.id.group))
+fits_send_message r s f m sound =
+    subst (λ sites. Fits (fold (send_data_in m.id) (receive_in r m) sites) (fold (sending_to m.id) (receiving s m) (others_of s m.id.group))) (sym (f.acks.views m.id.group))
+    (fits_sends m.id sound.from_one (others_of s m.id.group) (receive_in r m) (receiving s m) (fits_receive r s f m sound))
 
 -- a member's next message has its view, and a count from 1 on
 next_sound : (s : State) (g : GroupNo) (k : ℕ) (content : Body) → IsLawful s → is_member ((s.process k).standing g) ≡ true → IsSound (next_message s g k content)
@@ -172,19 +179,19 @@ next_sound s g k content l member =
     }
 
 -- what the cast of a member does
-fits_casting : (r : Records) (s : State) → Fits r s → IsLawful s → (k : ℕ) → was_given s.used k ≡ true → (i : ℕ) (g : GroupNo) → slice_get s.config.groups i ≡ Some g → (content : Body) → is_member ((s.process k).standing g) ≡ true → Fits (send_message_in (tell_in r (local s k) (fact.Time (bumped (time_of r.delay (local s k)) g (local s k)))) i (next_message_in r (local s k) g i content)) (sending s g k content)
+fits_casting : (r : Records) (s : State) → Fits r s → IsLawful s → (k : ℕ) → was_given s.used k ≡ true → (i : ℕ) (g : GroupNo) → slice_get s.config.groups i ≡ Some g → (content : Body) → is_member ((s.process k).standing g) ≡ true → Fits (send_message_in (tell_in r (local s k) (fact.Time (bumped (time_of r.delay (local s k)) g (local s k)))) (next_message_in r (local s k) g i content)) (sending s g k content)
 fits_casting r s f l k given i g at content member =
     let p : Proc = local s k in
     let there = record_there r s f i g at in
     let m : Message = next_message s g k content in
-    let same : send_message_in (tell_in r p (fact.Time (bumped (time_of r.delay p) g p))) i (next_message_in r p g i content) ≡ send_message_in (tell_in r p (fact.Time m.times)) i m = (λ j.
-    send_message_in (tell_in r p (fact.Time (bumped (time_there r s f k j) g p))) i (record {
+    let same : send_message_in (tell_in r p (fact.Time (bumped (time_of r.delay p) g p))) (next_message_in r p g i content) ≡ send_message_in (tell_in r p (fact.Time m.times)) m = (λ j.
+    send_message_in (tell_in r p (fact.Time (bumped (time_there r s f k j) g p))) (record {
       id = record { group = g; view = (there j).here.number; proc = p; count = count_in (bumped (time_there r s f k j) g p) g p };
       times = bumped (time_there r s f k j) g p;
       body = content;
     })) in
     subst (λ x. Fits x (sending s g k content)) (sym same)
-    (fits_send_message (tell_in r p (fact.Time m.times)) (set_process s k (record (s.process k) { time = m.times })) (fits_time r s f k given m.times) i m at (next_sound s g k content l member))
+    (fits_send_message (tell_in r p (fact.Time m.times)) (set_process s k (record (s.process k) { time = m.times })) (fits_time r s f k given m.times) m (next_sound s g k content l member))
 
 -- a process casts a message to a group
 pub fits_cast : (r : Records) (s : State) → Fits r s → IsLawful s → (k : ℕ) → was_given s.used k ≡ true → (g : GroupNo) (payload : List ℕ) → Attempts (cast_in r k g payload) s (cast_tests s k g payload) (sending s g k (body.Causal payload))
@@ -192,20 +199,23 @@ fits_cast r s f l k given g payload =
     as_written (λ x. Attempts (cast_in x k g payload) s (cast_tests s k g payload) (sending s g k (body.Causal payload))) r s f
     (λ w. at_place (written r s) s w g (cast_at (written r s) k g payload) _ (sending s g k (body.Causal payload)) (placed w))
   where
-    placed : Fits (written r s) s → (i : ℕ) → slice_get s.config.groups i ≡ Some g → is_group s g ≡ true → Attempts (cast_at (written r s) k g payload i) s ((nat_lt MAX_PAYLOAD (length payload), TooLong) ∷ (not (is_member ((s.process k).standing g)), NotMember) ∷ (not (may_raise (s.process k).time g (local s k)), HeldFull) ∷ []) (sending s g k (body.Causal payload))
+    placed : Fits (written r s) s → (i : ℕ) → slice_get s.config.groups i ≡ Some g → is_group s g ≡ true → Attempts (cast_at (written r s) k g payload i) s ((nat_lt MAX_PAYLOAD (length payload), TooLong) ∷ (not (is_member ((s.process k).standing g)), NotMember) ∷ (not (may_receive s), HeldFull) ∷ (not (may_raise (s.process k).time g (local s k)), HeldFull) ∷ []) (sending s g k (body.Causal payload))
     placed w i at listed =
         let x : Records = written r s in
         let p : Proc = local s k in
         let t : State = sending s g k (body.Causal payload) in
-        let next : Records = send_message_in (tell_in x p (fact.Time (bumped (time_of x.delay p) g p))) i (next_message_in x p g i (body.Causal payload)) in
-        let last : Attempt = if◌then◌else◌ {A = Attempt} (not (may_raise (time_of x.delay p) g p)) (x, Some HeldFull) (next, None) in
+        let next : Records = send_message_in (tell_in x p (fact.Time (bumped (time_of x.delay p) g p))) (next_message_in x p g i (body.Causal payload)) in
+        let raised : Attempt = if◌then◌else◌ {A = Attempt} (not (may_raise (time_of x.delay p) g p)) (x, Some HeldFull) (next, None) in
+        let last : Attempt = if◌then◌else◌ {A = Attempt} (not (has_room_in x)) (x, Some HeldFull) raised in
         tested x s (nat_lt MAX_PAYLOAD (length payload)) (nat_lt MAX_PAYLOAD (length payload)) TooLong
         (if◌then◌else◌ {A = Attempt} (not (is_member (standing_of x.delay p g))) (x, Some NotMember) last) _ t refl w
         (λ _. tested x s (not (is_member (standing_of x.delay p g))) (not (is_member ((s.process k).standing g))) NotMember last _ t
         (ap (λ y. not (is_member y)) (standing_there x s w k g)) w
-        (λ member. tested x s (not (may_raise (time_of x.delay p) g p)) (not (may_raise (s.process k).time g p)) HeldFull (next, None) [] t
+        (λ member. tested x s (not (has_room_in x)) (not (may_receive s)) HeldFull raised _ t
+        (ap not (room_there x s w)) w
+        (λ _. tested x s (not (may_raise (time_of x.delay p) g p)) (not (may_raise (s.process k).time g p)) HeldFull (next, None) [] t
         (ap (λ y. not (may_raise y g p)) (time_there x s w k)) w
-        (λ _. passed next s t (fits_casting x s w l k given i g at (body.Causal payload) (not-false (is_member ((s.process k).standing g)) member)))))
+        (λ _. passed next s t (fits_casting x s w l k given i g at (body.Causal payload) (not-false (is_member ((s.process k).standing g)) member))))))
 
 -- Replies
 

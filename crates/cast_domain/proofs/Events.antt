@@ -17,6 +17,7 @@ use Rattle.cast_domain.specs.Fits.{Fits, IsLawful, IsTyped}
 use Rattle.cast_domain.proofs.Standing.{fits_open}
 use Rattle.cast_domain.proofs.Commands.{fits_commanded}
 use Rattle.cast_domain.proofs.Framing.{fits_framed}
+use Rattle.cast_domain.proofs.Owings.{fits_tick}
 
 -- a command of a serial that was not given changes nothing
 fits_unasked : (r : Records) (s : State) → Fits r s → (k : ℕ) → was_given s.used k ≡ false → (c : Command) → Fits (command_in r k c) s
@@ -37,6 +38,7 @@ fits_acted r s (event.Command d k c) f l typed =
       | false ↦ λ is. fits_unasked r s f k (sym (f.all_open k) ∙ is) c
     ] refl
 fits_acted r s (event.Frame d from x) f l typed = fits_framed r s f l from x typed
+fits_acted r s (event.Tick t) f l typed = fits_tick r s f t
 
 -- and its answer
 pub answer_acted : (r : Records) (s : State) (e : Event) → Fits r s → answer_to r.used e ≡ (acted s e).1
@@ -47,3 +49,4 @@ answer_acted r s (event.Command d k c) f =
     subst (λ b. (if b then taken.Nothing else taken.Refused NotOpen) ≡ (acted s (event.Command d k c)).1) (f.all_open k ∙ ap (λ n. was_given n k) (sym f.used))
     (elim (is_open (s.session k)) as (λ b. (if b then taken.Nothing else taken.Refused NotOpen) ≡ (if◌then◌else◌ {A = Effect} b (commanded s k c, taken.Nothing) (s, taken.Refused NotOpen)).1) [ true ↦ refl | false ↦ refl ])
 answer_acted r s (event.Frame d from x) f = refl
+answer_acted r s (event.Tick t) f = refl

@@ -1,16 +1,18 @@
 -- What a frame changes of a domain's records it changes of their history.
-use Rattle.std.proofs.Common.{◌≡◌, ℕ, ◌+◌, Bool, true, false, not, ◌&&◌, Some, None, refl, sym, ap, subst, ◌∙◌}
+use Rattle.std.proofs.Common.{◌≡◌, ℕ, ◌+◌, ◌<◌, Bool, true, false, not, ◌&&◌, ◌||◌, List, [], ◌∷◌, ◌++◌, map, Some, None, refl, sym, ap, subst, ◌∙◌}
 use Rattle.std.specs.Prelude.{◌==◌, nat_lt, nat_le, if◌then◌else◌, slice_get}
-use Rattle.std.specs.List.{list_any, list_all}
+use Rattle.std.specs.List.{fold, list_any, list_all}
 use Rattle.std.specs.Option.{option_map_or}
-use Rattle.std.proofs.lemmas.Bool.{and_parts, eqb-true, ltb-true}
+use Rattle.std.proofs.lemmas.Bool.{false≢true, and_parts, eqb-true, ltb-true}
 use Rattle.cast_types.specs.declared.names.SiteNo.{SiteNo}
 use Rattle.cast_types.specs.declared.names.GroupNo.{GroupNo}
 use Rattle.cast_types.specs.declared.names.Proc.{Proc}
+use Rattle.cast_types.specs.declared.names.Uid.{Uid}
 use Rattle.cast_types.specs.Names.{site_eq, group_eq, proc_eq, uid_eq, is_causal}
 use Rattle.cast_types.specs.Places.{update}
 use Rattle.cast_types.specs.Sets.{is_among}
-use Rattle.cast_types.proofs.Orders.{same_site}
+use Rattle.cast_types.proofs.Orders.{same_site, same_uid, uid_itself}
+use Rattle.cast_delay.proofs.Listed.{same_bools}
 use Rattle.cast_clock.specs.Times.{clock_of, count_in}
 use Rattle.cast_frame.specs.declared.message.Message.{Message}
 use Rattle.cast_frame.specs.declared.site.Change.{Change}
@@ -19,20 +21,29 @@ use Rattle.cast_frame.specs.declared.site.SiteFrame.{SiteFrame}
 use Rattle.cast_frame.specs.declared.site.SiteFrame.TheVariants as frame
 use Rattle.cast_frame.specs.Bodies.{kind_of}
 use Rattle.cast_frame.specs.Membership.{Membership, is_members}
+use Rattle.cast_timer.specs.declared.key.OwedKey.{OwedKey}
+use Rattle.cast_timer.specs.declared.key.OwedKind.TheVariants as kinds
+use Rattle.cast_timer.specs.Owed.{paid as paid_by, is_upto}
+use Rattle.cast_stable.specs.Ledger.{others_in, is_received_in, upto_in, is_stable_in, learnt_ledger}
+use Rattle.cast_stable.proofs.Meanings.{stable_meant, upto_meant, ack_fits, learn_fits}
 use Rattle.cast_delay.specs.Fits.{IsSound}
 use Rattle.cast_domain.specs.declared.record.GroupRecord.{GroupRecord}
 use Rattle.cast_domain.specs.declared.group.Group.{Group}
 use Rattle.cast_domain.specs.declared.group.Verdict.TheVariants.{Again, Completes, Ignored}
-use Rattle.cast_domain.specs.Group.{first_asking, members_of, with_answer, verdict_of}
+use Rattle.cast_domain.specs.Group.{first_asking, members_of, is_current, with_answer, verdict_of}
 use Rattle.cast_domain.specs.Home.{applied_of, after_request, after_installed}
-use Rattle.cast_domain.specs.State.{State, is_home, is_site, is_group, set_group, set_home, emitted, is_received, counts_itself}
+use Rattle.cast_domain.specs.State.{State, is_home, is_site, is_group, set_group, set_home, emitted, is_received, may_receive, others_of, upto, is_stable, counts_itself}
+use Rattle.cast_domain.specs.Owing.{ask_key, message_key, owing, paying}
 use Rattle.cast_domain.specs.Effects.{asking, receiving, completing}
-use Rattle.cast_domain.specs.Step.{is_used, on_data, is_from_home, on_ask, on_asked, on_install, on_installed, group_of, on_frame, framed}
+use Rattle.cast_domain.specs.Step.{is_used, acknowledging, data_used, on_data, is_used_ack, with_ack, tell_stable, tell_more, on_ack, paying_acks, on_stable, is_from_home, on_ask, on_asked, on_install, on_installed, group_of, on_frame, framed}
+use Rattle.cast_domain.specs.Shared.{part_paying_upto}
 use Rattle.cast_domain.specs.Records.{Records}
-use Rattle.cast_domain.specs.Calls.{is_home_in, place_in, record_at, send_in, ask_home_in, receive_in, is_received_in, is_well_formed_in, is_used_in, data_in, asked_of_home_in, answered_in, complete_in, install_in, installed_in, frame_at, frame_in}
+use Rattle.cast_domain.specs.Calls.{has_room_in, is_home_in, place_in, record_at, send_in, owe_in, pay_in, ask_home_in, receive_in, is_well_formed_in, is_used_in, acknowledge_in, use_data_in, data_in, with_ack_in, is_used_ack_in, tell_stable_in, tell_more_in, ack_in, stable_in, asked_of_home_in, answered_in, complete_in, install_in, installed_in, frame_at, frame_in}
 use Rattle.cast_domain.specs.Fits.{Fits, IsLawful, IsTypedFrame}
 use Rattle.cast_domain.proofs.Standing.{fits_if, record_there, place_some, place_none, fits_send, fits_here, fits_home, fits_receive}
-use Rattle.cast_domain.proofs.Commands.{fits_ask_home}
+use Rattle.cast_domain.proofs.Lawful.{same_owed, lawful_same}
+use Rattle.cast_domain.proofs.Owings.{fits_owed, fits_owe, fits_pay}
+use Rattle.cast_domain.proofs.Commands.{fits_ask_home, room_there}
 use Rattle.cast_domain.proofs.Entering.{fits_complete}
 
 -- a frame, and the site that it is sent to, may be written in two ways
@@ -62,21 +73,142 @@ used_counts r i from m used =
     let d = and_parts (list_all (λ x. is_among group_eq x.0 r.config.groups) m.times) _ whole.0 in
     (and_parts (is_among proc_eq m.id.proc (members_of (record_at r.groups i).here)) (counts_itself m) d.1).1
 
--- a message is received once, and acknowledged each time
+-- the acknowledgement is sent, and owed unless the message is known to be stable
+fits_acknowledge : (r : Records) (s : State) → Fits r s → (to : SiteNo) (u : Uid) → 0 < u.count → Fits (acknowledge_in r to u) (acknowledging s to u)
+fits_acknowledge r s f to u counted =
+    fits_if (is_stable_in r.acks u) (is_stable s u) (send_in r to (frame.Ack u)) (owe_in r (message_key kinds.Ack u to)) (emitted s to (frame.Ack u)) (owing s (message_key kinds.Ack u to))
+    (stable_meant s.here (others_of s) (map (λ m. m.id) s.got) s.acks s.told r.acks f.acks u counted)
+    (λ _. fits_send r s f to (frame.Ack u))
+    (λ _. fits_owe r s f (message_key kinds.Ack u to))
+
+uid_turned : (u v : Uid) → uid_eq u v ≡ uid_eq v u
+uid_turned u v = same_bools (uid_eq u v) (uid_eq v u) (λ e. ap (uid_eq v) (same_uid u v e) ∙ uid_itself v) (λ e. ap (uid_eq u) (same_uid v u e) ∙ uid_itself u)
+
+-- what was received is among the ids of what was received
+received_ids : (u : Uid) (got : List Message) → is_among uid_eq u (map (λ m. m.id) got) ≡ list_any (λ m. uid_eq m.id u) got
+received_ids u [] = refl
+received_ids u (m ∷ got) = λ i. uid_turned u m.id i || received_ids u got i
+
+received_there : (r : Records) (s : State) → Fits r s → (u : Uid) → 0 < u.count → is_received_in r.acks u ≡ is_received s u
+received_there r s f u counted = f.acks.receipts u counted ∙ received_ids u s.got
+
+-- a message is received once, where there is room for it
+fits_use_data : (r : Records) (s : State) → Fits r s → (from : SiteNo) (m : Message) → IsSound m → Fits (use_data_in r from m) (data_used s from m)
+fits_use_data r s f from m sound =
+    let taken : Records = acknowledge_in (receive_in r m) from m.id in
+    let t : State = acknowledging (receiving s m) from m.id in
+    fits_if (is_received_in r.acks m.id) (is_received s m.id) (send_in r from (frame.Ack m.id)) (if has_room_in r then taken else r) (emitted s from (frame.Ack m.id)) (if may_receive s then t else s)
+    (received_there r s f m.id sound.from_one)
+    (λ _. fits_send r s f from (frame.Ack m.id))
+    (λ _. fits_if (has_room_in r) (may_receive s) taken r t s (room_there r s f)
+    (λ _. fits_acknowledge (receive_in r m) (receiving s m) (fits_receive r s f m sound) from m.id sound.from_one)
+    (λ _. f))
+
 pub fits_data : (r : Records) (s : State) → Fits r s → (i : ℕ) (from : SiteNo) (m : Message) → slice_get s.config.groups i ≡ Some m.id.group → is_group s m.id.group ≡ true → Fits (data_in r i from m) (on_data s from m)
 fits_data r s f i from m at listed =
     let there = record_there r s f i m.id.group at in
     let same : is_used_in r i from m ≡ is_used s from m = (λ j.
     site_eq m.id.proc.site from && (not (site_eq from (f.site j)) && ((m.id.view == (there j).here.number)
     && ((sym listed j && (list_all (λ c. is_among group_eq c.0 (f.config j).groups) m.times && (is_among proc_eq m.id.proc (members_of (there j).here) && counts_itself m))) && is_causal (kind_of m.body))))) in
-    let next : Records = if is_received_in r m.id then r else receive_in r m in
-    let t : State = if is_received s m.id then s else receiving s m in
-    fits_if (is_used_in r i from m) (is_used s from m) (send_in next from (frame.Ack m.id)) r (emitted t from (frame.Ack m.id)) s same
-    (λ used. fits_send next t
-    (fits_if (is_received_in r m.id) (is_received s m.id) r (receive_in r m) s (receiving s m) (ap (λ got. list_any (λ x. uid_eq x.id m.id) got) f.got)
+    fits_if (is_used_in r i from m) (is_used s from m) (use_data_in r from m) r (data_used s from m) s same
+    (λ used. fits_use_data r s f from m (sound_counts m (used_counts r i from m used)))
     (λ _. f)
-    (λ _. fits_receive r s f m (sound_counts m (used_counts r i from m used))))
-    from (frame.Ack m.id))
+
+-- Stability
+
+-- an acknowledgement is kept, and its message is owed to that site no more
+fits_with_ack : (r : Records) (s : State) → Fits r s → (from : SiteNo) (u : Uid) → 0 < u.count → Fits (with_ack_in r from u) (with_ack s from u)
+fits_with_ack r s f from u counted =
+    let paid : Fits (pay_in r (message_key kinds.Data u from)) (paying s (message_key kinds.Data u from)) = fits_pay r s f (message_key kinds.Data u from) in
+    record {
+      site = paid.site;
+      config = paid.config;
+      used = paid.used;
+      given = paid.given;
+      sessions = paid.sessions;
+      all_open = paid.all_open;
+      groups = paid.groups;
+      moment = paid.moment;
+      kept = paid.kept;
+      fresh = paid.fresh;
+      owed = paid.owed;
+      delay = paid.delay;
+      admitted = paid.admitted;
+      rows = paid.rows;
+      acks = ack_fits s.here (others_of s) (map (λ m. m.id) s.got) s.acks s.told r.acks f.acks from u;
+      frames = paid.frames;
+      delivered = paid.delivered;
+    }
+
+-- sites are told how many messages of a process are stable
+fits_tells : (u : Uid) (n : ℕ) (sites : List SiteNo) (r : Records) (s : State) → Fits r s → Fits (fold (tell_stable_in u n) r sites) (fold (tell_stable u n) s sites)
+fits_tells u n [] r s f = f
+fits_tells u n (to ∷ sites) r s f = fits_tells u n sites (tell_stable_in u n r to) (tell_stable u n s to) (fits_send r s f to (frame.Stable (record u { count = n })))
+
+-- how many are stable, where the view has another site
+upto_there : (r : Records) (s : State) → Fits r s → (u : Uid) → (to : SiteNo) → is_among site_eq to (others_of s u.group) ≡ true → upto_in r.acks u ≡ upto s u
+upto_there r s f u to other =
+    upto_meant s.here (others_of s) (map (λ m. m.id) s.got) s.acks s.told r.acks f.acks u
+    (λ none. false≢true (ap (is_among site_eq to) (sym none) ∙ other))
+
+fits_tell_more : (r : Records) (s : State) → Fits r s → (u : Uid) (before after : ℕ) (to : SiteNo) → is_among site_eq to (others_of s u.group) ≡ true → before ≡ after → Fits (tell_more_in u before r) (tell_more u after s)
+fits_tell_more r s f u before after to other same =
+    let n = upto_there r s f u to other in
+    let told : Fits (fold (tell_stable_in u (upto_in r.acks u)) r (others_in r.acks u.group)) (fold (tell_stable u (upto s u)) s (others_of s u.group)) =
+    subst (λ x. Fits x (fold (tell_stable u (upto s u)) s (others_of s u.group))) (λ j. fold (tell_stable_in u (sym n j)) r (sym (f.acks.views u.group) j))
+    (fits_tells u (upto s u) (others_of s u.group) r s f) in
+    fits_if (nat_lt before (upto_in r.acks u)) (nat_lt after (upto s u)) (fold (tell_stable_in u (upto_in r.acks u)) r (others_in r.acks u.group)) r (fold (tell_stable u (upto s u)) s (others_of s u.group)) s
+    (λ j. nat_lt (same j) (n j))
+    (λ _. told)
+    (λ _. f)
+
+-- a site acknowledges a message
+pub fits_ack : (r : Records) (s : State) → Fits r s → (i : ℕ) (from : SiteNo) (u : Uid) → slice_get s.config.groups i ≡ Some u.group → Fits (ack_in r i from u) (on_ack s from u)
+fits_ack r s f i from u at =
+    let there = record_there r s f i u.group at in
+    let same : is_used_ack_in r i from u ≡ is_used_ack s from u = (λ j.
+    is_current (there j).here u.view && (nat_lt 0 u.count && (site_eq u.proc.site (f.site j) && is_among site_eq from (f.acks.views u.group j)))) in
+    fits_if (is_used_ack_in r i from u) (is_used_ack s from u) _ r _ s same
+    (λ used.
+    let a = and_parts (is_current (s.group u.group) u.view) _ (sym same ∙ used) in
+    let b = and_parts (nat_lt 0 u.count) _ a.1 in
+    let c = and_parts (site_eq u.proc.site s.here) (is_among site_eq from (others_of s u.group)) b.1 in
+    let known = fits_with_ack r s f from u (ltb-true 0 u.count b.0) in
+    let n = upto_there r s f u from c.1 in
+    fits_if (nat_le u.count (upto_in r.acks u)) (nat_le u.count (upto s u)) (tell_stable_in u (upto_in r.acks u) (with_ack_in r from u) from) (tell_more_in u (upto_in r.acks u) (with_ack_in r from u)) (tell_stable u (upto s u) (with_ack s from u) from) (tell_more u (upto s u) (with_ack s from u))
+    (ap (nat_le u.count) n)
+    (λ _. subst (λ k. Fits (tell_stable_in u k (with_ack_in r from u) from) (tell_stable u (upto s u) (with_ack s from u) from)) (sym n)
+    (fits_send (with_ack_in r from u) (with_ack s from u) known from (frame.Stable (record u { count = upto s u }))))
+    (λ _. fits_tell_more (with_ack_in r from u) (with_ack s from u) known u (upto_in r.acks u) (upto s u) from c.1 n))
+    (λ _. f)
+
+-- a process's site tells what is stable
+pub fits_stable : (r : Records) (s : State) → Fits r s → (i : ℕ) (from : SiteNo) (u : Uid) → slice_get s.config.groups i ≡ Some u.group → Fits (stable_in r i from u) (on_stable s from u)
+fits_stable r s f i from u at =
+    let there = record_there r s f i u.group at in
+    let key : OwedKey = message_key kinds.Ack u u.proc.site in
+    let paid = fits_owed r s f (paid_by (is_upto key) r.part.owed) (paid_by (is_upto key) s.owed) (ap (paid_by (is_upto key)) f.owed) in
+    fits_if (is_current (record_at r.groups i).here u.view && site_eq u.proc.site from) (is_current (s.group u.group) u.view && site_eq u.proc.site from) (record r { part = part_paying_upto r.part key; acks = learnt_ledger r.acks u }) r (record (paying_acks s u) { told = s.told ++ u ∷ [] }) s
+    (λ j. is_current (there j).here u.view && site_eq u.proc.site from)
+    (λ _. record {
+      site = paid.site;
+      config = paid.config;
+      used = paid.used;
+      given = paid.given;
+      sessions = paid.sessions;
+      all_open = paid.all_open;
+      groups = paid.groups;
+      moment = paid.moment;
+      kept = paid.kept;
+      fresh = paid.fresh;
+      owed = paid.owed;
+      delay = paid.delay;
+      admitted = paid.admitted;
+      rows = paid.rows;
+      acks = learn_fits s.here (others_of s) (map (λ m. m.id) s.got) s.acks s.told r.acks f.acks u;
+      frames = paid.frames;
+      delivered = paid.delivered;
+    })
     (λ _. f)
 
 -- Requests
@@ -110,10 +242,16 @@ fits_ask r s f l i g at from number change.Leave p = f
 pub fits_asked : (r : Records) (s : State) → Fits r s → IsLawful s → (i : ℕ) (g : GroupNo) → slice_get s.config.groups i ≡ Some g → (from : SiteNo) (number : ℕ) (full : Bool) → Fits (answered_in r i from number full) (on_asked s from g number full)
 fits_asked r s f l i g at from number true = f
 fits_asked r s f l i g at from number false =
-    let next : Records = record r { groups = update r.groups i (λ x. record x { here = with_answer x.here }) } in
-    let t : State = set_group s g (with_answer (s.group g)) in
-    let now : Fits next t = fits_here r s f l i g at with_answer refl in
-    subst (λ (x : GroupRecord). Fits (elim (first_asking x.here.requests) [ Some a ↦ (if site_eq from r.config.home && (a.number == number) then ask_home_in next i else r) | None ↦ r ]) (on_asked s from g number false)) (sym (record_there r s f i g at))
+    let key : OwedKey = ask_key g s.config.home in
+    let there = record_there r s f i g at in
+    let lawful : IsLawful (paying s key) = lawful_same s (paying s key) (same_owed s (paying s key).owed) l in
+    let t : State = set_group (paying s key) g (with_answer (s.group g)) in
+    let paid_with : OwedKey → Records = λ k. record (pay_in r k) { groups = update r.groups i (λ x. record x { here = with_answer x.here }) } in
+    let next : Records = paid_with (ask_key (record_at r.groups i).name r.config.home) in
+    let now : Fits next t =
+    subst (λ k. Fits (paid_with k) t) (λ j. ask_key (sym there j).name (sym f.config j).home)
+    (fits_here (pay_in r key) (paying s key) (fits_pay r s f key) lawful i g at with_answer refl refl) in
+    subst (λ (x : GroupRecord). Fits (elim (first_asking x.here.requests) [ Some a ↦ (if site_eq from r.config.home && (a.number == number) then ask_home_in next i else r) | None ↦ r ]) (on_asked s from g number false)) (sym there)
     (elim (first_asking (s.group g).requests) as (λ o. Fits (elim o [ Some a ↦ (if site_eq from r.config.home && (a.number == number) then ask_home_in next i else r) | None ↦ r ]) (elim o [ Some a ↦ (if is_from_home s from && (a.number == number) then asking t g else s) | None ↦ s ])) [
       | Some a ↦ fits_if (site_eq from r.config.home && (a.number == number)) (is_from_home s from && (a.number == number)) (ask_home_in next i) r (asking t g) s
           (λ j. site_eq from (f.config j).home && (a.number == number))
@@ -152,8 +290,8 @@ fits_installed r s f l i g at from n =
 
 fits_frame_at : (r : Records) (s : State) → Fits r s → IsLawful s → (i : ℕ) (from : SiteNo) (x : SiteFrame) → slice_get s.config.groups i ≡ Some (group_of x) → is_group s (group_of x) ≡ true → IsTypedFrame x → Fits (frame_at r from x i) (on_frame s from x)
 fits_frame_at r s f l i from (frame.Data m) at listed typed = fits_data r s f i from m at listed
-fits_frame_at r s f l i from (frame.Ack u) at listed typed = f
-fits_frame_at r s f l i from (frame.Stable u) at listed typed = f
+fits_frame_at r s f l i from (frame.Ack u) at listed typed = fits_ack r s f i from u at
+fits_frame_at r s f l i from (frame.Stable u) at listed typed = fits_stable r s f i from u at
 fits_frame_at r s f l i from (frame.Ask g number what p) at listed typed = fits_ask r s f l i g at from number what p
 fits_frame_at r s f l i from (frame.Asked g number full) at listed typed = fits_asked r s f l i g at from number full
 fits_frame_at r s f l i from (frame.Prepare g view) at listed typed = f

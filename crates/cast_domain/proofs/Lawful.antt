@@ -1,19 +1,21 @@
 -- What holds of each history that events lead to is kept by each effect.
-use Rattle.std.proofs.Common.{◌≡◌, ℕ, ◌<◌, ◌≤◌, Bool, true, false, Less, Equal, Greater, List, [], ◌∷◌, ◌++◌, Contains, Some, None, refl, sym, ap, subst, ◌∙◌, inl, inr, arith}
-use Rattle.std.specs.Prelude.{◌&&◌, ◌==◌, nat_lt, if◌then◌else◌, filter}
-use Rattle.std.specs.List.{fold, list_any, list_all}
+use Rattle.std.proofs.Common.{◌≡◌, ℕ, zero, suc, ◌+◌, ◌<◌, ◌≤◌, Bool, true, false, cond, not, Less, Equal, Greater, List, [], ◌∷◌, ◌++◌, Contains, Some, None, refl, sym, ap, subst, ◌∙◌, inl, inr, arith}
+use Rattle.std.specs.Prelude.{◌&&◌, ◌==◌, nat_lt, nat_le, if◌then◌else◌, filter}
+use Rattle.std.specs.List.{fold, list_any, list_all, range_with_len}
 use Rattle.std.specs.Ordering.{nat_cmp, MatchOrdering}
 use Rattle.std.specs.FinMap.Entries.{is_sorted}
-use Rattle.std.proofs.lemmas.Bool.{and_parts, or_cases, or_left, or_right, false≢true, eqb-true, ltb-true}
+use Rattle.std.proofs.lemmas.Bool.{cases_Bool, cases_eq, not-false, and_parts, or_cases, or_left, or_right, false≢true, eqb-true, ltb-true, leb-true}
+use Rattle.std.proofs.lemmas.List.Folds.{list_any-append}
 use Rattle.std.proofs.lemmas.Cmp.{ranked}
 use Rattle.std.proofs.lemmas.List.Elements.{Contains-push_cases}
 use Rattle.cast_types.specs.declared.names.SiteNo.{SiteNo}
 use Rattle.cast_types.specs.declared.names.GroupNo.{GroupNo}
 use Rattle.cast_types.specs.declared.names.Proc.{Proc}
+use Rattle.cast_types.specs.declared.names.Uid.{Uid}
 use Rattle.cast_types.specs.declared.names.Standing.{Standing}
 use Rattle.cast_types.specs.declared.names.Standing.TheVariants.{Outside, Joining, Member}
 use Rattle.cast_types.specs.declared.clock.Clock.{Clock}
-use Rattle.cast_types.specs.Names.{site_eq, group_eq, group_cmp, proc_eq}
+use Rattle.cast_types.specs.Names.{site_eq, group_eq, group_cmp, proc_eq, uid_eq}
 use Rattle.cast_types.specs.Sets.{set_at, at_order, is_among}
 use Rattle.cast_types.specs.Stamps.{ClockList}
 use Rattle.cast_types.proofs.Orders.{same_site, site_itself, same_group, group_itself}
@@ -29,20 +31,27 @@ use Rattle.cast_frame.specs.declared.client.Push.{Push}
 use Rattle.cast_frame.specs.declared.client.Push.TheVariants as push
 use Rattle.cast_frame.specs.Membership.{Membership}
 use Rattle.cast_frame.specs.Rising.{is_rising}
+use Rattle.cast_stable.specs.Stable.{has_acked}
+use Rattle.cast_timer.specs.declared.key.Owed.{Owed}
+use Rattle.cast_timer.specs.declared.key.OwedKey.{OwedKey}
+use Rattle.cast_timer.specs.declared.key.OwedKind.TheVariants as kinds
+use Rattle.cast_timer.specs.Owed.{is_owed, with_owed}
 use Rattle.cast_delay.specs.Ready.{Process, Gate, is_member, is_outside, has_delivered, past_in, group_allows}
 use Rattle.cast_delay.proofs.Delivers.{only_member}
 use Rattle.cast_delay.proofs.Means.{among_holds}
 use Rattle.cast_domain.specs.declared.session.Session.{Session}
 use Rattle.cast_domain.specs.Session.{is_open, pushed_to}
 use Rattle.cast_domain.specs.declared.group.Group.{Group}
-use Rattle.cast_domain.specs.Group.{no_group, has_view, is_at, with_request, with_view, first_asking, is_taken_in}
+use Rattle.cast_domain.specs.Group.{no_group, has_view, is_at, is_current, with_request, with_view, is_taken_in}
 use Rattle.cast_domain.specs.declared.home.Home.{Home}
 use Rattle.cast_domain.specs.Home.{is_empty}
 use Rattle.cast_domain.specs.declared.config.DomainConfig.{DomainConfig}
-use Rattle.cast_domain.specs.State.{State, opening, local, serials, is_group, set_session, set_process, set_group, set_home, set_standing, emitted, others_of, gate_of, is_ready_for}
-use Rattle.cast_domain.specs.Effects.{ask_frame, asking, requesting, pushing, receiving, sending_to, next_message, sending_message, sending, payload_of, cast_kind_of, delivering, enters, in_view, all_in_view, push_view, completing}
+use Rattle.cast_domain.specs.State.{State, opening, local, serials, is_group, set_session, set_process, set_group, set_home, set_standing, emitted, others_of, gate_of, is_ready_for, local_members, is_stable, is_free, let_go}
+use Rattle.cast_domain.specs.Owing.{ask_key, message_key, frame_for, sent_for, next_due, owing}
+use Rattle.cast_domain.specs.Effects.{asking, requesting, pushing, receiving, sending_to, next_message, sending_message, sending, payload_of, cast_kind_of, delivering, enters, in_view, all_in_view, push_view, completing}
 use Rattle.cast_domain.specs.Run.{before_event}
-use Rattle.cast_domain.specs.Fits.{IsLawful}
+use Rattle.cast_domain.specs.Records.{was_given}
+use Rattle.cast_domain.specs.Fits.{IsSpent, AreKept, IsLawful}
 
 -- One process in one group
 
@@ -59,21 +68,91 @@ pub placed_of : (s : State) → IsLawful s → (k : ℕ) (g : GroupNo) → Place
 placed_of s l k g = record { known = l.known k g; current = l.current k g; viewed = l.viewed k g }
 
 -- a state with the configuration of a lawful one is lawful if each process is lawful in each group, and messages are in order
-pub lawful_from : (s t : State) → IsLawful s → t.config ≡ s.config → ((k : ℕ) (g : GroupNo) → PlacedIn t (t.process k) g) → ((m : Message) → Contains t.got m → is_sorted group_cmp m.times ≡ true) → IsLawful t
-lawful_from s t l config placed stamped = record {
+pub lawful_from : (s t : State) → IsLawful s → t.config ≡ s.config → ((k : ℕ) (g : GroupNo) → PlacedIn t (t.process k) g) → ((m : Message) → Contains t.got m → is_sorted group_cmp m.times ≡ true) → AreKept (IsSpent t) t.got t.kept → ((g : GroupNo) → has_view (t.group g) ≡ true → is_group t g ≡ true) → IsLawful t
+lawful_from s t l config placed stamped spent listed = record {
   rising = subst (λ c. is_rising group_cmp c.groups ≡ true) (sym config) l.rising;
   known = λ k g. (placed k g).known;
   current = λ k g. (placed k g).current;
   viewed = λ k g. (placed k g).viewed;
   stamped = stamped;
+  spent = spent;
+  listed = listed;
 }
+
+-- What is kept
+
+-- what is spent in one sense is spent in another
+pub kept_map : (P Q : Message → Type 0) → ((m : Message) → P m → Q m) → (got kept : List Message) → AreKept P got kept → AreKept Q got kept
+kept_map P Q f [] kept all = all
+kept_map P Q f (m ∷ got) kept (inl (rest, is, more)) = inl (rest, is, kept_map P Q f got rest more)
+kept_map P Q f (m ∷ got) kept (inr (spent, more)) = inr (f m spent, kept_map P Q f got kept more)
+
+-- a message that comes is kept
+pub kept_push : (P : Message → Type 0) (got kept : List Message) (x : Message) → AreKept P got kept → AreKept P (got ++ x ∷ []) (kept ++ x ∷ [])
+kept_push P [] kept x none = inl ([], ap (λ ms. ms ++ x ∷ []) none, refl)
+kept_push P (m ∷ got) kept x (inl (rest, is, more)) = inl (rest ++ x ∷ [], ap (λ ms. ms ++ x ∷ []) is, kept_push P got rest x more)
+kept_push P (m ∷ got) kept x (inr (spent, more)) = inr (spent, kept_push P got kept x more)
+
+-- what fails a test is let go, if it is spent
+pub kept_filter : (P : Message → Type 0) (test : Message → Bool) → ((m : Message) → test m ≡ false → P m) → (got kept : List Message) → AreKept P got kept → AreKept P got (filter test kept)
+kept_filter P test gone [] kept none = ap (filter test) none
+kept_filter P test gone (m ∷ got) kept (inl (rest, is, more)) =
+    subst (λ ms. AreKept P (m ∷ got) (filter test ms)) (sym is)
+    (elim (test m) as (λ b. test m ≡ b → AreKept P (m ∷ got) (cond b (m ∷ filter test rest) (filter test rest))) [
+      | true ↦ λ _. inl (filter test rest, refl, kept_filter P test gone got rest more)
+      | false ↦ λ fails. inr (gone m fails, kept_filter P test gone got rest more)
+    ] refl)
+kept_filter P test gone (m ∷ got) kept (inr (spent, more)) = inr (spent, kept_filter P test gone got kept more)
+
+-- what is spent is spent still where groups stay, members stay out, and delivered lists grow
+pub spent_on : (s t : State) → t.used ≡ s.used → ((g : GroupNo) → (t.group g).number ≡ (s.group g).number) → ((k : ℕ) (g : GroupNo) → is_member ((t.process k).standing g) ≡ true → is_member ((s.process k).standing g) ≡ true) → ((k : ℕ) (u : Uid) → has_delivered (s.process k) u ≡ true → has_delivered (t.process k) u ≡ true) → (m : Message) → IsSpent s m → IsSpent t m
+spent_on s t used number member more m spent = record {
+  reached = subst (λ n. m.id.view ≤ n) (sym (number m.id.group)) spent.reached;
+  delivered = λ k given is here. more k m.id (spent.delivered k (ap (λ n. was_given n k) (sym used) ∙ given) (member k m.id.group is) (here ∙ number m.id.group));
+}
+
+-- serials that were given and pass one test pass another
+range_all : (p test : ℕ → Bool) (a n : ℕ) → list_all test (filter p (range_with_len a n)) ≡ true → (k : ℕ) → a ≤ k → k < a + n → p k ≡ true → test k ≡ true
+range_all p test a zero all k low high is = absurd (omega (arith, low, high))
+range_all p test a (suc n) all k low high is =
+    elim (p a) as (λ b. p a ≡ b → list_all test (cond b (a ∷ filter p (range_with_len (a + 1) n)) (filter p (range_with_len (a + 1) n))) ≡ true → test k ≡ true) [
+      | true ↦ λ _ h. let parts = and_parts (test a) (list_all test (filter p (range_with_len (a + 1) n))) h in
+          elim (cases_eq a k) [
+            | inl same ↦ subst (λ x. test x ≡ true) same parts.0
+            | inr other ↦ range_all p test (a + 1) n parts.1 k (omega (arith, low, other)) (omega (arith, high)) is
+          ]
+      | false ↦ λ out h.
+          elim (cases_eq a k) [
+            | inl same ↦ absurd (false≢true (sym out ∙ ap p same ∙ is))
+            | inr other ↦ range_all p test (a + 1) n h k (omega (arith, low, other)) (omega (arith, high)) is
+          ]
+    ] refl all
+
+-- a free message is spent
+pub free_spent : (s : State) (m : Message) → is_free s m.id ≡ true → IsSpent s m
+free_spent s m free =
+    let a = and_parts (is_current (s.group m.id.group) m.id.view) _ free in
+    let now = and_parts (has_view (s.group m.id.group)) ((s.group m.id.group).number == m.id.view) a.0 in
+    let same : (s.group m.id.group).number ≡ m.id.view = eqb-true (s.group m.id.group).number m.id.view now.1 in
+    let all = (and_parts (is_stable s m.id) (list_all (λ k. has_delivered (s.process k) m.id) (local_members s m.id.group)) a.1).1 in
+    record {
+      reached = omega (arith, same);
+      delivered = λ k given is _.
+          let in_range = and_parts (nat_lt 0 k) (nat_le k s.used) given in
+          let low = ltb-true 0 k in_range.0 in
+          let high = leb-true k s.used in_range.1 in
+          range_all (λ j. is_member ((s.process j).standing m.id.group)) (λ j. has_delivered (s.process j) m.id) 1 s.used all k (omega (arith, low)) (omega (arith, high)) is;
+    }
 
 -- What changes nothing of this
 
 -- alike in all that is lawful or not
 pub record SameLaw (s : State) (t : State) : Type 0 where
   pub config : t.config ≡ s.config
+  pub used : t.used ≡ s.used
   pub got : t.got ≡ s.got
+  pub kept : t.kept ≡ s.kept
+  pub delivered : (k : ℕ) → (t.process k).delivered ≡ (s.process k).delivered
   pub standing : (k : ℕ) (g : GroupNo) → (t.process k).standing g ≡ (s.process k).standing g
   pub view_in : (k : ℕ) (g : GroupNo) → view_of (t.process k).time g ≡ view_of (s.process k).time g
   pub number : (g : GroupNo) → (t.group g).number ≡ (s.group g).number
@@ -90,14 +169,23 @@ lawful_same s t a l = lawful_from s t l a.config
       viewed = λ h. seen_view (t.group g) (s.group g) (a.view g) ∙ l.viewed k g (sym (ap is_member (a.standing k g)) ∙ h);
     })
     (λ m at. l.stamped m (subst (λ got. Contains got m) a.got at))
+    (subst (λ got. AreKept (IsSpent t) got t.kept) (sym a.got)
+    (subst (AreKept (IsSpent t) s.got) (sym a.kept)
+    (kept_map (IsSpent s) (IsSpent t)
+    (spent_on s t a.used a.number (λ k g is. ap is_member (sym (a.standing k g)) ∙ is) (λ k u is. ap (λ ids. is_among uid_eq u ids) (a.delivered k) ∙ is))
+    s.got s.kept l.spent)))
+    (λ g seen. ap (λ c. is_among group_eq g c.groups) a.config ∙ l.listed g (sym (seen_view (t.group g) (s.group g) (a.view g)) ∙ seen))
 
 pub same_self : (s : State) → SameLaw s s
-same_self s = record { config = refl; got = refl; standing = λ k g. refl; view_in = λ k g. refl; number = λ g. refl; view = λ g. refl }
+same_self s = record { config = refl; used = refl; got = refl; kept = refl; delivered = λ k. refl; standing = λ k g. refl; view_in = λ k g. refl; number = λ g. refl; view = λ g. refl }
 
 pub same_then : (s t u : State) → SameLaw s t → SameLaw t u → SameLaw s u
 same_then s t u a b = record {
   config = b.config ∙ a.config;
+  used = b.used ∙ a.used;
   got = b.got ∙ a.got;
+  kept = b.kept ∙ a.kept;
+  delivered = λ k. b.delivered k ∙ a.delivered k;
   standing = λ k g. b.standing k g ∙ a.standing k g;
   view_in = λ k g. b.view_in k g ∙ a.view_in k g;
   number = λ g. b.number g ∙ a.number g;
@@ -113,13 +201,13 @@ same_fold f h [] s = same_self s
 same_fold f h (x ∷ xs) s = same_then s (f s x) (fold f (f s x) xs) (h s x) (same_fold f h xs (f s x))
 
 pub same_session : (s : State) (k : ℕ) (v : Session) → SameLaw s (set_session s k v)
-same_session s k v = record { config = refl; got = refl; standing = λ k g. refl; view_in = λ k g. refl; number = λ g. refl; view = λ g. refl }
+same_session s k v = record { config = refl; used = refl; got = refl; kept = refl; delivered = λ k. refl; standing = λ k g. refl; view_in = λ k g. refl; number = λ g. refl; view = λ g. refl }
 
 pub same_home : (s : State) (g : GroupNo) (v : Home) → SameLaw s (set_home s g v)
-same_home s g v = record { config = refl; got = refl; standing = λ k g. refl; view_in = λ k g. refl; number = λ g. refl; view = λ g. refl }
+same_home s g v = record { config = refl; used = refl; got = refl; kept = refl; delivered = λ k. refl; standing = λ k g. refl; view_in = λ k g. refl; number = λ g. refl; view = λ g. refl }
 
 pub same_emitted : (s : State) (to : SiteNo) (f : SiteFrame) → SameLaw s (emitted s to f)
-same_emitted s to f = record { config = refl; got = refl; standing = λ k g. refl; view_in = λ k g. refl; number = λ g. refl; view = λ g. refl }
+same_emitted s to f = record { config = refl; used = refl; got = refl; kept = refl; delivered = λ k. refl; standing = λ k g. refl; view_in = λ k g. refl; number = λ g. refl; view = λ g. refl }
 
 pub same_pushing : (s : State) (k : ℕ) (p : Push) → SameLaw s (pushing s k p)
 same_pushing s k p = same_if s (set_session s k (pushed_to (s.session k) p)) s (is_open (s.session k)) (same_session s k (pushed_to (s.session k) p)) (same_self s)
@@ -128,7 +216,10 @@ same_pushing s k p = same_if s (set_session s k (pushed_to (s.session k) p)) s (
 pub same_group_set : (s : State) (g : GroupNo) (v : Group) → v.number ≡ (s.group g).number → v.view ≡ (s.group g).view → SameLaw s (set_group s g v)
 same_group_set s g v number view = record {
   config = refl;
+  used = refl;
   got = refl;
+  kept = refl;
+  delivered = λ k. refl;
   standing = λ k h. refl;
   view_in = λ k h. refl;
   number = λ h. elim (group_eq g h) as (λ b. group_eq g h ≡ b → (if b then v else s.group h).number ≡ (s.group h).number) [
@@ -141,11 +232,23 @@ same_group_set s g v number view = record {
   ] refl;
 }
 
-pub same_asking : (s : State) (g : GroupNo) → SameLaw s (asking s g)
-same_asking s g = elim (first_asking (s.group g).requests) as (λ o. SameLaw s (elim o [ Some a ↦ emitted s s.config.home (ask_frame g a) | None ↦ s ])) [
-  | Some a ↦ same_emitted s s.config.home (ask_frame g a)
+pub same_owed : (s : State) (owed : List Owed) → SameLaw s (record s { owed = owed })
+same_owed s owed = record { config = refl; used = refl; got = refl; kept = refl; delivered = λ k. refl; standing = λ k g. refl; view_in = λ k g. refl; number = λ g. refl; view = λ g. refl }
+
+pub same_sent_for : (s : State) (key : OwedKey) → SameLaw s (sent_for s key)
+same_sent_for s key = elim (frame_for s key) as (λ o. SameLaw s (elim o [ Some f ↦ emitted s key.site f | None ↦ s ])) [
+  | Some f ↦ same_emitted s key.site f
   | None ↦ same_self s
 ]
+
+pub same_owing : (s : State) (key : OwedKey) → SameLaw s (owing s key)
+same_owing s key =
+    let sent : State = sent_for s key in
+    same_if s s (record sent { owed = with_owed s.owed key (next_due s) }) (is_owed s.owed key) (same_self s)
+    (same_then s sent (record sent { owed = with_owed s.owed key (next_due s) }) (same_sent_for s key) (same_owed sent (with_owed s.owed key (next_due s))))
+
+pub same_asking : (s : State) (g : GroupNo) → SameLaw s (asking s g)
+same_asking s g = same_if s s (owing s (ask_key g s.config.home)) (is_empty (s.group g).requests) (same_self s) (same_owing s (ask_key g s.config.home))
 
 pub same_requesting : (s : State) (g : GroupNo) (what : Change) (p : Proc) → SameLaw s (requesting s g what p)
 same_requesting s g what p =
@@ -181,20 +284,53 @@ lawful_opening here config rising = record {
   current = λ k g h. absurd (false≢true h);
   viewed = λ k g h. absurd (false≢true h);
   stamped = λ m at. let inside = at.1 in absurd (omega arith);
+  spent = refl;
+  listed = λ g seen. absurd (false≢true seen);
 }
 
 pub lawful_before : (s : State) → IsLawful s → IsLawful (before_event s)
-lawful_before s l = record { rising = l.rising; known = l.known; current = l.current; viewed = l.viewed; stamped = l.stamped }
+lawful_before s l = record {
+  rising = l.rising;
+  known = l.known;
+  current = l.current;
+  viewed = l.viewed;
+  stamped = l.stamped;
+  spent = kept_map (IsSpent s) (IsSpent (before_event s)) (λ m h. record { reached = h.reached; delivered = h.delivered }) s.got s.kept l.spent;
+  listed = l.listed;
+}
 
 pub lawful_after : (s : State) → IsLawful (before_event s) → IsLawful s
-lawful_after s l = record { rising = l.rising; known = l.known; current = l.current; viewed = l.viewed; stamped = l.stamped }
+lawful_after s l = record {
+  rising = l.rising;
+  known = l.known;
+  current = l.current;
+  viewed = l.viewed;
+  stamped = l.stamped;
+  spent = kept_map (IsSpent (before_event s)) (IsSpent s) (λ m h. record { reached = h.reached; delivered = h.delivered }) s.got s.kept l.spent;
+  listed = l.listed;
+}
 
 -- One process
 
-pub lawful_process : (s : State) (k : ℕ) (v : Process) → IsLawful s → ((g : GroupNo) → PlacedIn s v g) → IsLawful (set_process s k v)
-lawful_process s k v l placed = lawful_from s (set_process s k v) l refl
+-- one process changes, becomes a member of no group, and delivered what it delivered
+pub lawful_process : (s : State) (k : ℕ) (v : Process) → IsLawful s → ((g : GroupNo) → PlacedIn s v g) → ((g : GroupNo) → is_member (v.standing g) ≡ true → is_member ((s.process k).standing g) ≡ true) → ((u : Uid) → has_delivered (s.process k) u ≡ true → has_delivered v u ≡ true) → IsLawful (set_process s k v)
+lawful_process s k v l placed member more = lawful_from s (set_process s k v) l refl
     (λ j g. elim (k == j) as (λ b. PlacedIn s (if b then v else s.process j) g) [ true ↦ placed g | false ↦ placed_of s l j g ])
     l.stamped
+    (kept_map (IsSpent s) (IsSpent (set_process s k v)) (spent_on s (set_process s k v) refl (λ g. refl) members grown) s.got s.kept l.spent)
+    l.listed
+  where
+    members : (j : ℕ) (g : GroupNo) → is_member ((if k == j then v else s.process j).standing g) ≡ true → is_member ((s.process j).standing g) ≡ true
+    members j g = elim (k == j) as (λ b. k == j ≡ b → is_member ((if b then v else s.process j).standing g) ≡ true → is_member ((s.process j).standing g) ≡ true) [
+      | true ↦ λ same is. ap (λ i. is_member ((s.process i).standing g)) (sym (eqb-true k j same)) ∙ member g is
+      | false ↦ λ _ is. is
+    ] refl
+
+    grown : (j : ℕ) (u : Uid) → has_delivered (s.process j) u ≡ true → has_delivered (if k == j then v else s.process j) u ≡ true
+    grown j u = elim (k == j) as (λ b. k == j ≡ b → has_delivered (s.process j) u ≡ true → has_delivered (if b then v else s.process j) u ≡ true) [
+      | true ↦ λ same is. more u (ap (λ i. has_delivered (s.process i) u) (eqb-true k j same) ∙ is)
+      | false ↦ λ _ is. is
+    ] refl
 
 -- a process begins to join a configured group
 pub lawful_standing : (s : State) (k : ℕ) (g : GroupNo) (request heard : ℕ) → IsLawful s → is_group s g ≡ true → IsLawful (set_standing s k g (Joining request heard))
@@ -207,6 +343,11 @@ lawful_standing s k g request heard l listed = lawful_process s k (record (s.pro
       }
       | false ↦ λ _. placed_of s l k h
     ] refl)
+    (λ h. elim (group_eq g h) as (λ b. is_member (if b then Joining request heard else (s.process k).standing h) ≡ true → is_member ((s.process k).standing h) ≡ true) [
+      | true ↦ λ no_member. absurd (false≢true no_member)
+      | false ↦ λ is. is
+    ])
+    (λ u is. is)
 
 -- Messages
 
@@ -216,14 +357,26 @@ lawful_receiving s m l sorted = lawful_from s (receiving s m) l refl (placed_of 
       | inl before ↦ l.stamped x before
       | inr last ↦ subst (λ y. is_sorted group_cmp y.times ≡ true) last sorted
     ])
+    (kept_push (IsSpent (receiving s m)) s.got s.kept m (kept_map (IsSpent s) (IsSpent (receiving s m)) (λ x h. record { reached = h.reached; delivered = h.delivered }) s.got s.kept l.spent))
+    l.listed
+
+-- what is free is let go
+pub lawful_let_go : (s : State) → IsLawful s → IsLawful (let_go s)
+lawful_let_go s l = lawful_from s (let_go s) l refl (placed_of s l) l.stamped
+    (kept_map (IsSpent s) (IsSpent (let_go s)) (λ x h. record { reached = h.reached; delivered = h.delivered }) s.got (let_go s).kept
+    (kept_filter (IsSpent s) (λ m. not (is_free s m.id)) (λ m fails. free_spent s m (not-false (is_free s m.id) fails)) s.got s.kept l.spent))
+    l.listed
+
+pub same_sending_to : (u : Uid) (s : State) (to : SiteNo) → SameLaw s (sending_to u s to)
+same_sending_to u s to = same_if s (sent_for s (message_key kinds.Data u to)) (owing s (message_key kinds.Data u to)) (has_acked s.acks u to) (same_sent_for s (message_key kinds.Data u to)) (same_owing s (message_key kinds.Data u to))
 
 -- a process sends a message whose time has the views of its own
 pub lawful_sending_message : (s : State) (k : ℕ) (m : Message) → IsLawful s → ((g : GroupNo) → view_of m.times g ≡ view_of (s.process k).time g) → is_sorted group_cmp m.times ≡ true → IsLawful (sending_message s k m)
 lawful_sending_message s k m l views sorted =
     let now : State = set_process s k (record (s.process k) { time = m.times }) in
     let same : IsLawful now = lawful_process s k (record (s.process k) { time = m.times }) l
-    (λ g. record { known = l.known k g; current = λ h. views g ∙ l.current k g h; viewed = l.viewed k g }) in
-    lawful_fold (sending_to m) (λ t to. lawful_emitted t to (frame.Data m)) (others_of s m.id.group) (receiving now m) (lawful_receiving now m same sorted)
+    (λ g. record { known = l.known k g; current = λ h. views g ∙ l.current k g h; viewed = l.viewed k g }) (λ g is. is) (λ u is. is) in
+    lawful_fold (sending_to m.id) (λ t to. lawful_same t (sending_to m.id t to) (same_sending_to m.id t to)) (others_of s m.id.group) (receiving now m) (lawful_receiving now m same sorted)
 
 pub lawful_sending : (s : State) (g : GroupNo) (k : ℕ) (content : Body) → IsLawful s → is_sorted group_cmp (bumped (s.process k).time g (local s k)) ≡ true → IsLawful (sending s g k content)
 lawful_sending s g k content l sorted = lawful_sending_message s k (next_message s g k content) l (λ h. bump_leaves_views (s.process k).time g h (local s k)) sorted
@@ -274,8 +427,11 @@ lawful_delivering s k m l at ready =
     let v : Process = record p { time = join p.time m.times; delivered = p.delivered ++ m.id ∷ [] } in
     let set : State = set_process s k v in
     let now : State = record set { deliveries = s.deliveries ++ (local s k, m.id) ∷ [] } in
-    let taken : IsLawful set = lawful_process s k v l (λ g. record { known = l.known k g; current = delivered_view s k m l at ready g; viewed = l.viewed k g }) in
-    lawful_pushing now k (push.Deliver m.id (cast_kind_of m.body) (payload_of m.body)) (lawful_from set now taken refl (placed_of set taken) taken.stamped)
+    let taken : IsLawful set = lawful_process s k v l (λ g. record { known = l.known k g; current = delivered_view s k m l at ready g; viewed = l.viewed k g }) (λ g is. is) (λ u is. list_any-append (uid_eq u) p.delivered (m.id ∷ []) ∙ or_left _ _ is) in
+    lawful_pushing now k (push.Deliver m.id (cast_kind_of m.body) (payload_of m.body))
+    (lawful_from set now taken refl (placed_of set taken) taken.stamped
+    (kept_map (IsSpent set) (IsSpent now) (λ x h. record { reached = h.reached; delivered = h.delivered }) s.got s.kept taken.spent)
+    taken.listed)
 
 -- Views
 
@@ -321,8 +477,8 @@ placed_old s g n members k l none h =
       | false ↦ λ _. placed_of s l k h
     ] refl
 
-pub lawful_all_in_view : (s : State) (g : GroupNo) (n : ℕ) (members : Membership) (request : ℕ) → IsLawful s → is_group s g ≡ true → has_view (s.group g) ≡ false → IsLawful (all_in_view (set_group s g (with_view s.here n members (s.group g))) g n members request)
-lawful_all_in_view s g n members request l listed none =
+pub lawful_all_in_view : (s : State) (g : GroupNo) (n : ℕ) (members : Membership) (request : ℕ) → IsLawful s → is_group s g ≡ true → has_view (s.group g) ≡ false → (s.group g).number < n → IsLawful (all_in_view (set_group s g (with_view s.here n members (s.group g))) g n members request)
+lawful_all_in_view s g n members request l listed none later =
     let now : State = set_group s g (with_view s.here n members (s.group g)) in
     lawful_from s (all_in_view now g n members request) l refl
     (λ k h. elim (enters now g members request k) as (λ b. enters now g members request k ≡ b → PlacedIn now (if b then in_view g n (s.process k) else s.process k) h) [
@@ -330,12 +486,44 @@ lawful_all_in_view s g n members request l listed none =
       | false ↦ λ _. placed_old s g n members k l none h
     ] refl)
     l.stamped
+    (kept_map (IsSpent s) (IsSpent (all_in_view now g n members request)) spent_now s.got s.kept l.spent)
+    (λ h. elim (group_eq g h) as (λ b. group_eq g h ≡ b → has_view (if b then with_view s.here n members (s.group g) else s.group h) ≡ true → is_group s h ≡ true) [
+      | true ↦ λ is _. subst (λ x. is_group s x ≡ true) (same_group g h is) listed
+      | false ↦ λ _ seen. l.listed h seen
+    ] refl)
+  where
+    -- the group's view is another now, and in the other groups each process is what it was
+    spent_now : (m : Message) → IsSpent s m → IsSpent (all_in_view (set_group s g (with_view s.here n members (s.group g))) g n members request) m
+    spent_now m spent =
+        let w : Group = with_view s.here n members (s.group g) in
+        elim (cases_Bool (group_eq g m.id.group)) [
+          | inl same ↦
+              let number : (if group_eq g m.id.group then w else s.group m.id.group).number ≡ n = ap (λ b. (if b then w else s.group m.id.group).number) same in
+              let before : m.id.view ≤ (s.group g).number = subst (λ h. m.id.view ≤ (s.group h).number) (sym (same_group g m.id.group same)) spent.reached in
+              record {
+                reached = omega (arith, before, number, later);
+                delivered = λ k given is here. absurd (omega (arith, before, here, number, later));
+              }
+          | inr other ↦
+              let number : (if group_eq g m.id.group then w else s.group m.id.group).number ≡ (s.group m.id.group).number = ap (λ b. (if b then w else s.group m.id.group).number) other in
+              record {
+                reached = subst (λ x. m.id.view ≤ x) (sym number) spent.reached;
+                delivered = λ k given is here. still_delivered other spent k given is (here ∙ number);
+              }
+        ]
+      where
+        still_delivered : group_eq g m.id.group ≡ false → IsSpent s m → (k : ℕ) → was_given s.used k ≡ true → is_member (((all_in_view (set_group s g (with_view s.here n members (s.group g))) g n members request).process k).standing m.id.group) ≡ true → m.id.view ≡ (s.group m.id.group).number → has_delivered ((all_in_view (set_group s g (with_view s.here n members (s.group g))) g n members request).process k) m.id ≡ true
+        still_delivered other spent k given =
+            elim (enters (set_group s g (with_view s.here n members (s.group g))) g members request k) as (λ b. is_member ((if b then in_view g n (s.process k) else s.process k).standing m.id.group) ≡ true → m.id.view ≡ (s.group m.id.group).number → has_delivered (if b then in_view g n (s.process k) else s.process k) m.id ≡ true) [
+              | true ↦ λ is here. spent.delivered k given (ap (λ c. is_member (if c then Member else (s.process k).standing m.id.group)) (sym other) ∙ is) here
+              | false ↦ λ is here. spent.delivered k given is here
+            ]
 
-pub lawful_completing : (s : State) (g : GroupNo) (n : ℕ) (members : Membership) (request : ℕ) → IsLawful s → is_group s g ≡ true → has_view (s.group g) ≡ false → IsLawful (completing s g n members request)
-lawful_completing s g n members request l listed none =
+pub lawful_completing : (s : State) (g : GroupNo) (n : ℕ) (members : Membership) (request : ℕ) → IsLawful s → is_group s g ≡ true → has_view (s.group g) ≡ false → (s.group g).number < n → IsLawful (completing s g n members request)
+lawful_completing s g n members request l listed none later =
     let now : State = set_group s g (with_view s.here n members (s.group g)) in
     let all : State = all_in_view now g n members request in
     let told : State = fold (push_view g n members) all (filter (enters s g members request) (serials s)) in
     lawful_emitted told s.config.home (frame.Installed g n)
     (lawful_fold (push_view g n members) (λ t k. lawful_pushing t k (push.View g n members)) (filter (enters s g members request) (serials s)) all
-    (lawful_all_in_view s g n members request l listed none))
+    (lawful_all_in_view s g n members request l listed none later))

@@ -1,17 +1,19 @@
 -- What holds of each history that events lead to is kept by each event, and until the state rests.
-use Rattle.std.proofs.Common.{◌≡◌, ℕ, ◌+◌, zero, suc, Bool, true, false, not, List, [], ◌∷◌, length, Some, None, refl, subst}
+use Rattle.std.proofs.Common.{◌≡◌, ℕ, ◌+◌, ◌<◌, zero, suc, Bool, true, false, not, List, [], ◌∷◌, ◌++◌, length, Some, None, refl, sym, ap, subst, ◌∙◌, inl, inr, arith}
 use Rattle.std.specs.Prelude.{◌&&◌, ◌==◌, nat_lt, nat_le, if◌then◌else◌}
 use Rattle.std.specs.List.{fold, find}
 use Rattle.std.specs.FinMap.Entries.{is_sorted}
-use Rattle.std.proofs.lemmas.Bool.{and_parts, not-false}
+use Rattle.std.proofs.lemmas.Bool.{cases_eq, false≢true, and_parts, and_from, not-false, leb-true, le-leb}
+use Rattle.std.proofs.lemmas.Bool.Decides.{nat_tests}
 use Rattle.cast_types.specs.declared.names.SiteNo.{SiteNo}
 use Rattle.cast_types.specs.declared.names.GroupNo.{GroupNo}
 use Rattle.cast_types.specs.declared.names.Proc.{Proc}
+use Rattle.cast_types.specs.declared.names.Uid.{Uid}
 use Rattle.cast_types.specs.declared.names.Standing.TheVariants.{Joining}
 use Rattle.cast_types.specs.declared.refusal.Refusal.{Refusal}
 use Rattle.cast_types.specs.declared.refusal.Refusal.TheVariants.{NotOpen, TooManySessions}
 use Rattle.cast_types.specs.declared.limits.TheConstants.{MAX_NUMBER}
-use Rattle.cast_types.specs.Names.{group_cmp}
+use Rattle.cast_types.specs.Names.{site_eq, group_cmp}
 use Rattle.cast_types.specs.Repeat.{iterate}
 use Rattle.cast_types.specs.Stamps.{ClockList, is_stamp}
 use Rattle.cast_clock.specs.Times.{view_of, count_in, bumped, has_room}
@@ -26,11 +28,17 @@ use Rattle.cast_frame.specs.declared.client.Request.{Request}
 use Rattle.cast_frame.specs.declared.client.Request.TheVariants.{Join, Leave, Cast}
 use Rattle.cast_frame.specs.declared.client.Push.TheVariants as push
 use Rattle.cast_frame.specs.Membership.{Membership}
+use Rattle.cast_stable.specs.Stable.{Acked}
+use Rattle.cast_timer.specs.declared.key.Owed.{Owed}
+use Rattle.cast_timer.specs.declared.key.OwedKey.{OwedKey}
+use Rattle.cast_timer.specs.declared.key.OwedKind.TheVariants as kinds
+use Rattle.cast_timer.specs.Owed.{due_at}
+use Rattle.cast_delay.specs.Ready.{is_member}
 use Rattle.cast_delay.proofs.Finds.{found_in}
 use Rattle.cast_domain.specs.Session.{is_open}
 use Rattle.cast_domain.specs.declared.group.Group.{Group}
 use Rattle.cast_domain.specs.declared.group.Verdict.TheVariants.{Again, Completes, Ignored}
-use Rattle.cast_domain.specs.Group.{first_asking, has_view, with_answer, verdict_of, sites_of}
+use Rattle.cast_domain.specs.Group.{first_asking, has_view, is_current, with_answer, verdict_of, sites_of}
 use Rattle.cast_domain.specs.declared.home.Home.{Home}
 use Rattle.cast_domain.specs.Home.{applied_of, after_request, after_installed, may_decide, decided}
 use Rattle.cast_frame.specs.declared.client.Command.{Command}
@@ -38,13 +46,15 @@ use Rattle.cast_frame.specs.declared.client.Command.TheVariants as command
 use Rattle.cast_domain.specs.declared.event.Event.{Event}
 use Rattle.cast_domain.specs.declared.event.Event.TheVariants as event
 use Rattle.cast_domain.specs.declared.event.Taken.TheVariants as taken
-use Rattle.cast_domain.specs.State.{State, local, serials, is_home, is_site, is_group, is_received, is_ready_for, set_group, set_home, set_standing, emitted}
+use Rattle.cast_domain.specs.State.{State, local, serials, is_home, is_site, is_group, is_received, is_ready_for, may_receive, others_of, upto, is_stable, let_go, set_group, set_home, set_standing, emitted}
+use Rattle.cast_domain.specs.Owing.{ask_key, message_key, sent_for, owing, paying, resending, at_moment, ticked}
 use Rattle.cast_domain.specs.Effects.{asking, pushing, receiving, sending, delivering, completing}
-use Rattle.cast_domain.specs.Step.{first_refusal, join_tests, cast_tests, may_raise, joining, attempting, requested, commanded, is_used, on_data, is_from_home, on_ask, on_asked, on_install, on_installed, group_of, on_frame, framed, opened, Effect, acted}
+use Rattle.cast_domain.specs.Step.{acknowledging, data_used, is_used_ack, with_ack, tell_stable, tell_more, on_ack, paying_acks, on_stable, first_refusal, join_tests, cast_tests, may_raise, joining, attempting, requested, commanded, is_used, on_data, is_from_home, on_ask, on_asked, on_install, on_installed, group_of, on_frame, framed, opened, Effect, acted}
 use Rattle.cast_domain.specs.Rest.{deliver_first, deliver_all, settle, install_frame, send_install, decide, lead_all, pass, RestsAt}
-use Rattle.cast_domain.specs.Fits.{IsLawful, IsTypedFrame, IsTyped}
+use Rattle.cast_domain.specs.Records.{was_given}
+use Rattle.cast_domain.specs.Fits.{IsSpent, IsLawful, IsTypedFrame, IsTyped}
 use Rattle.cast_domain.proofs.Spots.{found_passes}
-use Rattle.cast_domain.proofs.Lawful.{SameLaw, same_self, same_then, same_if, same_fold, same_home, same_emitted, same_group_set, same_asking, lawful_same, lawful_pushing, lawful_emitted, lawful_requesting, lawful_if, lawful_fold, lawful_standing, lawful_receiving, lawful_sending, lawful_delivering, lawful_completing}
+use Rattle.cast_domain.proofs.Lawful.{SameLaw, same_self, same_then, same_if, same_fold, same_home, same_emitted, same_group_set, same_owed, same_sent_for, same_owing, same_asking, kept_map, lawful_same, lawful_pushing, lawful_emitted, lawful_requesting, lawful_if, lawful_fold, lawful_standing, lawful_receiving, lawful_let_go, lawful_sending, lawful_delivering, lawful_completing}
 
 -- a stamp is in order
 stamp_sorted : (t : ClockList) → is_stamp t ≡ true → is_sorted group_cmp t ≡ true
@@ -75,7 +85,7 @@ lawful_joining s k g l none =
 pub lawful_casting : (s : State) (k : ℕ) (g : GroupNo) (payload : List ℕ) → IsLawful s → first_refusal (cast_tests s k g payload) ≡ None → IsLawful (sending s g k (body.Causal payload))
 lawful_casting s k g payload l none =
     let times = bumped (s.process k).time g (local s k) in
-    let raises = not-false (may_raise (s.process k).time g (local s k)) (each_passes (cast_tests s k g payload) none).1.1.1.0 in
+    let raises = not-false (may_raise (s.process k).time g (local s k)) (each_passes (cast_tests s k g payload) none).1.1.1.1.0 in
     let room = and_parts (nat_lt (count_in (s.process k).time g (local s k)) MAX_NUMBER) (has_room times && is_stamp times) raises in
     lawful_sending s g k (body.Causal payload) l (stamp_sorted times (and_parts (has_room times) (is_stamp times) room.1).1)
 
@@ -98,12 +108,43 @@ lawful_commanded s k command.Bad l = l
 
 -- Frames
 
+pub same_acknowledging : (s : State) (to : SiteNo) (u : Uid) → SameLaw s (acknowledging s to u)
+same_acknowledging s to u = same_if s (emitted s to (frame.Ack u)) (owing s (message_key kinds.Ack u to)) (is_stable s u) (same_emitted s to (frame.Ack u)) (same_owing s (message_key kinds.Ack u to))
+
 pub lawful_on_data : (s : State) (from : SiteNo) (m : Message) → IsLawful s → is_stamp m.times ≡ true → IsLawful (on_data s from m)
 lawful_on_data s from m l stamp =
-    let now : State = if is_received s m.id then s else receiving s m in
-    lawful_if (emitted now from (frame.Ack m.id)) s (is_used s from m)
-    (λ _. lawful_emitted now from (frame.Ack m.id) (lawful_if s (receiving s m) (is_received s m.id) (λ _. l) (λ _. lawful_receiving s m l (stamp_sorted m.times stamp))))
+    let now : State = receiving s m in
+    let taken : State = acknowledging now from m.id in
+    lawful_if (data_used s from m) s (is_used s from m)
+    (λ _. lawful_if (emitted s from (frame.Ack m.id)) (if may_receive s then taken else s) (is_received s m.id)
+    (λ _. lawful_emitted s from (frame.Ack m.id) l)
+    (λ _. lawful_if taken s (may_receive s)
+    (λ _. lawful_same now taken (same_acknowledging now from m.id) (lawful_receiving s m l (stamp_sorted m.times stamp)))
+    (λ _. l)))
     (λ _. l)
+
+-- what is acknowledged, told and owed is no matter
+same_known : (s : State) (acks : List Acked) (told : List Uid) (owed : List Owed) → SameLaw s (record s { acks = acks; told = told; owed = owed })
+same_known s acks told owed = record { config = refl; used = refl; got = refl; kept = refl; delivered = λ k. refl; standing = λ k g. refl; view_in = λ k g. refl; number = λ g. refl; view = λ g. refl }
+
+pub same_on_ack : (s : State) (from : SiteNo) (u : Uid) → SameLaw s (on_ack s from u)
+same_on_ack s from u =
+    let after : State = with_ack s from u in
+    let known : SameLaw s after = same_known s after.acks s.told after.owed in
+    let again : State = tell_stable u (upto s u) after from in
+    let more : State = fold (tell_stable u (upto after u)) after (others_of after u.group) in
+    same_if s (if nat_le u.count (upto s u) then again else tell_more u (upto s u) after) s (is_used_ack s from u)
+    (same_if s again (tell_more u (upto s u) after) (nat_le u.count (upto s u))
+    (same_then s after again known (same_emitted after from (frame.Stable (record u { count = upto s u }))))
+    (same_if s more after (nat_lt (upto s u) (upto after u))
+    (same_then s after more known (same_fold (tell_stable u (upto after u)) (λ t to. same_emitted t to (frame.Stable (record u { count = upto after u }))) (others_of after u.group) after))
+    known))
+    (same_self s)
+
+pub same_on_stable : (s : State) (from : SiteNo) (u : Uid) → SameLaw s (on_stable s from u)
+same_on_stable s from u =
+    let after : State = record (paying_acks s u) { told = s.told ++ u ∷ [] } in
+    same_if s after s (is_current (s.group u.group) u.view && site_eq u.proc.site from) (same_known s s.acks after.told after.owed) (same_self s)
 
 pub same_on_ask : (s : State) (from : SiteNo) (g : GroupNo) (number : ℕ) (what : Change) (p : Proc) → SameLaw s (on_ask s from g number what p)
 same_on_ask s from g number change.Join p =
@@ -121,21 +162,25 @@ same_on_ask s from g number change.Leave p = same_self s
 pub same_on_asked : (s : State) (from : SiteNo) (g : GroupNo) (number : ℕ) (full : Bool) → SameLaw s (on_asked s from g number full)
 same_on_asked s from g number true = same_self s
 same_on_asked s from g number false =
-    let now : State = set_group s g (with_answer (s.group g)) in
-    let answered : SameLaw s now = same_group_set s g (with_answer (s.group g)) refl refl in
+    let paid : State = paying s (ask_key g s.config.home) in
+    let now : State = set_group paid g (with_answer (s.group g)) in
+    let answered : SameLaw s now = same_then s paid now (same_owed s paid.owed) (same_group_set paid g (with_answer (s.group g)) refl refl) in
     elim (first_asking (s.group g).requests) as (λ o. SameLaw s (elim o [ Some a ↦ (if is_from_home s from && (a.number == number) then asking now g else s) | None ↦ s ])) [
       | Some a ↦ same_if s (asking now g) s (is_from_home s from && (a.number == number)) (same_then s now (asking now g) answered (same_asking now g)) (same_self s)
       | None ↦ same_self s
     ]
 
--- a view is completed where the group has none
-completes_unseen : (group : Group) (n : ℕ) → verdict_of group n ≡ Completes → has_view group ≡ false
+-- a view is completed where the group has none, and its number is a later one
+completes_unseen : (group : Group) (n : ℕ) → verdict_of group n ≡ Completes → (nat_le n group.number ≡ false) × (has_view group ≡ false)
 completes_unseen group n is = completes (nat_le n group.number) (has_view group) is
   where
-    completes : (known seen : Bool) → (if known then Again else if seen then Ignored else Completes) ≡ Completes → seen ≡ false
+    completes : (known seen : Bool) → (if known then Again else if seen then Ignored else Completes) ≡ Completes → (known ≡ false) × (seen ≡ false)
     completes true seen e = cc
     completes false true e = cc
-    completes false false e = refl
+    completes false false e = (refl, refl)
+
+later_number : (m n : ℕ) → nat_le n m ≡ false → m < n
+later_number m n not_below = grind (arith, nat_tests)
 
 pub lawful_on_install : (s : State) (from : SiteNo) (g : GroupNo) (n : ℕ) (members : Membership) (request : ℕ) → IsLawful s → is_group s g ≡ true → IsLawful (on_install s from g n members request)
 lawful_on_install s from g n members request l listed =
@@ -143,7 +188,7 @@ lawful_on_install s from g n members request l listed =
     lawful_if (elim (verdict_of (s.group g) n) [ Again ↦ again | Completes ↦ completing s g n members request | Ignored ↦ s ]) s (is_from_home s from)
     (λ _. elim (verdict_of (s.group g) n) as (λ v. verdict_of (s.group g) n ≡ v → IsLawful (elim v [ Again ↦ again | Completes ↦ completing s g n members request | Ignored ↦ s ])) [
       | Again ↦ λ _. lawful_emitted s s.config.home (frame.Installed g n) l
-      | Completes ↦ λ is. lawful_completing s g n members request l listed (completes_unseen (s.group g) n is)
+      | Completes ↦ λ is. let unseen = completes_unseen (s.group g) n is in lawful_completing s g n members request l listed unseen.1 (later_number (s.group g).number n unseen.0)
       | Ignored ↦ λ _. l
     ] refl)
     (λ _. l)
@@ -153,8 +198,8 @@ same_on_installed s from g n = same_if s (set_home s g (after_installed (s.home 
 
 pub lawful_on_frame : (s : State) (from : SiteNo) (f : SiteFrame) → IsLawful s → is_group s (group_of f) ≡ true → IsTypedFrame f → IsLawful (on_frame s from f)
 lawful_on_frame s from (frame.Data m) l listed typed = lawful_on_data s from m l typed
-lawful_on_frame s from (frame.Ack u) l listed typed = l
-lawful_on_frame s from (frame.Stable u) l listed typed = l
+lawful_on_frame s from (frame.Ack u) l listed typed = lawful_same s (on_ack s from u) (same_on_ack s from u) l
+lawful_on_frame s from (frame.Stable u) l listed typed = lawful_same s (on_stable s from u) (same_on_stable s from u) l
 lawful_on_frame s from (frame.Ask g number what p) l listed typed = lawful_same s (on_ask s from g number what p) (same_on_ask s from g number what p) l
 lawful_on_frame s from (frame.Asked g number full) l listed typed = lawful_same s (on_asked s from g number full) (same_on_asked s from g number full) l
 lawful_on_frame s from (frame.Prepare g view) l listed typed = l
@@ -173,28 +218,66 @@ lawful_framed s from f l typed =
 
 -- Events
 
-pub same_opened : (s : State) → SameLaw s (opened s)
-same_opened s = record { config = refl; got = refl; standing = λ k g. refl; view_in = λ k g. refl; number = λ g. refl; view = λ g. refl }
+-- the process of a new serial is not yet a member of any group
+abbrev pub IsUnborn : State → Type 0
+IsUnborn s = (g : GroupNo) → is_member ((s.process (s.used + 1)).standing g) ≡ false
 
-pub lawful_acted : (s : State) (e : Event) → IsLawful s → IsTyped e → IsLawful (acted s e).0
-lawful_acted s (event.Open d) l typed =
+pub lawful_opened : (s : State) → IsLawful s → IsUnborn s → IsLawful (opened s)
+lawful_opened s l unborn = record {
+  rising = l.rising;
+  known = l.known;
+  current = l.current;
+  viewed = l.viewed;
+  stamped = l.stamped;
+  spent = kept_map (IsSpent s) (IsSpent (opened s)) (λ m h. record {
+    reached = h.reached;
+    delivered = λ k given is here. elim (cases_eq (s.used + 1) k) [
+      | inl same ↦ absurd (false≢true (sym (unborn m.id.group) ∙ ap (λ j. is_member ((s.process j).standing m.id.group)) same ∙ is))
+      | inr other ↦ h.delivered k (given_less s.used k other given) is here
+    ];
+  }) s.got s.kept l.spent;
+  listed = l.listed;
+}
+  where
+    given_less : (used k : ℕ) → (used + 1 ≡ k → ⊥) → was_given (used + 1) k ≡ true → was_given used k ≡ true
+    given_less used k other given =
+        let parts = and_parts (nat_lt 0 k) (nat_le k (used + 1)) given in
+        and_from (nat_lt 0 k) (nat_le k used) parts.0 (le-leb k used (omega (arith, leb-true k (used + 1) parts.1, other)))
+
+-- Ticks
+
+pub same_resending : (s : State) (key : OwedKey) → SameLaw s (resending s key)
+same_resending s key =
+    let sent : State = sent_for s key in
+    same_then s sent (resending s key) (same_sent_for s key) (same_owed sent (resending s key).owed)
+
+pub same_ticked : (s : State) (t : ℕ) → SameLaw s (ticked s t)
+same_ticked s t =
+    let now : State = at_moment s t in
+    same_then s now (ticked s t)
+    (record { config = refl; used = refl; got = refl; kept = refl; delivered = λ k. refl; standing = λ k g. refl; view_in = λ k g. refl; number = λ g. refl; view = λ g. refl })
+    (same_fold resending same_resending (due_at now.moment now.owed) now)
+
+pub lawful_acted : (s : State) (e : Event) → IsLawful s → IsUnborn s → IsTyped e → IsLawful (acted s e).0
+lawful_acted s (event.Open d) l unborn typed =
     elim (s.used == MAX_NUMBER) as (λ b. IsLawful (if◌then◌else◌ {A = Effect} b (s, taken.Refused TooManySessions) (opened s, taken.Opened (s.used + 1))).0) [
       | true ↦ l
-      | false ↦ lawful_same s (opened s) (same_opened s) l
+      | false ↦ lawful_opened s l unborn
     ]
-lawful_acted s (event.Command d k c) l typed =
+lawful_acted s (event.Command d k c) l unborn typed =
     elim (is_open (s.session k)) as (λ b. IsLawful (if◌then◌else◌ {A = Effect} b (commanded s k c, taken.Nothing) (s, taken.Refused NotOpen)).0) [
       | true ↦ lawful_commanded s k c l
       | false ↦ l
     ]
-lawful_acted s (event.Frame d from f) l typed = lawful_framed s from f l typed
+lawful_acted s (event.Frame d from f) l unborn typed = lawful_framed s from f l typed
+lawful_acted s (event.Tick t) l unborn typed = lawful_same s (ticked s t) (same_ticked s t) l
 
 -- Deliveries
 
 pub lawful_first : (s : State) (k : ℕ) → IsLawful s → IsLawful (deliver_first k s)
 lawful_first s k l =
-    elim (find (is_ready_for s k) s.got) as (λ o. find (is_ready_for s k) s.got ≡ o → IsLawful (elim o [ Some m ↦ delivering s k m | None ↦ s ])) [
-      | Some m ↦ λ is. lawful_delivering s k m l (found_in (is_ready_for s k) s.got m is) (found_passes (is_ready_for s k) s.got m is)
+    elim (find (is_ready_for s k) s.got) as (λ o. find (is_ready_for s k) s.got ≡ o → IsLawful (elim o [ Some m ↦ let_go (delivering s k m) | None ↦ s ])) [
+      | Some m ↦ λ is. lawful_let_go (delivering s k m) (lawful_delivering s k m l (found_in (is_ready_for s k) s.got m is) (found_passes (is_ready_for s k) s.got m is))
       | None ↦ λ _. l
     ] refl
 

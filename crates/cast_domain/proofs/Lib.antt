@@ -4,6 +4,7 @@ pub mod FirstCast
 pub mod Waiting
 pub mod Overlapping
 pub mod Ignored
+pub mod Keeping
 pub mod Totals
 pub mod Alikes
 pub mod Settles
@@ -14,7 +15,10 @@ pub mod Loops
 pub mod Spots
 pub mod Lawful
 pub mod LawfulSteps
+pub mod Shares
 pub mod Standing
+pub mod Owings
+pub mod Releases
 pub mod Turns
 pub mod Commands
 pub mod Entering

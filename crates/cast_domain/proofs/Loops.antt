@@ -1,5 +1,5 @@
 -- Loops over serials, places and turns.
-use Rattle.std.proofs.Common.{◌≡◌, ℕ, ◌<◌, ◌+◌, ◌-◌, zero, suc, List, [], ◌∷◌, length, get_or, drop, refl, sym, ap, ◌∙◌, arith}
+use Rattle.std.proofs.Common.{◌≡◌, ℕ, ◌<◌, ◌+◌, ◌-◌, zero, suc, List, [], ◌∷◌, length, get_or, drop, refl, sym, ap, subst, ◌∙◌, arith}
 use Rattle.std.specs.List.{fold, range_with_len}
 use Rattle.std.proofs.lemmas.List.{drop_more}
 use Rattle.cast_types.specs.Places.{update}
@@ -7,7 +7,11 @@ use Rattle.cast_types.specs.Repeat.{iterate}
 use Rattle.cast_domain.specs.declared.domain.Domain.{Domain}
 use Rattle.cast_domain.specs.declared.record.GroupRecord.{GroupRecord}
 use Rattle.cast_domain.specs.Calls.{record_at}
-use Rattle.cast_domain.specs.Records.{Keeps}
+use Rattle.cast_domain.specs.declared.config.DomainConfig.{DomainConfig}
+use Rattle.cast_domain.specs.declared.shared.Shared.{Shared}
+use Rattle.cast_domain.specs.Shared.{LeavesOthers, part_of}
+use Rattle.cast_domain.specs.declared.event.Outs.{Outs}
+use Rattle.cast_domain.specs.Records.{Keeps, records_of, records_in}
 
 pub keeps_then : (a b c : Domain) → Keeps a b → Keeps b c → Keeps a c
 keeps_then a b c first then = record {
@@ -16,6 +20,14 @@ keeps_then a b c first then = record {
   config = then.config ∙ first.config;
   halted = then.halted ∙ first.halted;
 }
+
+-- what others have stays over two changes
+pub others_then : (a b : Domain) (x y z : Shared) → Keeps a b → LeavesOthers a.config.domain x y → LeavesOthers b.config.domain y z → LeavesOthers a.config.domain x z
+others_then a b x y z same first then = subst (λ d. LeavesOthers d y z) (ap (λ (c : DomainConfig). c.domain) same.config) then ∙ first
+
+-- a domain with what is shared, after its own change
+pub seen_as : (a b : Domain) → Keeps a b → (h : Shared) (o : Outs) → records_in b h o ≡ records_of b (part_of a.config.domain h) o
+seen_as a b same h o = ap (λ (c : DomainConfig). records_of b (part_of c.domain h) o) same.config
 
 -- one more of a fold over a list
 pub fold_item : {A B : Type 0} (f : A → B → A) (x : A) (xs : List B) (i : ℕ) (d : B) → i < length xs → fold f (f x (get_or xs i d)) (drop (i + 1) xs) ≡ fold f x (drop i xs)

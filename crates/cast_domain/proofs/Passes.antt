@@ -7,7 +7,7 @@ use Rattle.cast_domain.specs.Run.{before_event}
 use Rattle.cast_domain.specs.Records.{Records}
 use Rattle.cast_domain.specs.Calls.{pass_in}
 use Rattle.cast_domain.specs.Fits.{Fits, IsLawful}
-use Rattle.cast_domain.proofs.LawfulSteps.{lawful_settle, lawful_pass}
+use Rattle.cast_domain.proofs.LawfulSteps.{lawful_pass}
 use Rattle.cast_domain.proofs.Turns.{fits_pass, still_pass}
 
 -- the records stand for a lawful history
@@ -15,7 +15,7 @@ abbrev pub Stands : Records → State → Type 0
 Stands r s = Fits r s × IsLawful s
 
 pub stands_pass : (w v : Records) → v ≡ pass_in w → (s : State) → Stands w s → Stands v (pass s)
-stands_pass w v made s h = (subst (λ r. Fits r (pass s)) (sym made) (fits_pass w s h.0 (lawful_settle s h.1)), lawful_pass s h.1)
+stands_pass w v made s h = (subst (λ r. Fits r (pass s)) (sym made) (fits_pass w s h.0 h.1), lawful_pass s h.1)
 
 -- between two steps nothing is sent or delivered
 pub fits_between : (r : Records) (s : State) → Fits r s → Fits (record r { frames = []; delivered = [] }) (before_event s)
@@ -27,9 +27,14 @@ fits_between r s fits = record {
   sessions = fits.sessions;
   all_open = fits.all_open;
   groups = fits.groups;
-  got = fits.got;
+  moment = fits.moment;
+  kept = fits.kept;
+  fresh = fits.fresh;
+  owed = fits.owed;
   delay = fits.delay;
   admitted = fits.admitted;
+  rows = fits.rows;
+  acks = fits.acks;
   frames = refl;
   delivered = refl;
 }

@@ -17,12 +17,11 @@ use Rattle.cast_domain.specs.Phase.{is_idle}
 use Rattle.cast_domain.specs.Group.{sites_of}
 use Rattle.cast_domain.specs.Home.{may_decide, decided}
 use Rattle.cast_domain.specs.State.{State, serials, is_home, is_ready_for, set_home}
-use Rattle.cast_domain.specs.Effects.{delivering}
 use Rattle.cast_domain.specs.Rest.{deliver_first, deliver_all, settle, send_install, install_frame, decide, lead_all, pass, RestsAt}
 use Rattle.cast_domain.specs.Endings.{total, one_if, left, rank, ranks, undelivered, to_do, Moves, PassMoves, EachComesToRest, RestIsOne}
 use Rattle.cast_domain.proofs.Alikes.{Alike, alike_fold, alike_emitted}
 use Rattle.cast_domain.proofs.Totals.{In, total_lt, left_push, left_found}
-use Rattle.cast_domain.proofs.Settles.{Delivers, delivers, ready_new, delivered_first, delivered_none, iterate_twice}
+use Rattle.cast_domain.proofs.Settles.{Delivers, delivering_one, delivers, ready_new, delivered_first, delivered_none, iterate_twice}
 
 -- what is to be done is seen in what stays alike
 to_do_alike : (s t : State) → Alike s t → to_do t ≡ to_do s
@@ -87,9 +86,9 @@ moves_first s k at =
     elim (find (is_ready_for s k) s.got) as (λ o. find (is_ready_for s k) s.got ≡ o → Moves s (deliver_first k s)) [
       | None ↦ λ e. subst (Moves s) (sym (delivered_none s k e)) (moves_self s)
       | Some m ↦ λ e.
-          let d : Delivers k m s (delivering s k m) = delivers s k m in
+          let d : Delivers k m s (delivering_one s k m) = delivers s k m in
           subst (Moves s) (sym (delivered_first s k m e))
-          (record { config = d.config; used = d.used; way = inr (to_do_delivers s (delivering s k m) k m d at (left_found (is_ready_for s k) (s.process k).delivered s.got m (ready_new s k) e)) })
+          (record { config = d.config; used = d.used; way = inr (to_do_delivers s (delivering_one s k m) k m d at (left_found (is_ready_for s k) (s.process k).delivered s.got m (ready_new s k) e)) })
     ] refl
 
 moves_iterate : (n : ℕ) (k : ℕ) (s : State) → In k (serials s) → Moves s (iterate n (deliver_first k) s)

@@ -11,11 +11,11 @@ use Rattle.cast_clock.specs.Times.{join}
 use Rattle.cast_frame.specs.declared.client.Push.TheVariants as push
 use Rattle.cast_frame.specs.declared.message.Message.{Message}
 use Rattle.cast_delay.specs.Ready.{Process, has_delivered, is_member}
-use Rattle.cast_domain.specs.State.{State, local, set_process, gate_of, is_ready_for}
+use Rattle.cast_domain.specs.State.{State, local, set_process, gate_of, is_ready_for, let_go}
 use Rattle.cast_domain.specs.Effects.{delivering, payload_of, cast_kind_of}
 use Rattle.cast_domain.specs.Rest.{deliver_first, deliver_all}
 use Rattle.cast_domain.specs.Endings.{left, SettlesOne, TurnsAreEnough}
-use Rattle.cast_domain.proofs.Alikes.{Alike, alike_pushing}
+use Rattle.cast_domain.proofs.Alikes.{Alike, alike_pushing, alike_let_go}
 use Rattle.cast_domain.proofs.Totals.{left_found, left_le}
 
 -- a process delivered a message
@@ -49,10 +49,17 @@ at_one s k v j = elim (k == j) as (λ b. (if b then v else s.process j).delivere
 delivers_before : (s : State) (k : ℕ) (m : Message) → Delivers k m s (after_delivery s k m)
 delivers_before s k m = record { config = refl; used = refl; got = refl; home = refl; delivered = at_one s k (record (s.process k) { time = join (s.process k).time m.times; delivered = (s.process k).delivered ++ m.id ∷ [] }) }
 
-pub delivers : (s : State) (k : ℕ) (m : Message) → Delivers k m s (delivering s k m)
+-- a process delivers a message, and what is free then is let go
+abbrev pub delivering_one : State → ℕ → Message → State
+delivering_one s k m = let_go (delivering s k m)
+
+pub delivers : (s : State) (k : ℕ) (m : Message) → Delivers k m s (delivering_one s k m)
 delivers s k m =
     let n : State = after_delivery s k m in
-    delivers_then k m s n (delivering s k m) (delivers_before s k m) (alike_pushing n k (push.Deliver m.id (cast_kind_of m.body) (payload_of m.body)))
+    let t : State = delivering s k m in
+    delivers_then k m s t (let_go t)
+    (delivers_then k m s n t (delivers_before s k m) (alike_pushing n k (push.Deliver m.id (cast_kind_of m.body) (payload_of m.body))))
+    (alike_let_go t)
 
 -- what is ready was not delivered
 pub ready_new : (s : State) (k : ℕ) (m : Message) → is_ready_for s k m ≡ true → list_any (uid_eq m.id) (s.process k).delivered ≡ false
@@ -61,17 +68,17 @@ ready_new s k m e =
     let c = and_parts (m.id.view == (gate_of s m.id.group).number) _ b.1 in
     not-true (has_delivered (s.process k) m.id) (and_parts (not (has_delivered (s.process k) m.id)) _ c.1).0
 
-pub delivered_first : (s : State) (k : ℕ) (m : Message) → find (is_ready_for s k) s.got ≡ Some m → deliver_first k s ≡ delivering s k m
-delivered_first s k m e = ap (λ (o : Option Message). elim o [ Some m ↦ delivering s k m | None ↦ s ]) e
+pub delivered_first : (s : State) (k : ℕ) (m : Message) → find (is_ready_for s k) s.got ≡ Some m → deliver_first k s ≡ delivering_one s k m
+delivered_first s k m e = ap (λ (o : Option Message). elim o [ Some m ↦ delivering_one s k m | None ↦ s ]) e
 
 pub delivered_none : (s : State) (k : ℕ) → find (is_ready_for s k) s.got ≡ None → deliver_first k s ≡ s
-delivered_none s k e = ap (λ (o : Option Message). elim o [ Some m ↦ delivering s k m | None ↦ s ]) e
+delivered_none s k e = ap (λ (o : Option Message). elim o [ Some m ↦ delivering_one s k m | None ↦ s ]) e
 
 -- fewer are left
-pub delivered_less : (s : State) (k : ℕ) (m : Message) → find (is_ready_for s k) s.got ≡ Some m → left ((delivering s k m).process k).delivered (delivering s k m).got < left (s.process k).delivered s.got
+pub delivered_less : (s : State) (k : ℕ) (m : Message) → find (is_ready_for s k) s.got ≡ Some m → left ((delivering_one s k m).process k).delivered (delivering_one s k m).got < left (s.process k).delivered s.got
 delivered_less s k m e =
-    let d : Delivers k m s (delivering s k m) = delivers s k m in
-    let t : State = delivering s k m in
+    let d : Delivers k m s (delivering_one s k m) = delivers s k m in
+    let t : State = delivering_one s k m in
     let same : (t.process k).delivered ≡ (s.process k).delivered ++ m.id ∷ [] = d.delivered k ∙ ap (λ b. if b then (s.process k).delivered ++ m.id ∷ [] else (s.process k).delivered) (eq-eqb k k refl) in
     subst (λ n. n < left (s.process k).delivered s.got) (sym (ap (λ ids. left ids t.got) same ∙ ap (left ((s.process k).delivered ++ m.id ∷ [])) d.got))
     (left_found (is_ready_for s k) (s.process k).delivered s.got m (ready_new s k) e)
@@ -88,7 +95,7 @@ settled_in zero s k enough =
 settled_in (suc n) s k enough =
     elim (find (is_ready_for s k) s.got) as (λ o. find (is_ready_for s k) s.got ≡ o → NoneReady k (iterate n (deliver_first k) (deliver_first k s))) [
       | None ↦ λ e. subst (NoneReady k) (sym (ap (iterate n (deliver_first k)) (delivered_none s k e) ∙ iterate_still n (deliver_first k) s (delivered_none s k e))) e
-      | Some m ↦ λ e. let less = delivered_less s k m e in subst (λ t. NoneReady k (iterate n (deliver_first k) t)) (sym (delivered_first s k m e)) (settled_in n (delivering s k m) k (omega arith))
+      | Some m ↦ λ e. let less = delivered_less s k m e in subst (λ t. NoneReady k (iterate n (deliver_first k) t)) (sym (delivered_first s k m e)) (settled_in n (delivering_one s k m) k (omega arith))
     ] refl
 
 pub settles_one : SettlesOne

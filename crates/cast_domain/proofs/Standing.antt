@@ -1,7 +1,7 @@
 -- What changes a domain's records changes the history that they stand for in the same way: one change at a time.
 use Rattle.std.proofs.Common.{◌≡◌, ℕ, zero, suc, ◌+◌, ◌-◌, ◌<◌, ◌≤◌, Bool, true, false, cond, ◌&&◌, List, [], ◌∷◌, ◌++◌, length, map, Option, Some, None, unwrap_or, refl, sym, ap, subst, ◌∙◌, inl, inr, arith}
 use Rattle.std.specs.Prelude.{◌==◌, nat_lt, nat_le, if◌then◌else◌, slice_get, is_some}
-use Rattle.std.specs.List.{find}
+use Rattle.std.specs.List.{find, range_with_len}
 use Rattle.std.specs.FinMap.Entries.{put}
 use Rattle.std.specs.Option.{IsSome, option_map, option_map_or}
 use Rattle.std.proofs.lemmas.Bool.{cases_Bool, cases_eq, false≢true, false_from_ne_true, and_parts, and_from, eqb-true, eq-eqb, ne_eqb, ltb-true, lt-ltb, leb-true, le-leb, or_from, or_left, or_right}
@@ -26,8 +26,13 @@ use Rattle.cast_delay.specs.declared.row.Fact.{Fact}
 use Rattle.cast_delay.specs.declared.row.Fact.TheVariants as fact
 use Rattle.cast_delay.specs.Ready.{Process, Gate, is_outside}
 use Rattle.cast_delay.specs.Rows.{standing_in, told_row}
-use Rattle.cast_delay.specs.Queue.{key_eq, new_row, row_of, change_row}
-use Rattle.cast_delay.specs.Fits.{Received, message_under, IsSound, FactFits, Fits as QueueFits, set_process as set_named, told as told_of}
+use Rattle.cast_delay.specs.Queue.{new_row, row_of, change_row}
+use Rattle.cast_frame.specs.declared.message.Received.{Received}
+use Rattle.cast_frame.specs.Receipts.{key_eq, message_under}
+use Rattle.cast_stable.specs.Ledger.{new_ledger, told_ledger, received_ledger}
+use Rattle.cast_stable.specs.Fits.{Fits as AcksFits}
+use Rattle.cast_stable.proofs.Meanings.{new_fits as acks_new_fits, tell_fits as acks_tell_fits, receive_fits as acks_receive_fits}
+use Rattle.cast_delay.specs.Fits.{IsSound, FactFits, Fits as QueueFits, set_process as set_named, told as told_of}
 use Rattle.cast_delay.proofs.Queues.{new_fits, admit_fits, tell_fits, view_fits, offer_fits}
 use Rattle.cast_delay.proofs.Listed.{same_bools}
 use Rattle.cast_delay.proofs.Finds.{find-append_some, find-append_none}
@@ -37,14 +42,15 @@ use Rattle.cast_domain.specs.declared.session.Session.{Session}
 use Rattle.cast_domain.specs.declared.group.Group.{Group}
 use Rattle.cast_domain.specs.declared.home.Home.{Home}
 use Rattle.cast_domain.specs.Session.{no_session, first_session, is_open, pushed_to, told}
-use Rattle.cast_domain.specs.Group.{with_view}
-use Rattle.cast_domain.specs.State.{State, opening, no_process, local, is_group, gate_of, set_session, set_process, set_group, set_home, set_standing, emitted}
+use Rattle.cast_domain.specs.Group.{no_group, members_of, other_sites, with_view}
+use Rattle.cast_domain.specs.State.{State, opening, no_process, local, is_group, gate_of, others_of, set_session, set_process, set_group, set_home, set_standing, emitted}
 use Rattle.cast_domain.specs.Effects.{pushing, receiving}
 use Rattle.cast_domain.specs.Step.{opened}
 use Rattle.cast_domain.specs.Run.{before_event}
+use Rattle.cast_domain.specs.Shared.{no_part}
 use Rattle.cast_domain.specs.Records.{Records, was_given}
 use Rattle.cast_domain.specs.Calls.{place_among, local_in, place_in, no_record, record_at, standing_of, time_of, send_in, push_in, tell_in, open_in, receive_in, view_in}
-use Rattle.cast_domain.specs.Fits.{keyed, process_named, record_for, session_in, Fits, IsLawful}
+use Rattle.cast_domain.specs.Fits.{process_named, record_for, session_in, Fits, IsLawful}
 use Rattle.cast_domain.proofs.Spots.{length_update, update_own, update_other, push_last, push_other, update_mapped}
 
 -- Choices on both sides
@@ -166,9 +172,14 @@ fits_send r s fits to f = record {
   sessions = fits.sessions;
   all_open = fits.all_open;
   groups = fits.groups;
-  got = fits.got;
+  moment = fits.moment;
+  kept = fits.kept;
+  fresh = fits.fresh;
+  owed = fits.owed;
   delay = fits.delay;
   admitted = fits.admitted;
+  rows = fits.rows;
+  acks = fits.acks;
   frames = (λ i. fits.frames i ++ ((fits.config i).domain, to, f) ∷ []) ∙ sym (map-append (λ (x : SiteNo × SiteFrame). (s.config.domain, x.0, x.1)) s.frames ((to, f) ∷ []));
   delivered = fits.delivered;
 }
@@ -226,9 +237,14 @@ fits_push r s fits k p =
       sessions = λ j. pushed_now j is_so (ltb-true 0 k above);
       all_open = still_open;
       groups = fits.groups;
-      got = fits.got;
+      moment = fits.moment;
+      kept = fits.kept;
+      fresh = fits.fresh;
+      owed = fits.owed;
       delay = fits.delay;
       admitted = fits.admitted;
+      rows = fits.rows;
+      acks = fits.acks;
       frames = fits.frames;
       delivered = fits.delivered;
     }
@@ -252,6 +268,26 @@ gate_same s g v same = λ i h. record { number = at_group h i }
       | inr other ↦ ap (λ b. (if b then v else s.group h).number) (sym other)
     ]
 
+-- the other sites of a group's view, as they are told
+others_told : (s : State) (g : GroupNo) (v : Group) → set_at group_eq (others_of s) g (other_sites s.here (members_of v)) ≡ others_of (set_group s g v)
+others_told s g v = λ i h. at_group h i
+  where
+    at_group : (h : GroupNo) → set_at group_eq (others_of s) g (other_sites s.here (members_of v)) h ≡ others_of (set_group s g v) h
+    at_group h =
+        elim (group_eq g h) as (λ b. ◌≡◌ {A = List SiteNo} (if b then other_sites s.here (members_of v) else other_sites s.here (members_of (s.group h))) (other_sites s.here (members_of (if b then v else s.group h)))) [ true ↦ refl | false ↦ refl ]
+
+same_members : (v w : Group) → v.view ≡ w.view → members_of v ≡ members_of w
+same_members v w same = λ i. members_of (record no_group { view = same i })
+
+others_same : (s : State) (g : GroupNo) (v : Group) → v.view ≡ (s.group g).view → others_of s ≡ others_of (set_group s g v)
+others_same s g v same = λ i h. other_sites s.here (at_group h i)
+  where
+    at_group : (h : GroupNo) → members_of (s.group h) ≡ members_of ((set_group s g v).group h)
+    at_group h = elim (cases_Bool (group_eq g h)) [
+      | inl here ↦ ap (λ k. members_of (s.group k)) (sym (same_group g h here)) ∙ sym (same_members v (s.group g) same) ∙ ap (λ b. members_of (if b then v else s.group h)) (sym here)
+      | inr other ↦ ap (λ b. members_of (if b then v else s.group h)) (sym other)
+    ]
+
 -- the record of a group with another state
 groups_here : (s : State) → IsLawful s → (i : ℕ) (g : GroupNo) → slice_get s.config.groups i ≡ Some g → (change : Group → Group) → update (map (record_for s) s.config.groups) i (λ x. record x { here = change x.here }) ≡ map (record_for (set_group s g (change (s.group g)))) s.config.groups
 groups_here s lawful i g at change =
@@ -266,8 +302,8 @@ groups_home s lawful i g at change =
     (λ h other. ap (λ b. record { name = h; here = s.group h; home = if b then change (s.home g) else s.home h }) (sym other))
 
 -- a change of the group at this site that leaves its number
-pub fits_here : (r : Records) (s : State) → Fits r s → IsLawful s → (i : ℕ) (g : GroupNo) → slice_get s.config.groups i ≡ Some g → (change : Group → Group) → (change (s.group g)).number ≡ (s.group g).number → Fits (record r { groups = update r.groups i (λ x. record x { here = change x.here }) }) (set_group s g (change (s.group g)))
-fits_here r s fits lawful i g at change same = record {
+pub fits_here : (r : Records) (s : State) → Fits r s → IsLawful s → (i : ℕ) (g : GroupNo) → slice_get s.config.groups i ≡ Some g → (change : Group → Group) → (change (s.group g)).number ≡ (s.group g).number → (change (s.group g)).view ≡ (s.group g).view → Fits (record r { groups = update r.groups i (λ x. record x { here = change x.here }) }) (set_group s g (change (s.group g)))
+fits_here r s fits lawful i g at change same seen = record {
   site = fits.site;
   config = fits.config;
   used = fits.used;
@@ -275,9 +311,14 @@ fits_here r s fits lawful i g at change same = record {
   sessions = fits.sessions;
   all_open = fits.all_open;
   groups = ap (λ gs. update gs i (λ x. record x { here = change x.here })) fits.groups ∙ groups_here s lawful i g at change;
-  got = fits.got;
-  delay = subst (λ gate. QueueFits s.config.groups gate (process_named s) (keyed 0 s.got) r.delay) (gate_same s g (change (s.group g)) same) fits.delay;
+  moment = fits.moment;
+  kept = fits.kept;
+  fresh = fits.fresh;
+  owed = fits.owed;
+  delay = subst (λ gate. QueueFits s.config.groups gate (process_named s) r.part.kept r.delay) (gate_same s g (change (s.group g)) same) fits.delay;
   admitted = fits.admitted;
+  rows = fits.rows;
+  acks = subst (λ others. AcksFits s.here others (map (λ m. m.id) s.got) s.acks s.told r.acks) (others_same s g (change (s.group g)) seen) fits.acks;
   frames = fits.frames;
   delivered = fits.delivered;
 }
@@ -292,12 +333,20 @@ fits_view r s fits lawful i g at n members = record {
   sessions = fits.sessions;
   all_open = fits.all_open;
   groups = (λ j. update (fits.groups j) i (λ x. record x { here = with_view (fits.site j) n members x.here })) ∙ groups_here s lawful i g at (with_view s.here n members);
-  got = fits.got;
-  delay = subst (λ h. QueueFits s.config.groups (gate_of (set_group s g (with_view s.here n members (s.group g)))) (process_named s) (keyed 0 s.got) (record r.delay { numbers = put group_cmp h n r.delay.numbers }))
+  moment = fits.moment;
+  kept = fits.kept;
+  fresh = fits.fresh;
+  owed = fits.owed;
+  delay = subst (λ h. QueueFits s.config.groups (gate_of (set_group s g (with_view s.here n members (s.group g)))) (process_named s) r.part.kept (record r.delay { numbers = put group_cmp h n r.delay.numbers }))
       (sym (ap (λ (x : GroupRecord). x.name) (record_there r s fits i g at)))
-      (subst (λ gate. QueueFits s.config.groups gate (process_named s) (keyed 0 s.got) (record r.delay { numbers = put group_cmp g n r.delay.numbers })) (gate_told s g (with_view s.here n members (s.group g)))
-      (view_fits s.config.groups (gate_of s) (process_named s) (keyed 0 s.got) r.delay fits.delay g n));
+      (subst (λ gate. QueueFits s.config.groups gate (process_named s) r.part.kept (record r.delay { numbers = put group_cmp g n r.delay.numbers })) (gate_told s g (with_view s.here n members (s.group g)))
+      (view_fits s.config.groups (gate_of s) (process_named s) r.part.kept r.delay fits.delay g n));
   admitted = fits.admitted;
+  rows = fits.rows;
+  acks = subst (λ others. AcksFits s.here others (map (λ m. m.id) s.got) s.acks s.told (view_in r i n members).acks) (others_told s g (with_view s.here n members (s.group g)))
+      (subst (λ l. AcksFits s.here (set_at group_eq (others_of s) g (other_sites s.here (members_of (with_view s.here n members (s.group g))))) (map (λ m. m.id) s.got) s.acks s.told l)
+      (λ j. told_ledger r.acks (sym (record_there r s fits i g at) j).name (other_sites (sym fits.site j) (members_of (with_view (sym fits.site j) n members (sym (record_there r s fits i g at) j).here))))
+      (acks_tell_fits s.here (others_of s) (map (λ m. m.id) s.got) s.acks s.told r.acks fits.acks g (other_sites s.here (members_of (with_view s.here n members (s.group g))))));
   frames = fits.frames;
   delivered = fits.delivered;
 }
@@ -312,9 +361,14 @@ fits_home r s fits lawful i g at change = record {
   sessions = fits.sessions;
   all_open = fits.all_open;
   groups = ap (λ gs. update gs i (λ x. record x { home = change x.home })) fits.groups ∙ groups_home s lawful i g at change;
-  got = fits.got;
+  moment = fits.moment;
+  kept = fits.kept;
+  fresh = fits.fresh;
+  owed = fits.owed;
   delay = fits.delay;
   admitted = fits.admitted;
+  rows = fits.rows;
+  acks = fits.acks;
   frames = fits.frames;
   delivered = fits.delivered;
 }
@@ -343,6 +397,15 @@ still_in p f keeps q rows was = same_in rows ∙ was
           | false ↦ same_in rows
         ]
 
+-- and the rows are those of the same processes
+pub same_names : (p : Proc) (f : Row → Row) → ((r : Row) → (f r).process ≡ r.process) → (rows : List Row) → map (λ row. row.process) (change_row p f rows) ≡ map (λ row. row.process) rows
+same_names p f keeps [] = refl
+same_names p f keeps (r ∷ rows) = (λ i. name (proc_eq r.process p) i ∷ same_names p f keeps rows i)
+  where
+    name : (b : Bool) → (cond b (f r) r).process ≡ r.process
+    name true = keeps r
+    name false = refl
+
 -- what changes a process by its name changes it by its serial
 pub named_set : (s : State) (k : ℕ) (f : Process → Process) → set_named (process_named s) (local s k) (f (process_named s (local s k))) ≡ process_named (set_process s k (f (s.process k)))
 named_set s k f = ap (λ p. set_named (process_named s) (local s k) (f p)) (process_here s k) ∙ sym (process_set s k (f (s.process k)))
@@ -357,10 +420,15 @@ fits_told r s fits k row f ok = record {
   sessions = fits.sessions;
   all_open = fits.all_open;
   groups = fits.groups;
-  got = fits.got;
-  delay = subst (λ ps. QueueFits s.config.groups (gate_of s) ps (keyed 0 s.got) (record r.delay { rows = change_row (local s k) (told_row f) r.delay.rows })) (named_set s k (told_of f))
-      (tell_fits s.config.groups (gate_of s) (process_named s) (keyed 0 s.got) r.delay fits.delay (local s k) f row ok);
+  moment = fits.moment;
+  kept = fits.kept;
+  fresh = fits.fresh;
+  owed = fits.owed;
+  delay = subst (λ ps. QueueFits s.config.groups (gate_of s) ps r.part.kept (record r.delay { rows = change_row (local s k) (told_row f) r.delay.rows })) (named_set s k (told_of f))
+      (tell_fits s.config.groups (gate_of s) (process_named s) r.part.kept r.delay fits.delay (local s k) f row ok);
   admitted = λ j was. still_in (local s k) (told_row f) (told_keeps f) (local s j) r.delay.rows (fits.admitted j was);
+  rows = same_names (local s k) (told_row f) (told_keeps f) r.delay.rows ∙ fits.rows;
+  acks = fits.acks;
   frames = fits.frames;
   delivered = fits.delivered;
 }
@@ -377,19 +445,13 @@ fits_time r s fits k given t = fits_tell r s fits k given (fact.Time t) tt
 
 -- Messages and sessions that come
 
--- the last message stands under a key of its own
-pub keyed_push : (n : ℕ) (got : List Message) (m : Message) → keyed n (got ++ m ∷ []) ≡ keyed n got ++ record { key = record { 0 = n + length got }; message = m } ∷ []
-keyed_push n [] m = ap (λ k. record { key = record { 0 = k }; message = m } ∷ []) (omega arith)
-keyed_push n (x ∷ got) m =
-    ap (λ rest. record { key = record { 0 = n }; message = x } ∷ rest) (keyed_push (n + 1) got m)
-    ∙ ap (λ k. record { key = record { 0 = n }; message = x } ∷ (keyed (n + 1) got ++ record { key = record { 0 = k }; message = m } ∷ [])) (omega arith)
-
--- nothing stands under a key past the end
-pub key_past : (n : ℕ) (got : List Message) (j : ℕ) → n + length got ≤ j → message_under (keyed n got) (record { 0 = j }) ≡ None
-key_past n [] j past = refl
-key_past n (x ∷ got) j past =
-    ap (λ b. option_map (λ (r : Received). r.message) (cond b (Some (record { key = record { 0 = n }; message = x })) (find (λ r. key_eq r.key (record { 0 = j })) (keyed (n + 1) got)))) (ne_eqb n j (λ same. omega (arith, same, past)))
-    ∙ key_past (n + 1) got j (omega (arith, past))
+-- nothing stands under the keys that come
+fresh_push : (kept : List Received) (next : ℕ) (m : Message) → ((n : ℕ) → next ≤ n → message_under kept (record { 0 = n }) ≡ None) → (n : ℕ) → next + 1 ≤ n → message_under (kept ++ record { key = record { 0 = next }; message = m } ∷ []) (record { 0 = n }) ≡ None
+fresh_push kept next m fresh n past =
+    let x : Received = record { key = record { 0 = next }; message = m } in
+    ap (λ (o : Option Received). option_map (λ (y : Received). y.message) o)
+    (find-append_none (λ (y : Received). key_eq y.key (record { 0 = n })) kept (x ∷ []) (mapped_none (λ (y : Received). y.message) (find (λ y. key_eq y.key (record { 0 = n })) kept) (fresh n (omega (arith, past))))
+    ∙ ap (λ b. cond b (Some x) None) (ne_eqb next n (λ same. omega (arith, same, past))))
 
 -- a message is received
 pub fits_receive : (r : Records) (s : State) → Fits r s → (m : Message) → IsSound m → Fits (receive_in r m) (receiving s m)
@@ -401,13 +463,15 @@ fits_receive r s fits m sound = record {
   sessions = fits.sessions;
   all_open = fits.all_open;
   groups = fits.groups;
-  got = ap (λ got. got ++ m ∷ []) fits.got;
-  delay = subst (λ n. QueueFits s.config.groups (gate_of s) (process_named s) (keyed 0 (s.got ++ m ∷ [])) (record r.delay { offered = r.delay.offered ++ record { key = record { 0 = n }; id = m.id; times = m.times } ∷ [] }))
-      (ap length (sym fits.got))
-      (subst (λ rs. QueueFits s.config.groups (gate_of s) (process_named s) rs (record r.delay { offered = r.delay.offered ++ record { key = record { 0 = length s.got }; id = m.id; times = m.times } ∷ [] }))
-      (sym (keyed_push 0 s.got m ∙ ap (λ n. keyed 0 s.got ++ record { key = record { 0 = n }; message = m } ∷ []) (omega arith)))
-      (offer_fits s.config.groups (gate_of s) (process_named s) (keyed 0 s.got) r.delay fits.delay (record { key = record { 0 = length s.got }; message = m }) sound (key_past 0 s.got (length s.got) (omega arith))));
+  moment = fits.moment;
+  kept = map-append (λ (x : Received). x.message) r.part.kept (record { key = record { 0 = r.part.next }; message = m } ∷ []) ∙ ap (λ ms. ms ++ m ∷ []) fits.kept;
+  fresh = fresh_push r.part.kept r.part.next m fits.fresh;
+  owed = fits.owed;
+  delay = offer_fits s.config.groups (gate_of s) (process_named s) r.part.kept r.delay fits.delay (record { key = record { 0 = r.part.next }; message = m }) sound (fits.fresh r.part.next (omega arith));
   admitted = fits.admitted;
+  rows = fits.rows;
+  acks = subst (λ ids. AcksFits s.here (others_of s) ids s.acks s.told (received_ledger r.acks m.id)) (sym (map-append (λ (x : Message). x.id) s.got (m ∷ [])))
+      (acks_receive_fits s.here (others_of s) (map (λ x. x.id) s.got) s.acks s.told r.acks fits.acks m.id);
   frames = fits.frames;
   delivered = fits.delivered;
 }
@@ -417,6 +481,17 @@ given_more : (used k : ℕ) → (used + 1 ≡ k → ⊥) → was_given used k �
 given_more used k other = ap (λ b. nat_lt 0 k && b) (same_bools (nat_le k used) (nat_le k (used + 1))
     (λ e. le-leb k (used + 1) (omega (arith, leb-true k used e)))
     (λ e. le-leb k used (omega (arith, leb-true k (used + 1) e, other))))
+
+last_serial : (n : ℕ) → n + 1 ≡ 1 + n
+last_serial n = omega arith
+
+one_more : (n : ℕ) → n + 1 ≡ suc n
+one_more n = omega arith
+
+-- one more serial is the last one
+range_push : (a n : ℕ) → range_with_len a (suc n) ≡ range_with_len a n ++ (a + n) ∷ []
+range_push a zero = ap (λ k. k ∷ []) (omega arith)
+range_push a (suc n) = ap (λ rest. a ∷ rest) (range_push (a + 1) n) ∙ ap (λ k. a ∷ (range_with_len (a + 1) n ++ k ∷ [])) (omega arith)
 
 -- a session is opened
 pub fits_open : (r : Records) (s : State) → Fits r s → Fits (open_in r) (opened s)
@@ -428,9 +503,17 @@ fits_open r s fits = record {
   sessions = opened_now;
   all_open = open_now;
   groups = fits.groups;
-  got = fits.got;
-  delay = admit_fits s.config.groups (gate_of s) (process_named s) (keyed 0 s.got) r.delay fits.delay named;
+  moment = fits.moment;
+  kept = fits.kept;
+  fresh = fits.fresh;
+  owed = fits.owed;
+  delay = admit_fits s.config.groups (gate_of s) (process_named s) r.part.kept r.delay fits.delay named;
   admitted = admitted_now;
+  rows =
+      map-append (λ (x : Row). x.process) r.delay.rows (new_row named ∷ [])
+      ∙ (λ i. fits.rows i ++ record { site = fits.site i; serial = (ap (λ n. n + 1) fits.used ∙ last_serial s.used) i } ∷ [])
+      ∙ sym (ap (λ n. map (local s) (range_with_len 1 n)) (one_more s.used) ∙ ap (map (local s)) (range_push 1 s.used) ∙ map-append (local s) (range_with_len 1 s.used) ((1 + s.used) ∷ []));
+  acks = fits.acks;
   frames = fits.frames;
   delivered = fits.delivered;
 }
@@ -477,7 +560,7 @@ fits_open r s fits = record {
     ]
 
 -- a new domain stands for the history before its first event
-pub fits_before : (here : SiteNo) (config : DomainConfig) → Fits (record { site = here; config = config; used = 0; sessions = []; groups = map (record_for (opening here config)) config.groups; got = []; delay = record { numbers = []; offered = []; rows = [] }; frames = []; delivered = [] }) (before_event (opening here config))
+pub fits_before : (here : SiteNo) (config : DomainConfig) → Fits (record { site = here; config = config; used = 0; sessions = []; groups = map (record_for (opening here config)) config.groups; moment = 0; part = no_part; delay = record { numbers = []; offered = []; rows = [] }; acks = new_ledger here; frames = []; delivered = [] }) (before_event (opening here config))
 fits_before here config = record {
   site = refl;
   config = refl;
@@ -486,9 +569,14 @@ fits_before here config = record {
   sessions = λ k. none_in k;
   all_open = λ k. sym (none_given k);
   groups = refl;
-  got = refl;
+  moment = refl;
+  kept = refl;
+  fresh = λ n past. refl;
+  owed = refl;
   delay = subst (λ ps. QueueFits config.groups (λ g. record { number = 0 }) ps [] (record { numbers = []; offered = []; rows = [] })) (λ i p. idle p i) (new_fits config.groups);
   admitted = λ k was. absurd (false≢true (sym (none_given k) ∙ was));
+  rows = refl;
+  acks = acks_new_fits here;
   frames = refl;
   delivered = refl;
 }

@@ -1,9 +1,9 @@
 -- The turns of the records' rest are those of the history that they stand for.
-use Rattle.std.proofs.Common.{◌≡◌, ℕ, zero, suc, ◌+◌, ◌≤◌, Bool, true, false, cond, not, List, [], ◌∷◌, ◌++◌, length, map, Option, Some, None, refl, sym, ap, subst, ◌∙◌, inl, inr, arith}
-use Rattle.std.specs.Prelude.{nat_lt, nat_le, if◌then◌else◌, slice_get}
+use Rattle.std.proofs.Common.{◌≡◌, ℕ, zero, suc, ◌+◌, ◌<◌, ◌≤◌, Bool, true, false, cond, not, List, [], ◌∷◌, ◌++◌, length, map, Option, Some, None, refl, sym, ap, subst, ◌∙◌, inl, inr, arith}
+use Rattle.std.specs.Prelude.{◌==◌, nat_lt, nat_le, if◌then◌else◌, slice_get, filter}
 use Rattle.std.specs.List.{fold, find, range_with_len}
-use Rattle.std.specs.Option.{IsSome, option_map, option_map_or}
-use Rattle.std.proofs.lemmas.Bool.{and_from, lt-ltb, le-leb, eq-eqb, ne_eqb}
+use Rattle.std.specs.Option.{IsSome, option_map_or}
+use Rattle.std.proofs.lemmas.Bool.{false≢true, false_from_ne_true, and_parts, and_from, lt-ltb, le-leb, eqb-true, eq-eqb}
 use Rattle.std.proofs.lemmas.List.{map-append, length-map}
 use Rattle.cast_types.specs.declared.names.SiteNo.{SiteNo}
 use Rattle.cast_types.specs.declared.names.GroupNo.{GroupNo}
@@ -18,10 +18,12 @@ use Rattle.cast_frame.specs.declared.client.Push.{Push}
 use Rattle.cast_frame.specs.declared.client.Push.TheVariants as push
 use Rattle.cast_delay.specs.declared.row.Row.{Row}
 use Rattle.cast_delay.specs.declared.offered.Offered.{Offered}
-use Rattle.cast_delay.specs.Ready.{has_delivered, is_causally_ready, first_ready}
+use Rattle.cast_delay.specs.Ready.{is_member, has_delivered, is_causally_ready, first_ready}
 use Rattle.cast_delay.specs.Rows.{delivered_row}
-use Rattle.cast_delay.specs.Queue.{key_eq, row_of, change_row, next_key, offered_under, after_delivery}
-use Rattle.cast_delay.specs.Fits.{Received, messages, message_under, RowFits, row_for, FirstReady, Fits as QueueFits, delivering as delivering_to}
+use Rattle.cast_delay.specs.Queue.{row_of, change_row, next_key, offered_under, after_delivery}
+use Rattle.cast_frame.specs.declared.message.Received.{Received}
+use Rattle.cast_frame.specs.Receipts.{messages, message_under}
+use Rattle.cast_delay.specs.Fits.{RowFits, row_for, FirstReady, Fits as QueueFits, delivering as delivering_to}
 use Rattle.cast_delay.proofs.Listed.{same_bools}
 use Rattle.cast_delay.proofs.Queues.{delivery_fits, next_rules}
 use Rattle.cast_domain.specs.declared.record.GroupRecord.{GroupRecord}
@@ -29,19 +31,23 @@ use Rattle.cast_domain.specs.declared.home.Home.{Home}
 use Rattle.cast_domain.specs.Session.{is_open, pushed_to}
 use Rattle.cast_domain.specs.Group.{sites_of}
 use Rattle.cast_domain.specs.Home.{may_decide, decided}
-use Rattle.cast_domain.specs.State.{State, local, gate_of, is_home, is_ready_for, set_session, set_process, set_home}
+use Rattle.cast_domain.specs.State.{State, local, serials, gate_of, is_home, is_ready_for, is_free, set_session, set_process, set_home}
 use Rattle.cast_domain.specs.Effects.{pushing, delivering, payload_of, cast_kind_of}
 use Rattle.cast_domain.specs.Rest.{deliver_first, deliver_all, settle, send_install, install_frame, decide, lead_all, pass}
 use Rattle.cast_domain.specs.Endings.{total, one_if, left, rank, ranks, undelivered, to_do}
 use Rattle.cast_domain.specs.Records.{Records, was_given}
-use Rattle.cast_domain.specs.Calls.{is_home_in, deliver_message_in, deliver_in, deliver_first_in, deliver_all_in, settle_at, settle_in, send_install_in, decide_in, lead_in, pass_in}
-use Rattle.cast_domain.specs.Fits.{keyed, process_named, record_for, Fits, IsLawful}
-use Rattle.cast_domain.proofs.Settles.{delivered_first, delivered_none}
+use Rattle.cast_domain.specs.Calls.{let_go_in, is_home_in, deliver_message_in, deliver_in, deliver_first_in, deliver_all_in, settle_at, settle_in, send_install_in, decide_in, lead_in, pass_in}
+use Rattle.cast_domain.specs.Fits.{process_named, record_for, Fits, IsSpent, AreKept, IsLawful}
+use Rattle.cast_domain.proofs.Settles.{delivering_one, delivers, ready_new, delivered_first, delivered_none, turns_are_enough}
 use Rattle.cast_domain.proofs.Rests.{moves_pass}
-use Rattle.cast_domain.proofs.Totals.{total_same}
+use Rattle.cast_domain.proofs.Totals.{total_same, left_found, left_le}
 use Rattle.cast_domain.proofs.Spots.{found_passes}
-use Rattle.cast_domain.proofs.LawfulSteps.{lawful_decide}
-use Rattle.cast_domain.proofs.Standing.{fits_if, fits_send, fits_push, fits_home, record_there, process_here, named_set, still_in}
+use Rattle.cast_domain.proofs.Lawful.{lawful_delivering}
+use Rattle.cast_domain.proofs.LawfulSteps.{lawful_first, lawful_deliver_all, lawful_settle, lawful_decide, same_decide}
+use Rattle.cast_domain.proofs.Releases.{fits_let_go}
+use Rattle.cast_delay.proofs.Finds.{found_in}
+use Rattle.cast_types.proofs.Iterates.{iterate_still}
+use Rattle.cast_domain.proofs.Standing.{fits_if, fits_send, fits_push, fits_home, record_there, process_here, named_set, still_in, same_names}
 
 -- What the turns leave as it is
 
@@ -86,8 +92,8 @@ kept_delivering s k m =
 pub kept_first : (k : ℕ) (s : State) → Kept s (deliver_first k s)
 kept_first k s = kept_found (find (is_ready_for s k) s.got)
   where
-    kept_found : (o : Option Message) → Kept s (elim o [ Some m ↦ delivering s k m | None ↦ s ])
-    kept_found (Some m) = kept_delivering s k m
+    kept_found : (o : Option Message) → Kept s (elim o [ Some m ↦ delivering_one s k m | None ↦ s ])
+    kept_found (Some m) = kept_then s (delivering s k m) (delivering_one s k m) (kept_delivering s k m) (record { here = refl; config = refl; used = refl })
     kept_found None = kept_self s
 
 pub kept_all : (s : State) (k : ℕ) → Kept s (deliver_all s k)
@@ -104,24 +110,6 @@ kept_decide s g =
 
 -- Deliveries
 
--- a message stands under its place as key
-pub keyed_at : (n : ℕ) (got : List Message) (j : ℕ) → message_under (keyed n got) (record { 0 = n + j }) ≡ slice_get got j
-keyed_at n [] j = refl
-keyed_at n (x ∷ got) zero =
-    ap (λ b. option_map (λ (r : Received). r.message) (cond b (Some (record { key = record { 0 = n }; message = x })) (find (λ r. key_eq r.key (record { 0 = n + zero })) (keyed (n + 1) got)))) (eq-eqb n (n + zero) (omega arith))
-keyed_at n (x ∷ got) (suc j) =
-    ap (λ b. option_map (λ (r : Received). r.message) (cond b (Some (record { key = record { 0 = n }; message = x })) (find (λ r. key_eq r.key (record { 0 = n + suc j })) (keyed (n + 1) got)))) (ne_eqb n (n + suc j) (λ same. omega (arith, same)))
-    ∙ ap (λ i. message_under (keyed (n + 1) got) (record { 0 = i })) (omega arith)
-    ∙ keyed_at (n + 1) got j
-
--- the message under a key of a domain
-pub got_under : (got : List Message) (key : Key) → message_under (keyed 0 got) key ≡ slice_get got key.0
-got_under got key = ap (λ i. message_under (keyed 0 got) (record { 0 = i })) (omega arith) ∙ keyed_at 0 got key.0
-
-pub messages_keyed : (n : ℕ) (got : List Message) → messages (keyed n got) ≡ got
-messages_keyed n [] = refl
-messages_keyed n (x ∷ got) = ap (λ rest. x ∷ rest) (messages_keyed (n + 1) got)
-
 -- who has a row has one still after a delivery
 still_after : (offered : List Offered) (p : Proc) (key : Key) (q : Proc) (rows : List Row) → IsSome (row_of rows q) → IsSome (row_of (after_delivery offered p key rows) q)
 still_after offered p key q rows was = still_found (offered_under offered key)
@@ -130,8 +118,16 @@ still_after offered p key q rows was = still_found (offered_under offered key)
     still_found (Some x) = still_in p (delivered_row x.id x.times) (λ _. refl) q rows was
     still_found None = was
 
+-- and the rows are those of the same processes
+names_after : (offered : List Offered) (p : Proc) (key : Key) (rows : List Row) → map (λ (row : Row). row.process) (after_delivery offered p key rows) ≡ map (λ (row : Row). row.process) rows
+names_after offered p key rows = names_found (offered_under offered key)
+  where
+    names_found : (o : Option Offered) → map (λ (row : Row). row.process) (elim o as (λ _. List Row) [ Some x ↦ change_row p (delivered_row x.id x.times) rows | None ↦ rows ]) ≡ map (λ (row : Row). row.process) rows
+    names_found (Some x) = same_names p (delivered_row x.id x.times) (λ _. refl) rows
+    names_found None = refl
+
 -- before the process is told
-fits_turn : (r : Records) (s : State) → Fits r s → (k : ℕ) → was_given s.used k ≡ true → (key : Key) (m : Message) → message_under (keyed 0 s.got) key ≡ Some m → is_ready_for s k m ≡ true → Fits (record r { delay = record r.delay { rows = after_delivery r.delay.offered (local s k) key r.delay.rows }; delivered = r.delivered ++ (r.config.domain, local s k, m.id) ∷ [] }) (after_turn s k m)
+fits_turn : (r : Records) (s : State) → Fits r s → (k : ℕ) → was_given s.used k ≡ true → (key : Key) (m : Message) → message_under r.part.kept key ≡ Some m → is_ready_for s k m ≡ true → Fits (record r { delay = record r.delay { rows = after_delivery r.delay.offered (local s k) key r.delay.rows }; delivered = r.delivered ++ (r.config.domain, local s k, m.id) ∷ [] }) (after_turn s k m)
 fits_turn r s fits k given key m under ready = record {
   site = fits.site;
   config = fits.config;
@@ -140,66 +136,132 @@ fits_turn r s fits k given key m under ready = record {
   sessions = fits.sessions;
   all_open = fits.all_open;
   groups = fits.groups;
-  got = fits.got;
-  delay = subst (λ ps. QueueFits s.config.groups (gate_of s) ps (keyed 0 s.got) (record r.delay { rows = after_delivery r.delay.offered (local s k) key r.delay.rows })) (named_set s k (delivering_to m))
-      (delivery_fits s.config.groups (gate_of s) (process_named s) (keyed 0 s.got) r.delay fits.delay (local s k) key m under
+  moment = fits.moment;
+  kept = fits.kept;
+  fresh = fits.fresh;
+  owed = fits.owed;
+  delay = subst (λ ps. QueueFits s.config.groups (gate_of s) ps r.part.kept (record r.delay { rows = after_delivery r.delay.offered (local s k) key r.delay.rows })) (named_set s k (delivering_to m))
+      (delivery_fits s.config.groups (gate_of s) (process_named s) r.part.kept r.delay fits.delay (local s k) key m under
       (ap (λ p. is_causally_ready s.config.groups (gate_of s) p m) (process_here s k) ∙ ready));
   admitted = λ j was. still_after r.delay.offered (local s k) key (local s j) r.delay.rows (fits.admitted j was);
+  rows = names_after r.delay.offered (local s k) key r.delay.rows ∙ fits.rows;
+  acks = fits.acks;
   frames = fits.frames;
   delivered = (λ i. fits.delivered i ++ ((fits.config i).domain, local s k, m.id) ∷ []) ∙ sym (map-append (λ (x : Proc × Uid). (s.config.domain, x.0, x.1)) s.deliveries ((local s k, m.id) ∷ []));
 }
 
--- a process delivers a message that is ready, and is told
-pub fits_delivering : (r : Records) (s : State) → Fits r s → (k : ℕ) → was_given s.used k ≡ true → (key : Key) (m : Message) → message_under (keyed 0 s.got) key ≡ Some m → is_ready_for s k m ≡ true → Fits (deliver_in (local s k) r key) (delivering s k m)
-fits_delivering r s fits k given key m under ready =
-    subst (λ (o : Option Message). Fits (option_map_or (deliver_message_in r (local s k) key) o r) (delivering s k m))
-    (sym under ∙ got_under s.got key ∙ ap (λ got. slice_get got key.0) (sym fits.got))
-    (fits_push (record r { delay = record r.delay { rows = after_delivery r.delay.offered (local s k) key r.delay.rows }; delivered = r.delivered ++ (r.config.domain, local s k, m.id) ∷ [] })
-    (after_turn s k m) (fits_turn r s fits k given key m under ready) k (push.Deliver m.id (cast_kind_of m.body) (payload_of m.body)))
+-- a process delivers a message that is ready, and is told; what is free then is let go
+pub fits_delivering : (r : Records) (s : State) → Fits r s → (k : ℕ) → was_given s.used k ≡ true → (key : Key) (m : Message) → message_under r.part.kept key ≡ Some m → is_ready_for s k m ≡ true → IsLawful (delivering s k m) → Fits (let_go_in (deliver_in (local s k) r key)) (delivering_one s k m)
+fits_delivering r s fits k given key m under ready lawful =
+    let turned : Records = record r { delay = record r.delay { rows = after_delivery r.delay.offered (local s k) key r.delay.rows }; delivered = r.delivered ++ (r.config.domain, local s k, m.id) ∷ [] } in
+    fits_let_go (deliver_in (local s k) r key) (delivering s k m)
+    (subst (λ (o : Option Message). Fits (option_map_or (deliver_message_in r (local s k) key) o r) (delivering s k m)) (sym under)
+    (fits_push turned (after_turn s k m) (fits_turn r s fits k given key m under ready) k (push.Deliver m.id (cast_kind_of m.body) (payload_of m.body))))
+    lawful
+
+-- a spent message is ready for nobody
+spent_not_ready : (s : State) (k : ℕ) → was_given s.used k ≡ true → (m : Message) → IsSpent s m → is_ready_for s k m ≡ false
+spent_not_ready s k given m spent = false_from_ne_true (is_ready_for s k m) (λ ready.
+    let a = and_parts (is_member ((s.process k).standing m.id.group)) _ ready in
+    let b = and_parts (m.id.view == (s.group m.id.group).number) _ a.1 in
+    let c = and_parts (not (has_delivered (s.process k) m.id)) _ b.1 in
+    let done = spent.delivered k given a.0 (eqb-true m.id.view (s.group m.id.group).number b.0) in
+    false≢true (sym (ap not done) ∙ c.0))
+
+-- what is found among all that was received is found among what is kept
+found_kept : (P : Message → Type 0) (test : Message → Bool) → ((m : Message) → P m → test m ≡ false) → (got kept : List Message) → AreKept P got kept → find test got ≡ find test kept
+found_kept P test fails [] kept none = sym (ap (find test) none)
+found_kept P test fails (m ∷ got) kept (inl (rest, is, more)) = ap (λ o. cond (test m) (Some m) o) (found_kept P test fails got rest more) ∙ sym (ap (find test) is)
+found_kept P test fails (m ∷ got) kept (inr (spent, more)) = ap (λ b. cond b (Some m) (find test got)) (fails m spent) ∙ found_kept P test fails got kept more
+
+pub ready_kept : (s : State) (k : ℕ) → was_given s.used k ≡ true → IsLawful s → find (is_ready_for s k) s.got ≡ find (is_ready_for s k) s.kept
+ready_kept s k given l = found_kept (IsSpent s) (is_ready_for s k) (spent_not_ready s k given) s.got s.kept l.spent
 
 -- the queue names the message that the rule names
-pub fits_first : (r : Records) (s : State) → Fits r s → (k : ℕ) → was_given s.used k ≡ true → Fits (deliver_first_in (local s k) r) (deliver_first k s)
-fits_first r s fits k given =
-    fits_next (next_key r.delay (local s k)) (next_rules s.config.groups (gate_of s) (process_named s) (keyed 0 s.got) r.delay fits.delay (local s k))
+pub fits_first : (r : Records) (s : State) → Fits r s → IsLawful s → (k : ℕ) → was_given s.used k ≡ true → Fits (deliver_first_in (local s k) r) (deliver_first k s)
+fits_first r s fits l k given =
+    fits_next (next_key r.delay (local s k)) (next_rules s.config.groups (gate_of s) (process_named s) r.part.kept r.delay fits.delay (local s k))
   where
-    found_is : first_ready s.config.groups (gate_of s) (process_named s (local s k)) (messages (keyed 0 s.got)) ≡ find (is_ready_for s k) s.got
-    found_is = λ i. find (is_causally_ready s.config.groups (gate_of s) (process_here s k i)) (messages_keyed 0 s.got i)
+    found_is : first_ready s.config.groups (gate_of s) (process_named s (local s k)) (messages r.part.kept) ≡ find (is_ready_for s k) s.got
+    found_is = (λ i. find (is_causally_ready s.config.groups (gate_of s) (process_here s k i)) (fits.kept i)) ∙ sym (ready_kept s k given l)
 
-    fits_next : (o : Option Key) → FirstReady s.config.groups (gate_of s) (process_named s (local s k)) (keyed 0 s.got) o → Fits (option_map_or (deliver_in (local s k) r) o r) (deliver_first k s)
+    fits_next : (o : Option Key) → FirstReady s.config.groups (gate_of s) (process_named s (local s k)) r.part.kept o → Fits (option_map_or (λ key. let_go_in (deliver_in (local s k) r key)) o r) (deliver_first k s)
     fits_next None none = subst (Fits r) (sym (delivered_none s k (sym found_is ∙ none))) fits
     fits_next (Some key) (m, under, first) =
         let found : find (is_ready_for s k) s.got ≡ Some m = sym found_is ∙ first in
-        subst (Fits (deliver_in (local s k) r key)) (sym (delivered_first s k m found))
-        (fits_delivering r s fits k given key m under (found_passes (is_ready_for s k) s.got m found))
+        let ready : is_ready_for s k m ≡ true = found_passes (is_ready_for s k) s.got m found in
+        subst (Fits (let_go_in (deliver_in (local s k) r key))) (sym (delivered_first s k m found))
+        (fits_delivering r s fits k given key m under ready (lawful_delivering s k m l (found_in (is_ready_for s k) s.got m found) ready))
 
 -- so many turns of one process
-fits_turns : (n : ℕ) (r : Records) (s : State) → Fits r s → (k : ℕ) → was_given s.used k ≡ true → Fits (iterate n (deliver_first_in (local s k)) r) (iterate n (deliver_first k) s)
-fits_turns zero r s fits k given = fits
-fits_turns (suc n) r s fits k given =
+fits_turns : (n : ℕ) (r : Records) (s : State) → Fits r s → IsLawful s → (k : ℕ) → was_given s.used k ≡ true → Fits (iterate n (deliver_first_in (local s k)) r) (iterate n (deliver_first k) s)
+fits_turns zero r s fits l k given = fits
+fits_turns (suc n) r s fits l k given =
     let kept : Kept s (deliver_first k s) = kept_first k s in
     subst (λ h. Fits (iterate n (deliver_first_in (record { site = h; serial = k })) (deliver_first_in (local s k) r)) (iterate n (deliver_first k) (deliver_first k s))) kept.here
-    (fits_turns n (deliver_first_in (local s k) r) (deliver_first k s) (fits_first r s fits k given) k (ap (λ u. was_given u k) kept.used ∙ given))
+    (fits_turns n (deliver_first_in (local s k) r) (deliver_first k s) (fits_first r s fits l k given) (lawful_first s k l) k (ap (λ u. was_given u k) kept.used ∙ given))
+
+-- fewer are left of fewer
+left_filter : (ids : List Uid) (test : Message → Bool) (got : List Message) → left ids (filter test got) ≤ left ids got
+left_filter ids test [] = omega arith
+left_filter ids test (m ∷ got) = elim (test m) as (λ b. left ids (cond b (m ∷ filter test got) (filter test got)) ≤ left ids (m ∷ got)) [
+  | true ↦ let rest = left_filter ids test got in omega (arith, rest)
+  | false ↦ let rest = left_filter ids test got in omega (arith, rest)
+]
+
+-- a delivery leaves fewer of the kept messages undelivered
+kept_less : (s : State) (k : ℕ) (m : Message) → find (is_ready_for s k) s.kept ≡ Some m → left ((delivering_one s k m).process k).delivered (delivering_one s k m).kept < left (s.process k).delivered s.kept
+kept_less s k m e =
+    let t : State = delivering_one s k m in
+    let same : (t.process k).delivered ≡ (s.process k).delivered ++ m.id ∷ [] = (delivers s k m).delivered k ∙ ap (λ b. if b then (s.process k).delivered ++ m.id ∷ [] else (s.process k).delivered) (eq-eqb k k refl) in
+    let fewer = left_found (is_ready_for s k) (s.process k).delivered s.kept m (ready_new s k) e in
+    let free : Message → Bool = λ x. not (is_free (delivering s k m) x.id) in
+    let least = left_filter ((s.process k).delivered ++ m.id ∷ []) free s.kept in
+    let before : (delivering s k m).kept ≡ s.kept = kept_pushed (after_turn s k m) k (push.Deliver m.id (cast_kind_of m.body) (payload_of m.body)) in
+    let now : left (t.process k).delivered t.kept ≡ left ((s.process k).delivered ++ m.id ∷ []) (filter free s.kept) = (λ i. left (same i) (filter free (before i))) in
+    omega (arith, fewer, least, now)
+  where
+    kept_pushed : (u : State) (j : ℕ) (p : Push) → (pushing u j p).kept ≡ u.kept
+    kept_pushed u j p = elim (is_open (u.session j)) as (λ b. (if b then set_session u j (pushed_to (u.session j) p) else u).kept ≡ u.kept) [ true ↦ refl | false ↦ refl ]
+
+-- as many turns as messages are kept are enough
+settled_kept : (n : ℕ) (s : State) (k : ℕ) → IsLawful s → was_given s.used k ≡ true → left (s.process k).delivered s.kept ≤ n → find (is_ready_for (iterate n (deliver_first k) s) k) (iterate n (deliver_first k) s).got ≡ None
+settled_kept zero s k l given enough =
+    elim (find (is_ready_for s k) s.got) as (λ o. find (is_ready_for s k) s.got ≡ o → o ≡ None) [
+      | None ↦ λ _. refl
+      | Some m ↦ λ e. let less = kept_less s k m (sym (ready_kept s k given l) ∙ e) in absurd (omega (arith, less, enough))
+    ] refl
+settled_kept (suc n) s k l given enough =
+    elim (find (is_ready_for s k) s.got) as (λ o. find (is_ready_for s k) s.got ≡ o → find (is_ready_for (iterate n (deliver_first k) (deliver_first k s)) k) (iterate n (deliver_first k) (deliver_first k s)).got ≡ None) [
+      | None ↦ λ e. subst (λ t. find (is_ready_for t k) t.got ≡ None) (sym (ap (iterate n (deliver_first k)) (delivered_none s k e) ∙ iterate_still n (deliver_first k) s (delivered_none s k e))) e
+      | Some m ↦ λ e.
+          let less = kept_less s k m (sym (ready_kept s k given l) ∙ e) in
+          let less_first : left ((deliver_first k s).process k).delivered (deliver_first k s).kept < left (s.process k).delivered s.kept = subst (λ t. left (t.process k).delivered t.kept < left (s.process k).delivered s.kept) (sym (delivered_first s k m e)) less in
+          settled_kept n (deliver_first k s) k (lawful_first s k l) (ap (λ u. was_given u k) (kept_first k s).used ∙ given) (omega (arith, less_first, enough))
+    ] refl
 
 -- all deliveries of one process
-pub fits_deliver_all : (r : Records) (s : State) → Fits r s → (k : ℕ) → was_given s.used k ≡ true → Fits (deliver_all_in r (local s k)) (deliver_all s k)
-fits_deliver_all r s fits k given =
-    subst (λ got. Fits (iterate (length got) (deliver_first_in (local s k)) r) (deliver_all s k)) (sym fits.got) (fits_turns (length s.got) r s fits k given)
+pub fits_deliver_all : (r : Records) (s : State) → Fits r s → IsLawful s → (k : ℕ) → was_given s.used k ≡ true → Fits (deliver_all_in r (local s k)) (deliver_all s k)
+fits_deliver_all r s fits l k given =
+    let n : ℕ = length r.part.kept in
+    let enough : left (s.process k).delivered s.kept ≤ n = subst (λ x. left (s.process k).delivered s.kept ≤ x) (ap length (sym fits.kept) ∙ length-map r.part.kept (λ (x : Received). x.message)) (left_le (s.process k).delivered s.kept) in
+    subst (Fits (deliver_all_in r (local s k))) (turns_are_enough s k n (settled_kept n s k l given enough)) (fits_turns n r s fits l k given)
 
 -- some processes deliver, by serial
-fits_each : (n a : ℕ) (r : Records) (s : State) → Fits r s → a + n ≤ s.used → Fits (fold settle_at r (range_with_len a n)) (fold deliver_all s (range_with_len (a + 1) n))
-fits_each zero a r s fits within = fits
-fits_each (suc n) a r s fits within =
+fits_each : (n a : ℕ) (r : Records) (s : State) → Fits r s → IsLawful s → a + n ≤ s.used → Fits (fold settle_at r (range_with_len a n)) (fold deliver_all s (range_with_len (a + 1) n))
+fits_each zero a r s fits l within = fits
+fits_each (suc n) a r s fits l within =
     let kept : Kept s (deliver_all s (a + 1)) = kept_all s (a + 1) in
     let given : was_given s.used (a + 1) ≡ true = and_from (nat_lt 0 (a + 1)) (nat_le (a + 1) s.used) (lt-ltb 0 (a + 1) (omega arith)) (le-leb (a + 1) s.used (omega (arith, within))) in
     let one : Fits (settle_at r a) (deliver_all s (a + 1)) =
-    subst (λ h. Fits (deliver_all_in r (record { site = h; serial = a + 1 })) (deliver_all s (a + 1))) (sym fits.site) (fits_deliver_all r s fits (a + 1) given) in
-    fits_each n (a + 1) (settle_at r a) (deliver_all s (a + 1)) one (omega (arith, within, kept.used))
+    subst (λ h. Fits (deliver_all_in r (record { site = h; serial = a + 1 })) (deliver_all s (a + 1))) (sym fits.site) (fits_deliver_all r s fits l (a + 1) given) in
+    fits_each n (a + 1) (settle_at r a) (deliver_all s (a + 1)) one (lawful_deliver_all s (a + 1) l) (omega (arith, within, kept.used))
 
 -- each process delivers
-pub fits_settle : (r : Records) (s : State) → Fits r s → Fits (settle_in r) (settle s)
-fits_settle r s fits =
+pub fits_settle : (r : Records) (s : State) → Fits r s → IsLawful s → Fits (settle_in r) (settle s)
+fits_settle r s fits l =
     subst (λ u. Fits (fold settle_at r (range_with_len 0 u)) (settle s)) (sym fits.used)
-    (subst (λ a. Fits (fold settle_at r (range_with_len 0 s.used)) (fold deliver_all s (range_with_len a s.used))) (omega arith) (fits_each s.used 0 r s fits (omega arith)))
+    (subst (λ a. Fits (fold settle_at r (range_with_len 0 s.used)) (fold deliver_all s (range_with_len a s.used))) (omega arith) (fits_each s.used 0 r s fits l (omega arith)))
 
 -- The home
 
@@ -248,12 +310,41 @@ fits_lead r s fits lawful =
 -- The whole
 
 -- deliveries, and then the home
-pub fits_pass : (r : Records) (s : State) → Fits r s → IsLawful (settle s) → Fits (pass_in r) (pass s)
-fits_pass r s fits lawful = fits_lead (settle_in r) (settle s) (fits_settle r s fits) lawful
+pub fits_pass : (r : Records) (s : State) → Fits r s → IsLawful s → Fits (pass_in r) (pass s)
+fits_pass r s fits lawful = fits_lead (settle_in r) (settle s) (fits_settle r s fits lawful) (lawful_settle s lawful)
 
--- histories of the same records have the same to do
-pub same_to_do : (r : Records) (s t : State) → Fits r s → Fits r t → to_do t ≡ to_do s
-same_to_do r s t a b = λ i. undelivered_same i + ranks_same i
+-- a pass receives nothing
+got_first : (k : ℕ) (s : State) → (deliver_first k s).got ≡ s.got
+got_first k s = got_found (find (is_ready_for s k) s.got)
+  where
+    got_found : (o : Option Message) → (elim o as (λ _. State) [ Some m ↦ delivering_one s k m | None ↦ s ]).got ≡ s.got
+    got_found (Some m) = (delivers s k m).got
+    got_found None = refl
+
+got_iterate : (n k : ℕ) (s : State) → (iterate n (deliver_first k) s).got ≡ s.got
+got_iterate zero k s = refl
+got_iterate (suc n) k s = got_iterate n k (deliver_first k s) ∙ got_first k s
+
+got_settle : (ks : List ℕ) (s : State) → (fold deliver_all s ks).got ≡ s.got
+got_settle [] s = refl
+got_settle (k ∷ ks) s = got_settle ks (deliver_all s k) ∙ got_iterate (length s.got) k s
+
+got_decide : (s : State) (g : GroupNo) → (decide s g).got ≡ s.got
+got_decide s g = (same_decide s g).got
+
+got_decides : (gs : List GroupNo) (s : State) → (fold decide s gs).got ≡ s.got
+got_decides [] s = refl
+got_decides (g ∷ gs) s = got_decides gs (decide s g) ∙ got_decide s g
+
+got_pass : (s : State) → (pass s).got ≡ s.got
+got_pass s =
+    let t : State = settle s in
+    elim (is_home t) as (λ b. (if b then fold decide t t.config.groups else t).got ≡ t.got) [ true ↦ got_decides t.config.groups t | false ↦ refl ]
+    ∙ got_settle (serials s) s
+
+-- histories of the same messages and records have the same to do
+pub same_to_do : (r : Records) (s t : State) → Fits r s → Fits r t → t.got ≡ s.got → to_do t ≡ to_do s
+same_to_do r s t a b got = λ i. undelivered_same i + ranks_same i
   where
     here_same : t.here ≡ s.here
     here_same = sym b.site ∙ a.site
@@ -277,7 +368,7 @@ same_to_do r s t a b = λ i. undelivered_same i + ranks_same i
 
     undelivered_same : undelivered t ≡ undelivered s
     undelivered_same =
-        (λ i. total (λ k. left (t.process k).delivered ((sym b.got ∙ a.got) i)) (range_with_len 1 ((sym b.used ∙ a.used) i)))
+        (λ i. total (λ k. left (t.process k).delivered (got i)) (range_with_len 1 ((sym b.used ∙ a.used) i)))
         ∙ total_same (λ k. left (t.process k).delivered s.got) (λ k. left (s.process k).delivered s.got) (range_with_len 1 s.used) (λ k. left_same k s.got)
 
     ranks_in : (u : State) (gs : List GroupNo) → total (λ g. rank (u.home g)) gs ≡ total (λ (x : GroupRecord). rank x.home) (map (record_for u) gs)
@@ -294,5 +385,5 @@ same_to_do r s t a b = λ i. undelivered_same i + ranks_same i
 pub still_pass : (r : Records) (s : State) → Fits r s → Fits r (pass s) → pass s ≡ s
 still_pass r s before after = elim (moves_pass s).way [
   | inl same ↦ same
-  | inr less ↦ let same = same_to_do r s (pass s) before after in absurd (omega (arith, less, same))
+  | inr less ↦ let same = same_to_do r s (pass s) before after (got_pass s) in absurd (omega (arith, less, same))
 ]

@@ -1,7 +1,7 @@
 -- What the calls of a domain do to its records, exactly.
-use Rattle.std.specs.Prelude.{ℕ, ◌+◌, ◌-◌, Bool, true, false, not, ◌&&◌, ◌==◌, nat_lt, nat_le, if◌then◌else◌, List, [], ◌∷◌, ◌++◌, length, get_or, slice_get, Option, Some, None}
-use Rattle.std.specs.List.{fold, list_any, list_all, range_with_len}
-use Rattle.std.specs.Option.{option_map, option_map_or}
+use Rattle.std.specs.Prelude.{ℕ, ◌+◌, ◌-◌, min, max, Bool, true, false, not, ◌&&◌, ◌==◌, nat_lt, nat_le, if◌then◌else◌, List, [], ◌∷◌, ◌++◌, length, map, filter, get_or, Option, Some, None}
+use Rattle.std.specs.List.{fold, find, list_all, range_with_len}
+use Rattle.std.specs.Option.{option_map, option_map_or, option_and_then}
 use Rattle.std.specs.FinMap.Entries.{put}
 use Rattle.cast_types.specs.declared.names.SiteNo.{SiteNo}
 use Rattle.cast_types.specs.declared.names.GroupNo.{GroupNo}
@@ -12,7 +12,7 @@ use Rattle.cast_types.specs.declared.names.Standing.{Standing}
 use Rattle.cast_types.specs.declared.names.Standing.TheVariants.{Outside, Joining, Member}
 use Rattle.cast_types.specs.declared.refusal.Refusal.{Refusal}
 use Rattle.cast_types.specs.declared.refusal.Refusal.TheVariants.{NoGroup, NotMember, AlreadyMember, HeldFull, TooLong}
-use Rattle.cast_types.specs.declared.limits.TheConstants.{MAX_NUMBER, MAX_PAYLOAD}
+use Rattle.cast_types.specs.declared.limits.TheConstants.{MAX_NUMBER, MAX_PAYLOAD, MAX_MOMENT}
 use Rattle.cast_types.specs.Names.{site_eq, group_eq, group_cmp, proc_eq, uid_eq, is_causal}
 use Rattle.cast_types.specs.Sets.{is_among}
 use Rattle.cast_types.specs.Places.{update}
@@ -38,7 +38,13 @@ use Rattle.cast_delay.specs.Rows.{standing_in}
 use Rattle.cast_delay.specs.declared.row.Fact.{Fact}
 use Rattle.cast_delay.specs.declared.row.Fact.TheVariants as fact
 use Rattle.cast_delay.specs.Rows.{told_row}
-use Rattle.cast_delay.specs.Queue.{Queue, new_row, row_of, change_row, next_key, after_delivery}
+use Rattle.cast_delay.specs.Queue.{Queue, new_row, row_of, change_row, next_key, after_delivery, is_awaited}
+use Rattle.cast_stable.specs.Ledger.{others_in, is_received_in, has_acked_in, upto_in, is_stable_in, told_ledger, received_ledger, acked_ledger, learnt_ledger}
+use Rattle.cast_timer.specs.declared.key.OwedKey.{OwedKey}
+use Rattle.cast_timer.specs.declared.key.OwedKind.{OwedKind}
+use Rattle.cast_timer.specs.declared.key.OwedKind.TheVariants as kinds
+use Rattle.cast_timer.specs.Owed.{is_owed, due_at}
+use Rattle.cast_frame.specs.Receipts.{key_eq, message_under}
 use Rattle.cast_domain.specs.declared.record.GroupRecord.{GroupRecord}
 use Rattle.cast_frame.specs.declared.client.Command.{Command}
 use Rattle.cast_frame.specs.declared.client.Command.TheVariants as command
@@ -46,10 +52,12 @@ use Rattle.cast_domain.specs.declared.event.Event.{Event}
 use Rattle.cast_domain.specs.declared.event.Event.TheVariants as event
 use Rattle.cast_domain.specs.declared.group.Verdict.TheVariants.{Again, Completes, Ignored}
 use Rattle.cast_domain.specs.Session.{first_session, told}
-use Rattle.cast_domain.specs.Group.{no_group, members_of, other_sites, sites_of, first_asking, with_request, with_answer, with_view, verdict_of, is_taken_in}
+use Rattle.cast_domain.specs.Group.{no_group, members_of, other_sites, is_current, sites_of, first_asking, with_request, with_answer, with_view, verdict_of, is_taken_in}
 use Rattle.cast_domain.specs.declared.home.Home.{Home}
 use Rattle.cast_domain.specs.Home.{first_home, is_empty, applied_of, after_request, after_installed, may_decide, decided}
-use Rattle.cast_domain.specs.Effects.{ask_frame, payload_of, cast_kind_of}
+use Rattle.cast_domain.specs.Shared.{part_with, part_without, part_owing, part_renewing, part_paying, part_paying_upto}
+use Rattle.cast_domain.specs.Owing.{ask_key, message_key, id_in, ask_frame}
+use Rattle.cast_domain.specs.Effects.{payload_of, cast_kind_of}
 use Rattle.cast_domain.specs.Rest.{install_frame}
 use Rattle.cast_domain.specs.State.{counts_itself}
 use Rattle.cast_domain.specs.Step.{may_raise, group_of}
@@ -86,6 +94,10 @@ time_of q p = option_map_or (λ row. row.time) (row_of q.rows p) no_time
 
 -- Changes of one part
 
+-- one more message may be received beside those that are kept
+abbrev pub has_room_in : Records → Bool
+has_room_in r = nat_lt (length r.part.kept) r.config.quotas.held
+
 abbrev pub send_in : Records → SiteNo → SiteFrame → Records
 send_in r to f = record r { frames = r.frames ++ (r.config.domain, to, f) ∷ [] }
 
@@ -94,6 +106,66 @@ push_in r k p = if was_given (length r.sessions) k then record r { sessions = up
 
 abbrev pub tell_in : Records → Proc → Fact → Records
 tell_in r p f = record r { delay = record r.delay { rows = change_row p (told_row f) r.delay.rows } }
+
+-- Owed frames
+
+-- the kept message of an id
+abbrev pub message_in : Records → Uid → Option Message
+message_in r u = option_map (λ x. x.message) (find (λ x. uid_eq x.message.id u) r.part.kept)
+
+-- the frame that a key of the group at a place stands for
+abbrev pub frame_of_kind_in : Records → OwedKey → ℕ → OwedKind → Option SiteFrame
+frame_of_kind_in r key i kinds.Ask = option_map (ask_frame key.group) (first_asking (record_at r.groups i).here.requests)
+frame_of_kind_in r key i kinds.Data = option_map frame.Data (message_in r (id_in (record_at r.groups i).here.number key))
+frame_of_kind_in r key i kinds.Prepare = None
+frame_of_kind_in r key i kinds.Want = None
+frame_of_kind_in r key i kinds.Install = None
+frame_of_kind_in r key i kinds.Ack = Some (frame.Ack (id_in (record_at r.groups i).here.number key))
+
+abbrev pub frame_for_in : Records → OwedKey → Option SiteFrame
+frame_for_in r key = option_and_then (λ i. frame_of_kind_in r key i key.kind) (place_in r key.group)
+
+abbrev pub send_for_in : Records → OwedKey → Records
+send_for_in r key = option_map_or (send_in r key.site) (frame_for_in r key) r
+
+abbrev pub next_due_in : Records → ℕ
+next_due_in r = r.moment + r.config.quotas.resend
+
+abbrev pub owe_in : Records → OwedKey → Records
+owe_in r key =
+    if is_owed r.part.owed key then r
+    else record (send_for_in r key) { part = part_owing r.part key (next_due_in r) }
+
+abbrev pub pay_in : Records → OwedKey → Records
+pay_in r key = record r { part = part_paying r.part key }
+
+abbrev pub resend_in : Records → OwedKey → Records
+resend_in r key = record (send_for_in r key) { part = part_renewing r.part key (next_due_in r) }
+
+abbrev pub resend_due_in : Records → Records
+resend_due_in r = fold resend_in r (due_at r.moment r.part.owed)
+
+abbrev pub tick_in : Records → ℕ → Records
+tick_in r t = resend_due_in (record r { moment = max r.moment (min t MAX_MOMENT) })
+
+-- Messages that are let go
+
+abbrev pub is_current_in : Records → Uid → Bool
+is_current_in r u = option_map_or (λ i. is_current (record_at r.groups i).here u.view) (place_in r u.group) false
+
+abbrev pub is_free_in : Records → Uid → Bool
+is_free_in r u = is_current_in r u && (is_stable_in r.acks u && not (is_awaited r.delay.rows u))
+
+-- a message is kept and offered no longer
+abbrev pub release_in : Records → Key → Records
+release_in r key =
+    record r {
+      part = part_without r.part key;
+      delay = record r.delay { offered = filter (λ o. not (key_eq o.key key)) r.delay.offered };
+    }
+
+abbrev pub let_go_in : Records → Records
+let_go_in r = fold release_in r (map (λ x. x.key) (filter (λ x. is_free_in r x.message.id) r.part.kept))
 
 -- Sessions
 
@@ -108,13 +180,11 @@ open_in r =
 
 -- Requests
 
--- the first request of a group is asked of the home
+-- the first request of the group at a place, where there is one, is owed to the home
 abbrev pub ask_home_in : Records → ℕ → Records
 ask_home_in r i =
-    elim (first_asking (record_at r.groups i).here.requests) [
-      | Some a ↦ send_in r r.config.home (ask_frame (record_at r.groups i).name a)
-      | None ↦ r
-    ]
+    if is_empty (record_at r.groups i).here.requests then r
+    else owe_in r (ask_key (record_at r.groups i).name r.config.home)
 
 abbrev pub request_in : Records → ℕ → Change → Proc → Records
 request_in r i what p =
@@ -139,15 +209,18 @@ join_in r k g = option_map_or (join_at r k g) (place_in r g) (r, Some NoGroup)
 abbrev pub receive_in : Records → Message → Records
 receive_in r m =
     record r {
-      got = r.got ++ m ∷ [];
-      delay = record r.delay { offered = r.delay.offered ++ record { key = record { 0 = length r.got }; id = m.id; times = m.times } ∷ [] };
+      part = part_with r.part m;
+      delay = record r.delay { offered = r.delay.offered ++ record { key = record { 0 = r.part.next }; id = m.id; times = m.times } ∷ [] };
+      acks = received_ledger r.acks m.id;
     }
 
-abbrev pub send_data_in : Message → Records → SiteNo → Records
-send_data_in m r to = send_in r to (frame.Data m)
+-- an own message is sent to a site, and owed to it until it has acknowledged it, as it may have done before
+abbrev pub send_data_in : Uid → Records → SiteNo → Records
+send_data_in u r to =
+    if has_acked_in r.acks to u then send_for_in r (message_key kinds.Data u to) else owe_in r (message_key kinds.Data u to)
 
-abbrev pub send_message_in : Records → ℕ → Message → Records
-send_message_in r i m = receive_in (fold (send_data_in m) r (other_sites r.site (members_of (record_at r.groups i).here))) m
+abbrev pub send_message_in : Records → Message → Records
+send_message_in r m = fold (send_data_in m.id) (receive_in r m) (others_in r.acks m.id.group)
 
 abbrev pub next_message_in : Records → Proc → GroupNo → ℕ → Body → Message
 next_message_in r p g i content =
@@ -163,8 +236,9 @@ cast_at r k g payload i =
     let p : Proc = local_in r k in
     if nat_lt MAX_PAYLOAD (length payload) then (r, Some TooLong)
     else if not (is_member (standing_of r.delay p g)) then (r, Some NotMember)
+    else if not (has_room_in r) then (r, Some HeldFull)
     else if not (may_raise (time_of r.delay p) g p) then (r, Some HeldFull)
-    else (send_message_in (tell_in r p (fact.Time (bumped (time_of r.delay p) g p))) i (next_message_in r p g i (body.Causal payload)), None)
+    else (send_message_in (tell_in r p (fact.Time (bumped (time_of r.delay p) g p))) (next_message_in r p g i (body.Causal payload)), None)
 
 abbrev pub cast_in : Records → ℕ → GroupNo → List ℕ → Attempt
 cast_in r k g payload = option_map_or (cast_at r k g payload) (place_in r g) (r, Some NoGroup)
@@ -184,9 +258,6 @@ command_in r k command.Bad = r
 
 -- Frames
 
-abbrev pub is_received_in : Records → Uid → Bool
-is_received_in r u = list_any (λ m. uid_eq m.id u) r.got
-
 abbrev pub knows_groups_in : Records → Message → Bool
 knows_groups_in r m = list_all (λ c. is_among group_eq c.0 r.config.groups) m.times
 
@@ -199,13 +270,45 @@ is_used_in r i from m =
     site_eq m.id.proc.site from && (not (site_eq from r.site) && ((m.id.view == (record_at r.groups i).here.number)
     && (is_well_formed_in r i m && is_causal (kind_of m.body))))
 
-abbrev pub receive_once_in : Records → Message → Records
-receive_once_in r m = if is_received_in r m.id then r else receive_in r m
+-- the acknowledgement of a message is owed to its site, until that has told that the message is stable
+abbrev pub acknowledge_in : Records → SiteNo → Uid → Records
+acknowledge_in r to u = if is_stable_in r.acks u then send_in r to (frame.Ack u) else owe_in r (message_key kinds.Ack u to)
+
+abbrev pub use_data_in : Records → SiteNo → Message → Records
+use_data_in r from m =
+    if is_received_in r.acks m.id then send_in r from (frame.Ack m.id)
+    else if has_room_in r then acknowledge_in (receive_in r m) from m.id else r
 
 abbrev pub data_in : Records → ℕ → SiteNo → Message → Records
-data_in r i from m =
-    if is_used_in r i from m
-    then send_in (receive_once_in r m) from (frame.Ack m.id)
+data_in r i from m = if is_used_in r i from m then use_data_in r from m else r
+
+abbrev pub is_used_ack_in : Records → ℕ → SiteNo → Uid → Bool
+is_used_ack_in r i from u =
+    is_current (record_at r.groups i).here u.view
+    && (nat_lt 0 u.count && (site_eq u.proc.site r.site && is_among site_eq from (others_in r.acks u.group)))
+
+abbrev pub with_ack_in : Records → SiteNo → Uid → Records
+with_ack_in r from u = record (pay_in r (message_key kinds.Data u from)) { acks = acked_ledger r.acks from u }
+
+abbrev pub tell_stable_in : Uid → ℕ → Records → SiteNo → Records
+tell_stable_in u n r to = send_in r to (frame.Stable (record u { count = n }))
+
+abbrev pub tell_more_in : Uid → ℕ → Records → Records
+tell_more_in u before r =
+    if nat_lt before (upto_in r.acks u) then fold (tell_stable_in u (upto_in r.acks u)) r (others_in r.acks u.group) else r
+
+abbrev pub ack_in : Records → ℕ → SiteNo → Uid → Records
+ack_in r i from u =
+    if is_used_ack_in r i from u
+    then (if nat_le u.count (upto_in r.acks u)
+    then tell_stable_in u (upto_in r.acks u) (with_ack_in r from u) from
+    else tell_more_in u (upto_in r.acks u) (with_ack_in r from u))
+    else r
+
+abbrev pub stable_in : Records → ℕ → SiteNo → Uid → Records
+stable_in r i from u =
+    if is_current (record_at r.groups i).here u.view && site_eq u.proc.site from
+    then record r { part = part_paying_upto r.part (message_key kinds.Ack u u.proc.site); acks = learnt_ledger r.acks u }
     else r
 
 abbrev pub asked_frame_at : Records → ℕ → ℕ → SiteFrame
@@ -226,7 +329,7 @@ answered_in r i from number false =
     elim (first_asking (record_at r.groups i).here.requests) [
       | Some a ↦
           (if site_eq from r.config.home && (a.number == number)
-          then ask_home_in (record r { groups = update r.groups i (λ x. record x { here = with_answer x.here }) }) i
+          then ask_home_in (record (pay_in r (ask_key (record_at r.groups i).name r.config.home)) { groups = update r.groups i (λ x. record x { here = with_answer x.here }) }) i
           else r)
       | None ↦ r
     ]
@@ -250,6 +353,7 @@ view_in r i n members =
     record r {
       groups = update r.groups i (λ x. record x { here = with_view r.site n members x.here });
       delay = record r.delay { numbers = put group_cmp (record_at r.groups i).name n r.delay.numbers };
+      acks = told_ledger r.acks (record_at r.groups i).name (other_sites r.site (members_of (with_view r.site n members (record_at r.groups i).here)));
     }
 
 abbrev pub complete_in : Records → ℕ → ℕ → Membership → ℕ → Records
@@ -274,8 +378,8 @@ installed_in r i from n =
 
 abbrev pub frame_at : Records → SiteNo → SiteFrame → ℕ → Records
 frame_at r from (frame.Data m) i = data_in r i from m
-frame_at r from (frame.Ack u) i = r
-frame_at r from (frame.Stable u) i = r
+frame_at r from (frame.Ack u) i = ack_in r i from u
+frame_at r from (frame.Stable u) i = stable_in r i from u
 frame_at r from (frame.Ask g number what p) i = asked_of_home_in r i from number what p
 frame_at r from (frame.Asked g number full) i = answered_in r i from number full
 frame_at r from (frame.Prepare g view) i = r
@@ -298,6 +402,7 @@ abbrev pub act_in : Records → Event → Records
 act_in r (event.Open d) = if r.used == MAX_NUMBER then r else open_in r
 act_in r (event.Command d k c) = command_in r k c
 act_in r (event.Frame d from f) = frame_in r from f
+act_in r (event.Tick t) = tick_in r t
 
 -- The rest
 
@@ -312,13 +417,13 @@ deliver_message_in r p key m =
     p.serial (push.Deliver m.id (cast_kind_of m.body) (payload_of m.body))
 
 abbrev pub deliver_in : Proc → Records → Key → Records
-deliver_in p r key = option_map_or (deliver_message_in r p key) (slice_get r.got key.0) r
+deliver_in p r key = option_map_or (deliver_message_in r p key) (message_under r.part.kept key) r
 
 abbrev pub deliver_first_in : Proc → Records → Records
-deliver_first_in p r = option_map_or (deliver_in p r) (next_key r.delay p) r
+deliver_first_in p r = option_map_or (λ key. let_go_in (deliver_in p r key)) (next_key r.delay p) r
 
 abbrev pub deliver_all_in : Records → Proc → Records
-deliver_all_in r p = iterate (length r.got) (deliver_first_in p) r
+deliver_all_in r p = iterate (length r.part.kept) (deliver_first_in p) r
 
 abbrev pub settle_at : Records → ℕ → Records
 settle_at r k = deliver_all_in r (local_in r (k + 1))

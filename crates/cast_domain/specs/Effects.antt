@@ -1,9 +1,10 @@
 -- What processes, messages, requests and views do to a state, and what is sent and pushed with it.
-use Rattle.std.specs.Prelude.{ℕ, Bool, ◌&&◌, if◌then◌else◌, List, [], ◌∷◌, ◌++◌, filter, Some, None}
+use Rattle.std.specs.Prelude.{ℕ, Bool, ◌&&◌, if◌then◌else◌, List, [], ◌∷◌, ◌++◌, filter}
 use Rattle.std.specs.List.{fold}
 use Rattle.cast_types.specs.declared.names.SiteNo.{SiteNo}
 use Rattle.cast_types.specs.declared.names.GroupNo.{GroupNo}
 use Rattle.cast_types.specs.declared.names.Proc.{Proc}
+use Rattle.cast_types.specs.declared.names.Uid.{Uid}
 use Rattle.cast_types.specs.declared.names.Standing.TheVariants.{Member}
 use Rattle.cast_types.specs.Names.{group_eq, proc_eq}
 use Rattle.cast_types.specs.Sets.{is_among, set_at}
@@ -12,28 +13,26 @@ use Rattle.cast_frame.specs.declared.message.Body.{Body}
 use Rattle.cast_frame.specs.declared.message.Body.TheVariants as body
 use Rattle.cast_frame.specs.declared.message.Message.{Message}
 use Rattle.cast_frame.specs.declared.site.Change.{Change}
-use Rattle.cast_frame.specs.declared.site.SiteFrame.{SiteFrame}
 use Rattle.cast_frame.specs.declared.site.SiteFrame.TheVariants as frame
 use Rattle.cast_frame.specs.declared.client.CastKind.{CastKind}
 use Rattle.cast_frame.specs.declared.client.CastKind.TheVariants as kind
 use Rattle.cast_frame.specs.declared.client.Push.{Push}
 use Rattle.cast_frame.specs.declared.client.Push.TheVariants as push
 use Rattle.cast_frame.specs.Membership.{Membership}
+use Rattle.cast_stable.specs.Stable.{has_acked}
+use Rattle.cast_timer.specs.declared.key.OwedKind.TheVariants as kinds
 use Rattle.cast_delay.specs.Ready.{Process}
 use Rattle.cast_domain.specs.Session.{is_open, pushed_to}
-use Rattle.cast_domain.specs.declared.group.Asking.{Asking}
-use Rattle.cast_domain.specs.Group.{first_asking, with_request, with_view, is_taken_in}
+use Rattle.cast_domain.specs.Group.{with_request, with_view, is_taken_in}
 use Rattle.cast_domain.specs.Home.{is_empty}
 use Rattle.cast_domain.specs.State.{State, local, serials, set_session, set_process, set_group, emitted, others_of}
+use Rattle.cast_domain.specs.Owing.{ask_key, message_key, sent_for, owing}
 
 -- Requests
 
-abbrev pub ask_frame : GroupNo → Asking → SiteFrame
-ask_frame g a = frame.Ask g a.number a.change a.proc
-
--- the first request is asked of the home
+-- the first request, where there is one, is owed to the home
 abbrev pub asking : State → GroupNo → State
-asking s g = elim (first_asking (s.group g).requests) [ Some a ↦ emitted s s.config.home (ask_frame g a) | None ↦ s ]
+asking s g = if is_empty (s.group g).requests then s else owing s (ask_key g s.config.home)
 
 -- one more request; it is asked at once where it is the first
 abbrev pub requesting : State → GroupNo → Change → Proc → State
@@ -49,10 +48,12 @@ pushing s k p = if is_open (s.session k) then set_session s k (pushed_to (s.sess
 -- Messages
 
 abbrev pub receiving : State → Message → State
-receiving s m = record s { got = s.got ++ m ∷ [] }
+receiving s m = record s { got = s.got ++ m ∷ []; kept = s.kept ++ m ∷ [] }
 
-abbrev pub sending_to : Message → State → SiteNo → State
-sending_to m s to = emitted s to (frame.Data m)
+-- a message is sent to a site, and owed to it until it has acknowledged it, as it may have done before
+abbrev pub sending_to : Uid → State → SiteNo → State
+sending_to u s to =
+    if has_acked s.acks u to then sent_for s (message_key kinds.Data u to) else owing s (message_key kinds.Data u to)
 
 -- a member's next message of a group
 abbrev pub next_message : State → GroupNo → ℕ → Body → Message
@@ -64,10 +65,10 @@ next_message s g k content =
       body = content;
     }
 
--- the message is stamped, received here, and sent to each other site of the view
+-- the message is stamped, received here, and sent to each other site of the view until that has acknowledged it
 abbrev pub sending_message : State → ℕ → Message → State
 sending_message s k m =
-    fold (sending_to m)
+    fold (sending_to m.id)
     (receiving (set_process s k (record (s.process k) { time = m.times })) m)
     (others_of s m.id.group)
 

@@ -1,5 +1,5 @@
 -- When a domain's records stand for a history.
-use Rattle.std.specs.Prelude.{◌≡◌, ℕ, zero, suc, ◌+◌, true, false, if◌then◌else◌, List, [], ◌∷◌, length, map, Contains, slice_get, unwrap_or}
+use Rattle.std.specs.Prelude.{◌≡◌, ℕ, zero, suc, ◌≤◌, ◌⊎◌, true, false, if◌then◌else◌, List, [], ◌∷◌, length, map, Contains, slice_get, unwrap_or, None}
 use Rattle.std.specs.Option.{IsSome}
 use Rattle.std.specs.FinMap.Entries.{is_sorted}
 use Rattle.cast_types.specs.declared.names.DomainNo.{DomainNo}
@@ -13,9 +13,11 @@ use Rattle.cast_frame.specs.declared.site.SiteFrame.{SiteFrame}
 use Rattle.cast_frame.specs.declared.site.SiteFrame.TheVariants as frame
 use Rattle.cast_frame.specs.Rising.{is_rising}
 use Rattle.cast_frame.specs.Membership.{is_members}
-use Rattle.cast_delay.specs.Ready.{Process, is_member, is_outside}
+use Rattle.cast_delay.specs.Ready.{Process, is_member, is_outside, has_delivered}
 use Rattle.cast_delay.specs.Queue.{row_of}
-use Rattle.cast_delay.specs.Fits.{Received, Fits as QueueFits}
+use Rattle.cast_delay.specs.Fits.{Fits as QueueFits}
+use Rattle.cast_frame.specs.Receipts.{messages, message_under}
+use Rattle.cast_stable.specs.Fits.{Fits as AcksFits}
 use Rattle.cast_domain.specs.declared.domain.Domain.{Domain}
 use Rattle.cast_domain.specs.declared.record.GroupRecord.{GroupRecord}
 use Rattle.cast_domain.specs.declared.event.Event.{Event}
@@ -23,14 +25,10 @@ use Rattle.cast_domain.specs.declared.event.Event.TheVariants as event
 use Rattle.cast_domain.specs.declared.session.Session.{Session}
 use Rattle.cast_domain.specs.Session.{no_session, is_open}
 use Rattle.cast_domain.specs.Group.{has_view}
-use Rattle.cast_domain.specs.State.{State, no_process, local, gate_of, is_group}
+use Rattle.cast_domain.specs.State.{State, no_process, local, serials, gate_of, is_group, others_of}
 use Rattle.cast_domain.specs.Run.{before_event}
+use Rattle.cast_domain.specs.Shared.{Part}
 use Rattle.cast_domain.specs.Records.{Records, records_of, no_outs, was_given}
-
--- messages in order of receipt, each under its place as key
-abbrev pub keyed : ℕ → List Message → List Received
-keyed n [] = []
-keyed n (m ∷ got) = record { key = record { 0 = n }; message = m } ∷ keyed (n + 1) got
 
 -- a process by its name
 abbrev pub process_named : State → Proc → Process
@@ -59,11 +57,30 @@ pub record Fits (r : Records) (s : State) : Type 0 where
   -- no session is closed yet
   pub all_open : (k : ℕ) → is_open (s.session k) ≡ was_given s.used k
   pub groups : r.groups ≡ map (record_for s) s.config.groups
-  pub got : r.got ≡ s.got
-  pub delay : QueueFits s.config.groups (gate_of s) (process_named s) (keyed 0 s.got) r.delay
+  pub moment : r.moment ≡ s.moment
+  -- the kept messages in order of receipt; the keys from the next one on are free
+  pub kept : messages r.part.kept ≡ s.kept
+  pub fresh : (n : ℕ) → r.part.next ≤ n → message_under r.part.kept (record { 0 = n }) ≡ None
+  pub owed : r.part.owed ≡ s.owed
+  -- the queue has one row for each serial
+  pub delay : QueueFits s.config.groups (gate_of s) (process_named s) r.part.kept r.delay
   pub admitted : (k : ℕ) → was_given s.used k ≡ true → IsSome (row_of r.delay.rows (local s k))
+  pub rows : map (λ row. row.process) r.delay.rows ≡ map (local s) (serials s)
+  pub acks : AcksFits s.here (others_of s) (map (λ m. m.id) s.got) s.acks s.told r.acks
   pub frames : r.frames ≡ tagged s.config.domain s.frames
   pub delivered : r.delivered ≡ tagged s.config.domain s.deliveries
+
+-- a message of a view that its group has reached; while that is the group's view, each local member has delivered it
+pub record IsSpent (s : State) (m : Message) : Type 0 where
+  pub reached : m.id.view ≤ (s.group m.id.group).number
+  pub delivered : (k : ℕ) → was_given s.used k ≡ true → is_member ((s.process k).standing m.id.group) ≡ true →
+      m.id.view ≡ (s.group m.id.group).number → has_delivered (s.process k) m.id ≡ true
+
+-- of the messages received these are kept, in order; what was let go is spent
+abbrev pub AreKept : (Message → Type 0) → List Message → List Message → Type 0
+AreKept spent [] kept = kept ≡ []
+AreKept spent (m ∷ got) kept =
+    ((rest : List Message) × (kept ≡ m ∷ rest) × AreKept spent got rest) ⊎ (spent m × AreKept spent got kept)
 
 -- what holds of each history that events lead to: a member's time is in the view of its group, and the site has that
 -- view; groups are those that are configured, each once; and the times of messages are in order
@@ -71,12 +88,15 @@ pub record IsLawful (s : State) : Type 0 where
   pub rising : is_rising group_cmp s.config.groups ≡ true
   pub known : (k : ℕ) (g : GroupNo) → is_outside ((s.process k).standing g) ≡ false → is_group s g ≡ true
   pub current : (k : ℕ) (g : GroupNo) → is_member ((s.process k).standing g) ≡ true → view_of (s.process k).time g ≡ (s.group g).number
+  pub listed : (g : GroupNo) → has_view (s.group g) ≡ true → is_group s g ≡ true
   pub viewed : (k : ℕ) (g : GroupNo) → is_member ((s.process k).standing g) ≡ true → has_view (s.group g) ≡ true
   pub stamped : (m : Message) → Contains s.got m → is_sorted group_cmp m.times ≡ true
+  -- what was let go is of no use any more
+  pub spent : AreKept (IsSpent s) s.got s.kept
 
--- a domain between two steps stands for a history
-pub record Means (d : Domain) (s : State) : Type 0 where
-  pub fits : Fits (records_of d no_outs) (before_event s)
+-- a domain between two steps, with its part of what is shared, stands for a history
+pub record Means (d : Domain) (part : Part) (s : State) : Type 0 where
+  pub fits : Fits (records_of d part no_outs) (before_event s)
   pub lawful : IsLawful s
 
 -- what the types of a frame's parts say
@@ -98,3 +118,4 @@ abbrev pub IsTyped : Event → Type 0
 IsTyped (event.Open d) = Unit {0}
 IsTyped (event.Command d k c) = Unit {0}
 IsTyped (event.Frame d from f) = IsTypedFrame f
+IsTyped (event.Tick t) = Unit {0}

@@ -1,6 +1,6 @@
 -- A group at one site: the number of the last view that the site knows of; that view, while a member of it is at this
 -- site; how many requests there were; and those that the home has not answered, in order.
-use Rattle.std.specs.Prelude.{ℕ, ◌+◌, Bool, true, false, not, nat_le, if◌then◌else◌, List, [], ◌∷◌, ◌++◌, map, filter, drop, Option, Some, None}
+use Rattle.std.specs.Prelude.{ℕ, ◌+◌, Bool, true, false, not, ◌&&◌, ◌==◌, nat_le, if◌then◌else◌, List, [], ◌∷◌, ◌++◌, map, filter, drop, Option, Some, None}
 use Rattle.std.specs.List.{list_any}
 use Rattle.cast_types.specs.declared.names.SiteNo.{SiteNo}
 use Rattle.cast_types.specs.declared.names.Proc.{Proc}
@@ -23,6 +23,10 @@ members_of g = elim g.view [ Some m ↦ m.list | None ↦ [] ]
 
 abbrev pub has_view : Group → Bool
 has_view g = elim g.view [ Some m ↦ true | None ↦ false ]
+
+-- the site has a view, and it has this number
+abbrev pub is_current : Group → ℕ → Bool
+is_current g view = has_view g && (g.number == view)
 
 -- the sites of processes, in order
 abbrev pub sites_of : List Proc → List SiteNo

@@ -4,10 +4,12 @@ pub mod Group
 pub mod Phase
 pub mod Home
 pub mod State
+pub mod Owing
 pub mod Effects
 pub mod Rest
 pub mod Step
 pub mod Run
+pub mod Shared
 pub mod Records
 pub mod Calls
 pub mod Fits

@@ -6,16 +6,18 @@ use Rattle.cast_types.specs.declared.names.Proc.{Proc}
 use Rattle.cast_types.specs.declared.names.Uid.{Uid}
 use Rattle.cast_types.specs.declared.refusal.Refusal.TheVariants.{NotOpen, TooManySessions}
 use Rattle.cast_types.specs.declared.limits.TheConstants.{MAX_NUMBER}
-use Rattle.cast_frame.specs.declared.message.Message.{Message}
 use Rattle.cast_frame.specs.declared.site.SiteFrame.{SiteFrame}
 use Rattle.cast_delay.specs.Queue.{Queue}
+use Rattle.cast_stable.specs.Ledger.{Ledger}
 use Rattle.cast_domain.specs.declared.config.DomainConfig.{DomainConfig}
 use Rattle.cast_domain.specs.declared.domain.Domain.{Domain}
 use Rattle.cast_domain.specs.declared.record.GroupRecord.{GroupRecord}
 use Rattle.cast_domain.specs.declared.session.Session.{Session}
 use Rattle.cast_domain.specs.declared.event.Outs.{Outs}
+use Rattle.cast_domain.specs.declared.shared.Shared.{Shared}
+use Rattle.cast_domain.specs.Shared.{Part, part_of}
 use Rattle.cast_domain.specs.declared.event.Event.{Event}
-use Rattle.cast_domain.specs.declared.event.Event.TheVariants.{Open, Command, Frame}
+use Rattle.cast_domain.specs.declared.event.Event.TheVariants.{Open, Command, Frame, Tick}
 use Rattle.cast_domain.specs.declared.event.Taken.{Taken}
 use Rattle.cast_domain.specs.declared.event.Taken.TheVariants.{Nothing, Opened, Refused}
 
@@ -26,24 +28,32 @@ pub record Records : Type 0 where
   pub used : ℕ
   pub sessions : List Session
   pub groups : List GroupRecord
-  pub got : List Message
+  pub moment : ℕ
+  pub part : Part
   pub delay : Queue
+  pub acks : Ledger
   pub frames : List (DomainNo × SiteNo × SiteFrame)
   pub delivered : List (DomainNo × Proc × Uid)
 
-abbrev pub records_of : Domain → Outs → Records
-records_of d o =
+-- a domain with its part of what is shared
+abbrev pub records_of : Domain → Part → Outs → Records
+records_of d part o =
     record {
       site = d.site;
       config = d.config;
       used = d.used;
       sessions = d.sessions.items;
       groups = d.groups.items;
-      got = d.got.items;
+      moment = d.moment;
+      part = part;
       delay = d.delay;
+      acks = d.acks;
       frames = o.frames;
       delivered = o.delivered;
     }
+
+abbrev pub records_in : Domain → Shared → Outs → Records
+records_in d shared o = records_of d (part_of d.config.domain shared) o
 
 -- nothing was sent, delivered or halted
 abbrev pub no_outs : Outs
@@ -87,9 +97,11 @@ abbrev pub answer_to : ℕ → Event → Taken
 answer_to used (Open d) = if used == MAX_NUMBER then Refused TooManySessions else Opened (used + 1)
 answer_to used (Command d k c) = if was_given used k then Nothing else Refused NotOpen
 answer_to used (Frame d from f) = Nothing
+answer_to used (Tick t) = Nothing
 
 -- how many serials are given after an event
 abbrev pub used_after : ℕ → Event → ℕ
 used_after used (Open d) = if used == MAX_NUMBER then used else used + 1
 used_after used (Command d k c) = used
 used_after used (Frame d from f) = used
+used_after used (Tick t) = used

@@ -9,14 +9,14 @@ use Rattle.cast_frame.specs.declared.site.SiteFrame.TheVariants as frame
 use Rattle.cast_domain.specs.Group.{sites_of}
 use Rattle.cast_domain.specs.declared.home.Home.{Home}
 use Rattle.cast_domain.specs.Home.{applied_of, may_decide, decided}
-use Rattle.cast_domain.specs.State.{State, serials, is_home, is_ready_for, set_home, emitted}
+use Rattle.cast_domain.specs.State.{State, serials, is_home, is_ready_for, let_go, set_home, emitted}
 use Rattle.cast_domain.specs.Effects.{delivering}
 
 -- Deliveries
 
--- a process delivers the first message that is ready for it
+-- a process delivers the first message that is ready for it, and what is free then is let go
 abbrev pub deliver_first : ℕ → State → State
-deliver_first k s = elim (find (is_ready_for s k) s.got) [ Some m ↦ delivering s k m | None ↦ s ]
+deliver_first k s = elim (find (is_ready_for s k) s.got) [ Some m ↦ let_go (delivering s k m) | None ↦ s ]
 
 -- a process delivers until nothing is ready for it. It delivers no message twice, so so many times are enough
 abbrev pub deliver_all : State → ℕ → State

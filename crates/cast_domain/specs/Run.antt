@@ -6,7 +6,7 @@ use Rattle.cast_frame.specs.declared.client.Push.{Push}
 use Rattle.cast_domain.specs.declared.config.DomainConfig.{DomainConfig}
 use Rattle.cast_domain.specs.declared.event.Event.{Event}
 use Rattle.cast_domain.specs.declared.event.Taken.{Taken}
-use Rattle.cast_domain.specs.State.{State, opening}
+use Rattle.cast_domain.specs.State.{State, opening, let_go}
 use Rattle.cast_types.specs.Repeat.{iterate}
 use Rattle.cast_domain.specs.Rest.{RestsAt, pass}
 use Rattle.cast_domain.specs.Step.{acted}
@@ -15,9 +15,9 @@ use Rattle.cast_domain.specs.Step.{acted}
 abbrev pub before_event : State → State
 before_event s = record s { frames = []; deliveries = [] }
 
--- what an event does at once
+-- what an event does at once; what is free then is let go
 abbrev pub after_event : State → Event → State
-after_event s e = (acted (before_event s) e).0
+after_event s e = let_go (acted (before_event s) e).0
 
 -- an event takes s to t, with an answer. The frames sent and the deliveries stand in t
 pub record IsStep (s : State) (e : Event) (answer : Taken) (t : State) : Type 0 where

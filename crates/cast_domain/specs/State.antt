@@ -1,6 +1,6 @@
 -- The state of one domain at one site, with its whole history, and what its parts say together.
-use Rattle.std.specs.Prelude.{ℕ, Bool, ◌&&◌, ◌==◌, nat_lt, List, [], ◌∷◌, ◌++◌}
-use Rattle.std.specs.List.{list_any, list_all, range_with_len}
+use Rattle.std.specs.Prelude.{ℕ, Bool, not, ◌&&◌, ◌==◌, nat_lt, List, [], ◌∷◌, ◌++◌, length, filter, Option}
+use Rattle.std.specs.List.{find, list_any, list_all, range_with_len}
 use Rattle.cast_types.specs.declared.names.SiteNo.{SiteNo}
 use Rattle.cast_types.specs.declared.names.GroupNo.{GroupNo}
 use Rattle.cast_types.specs.declared.names.Proc.{Proc}
@@ -12,11 +12,13 @@ use Rattle.cast_types.specs.Sets.{is_among, set_at}
 use Rattle.cast_clock.specs.Times.{no_time, clock_of, count_in}
 use Rattle.cast_frame.specs.declared.message.Message.{Message}
 use Rattle.cast_frame.specs.declared.site.SiteFrame.{SiteFrame}
-use Rattle.cast_delay.specs.Ready.{Process, Gate, is_causally_ready}
+use Rattle.cast_stable.specs.Stable.{Acked, stable_upto, is_known_stable}
+use Rattle.cast_timer.specs.declared.key.Owed.{Owed}
+use Rattle.cast_delay.specs.Ready.{Process, Gate, is_member, has_delivered, is_causally_ready}
 use Rattle.cast_domain.specs.declared.session.Session.{Session}
 use Rattle.cast_domain.specs.Session.{no_session}
 use Rattle.cast_domain.specs.declared.group.Group.{Group}
-use Rattle.cast_domain.specs.Group.{no_group, members_of, other_sites}
+use Rattle.cast_domain.specs.Group.{no_group, members_of, other_sites, is_current}
 use Rattle.cast_domain.specs.declared.home.Home.{Home}
 use Rattle.cast_domain.specs.Home.{first_home}
 use Rattle.cast_domain.specs.declared.config.DomainConfig.{DomainConfig}
@@ -24,14 +26,22 @@ use Rattle.cast_domain.specs.declared.config.DomainConfig.{DomainConfig}
 pub record State : Type 0 where
   pub here : SiteNo
   pub config : DomainConfig
+  -- in milliseconds; it never goes back
+  pub moment : ℕ
   -- serials are used from 1 on, and never again
   pub used : ℕ
   pub session : ℕ → Session
   pub process : ℕ → Process
   pub group : GroupNo → Group
   pub home : GroupNo → Home
-  -- every message ever received, in order
+  -- every message ever received, in order, and those of them that were not let go
   pub got : List Message
+  pub kept : List Message
+  -- which site acknowledged which message of a local process, and what other sites told to be stable
+  pub acks : List Acked
+  pub told : List Uid
+  -- the frames that are sent again until they are answered
+  pub owed : List Owed
   -- of the event at hand: the frames sent, and the deliveries
   pub frames : List (SiteNo × SiteFrame)
   pub deliveries : List (Proc × Uid)
@@ -45,12 +55,17 @@ opening here config =
     record {
       here = here;
       config = config;
+      moment = 0;
       used = 0;
       session = λ k. no_session;
       process = λ k. no_process;
       group = λ g. no_group;
       home = λ g. first_home;
       got = [];
+      kept = [];
+      acks = [];
+      told = [];
+      owed = [];
       frames = [];
       deliveries = [];
     }
@@ -98,8 +113,46 @@ emitted s to f = record s { frames = s.frames ++ (to, f) ∷ [] }
 abbrev pub is_received : State → Uid → Bool
 is_received s u = list_any (λ m. uid_eq m.id u) s.got
 
+-- how many messages are kept, over all groups
+abbrev pub held : State → ℕ
+held s = length s.kept
+
+-- a cast, or a message from another site, may be received beside those that are kept
+abbrev pub may_receive : State → Bool
+may_receive s = nat_lt (held s) s.config.quotas.held
+
+-- the kept message of an id
+abbrev pub message_of : State → Uid → Option Message
+message_of s u = find (λ m. uid_eq m.id u) s.kept
+
 abbrev pub others_of : State → GroupNo → List SiteNo
 others_of s g = other_sites s.here (members_of (s.group g))
+
+-- Stability
+
+-- how many messages of a local process are stable
+abbrev pub upto : State → Uid → ℕ
+upto s u = stable_upto s.acks (others_of s u.group) u.group u.view u.proc
+
+-- known to be stable
+abbrev pub is_stable : State → Uid → Bool
+is_stable s u = is_known_stable s.here (others_of s u.group) s.acks s.told u
+
+-- the serials of the local members of a group
+abbrev pub local_members : State → GroupNo → List ℕ
+local_members s g = filter (λ k. is_member ((s.process k).standing g)) (serials s)
+
+-- a message of the current view that is stable, and that each local member has delivered
+abbrev pub is_free : State → Uid → Bool
+is_free s u =
+    is_current (s.group u.group) u.view
+    && (is_stable s u && list_all (λ k. has_delivered (s.process k) u) (local_members s u.group))
+
+-- free messages are let go
+abbrev pub let_go : State → State
+let_go s = record s { kept = filter (λ m. not (is_free s m.id)) s.kept }
+
+-- Readiness
 
 abbrev pub gate_of : State → GroupNo → Gate
 gate_of s g = record { number = (s.group g).number }

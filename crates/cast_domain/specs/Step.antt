@@ -1,13 +1,16 @@
 -- What each event does before the state comes to rest, and what it is answered.
-use Rattle.std.specs.Prelude.{ℕ, ◌+◌, Bool, true, false, not, ◌&&◌, ◌==◌, nat_lt, nat_le, if◌then◌else◌, List, [], ◌∷◌, length, Option, Some, None}
+use Rattle.std.specs.Prelude.{ℕ, ◌+◌, Bool, true, false, not, ◌&&◌, ◌==◌, nat_lt, nat_le, if◌then◌else◌, List, [], ◌∷◌, ◌++◌, length, Option, Some, None}
+use Rattle.std.specs.List.{fold}
 use Rattle.cast_types.specs.declared.names.SiteNo.{SiteNo}
 use Rattle.cast_types.specs.declared.names.GroupNo.{GroupNo}
 use Rattle.cast_types.specs.declared.names.Proc.{Proc}
+use Rattle.cast_types.specs.declared.names.Uid.{Uid}
 use Rattle.cast_types.specs.declared.names.Standing.TheVariants.{Joining}
 use Rattle.cast_types.specs.declared.refusal.Refusal.{Refusal}
 use Rattle.cast_types.specs.declared.refusal.Refusal.TheVariants.{NotOpen, TooManySessions, NoGroup, NotMember, AlreadyMember, HeldFull, TooLong}
 use Rattle.cast_types.specs.declared.limits.TheConstants.{MAX_NUMBER, MAX_PAYLOAD}
 use Rattle.cast_types.specs.Names.{site_eq, is_causal}
+use Rattle.cast_types.specs.Sets.{is_among}
 use Rattle.cast_types.specs.Stamps.{ClockList, is_stamp}
 use Rattle.cast_clock.specs.Times.{view_of, count_in, bumped, has_room}
 use Rattle.cast_frame.specs.declared.message.Body.TheVariants as body
@@ -22,10 +25,12 @@ use Rattle.cast_frame.specs.declared.client.Request.TheVariants.{Join, Leave, Ca
 use Rattle.cast_frame.specs.declared.client.Push.TheVariants as push
 use Rattle.cast_frame.specs.Bodies.{kind_of}
 use Rattle.cast_frame.specs.Membership.{Membership}
+use Rattle.cast_timer.specs.declared.key.OwedKind.TheVariants as kinds
+use Rattle.cast_timer.specs.Owed.{paid, is_upto}
 use Rattle.cast_delay.specs.Ready.{is_member, is_outside}
 use Rattle.cast_domain.specs.Session.{first_session, is_open}
 use Rattle.cast_domain.specs.declared.group.Verdict.TheVariants.{Again, Completes, Ignored}
-use Rattle.cast_domain.specs.Group.{first_asking, members_of, with_answer, verdict_of}
+use Rattle.cast_domain.specs.Group.{first_asking, members_of, is_current, with_answer, verdict_of}
 use Rattle.cast_domain.specs.declared.home.Home.{Home}
 use Rattle.cast_domain.specs.Home.{applied_of, after_request, after_installed}
 use Rattle.cast_frame.specs.declared.client.Command.{Command}
@@ -34,7 +39,8 @@ use Rattle.cast_domain.specs.declared.event.Event.{Event}
 use Rattle.cast_domain.specs.declared.event.Event.TheVariants as event
 use Rattle.cast_domain.specs.declared.event.Taken.{Taken}
 use Rattle.cast_domain.specs.declared.event.Taken.TheVariants as taken
-use Rattle.cast_domain.specs.State.{State, local, is_home, is_site, is_group, set_session, set_group, set_home, set_standing, emitted, is_received, is_well_formed}
+use Rattle.cast_domain.specs.State.{State, local, is_home, is_site, is_group, set_session, set_group, set_home, set_standing, emitted, is_received, may_receive, others_of, upto, is_stable, is_well_formed}
+use Rattle.cast_domain.specs.Owing.{ask_key, message_key, owing, paying, ticked}
 use Rattle.cast_domain.specs.Effects.{asking, requesting, pushing, receiving, sending, completing}
 
 -- Commands
@@ -60,6 +66,7 @@ cast_tests s k g payload =
     (not (is_group s g), NoGroup)
     ∷ (nat_lt MAX_PAYLOAD (length payload), TooLong)
     ∷ (not (is_member ((s.process k).standing g)), NotMember)
+    ∷ (not (may_receive s), HeldFull)
     ∷ (not (may_raise (s.process k).time g (local s k)), HeldFull) ∷ []
 
 abbrev pub joining : State → ℕ → GroupNo → State
@@ -96,11 +103,58 @@ is_used s from m =
     site_eq m.id.proc.site from && (not (site_eq from s.here) && ((m.id.view == (s.group m.id.group).number)
     && (is_well_formed s (members_of (s.group m.id.group)) m && is_causal (kind_of m.body))))
 
--- received once, and acknowledged as often as it comes
+-- the acknowledgement is owed to the message's site, until that has told that the message is stable
+abbrev pub acknowledging : State → SiteNo → Uid → State
+acknowledging s to u = if is_stable s u then emitted s to (frame.Ack u) else owing s (message_key kinds.Ack u to)
+
+-- a message is received once, if there is room for it; what was received is acknowledged again
+abbrev pub data_used : State → SiteNo → Message → State
+data_used s from m =
+    if is_received s m.id then emitted s from (frame.Ack m.id)
+    else if may_receive s then acknowledging (receiving s m) from m.id else s
+
 abbrev pub on_data : State → SiteNo → Message → State
-on_data s from m =
-    if is_used s from m
-    then emitted (if is_received s m.id then s else receiving s m) from (frame.Ack m.id)
+on_data s from m = if is_used s from m then data_used s from m else s
+
+-- Stability
+
+-- of a message of the current view of a local process, from another site of that view
+abbrev pub is_used_ack : State → SiteNo → Uid → Bool
+is_used_ack s from u =
+    is_current (s.group u.group) u.view
+    && (nat_lt 0 u.count && (site_eq u.proc.site s.here && is_among site_eq from (others_of s u.group)))
+
+-- a site has a message, and it is owed to that site no more
+abbrev pub with_ack : State → SiteNo → Uid → State
+with_ack s from u = record (paying s (message_key kinds.Data u from)) { acks = s.acks ++ (from, u) ∷ [] }
+
+-- a site is told that the first n messages of a process are stable
+abbrev pub tell_stable : Uid → ℕ → State → SiteNo → State
+tell_stable u n s to = emitted s to (frame.Stable (record u { count = n }))
+
+-- all other sites are told where more messages are stable than before
+abbrev pub tell_more : Uid → ℕ → State → State
+tell_more u before s =
+    if nat_lt before (upto s u) then fold (tell_stable u (upto s u)) s (others_of s u.group) else s
+
+-- an acknowledgement is kept; one of a message that was stable before shows that the site was not told
+abbrev pub on_ack : State → SiteNo → Uid → State
+on_ack s from u =
+    if is_used_ack s from u
+    then (if nat_le u.count (upto s u)
+    then tell_stable u (upto s u) (with_ack s from u) from
+    else tell_more u (upto s u) (with_ack s from u))
+    else s
+
+-- acknowledgements of a process's messages up to one are owed to its site no more
+abbrev pub paying_acks : State → Uid → State
+paying_acks s u = record s { owed = paid (is_upto (message_key kinds.Ack u u.proc.site)) s.owed }
+
+-- the process's own site tells that its messages up to one are stable
+abbrev pub on_stable : State → SiteNo → Uid → State
+on_stable s from u =
+    if is_current (s.group u.group) u.view && site_eq u.proc.site from
+    then record (paying_acks s u) { told = s.told ++ u ∷ [] }
     else s
 
 -- Requests
@@ -123,7 +177,10 @@ abbrev pub on_asked : State → SiteNo → GroupNo → ℕ → Bool → State
 on_asked s from g number true = s
 on_asked s from g number false =
     elim (first_asking (s.group g).requests) [
-      | Some a ↦ (if is_from_home s from && (a.number == number) then asking (set_group s g (with_answer (s.group g))) g else s)
+      | Some a ↦
+          (if is_from_home s from && (a.number == number)
+          then asking (set_group (paying s (ask_key g s.config.home)) g (with_answer (s.group g))) g
+          else s)
       | None ↦ s
     ]
 
@@ -161,8 +218,8 @@ group_of (frame.Out g view) = g
 -- a frame that no rule uses is ignored
 abbrev pub on_frame : State → SiteNo → SiteFrame → State
 on_frame s from (frame.Data m) = on_data s from m
-on_frame s from (frame.Ack u) = s
-on_frame s from (frame.Stable u) = s
+on_frame s from (frame.Ack u) = on_ack s from u
+on_frame s from (frame.Stable u) = on_stable s from u
 on_frame s from (frame.Ask g number what p) = on_ask s from g number what p
 on_frame s from (frame.Asked g number full) = on_asked s from g number full
 on_frame s from (frame.Prepare g view) = s
@@ -195,3 +252,4 @@ acted s (event.Open d) =
     if s.used == MAX_NUMBER then (s, taken.Refused TooManySessions) else (opened s, taken.Opened (s.used + 1))
 acted s (event.Command d k c) = if is_open (s.session k) then (commanded s k c, taken.Nothing) else (s, taken.Refused NotOpen)
 acted s (event.Frame d from f) = (framed s from f, taken.Nothing)
+acted s (event.Tick t) = (ticked s t, taken.Nothing)

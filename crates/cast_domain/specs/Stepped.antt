@@ -7,6 +7,7 @@ use Rattle.cast_domain.specs.declared.event.Taken.{Taken}
 use Rattle.cast_domain.specs.State.{State}
 use Rattle.cast_domain.specs.Run.{IsStep}
 use Rattle.cast_domain.specs.Rest.{RestsAt}
+use Rattle.cast_domain.specs.Shared.{Part}
 use Rattle.cast_domain.specs.Records.{Records, outs_then}
 use Rattle.cast_domain.specs.Fits.{Fits, IsLawful, Means, tagged}
 
@@ -21,12 +22,12 @@ step_outs s =
 
 -- from a history s the event leads with this answer to one for which the domain then stands, and what that step sent
 -- and delivered is added
-pub record IsStepOf (s : State) (e : Event) (answer : Taken) (new : Domain) (before : Outs) (after : Outs) : Type 0 where
+pub record IsStepOf (s : State) (e : Event) (answer : Taken) (new : Domain) (part : Part) (before : Outs) (after : Outs) : Type 0 where
   pub end : State
   pub steps : IsStep s e answer end
-  pub means : Means new end
+  pub means : Means new part end
   pub outs : after ≡ outs_then before (step_outs end)
 
--- whatever history the domain stood for
-abbrev pub IsStepped : Domain → Event → Taken → Domain → Outs → Outs → Type 0
-IsStepped old e answer new before after = (s : State) → Means old s → IsStepOf s e answer new before after
+-- whatever history the domain stood for, with its part of what is shared before and after
+abbrev pub IsStepped : Domain → Part → Event → Taken → Domain → Part → Outs → Outs → Type 0
+IsStepped old part e answer new next before after = (s : State) → Means old part s → IsStepOf s e answer new next before after

@@ -1,4 +1,4 @@
-ghost use Rattle.std.specs.Prelude.{◌≡◌, ◌<◌, true, false, IfSome, IfOk, OnOk, OnErr, vec_len};
+ghost use Rattle.std.specs.Prelude.{◌≡◌, ◌<◌, true, false, IfSome, IfOk, OnOk, OnErr, length, vec_len};
 ghost use Rattle.cast_types.specs.Places.{update};
 ghost use Rattle.cast_domain.specs.Session.{told};
 
@@ -7,10 +7,13 @@ use crate::event::{Event, Outs, Taken};
 use crate::frames::promised_by_types;
 use crate::group::Group;
 use crate::home::Home;
+use crate::moment::Moment;
 use crate::record::{GroupRecord, place_among};
 use crate::session::Session;
+use crate::shared::Shared;
 use cast_delay::{Delay, Fact};
-use cast_frame::{Message, Push, SiteFrame};
+use cast_frame::{Push, SiteFrame};
+use cast_stable::Acks;
 use cast_types::{DomainNo, GroupNo, NoMemory, Proc, Refusal, SiteNo};
 use std::alloc::Global;
 
@@ -19,15 +22,15 @@ use std::alloc::Global;
 pub struct Domain {
     pub(crate) site: SiteNo,
     pub(crate) config: DomainConfig,
+    pub(crate) moment: Moment,
     /// How many serials were given. They count from 1.
     pub(crate) used: u32,
     /// By serial.
     pub(crate) sessions: Vec<Session>,
     /// One for each configured group, in their order.
     pub(crate) groups: Vec<GroupRecord>,
-    /// Every message received, in order of receipt. Its key is its place.
-    pub(crate) got: Vec<Message>,
     pub(crate) delay: Delay,
+    pub(crate) acks: Acks,
     halted: bool,
 }
 
@@ -36,6 +39,7 @@ impl Domain {
     ghost use Rattle.cast_frame.specs.Rising.{is_rising};
     ghost use Rattle.cast_domain.specs.State.{opening};
     ghost use Rattle.cast_domain.specs.Records.{number_of, is_halted, used_of, sessions_of, IsFor};
+    ghost use Rattle.cast_domain.specs.Shared.{no_part};
     ghost use Rattle.cast_domain.specs.Fits.{Means};
 
     /// A domain before its first event.
@@ -44,7 +48,7 @@ impl Domain {
         ensures running { IfOk result (λ d. is_halted d ≡ false) }
         ensures placed { IfOk result (λ d. IsFor site config d) }
         ensures unused { IfOk result (λ d. used_of d ≡ 0) }
-        ensures begins { IfOk result (λ d. is_rising group_cmp config.groups ≡ true → Means d (opening site config)) }
+        ensures begins { IfOk result (λ d. is_rising group_cmp config.groups ≡ true → Means d no_part (opening site config)) }
     {
         let mut groups = Vec::new(alloc);
         for group in config.groups.as_slice() {
@@ -57,11 +61,12 @@ impl Domain {
         Ok(Domain {
             site,
             config,
+            moment: Moment::first(),
             used: 0,
             sessions: Vec::new(alloc),
             groups,
-            got: Vec::new(alloc),
             delay: Delay::new(alloc),
+            acks: Acks::new(alloc, site),
             halted: false,
         })
     }
@@ -91,10 +96,11 @@ impl Domain {
 impl Domain {
     ghost use Rattle.cast_types.specs.Names.{site_eq};
     ghost use Rattle.cast_domain.specs.declared.event.Outs.{Outs};
-    ghost use Rattle.cast_domain.specs.Records.{Keeps, answer_to, is_halted, number_of, records_of, used_after, used_of};
+    ghost use Rattle.cast_domain.specs.Records.{Keeps, answer_to, is_halted, number_of, records_in, records_of, used_after, used_of};
+    ghost use Rattle.cast_domain.specs.Shared.{LeavesOthers, Part, part_of};
     ghost use Rattle.cast_domain.specs.Fits.{IsTyped};
     ghost use Rattle.cast_domain.specs.Stepped.{IsStepped};
-    ghost use Rattle.cast_domain.specs.Calls.{act_in, is_home_in, local_in, place_among, push_in, record_at, send_in, tell_in};
+    ghost use Rattle.cast_domain.specs.Calls.{act_in, is_home_in, has_room_in, local_in, place_among, push_in, record_at, send_in, tell_in};
 
     /// The process of a session.
     pub(crate) fn process(&self, serial: u32) -> Proc
@@ -139,7 +145,7 @@ impl Domain {
     // Tells the delay queue of a process.
     pub(crate) fn tell(&mut self, process: Proc, fact: Fact) -> Result<(), NoMemory>
         ensures kept { Keeps self.old self.new }
-        ensures made { OnOk result ((o : Outs) → records_of self.new o ≡ tell_in (records_of self.old o) process fact) }
+        ensures made { OnOk result ((o : Outs) (part : Part) → records_of self.new part o ≡ tell_in (records_of self.old part o) process fact) }
         ensures groups { self.new.groups ≡ self.old.groups }
     {
         self.delay.tell(process, &fact)?;
@@ -148,7 +154,7 @@ impl Domain {
 
     // Sends a frame to a site.
     pub(crate) fn send(&self, outs: &mut Outs, to: SiteNo, frame: SiteFrame) -> Result<(), NoMemory>
-        ensures { OnOk result (records_of self.now outs.new ≡ send_in (records_of self.now outs.old) to frame) }
+        ensures { OnOk result ((part : Part) → records_of self.now part outs.new ≡ send_in (records_of self.now part outs.old) to frame) }
     {
         outs.send(self.config.domain, to, frame)
     }
@@ -156,7 +162,7 @@ impl Domain {
     // Pushes an entry to a session, if it is open.
     pub(crate) fn push(&mut self, serial: u32, push: Push) -> Result<(), NoMemory>
         ensures kept { Keeps self.old self.new }
-        ensures made { OnOk result ((o : Outs) → records_of self.new o ≡ push_in (records_of self.old o) serial push) }
+        ensures made { OnOk result ((o : Outs) (part : Part) → records_of self.new part o ≡ push_in (records_of self.old part o) serial push) }
     {
         let place = serial as usize;
         if 0 < place && place <= self.sessions.len() {
@@ -165,22 +171,43 @@ impl Domain {
         Ok(())
     }
 
+    // How many messages the domain keeps.
+    pub(crate) fn held(&self, shared: &Shared) -> usize
+        ensures { result ≡ length (part_of self.now.config.domain shared.now).kept }
+    {
+        shared.store.held(self.config.domain)
+    }
+
+    // Whether one more message may be received beside those that are kept.
+    pub(crate) fn has_room(&self, shared: &Shared) -> bool
+        ensures { (o : Outs) → result ≡ has_room_in (records_in self.now shared.now o) }
+    {
+        self.held(shared) < self.config.quotas.held as usize
+    }
+
     /// Makes one step: the event, and then what follows from it until nothing changes. What is sent and delivered is
-    /// added to `outs`. `NoMemory` halts the domain, which from then on answers each event `Refused(Halted)`.
-    pub fn step(&mut self, event: &Event, outs: &mut Outs) -> Result<Taken, NoMemory>
+    /// added to `outs`. Of what is `shared` the parts of other domains stay as they are. `NoMemory` halts the domain,
+    /// which from then on answers each event `Refused(Halted)`.
+    pub fn step(
+        &mut self,
+        shared: &mut Shared,
+        event: &Event,
+        outs: &mut Outs,
+    ) -> Result<Taken, NoMemory>
         ensures answer { is_halted self.old ≡ false → IfOk result (λ t. t ≡ answer_to (used_of self.old) event.now) }
         ensures used { is_halted self.old ≡ false → OnOk result (used_of self.new ≡ used_after (used_of self.old) event.now) }
         ensures number { number_of self.new ≡ number_of self.old }
         ensures running { is_halted self.old ≡ false → OnOk result (is_halted self.new ≡ false) }
         ensures halts { OnErr result (is_halted self.new ≡ true) }
-        ensures halted { is_halted self.old ≡ true → (result ≡ Ok (Taken.Refused Refusal.Halted)) × (self.new ≡ self.old) × (outs.new ≡ outs.old) }
-        ensures steps { is_halted self.old ≡ false → IfOk result (λ answer. IsStepped self.old event.now answer self.new outs.old outs.new) }
+        ensures halted { is_halted self.old ≡ true → (result ≡ Ok (Taken.Refused Refusal.Halted)) × (self.new ≡ self.old) × (shared.new ≡ shared.old) × (outs.new ≡ outs.old) }
+        ensures steps { is_halted self.old ≡ false → IfOk result (λ answer. IsStepped self.old (part_of (number_of self.old) shared.old) event.now answer self.new (part_of (number_of self.old) shared.new) outs.old outs.new) }
         ensures nothing { OnErr result (outs.new ≡ outs.old) }
+        ensures others { LeavesOthers (number_of self.old) shared.old shared.new }
     {
         if self.halted {
             return Ok(Taken::Refused(Refusal::Halted));
         }
-        match self.serve(event, outs) {
+        match self.serve(event, shared, outs) {
             Ok(taken) => Ok(taken),
             Err(error) => {
                 self.halted = true;
@@ -189,26 +216,39 @@ impl Domain {
         }
     }
 
-    fn serve(&mut self, event: &Event, outs: &mut Outs) -> Result<Taken, NoMemory>
+    fn serve(
+        &mut self,
+        event: &Event,
+        shared: &mut Shared,
+        outs: &mut Outs,
+    ) -> Result<Taken, NoMemory>
         ensures answer { IfOk result (λ t. t ≡ answer_to self.old.used event.now) }
         ensures used { OnOk result (self.new.used ≡ used_after self.old.used event.now) }
         ensures same { (self.new.site ≡ self.old.site) × (self.new.config ≡ self.old.config) × (self.new.halted ≡ self.old.halted) }
-        ensures steps { IfOk result (λ answer. IsStepped self.old event.now answer self.new outs.old outs.new) }
+        ensures others { LeavesOthers self.old.config.domain shared.old shared.new }
+        ensures steps { IfOk result (λ answer. IsStepped self.old (part_of self.old.config.domain shared.old) event.now answer self.new (part_of self.old.config.domain shared.new) outs.old outs.new) }
         ensures nothing { OnErr result (outs.new ≡ outs.old) }
     {
         let mut step = Outs::new(outs.frames.alloc());
-        let taken = self.act(event, &mut step)?;
-        self.rest(&mut step)?;
+        let taken = self.act(event, shared, &mut step)?;
+        self.let_go(shared)?;
+        self.rest(shared, &mut step)?;
         outs.append(step)?;
         Ok(taken)
     }
 
     // What the event does at once.
-    fn act(&mut self, event: &Event, outs: &mut Outs) -> Result<Taken, NoMemory>
+    fn act(
+        &mut self,
+        event: &Event,
+        shared: &mut Shared,
+        outs: &mut Outs,
+    ) -> Result<Taken, NoMemory>
         ensures answer { IfOk result (λ t. t ≡ answer_to self.old.used event.now) }
         ensures used { OnOk result (self.new.used ≡ used_after self.old.used event.now) }
         ensures same { (self.new.site ≡ self.old.site) × (self.new.config ≡ self.old.config) × (self.new.halted ≡ self.old.halted) }
-        ensures made { OnOk result (records_of self.new outs.new ≡ act_in (records_of self.old outs.old) event.now) }
+        ensures others { LeavesOthers self.old.config.domain shared.old shared.new }
+        ensures made { OnOk result (records_in self.new shared.new outs.new ≡ act_in (records_in self.old shared.old outs.old) event.now) }
         ensures typed { IsTyped event.now }
     {
         match event {
@@ -217,10 +257,14 @@ impl Domain {
                 serial,
                 command,
                 ..
-            } => self.command(*serial, command, outs),
+            } => self.command(*serial, command, shared, outs),
             Event::Frame(_, from, frame) => {
                 promised_by_types(frame);
-                self.frame(*from, frame, outs)?;
+                self.frame(*from, frame, shared, outs)?;
+                Ok(Taken::Nothing)
+            }
+            Event::Tick(millis) => {
+                self.tick(*millis, shared, outs)?;
                 Ok(Taken::Nothing)
             }
         }

@@ -17,19 +17,22 @@ pub enum Event {
     },
     /// A frame comes from a site, which may be the own one.
     Frame(DomainNo, SiteNo, SiteFrame),
+    /// Time passes in all domains: the moment, in milliseconds, is at least this.
+    Tick(u64),
 }
 
 impl Event {
     ghost use Rattle.cast_domain.specs.Events.{domain_of};
 
-    /// The domain that the event names.
-    pub fn domain(&self) -> DomainNo
+    /// The domain that the event names; `None` of an event of all domains.
+    pub fn domain(&self) -> Option<DomainNo>
         ensures { result ≡ domain_of self.now }
     {
         match self {
-            Event::Open(domain) => *domain,
-            Event::Command { domain, .. } => *domain,
-            Event::Frame(domain, _, _) => *domain,
+            Event::Open(domain) => Some(*domain),
+            Event::Command { domain, .. } => Some(*domain),
+            Event::Frame(domain, _, _) => Some(*domain),
+            Event::Tick(_) => None,
         }
     }
 }

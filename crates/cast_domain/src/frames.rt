@@ -1,7 +1,9 @@
-ghost use Rattle.std.specs.Prelude.{◌≡◌, ◌<◌, IfOk, OnOk, vec_len};
+ghost use Rattle.std.specs.Prelude.{◌≡◌, ◌<◌, false, IfOk, OnOk, vec_len};
 ghost use Rattle.std.specs.List.{fold, list_all, list_any};
 ghost use Rattle.cast_types.specs.Names.{group_eq, is_causal, proc_eq, uid_eq};
 ghost use Rattle.cast_types.specs.Sets.{is_among};
+ghost use Rattle.cast_frame.specs.declared.site.Change.TheVariants as asked_change;
+ghost use Rattle.cast_frame.specs.declared.site.SiteFrame.TheVariants as asked_frame;
 ghost use Rattle.cast_domain.specs.Step.{group_of};
 ghost use Rattle.cast_domain.specs.Fits.{IsTypedFrame};
 ghost use Rattle.cast_domain.specs.State.{counts_itself};
@@ -9,8 +11,10 @@ ghost use Rattle.cast_domain.specs.State.{counts_itself};
 use crate::domain::Domain;
 use crate::event::Outs;
 use crate::group::Verdict;
-use crate::home::is_among;
+use crate::home::{is_among, other_sites};
+use crate::owing::ask_key;
 use crate::record::{answer_at, apply_at, installed_at, view_at};
+use crate::shared::Shared;
 use cast_clock::Times;
 use cast_delay::Fact;
 use cast_frame::{Change, Members, Message, Push, SiteFrame};
@@ -60,8 +64,9 @@ fn group_of(frame: &SiteFrame) -> GroupNo
 impl Domain {
     ghost use Rattle.cast_domain.specs.declared.event.Outs.{Outs};
     ghost use Rattle.cast_domain.specs.Group.{is_taken_in};
-    ghost use Rattle.cast_domain.specs.Records.{Keeps, records_of};
-    ghost use Rattle.cast_domain.specs.Calls.{answered_in, asked_of_home_in, complete_in, data_in, enter_in, frame_at, frame_in, install_in, installed_in, is_used_in, is_well_formed_in, receive_once_in, standing_of, take_in, time_of};
+    ghost use Rattle.cast_domain.specs.Records.{Keeps, records_in, records_of};
+    ghost use Rattle.cast_domain.specs.Shared.{LeavesOthers, Part};
+    ghost use Rattle.cast_domain.specs.Calls.{answered_in, asked_of_home_in, complete_in, data_in, enter_in, frame_at, frame_in, install_in, installed_in, is_used_in, is_well_formed_in, send_in, standing_of, take_in, time_of, use_data_in, view_in};
     ghost use Rattle.cast_clock.specs.Times.{entering};
 
     // A frame comes from a site. One from a site or for a group that is not configured is ignored.
@@ -69,10 +74,12 @@ impl Domain {
         &mut self,
         from: SiteNo,
         frame: &SiteFrame,
+        shared: &mut Shared,
         outs: &mut Outs,
     ) -> Result<(), NoMemory>
         ensures same { Keeps self.old self.new }
-        ensures made { OnOk result (records_of self.new outs.new ≡ frame_in (records_of self.old outs.old) from frame.now) }
+        ensures others { LeavesOthers self.old.config.domain shared.old shared.new }
+        ensures made { OnOk result (records_in self.new shared.new outs.new ≡ frame_in (records_in self.old shared.old outs.old) from frame.now) }
     {
         if !is_among(from, self.config.sites.as_slice()) {
             return Ok(());
@@ -80,7 +87,7 @@ impl Domain {
         let Some(place) = self.place_of(group_of(frame)) else {
             return Ok(());
         };
-        self.frame_at(place, from, frame, outs)
+        self.frame_at(place, from, frame, shared, outs)
     }
 
     // A frame about the group at a place. One that no rule uses is ignored.
@@ -89,14 +96,16 @@ impl Domain {
         place: usize,
         from: SiteNo,
         frame: &SiteFrame,
+        shared: &mut Shared,
         outs: &mut Outs,
     ) -> Result<(), NoMemory>
         requires { place < vec_len self.old.groups }
         ensures same { Keeps self.old self.new }
-        ensures made { OnOk result (records_of self.new outs.new ≡ frame_at (records_of self.old outs.old) from frame.now place) }
+        ensures others { LeavesOthers self.old.config.domain shared.old shared.new }
+        ensures made { OnOk result (records_in self.new shared.new outs.new ≡ frame_at (records_in self.old shared.old outs.old) from frame.now place) }
     {
         match frame {
-            SiteFrame::Data(message) => self.data(place, from, message, outs),
+            SiteFrame::Data(message) => self.data(place, from, message, shared, outs),
             SiteFrame::Ask {
                 number,
                 change,
@@ -104,7 +113,7 @@ impl Domain {
                 ..
             } => self.asked_of_home(place, from, *number, *change, *proc, outs),
             SiteFrame::Asked { number, full, .. } => self.answered(
-                place, from, *number, *full, outs,
+                place, from, *number, *full, shared, outs,
             ),
             SiteFrame::Install {
                 view,
@@ -113,9 +122,9 @@ impl Domain {
                 ..
             } => self.install(place, from, *view, members, *request, outs),
             SiteFrame::Installed { view, .. } => self.installed(place, from, *view),
-            SiteFrame::Ack(_)
-            | SiteFrame::Stable(_)
-            | SiteFrame::Prepare { .. }
+            SiteFrame::Ack(id) => self.ack(place, from, *id, shared, outs),
+            SiteFrame::Stable(id) => self.stable(place, from, *id, shared),
+            SiteFrame::Prepare { .. }
             | SiteFrame::Flushed { .. }
             | SiteFrame::Want(_)
             | SiteFrame::Forward(_)
@@ -123,22 +132,22 @@ impl Domain {
         }
     }
 
-    // Data: a causal message of the site's view, from the process's own site, which is another. It is received once,
-    // and acknowledged as often as it comes.
+    // Data: a causal message of the site's view, from the process's own site, which is another.
     fn data(
         &mut self,
         place: usize,
         from: SiteNo,
         message: &Message,
+        shared: &mut Shared,
         outs: &mut Outs,
     ) -> Result<(), NoMemory>
         requires { place < vec_len self.old.groups }
         ensures same { Keeps self.old self.new }
-        ensures made { OnOk result (records_of self.new outs.new ≡ data_in (records_of self.old outs.old) place from message.now) }
+        ensures others { LeavesOthers self.old.config.domain shared.old shared.new }
+        ensures made { OnOk result (records_in self.new shared.new outs.new ≡ data_in (records_in self.old shared.old outs.old) place from message.now) }
     {
         if self.is_used(place, from, message) {
-            self.receive_once(message)?;
-            self.send(outs, from, SiteFrame::Ack(message.id))?;
+            self.use_data(from, message, shared, outs)?;
         }
         Ok(())
     }
@@ -146,7 +155,7 @@ impl Domain {
     // Whether a message is of the site's view, comes from the process's own site, which is another, and is causal.
     fn is_used(&self, place: usize, from: SiteNo, message: &Message) -> bool
         requires { place < vec_len self.now.groups }
-        ensures { (o : Outs) → result ≡ is_used_in (records_of self.now o) place from message.now }
+        ensures { (o : Outs) (part : Part) → result ≡ is_used_in (records_of self.now part o) place from message.now }
     {
         message.id.proc.site == from
             && !(from == self.site)
@@ -155,30 +164,33 @@ impl Domain {
             && is_causal(message.kind())
     }
 
-    // Receives a message, if it was not received before.
-    fn receive_once(&mut self, message: &Message) -> Result<(), NoMemory>
+    // A message is received once, if there is room for it. One that was received is acknowledged again.
+    fn use_data(
+        &mut self,
+        from: SiteNo,
+        message: &Message,
+        shared: &mut Shared,
+        outs: &mut Outs,
+    ) -> Result<(), NoMemory>
         ensures same { Keeps self.old self.new }
-        ensures made { OnOk result ((o : Outs) → records_of self.new o ≡ receive_once_in (records_of self.old o) message.now) }
+        ensures others { LeavesOthers self.old.config.domain shared.old shared.new }
+        ensures made { OnOk result (records_in self.new shared.new outs.new ≡ use_data_in (records_in self.old shared.old outs.old) from message.now) }
     {
-        if self.is_received(message.id) {
+        if self.acks.is_received(message.id) {
+            return self.send(outs, from, SiteFrame::Ack(message.id));
+        }
+        if !self.has_room(shared) {
             return Ok(());
         }
-        self.receive(message.copy()?)?;
-        Ok(())
-    }
-
-    // Whether a message was received before.
-    fn is_received(&self, id: Uid) -> bool
-        ensures { result ≡ list_any (λ m. uid_eq m.id id) self.now.got.items }
-    {
-        self.got.iter().any(|message| message.id == id)
+        self.receive(message.copy()?, shared)?;
+        self.acknowledge(from, message.id, shared, outs)
     }
 
     // Whether all groups of the message's time are configured, its process is a member of the view, and its own time
     // counts it.
     fn is_well_formed(&self, place: usize, message: &Message) -> bool
         requires { place < vec_len self.now.groups }
-        ensures { (o : Outs) → result ≡ is_well_formed_in (records_of self.now o) place message.now }
+        ensures { (o : Outs) (part : Part) → result ≡ is_well_formed_in (records_of self.now part o) place message.now }
     {
         self.knows_groups(message)
             && is_member(message.id.proc, self.record(place).here.members())
@@ -192,7 +204,7 @@ impl Domain {
         are_known(self.config.groups.as_slice(), message.times.clocks())
     }
 
-    // Ask: at the home the request after the last one is applied. That one and lower ones are answered again.
+    // Ask: a request to join is the home's. No site asks for a process to leave.
     fn asked_of_home(
         &mut self,
         place: usize,
@@ -204,9 +216,28 @@ impl Domain {
     ) -> Result<(), NoMemory>
         requires { place < vec_len self.old.groups }
         ensures same { Keeps self.old self.new }
-        ensures made { OnOk result (records_of self.new outs.new ≡ asked_of_home_in (records_of self.old outs.old) place from number change process) }
+        ensures made { OnOk result ((part : Part) → records_of self.new part outs.new ≡ asked_of_home_in (records_of self.old part outs.old) place from number change process) }
     {
-        if !self.is_home() || change == Change::Leave {
+        match change {
+            Change::Join => self.join_asked_of_home(place, from, number, process, outs),
+            Change::Leave => Ok(()),
+        }
+    }
+
+    // Ask to join: at the home the request after the last one is applied. That one and lower ones are answered again.
+    fn join_asked_of_home(
+        &mut self,
+        place: usize,
+        from: SiteNo,
+        number: u32,
+        process: Proc,
+        outs: &mut Outs,
+    ) -> Result<(), NoMemory>
+        requires { place < vec_len self.old.groups }
+        ensures same { Keeps self.old self.new }
+        ensures made { OnOk result ((part : Part) → records_of self.new part outs.new ≡ asked_of_home_in (records_of self.old part outs.old) place from number asked_change.Join process) }
+    {
+        if !self.is_home() {
             return Ok(());
         }
         let group = self.record(place).name;
@@ -216,14 +247,27 @@ impl Domain {
                 return Ok(());
             }
             apply_at(&mut self.groups, place, from, number, process)?;
+            return self.answer_request(group, from, number, outs);
         }
+        self.answer_request(group, from, number, outs)
+    }
+
+    // Answers a request of a site that was applied.
+    fn answer_request(
+        &self,
+        group: GroupNo,
+        to: SiteNo,
+        number: u32,
+        outs: &mut Outs,
+    ) -> Result<(), NoMemory>
+        ensures { OnOk result ((part : Part) → records_of self.now part outs.new ≡ send_in (records_of self.now part outs.old) to (asked_frame.Asked group number false)) }
+    {
         let frame = SiteFrame::Asked {
             group,
             number,
             full: false,
         };
-        self.send(outs, from, frame)?;
-        Ok(())
+        self.send(outs, to, frame)
     }
 
     // Asked: the first request is answered, and the next one is asked.
@@ -233,11 +277,13 @@ impl Domain {
         from: SiteNo,
         number: u32,
         full: bool,
+        shared: &mut Shared,
         outs: &mut Outs,
     ) -> Result<(), NoMemory>
         requires { place < vec_len self.old.groups }
         ensures same { Keeps self.old self.new }
-        ensures made { OnOk result (records_of self.new outs.new ≡ answered_in (records_of self.old outs.old) place from number full) }
+        ensures others { LeavesOthers self.old.config.domain shared.old shared.new }
+        ensures made { OnOk result (records_in self.new shared.new outs.new ≡ answered_in (records_in self.old shared.old outs.old) place from number full) }
     {
         if full {
             return Ok(());
@@ -245,8 +291,10 @@ impl Domain {
         match self.record(place).here.first_request() {
             Some(asking) => {
                 if self.is_from_home(from) && asking.number == number {
+                    let key = ask_key(self.record(place).name, self.config.home);
+                    self.pay(&key, shared);
                     answer_at(&mut self.groups, place)?;
-                    self.ask_home(place, outs)?;
+                    self.ask_home(place, shared, outs)?;
                 }
                 Ok(())
             }
@@ -266,7 +314,7 @@ impl Domain {
     ) -> Result<(), NoMemory>
         requires { place < vec_len self.old.groups }
         ensures same { Keeps self.old self.new }
-        ensures made { OnOk result (records_of self.new outs.new ≡ install_in (records_of self.old outs.old) place from view members.now request) }
+        ensures made { OnOk result ((part : Part) → records_of self.new part outs.new ≡ install_in (records_of self.old part outs.old) place from view members.now request) }
     {
         if !self.is_from_home(from) {
             return Ok(());
@@ -293,12 +341,26 @@ impl Domain {
     ) -> Result<(), NoMemory>
         requires { place < vec_len self.old.groups }
         ensures same { Keeps self.old self.new }
-        ensures made { OnOk result ((o : Outs) → records_of self.new o ≡ complete_in (records_of self.old o) place view members.now request) }
+        ensures made { OnOk result ((o : Outs) (part : Part) → records_of self.new part o ≡ complete_in (records_of self.old part o) place view members.now request) }
+    {
+        let group = self.record(place).name;
+        self.take_view(place, view, members)?;
+        self.take_all_in(group, view, members, request)?;
+        Ok(())
+    }
+
+    // The site takes over a view.
+    fn take_view(&mut self, place: usize, view: u32, members: &Members) -> Result<(), NoMemory>
+        requires { place < vec_len self.old.groups }
+        ensures same { Keeps self.old self.new }
+        ensures made { OnOk result ((o : Outs) (part : Part) → records_of self.new part o ≡ view_in (records_of self.old part o) place view members.now) }
     {
         let group = self.record(place).name;
         view_at(&mut self.groups, place, self.site, view, members)?;
         self.delay.view_changed(group, view)?;
-        self.take_all_in(group, view, members, request)?;
+        let alloc = *self.groups.allocator();
+        let others = other_sites(alloc, self.site, self.record(place).here.members())?;
+        self.acks.tell(group, others)?;
         Ok(())
     }
 
@@ -311,7 +373,7 @@ impl Domain {
         request: u32,
     ) -> Result<(), NoMemory>
         ensures same { Keeps self.old self.new }
-        ensures made { OnOk result ((o : Outs) → records_of self.new o ≡ fold (take_in group view members.now request) (records_of self.old o) members.now.list) }
+        ensures made { OnOk result ((o : Outs) (part : Part) → records_of self.new part o ≡ fold (take_in group view members.now request) (records_of self.old part o) members.now.list) }
     {
         for process in members.list() {
             self.take_in(*process, group, view, members, request)?;
@@ -329,7 +391,7 @@ impl Domain {
         request: u32,
     ) -> Result<(), NoMemory>
         ensures same { Keeps self.old self.new }
-        ensures made { OnOk result ((o : Outs) → records_of self.new o ≡ take_in group view members.now request (records_of self.old o) process) }
+        ensures made { OnOk result ((o : Outs) (part : Part) → records_of self.new part o ≡ take_in group view members.now request (records_of self.old part o) process) }
     {
         if process.site == self.site && self.is_taken_in(process, group, request) {
             self.enter(process, group, view, members)?;
@@ -361,7 +423,7 @@ impl Domain {
         members: &Members,
     ) -> Result<(), NoMemory>
         ensures same { Keeps self.old self.new }
-        ensures made { OnOk result ((o : Outs) → records_of self.new o ≡ enter_in group view members.now (records_of self.old o) process) }
+        ensures made { OnOk result ((o : Outs) (part : Part) → records_of self.new part o ≡ enter_in group view members.now (records_of self.old part o) process) }
     {
         let entered = self.entered(process, group, view)?;
         self.tell(process, Fact::Time(entered))?;
@@ -381,7 +443,7 @@ impl Domain {
     {
         let mut entered = match self.delay.time(process) {
             Some(time) => time.copy()?,
-            None => Times::new(*self.got.allocator()),
+            None => Times::new(*self.groups.allocator()),
         };
         entered.enter(group, view)?;
         Ok(entered)
@@ -391,7 +453,7 @@ impl Domain {
     fn installed(&mut self, place: usize, from: SiteNo, view: u32) -> Result<(), NoMemory>
         requires { place < vec_len self.old.groups }
         ensures same { Keeps self.old self.new }
-        ensures made { OnOk result ((o : Outs) → records_of self.new o ≡ installed_in (records_of self.old o) place from view) }
+        ensures made { OnOk result ((o : Outs) (part : Part) → records_of self.new part o ≡ installed_in (records_of self.old part o) place from view) }
     {
         if self.is_home() {
             installed_at(&mut self.groups, place, from, view)?;

@@ -39,7 +39,7 @@ pub struct Group {
 }
 
 impl Group {
-    ghost use Rattle.cast_domain.specs.Group.{no_group, members_of, with_request, with_answer, with_view, first_asking, verdict_of};
+    ghost use Rattle.cast_domain.specs.Group.{no_group, members_of, with_request, with_answer, with_view, first_asking, verdict_of, is_current};
 
     /// A group of which the site knows no view.
     pub fn new(alloc: Global) -> Self
@@ -97,6 +97,13 @@ impl Group {
         };
         self.requests = Listed::from_vec(rest);
         Ok(())
+    }
+
+    /// Whether the site has a view, and it has this number.
+    pub fn is_current(&self, view: u32) -> bool
+        ensures { result ≡ is_current self.now view }
+    {
+        self.view.is_some() && self.number == view
     }
 
     /// What the site does with an Install of a number.

@@ -67,7 +67,8 @@ pub(crate) fn view_at(
     members: &Members,
 ) -> Result<(), NoMemory>
     requires { place < vec_len groups.old }
-    ensures { OnOk result (groups.new.items ≡ update groups.old.items place (λ x. record x { here = with_view site number members.now x.here })) }
+    ensures items { OnOk result (groups.new.items ≡ update groups.old.items place (λ x. record x { here = with_view site number members.now x.here })) }
+    ensures len { vec_len groups.new ≡ vec_len groups.old }
 {
     let record = &mut groups[place];
     record.here.take_view(site, number, members)?;

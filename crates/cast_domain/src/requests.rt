@@ -4,21 +4,24 @@ ghost use Rattle.cast_domain.specs.Calls.{record_at};
 
 use crate::domain::Domain;
 use crate::event::{Outs, Taken};
-use crate::home::other_sites;
+use crate::owing::{ask_key, message_key};
 use crate::record::ask_at;
 use crate::session::Session;
+use crate::shared::Shared;
 use bytes::Bytes;
 use cast_clock::{ClockFault, Times};
 use cast_delay::Fact;
-use cast_frame::{Body, CastKind, Change, Command, Message, Payload, Push, Request, SiteFrame};
+use cast_frame::{Body, CastKind, Change, Command, Message, Payload, Push, Request};
+use cast_timer::OwedKind;
 use cast_types::limits::{MAX_NUMBER, MAX_PAYLOAD};
-use cast_types::{GroupNo, Key, NoMemory, Proc, Refusal, SiteNo, Stamp, Standing, Uid};
+use cast_types::{GroupNo, NoMemory, Proc, Refusal, SiteNo, Stamp, Standing, Uid};
 use std::alloc::AllocError;
 
 impl Domain {
     ghost use Rattle.cast_clock.specs.Times.{bumped, view_of};
     ghost use Rattle.cast_domain.specs.declared.event.Outs.{Outs};
-    ghost use Rattle.cast_domain.specs.Records.{Keeps, records_of, was_given};
+    ghost use Rattle.cast_domain.specs.Records.{Keeps, records_in, records_of, was_given};
+    ghost use Rattle.cast_domain.specs.Shared.{LeavesOthers, Part};
     ghost use Rattle.cast_domain.specs.Step.{may_raise};
     ghost use Rattle.cast_domain.specs.Calls.{ask_home_in, cast_at, cast_in, command_in, join_at, join_in, open_in, receive_in, request_in, requested_in, send_data_in, send_message_in, time_of};
 
@@ -27,7 +30,7 @@ impl Domain {
         ensures answer { IfOk result (λ t. t ≡ (if self.old.used == MAX_NUMBER then Taken.Refused Refusal.TooManySessions else Taken.Opened (self.old.used + 1))) }
         ensures used { OnOk result (self.new.used ≡ (if self.old.used == MAX_NUMBER then self.old.used else self.old.used + 1)) }
         ensures same { (self.new.site ≡ self.old.site) × (self.new.config ≡ self.old.config) × (self.new.halted ≡ self.old.halted) }
-        ensures made { OnOk result ((o : Outs) → records_of self.new o ≡ (if self.old.used == MAX_NUMBER then records_of self.old o else open_in (records_of self.old o))) }
+        ensures made { OnOk result ((o : Outs) (part : Part) → records_of self.new part o ≡ (if self.old.used == MAX_NUMBER then records_of self.old part o else open_in (records_of self.old part o))) }
     {
         if self.used == MAX_NUMBER {
             return Ok(Taken::Refused(Refusal::TooManySessions));
@@ -46,30 +49,39 @@ impl Domain {
         &mut self,
         serial: u32,
         command: &Command,
+        shared: &mut Shared,
         outs: &mut Outs,
     ) -> Result<Taken, NoMemory>
         ensures answer { IfOk result (λ t. t ≡ (if was_given self.old.used serial then Taken.Nothing else Taken.Refused Refusal.NotOpen)) }
         ensures same { Keeps self.old self.new }
-        ensures made { OnOk result (records_of self.new outs.new ≡ command_in (records_of self.old outs.old) serial command.now) }
+        ensures others { LeavesOthers self.old.config.domain shared.old shared.new }
+        ensures made { OnOk result (records_in self.new shared.new outs.new ≡ command_in (records_in self.old shared.old outs.old) serial command.now) }
     {
         if serial == 0 || serial > self.used {
             return Ok(Taken::Refused(Refusal::NotOpen));
         }
         match command {
-            Command::Request(request) => self.request(serial, request, outs)?,
+            Command::Request(request) => self.request(serial, request, shared, outs)?,
             Command::Bad => {}
         }
         Ok(Taken::Nothing)
     }
 
     // Does what a program asks for, or refuses it, and replies. There are no rules for leaves and atomic casts yet.
-    fn request(&mut self, serial: u32, request: &Request, outs: &mut Outs) -> Result<(), NoMemory>
+    fn request(
+        &mut self,
+        serial: u32,
+        request: &Request,
+        shared: &mut Shared,
+        outs: &mut Outs,
+    ) -> Result<(), NoMemory>
         ensures same { Keeps self.old self.new }
-        ensures made { OnOk result (records_of self.new outs.new ≡ requested_in (records_of self.old outs.old) serial request.now) }
+        ensures others { LeavesOthers self.old.config.domain shared.old shared.new }
+        ensures made { OnOk result (records_in self.new shared.new outs.new ≡ requested_in (records_in self.old shared.old outs.old) serial request.now) }
     {
         match request {
             Request::Join { tag, group } => {
-                let refusal = self.join(serial, *group, outs)?;
+                let refusal = self.join(serial, *group, shared, outs)?;
                 self.push(serial, Push::Reply { tag: *tag, refusal })
             }
             Request::Cast {
@@ -78,7 +90,7 @@ impl Domain {
                 kind: CastKind::Causal,
                 payload,
             } => {
-                let refusal = self.cast(serial, *group, payload, outs)?;
+                let refusal = self.cast(serial, *group, payload, shared, outs)?;
                 self.push(serial, Push::Reply { tag: *tag, refusal })
             }
             Request::Leave { .. }
@@ -94,13 +106,15 @@ impl Domain {
         &mut self,
         serial: u32,
         group: GroupNo,
+        shared: &mut Shared,
         outs: &mut Outs,
     ) -> Result<Option<Refusal>, NoMemory>
         ensures same { Keeps self.old self.new }
-        ensures made { IfOk result (λ refusal. (records_of self.new outs.new, refusal) ≡ join_in (records_of self.old outs.old) serial group) }
+        ensures others { LeavesOthers self.old.config.domain shared.old shared.new }
+        ensures made { IfOk result (λ refusal. (records_in self.new shared.new outs.new, refusal) ≡ join_in (records_in self.old shared.old outs.old) serial group) }
     {
         match self.place_of(group) {
-            Some(place) => self.join_at(place, serial, group, outs),
+            Some(place) => self.join_at(place, serial, group, shared, outs),
             None => Ok(Some(Refusal::NoGroup)),
         }
     }
@@ -111,11 +125,13 @@ impl Domain {
         place: usize,
         serial: u32,
         group: GroupNo,
+        shared: &mut Shared,
         outs: &mut Outs,
     ) -> Result<Option<Refusal>, NoMemory>
         requires { place < vec_len self.old.groups }
         ensures same { Keeps self.old self.new }
-        ensures made { IfOk result (λ refusal. (records_of self.new outs.new, refusal) ≡ join_at (records_of self.old outs.old) serial group place) }
+        ensures others { LeavesOthers self.old.config.domain shared.old shared.new }
+        ensures made { IfOk result (λ refusal. (records_in self.new shared.new outs.new, refusal) ≡ join_at (records_in self.old shared.old outs.old) serial group place) }
     {
         let process = self.process(serial);
         match self.delay.standing(process, group) {
@@ -133,7 +149,7 @@ impl Domain {
             heard: self.heard(process, group),
         };
         self.tell(process, Fact::Standing(group, standing))?;
-        self.ask(place, Change::Join, process, outs)?;
+        self.ask(place, Change::Join, process, shared, outs)?;
         Ok(None)
     }
 
@@ -153,37 +169,39 @@ impl Domain {
         place: usize,
         change: Change,
         process: Proc,
+        shared: &mut Shared,
         outs: &mut Outs,
     ) -> Result<(), NoMemory>
         requires placed { place < vec_len self.old.groups }
         requires numbered { (record_at self.old.groups.items place).here.asked < 4294967295 }
         ensures same { Keeps self.old self.new }
-        ensures made { OnOk result (records_of self.new outs.new ≡ request_in (records_of self.old outs.old) place change process) }
+        ensures others { LeavesOthers self.old.config.domain shared.old shared.new }
+        ensures made { OnOk result (records_in self.new shared.new outs.new ≡ request_in (records_in self.old shared.old outs.old) place change process) }
     {
         let is_first = self.record(place).here.requests.is_empty();
         ask_at(&mut self.groups, place, change, process)?;
         if is_first {
-            return self.ask_home(place, outs);
+            return self.ask_home(place, shared, outs);
         }
         Ok(())
     }
 
-    // Sends the first request of a group to the home.
-    pub(crate) fn ask_home(&self, place: usize, outs: &mut Outs) -> Result<(), NoMemory>
+    // The first request of the group at a place, where there is one, is owed to the home.
+    pub(crate) fn ask_home(
+        &self,
+        place: usize,
+        shared: &mut Shared,
+        outs: &mut Outs,
+    ) -> Result<(), NoMemory>
         requires { place < vec_len self.now.groups }
-        ensures { OnOk result (records_of self.now outs.new ≡ ask_home_in (records_of self.now outs.old) place) }
+        ensures others { LeavesOthers self.now.config.domain shared.old shared.new }
+        ensures made { OnOk result (records_in self.now shared.new outs.new ≡ ask_home_in (records_in self.now shared.old outs.old) place) }
     {
         let record = self.record(place);
-        if let Some(asking) = record.here.first_request() {
-            let frame = SiteFrame::Ask {
-                group: record.name,
-                number: asking.number,
-                change: asking.change,
-                proc: asking.proc,
-            };
-            self.send(outs, self.config.home, frame)?;
+        if record.here.requests.is_empty() {
+            return Ok(());
         }
-        Ok(())
+        self.owe(ask_key(record.name, self.config.home), shared, outs)
     }
 
     // Casts for a process, or says why not.
@@ -192,13 +210,15 @@ impl Domain {
         serial: u32,
         group: GroupNo,
         payload: &Bytes,
+        shared: &mut Shared,
         outs: &mut Outs,
     ) -> Result<Option<Refusal>, NoMemory>
         ensures same { Keeps self.old self.new }
-        ensures made { IfOk result (λ refusal. (records_of self.new outs.new, refusal) ≡ cast_in (records_of self.old outs.old) serial group payload.now) }
+        ensures others { LeavesOthers self.old.config.domain shared.old shared.new }
+        ensures made { IfOk result (λ refusal. (records_in self.new shared.new outs.new, refusal) ≡ cast_in (records_in self.old shared.old outs.old) serial group payload.now) }
     {
         match self.place_of(group) {
-            Some(place) => self.cast_at(place, serial, group, payload, outs),
+            Some(place) => self.cast_at(place, serial, group, payload, shared, outs),
             None => Ok(Some(Refusal::NoGroup)),
         }
     }
@@ -210,11 +230,13 @@ impl Domain {
         serial: u32,
         group: GroupNo,
         payload: &Bytes,
+        shared: &mut Shared,
         outs: &mut Outs,
     ) -> Result<Option<Refusal>, NoMemory>
         requires { place < vec_len self.old.groups }
         ensures same { Keeps self.old self.new }
-        ensures made { IfOk result (λ refusal. (records_of self.new outs.new, refusal) ≡ cast_at (records_of self.old outs.old) serial group payload.now place) }
+        ensures others { LeavesOthers self.old.config.domain shared.old shared.new }
+        ensures made { IfOk result (λ refusal. (records_in self.new shared.new outs.new, refusal) ≡ cast_at (records_in self.old shared.old outs.old) serial group payload.now place) }
     {
         let process = self.process(serial);
         if payload.len() > MAX_PAYLOAD {
@@ -225,6 +247,9 @@ impl Domain {
             Standing::Outside | Standing::Joining { .. } => {
                 return Ok(Some(Refusal::NotMember));
             }
+        }
+        if !self.has_room(shared) {
+            return Ok(Some(Refusal::HeldFull));
         }
         let Some((time, stamp)) = self.raised(process, group)? else {
             return Ok(Some(Refusal::HeldFull));
@@ -241,7 +266,7 @@ impl Domain {
             body: Body::Causal(content),
         };
         self.tell(process, Fact::Time(time))?;
-        self.send_message(place, message, outs)?;
+        self.send_message(message, shared, outs)?;
         Ok(None)
     }
 
@@ -270,46 +295,67 @@ impl Domain {
         }
     }
 
-    // Sends an own message to each other site of the view, and receives it here.
+    // Receives an own message here, and sends it to each other site of the view.
     fn send_message(
         &mut self,
-        place: usize,
         message: Message,
+        shared: &mut Shared,
         outs: &mut Outs,
     ) -> Result<(), NoMemory>
-        requires { place < vec_len self.old.groups }
         ensures same { Keeps self.old self.new }
-        ensures made { OnOk result (records_of self.new outs.new ≡ send_message_in (records_of self.old outs.old) place message) }
+        ensures others { LeavesOthers self.old.config.domain shared.old shared.new }
+        ensures made { OnOk result (records_in self.new shared.new outs.new ≡ send_message_in (records_in self.old shared.old outs.old) message) }
     {
-        let alloc = *self.got.allocator();
-        let others = other_sites(alloc, self.site, self.record(place).here.members())?;
-        self.send_data(&message, others.as_slice(), outs)?;
-        self.receive(message)?;
-        Ok(())
+        let id = message.id;
+        self.receive(message, shared)?;
+        self.send_data(id, self.acks.others(id.group), shared, outs)
     }
 
-    // Sends a message to sites.
+    // Sends an own message to sites.
     fn send_data(
         &self,
-        message: &Message,
+        id: Uid,
         sites: &[SiteNo],
+        shared: &mut Shared,
         outs: &mut Outs,
     ) -> Result<(), NoMemory>
-        ensures { OnOk result (records_of self.now outs.new ≡ fold (send_data_in message.now) (records_of self.now outs.old) sites.now) }
+        ensures others { LeavesOthers self.now.config.domain shared.old shared.new }
+        ensures made { OnOk result (records_in self.now shared.new outs.new ≡ fold (send_data_in id) (records_in self.now shared.old outs.old) sites.now) }
     {
         for site in sites {
-            self.send(outs, *site, SiteFrame::Data(message.copy()?))?;
+            self.send_data_to(id, *site, shared, outs)?;
         }
         Ok(())
     }
 
-    // Receives a message: it is the last one in order of receipt.
-    pub(crate) fn receive(&mut self, message: Message) -> Result<(), NoMemory>
-        ensures same { Keeps self.old self.new }
-        ensures made { OnOk result ((o : Outs) → records_of self.new o ≡ receive_in (records_of self.old o) message) }
+    // Sends an own message to a site, and owes it until that has acknowledged it, as it may have done before.
+    fn send_data_to(
+        &self,
+        id: Uid,
+        to: SiteNo,
+        shared: &mut Shared,
+        outs: &mut Outs,
+    ) -> Result<(), NoMemory>
+        ensures others { LeavesOthers self.now.config.domain shared.old shared.new }
+        ensures made { OnOk result (records_in self.now shared.new outs.new ≡ send_data_in id (records_in self.now shared.old outs.old) to) }
     {
-        self.delay.offer(Key(self.got.len()), &message)?;
-        self.got.push(message)?;
+        let key = message_key(OwedKind::Data, id, to);
+        if self.acks.has_acked(to, id) {
+            return self.send_for(&key, shared, outs);
+        }
+        self.owe(key, shared, outs)
+    }
+
+    // Receives a message: it is the last one in order of receipt.
+    pub(crate) fn receive(&mut self, message: Message, shared: &mut Shared) -> Result<(), NoMemory>
+        ensures same { Keeps self.old self.new }
+        ensures others { LeavesOthers self.old.config.domain shared.old shared.new }
+        ensures made { OnOk result ((o : Outs) → records_in self.new shared.new o ≡ receive_in (records_in self.old shared.old o) message) }
+    {
+        let key = shared.store.next_key(self.config.domain);
+        self.delay.offer(key, &message)?;
+        self.acks.receive(message.id)?;
+        shared.put(self.config.domain, message)?;
         Ok(())
     }
 }

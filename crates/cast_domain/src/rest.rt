@@ -1,5 +1,4 @@
-ghost use Rattle.std.specs.Prelude.{◌≡◌, ◌<◌, false, IfOk, OnOk, slice_get, vec_len};
-ghost use Rattle.std.specs.Option.{option_copied};
+ghost use Rattle.std.specs.Prelude.{◌≡◌, ◌<◌, false, IfOk, OnOk, vec_len};
 ghost use Rattle.std.specs.List.{fold};
 ghost use Rattle.cast_frame.specs.declared.client.Push.TheVariants as push;
 ghost use Rattle.cast_domain.specs.Effects.{cast_kind_of, payload_of};
@@ -8,6 +7,7 @@ use crate::domain::Domain;
 use crate::event::Outs;
 use crate::home::sites_of;
 use crate::record::decide_at;
+use crate::shared::Shared;
 use bytes::Bytes;
 use cast_frame::{Body, CastKind, Message, Payload, Push, SiteFrame, Tail};
 use cast_types::{Counts, Key, NoMemory, Proc, SiteNo};
@@ -15,17 +15,19 @@ use std::alloc::AllocError;
 
 impl Domain {
     ghost use Rattle.cast_domain.specs.Rest.{install_frame};
-    ghost use Rattle.cast_domain.specs.Records.{Keeps, records_of};
+    ghost use Rattle.cast_domain.specs.Records.{Keeps, records_in, records_of};
+    ghost use Rattle.cast_domain.specs.Shared.{LeavesOthers, Part};
     ghost use Rattle.cast_domain.specs.Stepped.{IsRested};
-    ghost use Rattle.cast_domain.specs.Calls.{decide_in, deliver_all_in, deliver_in, lead_in, pass_in, record_at, send_install_in, settle_in};
+    ghost use Rattle.cast_domain.specs.Calls.{decide_in, deliver_all_in, deliver_in, let_go_in, lead_in, pass_in, record_at, send_install_in, settle_in};
 
     // What follows from an event, until nothing changes. No run makes 2^64 passes.
-    pub(crate) fn rest(&mut self, outs: &mut Outs) -> Result<(), NoMemory>
+    pub(crate) fn rest(&mut self, shared: &mut Shared, outs: &mut Outs) -> Result<(), NoMemory>
         ensures same { Keeps self.old self.new }
-        ensures rests { OnOk result (IsRested (records_of self.old outs.old) (records_of self.new outs.new)) }
+        ensures others { LeavesOthers self.old.config.domain shared.old shared.new }
+        ensures rests { OnOk result (IsRested (records_in self.old shared.old outs.old) (records_in self.new shared.new outs.new)) }
     {
         for _turn in 0..u64::MAX {
-            if !self.pass(outs)? {
+            if !self.pass(shared, outs)? {
                 return Ok(());
             }
         }
@@ -33,41 +35,49 @@ impl Domain {
     }
 
     // Deliveries by serial; then by group the home. Answers whether anything changed.
-    fn pass(&mut self, outs: &mut Outs) -> Result<bool, NoMemory>
+    fn pass(&mut self, shared: &mut Shared, outs: &mut Outs) -> Result<bool, NoMemory>
         ensures same { Keeps self.old self.new }
-        ensures made { OnOk result (records_of self.new outs.new ≡ pass_in (records_of self.old outs.old)) }
-        ensures still { IfOk result (λ changed. changed ≡ false → records_of self.new outs.new ≡ records_of self.old outs.old) }
+        ensures others { LeavesOthers self.old.config.domain shared.old shared.new }
+        ensures made { OnOk result (records_in self.new shared.new outs.new ≡ pass_in (records_in self.old shared.old outs.old)) }
+        ensures still { IfOk result (λ changed. changed ≡ false → records_in self.new shared.new outs.new ≡ records_in self.old shared.old outs.old) }
     {
-        let settled = self.settle(outs)?;
+        let settled = self.settle(shared, outs)?;
         let led = self.lead(outs)?;
         Ok(settled || led)
     }
 
     // Each process delivers until nothing is ready for it.
-    fn settle(&mut self, outs: &mut Outs) -> Result<bool, NoMemory>
+    fn settle(&mut self, shared: &mut Shared, outs: &mut Outs) -> Result<bool, NoMemory>
         ensures same { Keeps self.old self.new }
-        ensures made { OnOk result (records_of self.new outs.new ≡ settle_in (records_of self.old outs.old)) }
-        ensures still { IfOk result (λ changed. changed ≡ false → records_of self.new outs.new ≡ records_of self.old outs.old) }
+        ensures others { LeavesOthers self.old.config.domain shared.old shared.new }
+        ensures made { OnOk result (records_in self.new shared.new outs.new ≡ settle_in (records_in self.old shared.old outs.old)) }
+        ensures still { IfOk result (λ changed. changed ≡ false → records_in self.new shared.new outs.new ≡ records_in self.old shared.old outs.old) }
     {
         let mut changed = false;
         for earlier in 0..self.used {
             let process = self.process(earlier + 1);
-            let delivered = self.deliver_all(process, outs)?;
+            let delivered = self.deliver_all(process, shared, outs)?;
             changed = changed | delivered;
         }
         Ok(changed)
     }
 
     // A process delivers until nothing is ready for it. It delivers no message twice.
-    fn deliver_all(&mut self, process: Proc, outs: &mut Outs) -> Result<bool, NoMemory>
+    fn deliver_all(
+        &mut self,
+        process: Proc,
+        shared: &mut Shared,
+        outs: &mut Outs,
+    ) -> Result<bool, NoMemory>
         ensures same { Keeps self.old self.new }
-        ensures made { OnOk result (records_of self.new outs.new ≡ deliver_all_in (records_of self.old outs.old) process) }
-        ensures still { IfOk result (λ changed. changed ≡ false → records_of self.new outs.new ≡ records_of self.old outs.old) }
+        ensures others { LeavesOthers self.old.config.domain shared.old shared.new }
+        ensures made { OnOk result (records_in self.new shared.new outs.new ≡ deliver_all_in (records_in self.old shared.old outs.old) process) }
+        ensures still { IfOk result (λ changed. changed ≡ false → records_in self.new shared.new outs.new ≡ records_in self.old shared.old outs.old) }
     {
         let mut changed = false;
-        for _turn in 0..self.got.len() {
+        for _turn in 0..self.held(shared) {
             match self.delay.next_ready(process) {
-                Some(key) => self.deliver(process, key, outs)?,
+                Some(key) => self.deliver_next(process, key, shared, outs)?,
                 None => return Ok(changed),
             }
             changed = true;
@@ -75,12 +85,35 @@ impl Domain {
         Ok(changed)
     }
 
-    // A process delivers a message, and the program is told.
-    fn deliver(&mut self, process: Proc, key: Key, outs: &mut Outs) -> Result<(), NoMemory>
+    // A process delivers a message, and what is free then is let go.
+    fn deliver_next(
+        &mut self,
+        process: Proc,
+        key: Key,
+        shared: &mut Shared,
+        outs: &mut Outs,
+    ) -> Result<(), NoMemory>
         ensures same { Keeps self.old self.new }
-        ensures made { OnOk result (records_of self.new outs.new ≡ deliver_in process (records_of self.old outs.old) key) }
+        ensures others { LeavesOthers self.old.config.domain shared.old shared.new }
+        ensures made { OnOk result (records_in self.new shared.new outs.new ≡ let_go_in (deliver_in process (records_in self.old shared.old outs.old) key)) }
     {
-        let Some(message) = message_under(&self.got, key) else {
+        self.deliver(process, key, shared, outs)?;
+        self.let_go(shared)?;
+        Ok(())
+    }
+
+    // A process delivers a message, and the program is told.
+    fn deliver(
+        &mut self,
+        process: Proc,
+        key: Key,
+        shared: &Shared,
+        outs: &mut Outs,
+    ) -> Result<(), NoMemory>
+        ensures same { Keeps self.old self.new }
+        ensures made { OnOk result (records_in self.new shared.now outs.new ≡ deliver_in process (records_in self.old shared.now outs.old) key) }
+    {
+        let Some(message) = shared.store.get(self.config.domain, key) else {
             return Ok(());
         };
         let id = message.id;
@@ -94,8 +127,8 @@ impl Domain {
     // The home decides, by group.
     fn lead(&mut self, outs: &mut Outs) -> Result<bool, NoMemory>
         ensures same { Keeps self.old self.new }
-        ensures made { OnOk result (records_of self.new outs.new ≡ lead_in (records_of self.old outs.old)) }
-        ensures still { IfOk result (λ changed. changed ≡ false → records_of self.new outs.new ≡ records_of self.old outs.old) }
+        ensures made { OnOk result ((part : Part) → records_of self.new part outs.new ≡ lead_in (records_of self.old part outs.old)) }
+        ensures still { IfOk result (λ changed. changed ≡ false → (part : Part) → records_of self.new part outs.new ≡ records_of self.old part outs.old) }
     {
         let mut changed = false;
         if self.is_home() {
@@ -111,14 +144,14 @@ impl Domain {
     fn decide(&mut self, place: usize, outs: &mut Outs) -> Result<bool, NoMemory>
         requires { place < vec_len self.old.groups }
         ensures same { Keeps self.old self.new }
-        ensures made { OnOk result (records_of self.new outs.new ≡ decide_in (records_of self.old outs.old) place) }
-        ensures still { IfOk result (λ changed. changed ≡ false → records_of self.new outs.new ≡ records_of self.old outs.old) }
+        ensures made { OnOk result ((part : Part) → records_of self.new part outs.new ≡ decide_in (records_of self.old part outs.old) place) }
+        ensures still { IfOk result (λ changed. changed ≡ false → (part : Part) → records_of self.new part outs.new ≡ records_of self.old part outs.old) }
         ensures len { vec_len self.new.groups ≡ vec_len self.old.groups }
     {
         if !decide_at(&mut self.groups, place)? {
             return Ok(false);
         }
-        let alloc = *self.got.allocator();
+        let alloc = *self.groups.allocator();
         let sites = sites_of(alloc, self.record(place).home.members.list())?;
         self.send_installs(place, sites.as_slice(), outs)?;
         Ok(true)
@@ -127,11 +160,21 @@ impl Domain {
     // Sends the decided view of the group at a place to sites.
     fn send_installs(&self, place: usize, sites: &[SiteNo], outs: &mut Outs) -> Result<(), NoMemory>
         requires { place < vec_len self.now.groups }
-        ensures { OnOk result (records_of self.now outs.new ≡ fold (send_install_in (record_at self.now.groups.items place).name (record_at self.now.groups.items place).home) (records_of self.now outs.old) sites.now) }
+        ensures { OnOk result ((part : Part) → records_of self.now part outs.new ≡ fold (send_install_in (record_at self.now.groups.items place).name (record_at self.now.groups.items place).home) (records_of self.now part outs.old) sites.now) }
     {
         for site in sites {
-            self.send(outs, *site, self.install_for(place, *site)?)?;
+            self.send_install(place, *site, outs)?;
         }
+        Ok(())
+    }
+
+    // Sends the decided view of the group at a place to a site.
+    fn send_install(&self, place: usize, to: SiteNo, outs: &mut Outs) -> Result<(), NoMemory>
+        requires { place < vec_len self.now.groups }
+        ensures { OnOk result ((part : Part) → records_of self.now part outs.new ≡ send_install_in (record_at self.now.groups.items place).name (record_at self.now.groups.items place).home (records_of self.now part outs.old) to) }
+    {
+        let frame = self.install_for(place, to)?;
+        self.send(outs, to, frame)?;
         Ok(())
     }
 
@@ -140,7 +183,7 @@ impl Domain {
         requires { place < vec_len self.now.groups }
         ensures { IfOk result (λ f. f ≡ install_frame (record_at self.now.groups.items place).name (record_at self.now.groups.items place).home site) }
     {
-        let alloc = *self.got.allocator();
+        let alloc = *self.groups.allocator();
         let record = self.record(place);
         Ok(SiteFrame::Install {
             group: record.name,
@@ -151,14 +194,6 @@ impl Domain {
             tail: Tail::new(alloc),
         })
     }
-}
-
-// The message under a key, which is its place.
-fn message_under(got: &[Message], key: Key) -> Option<&Message>
-    ensures { option_copied result ≡ slice_get got.now key.0 }
-{
-    let Key(place) = key;
-    got.get(place)
 }
 
 // What a program is told of a message that it delivers. One without a payload is never delivered.

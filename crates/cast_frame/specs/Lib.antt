@@ -1,5 +1,6 @@
 pub mod Faults
 pub mod Bodies
+pub mod Receipts
 pub mod Rising
 pub mod Membership
 pub mod Stretch

@@ -16,10 +16,11 @@
 //! read stays read, and a fault stays (`client_laws`).
 //!
 //! The definitions are in `specs/`: `Membership`, `Stretch`, `Sequence` and `Keeping` say what contracts see of members,
-//! of tails, of placements and of kept messages, `Bodies` and `Faults` have the kinds of bodies and the numbers of
-//! faults, `Spelling` has the one spelling of each frame, `Reading` says field by field what bytes are, `Spelled` which
-//! frames have a spelling, and `Laws` what holds of all of them. `ClientSpelling`, `ClientReading`, `ClientSpelled` and
-//! `ClientLaws` say the same of the frames between a program and its daemon.
+//! of tails, of placements and of kept messages, `Receipts` which message a list has under a key, `Bodies` and `Faults`
+//! have the kinds of bodies and the numbers of faults, `Spelling` has the one spelling of each frame, `Reading` says
+//! field by field what bytes are, `Spelled` which frames have a spelling, and `Laws` what holds of all of them.
+//! `ClientSpelling`, `ClientReading`, `ClientSpelled` and `ClientLaws` say the same of the frames between a program and
+//! its daemon.
 #![tactic(auto)]
 
 pub mod client;
@@ -44,7 +45,7 @@ pub use client_writing::{encode_client, encode_push, encode_request};
 pub use fault::FrameFault;
 pub use kept::Kept;
 pub use members::{Members, Tail};
-pub use message::{Body, Message};
+pub use message::{Body, Message, Received};
 pub use payload::Payload;
 pub use placement::Placement;
 pub use reading::decode_site;

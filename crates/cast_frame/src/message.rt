@@ -2,7 +2,7 @@ ghost use Rattle.std.specs.Prelude.{◌≡◌, IfOk};
 
 use crate::payload::Payload;
 use crate::placement::Placement;
-use cast_types::{Kind, NoMemory, Stamp, Uid};
+use cast_types::{Key, Kind, NoMemory, Stamp, Uid};
 
 /// What a message holds, by its kind.
 #[derive(Drop)]
@@ -69,4 +69,11 @@ impl Message {
             body: self.body.copy()?,
         })
     }
+}
+
+/// A message under the key by which its domain knows it.
+#[derive(Drop)]
+pub struct Received {
+    pub key: Key,
+    pub message: Message,
 }

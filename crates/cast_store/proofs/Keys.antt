@@ -1,119 +1,109 @@
--- Keys that rise, and what one more message, one less, and a domain less leave of what domains keep.
-use Rattle.std.proofs.Common.{◌≡◌, ◌≢◌, ℕ, zero, suc, ◌+◌, ◌<◌, ◌≤◌, Bool, true, false, not, cond, List, [], ◌∷◌, ◌++◌, length, get_or, None, refl, sym, ap, ◌∙◌, arith}
-use Rattle.std.specs.Prelude.{◌==◌, ◌&&◌}
+-- Keys that rise: what one more message and one less leave of them.
+use Rattle.std.proofs.Common.{◌≡◌, ℕ, suc, ◌+◌, ◌<◌, Bool, true, false, not, cond, ◌&&◌, List, [], ◌∷◌, ◌++◌, length, Option, Some, None, refl, sym, ap, ◌∙◌, inl, inr, arith}
+use Rattle.std.specs.Prelude.{nat_lt}
 use Rattle.std.specs.Option.{option_map}
-use Rattle.std.specs.List.{find, filter, remove}
-use Rattle.std.proofs.lemmas.Bool.{and_parts, and_from, eqb-true, eq-eqb, ne_eqb}
-use Rattle.cast_types.specs.declared.names.DomainNo.{DomainNo}
+use Rattle.std.specs.List.{list_all, find, filter, position, position_or_len, remove}
+use Rattle.std.proofs.lemmas.Bool.{cases_Bool, and_parts, and_from, ltb-true, lt-ltb, eqb-true, ne_eqb}
+use Rattle.std.proofs.lemmas.Option.{cond_some}
 use Rattle.cast_types.specs.declared.names.Key.{Key}
-use Rattle.cast_store.specs.declared.store.Stored.{Stored}
-use Rattle.cast_store.specs.Store.{is_of, is_under, message_in, held_in, ChangesOnly, Rises}
-use Rattle.cast_store.proofs.Finds.{find_push_no, filter_push_no, find_remove_no, filter_remove_no, find_filter, find_filter_none, filter_filter, filter_filter_none}
+use Rattle.cast_frame.specs.declared.message.Received.{Received}
+use Rattle.cast_frame.specs.Receipts.{key_eq, message_under}
+use Rattle.cast_store.specs.Store.{is_rising, but_under}
 
--- another domain and another key are not this one
-pub not_of : (d e : DomainNo) (s : Stored) → e ≢ d → is_of d s ≡ true → is_of e s ≡ false
-not_of d e s differ is =
-    ne_eqb s.domain.0 e.0 (λ same. differ (ap (λ (n : ℕ). record { 0 = n }) (sym same ∙ eqb-true s.domain.0 d.0 is)))
+-- whether all keys are above a number
+abbrev above : ℕ → List Received → Bool
+above n xs = list_all (λ s. nat_lt n s.key.0) xs
 
-pub not_under : (d : DomainNo) (k : Key) (s : Stored) → is_of d s ≡ false → is_under d k s ≡ false
-not_under d k s outside = ap (λ b. b && (s.key.0 == k.0)) outside
+all_push : (t : Received → Bool) (xs : List Received) (x : Received) → list_all t xs ≡ true → t x ≡ true → list_all t (xs ++ x ∷ []) ≡ true
+all_push t [] x all last = and_from (t x) true last refl
+all_push t (y ∷ ys) x all last =
+    let parts = and_parts (t y) (list_all t ys) all in
+    and_from (t y) (list_all t (ys ++ x ∷ [])) parts.0 (all_push t ys x parts.1 last)
 
-pub not_at : (d : DomainNo) (k : Key) (s : Stored) → (s.key.0 ≡ k.0 → ⊥) → is_under d k s ≡ false
-not_at d k s differ = elim (is_of d s) as (λ b. (b && (s.key.0 == k.0)) ≡ false) [ true ↦ ne_eqb s.key.0 k.0 differ | false ↦ refl ]
-
-pub not_at_other : (d : DomainNo) (j k : Key) (s : Stored) → j ≢ k → s.key.0 ≡ k.0 → is_under d j s ≡ false
-not_at_other d j k s differ is = not_at d j s (λ same. differ (ap (λ (n : ℕ). record { 0 = n }) (sym same ∙ is)))
-
-pub under_parts : (d : DomainNo) (k : Key) (s : Stored) → is_under d k s ≡ true → (is_of d s ≡ true) × (s.key.0 ≡ k.0)
-under_parts d k s is = let parts = and_parts (is_of d s) (s.key.0 == k.0) is in (parts.0, eqb-true s.key.0 k.0 parts.1)
-
-pub of_itself : (s : Stored) → is_of s.domain s ≡ true
-of_itself s = eq-eqb s.domain.0 s.domain.0 refl
-
-pub under_itself : (s : Stored) → is_under s.domain s.key s ≡ true
-under_itself s = and_from (is_of s.domain s) (s.key.0 == s.key.0) (of_itself s) (eq-eqb s.key.0 s.key.0 refl)
-
--- keys that rise
-rises_lower : (a b : ℕ) (xs : List Stored) (n : ℕ) → a ≤ b → Rises b xs n → Rises a xs n
-rises_lower a b [] n le h = omega arith
-rises_lower a b (x ∷ xs) n le h = (omega arith, h.1)
-
-rises_ends : (low : ℕ) (xs : List Stored) (n : ℕ) → Rises low xs n → low ≤ n
-rises_ends low [] n h = h
-rises_ends low (x ∷ xs) n h = let rest = rises_ends (x.key.0 + 1) xs n h.1 in omega arith
-
-rises_at : (low : ℕ) (xs : List Stored) (n i : ℕ) (d : Stored) → i < length xs → Rises low xs n → low ≤ (get_or xs i d).key.0
-rises_at low [] n i d lt h = absurd (omega arith)
-rises_at low (x ∷ xs) n zero d lt h = h.0
-rises_at low (x ∷ xs) n (suc i) d lt h = let rest = rises_at (x.key.0 + 1) xs n i d (omega arith) h.1 in omega arith
-
-pub rises_push : (low : ℕ) (xs : List Stored) (n : ℕ) (s : Stored) → s.key.0 ≡ n → Rises low xs n → Rises low (xs ++ s ∷ []) (n + 1)
-rises_push low [] n s is h = (omega arith, omega arith)
-rises_push low (x ∷ xs) n s is h = (h.0, rises_push (x.key.0 + 1) xs n s is h.1)
-
-pub rises_remove : (low : ℕ) (xs : List Stored) (n i : ℕ) → i < length xs → Rises low xs n → Rises low (remove xs i) n
-rises_remove low [] n i lt h = absurd (omega arith)
-rises_remove low (x ∷ xs) n zero lt h = rises_lower low (x.key.0 + 1) xs n (omega arith) h.1
-rises_remove low (x ∷ xs) n (suc i) lt h = (h.0, rises_remove (x.key.0 + 1) xs n i (omega arith) h.1)
-
-pub rises_filter : (q : Stored → Bool) (low : ℕ) (xs : List Stored) (n : ℕ) → Rises low xs n → Rises low (filter q xs) n
-rises_filter q low [] n h = h
-rises_filter q low (x ∷ xs) n h =
-    let rest = rises_filter q (x.key.0 + 1) xs n h.1 in
-    elim (q x) as (λ b. Rises low (cond b (x ∷ filter q xs) (filter q xs)) n) [
-      | true ↦ (h.0, rest)
-      | false ↦ rises_lower low (x.key.0 + 1) (filter q xs) n (omega arith) rest
+all_filter : (t keep : Received → Bool) (xs : List Received) → list_all t xs ≡ true → list_all t (filter keep xs) ≡ true
+all_filter t keep [] all = refl
+all_filter t keep (x ∷ xs) all =
+    let parts = and_parts (t x) (list_all t xs) all in
+    let rest = all_filter t keep xs parts.1 in
+    elim (keep x) as (λ b. list_all t (cond b (x ∷ filter keep xs) (filter keep xs)) ≡ true) [
+      | true ↦ and_from (t x) (list_all t (filter keep xs)) parts.0 rest
+      | false ↦ rest
     ]
 
--- no message is under a key that is too low, or too high
-none_below : (d : DomainNo) (k : Key) (low : ℕ) (xs : List Stored) (n : ℕ) → k.0 < low → Rises low xs n → find (is_under d k) xs ≡ None
-none_below d k low [] n lt h = refl
-none_below d k low (x ∷ xs) n lt h =
-    rw (not_at d k x (λ same. omega arith)) (none_below d k (x.key.0 + 1) xs n (omega arith) h.1)
+-- the parts of the test
+parts_of : (n : ℕ) (x : Received) (xs : List Received) → is_rising n (x ∷ xs) ≡ true → (x.key.0 < n) × ((above x.key.0 xs ≡ true) × (is_rising n xs ≡ true))
+parts_of n x xs rises =
+    let first = and_parts (nat_lt x.key.0 n) (above x.key.0 xs && is_rising n xs) rises in
+    (ltb-true x.key.0 n first.0, and_parts (above x.key.0 xs) (is_rising n xs) first.1)
 
-pub none_above : (d : DomainNo) (k : Key) (low : ℕ) (xs : List Stored) (n : ℕ) → n ≤ k.0 → Rises low xs n → find (is_under d k) xs ≡ None
-none_above d k low [] n le h = refl
-none_above d k low (x ∷ xs) n le h =
-    let ends = rises_ends (x.key.0 + 1) xs n h.1 in
-    rw (not_at d k x (λ same. omega arith)) (none_above d k (x.key.0 + 1) xs n le h.1)
+made_of : (n : ℕ) (x : Received) (xs : List Received) → x.key.0 < n → above x.key.0 xs ≡ true → is_rising n xs ≡ true → is_rising n (x ∷ xs) ≡ true
+made_of n x xs lt all rest =
+    and_from (nat_lt x.key.0 n) (above x.key.0 xs && is_rising n xs) (lt-ltb x.key.0 n lt)
+    (and_from (above x.key.0 xs) (is_rising n xs) all rest)
 
--- where a message was taken from its place, none is left under its key
-pub none_left : (d : DomainNo) (k : Key) (low : ℕ) (xs : List Stored) (n i : ℕ) (y : Stored) → i < length xs → is_under d k (get_or xs i y) ≡ true → Rises low xs n → find (is_under d k) (remove xs i) ≡ None
-none_left d k low [] n i y lt is h = absurd (omega arith)
-none_left d k low (x ∷ xs) n zero y lt is h =
-    let at = (under_parts d k x is).1 in
-    none_below d k (x.key.0 + 1) xs n (omega arith) h.1
-none_left d k low (x ∷ xs) n (suc i) y lt is h =
-    let at = (under_parts d k (get_or xs i y) is).1 in
-    let later = rises_at (x.key.0 + 1) xs n i y (omega arith) h.1 in
-    rw (not_at d k x (λ same. omega arith)) (none_left d k (x.key.0 + 1) xs n i y (omega arith) is h.1)
+-- one more, under the next key
+pub rising_push : (n : ℕ) (xs : List Received) (x : Received) → x.key.0 ≡ n → is_rising n xs ≡ true → is_rising (n + 1) (xs ++ x ∷ []) ≡ true
+rising_push n [] x is rises = made_of (n + 1) x [] (omega (arith, is)) refl refl
+rising_push n (y ∷ ys) x is rises =
+    let parts = parts_of n y ys rises in
+    made_of (n + 1) y (ys ++ x ∷ []) (omega (arith, parts.0))
+    (all_push (λ s. nat_lt y.key.0 s.key.0) ys x parts.1.0 (lt-ltb y.key.0 x.key.0 (omega (arith, parts.0, is))))
+    (rising_push n ys x is parts.1.1)
 
--- the other domains
-pub push_changes : (d : DomainNo) (xs : List Stored) (s : Stored) → is_of d s ≡ true → ChangesOnly d xs (xs ++ s ∷ [])
-push_changes d xs s is e differ =
-    let outside = not_of d e s differ is in
-    (λ k. ap (option_map (λ (x : Stored). x.message)) (find_push_no (is_under e k) xs s (not_under e k s outside)), ap length (filter_push_no (is_of e) xs s outside))
+-- some taken out
+pub rising_filter : (keep : Received → Bool) (n : ℕ) (xs : List Received) → is_rising n xs ≡ true → is_rising n (filter keep xs) ≡ true
+rising_filter keep n [] rises = refl
+rising_filter keep n (x ∷ xs) rises =
+    let parts = parts_of n x xs rises in
+    let rest = rising_filter keep n xs parts.1.1 in
+    elim (keep x) as (λ b. is_rising n (cond b (x ∷ filter keep xs) (filter keep xs)) ≡ true) [
+      | true ↦ made_of n x (filter keep xs) parts.0 (all_filter (λ s. nat_lt x.key.0 s.key.0) keep xs parts.1.0) rest
+      | false ↦ rest
+    ]
 
-pub remove_changes : (d : DomainNo) (xs : List Stored) (i : ℕ) (y : Stored) → i < length xs → is_of d (get_or xs i y) ≡ true → ChangesOnly d xs (remove xs i)
-remove_changes d xs i y lt is e differ =
-    let outside = not_of d e (get_or xs i y) differ is in
-    (λ k. ap (option_map (λ (x : Stored). x.message)) (find_remove_no (is_under e k) xs i y lt (not_under e k (get_or xs i y) outside)), ap length (filter_remove_no (is_of e) xs i y lt outside))
+-- nothing is under the next key
+none_next : (n : ℕ) (xs : List Received) → is_rising n xs ≡ true → find (λ r. key_eq r.key (record { 0 = n })) xs ≡ None
+none_next n [] rises = refl
+none_next n (x ∷ xs) rises =
+    let parts = parts_of n x xs rises in
+    ap (λ b. cond b (Some x) (find (λ r. key_eq r.key (record { 0 = n })) xs)) (ne_eqb x.key.0 n (λ same. omega (arith, same, parts.0)))
+    ∙ none_next n xs parts.1.1
 
-of_kept : (d : DomainNo) (s : Stored) → not (is_of d s) ≡ true → is_of d s ≡ false
-of_kept d s is = elim (is_of d s) as (λ b. not b ≡ true → b ≡ false) [ true ↦ λ h. absurd (cc) | false ↦ λ _. refl ] is
+pub free_next : (n : ℕ) (xs : List Received) → is_rising n xs ≡ true → message_under xs (record { 0 = n }) ≡ None
+free_next n xs rises = ap (λ (o : Option Received). option_map (λ r. r.message) o) (none_next n xs rises)
 
-of_dropped : (d : DomainNo) (s : Stored) → not (is_of d s) ≡ false → is_of d s ≡ true
-of_dropped d s is = elim (is_of d s) as (λ b. not b ≡ false → b ≡ true) [ true ↦ λ _. refl | false ↦ λ h. absurd (cc) ] is
+-- no other message is under the key of the first
+apart : (k : Key) (xs : List Received) → above k.0 xs ≡ true → but_under k xs ≡ xs
+apart k [] all = refl
+apart k (x ∷ xs) all =
+    let parts = and_parts (nat_lt k.0 x.key.0) (above k.0 xs) all in
+    let lt = ltb-true k.0 x.key.0 parts.0 in
+    ap (λ b. cond (not b) (x ∷ but_under k xs) (but_under k xs)) (ne_eqb x.key.0 k.0 (λ same. omega (arith, same, lt)))
+    ∙ ap (λ rest. x ∷ rest) (apart k xs parts.1)
 
-pub drop_changes : (d : DomainNo) (xs : List Stored) → ChangesOnly d xs (filter (λ s. not (is_of d s)) xs)
-drop_changes d xs e differ =
-    let outside = λ (s : Stored) (out : not (is_of d s) ≡ false). not_of d e s differ (of_dropped d s out) in
-    (λ k. ap (option_map (λ (x : Stored). x.message)) (find_filter (is_under e k) (λ s. not (is_of d s)) (λ s out. not_under e k s (outside s out)) xs), ap length (filter_filter (is_of e) (λ s. not (is_of d s)) outside xs))
+-- so to take the first one under a key out is to take out all that are under it
+removed_at : (n : ℕ) (k : Key) (xs : List Received) (i : ℕ) → is_rising n xs ≡ true → position_or_len (λ r. key_eq r.key k) xs ≡ i → i < length xs → remove xs i ≡ but_under k xs
+removed_at n k [] i rises at lt = absurd (omega arith)
+removed_at n k (x ∷ xs) i rises at lt =
+    let parts = parts_of n x xs rises in
+    elim (cases_Bool (key_eq x.key k)) [
+      | inl here ↦
+          let first : i ≡ 0 = sym at ∙ ap (λ b. cond (not b) (1 + position_or_len (λ r. key_eq r.key k) xs) 0) here in
+          let is : x.key.0 ≡ k.0 = eqb-true x.key.0 k.0 here in
+          ap (remove (x ∷ xs)) first
+          ∙ sym (apart k xs (ap (λ m. above m xs) (sym is) ∙ parts.1.0))
+          ∙ sym (ap (λ b. cond (not b) (x ∷ but_under k xs) (but_under k xs)) here)
+      | inr there ↦
+          let j = position_or_len (λ r. key_eq r.key k) xs in
+          let later : i ≡ suc j = sym at ∙ ap (λ b. cond (not b) (1 + j) 0) there ∙ omega arith in
+          ap (remove (x ∷ xs)) later
+          ∙ ap (λ rest. x ∷ rest) (removed_at n k xs j parts.1.1 refl (omega (arith, later, lt)))
+          ∙ sym (ap (λ b. cond (not b) (x ∷ but_under k xs) (but_under k xs)) there)
+    ]
 
--- the domain that was dropped
-pub drop_leaves_none : (d : DomainNo) (k : Key) (xs : List Stored) → message_in (filter (λ s. not (is_of d s)) xs) d k ≡ None
-drop_leaves_none d k xs =
-    ap (option_map (λ (x : Stored). x.message)) (find_filter_none (is_under d k) (λ s. not (is_of d s)) (λ s is. not_under d k s (of_kept d s is)) xs)
-
-pub drop_holds_none : (d : DomainNo) (xs : List Stored) → held_in (filter (λ s. not (is_of d s)) xs) d ≡ 0
-drop_holds_none d xs = ap length (filter_filter_none (is_of d) (λ s. not (is_of d s)) (of_kept d) xs)
+pub removed_is : (n : ℕ) (k : Key) (xs : List Received) (i : ℕ) → is_rising n xs ≡ true → position (λ r. key_eq r.key k) xs ≡ Some i → remove xs i ≡ but_under k xs
+removed_is n k xs i rises is =
+    let at = position_or_len (λ r. key_eq r.key k) xs in
+    let parts = cond_some (nat_lt at (length xs)) at i is in
+    let lt : at < length xs = ltb-true at (length xs) parts.0 in
+    removed_at n k xs i rises parts.1 (omega (arith, parts.1, lt))

@@ -1,34 +1,48 @@
--- What contracts see of a store: the message that a domain keeps under a key, and how many messages it keeps.
-use Rattle.std.specs.Prelude.{◌≡◌, ◌≢◌, ℕ, ◌+◌, ◌≤◌, Bool, ◌==◌, ◌&&◌, List, [], ◌∷◌, length, Option}
-use Rattle.std.specs.Option.{option_map}
-use Rattle.std.specs.List.{find, filter}
+-- What contracts see of a store: for each domain that it keeps messages for, these in order of receipt.
+use Rattle.std.specs.Prelude.{ℕ, ◌+◌, Bool, true, not, ◌&&◌, ◌==◌, nat_lt, List, [], ◌∷◌, ◌++◌, Option, filter}
+use Rattle.std.specs.List.{list_all, find}
+use Rattle.std.specs.Option.{option_map_or}
 use Rattle.cast_types.specs.declared.names.DomainNo.{DomainNo}
 use Rattle.cast_types.specs.declared.names.Key.{Key}
 use Rattle.cast_frame.specs.declared.message.Message.{Message}
-use Rattle.cast_store.specs.declared.store.Stored.{Stored}
+use Rattle.cast_frame.specs.declared.message.Received.{Received}
+use Rattle.cast_frame.specs.Receipts.{key_eq}
 
--- whether this is a message of the domain
-abbrev pub is_of : DomainNo → Stored → Bool
+-- what is kept for one domain, and the number of its next key
+pub record Shelf : Type 0 where
+  pub domain : DomainNo
+  pub next : ℕ
+  pub kept : List Received
+
+-- whether a shelf is a domain's
+abbrev pub is_of : DomainNo → Shelf → Bool
 is_of d s = s.domain.0 == d.0
 
--- whether the domain keeps this under the key
-abbrev pub is_under : DomainNo → Key → Stored → Bool
-is_under d k s = is_of d s && (s.key.0 == k.0)
+-- the first shelf of a domain
+abbrev pub shelf_of : List Shelf → DomainNo → Option Shelf
+shelf_of store d = find (is_of d) store
 
--- the message that the domain keeps under the key
-abbrev pub message_in : List Stored → DomainNo → Key → Option Message
-message_in store d k = option_map (λ s. s.message) (find (is_under d k) store)
+-- the messages that a domain keeps, in order of receipt
+abbrev pub kept_in : List Shelf → DomainNo → List Received
+kept_in store d = option_map_or (λ s. s.kept) (shelf_of store d) []
 
--- how many messages the domain keeps
-abbrev pub held_in : List Stored → DomainNo → ℕ
-held_in store d = length (filter (is_of d) store)
+-- the number of a domain's next key
+abbrev pub next_in : List Shelf → DomainNo → ℕ
+next_in store d = option_map_or (λ s. s.next) (shelf_of store d) 0
 
--- every domain but this one keeps what it kept
-abbrev pub ChangesOnly : DomainNo → List Stored → List Stored → Type 0
-ChangesOnly d old new = (other : DomainNo) → other ≢ d →
-    ((k : Key) → message_in new other k ≡ message_in old other k) × (held_in new other ≡ held_in old other)
+-- messages but for those under a key
+abbrev pub but_under : Key → List Received → List Received
+but_under key received = filter (λ r. not (key_eq r.key key)) received
 
--- what the code keeps to, and no contract speaks of: keys rise, the first is at least low and the last is below next
-abbrev pub Rises : ℕ → List Stored → ℕ → Type 0
-Rises low [] next = low ≤ next
-Rises low (s ∷ store) next = (low ≤ s.key.0) × Rises (s.key.0 + 1) store next
+-- the shelf with one more message, under its next key
+abbrev pub with_message : Message → Shelf → Shelf
+with_message m s = record s { next = s.next + 1; kept = s.kept ++ (record { key = record { 0 = s.next }; message = m }) ∷ [] }
+
+-- the shelf without the message under a key
+abbrev pub without_key : Key → Shelf → Shelf
+without_key key s = record s { kept = but_under key s.kept }
+
+-- whether each key is below the next one, and below those of all messages that stand behind it
+abbrev pub is_rising : ℕ → List Received → Bool
+is_rising next [] = true
+is_rising next (r ∷ rs) = nat_lt r.key.0 next && (list_all (λ s. nat_lt r.key.0 s.key.0) rs && is_rising next rs)

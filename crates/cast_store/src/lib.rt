@@ -1,13 +1,17 @@
 //! The messages that the domains of a daemon keep, each under a key.
 //!
-//! Promised: `put` keeps a message under a key that was free in its domain, `get` finds it there until `remove` gives it
-//! back or `drop_domain` lets it go, and `held` counts what a domain keeps. No call changes what another domain keeps.
-//! Only `put` takes memory; where it is refused, the message comes back and nothing is changed. How keys are chosen, and
-//! in what order messages lie, is not told.
+//! Promised: the messages that a domain keeps are seen as one list in order of receipt, each with its key. The keys of
+//! a domain count from 0 in order of receipt, whatever other domains do, and none is given twice until the domain is
+//! dropped. `put` adds a message at the end, under a key that was free; `get` finds it there, `kept` lends the whole
+//! list and `held` its length, until `remove` gives the message back or `drop_domain` lets all go. A call for one domain
+//! leaves what every other domain keeps, and its next key. Only `put` takes memory; where it is refused, or no key is
+//! left, the message comes back and nothing is changed.
 //!
-//! The definitions are in `specs/Store.antt`: which message a domain keeps under a key, and how many it keeps.
+//! The definitions are in `specs/Store.antt`: what a domain keeps, the number of its next key, and what it is for keys
+//! to rise. Which message a list has under a key is in `cast_frame/specs/Receipts.antt`.
 #![tactic(auto)]
 
+mod row;
 mod store;
 
 pub use store::Store;

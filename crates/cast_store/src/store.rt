@@ -1,135 +1,190 @@
-ghost use Rattle.std.specs.Prelude.{◌≡◌, ◌≢◌, ◌+◌, ◌<◌, IfOk, IfErr, IfSome, IfNone, OnOk, OnErr, OnSome, length};
+ghost use Rattle.std.specs.Prelude.{◌≡◌, ◌≢◌, ◌+◌, ◌<◌, ◌∷◌, ◌++◌, [], IfOk, IfErr, IfNone, IfSome, OnOk, OnErr, IsTrue, not, filter, get_or, length, vec_len};
 ghost use Rattle.std.specs.Option.{option_copied};
 ghost use Rattle.std.specs.List.{position};
-ghost use Rattle.cast_types.specs.declared.names.Key.{Key};
 ghost use Rattle.cast_types.specs.declared.names.DomainNo.{DomainNo};
-ghost use Rattle.cast_store.specs.Store.{held_in, is_under, message_in, ChangesOnly};
+ghost use Rattle.cast_types.specs.Places.{update};
+ghost use Rattle.cast_frame.specs.Receipts.{key_eq, message_under};
+ghost use Rattle.cast_store.specs.Store.{Shelf, is_of, shelf_of, kept_in, next_in, with_message, without_key, is_rising};
 
-use cast_frame::Message;
+use crate::row::Row;
+use cast_frame::{Message, Received};
 use cast_types::{DomainNo, Key};
 use std::alloc::Global;
 use std::marker::Model;
 
-/// A message with the domain that keeps it and its key.
-#[derive(Drop)]
-struct Stored {
-    domain: DomainNo,
-    key: Key,
-    message: Message,
-}
-
-/// The messages that domains keep, each under a key of its domain.
+/// The messages that domains keep, each under a key of its domain. Contracts say `kept_in` of it and a domain: the list
+/// of the domain's messages with their keys, in order of receipt; and `next_in`: the number of the domain's next key.
 #[derive(Drop)]
 pub struct Store {
-    /// In rising order of their keys.
-    stored: Vec<Stored>,
-    /// Above each key that was given out.
-    next: usize,
+    rows: Vec<Row>,
 }
 
 impl Model for Store {
     ghost use Rattle.std.specs.Prelude.{List};
-    ghost use Rattle.cast_store.specs.declared.store.Stored.{Stored};
+    ghost use Rattle.cast_store.specs.Store.{Shelf};
 
-    ghost Value = { List Stored };
+    ghost Value = { List Shelf };
 
-    ghost use Rattle.cast_store.specs.Store.{Rises};
-
-    ghost view = { λ s. s.stored.items };
-
-    ghost invariant = { λ s. Rises 0 s.stored.items s.next };
+    ghost view = { λ s. s.rows.items };
 }
 
 impl Store {
-    /// No messages.
+    /// No messages, and the next key of each domain is 0.
     pub fn new(alloc: Global) -> Self
-        ensures none { (domain : DomainNo) (key : Key) → message_in result domain key ≡ None }
-        ensures held { (domain : DomainNo) → held_in result domain ≡ 0 }
+        ensures kept { (d : DomainNo) → kept_in result d ≡ [] }
+        ensures next { (d : DomainNo) → next_in result d ≡ 0 }
     {
         Store {
-            stored: Vec::new(alloc),
-            next: 0,
+            rows: Vec::new(alloc),
         }
     }
 
-    /// Keeps a message for a domain, under a key that was free there. The message comes back, and nothing is changed,
-    /// where there is no memory or no key is left.
+    /// Keeps a message for a domain, the last one in order of receipt, under the domain's next key, under which it kept
+    /// none. The message comes back, and nothing is changed, where there is no memory or no key is left.
     pub fn put(&mut self, domain: DomainNo, message: Message) -> Result<Key, Message>
-        ensures free { IfOk result (λ key. message_in self.old domain key ≡ None) }
-        ensures own { IfOk result (λ key. message_in self.new domain key ≡ Some message) }
-        ensures rest { IfOk result (λ key. (other : Key) → other ≢ key → message_in self.new domain other ≡ message_in self.old domain other) }
-        ensures held { OnOk result (held_in self.new domain ≡ held_in self.old domain + 1) }
+        ensures key { IfOk result (λ key. key ≡ record { 0 = next_in self.old domain }) }
+        ensures kept { IfOk result (λ key. kept_in self.new domain ≡ kept_in self.old domain ++ record { key = key; message = message } ∷ []) }
+        ensures next { OnOk result (next_in self.new domain ≡ next_in self.old domain + 1) }
+        ensures free { message_under (kept_in self.old domain) (record { 0 = next_in self.old domain }) ≡ None }
         ensures back { IfErr result (λ back. back ≡ message) }
         ensures err { OnErr result (self.new ≡ self.old) }
-        ensures others { ChangesOnly domain self.old self.new }
+        ensures others { (e : DomainNo) → e ≢ domain → (kept_in self.new e ≡ kept_in self.old e) × (next_in self.new e ≡ next_in self.old e) }
     {
-        let Some(next) = self.next.checked_add(1) else {
-            return Err(message);
-        };
-        let key = Key(self.next);
-        let stored = Stored {
-            domain,
-            key,
-            message,
-        };
-        match self.stored.push(stored) {
-            Ok(()) => {
-                self.next = next;
-                Ok(key)
-            }
-            Err(refused) => Err(refused.value.message),
+        match place_among(&self.rows, domain) {
+            Some(place) => put_at(&mut self.rows, place, message),
+            None => put_first(&mut self.rows, domain, message),
         }
     }
 
     /// The message that a domain keeps under a key, `None` where it keeps none there. Takes no memory.
     pub fn get(&self, domain: DomainNo, key: Key) -> Option<&Message>
-        ensures { option_copied result ≡ message_in self.now domain key }
+        ensures { option_copied result ≡ message_under (kept_in self.now domain) key }
     {
-        let place = place_among(&self.stored, domain, key)?;
-        Some(&self.stored[place].message)
+        match row_among(&self.rows, domain) {
+            Some(row) => row.get(key),
+            None => None,
+        }
     }
 
     /// Gives back the message that a domain keeps under a key, and keeps it no longer; `None` changes nothing, where
     /// the domain keeps none there. Takes no memory.
     pub fn remove(&mut self, domain: DomainNo, key: Key) -> Option<Message>
-        ensures value { result ≡ message_in self.old domain key }
-        ensures gone { message_in self.new domain key ≡ None }
-        ensures rest { (other : Key) → other ≢ key → message_in self.new domain other ≡ message_in self.old domain other }
-        ensures held { OnSome result (held_in self.new domain + 1 ≡ held_in self.old domain) }
+        ensures value { result ≡ message_under (kept_in self.old domain) key }
+        ensures kept { kept_in self.new domain ≡ filter (λ r. not (key_eq r.key key)) (kept_in self.old domain) }
+        ensures next { next_in self.new domain ≡ next_in self.old domain }
         ensures none { IfNone result (self.new ≡ self.old) }
-        ensures others { ChangesOnly domain self.old self.new }
+        ensures others { (e : DomainNo) → e ≢ domain → (kept_in self.new e ≡ kept_in self.old e) × (next_in self.new e ≡ next_in self.old e) }
     {
-        let place = place_among(&self.stored, domain, key)?;
-        let removed = self.stored.remove(place);
-        Some(removed.message)
+        match place_among(&self.rows, domain) {
+            Some(place) => remove_at(&mut self.rows, place, key),
+            None => None,
+        }
     }
 
-    /// How many messages a domain keeps.
+    /// The key of the message that the domain keeps next. Takes no memory.
+    pub fn next_key(&self, domain: DomainNo) -> Key
+        ensures { result ≡ record { 0 = next_in self.now domain } }
+    {
+        match row_among(&self.rows, domain) {
+            Some(row) => row.next_key(),
+            None => Key(0),
+        }
+    }
+
+    /// How many messages a domain keeps. Takes no memory.
     pub fn held(&self, domain: DomainNo) -> usize
-        ensures { result ≡ held_in self.now domain }
+        ensures { result ≡ length (kept_in self.now domain) }
     {
-        self.stored
-            .iter()
-            .filter(|stored| stored.domain == domain)
-            .count()
+        self.kept(domain).len()
     }
 
-    /// Lets go of all messages that a domain keeps. Takes no memory.
-    pub fn drop_domain(&mut self, domain: DomainNo)
-        ensures gone { (key : Key) → message_in self.new domain key ≡ None }
-        ensures held { held_in self.new domain ≡ 0 }
-        ensures others { ChangesOnly domain self.old self.new }
+    /// The messages that a domain keeps, each with its key, in order of receipt. Their keys rise, and are below the
+    /// next one. Takes no memory.
+    pub fn kept(&self, domain: DomainNo) -> &[Received]
+        ensures value { result.now ≡ kept_in self.now domain }
+        ensures rising { IsTrue (is_rising (next_in self.now domain) (kept_in self.now domain)) }
     {
-        self.stored.retain(|stored| stored.domain != domain);
+        match row_among(&self.rows, domain) {
+            Some(row) => row.kept(),
+            None => &[],
+        }
+    }
+
+    /// Lets go of all messages that a domain keeps; its next key is 0 again. Takes no memory.
+    pub fn drop_domain(&mut self, domain: DomainNo)
+        ensures kept { kept_in self.new domain ≡ [] }
+        ensures next { next_in self.new domain ≡ 0 }
+        ensures others { (e : DomainNo) → e ≢ domain → (kept_in self.new e ≡ kept_in self.old e) × (next_in self.new e ≡ next_in self.old e) }
+    {
+        drop_rows(&mut self.rows, domain);
     }
 }
 
-// Where the message under a key of a domain stands.
-fn place_among(stored: &[Stored], domain: DomainNo, key: Key) -> Option<usize>
-    ensures place { result ≡ position (is_under domain key) stored.now }
-    ensures within { IfSome result (λ place. place < length stored.now) }
+// What is kept for a domain.
+fn row_among(rows: &[Row], domain: DomainNo) -> Option<&Row>
+    ensures { option_copied result ≡ shelf_of rows.now domain }
 {
-    stored
-        .iter()
-        .position(|stored| stored.domain == domain && stored.key == key)
+    rows.iter().find(|row| row.domain() == domain)
+}
+
+// Where it is kept.
+fn place_among(rows: &[Row], domain: DomainNo) -> Option<usize>
+    ensures place { result ≡ position (is_of domain) rows.now }
+    ensures within { IfSome result (λ i. i < length rows.now) }
+{
+    rows.iter().position(|row| row.domain() == domain)
+}
+
+// Keeps a message for the domain of a place.
+#[tactic(auto, using(cast_types::proofs::Updates::set_update))]
+fn put_at(rows: &mut Vec<Row>, place: usize, message: Message) -> Result<Key, Message>
+    requires { place < vec_len rows.old }
+    ensures key { IfOk result (λ key. (s : Shelf) → key ≡ record { 0 = (get_or rows.old.items place s).next }) }
+    ensures ok { OnOk result (rows.new.items ≡ update rows.old.items place (with_message message)) }
+    ensures free { (s : Shelf) → message_under (get_or rows.old.items place s).kept (record { 0 = (get_or rows.old.items place s).next }) ≡ None }
+    ensures back { IfErr result (λ back. back ≡ message) }
+    ensures err { OnErr result (rows.new.items ≡ rows.old.items) }
+{
+    let row = &mut rows[place];
+    row.put(message)
+}
+
+// Keeps a message for a domain that has no row.
+fn put_first(rows: &mut Vec<Row>, domain: DomainNo, message: Message) -> Result<Key, Message>
+    ensures key { IfOk result (λ key. key ≡ record { 0 = 0 }) }
+    ensures ok { OnOk result (rows.new.items ≡ rows.old.items ++ with_message message (record { domain = domain; next = 0; kept = [] }) ∷ []) }
+    ensures back { IfErr result (λ back. back ≡ message) }
+    ensures err { OnErr result (rows.new.items ≡ rows.old.items) }
+{
+    let row = Row::new(*rows.allocator(), domain);
+    let place = rows.len();
+    if rows.push(row).is_err() {
+        return Err(message);
+    }
+    match put_at(rows, place, message) {
+        Ok(key) => Ok(key),
+        Err(message) => {
+            rows.pop();
+            Err(message)
+        }
+    }
+}
+
+// Takes out a message of the domain of a place.
+#[tactic(auto, using(cast_types::proofs::Updates::set_update))]
+fn remove_at(rows: &mut Vec<Row>, place: usize, key: Key) -> Option<Message>
+    requires { place < vec_len rows.old }
+    ensures value { (s : Shelf) → result ≡ message_under (get_or rows.old.items place s).kept key }
+    ensures left { rows.new.items ≡ update rows.old.items place (without_key key) }
+    ensures none { IfNone result (rows.new.items ≡ rows.old.items) }
+{
+    let row = &mut rows[place];
+    row.remove(key)
+}
+
+// Keeps the rows of other domains.
+fn drop_rows(rows: &mut Vec<Row>, domain: DomainNo)
+    ensures { rows.new.items ≡ filter (λ r. not (is_of domain r)) rows.old.items }
+{
+    rows.retain(|row| row.domain() != domain);
 }

@@ -32,6 +32,15 @@ fn keep(store: &mut Store, domain: DomainNo, message: Message) -> Result<Key, Fa
     }
 }
 
+// Messages 1 and 2 of one domain, and then message 3 of the other.
+fn store_of_two(alloc: Global) -> Result<Store, Fail> {
+    let mut store = Store::new(alloc);
+    keep(&mut store, MINE, message(alloc, 1)?)?;
+    keep(&mut store, MINE, message(alloc, 2)?)?;
+    keep(&mut store, THEIRS, message(alloc, 3)?)?;
+    Ok(store)
+}
+
 // The count of the message under a key, 0 where there is none.
 fn count_under(store: &Store, domain: DomainNo, key: Key) -> u32 {
     match store.get(domain, key) {
@@ -48,37 +57,52 @@ fn count_removed(store: &mut Store, domain: DomainNo, key: Key) -> u32 {
     }
 }
 
+// Whether a domain keeps messages of these counts, in this order.
+fn keeps(store: &Store, domain: DomainNo, counts: &[u32]) -> bool {
+    store.held(domain) == counts.len()
+        && store
+            .kept(domain)
+            .iter()
+            .zip(counts)
+            .all(|(received, count)| received.message.id.count == *count)
+}
+
 #[test]
-fn two_domains_keep_three_messages(rt: HostRuntime) -> Result<(), Fail> {
-    let mut store = Store::new(rt.alloc());
-    assert_eq!(rt; store.held(MINE), 0);
-    let first = keep(&mut store, MINE, message(rt.alloc(), 1)?)?;
-    let second = keep(&mut store, MINE, message(rt.alloc(), 2)?)?;
-    let third = keep(&mut store, THEIRS, message(rt.alloc(), 3)?)?;
-    assert!(rt; first != second);
-    assert_eq!(rt; count_under(&store, MINE, first), 1);
-    assert_eq!(rt; count_under(&store, MINE, second), 2);
-    assert_eq!(rt; count_under(&store, THEIRS, third), 3);
-    assert_eq!(rt; store.held(MINE), 2);
-    assert_eq!(rt; store.held(THEIRS), 1);
+fn keys_of_a_domain_count_from_0(rt: HostRuntime) -> Result<(), Fail> {
+    let mut store = store_of_two(rt.alloc())?;
+    assert_eq!(rt; count_under(&store, MINE, Key(0)), 1);
+    assert_eq!(rt; count_under(&store, MINE, Key(1)), 2);
+    assert_eq!(rt; count_under(&store, MINE, Key(2)), 0);
+    assert_eq!(rt; count_under(&store, THEIRS, Key(0)), 3);
+    assert_eq!(rt; keep(&mut store, THEIRS, message(rt.alloc(), 4)?)?, Key(1));
+    assert_eq!(rt; keep(&mut store, MINE, message(rt.alloc(), 5)?)?, Key(2));
+    assert!(rt; keeps(&store, MINE, &[1, 2, 5]));
+    assert!(rt; keeps(&store, THEIRS, &[3, 4]));
+    assert!(rt; keeps(&store, DomainNo(3), &[]));
+    assert_eq!(rt; store.next_key(MINE), Key(3));
+    assert_eq!(rt; store.next_key(DomainNo(3)), Key(0));
+    Ok(())
+}
 
-    let of_the_other = if first == third { 3 } else { 0 };
-    assert_eq!(rt; count_under(&store, THEIRS, first), of_the_other);
+#[test]
+fn a_key_is_not_given_again(rt: HostRuntime) -> Result<(), Fail> {
+    let mut store = store_of_two(rt.alloc())?;
+    assert_eq!(rt; count_removed(&mut store, MINE, Key(1)), 2);
+    assert_eq!(rt; count_removed(&mut store, MINE, Key(1)), 0);
+    assert_eq!(rt; count_removed(&mut store, DomainNo(3), Key(0)), 0);
+    assert!(rt; keeps(&store, MINE, &[1]));
+    assert!(rt; keeps(&store, THEIRS, &[3]));
+    assert_eq!(rt; keep(&mut store, MINE, message(rt.alloc(), 4)?)?, Key(2));
+    assert!(rt; keeps(&store, MINE, &[1, 4]));
+    Ok(())
+}
 
-    assert_eq!(rt; count_removed(&mut store, MINE, first), 1);
-    assert_eq!(rt; count_under(&store, MINE, first), 0);
-    assert_eq!(rt; count_under(&store, MINE, second), 2);
-    assert_eq!(rt; count_under(&store, THEIRS, third), 3);
-    assert_eq!(rt; store.held(MINE), 1);
-    assert_eq!(rt; store.held(THEIRS), 1);
-
-    assert_eq!(rt; count_removed(&mut store, MINE, first), 0);
-    assert_eq!(rt; store.held(MINE), 1);
-
+#[test]
+fn a_dropped_domain_begins_anew(rt: HostRuntime) -> Result<(), Fail> {
+    let mut store = store_of_two(rt.alloc())?;
     store.drop_domain(MINE);
-    assert_eq!(rt; count_under(&store, MINE, second), 0);
-    assert_eq!(rt; store.held(MINE), 0);
-    assert_eq!(rt; count_under(&store, THEIRS, third), 3);
-    assert_eq!(rt; store.held(THEIRS), 1);
+    assert!(rt; keeps(&store, MINE, &[]));
+    assert!(rt; keeps(&store, THEIRS, &[3]));
+    assert_eq!(rt; keep(&mut store, MINE, message(rt.alloc(), 4)?)?, Key(0));
     Ok(())
 }

@@ -62,7 +62,7 @@ same_side Home Site e = absurd (omega arith)
 same_side Home Home e = refl
 
 -- keys that test equal are one, and a key tests equal to itself
-same_key : (a b : OwedKey) → key_eq a b ≡ true → a ≡ b
+pub same_key : (a b : OwedKey) → key_eq a b ≡ true → a ≡ b
 same_key a b h =
     let kinds = and_parts (kind_rank a.kind == kind_rank b.kind) (group_eq a.group b.group && (proc_eq a.proc b.proc && ((a.count == b.count) && (site_eq a.site b.site && (side_rank a.side == side_rank b.side))))) h in
     let groups = and_parts (group_eq a.group b.group) (proc_eq a.proc b.proc && ((a.count == b.count) && (site_eq a.site b.site && (side_rank a.side == side_rank b.side)))) kinds.1 in
@@ -77,7 +77,7 @@ same_key a b h =
     let side = same_side a.side b.side (eqb-true (side_rank a.side) (side_rank b.side) sites.1) in
     λ i. record { kind = kind i; group = group i; proc = process i; count = count i; site = site i; side = side i }
 
-key_itself : (a : OwedKey) → key_eq a a ≡ true
+pub key_itself : (a : OwedKey) → key_eq a a ≡ true
 key_itself a =
     and_from (kind_rank a.kind == kind_rank a.kind) (group_eq a.group a.group && (proc_eq a.proc a.proc && ((a.count == a.count) && (site_eq a.site a.site && (side_rank a.side == side_rank a.side))))) (eq-eqb (kind_rank a.kind) (kind_rank a.kind) refl)
     (and_from (group_eq a.group a.group) (proc_eq a.proc a.proc && ((a.count == a.count) && (site_eq a.site a.site && (side_rank a.side == side_rank a.side)))) (group_itself a.group)
@@ -119,6 +119,13 @@ tied_key a b h =
 
 tied : (a b : Owed) → owed_cmp a b ≡ Equal → a.key ≡ b.key
 tied a b h = tied_key a.key b.key (both_tie (nat_cmp a.due b.due) (key_cmp a.key b.key) h).1
+
+pub tied_frame : (a b : Owed) → owed_cmp a b ≡ Equal → a ≡ b
+tied_frame a b h =
+    let parts = both_tie (nat_cmp a.due b.due) (key_cmp a.key b.key) h in
+    let due = exact_unsigned a.due b.due parts.0 in
+    let key = tied_key a.key b.key parts.1 in
+    λ i. record { due = due i; key = key i }
 
 -- a test of keys that a frame passes holds of some frame once it is owed
 any_with : (test : Owed → Bool) (x : Owed) (os : List Owed) → ((o : Owed) → owed_cmp x o ≡ Equal → test o ≡ test x) → list_any test (with_item owed_cmp x os) ≡ (test x || list_any test os)

@@ -23,10 +23,10 @@ pub owed_total : IsTotalOrder owed_cmp
 owed_total = then_total (on_total (λ o. o.due) nat_cmp_total) (on_total (λ o. o.key) key_total)
 
 -- whether a frame comes before all of a list
-abbrev before : Owed → List Owed → Bool
+abbrev pub before : Owed → List Owed → Bool
 before x os = list_all (λ p. is_lt (owed_cmp x p)) os
 
-less : (o : Ordering) → is_lt o ≡ true → o ≡ Less
+pub less : (o : Ordering) → is_lt o ≡ true → o ≡ Less
 less Less h = refl
 less Equal h = absurd (false≢true h)
 less Greater h = absurd (false≢true h)
@@ -42,7 +42,7 @@ all_with test x (o ∷ os) new all =
       | Greater ↦ and_from (test o) (list_all test (with_item owed_cmp x os)) parts.0 (all_with test x os new parts.1)
     ]
 
-all_kept : (test keep : Owed → Bool) (os : List Owed) → list_all test os ≡ true → list_all test (filter keep os) ≡ true
+pub all_kept : (test keep : Owed → Bool) (os : List Owed) → list_all test os ≡ true → list_all test (filter keep os) ≡ true
 all_kept test keep [] all = refl
 all_kept test keep (o ∷ os) all =
     let parts = and_parts (test o) (list_all test os) all in
@@ -53,7 +53,7 @@ all_kept test keep (o ∷ os) all =
     ]
 
 -- what comes before the head comes before the rest
-before_too : (x y : Owed) (os : List Owed) → owed_cmp x y ≡ Less → before y os ≡ true → before x os ≡ true
+pub before_too : (x y : Owed) (os : List Owed) → owed_cmp x y ≡ Less → before y os ≡ true → before x os ≡ true
 before_too x y [] lt all = refl
 before_too x y (o ∷ os) lt all =
     let parts = and_parts (is_lt (owed_cmp y o)) (before y os) all in

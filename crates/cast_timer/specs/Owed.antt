@@ -60,6 +60,14 @@ with_owed owed key due = with_item owed_cmp (record { due = due; key = key }) ow
 abbrev pub paid : (OwedKey → Bool) → List Owed → List Owed
 paid test owed = filter (λ o. not (test o.key)) owed
 
+-- whether the second key differs from the first at most in its count, and has no higher one
+abbrev pub is_upto : OwedKey → OwedKey → Bool
+is_upto key other = key_eq (record other { count = key.count }) key && nat_le other.count key.count
+
+-- owes a frame for a moment, and for no other
+abbrev pub renewed : List Owed → OwedKey → ℕ → List Owed
+renewed owed key due = with_owed (paid (key_eq key) owed) key due
+
 -- the frames that are due at a moment
 abbrev pub due_frames : ℕ → List Owed → List Owed
 due_frames now owed = filter (λ o. nat_le o.due now) owed

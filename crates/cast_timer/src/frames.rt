@@ -1,8 +1,8 @@
-ghost use Rattle.std.specs.Prelude.{◌≡◌, [], IfOk, IsTrue, OnOk, OnErr};
+ghost use Rattle.std.specs.Prelude.{◌≡◌, ◌||◌, ◌==◌, [], IfOk, IsTrue, OnOk, OnErr, not, filter};
 ghost use Rattle.cast_types.specs.Sets.{with_item};
-ghost use Rattle.cast_timer.specs.Owed.{owed_cmp, key_eq, is_owed, paid, due_frames, due_at, is_rising};
+ghost use Rattle.cast_timer.specs.Owed.{owed_cmp, key_eq, is_owed, paid, is_upto, renewed, due_frames, due_at, is_rising};
 
-use crate::key::{Owed, OwedKey};
+use crate::key::{Owed, OwedKey, is_upto};
 use cast_types::{NoMemory, sorted};
 use std::alloc::Global;
 use std::marker::Model;
@@ -51,6 +51,22 @@ impl Frames {
         self.owed.retain(|frame| *key != frame.key);
     }
 
+    /// Owes no more the frames of keys that differ from this one at most in a lower count.
+    pub(crate) fn pay_upto(&mut self, key: &OwedKey)
+        ensures { self.new ≡ paid (is_upto key.now) self.old }
+    {
+        self.owed.retain(|frame| !is_upto(key, &frame.key));
+    }
+
+    /// Owes a frame for its moment, and for no other. `NoMemory` changes nothing.
+    pub(crate) fn renew(&mut self, frame: Owed) -> Result<(), NoMemory>
+        ensures ok { OnOk result (self.new ≡ renewed self.old frame.key frame.due) }
+        ensures err { OnErr result (self.new ≡ self.old) }
+    {
+        renew_in(&mut self.owed, frame)?;
+        Ok(())
+    }
+
     /// Whether a frame of the key is owed.
     pub(crate) fn is_owed(&self, key: &OwedKey) -> bool
         ensures { result ≡ is_owed self.now key.now }
@@ -69,4 +85,14 @@ impl Frames {
             .map(|frame| frame.key)
             .collect(alloc)
     }
+}
+
+// Adds a frame, and then keeps of its key no other. `NoMemory` changes nothing.
+fn renew_in(owed: &mut Vec<Owed>, frame: Owed) -> Result<(), NoMemory>
+    ensures ok { OnOk result (owed.new.items ≡ filter (λ o. not (key_eq frame.key o.key) || (o.due == frame.due)) (with_item owed_cmp frame owed.old.items)) }
+    ensures err { OnErr result (owed.new.items ≡ owed.old.items) }
+{
+    sorted::insert(owed, frame)?;
+    owed.retain(|kept| frame.key != kept.key || kept.due == frame.due);
+    Ok(())
 }

@@ -1,3 +1,6 @@
+ghost use Rattle.std.specs.Prelude.{◌≡◌};
+ghost use Rattle.cast_timer.specs.Owed.{is_upto};
+
 use cast_types::{GroupNo, Proc, SiteNo};
 
 /// What kind of frame is owed, in the order in which frames that are due at one moment are sent.
@@ -38,6 +41,17 @@ pub struct OwedKey {
     pub site: SiteNo,
     /// Who owes it.
     pub side: Side,
+}
+
+// Whether the second key differs from the first at most in its count, and has no higher one.
+pub(crate) fn is_upto(key: &OwedKey, other: &OwedKey) -> bool
+    ensures { result ≡ is_upto key.now other.now }
+{
+    let raised = OwedKey {
+        count: key.count,
+        ..*other
+    };
+    raised == *key && other.count <= key.count
 }
 
 /// A frame that is owed. Frames are ordered by the moment at which they are due, and at one moment by key.

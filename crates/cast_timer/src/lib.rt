@@ -2,8 +2,9 @@
 //!
 //! Promised: the frames that a domain owes are seen as one list, in order of the moments at which they are due and at
 //! one moment in order of their keys; a call for one domain leaves what every other domain owes; `due` gives the keys
-//! of the frames that are due, in that order; a frame is owed until it is paid. Only `owe` and `due` take memory, and
-//! where it is refused nothing changes.
+//! of the frames that are due, in that order; a frame is owed until it is paid, alone or with those of lower counts.
+//! `renew` owes a frame for one moment in place of all others. Only `owe`, `renew` and `due` take memory, and where it is
+//! refused nothing changes.
 //!
 //! A moment is a number of milliseconds. Those in use are at most 2^62 + 60,000, and each `u64` is taken.
 //!

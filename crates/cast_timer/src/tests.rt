@@ -102,3 +102,38 @@ fn a_dropped_domain_owes_nothing(rt: HostRuntime) -> Result<(), Fail> {
     );
     Ok(())
 }
+
+#[test]
+fn paying_up_to_a_count_leaves_higher_ones(rt: HostRuntime) -> Result<(), Fail> {
+    let mut timers = timers_of_two(rt.alloc())?;
+    timers.owe(HERE, key(OwedKind::Data, 3), 100)?;
+    timers.pay_upto(HERE, &second());
+    timers.pay_upto(DomainNo(3), &second());
+    assert_eq!(rt;
+        timers.due(rt.alloc(), HERE, 200)?.as_slice(),
+        [key(OwedKind::Data, 3), ask()].as_slice()
+    );
+    assert!(rt; timers.is_owed(THERE, &first()));
+    Ok(())
+}
+
+#[test]
+fn a_renewed_frame_is_due_at_its_new_moment_alone(rt: HostRuntime) -> Result<(), Fail> {
+    let mut timers = timers_of_two(rt.alloc())?;
+    timers.owe(HERE, second(), 170)?;
+    timers.renew(HERE, second(), 300)?;
+    timers.renew(DomainNo(3), ask(), 100)?;
+    assert_eq!(rt;
+        timers.due(rt.alloc(), HERE, 299)?.as_slice(),
+        [ask(), first()].as_slice()
+    );
+    assert_eq!(rt;
+        timers.due(rt.alloc(), HERE, 300)?.as_slice(),
+        [ask(), first(), second()].as_slice()
+    );
+    assert_eq!(rt;
+        timers.due(rt.alloc(), DomainNo(3), 100)?.as_slice(),
+        [ask()].as_slice()
+    );
+    Ok(())
+}

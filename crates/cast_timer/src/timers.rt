@@ -4,7 +4,7 @@ ghost use Rattle.std.specs.Option.{option_copied};
 ghost use Rattle.cast_types.specs.declared.names.DomainNo.{DomainNo};
 ghost use Rattle.cast_types.specs.Sets.{with_item};
 ghost use Rattle.cast_types.specs.Places.{update};
-ghost use Rattle.cast_timer.specs.Owed.{owed_cmp, key_eq, with_owed, is_owed, paid, due_frames, due_at, is_rising};
+ghost use Rattle.cast_timer.specs.Owed.{owed_cmp, key_eq, with_owed, is_owed, paid, is_upto, renewed, due_frames, due_at, is_rising};
 ghost use Rattle.cast_timer.specs.Rows.{is_of, row_of, owed_in};
 
 use crate::frames::Frames;
@@ -68,6 +68,31 @@ impl Timers {
     {
         if let Some(place) = place_among(&self.rows, domain) {
             pay_at(&mut self.rows, place, key);
+        }
+    }
+
+    /// Owes no more the domain's frames of this key and of all keys that differ from it only in a lower count. Takes no
+    /// memory.
+    pub fn pay_upto(&mut self, domain: DomainNo, key: &OwedKey)
+        ensures own { owed_in self.new domain ≡ paid (is_upto key.now) (owed_in self.old domain) }
+        ensures others { (e : DomainNo) → e ≢ domain → owed_in self.new e ≡ owed_in self.old e }
+    {
+        if let Some(place) = place_among(&self.rows, domain) {
+            pay_upto_at(&mut self.rows, place, key);
+        }
+    }
+
+    /// Owes the domain's frame of a key for the moment `due`, in milliseconds, and for no other moment any more.
+    /// `NoMemory` changes nothing.
+    pub fn renew(&mut self, domain: DomainNo, key: OwedKey, due: u64) -> Result<(), NoMemory>
+        ensures own { OnOk result (owed_in self.new domain ≡ renewed (owed_in self.old domain) key due) }
+        ensures err { OnErr result (self.new ≡ self.old) }
+        ensures others { (e : DomainNo) → e ≢ domain → owed_in self.new e ≡ owed_in self.old e }
+    {
+        let frame = Owed { due, key };
+        match place_among(&self.rows, domain) {
+            Some(place) => renew_at(&mut self.rows, place, frame),
+            None => owe_first(&mut self.rows, domain, frame),
         }
     }
 
@@ -148,6 +173,27 @@ fn pay_at(rows: &mut Vec<Row>, place: usize, key: &OwedKey)
 {
     let row = &mut rows[place];
     row.frames.pay(key);
+}
+
+// Owes the frames of keys up to this one no more in the domain of a place.
+#[tactic(auto, using(cast_types::proofs::Updates::set_update))]
+fn pay_upto_at(rows: &mut Vec<Row>, place: usize, key: &OwedKey)
+    requires { place < vec_len rows.old }
+    ensures { rows.new.items ≡ update rows.old.items place (λ r. record r { frames = paid (is_upto key.now) r.frames }) }
+{
+    let row = &mut rows[place];
+    row.frames.pay_upto(key);
+}
+
+// Owes a frame of the domain of a place for its moment alone. `NoMemory` changes nothing.
+#[tactic(auto, using(cast_types::proofs::Updates::set_update))]
+fn renew_at(rows: &mut Vec<Row>, place: usize, frame: Owed) -> Result<(), NoMemory>
+    requires { place < vec_len rows.old }
+    ensures ok { OnOk result (rows.new.items ≡ update rows.old.items place (λ r. record r { frames = renewed r.frames frame.key frame.due })) }
+    ensures err { OnErr result (rows.new.items ≡ rows.old.items) }
+{
+    let row = &mut rows[place];
+    row.frames.renew(frame)
 }
 
 // Keeps the rows of other domains.

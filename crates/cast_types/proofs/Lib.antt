@@ -3,4 +3,5 @@ pub mod Updates
 pub mod Zips
 pub mod Iterates
 pub mod Orders
+pub mod Sources
 pub mod CountLists

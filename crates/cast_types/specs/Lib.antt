@@ -1,4 +1,5 @@
 pub mod Names
+pub mod Sources
 pub mod Refusals
 pub mod Sets
 pub mod Places

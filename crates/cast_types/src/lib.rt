@@ -6,8 +6,9 @@
 //! at most 64 counts of at least 1, in rising order of their processes; a `Stamp` holds 1 to 32 clocks of views from 1
 //! on, in rising order of their groups.
 //!
-//! The definitions are in `specs/`: `Names`, `Refusals`, `Counts`, `Stamps`, `Sets`, `Laws`, `Places` (one place of
-//! a list changed) and `Repeat` (passes until nothing changes). `proofs/` has the laws on lists that the other crates use.
+//! The definitions are in `specs/`: `Names`, `Sources`, `Refusals`, `Counts`, `Stamps`, `Sets`, `Laws`, `Places` (one
+//! place of a list changed) and `Repeat` (passes until nothing changes). `proofs/` has the laws on lists that the other
+//! crates use.
 #![tactic(auto)]
 
 pub mod clock;
@@ -19,6 +20,7 @@ pub mod listed;
 pub mod names;
 pub mod refusal;
 pub mod sorted;
+pub mod source;
 
 pub use clock::{Clock, Stamp};
 pub use counts::Counts;
@@ -26,6 +28,7 @@ pub use keyed::Keyed;
 pub use listed::Listed;
 pub use names::{DomainNo, GroupNo, Key, Kind, Proc, SiteNo, Standing, Uid};
 pub use refusal::Refusal;
+pub use source::Source;
 
 /// Want of memory: an allocation was refused.
 pub type NoMemory = std::alloc::AllocError;

@@ -36,3 +36,6 @@ pub const MAX_POSITION: u32 = 4_000_000_000;
 
 /// The last serial, view, count and request number. At it a number is not raised.
 pub const MAX_NUMBER: u32 = 4_294_967_295;
+
+/// Last moment of a domain, in milliseconds.
+pub const MAX_MOMENT: u64 = 4_611_686_018_427_387_904;

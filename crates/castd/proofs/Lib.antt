@@ -1,8 +1,13 @@
 pub mod Numbers
 pub mod Spelled
+pub mod Places
+pub mod Turns
 pub mod Applies
 pub mod Parts
 pub mod Runs
 pub mod Served
+pub mod Named
+pub mod Ticked
+pub mod SoFars
 pub mod Replayed
 pub mod Shown

@@ -1,5 +1,8 @@
 -- The part of one domain in lists of events, answers and frames.
-use Rattle.std.proofs.Common.{◌≡◌, ℕ, Bool, true, false, cond, List, [], ◌∷◌, ◌++◌, map, filter, length, Result, refl, sym, ap, ◌∙◌, arith}
+use Rattle.std.proofs.Common.{◌≡◌, ℕ, Bool, true, false, cond, List, [], ◌∷◌, ◌++◌, map, filter, length, Some, None, Result, refl, sym, ap, ◌∙◌, arith}
+use Rattle.std.specs.Prelude.{◌||◌}
+use Rattle.std.specs.Option.{option_map_or}
+use Rattle.std.proofs.Math.Bool.{or-false, or_assoc}
 use Rattle.std.proofs.lemmas.Bool.{eqb-true, eq-eqb, false≢true, false_from_ne_true}
 use Rattle.std.proofs.lemmas.List.{map-append}
 use Rattle.std.proofs.lemmas.List.Elements.{filter-append}
@@ -12,7 +15,7 @@ use Rattle.cast_domain.specs.Events.{domain_of}
 use Rattle.cast_domain.specs.Fits.{tagged}
 use Rattle.castd.specs.declared.table.Fault.{Fault}
 use Rattle.castd.specs.Tables.{domain_eq}
-use Rattle.castd.specs.Replays.{events_of, answers_of, frames_of}
+use Rattle.castd.specs.Replays.{names, is_own, own, named_answers, some_answer, frames_of}
 
 abbrev pub Sent : Type 0
 Sent = DomainNo × SiteNo × SiteFrame
@@ -27,36 +30,57 @@ pub domain_flipped : (a b : DomainNo) → domain_eq a b ≡ false → domain_eq 
 domain_flipped a b h =
     false_from_ne_true (domain_eq b a) (λ e. false≢true (sym h ∙ ap (domain_eq a) (same_domain b a e) ∙ domain_itself a))
 
+-- which events are a domain's own
+
+pub named_own : (d : DomainNo) (e : Event) → names d e ≡ true → is_own d e ≡ true
+named_own d e named =
+    elim (domain_of e) as (λ o. option_map_or (λ n. domain_eq n d) o false ≡ true → option_map_or (λ n. domain_eq n d) o true ≡ true) [
+      | None ↦ λ wrong. absurd (false≢true wrong)
+      | Some n ↦ λ same. same
+    ] named
+
+pub other_unnamed : (d : DomainNo) (e : Event) → is_own d e ≡ false → names d e ≡ false
+other_unnamed d e other =
+    false_from_ne_true (names d e) (λ named. false≢true (sym other ∙ named_own d e named))
+
 -- one more event
 
-pub events_more : (d : DomainNo) (events : List Event) (e : Event) → events_of d (events ++ e ∷ []) ≡ events_of d events ++ events_of d (e ∷ [])
-events_more d events e = filter-append (λ e. domain_eq (domain_of e) d) events (e ∷ [])
+pub own_more : (d : DomainNo) (events : List Event) (e : Event) → own d (events ++ e ∷ []) ≡ own d events ++ own d (e ∷ [])
+own_more d events e = filter-append (is_own d) events (e ∷ [])
 
 push_chosen : {X : Type 0} (b : Bool) (x : X) (xs ys : List X) → cond b (x ∷ (xs ++ ys)) (xs ++ ys) ≡ cond b (x ∷ xs) xs ++ ys
 push_chosen true x xs ys = refl
 push_chosen false x xs ys = refl
 
-pub answers_more : (d : DomainNo) (events : List Event) (answers : List (Result Taken Fault)) (e : Event) (a : Result Taken Fault) → length events ≡ length answers → answers_of d (events ++ e ∷ []) (answers ++ a ∷ []) ≡ answers_of d events answers ++ answers_of d (e ∷ []) (a ∷ [])
-answers_more d [] [] e a long = refl
-answers_more d [] (b ∷ answers) e a long = absurd (omega arith)
-answers_more d (f ∷ events) [] e a long = absurd (omega arith)
-answers_more d (f ∷ events) (b ∷ answers) e a long =
-    ap (λ rest. cond (domain_eq (domain_of f) d) (b ∷ rest) rest) (answers_more d events answers e a (omega arith))
-    ∙ push_chosen (domain_eq (domain_of f) d) b (answers_of d events answers) (answers_of d (e ∷ []) (a ∷ []))
+pub named_more : {X : Type 0} (d : DomainNo) (events : List Event) (answers : List X) (e : Event) (a : X) → length events ≡ length answers → named_answers d (events ++ e ∷ []) (answers ++ a ∷ []) ≡ named_answers d events answers ++ named_answers d (e ∷ []) (a ∷ [])
+named_more d [] [] e a long = refl
+named_more d [] (b ∷ answers) e a long = absurd (omega arith)
+named_more d (f ∷ events) [] e a long = absurd (omega arith)
+named_more d (f ∷ events) (b ∷ answers) e a long =
+    ap (λ rest. cond (names d f) (b ∷ rest) rest) (named_more d events answers e a (omega arith))
+    ∙ push_chosen (names d f) b (named_answers d events answers) (named_answers d (e ∷ []) (a ∷ []))
 
--- where the event names the domain, and where it does not
+pub some_more : (is : Event → Result Taken Fault → Bool) (events : List Event) (answers : List (Result Taken Fault)) (e : Event) (a : Result Taken Fault) → length events ≡ length answers → some_answer is (events ++ e ∷ []) (answers ++ a ∷ []) ≡ (some_answer is events answers || is e a)
+some_more is [] [] e a long = or-false (is e a)
+some_more is [] (b ∷ answers) e a long = absurd (omega arith)
+some_more is (f ∷ events) [] e a long = absurd (omega arith)
+some_more is (f ∷ events) (b ∷ answers) e a long =
+    ap (λ rest. is f b || rest) (some_more is events answers e a (omega arith))
+    ∙ sym (or_assoc (is f b) (some_answer is events answers) (is e a))
 
-pub events_own : (d : DomainNo) (e : Event) → domain_eq (domain_of e) d ≡ true → events_of d (e ∷ []) ≡ e ∷ []
-events_own d e own = ap (λ b. cond b (e ∷ []) []) own
+-- where the event is the domain's own, and where it is not
 
-pub events_other : (d : DomainNo) (e : Event) → domain_eq (domain_of e) d ≡ false → events_of d (e ∷ []) ≡ []
-events_other d e other = ap (λ b. cond b (e ∷ []) []) other
+pub own_one : (d : DomainNo) (e : Event) → is_own d e ≡ true → own d (e ∷ []) ≡ e ∷ []
+own_one d e its = ap (λ b. cond b (e ∷ []) []) its
 
-pub answers_own : (d : DomainNo) (e : Event) (a : Result Taken Fault) → domain_eq (domain_of e) d ≡ true → answers_of d (e ∷ []) (a ∷ []) ≡ a ∷ []
-answers_own d e a own = ap (λ b. cond b (a ∷ []) []) own
+pub own_none : (d : DomainNo) (e : Event) → is_own d e ≡ false → own d (e ∷ []) ≡ []
+own_none d e other = ap (λ b. cond b (e ∷ []) []) other
 
-pub answers_other : (d : DomainNo) (e : Event) (a : Result Taken Fault) → domain_eq (domain_of e) d ≡ false → answers_of d (e ∷ []) (a ∷ []) ≡ []
-answers_other d e a other = ap (λ b. cond b (a ∷ []) []) other
+pub named_one : {X : Type 0} (d : DomainNo) (e : Event) (a : X) → names d e ≡ true → named_answers d (e ∷ []) (a ∷ []) ≡ a ∷ []
+named_one d e a named = ap (λ b. cond b (a ∷ []) []) named
+
+pub named_none : {X : Type 0} (d : DomainNo) (e : Event) (a : X) → names d e ≡ false → named_answers d (e ∷ []) (a ∷ []) ≡ []
+named_none d e a unnamed = ap (λ b. cond b (a ∷ []) []) unnamed
 
 -- more frames
 

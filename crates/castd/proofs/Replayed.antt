@@ -15,9 +15,10 @@ use Rattle.cast_domain.specs.Run.{IsRun}
 use Rattle.cast_domain.specs.Fits.{session_in}
 use Rattle.castd.specs.declared.table.Fault.{Fault}
 use Rattle.castd.specs.declared.table.Log.{Log}
-use Rattle.castd.specs.Replays.{IsServed, IsServedAlone, ServesEachAlone, answers_of, events_of, frames_of, given_of, pushes_at, TellsNoDomain}
-use Rattle.castd.proofs.Parts.{Sent}
-use Rattle.castd.proofs.Served.{HasServed, SoFar}
+use Rattle.castd.specs.Replays.{IsServed, IsServedAlone, ServesEachAlone, own, frames_of, given_of, pushes_at, TellsNoDomain}
+use Rattle.castd.specs.Tables.{Lent}
+use Rattle.castd.proofs.Served.{HasRun, HasServed}
+use Rattle.castd.proofs.SoFars.{SoFar}
 
 -- the pushes to a serial are those of its session
 pushed_at : (sessions : List Session) (k : ℕ) → pushes_at (map (λ (s : Session). s.pushed) sessions) k ≡ (session_in sessions k).pushed
@@ -26,8 +27,8 @@ pushed_at [] (suc i) = refl
 pushed_at (s ∷ sessions) (suc zero) = refl
 pushed_at (s ∷ sessions) (suc (suc i)) = pushed_at sessions (suc i)
 
-given_alone : (here : SiteNo) (events : List Event) (answers : List (Result Taken Fault)) (frames : List Sent) (c : DomainConfig) (d : Domain) → HasServed here events answers frames c d → is_halted d ≡ false → IsServedAlone here c (events_of c.domain events) (answers_of c.domain events answers) (given_of frames d)
-given_alone here events answers frames c d served running =
+given_alone : (here : SiteNo) (events : List Event) (answers : List (Result Taken Fault)) (l : Lent) (c : DomainConfig) (d : Domain) → HasRun here events answers l c d → is_halted d ≡ false → IsServedAlone here c events answers (given_of l.outs.frames d)
+given_alone here events answers l c d served running =
     let run = served.runs running in
     record {
       taken = run.taken;
@@ -35,28 +36,29 @@ given_alone here events answers frames c d served running =
       alone =
           record {
             end = run.end;
-            runs = subst (λ n. IsRun (opening here c) (events_of c.domain events) run.taken (frames_of n frames) run.end) (sym served.number) run.run;
+            runs = subst (λ n. IsRun (opening here c) (own c.domain events) run.taken (frames_of n l.outs.frames) run.end) (sym served.number) run.run;
             pushes = λ k. pushed_at (sessions_of d) k ∙ sym (ap (λ (s : Session). s.pushed) (run.means.fits.sessions k));
           };
     }
 
-all_given : (here : SiteNo) (events : List Event) (answers : List (Result Taken Fault)) (frames : List Sent) (cs : List DomainConfig) (ds : List Domain) → AllZip (HasServed here events answers frames) cs ds → AllZip (IsServed here events answers) cs (map (given_of frames) ds)
-all_given here events answers frames [] [] served = served
-all_given here events answers frames [] (d ∷ ds) served = absurd served
-all_given here events answers frames (c ∷ cs) [] served = absurd served
-all_given here events answers frames (c ∷ cs) (d ∷ ds) served = (
+all_given : (here : SiteNo) (events : List Event) (answers : List (Result Taken Fault)) (l : Lent) (cs : List DomainConfig) (ds : List Domain) → AllZip (HasServed here events answers l) cs ds → AllZip (IsServed here events answers) cs (map (given_of l.outs.frames) ds)
+all_given here events answers l [] [] served = served
+all_given here events answers l [] (d ∷ ds) served = absurd served
+all_given here events answers l (c ∷ cs) [] served = absurd served
+all_given here events answers l (c ∷ cs) (d ∷ ds) served = (
   record {
-    domain = served.0.number;
-    halted = served.0.halted;
-    alone = given_alone here events answers frames c d served.0;
+    domain = served.0.0.number;
+    told = served.0.1.told;
+    because = served.0.1.because;
+    alone = given_alone here events answers l c d served.0.0;
   },
-  all_given here events answers frames cs ds served.1,
+  all_given here events answers l cs ds served.1,
 )
 
-pub served_alone : (config : Config) (events : List Event) (log : Log) (frames : List Sent) (ds : List Domain) → log.given ≡ map (given_of frames) ds → SoFar config events log.answers frames ds → ServesEachAlone config events log
-served_alone config events log frames ds given so_far distinct rising =
+pub served_alone : (config : Config) (events : List Event) (log : Log) (l : Lent) (ds : List Domain) → log.given ≡ map (given_of l.outs.frames) ds → SoFar config events log.answers l ds → ServesEachAlone config events log
+served_alone config events log l ds given so_far distinct rising =
     subst (AllZip (IsServed config.site events log.answers) config.domains) (sym given)
-    (all_given config.site events log.answers frames config.domains ds (so_far.served distinct rising))
+    (all_given config.site events log.answers l config.domains ds (so_far.served distinct rising))
 
-pub answered_all : (config : Config) (events : List Event) (answers : List (Result Taken Fault)) (frames : List Sent) (ds : List Domain) → SoFar config events answers frames ds → length answers ≡ length events
-answered_all config events answers frames ds so_far = sym (zip_length (TellsNoDomain config.domains) events answers so_far.named)
+pub answered_all : (config : Config) (events : List Event) (answers : List (Result Taken Fault)) (l : Lent) (ds : List Domain) → SoFar config events answers l ds → length answers ≡ length events
+answered_all config events answers l ds so_far = sym (zip_length (TellsNoDomain config.domains) events answers so_far.named)

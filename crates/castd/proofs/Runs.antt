@@ -1,5 +1,5 @@
 -- Runs of a domain, one more step at their end.
-use Rattle.std.proofs.Common.{List, [], ◌∷◌, ◌++◌, refl, sym, ap, subst, ◌∙◌, append_assoc}
+use Rattle.std.proofs.Common.{◌≡◌, suc, List, [], ◌∷◌, ◌++◌, length, refl, sym, ap, subst, ◌∙◌, append_assoc}
 use Rattle.std.proofs.lemmas.List.{append-nil}
 use Rattle.cast_types.specs.declared.names.SiteNo.{SiteNo}
 use Rattle.cast_frame.specs.declared.site.SiteFrame.{SiteFrame}
@@ -16,3 +16,9 @@ run_more s (f ∷ events) [] sent t e a u run step = absurd run
 run_more s (f ∷ events) (b ∷ answers) sent t e a u run step =
     let more = run_more run.0 events answers run.1 t e a u run.4 step in
     (run.0, run.1 ++ u.frames, run.2, ap (λ (front : List (SiteNo × SiteFrame)). front ++ u.frames) run.3 ∙ append_assoc run.0.frames run.1 u.frames, more)
+
+pub run_length : (s : State) (events : List Event) (answers : List Taken) (sent : List (SiteNo × SiteFrame)) (t : State) → IsRun s events answers sent t → length events ≡ length answers
+run_length s [] [] sent t run = refl
+run_length s [] (b ∷ answers) sent t run = absurd run
+run_length s (f ∷ events) [] sent t run = absurd run
+run_length s (f ∷ events) (b ∷ answers) sent t run = ap suc (run_length run.0 events answers run.1 t run.4)

@@ -18,7 +18,7 @@ use Rattle.cast_types.specs.declared.names.GroupNo.{GroupNo}
 use Rattle.castd.specs.declared.script.Script.{Script}
 use Rattle.castd.specs.declared.script.Line.{Line}
 use Rattle.castd.specs.declared.script.Head.{Head}
-use Rattle.castd.specs.declared.script.Head.TheVariants.{Site, Domain, Open, Join, Leave, Cast, Abcast, Bad, Frame}
+use Rattle.castd.specs.declared.script.Head.TheVariants.{Site, Domain, Open, Join, Leave, Cast, Abcast, Bad, Frame, Tick}
 use Rattle.cast_domain.specs.declared.config.DomainConfig.{DomainConfig}
 use Rattle.cast_domain.specs.declared.config.Quotas.{Quotas}
 use Rattle.cast_domain.specs.declared.config.Config.{Config}
@@ -97,6 +97,7 @@ head_text Cast = codes "cast"
 head_text Abcast = codes "abcast"
 head_text Bad = codes "bad"
 head_text Frame = codes "frame"
+head_text Tick = codes "tick"
 
 -- the words of a line spell a site
 abbrev pub SpellsSite : List (List ℕ) → SiteNo → Type 0
@@ -158,6 +159,7 @@ SpellsEvent ws (event.Command d serial (command.Request r)) = SpellsRequest d se
 SpellsEvent ws (event.Command d serial command.Bad) = ws ≡ codes "bad" ∷ decimal d.0 ∷ decimal serial ∷ []
 SpellsEvent ws (event.Frame d s f) =
     (hex : List ℕ) × (ws ≡ codes "frame" ∷ hex ∷ []) × SpellsBytes hex (spelled_site d s f)
+SpellsEvent ws (event.Tick now) = ws ≡ codes "tick" ∷ decimal now ∷ []
 
 -- a line that is neither empty nor a comment
 abbrev pub is_used : List ℕ → Bool

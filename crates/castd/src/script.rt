@@ -6,7 +6,7 @@ ghost use Rattle.castd.specs.declared.words.Reason.TheVariants.{UnknownWord};
 
 use crate::words::{
     LineFault, Reason, bytes_word, domain_word, fixed_word, group_list, group_word, groups_rise,
-    number, number_between, site_list, site_word, sites_rise,
+    long_number, number, number_between, site_list, site_word, sites_rise,
 };
 use bytes::Bytes;
 use cast_domain::{Config, DomainConfig, Event, Quotas};
@@ -77,6 +77,7 @@ enum Head {
     Abcast,
     Bad,
     Frame,
+    Tick,
 }
 
 // What each request of a session says.
@@ -208,6 +209,7 @@ fn head_of(word: &str) -> Result<Head, Reason>
         "abcast" => Ok(Head::Abcast),
         "bad" => Ok(Head::Bad),
         "frame" => Ok(Head::Frame),
+        "tick" => Ok(Head::Tick),
         _ => Err(Reason::UnknownWord),
     }
 }
@@ -371,6 +373,7 @@ fn event_line(alloc: Global, line: &str) -> Result<Event, LineFault>
         Head::Abcast => cast(alloc, words, CastKind::Atomic),
         Head::Bad => Ok(bad(words)?),
         Head::Frame => frame_event(alloc, words),
+        Head::Tick => Ok(tick(words)?),
     }
 }
 
@@ -464,4 +467,14 @@ fn frame_event(alloc: Global, words: &[&str]) -> Result<Event, LineFault>
         Err(FrameFault::NoMemory) => Err(LineFault::NoMemory),
         Err(_) => Err(LineFault::Refused(Reason::BadFrame)),
     }
+}
+
+// `tick N`, from the second word on
+fn tick(words: &[&str]) -> Result<Event, Reason>
+    ensures { IfOk result (SpellsEvent (codes "tick" ∷ texts words.now)) }
+{
+    let [moment] = words else {
+        return Err(Reason::WrongCount);
+    };
+    Ok(Event::Tick(long_number(moment)?))
 }

@@ -1,4 +1,5 @@
 mod groups;
+mod stability;
 
 use crate::print::print;
 use crate::run::run_script;
@@ -108,6 +109,25 @@ fn prints_what_is_refused(rt: HostRuntime) -> Result<(), Fail> {
     let unopened = "join 1 1 7 1\ncast 1 0 8 1 -\n";
     let expected = "event 1 refused 2\nevent 2 refused 2\n";
     assert!(rt; prints(alloc, &[QUIET, unopened], &[expected])?);
+    Ok(())
+}
+
+#[test]
+fn reads_ticks(rt: HostRuntime) -> Result<(), Fail> {
+    let alloc = rt.alloc();
+    let ticks = "tick 0\ntick 1000\ntick 1000\ntick 18446744073709551615\n";
+    let unopened = "join 1 1 7 1\n";
+    assert!(rt; prints(alloc, &[QUIET, ticks, unopened], &["event 5 refused 2\n"])?);
+    Ok(())
+}
+
+#[test]
+fn reads_quotas_at_their_limits(rt: HostRuntime) -> Result<(), Fail> {
+    let alloc = rt.alloc();
+    for quotas in ["1 1 1 10\n", "64 1024 4096 60000\n"] {
+        let head = "site 1\ndomain 1 home 1 sites 1 groups 1 quotas ";
+        assert!(rt; prints(alloc, &[head, quotas], &[])?, "{quotas}");
+    }
     Ok(())
 }
 
@@ -310,7 +330,7 @@ fn names_the_line_of_a_bad_head(rt: HostRuntime) -> Result<(), Fail> {
         ("site 1\nsite 1\n", "2: order"),
         ("site 1\n\n# next\nopen 1\n", "4: order"),
         ("site 1\nleave 1 1 7 1\n", "2: order"),
-        ("site 1\ntick 1\n", "2: unknown word"),
+        ("site 1\ntick 1\n", "2: order"),
     ];
     for (text, fault) in rows {
         assert!(rt; refused(alloc, &[text], fault)?, "{text}");
@@ -416,6 +436,10 @@ fn names_the_line_of_a_bad_domain(rt: HostRuntime) -> Result<(), Fail> {
             "bad number",
         ),
         (
+            "domain 1 home 1 sites 1 groups 1 quotas 16 0 256 200",
+            "bad number",
+        ),
+        (
             "domain 1 home 1 sites 1 groups 1 quotas 16 1025 256 200",
             "bad number",
         ),
@@ -453,7 +477,13 @@ fn names_the_line_of_a_bad_event(rt: HostRuntime) -> Result<(), Fail> {
         ),
         ("domain", "order"),
         ("ABCAST 1 1 8 1 -", "unknown word"),
-        ("tick 1", "unknown word"),
+        ("TICK 1", "unknown word"),
+        ("tick", "wrong count"),
+        ("tick 1 1", "wrong count"),
+        ("tick ", "bad number"),
+        ("tick -1", "bad number"),
+        ("tick 01", "bad number"),
+        ("tick 18446744073709551616", "bad number"),
         ("open", "wrong count"),
         ("open 1 1", "wrong count"),
         ("open 0", "bad number"),

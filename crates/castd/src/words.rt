@@ -74,14 +74,25 @@ fn is_plain(text: &[u8]) -> bool
 }
 
 /// A number: decimal digits with no sign and no leading zero.
-pub fn number(word: &str) -> Result<u32, Reason>
+pub fn long_number(word: &str) -> Result<u64, Reason>
     ensures value { IfOk result (λ n. word.now ≡ decimal n) }
-    ensures fault { IfErr result (λ e. (e ≡ BadNumber) × ((n : ℕ) → n < 2 ^ 32 → word.now ≢ decimal n)) }
+    ensures fault { IfErr result (λ e. (e ≡ BadNumber) × ((n : ℕ) → n < 2 ^ 64 → word.now ≢ decimal n)) }
 {
     if !is_plain(word.as_bytes()) {
         return Err(Reason::BadNumber);
     }
-    match word.parse::<u32>() {
+    match word.parse::<u64>() {
+        Ok(value) => Ok(value),
+        Err(_) => Err(Reason::BadNumber),
+    }
+}
+
+/// A number below 2^32.
+pub fn number(word: &str) -> Result<u32, Reason>
+    ensures value { IfOk result (λ n. word.now ≡ decimal n) }
+    ensures fault { IfErr result (λ e. (e ≡ BadNumber) × ((n : ℕ) → n < 2 ^ 32 → word.now ≢ decimal n)) }
+{
+    match u32::try_from(long_number(word)?) {
         Ok(value) => Ok(value),
         Err(_) => Err(Reason::BadNumber),
     }

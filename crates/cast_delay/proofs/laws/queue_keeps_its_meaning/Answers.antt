@@ -1,4 +1,4 @@
-use Rattle.cast_delay.proofs.Queues.{new_fits, admit_fits, tell_fits, view_fits, offer_fits, delivery_fits}
+use Rattle.cast_delay.proofs.Queues.{new_fits, admit_fits, tell_fits, view_fits, offer_fits, forget_fits, delivery_fits}
 use Rattle.cast_delay.proofs.laws.queue_keeps_its_meaning.Goals as goal
 
 pub returns-clause-new : goal.returns-clause-new
@@ -15,6 +15,9 @@ returns-clause-view_changed c = view_fits
 
 pub returns-clause-offer : goal.returns-clause-offer
 returns-clause-offer c = offer_fits
+
+pub returns-clause-forget : goal.returns-clause-forget
+returns-clause-forget c = forget_fits
 
 pub returns-clause-delivered : goal.returns-clause-delivered
 returns-clause-delivered c = delivery_fits

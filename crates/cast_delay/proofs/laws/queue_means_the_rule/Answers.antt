@@ -1,4 +1,4 @@
-use Rattle.cast_delay.proofs.Queues.{row_rules, next_rules}
+use Rattle.cast_delay.proofs.Queues.{row_rules, next_rules, awaited_by}
 use Rattle.cast_delay.proofs.laws.queue_means_the_rule.Goals as goal
 
 pub returns-clause-row : goal.returns-clause-row
@@ -6,3 +6,6 @@ returns-clause-row c = row_rules
 
 pub returns-clause-next : goal.returns-clause-next
 returns-clause-next c = next_rules
+
+pub returns-clause-awaited : goal.returns-clause-awaited
+returns-clause-awaited c = awaited_by

@@ -4,36 +4,39 @@ use Rattle.std.proofs.lemmas.List.{take_more, take_all}
 use Rattle.cast_domain.specs.declared.event.Outs.{Outs}
 use Rattle.castd.specs.declared.table.Fault.TheVariants.{NoMemory}
 use Rattle.castd.specs.Replays.{lacks_memory}
-use Rattle.castd.proofs.Served.{SoFar, so_far_none, so_far_more}
+use Rattle.castd.specs.Tables.{lent}
+use Rattle.castd.proofs.SoFars.{SoFar, so_far_none, so_far_more}
 use Rattle.castd.proofs.Replayed.{served_alone, answered_all}
 use Rattle.castd.proofs.table.replay.Goals as goal
 
 pub loop-event-init : goal.loop-event-init
 loop-event-init c =
-    subst (λ given. SoFar c.args.config [] given c.new-outs.result.frames c.in_ok-table.table.domains.items) (sym c.new-answers.ensures)
-    (subst (λ (outs : Outs). SoFar c.args.config [] [] outs.frames c.in_ok-table.table.domains.items) (sym c.new-outs.ensures)
-    (so_far_none c.args.config c.in_ok-table.table.domains.items c.in_ok-table.ensures))
+    let table = c.in_ok-table.table in
+    subst (λ given. SoFar c.args.config [] given (lent table c.new-outs.result) table.domains.items) (sym c.new-answers.ensures)
+    (so_far_none c.args.config (lent table c.new-outs.result) table.domains.items (ap (λ (outs : Outs). outs.frames) c.new-outs.ensures) c.in_ok-table.ensures.unshared c.in_ok-table.ensures.domains)
 
 pub loop-event-preserved : goal.loop-event-preserved
 loop-event-preserved c =
     let i = c.loop-event.event-index in
     let events = c.args.events.now in
     let e = c.event-item.result in
+    let before = lent c.loop-event.table c.loop-event.outs in
+    let after = lent c.apply-answer.new.self c.apply-answer.new.outs in
     let begun : c.apply-answer.result ≢ Err NoMemory = λ is. false≢true (sym c.if-lacks_memory.false ∙ c.lacks_memory.ensures ∙ ap lacks_memory is) in
     let one : take i events ++ e ∷ [] ≡ take (i + 1) events =
     ap (λ x. take i events ++ x ∷ []) c.event-item.is ∙ sym (take_more events i e c.loop-event-test.true) in
-    subst (λ es. SoFar c.args.config es c.push.new.self c.apply-answer.new.outs.frames c.apply-answer.new.self.domains.items) one
-    (subst (λ given. SoFar c.args.config (take i events ++ e ∷ []) given c.apply-answer.new.outs.frames c.apply-answer.new.self.domains.items) (sym c.in_ok-push.ensures.ok)
-    (so_far_more c.args.config (take i events) c.loop-event.answers e c.apply-answer.result c.loop-event.table.domains.items c.apply-answer.new.self.domains.items c.loop-event.outs c.apply-answer.new.outs begun c.loop-event.invariant c.apply-answer.ensures.applied))
+    subst (λ es. SoFar c.args.config es c.push.new.self after c.apply-answer.new.self.domains.items) one
+    (subst (λ given. SoFar c.args.config (take i events ++ e ∷ []) given after c.apply-answer.new.self.domains.items) (sym c.in_ok-push.ensures.ok)
+    (so_far_more c.args.config (take i events) c.loop-event.answers e c.apply-answer.result c.loop-event.table.domains.items c.apply-answer.new.self.domains.items before after begun c.loop-event.invariant c.apply-answer.ensures.applied))
 
 pub returns-clause-all : goal.returns-clause-all
 returns-clause-all c =
     let so_far = rw (take_all c.loop-event.event-index c.args.events.now c.loop-event-test.false) at c.loop-event.invariant in
-    answered_all c.args.config c.args.events.now c.loop-event.answers c.loop-event.outs.frames c.loop-event.table.domains.items so_far
+    answered_all c.args.config c.args.events.now c.loop-event.answers (lent c.loop-event.table c.loop-event.outs) c.loop-event.table.domains.items so_far
 
 pub returns-clause-alone : goal.returns-clause-alone
 returns-clause-alone c =
     let so_far = rw (take_all c.loop-event.event-index c.args.events.now c.loop-event-test.false) at c.loop-event.invariant in
-    served_alone c.args.config c.args.events.now (record { answers = c.loop-event.answers; given = c.in_ok-given.given }) c.loop-event.outs.frames c.loop-event.table.domains.items
+    served_alone c.args.config c.args.events.now (record { answers = c.loop-event.answers; given = c.in_ok-given.given }) (lent c.loop-event.table c.loop-event.outs) c.loop-event.table.domains.items
     (rw c.as_slice.ensures at c.in_ok-given.ensures)
     so_far

@@ -1,17 +1,12 @@
-use Rattle.std.proofs.Common.{refl}
-use Rattle.castd.proofs.Numbers.{number_read, number_not_read, odd_no_number}
+use Rattle.std.proofs.Common.{◌≡◌, refl, sym, ◌∙◌, arith}
+use Rattle.std.proofs.lemmas.Fmt.{decimal_injective}
 use Rattle.castd.proofs.words.number.Goals as goal
 
-pub returns-then-not-is_plain-clause-fault : goal.returns-then-not-is_plain-clause-fault
-returns-then-not-is_plain-clause-fault c = (
-  refl,
-  odd_no_number c.args.word.now (rw c.as_bytes.ensures.value at (c.is_plain.ensures.other c.if-not-is_plain.true)),
-)
-
-pub returns-in-Ok-clause-value : goal.returns-in-Ok-clause-value
-returns-in-Ok-clause-value c =
-    let plain = rw c.as_bytes.ensures.value at (c.is_plain.ensures.plain c.if-not-is_plain.false) in
-    number_read c.args.word.now c.in-Ok.value c.in-Ok.ensures.value.0 plain.0 plain.1
-
 pub returns-in-Err-clause-fault : goal.returns-in-Err-clause-fault
-returns-in-Err-clause-fault c = (refl, number_not_read c.args.word.now c.in-Err.ensures.value.0)
+returns-in-Err-clause-fault c =
+    let large = c.in_ok-long_number.field-0 in (
+      refl,
+      λ n small same.
+          let one : n ≡ large = decimal_injective n large (omega arith) (omega arith) (sym same ∙ c.in_ok-long_number.ensures.value) in
+          c.in-Err.ensures (omega (arith, one, small)),
+    )

@@ -10,8 +10,8 @@ use Rattle.cast_domain.proofs.Loops.{record_at_update, update_same, update_still
 use Rattle.cast_domain.proofs.domain.Domain.decide.Goals as goal
 
 pub returns-then-not-branch-clause-made : goal.returns-then-not-branch-clause-made
-returns-then-not-branch-clause-made c =
-    let r = records_of c.args.self.now c.args.outs.now in
+returns-then-not-branch-clause-made c part =
+    let r = records_of c.args.self.now part c.args.outs.now in
     let i = c.args.place in
     let x = record_at r.groups i in
     let not_now : may_decide x.home ≡ false = sym c.in_ok-decide_at.ensures.value ∙ c.if-not-branch.true in
@@ -21,8 +21,8 @@ returns-then-not-branch-clause-made c =
     ∙ sym (ap (λ b. if b then fold (send_install_in x.name (decided x.home)) (record r { groups = update r.groups i (λ y. record y { home = decided y.home }) }) (sites_of x.home.joins) else r) not_now)
 
 pub returns-then-not-branch-clause-still : goal.returns-then-not-branch-clause-still
-returns-then-not-branch-clause-still c _ =
-    let r = records_of c.args.self.now c.args.outs.now in
+returns-then-not-branch-clause-still c _ part =
+    let r = records_of c.args.self.now part c.args.outs.now in
     let i = c.args.place in
     let x = record_at r.groups i in
     let not_now : may_decide x.home ≡ false = sym c.in_ok-decide_at.ensures.value ∙ c.if-not-branch.true in
@@ -31,8 +31,8 @@ returns-then-not-branch-clause-still c _ =
     λ j. record r { groups = same j }
 
 pub returns-clause-made : goal.returns-clause-made
-returns-clause-made c =
-    let r = records_of c.args.self.now c.args.outs.now in
+returns-clause-made c part =
+    let r = records_of c.args.self.now part c.args.outs.now in
     let i = c.args.place in
     let x = record_at r.groups i in
     let now : may_decide x.home ≡ true = sym c.in_ok-decide_at.ensures.value ∙ c.if-not-branch.false in
@@ -44,6 +44,6 @@ returns-clause-made c =
     ap (λ xs. record_at xs i) groups ∙ record_at_update (λ y. record y { home = decided y.home }) r.groups i within in
     let sites : c.as_slice.result.now ≡ sites_of x.home.joins =
     c.as_slice.ensures ∙ c.in_ok-sites.ensures ∙ ap sites_of (c.list.ensures.value ∙ ap (λ y. y.home.members.list) (c.record.ensures ∙ there)) in
-    c.in_ok-send_installs.ensures
+    c.in_ok-send_installs.ensures part
     ∙ (λ j. fold (send_install_in (there j).name (there j).home) (record r { groups = groups j }) (sites j))
     ∙ sym (ap (λ b. if b then fold (send_install_in x.name (decided x.home)) (record r { groups = update r.groups i (λ y. record y { home = decided y.home }) }) (sites_of x.home.joins) else r) now)

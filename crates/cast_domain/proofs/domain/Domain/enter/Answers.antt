@@ -7,13 +7,13 @@ use Rattle.cast_domain.specs.Calls.{push_in, tell_in}
 use Rattle.cast_domain.proofs.domain.Domain.enter.Goals as goal
 
 pub returns-clause-made : goal.returns-clause-made
-returns-clause-made c o =
+returns-clause-made c o part =
     let p = c.args.process in
     let g = c.args.group in
     let n = c.args.view in
-    c.in_ok-push.ensures.made o
-    ∙ ap (λ m. push_in (records_of c.tell-2.new.self o) p.serial (push.View g n m)) c.in_ok-copy.ensures
+    c.in_ok-push.ensures.made o part
+    ∙ ap (λ m. push_in (records_of c.tell-2.new.self part o) p.serial (push.View g n m)) c.in_ok-copy.ensures
     ∙ ap (λ r. push_in r p.serial (push.View g n c.args.members.now))
-    (c.in_ok-tell-2.ensures.made o
+    (c.in_ok-tell-2.ensures.made o part
     ∙ ap (λ r. tell_in r p (fact.Standing g Member))
-    (c.in_ok-tell.ensures.made o ∙ ap (λ t. tell_in (records_of c.args.self.now o) p (fact.Time t)) c.in_ok-entered.ensures))
+    (c.in_ok-tell.ensures.made o part ∙ ap (λ t. tell_in (records_of c.args.self.now part o) p (fact.Time t)) c.in_ok-entered.ensures))

@@ -1,6 +1,7 @@
 use Rattle.std.proofs.Common.{◌≡◌, ◌∙◌, [], map, take, sym, ap, subst, arith}
 use Rattle.std.proofs.lemmas.List.{take_all}
 use Rattle.cast_domain.specs.State.{opening}
+use Rattle.cast_domain.specs.Shared.{no_part}
 use Rattle.cast_domain.specs.Records.{Records}
 use Rattle.cast_domain.specs.Run.{before_event}
 use Rattle.cast_domain.specs.Fits.{Fits, record_for}
@@ -23,8 +24,10 @@ returns-clause-begins c rising =
         used = 0;
         sessions = c.new-2.ensures.items j;
         groups = groups j;
-        got = c.new-3.ensures.items j;
-        delay = c.new-4.ensures j;
+        moment = c.first.ensures j;
+        part = no_part;
+        delay = c.new-3.ensures j;
+        acks = c.new-4.ensures j;
         frames = [];
         delivered = [];
       })) (fits_before here config);

@@ -1,7 +1,8 @@
 use Rattle.cast_domain.specs.State.{State}
 use Rattle.cast_domain.specs.Rest.{pass}
 use Rattle.cast_domain.specs.Fits.{Fits, IsLawful}
-use Rattle.cast_domain.specs.Records.{Keeps, records_of}
+use Rattle.cast_domain.specs.Records.{Keeps, records_in}
+use Rattle.cast_domain.specs.Shared.{LeavesOthers}
 use Rattle.cast_types.proofs.Iterates.{Led}
 use Rattle.cast_domain.proofs.Passes.{Stands}
 use Rattle.cast_domain.proofs.domain.Domain.rest.Given as goal
@@ -10,5 +11,6 @@ use Rattle.cast_domain.proofs.domain.Domain.rest.Given as goal
 abbrev pub invariant-loop-turn : goal.invariant-loop-turn
 invariant-loop-turn l = record {
   same : Keeps l.fn.self l.self;
-  led : (s : State) → Fits (records_of l.fn.self l.fn.outs) s → IsLawful s → Led Stands pass (records_of l.self l.outs) s;
+  others : LeavesOthers l.fn.self.config.domain l.fn.shared l.shared;
+  led : (s : State) → Fits (records_in l.fn.self l.fn.shared l.fn.outs) s → IsLawful s → Led Stands pass (records_in l.self l.shared l.outs) s;
 }

@@ -1,14 +1,15 @@
 use Rattle.std.proofs.Common.{◌≡◌, ◌∙◌, ap}
 use Rattle.std.specs.List.{fold}
-use Rattle.cast_domain.specs.Group.{members_of, other_sites}
-use Rattle.cast_domain.specs.Records.{records_of}
-use Rattle.cast_domain.specs.Calls.{receive_in, record_at, send_data_in}
+use Rattle.std.proofs.lemmas.Result.{on_ok_weaker}
+use Rattle.cast_stable.specs.Ledger.{others_in}
+use Rattle.cast_domain.specs.Records.{records_in}
+use Rattle.cast_domain.specs.Calls.{receive_in, send_data_in}
 use Rattle.cast_domain.proofs.domain.Domain.send_message.Goals as goal
 
 pub returns-clause-made : goal.returns-clause-made
 returns-clause-made c =
-    let here = c.args.self.now in
-    let sites : c.as_slice.result.now ≡ other_sites here.site (members_of (record_at here.groups.items c.args.place).here) =
-    c.as_slice.ensures ∙ c.in_ok-others.ensures ∙ ap (other_sites here.site) (c.members.ensures ∙ ap (λ x. members_of x.here) c.record.ensures) in
-    c.in_ok-receive.ensures.made c.send_data.new.outs
-    ∙ ap (λ r. receive_in r c.args.message) (c.in_ok-send_data.ensures ∙ ap (fold (send_data_in c.args.message) (records_of here c.args.outs.now)) sites)
+    let r = records_in c.args.self.now c.args.shared.now c.args.outs.now in
+    let m = c.args.message in
+    let received : records_in c.receive.new.self c.receive.new.shared c.args.outs.now ≡ receive_in r m = c.in_ok-receive.ensures.made c.args.outs.now in
+    let others : c.others.result.now ≡ others_in r.acks m.id.group = c.others.ensures ∙ ap (λ x. others_in x.acks m.id.group) received in
+    on_ok_weaker c.send_data.result (λ made. made ∙ λ j. fold (send_data_in m.id) (received j) (others j)) c.send_data.ensures.made

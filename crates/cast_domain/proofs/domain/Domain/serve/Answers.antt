@@ -1,32 +1,46 @@
 use Rattle.std.proofs.Common.{◌≡◌, ◌++◌, ◌∙◌, sym, ap, subst}
+use Rattle.cast_domain.specs.declared.config.DomainConfig.{DomainConfig}
 use Rattle.cast_domain.specs.Run.{before_event}
 use Rattle.cast_domain.specs.Step.{acted}
-use Rattle.cast_domain.specs.Records.{no_outs, outs_then, records_of}
+use Rattle.cast_domain.specs.State.{let_go}
+use Rattle.cast_domain.specs.Shared.{part_of}
+use Rattle.cast_domain.specs.Records.{no_outs, outs_then, records_in, records_of}
 use Rattle.cast_domain.specs.Stepped.{step_outs}
 use Rattle.cast_domain.specs.Calls.{act_in}
-use Rattle.cast_domain.specs.Fits.{Fits}
-use Rattle.cast_domain.proofs.Lawful.{lawful_before}
+use Rattle.cast_domain.specs.Fits.{Fits, IsLawful}
+use Rattle.cast_domain.proofs.Lawful.{lawful_before, lawful_let_go}
 use Rattle.cast_domain.proofs.LawfulSteps.{lawful_acted, lawful_rests}
 use Rattle.cast_domain.proofs.Events.{fits_acted, answer_acted}
 use Rattle.cast_domain.proofs.Passes.{fits_between}
+use Rattle.cast_domain.proofs.Releases.{unborn, fits_let_go}
 use Rattle.cast_domain.proofs.domain.Domain.serve.Goals as goal
 
 pub returns-clause-steps : goal.returns-clause-steps
 returns-clause-steps c s means =
     let here = c.args.self.now in
+    let part = part_of here.config.domain c.args.shared.now in
     let e = c.args.event.now in
     let before = c.args.outs.now in
-    let r = records_of here no_outs in
+    let r = records_of here part no_outs in
     let b = before_event s in
     let typed = c.in_ok-taken.ensures.typed in
     let lawful = lawful_before s means.lawful in
-    let made : records_of c.act.new.self c.act.new.outs ≡ act_in r e = c.in_ok-taken.ensures.made ∙ ap (λ o. act_in (records_of here o) e) c.new-step.ensures in
-    let after : Fits (records_of c.act.new.self c.act.new.outs) (acted b e).0 = subst (λ x. Fits x (acted b e).0) (sym made) (fits_acted r b e means.fits lawful typed) in
-    let rested = c.in_ok-rest.ensures.rests (acted b e).0 after (lawful_acted b e lawful typed) in
+    let acted_records = records_in c.act.new.self c.act.new.shared c.act.new.outs in
+    let made : acted_records ≡ act_in r e = c.in_ok-taken.ensures.made ∙ ap (λ o. act_in (records_of here part o) e) c.new-step.ensures in
+    let acts : Fits acted_records (acted b e).0 = subst (λ x. Fits x (acted b e).0) (sym made) (fits_acted r b e means.fits lawful typed) in
+    let acts_lawful : IsLawful (acted b e).0 = lawful_acted b e lawful (unborn r b means.fits) typed in
+    let after : Fits (records_in c.let_go.new.self c.let_go.new.shared c.act.new.outs) (let_go (acted b e).0) =
+    subst (λ x. Fits x (let_go (acted b e).0)) (sym (c.in_ok-let_go.ensures.made c.act.new.outs)) (fits_let_go acted_records (acted b e).0 acts acts_lawful) in
+    let after_lawful = lawful_let_go (acted b e).0 acts_lawful in
+    let rested = c.in_ok-rest.ensures.rests (let_go (acted b e).0) after after_lawful in
     let t = rested.0 in
     let fits = rested.2 in
     let added : outs_then before c.rest.new.outs ≡ outs_then before (step_outs t) =
     (λ j. record before { frames = before.frames ++ fits.frames j; delivered = before.delivered ++ fits.delivered j }) in
+    let last = part_of here.config.domain c.rest.new.shared in
+    let same : c.rest.new.self.config.domain ≡ here.config.domain = ap (λ (k : DomainConfig). k.domain) (c.in_ok-rest.ensures.same.config ∙ c.in_ok-let_go.ensures.same.config ∙ c.in_ok-taken.ensures.same.1) in
+    let fits_last : Fits (records_of c.rest.new.self last c.rest.new.outs) t =
+    subst (λ d. Fits (records_of c.rest.new.self (part_of d c.rest.new.shared) c.rest.new.outs) t) same fits in
     record {
       end = t;
       steps = record {
@@ -34,8 +48,8 @@ returns-clause-steps c s means =
         rests = rested.1;
       };
       means = record {
-        fits = fits_between (records_of c.rest.new.self c.rest.new.outs) t fits;
-        lawful = lawful_rests (acted b e).0 t (lawful_acted b e lawful typed) rested.1;
+        fits = fits_between (records_of c.rest.new.self last c.rest.new.outs) t fits_last;
+        lawful = lawful_rests (let_go (acted b e).0) t after_lawful rested.1;
       };
       outs = c.in_ok-append.ensures.ok ∙ added;
     }

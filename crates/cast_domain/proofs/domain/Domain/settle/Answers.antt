@@ -1,19 +1,20 @@
 use Rattle.std.proofs.Common.{◌<◌, ◌+◌, ◌-◌, ◌∙◌, ap, arith}
 use Rattle.std.specs.List.{fold, range_with_len}
 use Rattle.std.proofs.lemmas.Bool.{or_parts}
-use Rattle.cast_domain.specs.Records.{records_of}
+use Rattle.cast_domain.specs.Records.{records_in}
 use Rattle.cast_domain.specs.Calls.{deliver_all_in, settle_at}
-use Rattle.cast_domain.proofs.Loops.{keeps_then, fold_more}
+use Rattle.cast_domain.proofs.Loops.{keeps_then, others_then, fold_more}
 use Rattle.cast_domain.proofs.domain.Domain.settle.Goals as goal
 
 pub loop-earlier-preserved : goal.loop-earlier-preserved
 loop-earlier-preserved c =
-    let r = records_of c.loop-earlier.self c.loop-earlier.outs in
+    let r = records_in c.loop-earlier.self c.loop-earlier.shared c.loop-earlier.outs in
     let i = c.loop-earlier.earlier in
     let n = c.args.self.now.used in
     let within : i < n = omega arith in
     record {
       same = keeps_then _ _ _ c.loop-earlier.invariant.same c.in_ok-delivered.ensures.same;
+      others = others_then c.args.self.now c.loop-earlier.self _ _ _ c.loop-earlier.invariant.same c.loop-earlier.invariant.others c.in_ok-delivered.ensures.others;
       left =
           ap (λ x. fold settle_at x (range_with_len (i + 1) (n - (i + 1)))) (c.in_ok-delivered.ensures.made ∙ ap (deliver_all_in r) c.process-process.ensures)
           ∙ fold_more settle_at r i n within ∙ c.loop-earlier.invariant.left;

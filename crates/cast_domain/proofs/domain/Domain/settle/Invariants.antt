@@ -1,13 +1,15 @@
 use Rattle.std.proofs.Common.{◌≡◌, ◌-◌, false}
 use Rattle.std.specs.List.{fold, range_with_len}
 use Rattle.cast_domain.specs.Calls.{settle_at, settle_in}
-use Rattle.cast_domain.specs.Records.{Keeps, records_of}
+use Rattle.cast_domain.specs.Records.{Keeps, records_in}
+use Rattle.cast_domain.specs.Shared.{LeavesOthers}
 use Rattle.cast_domain.proofs.domain.Domain.settle.Given as goal
 
 -- the processes that are left lead to the same records
 abbrev pub invariant-loop-earlier : goal.invariant-loop-earlier
 invariant-loop-earlier l = record {
   same : Keeps l.fn.self l.self;
-  left : fold settle_at (records_of l.self l.outs) (range_with_len l.earlier (l.fn.self.used - l.earlier)) ≡ settle_in (records_of l.fn.self l.fn.outs);
-  still : l.changed ≡ false → records_of l.self l.outs ≡ records_of l.fn.self l.fn.outs;
+  others : LeavesOthers l.fn.self.config.domain l.fn.shared l.shared;
+  left : fold settle_at (records_in l.self l.shared l.outs) (range_with_len l.earlier (l.fn.self.used - l.earlier)) ≡ settle_in (records_in l.fn.self l.fn.shared l.fn.outs);
+  still : l.changed ≡ false → records_in l.self l.shared l.outs ≡ records_in l.fn.self l.fn.shared l.fn.outs;
 }

@@ -1,6 +1,7 @@
 use Rattle.std.proofs.Common.{◌≡◌, drop}
 use Rattle.std.specs.List.{fold}
 use Rattle.cast_domain.specs.declared.event.Outs.{Outs}
+use Rattle.cast_domain.specs.Shared.{Part}
 use Rattle.cast_domain.specs.Calls.{take_in}
 use Rattle.cast_domain.specs.Records.{Keeps, records_of}
 use Rattle.cast_domain.proofs.domain.Domain.take_all_in.Given as goal
@@ -9,7 +10,7 @@ use Rattle.cast_domain.proofs.domain.Domain.take_all_in.Given as goal
 abbrev pub invariant-loop-process : goal.invariant-loop-process
 invariant-loop-process l = record {
   same : Keeps l.fn.self l.self;
-  left : (o : Outs) →
-      fold (take_in l.group l.view l.members l.request) (records_of l.self o) (drop l.process-index l.process-items)
-      ≡ fold (take_in l.group l.view l.members l.request) (records_of l.fn.self o) l.process-items;
+  left : (o : Outs) (part : Part) →
+      fold (take_in l.group l.view l.members l.request) (records_of l.self part o) (drop l.process-index l.process-items)
+      ≡ fold (take_in l.group l.view l.members l.request) (records_of l.fn.self part o) l.process-items;
 }

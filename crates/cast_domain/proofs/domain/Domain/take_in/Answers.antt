@@ -8,11 +8,11 @@ use Rattle.cast_domain.specs.Calls.{enter_in, standing_of}
 use Rattle.cast_domain.proofs.domain.Domain.take_in.Goals as goal
 
 pub returns-in_ok-enter-clause-made : goal.returns-in_ok-enter-clause-made
-returns-in_ok-enter-clause-made c o =
-    let r = records_of c.args.self.now o in
+returns-in_ok-enter-clause-made c o part =
+    let r = records_of c.args.self.now part o in
     let p = c.args.process in
     let g = c.args.group in
     let here : site_eq p.site r.site ≡ true = cc in
     let taken : is_taken_in c.args.request (standing_of r.delay p g) ≡ true = sym c.is_taken_in.ensures ∙ c.if-is_taken_in.true in
-    c.in_ok-enter.ensures.made o
+    c.in_ok-enter.ensures.made o part
     ∙ sym (ap (λ b. if b then enter_in g c.args.view c.args.members.now r p else r) (and_from _ _ here taken))

@@ -1,69 +1,55 @@
-use Rattle.std.proofs.Common.{◌≡◌, ◌<◌, true, length, get_or, ap, rules, Some, None}
-use Rattle.std.specs.Option.{option_map}
-use Rattle.std.specs.List.{position, remove}
-use Rattle.std.proofs.lemmas.List.Quantifiers.{position-Some}
-use Rattle.cast_store.specs.declared.store.Stored.{Stored}
-use Rattle.cast_store.specs.Store.{is_of, is_under, message_in}
-use Rattle.cast_store.proofs.Finds.{find_place, find_no_place, find_remove_no, count_remove_yes}
-use Rattle.cast_store.proofs.Keys.{rises_remove, none_left, not_at_other, remove_changes, under_parts}
+use Rattle.std.proofs.Common.{◌≡◌, ◌∙◌, List, get_or, Some, None, ap, sym, refl}
+use Rattle.std.specs.List.{position}
+use Rattle.cast_frame.specs.declared.message.Received.{Received}
+use Rattle.cast_frame.specs.Receipts.{message_under}
+use Rattle.cast_store.specs.Store.{Shelf, is_of, kept_in, next_in, without_key, but_under}
+use Rattle.cast_store.proofs.Shelves.{empty, kept_at, next_at, kept_absent, kept_changed, next_changed, others_changed}
 use Rattle.cast_store.proofs.store.Store.remove.Goals as goal
 
--- where no message was found
-missing : (c : goal.After-from_residual) → message_in c.args.self.now c.args.domain c.args.key ≡ None
-missing c =
-    let none : position (is_under c.args.domain c.args.key) c.args.self.now ≡ None = search rules in
-    ap (option_map (λ (x : Stored). x.message)) (find_no_place (is_under c.args.domain c.args.key) c.args.self.now none)
+-- a domain with a shelf
+placed : (c : goal.After-remove_at) → position (is_of c.args.domain) c.self.inside.rows.items ≡ Some c.in-Some.place
+placed c = cc
 
-pub returns-in_err-place-clause-value : goal.returns-in_err-place-clause-value
-returns-in_err-place-clause-value c = let none = missing c in cc
+kept_here : (c : goal.After-remove_at) → kept_in c.self.inside.rows.items c.args.domain ≡ (get_or c.self.inside.rows.items c.in-Some.place (empty c.args.domain)).kept
+kept_here c = kept_at c.args.domain c.self.inside.rows.items c.in-Some.place (empty c.args.domain) (placed c)
 
-pub returns-in_err-place-clause-gone : goal.returns-in_err-place-clause-gone
-returns-in_err-place-clause-gone c = missing c
+next_here : (c : goal.After-remove_at) → next_in c.self.inside.rows.items c.args.domain ≡ (get_or c.self.inside.rows.items c.in-Some.place (empty c.args.domain)).next
+next_here c = next_at c.args.domain c.self.inside.rows.items c.in-Some.place (empty c.args.domain) (placed c)
 
--- where it was found, and what is left
-found : (c : goal.After-remove-removed) → position (is_under c.args.domain c.args.key) c.args.self.now ≡ Some c.in_ok-place.place
-found c = search rules
+pub returns-in-Some-clause-value : goal.returns-in-Some-clause-value
+returns-in-Some-clause-value c =
+    rw (← c.self.view_is)
+    (c.remove_at.ensures.value (empty c.args.domain) ∙ ap (λ (kept : List Received). message_under kept c.args.key) (sym (kept_here c)))
 
-left : (c : goal.After-remove-removed) → c.remove-removed.new.self.items ≡ remove c.args.self.now c.in_ok-place.place
-left c = search rules
+pub returns-in-Some-clause-kept : goal.returns-in-Some-clause-kept
+returns-in-Some-clause-kept c =
+    let d = c.args.domain in
+    rw (← c.self.view_is)
+    (ap (λ (store : List Shelf). kept_in store d) c.remove_at.ensures.left
+    ∙ kept_changed (without_key c.args.key) (λ s. refl) d c.self.inside.rows.items c.in-Some.place (placed c) (empty d)
+    ∙ ap (but_under c.args.key) (sym (kept_here c)))
 
--- the message that was there
-place : (c : goal.After-remove-removed) →
-    (c.in_ok-place.place < length c.args.self.now) × (is_under c.args.domain c.args.key (get_or c.args.self.now c.in_ok-place.place c.remove-removed.result) ≡ true)
-place c =
-    let first = position-Some (is_under c.args.domain c.args.key) c.args.self.now c.in_ok-place.place c.remove-removed.result (found c) in
-    (first.0, first.1)
+pub returns-in-Some-clause-next : goal.returns-in-Some-clause-next
+returns-in-Some-clause-next c =
+    let d = c.args.domain in
+    rw (← c.self.view_is)
+    (ap (λ (store : List Shelf). next_in store d) c.remove_at.ensures.left
+    ∙ next_changed (without_key c.args.key) (λ s. refl) d c.self.inside.rows.items c.in-Some.place (placed c) (empty d)
+    ∙ sym (next_here c))
 
-pub invariant_of-self : goal.invariant_of-self
-invariant_of-self c =
-    rw (left c, ← c.self.view_is) (rises_remove 0 c.self.inside.stored.items c.self.inside.next c.in_ok-place.place (rw c.self.view_is ((place c).0)) c.self.invariant)
+pub returns-in-Some-clause-others : goal.returns-in-Some-clause-others
+returns-in-Some-clause-others c e differ =
+    rw (c.remove_at.ensures.left, ← c.self.view_is)
+    (others_changed (without_key c.args.key) (λ s. refl) c.args.domain c.self.inside.rows.items c.in-Some.place (placed c) e differ)
 
-pub returns-clause-value : goal.returns-clause-value
-returns-clause-value c =
-    let message = ap (option_map (λ (x : Stored). x.message)) (find_place (is_under c.args.domain c.args.key) c.args.self.now c.in_ok-place.place c.remove-removed.result (found c)) in
-    cc
+-- and one without
+pub returns-in-None-clause-value : goal.returns-in-None-clause-value
+returns-in-None-clause-value c =
+    let lacking : position (is_of c.args.domain) c.args.self.now ≡ None = cc in
+    sym (ap (λ (kept : List Received). message_under kept c.args.key) (kept_absent c.args.domain c.args.self.now lacking))
 
-pub returns-clause-gone : goal.returns-clause-gone
-returns-clause-gone c =
-    let message = none_left c.args.domain c.args.key 0 c.self.inside.stored.items c.self.inside.next c.in_ok-place.place c.remove-removed.result
-    (rw c.self.view_is ((place c).0)) (rw c.self.view_is ((place c).1)) c.self.invariant in
-    rw (left c, ← c.self.view_is) (ap (option_map (λ (x : Stored). x.message)) message)
-
-pub returns-clause-rest : goal.returns-clause-rest
-returns-clause-rest c k differ =
-    let there = place c in
-    let s = get_or c.args.self.now c.in_ok-place.place c.remove-removed.result in
-    let apart = not_at_other c.args.domain k c.args.key s differ ((under_parts c.args.domain c.args.key s there.1).1) in
-    rw (left c) (ap (option_map (λ (x : Stored). x.message)) (find_remove_no (is_under c.args.domain k) c.args.self.now c.in_ok-place.place c.remove-removed.result there.0 apart))
-
-pub returns-clause-held : goal.returns-clause-held
-returns-clause-held c =
-    let there = place c in
-    let under = under_parts c.args.domain c.args.key (get_or c.args.self.now c.in_ok-place.place c.remove-removed.result) there.1 in
-    rw (left c) (count_remove_yes (is_of c.args.domain) c.args.self.now c.in_ok-place.place c.remove-removed.result there.0 under.0)
-
-pub returns-clause-others : goal.returns-clause-others
-returns-clause-others c =
-    let there = place c in
-    let under = under_parts c.args.domain c.args.key (get_or c.args.self.now c.in_ok-place.place c.remove-removed.result) there.1 in
-    rw (left c) (remove_changes c.args.domain c.args.self.now c.in_ok-place.place c.remove-removed.result there.0 under.0)
+pub returns-in-None-clause-kept : goal.returns-in-None-clause-kept
+returns-in-None-clause-kept c =
+    let lacking : position (is_of c.args.domain) c.args.self.now ≡ None = cc in
+    let none = kept_absent c.args.domain c.args.self.now lacking in
+    none ∙ sym (ap (but_under c.args.key) none)

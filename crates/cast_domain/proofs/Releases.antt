@@ -1,0 +1,312 @@
+-- What a domain's records let go is what the history lets go that they stand for.
+use Rattle.std.proofs.Common.{◌≡◌, ℕ, zero, suc, ◌+◌, ◌<◌, ◌≤◌, Bool, true, false, cond, not, ◌&&◌, ◌||◌, List, [], ◌∷◌, map, Contains, Option, Some, None, unwrap_or, refl, sym, ap, subst, ◌∙◌, inl, inr, arith}
+use Rattle.std.specs.Prelude.{◌==◌, nat_lt, filter}
+use Rattle.std.specs.List.{fold, find, list_any, list_all, range_with_len}
+use Rattle.std.specs.Option.{option_map, option_map_or}
+use Rattle.std.proofs.lemmas.Bool.{cases_Bool, false≢true, and_parts, or_cases, or_left, or_right, eqb-true, eq-eqb, false_from_ne_true}
+use Rattle.std.proofs.lemmas.List.Elements.{Contains-push, Contains-append_left, Contains-append_right}
+use Rattle.std.proofs.lemmas.Option.{none-some, same_Some}
+use Rattle.cast_types.specs.declared.names.GroupNo.{GroupNo}
+use Rattle.cast_types.specs.declared.names.Proc.{Proc}
+use Rattle.cast_types.specs.declared.names.Key.{Key}
+use Rattle.cast_types.specs.declared.names.Uid.{Uid}
+use Rattle.cast_types.specs.Names.{site_eq, proc_eq}
+use Rattle.cast_types.proofs.Orders.{proc_itself}
+use Rattle.cast_frame.specs.declared.message.Message.{Message}
+use Rattle.cast_frame.specs.declared.message.Received.{Received}
+use Rattle.cast_frame.specs.Receipts.{key_eq, messages, message_under}
+use Rattle.cast_delay.specs.declared.row.Row.{Row}
+use Rattle.cast_delay.specs.declared.offered.Offered.{Offered}
+use Rattle.cast_delay.specs.Ready.{Process, Gate, is_member, has_delivered}
+use Rattle.cast_delay.specs.Rows.{standing_in, done_in}
+use Rattle.cast_delay.specs.Queue.{Queue, new_row, row_of, is_awaited}
+use Rattle.cast_delay.specs.Fits.{Fits as QueueFits}
+use Rattle.cast_delay.proofs.Queues.{forget_fits, awaited_by}
+use Rattle.cast_stable.proofs.Meanings.{stable_meant}
+use Rattle.cast_domain.specs.declared.record.GroupRecord.{GroupRecord}
+use Rattle.cast_domain.specs.Group.{has_view, is_current}
+use Rattle.cast_domain.specs.State.{State, local, others_of, is_free, local_members, let_go, gate_of}
+use Rattle.cast_domain.specs.Records.{Records}
+use Rattle.cast_domain.specs.Calls.{place_in, record_at, is_current_in, is_free_in, release_in, let_go_in}
+use Rattle.cast_domain.specs.Fits.{process_named, Fits, IsLawful}
+use Rattle.cast_domain.proofs.Totals.{In}
+use Rattle.cast_domain.proofs.Standing.{record_there, place_some, place_none, process_here}
+
+-- Rows and serials
+
+abbrev pub names_of : List Row → List Proc
+names_of rows = map (λ row. row.process) rows
+
+serial_of : (s : State) (a b : ℕ) → local s a ≡ local s b → a ≡ b
+serial_of s a b same = ap (λ (p : Proc). p.serial) same
+
+other_name : (s : State) (row : Row) (a k : ℕ) → row.process ≡ local s a → a < k → proc_eq row.process (local s k) ≡ false
+other_name s row a k is below =
+    ap (λ p. proc_eq p (local s k)) is
+    ∙ false_from_ne_true (proc_eq (local s a) (local s k)) (λ same. let serials = eqb-true a k (and_parts (site_eq s.here s.here) (a == k) same).1 in absurd (omega (arith, serials, below)))
+
+-- where the rows are those of serials in order, each is the first of its process
+pub row_found : (s : State) (rows : List Row) (a n : ℕ) → names_of rows ≡ map (local s) (range_with_len a n) → (row : Row) → In row rows → (k : ℕ) × (a ≤ k) × (row.process ≡ local s k) × (row_of rows (local s k) ≡ Some row)
+row_found s [] a n names row at = absurd at
+row_found s (x ∷ rows) a zero names row at = absurd (no_names names)
+  where
+    no_names : x.process ∷ names_of rows ≡ [] → ⊥
+    no_names e = cc
+row_found s (x ∷ rows) a (suc n) names row (inl here) =
+    let first : x.process ≡ local s a = cc in (
+      a,
+      omega arith,
+      ap (λ (y : Row). y.process) here ∙ first,
+      ap (λ b. cond b (Some x) (row_of rows (local s a))) (ap (λ p. proc_eq p (local s a)) first ∙ proc_itself (local s a)) ∙ ap Some (sym here),
+    )
+row_found s (x ∷ rows) a (suc n) names row (inr there) =
+    let first : x.process ≡ local s a = cc in
+    let rest : names_of rows ≡ map (local s) (range_with_len (a + 1) n) = cc in
+    let found = row_found s rows (a + 1) n rest row there in (
+      found.0,
+      omega (arith, found.1),
+      found.2,
+      ap (λ b. cond b (Some x) (row_of rows (local s found.0))) (other_name s x a found.0 first (omega (arith, found.1))) ∙ found.3,
+    )
+
+-- no row is that of a serial that comes later
+pub row_none : (s : State) (rows : List Row) (a n k : ℕ) → names_of rows ≡ map (local s) (range_with_len a n) → a + n ≤ k → row_of rows (local s k) ≡ None
+row_none s [] a n k names past = refl
+row_none s (x ∷ rows) a zero k names past = absurd (no_names names)
+  where
+    no_names : x.process ∷ names_of rows ≡ [] → ⊥
+    no_names e = cc
+row_none s (x ∷ rows) a (suc n) k names past =
+    let first : x.process ≡ local s a = cc in
+    let rest : names_of rows ≡ map (local s) (range_with_len (a + 1) n) = cc in
+    ap (λ b. cond b (Some x) (row_of rows (local s k))) (other_name s x a k first (omega (arith, past)))
+    ∙ row_none s rows (a + 1) n k rest (omega (arith, past))
+
+-- Who awaits a message
+
+abbrev awaits : Uid → Row → Bool
+awaits u row = is_member (standing_in row u.group) && nat_lt (done_in row u.group u.view u.proc) u.count
+
+-- a row awaits what its process is to deliver
+awaits_as : (r : Records) (s : State) → Fits r s → (u : Uid) → 0 < u.count → (row : Row) (k : ℕ) → row_of r.delay.rows (local s k) ≡ Some row → awaits u row ≡ (is_member ((s.process k).standing u.group) && not (has_delivered (s.process k) u))
+awaits_as r s fits u counted row k at =
+    awaited_by s.config.groups (gate_of s) (process_named s) r.part.kept r.delay fits.delay (local s k) row at u counted
+    ∙ ap (λ p. is_member (p.standing u.group) && not (has_delivered p u)) (process_here s k)
+
+one_less : (m d some rest : Bool) (a b : List ℕ) (k : ℕ) (test : ℕ → Bool) → test k ≡ d → not some ≡ list_all test a → not ((m && not d) || some) ≡ list_all test (cond m (k ∷ a) a)
+one_less true true some rest a b k test is same = same ∙ sym (ap (λ x. x && list_all test a) is)
+one_less true false some rest a b k test is same = sym (ap (λ x. x && list_all test a) is)
+one_less false d some rest a b k test is same = same
+
+-- no row awaits a message where each local member has delivered it
+awaited_rows : (r : Records) (s : State) → Fits r s → (u : Uid) → 0 < u.count → (rows : List Row) (a n : ℕ) → names_of rows ≡ map (local s) (range_with_len a n) → ((row : Row) → In row rows → (k : ℕ) → row.process ≡ local s k → row_of r.delay.rows (local s k) ≡ Some row) → not (list_any (awaits u) rows) ≡ list_all (λ k. has_delivered (s.process k) u) (filter (λ k. is_member ((s.process k).standing u.group)) (range_with_len a n))
+awaited_rows r s fits u counted [] a zero names at = refl
+awaited_rows r s fits u counted [] a (suc n) names at = absurd (no_names names)
+  where
+    no_names : [] ≡ local s a ∷ map (local s) (range_with_len (a + 1) n) → ⊥
+    no_names e = cc
+awaited_rows r s fits u counted (x ∷ rows) a zero names at = absurd (no_names names)
+  where
+    no_names : x.process ∷ names_of rows ≡ [] → ⊥
+    no_names e = cc
+awaited_rows r s fits u counted (x ∷ rows) a (suc n) names at =
+    let first : x.process ≡ local s a = cc in
+    let rest : names_of rows ≡ map (local s) (range_with_len (a + 1) n) = cc in
+    ap (λ b. not (b || list_any (awaits u) rows)) (awaits_as r s fits u counted x a (at x (inl refl) a first))
+    ∙ one_less (is_member ((s.process a).standing u.group)) (has_delivered (s.process a) u) (list_any (awaits u) rows) true
+    (filter (λ k. is_member ((s.process k).standing u.group)) (range_with_len (a + 1) n)) [] a (λ k. has_delivered (s.process k) u) refl
+    (awaited_rows r s fits u counted rows (a + 1) n rest (λ row there. at row (inr there)))
+
+pub awaited_same : (r : Records) (s : State) → Fits r s → (u : Uid) → 0 < u.count → not (is_awaited r.delay.rows u) ≡ list_all (λ k. has_delivered (s.process k) u) (local_members s u.group)
+awaited_same r s fits u counted =
+    awaited_rows r s fits u counted r.delay.rows 1 s.used fits.rows
+    (λ row there k is.
+    let found = row_found s r.delay.rows 1 s.used fits.rows row there in
+    let same : found.0 ≡ k = serial_of s found.0 k (sym found.2 ∙ is) in
+    subst (λ j. row_of r.delay.rows (local s j) ≡ Some row) same found.3)
+
+-- the process of a serial that is to come is in no group
+pub unborn : (r : Records) (s : State) → Fits r s → (g : GroupNo) → is_member ((s.process (s.used + 1)).standing g) ≡ false
+unborn r s fits g =
+    let p : Proc = local s (s.used + 1) in
+    let none = row_none s r.delay.rows 1 s.used (s.used + 1) fits.rows (omega arith) in
+    ap (λ q. is_member (q.standing g)) (sym (process_here s (s.used + 1)))
+    ∙ ap is_member (sym ((fits.delay.rows p).standing g))
+    ∙ ap (λ (o : Option Row). is_member (standing_in (unwrap_or o (new_row p)) g)) none
+
+-- What is free
+
+current_same : (r : Records) (s : State) → Fits r s → IsLawful s → (u : Uid) → is_current_in r u ≡ is_current (s.group u.group) u.view
+current_same r s fits l u =
+    elim (place_in r u.group) as (λ o. place_in r u.group ≡ o → option_map_or (λ i. is_current (record_at r.groups i).here u.view) o false ≡ is_current (s.group u.group) u.view) [
+      | Some i ↦ λ is. ap (λ (x : GroupRecord). is_current x.here u.view) (record_there r s fits i u.group (place_some r s fits u.group i is).0)
+      | None ↦ λ is. sym (ap (λ b. b && ((s.group u.group).number == u.view)) (false_from_ne_true (has_view (s.group u.group)) (λ seen. false≢true (sym (place_none r s fits u.group is) ∙ l.listed u.group seen))))
+    ] refl
+
+pub free_same : (r : Records) (s : State) → Fits r s → IsLawful s → (u : Uid) → 0 < u.count → is_free_in r u ≡ is_free s u
+free_same r s fits l u counted = λ i.
+    current_same r s fits l u i
+    && (stable_meant s.here (others_of s) (map (λ m. m.id) s.got) s.acks s.told r.acks fits.acks u counted i
+    && awaited_same r s fits u counted i)
+
+-- Keys
+
+-- messages, or what is offered, but for those under some keys
+abbrev drop_kept : List Received → Key → List Received
+drop_kept xs key = filter (λ x. not (key_eq x.key key)) xs
+
+abbrev drop_offered : List Offered → Key → List Offered
+drop_offered xs key = filter (λ x. not (key_eq x.key key)) xs
+
+-- all releases at once
+fold_release : (keys : List Key) (r : Records) → fold release_in r keys ≡ record r { part = record r.part { kept = fold drop_kept r.part.kept keys }; delay = record r.delay { offered = fold drop_offered r.delay.offered keys } }
+fold_release [] r = refl
+fold_release (key ∷ keys) r = fold_release keys (release_in r key)
+
+abbrev is_key : List Key → Key → Bool
+is_key keys key = list_any (key_eq key) keys
+
+filter_twice : {X : Type 0} (f g : X → Bool) (xs : List X) → filter f (filter g xs) ≡ filter (λ x. g x && f x) xs
+filter_twice f g [] = refl
+filter_twice f g (x ∷ xs) = elim (g x) as (λ b. filter f (cond b (x ∷ filter g xs) (filter g xs)) ≡ cond (b && f x) (x ∷ filter (λ y. g y && f y) xs) (filter (λ y. g y && f y) xs)) [
+  | true ↦ ap (λ ys. cond (f x) (x ∷ ys) ys) (filter_twice f g xs)
+  | false ↦ filter_twice f g xs
+]
+
+filter_same : {X : Type 0} (f g : X → Bool) (xs : List X) → ((x : X) → In x xs → f x ≡ g x) → filter f xs ≡ filter g xs
+filter_same f g [] same = refl
+filter_same f g (x ∷ xs) same = λ i. cond (same x (inl refl) i) (x ∷ filter_same f g xs (λ y at. same y (inr at)) i) (filter_same f g xs (λ y at. same y (inr at)) i)
+
+filter_all : {X : Type 0} (f : X → Bool) (xs : List X) → ((x : X) → f x ≡ true) → filter f xs ≡ xs
+filter_all f [] all = refl
+filter_all f (x ∷ xs) all = ap (λ b. cond b (x ∷ filter f xs) (filter f xs)) (all x) ∙ ap (λ ys. x ∷ ys) (filter_all f xs all)
+
+neither : (a b : Bool) → (not a && not b) ≡ not (a || b)
+neither true b = refl
+neither false b = refl
+
+fold_drop : (keys : List Key) (xs : List Received) → fold drop_kept xs keys ≡ filter (λ x. not (is_key keys x.key)) xs
+fold_drop [] xs = sym (filter_all (λ (x : Received). not (is_key [] x.key)) xs (λ x. refl))
+fold_drop (key ∷ keys) xs =
+    fold_drop keys (drop_kept xs key)
+    ∙ filter_twice (λ (x : Received). not (is_key keys x.key)) (λ (x : Received). not (key_eq x.key key)) xs
+    ∙ filter_same (λ (x : Received). not (key_eq x.key key) && not (is_key keys x.key)) (λ (x : Received). not (is_key (key ∷ keys) x.key)) xs (λ x at. neither (key_eq x.key key) (is_key keys x.key))
+
+-- the keys of messages that pass a test
+abbrev keys_of : (Message → Bool) → List Received → List Key
+keys_of test xs = map (λ x. x.key) (filter (λ x. test x.message) xs)
+
+same_key : (a b : Key) → key_eq a b ≡ true → a ≡ b
+same_key a b e = ap (λ n. record { 0 = n }) (eqb-true a.0 b.0 e)
+
+-- a message that passes has its key among them
+key_passes : (test : Message → Bool) (xs : List Received) (x : Received) → In x xs → test x.message ≡ true → is_key (keys_of test xs) x.key ≡ true
+key_passes test [] x at pass = absurd at
+key_passes test (y ∷ xs) x (inl here) pass =
+    ap (λ b. is_key (map (λ z. z.key) (cond b (y ∷ filter (λ z. test z.message) xs) (filter (λ z. test z.message) xs))) x.key) (ap (λ (z : Received). test z.message) (sym here) ∙ pass)
+    ∙ or_left (key_eq x.key y.key) (is_key (keys_of test xs) x.key) (ap (λ (z : Received). key_eq x.key z.key) (sym here) ∙ eq-eqb x.key.0 x.key.0 refl)
+key_passes test (y ∷ xs) x (inr there) pass =
+    let later = key_passes test xs x there pass in
+    elim (test y.message) as (λ b. is_key (map (λ z. z.key) (cond b (y ∷ filter (λ z. test z.message) xs) (filter (λ z. test z.message) xs))) x.key ≡ true) [
+      | true ↦ or_right (key_eq x.key y.key) (is_key (keys_of test xs) x.key) later
+      | false ↦ later
+    ]
+
+-- a key among them is that of a message that passes
+passes_key : (test : Message → Bool) (xs : List Received) (key : Key) → is_key (keys_of test xs) key ≡ true → (y : Received) × In y xs × (test y.message ≡ true) × (y.key ≡ key)
+passes_key test [] key at = absurd (false≢true at)
+passes_key test (y ∷ xs) key at =
+    elim (test y.message) as (λ b. test y.message ≡ b → is_key (map (λ z. z.key) (cond b (y ∷ filter (λ z. test z.message) xs) (filter (λ z. test z.message) xs))) key ≡ true → (z : Received) × In z (y ∷ xs) × (test z.message ≡ true) × (z.key ≡ key)) [
+      | true ↦ λ pass h. elim (or_cases (key_eq key y.key) (is_key (keys_of test xs) key) h) [
+        | inl here ↦ (y, inl refl, pass, sym (same_key key y.key here))
+        | inr later ↦ let z = passes_key test xs key later in (z.0, inr z.1, z.2, z.3)
+      ]
+      | false ↦ λ _ h. let z = passes_key test xs key h in (z.0, inr z.1, z.2, z.3)
+    ] refl at
+
+-- where each message stands under its key, it is the key of one that passes exactly if the message passes
+key_is : (test : Message → Bool) (xs : List Received) → ((x : Received) → In x xs → message_under xs x.key ≡ Some x.message) → (x : Received) → In x xs → is_key (keys_of test xs) x.key ≡ test x.message
+key_is test xs named x at =
+    elim (cases_Bool (test x.message)) [
+      | inl pass ↦ key_passes test xs x at pass ∙ sym pass
+      | inr fail ↦ false_from_ne_true (is_key (keys_of test xs) x.key) (λ is.
+          let y = passes_key test xs x.key is in
+          let same : y.0.message ≡ x.message = same_Some y.0.message x.message (sym (named y.0 y.1) ∙ ap (message_under xs) y.3 ∙ named x at) in
+          false≢true (sym fail ∙ ap test (sym same) ∙ y.2)) ∙ sym fail
+    ]
+
+messages_filter : (test : Message → Bool) (xs : List Received) → messages (filter (λ x. test x.message) xs) ≡ filter test (messages xs)
+messages_filter test [] = refl
+messages_filter test (x ∷ xs) = elim (test x.message) as (λ b. messages (cond b (x ∷ filter (λ y. test y.message) xs) (filter (λ y. test y.message) xs)) ≡ cond b (x.message ∷ filter test (messages xs)) (filter test (messages xs))) [
+  | true ↦ ap (λ ms. x.message ∷ ms) (messages_filter test xs)
+  | false ↦ messages_filter test xs
+]
+
+in_contains : {X : Type 0} (x : X) (xs : List X) → In x xs → Contains xs x
+in_contains x [] at = absurd at
+in_contains x (y ∷ xs) (inl here) = subst (Contains (y ∷ xs)) (sym here) (Contains-append_left (y ∷ []) xs y (Contains-push [] y))
+in_contains x (y ∷ xs) (inr there) = Contains-append_right (y ∷ []) xs x (in_contains x xs there)
+
+-- What is let go
+
+-- the queue forgets what is released
+forgets : (keys : List Key) (groups : List GroupNo) (gate : GroupNo → Gate) (processes : Proc → Process) (kept : List Received) (q : Queue) → QueueFits groups gate processes kept q → QueueFits groups gate processes (fold drop_kept kept keys) (record q { offered = fold drop_offered q.offered keys })
+forgets [] groups gate processes kept q fits = fits
+forgets (key ∷ keys) groups gate processes kept q fits =
+    forgets keys groups gate processes (drop_kept kept key) (record q { offered = drop_offered q.offered key }) (forget_fits groups gate processes kept q fits key)
+
+-- no key is free that was not
+still_fresh : (keys : List Key) (kept : List Received) (n : ℕ) → message_under kept (record { 0 = n }) ≡ None → message_under (fold drop_kept kept keys) (record { 0 = n }) ≡ None
+still_fresh [] kept n none = none
+still_fresh (key ∷ keys) kept n none = still_fresh keys (drop_kept kept key) n (filter_none kept none)
+  where
+    filter_none : (xs : List Received) → message_under xs (record { 0 = n }) ≡ None → message_under (drop_kept xs key) (record { 0 = n }) ≡ None
+    filter_none [] none = refl
+    filter_none (x ∷ xs) none =
+        elim (cases_Bool (key_eq x.key (record { 0 = n }))) [
+          | inl here ↦ absurd (none-some x.message (sym none ∙ ap (λ b. option_map (λ (y : Received). y.message) (cond b (Some x) (find (λ y. key_eq y.key (record { 0 = n })) xs))) here))
+          | inr other ↦
+              let rest = filter_none xs (sym (ap (λ b. option_map (λ (y : Received). y.message) (cond b (Some x) (find (λ y. key_eq y.key (record { 0 = n })) xs))) other) ∙ none) in
+              elim (not (key_eq x.key key)) as (λ b. message_under (cond b (x ∷ drop_kept xs key) (drop_kept xs key)) (record { 0 = n }) ≡ None) [
+                | true ↦ ap (λ b. option_map (λ (y : Received). y.message) (cond b (Some x) (find (λ y. key_eq y.key (record { 0 = n })) (drop_kept xs key)))) other ∙ rest
+                | false ↦ rest
+              ]
+        ]
+
+-- free messages are let go on both sides
+pub fits_let_go : (r : Records) (s : State) → Fits r s → IsLawful s → Fits (let_go_in r) (let_go s)
+fits_let_go r s fits l =
+    subst (λ x. Fits x (let_go s)) (sym (fold_release keys r))
+    (record {
+      site = fits.site;
+      config = fits.config;
+      used = fits.used;
+      given = fits.given;
+      sessions = fits.sessions;
+      all_open = fits.all_open;
+      groups = fits.groups;
+      moment = fits.moment;
+      kept = kept_now;
+      fresh = λ n past. still_fresh keys r.part.kept n (fits.fresh n past);
+      owed = fits.owed;
+      delay = forgets keys s.config.groups (gate_of s) (process_named s) r.part.kept r.delay fits.delay;
+      admitted = fits.admitted;
+      rows = fits.rows;
+      acks = fits.acks;
+      frames = fits.frames;
+      delivered = fits.delivered;
+    })
+  where
+    keys : List Key
+    keys = map (λ x. x.key) (filter (λ x. is_free_in r x.message.id) r.part.kept)
+
+    free_as : (x : Received) → In x r.part.kept → is_free_in r x.message.id ≡ is_free s x.message.id
+    free_as x at = free_same r s fits l x.message.id (fits.delay.sound x (in_contains x r.part.kept at)).from_one
+
+    kept_now : messages (fold drop_kept r.part.kept keys) ≡ filter (λ m. not (is_free s m.id)) s.kept
+    kept_now =
+        ap messages (fold_drop keys r.part.kept)
+        ∙ ap messages (filter_same (λ x. not (is_key keys x.key)) (λ x. not (is_free s x.message.id)) r.part.kept
+        (λ x at. ap not (key_is (λ m. is_free_in r m.id) r.part.kept (λ y there. fits.delay.named y (in_contains y r.part.kept there)) x at ∙ free_as x at)))
+        ∙ messages_filter (λ m. not (is_free s m.id)) r.part.kept
+        ∙ ap (filter (λ m. not (is_free s m.id))) fits.kept

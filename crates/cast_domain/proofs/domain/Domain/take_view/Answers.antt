@@ -1,0 +1,33 @@
+use Rattle.std.proofs.Common.{◌≡◌, ◌<◌, ◌∙◌, ap, length, arith}
+use Rattle.std.specs.FinMap.Entries.{put}
+use Rattle.cast_types.specs.Names.{group_cmp}
+use Rattle.cast_types.specs.Places.{update}
+use Rattle.cast_stable.specs.Ledger.{told_ledger}
+use Rattle.cast_domain.specs.Group.{members_of, other_sites, with_view}
+use Rattle.cast_domain.specs.Records.{records_of}
+use Rattle.cast_domain.specs.Calls.{record_at}
+use Rattle.cast_domain.proofs.Loops.{record_at_update}
+use Rattle.cast_domain.proofs.domain.Domain.take_view.Goals as goal
+
+pub returns-clause-made : goal.returns-clause-made
+returns-clause-made c o part =
+    let r = records_of c.args.self.now part o in
+    let i = c.args.place in
+    let n = c.args.view in
+    let members = c.args.members.now in
+    let within : i < length r.groups = omega arith in
+    let name : c.record.result.now.name ≡ (record_at r.groups i).name = ap (λ x. x.name) c.record.ensures in
+    let there : record_at c.view_at.new.groups.items i ≡ record (record_at r.groups i) { here = with_view r.site n members (record_at r.groups i).here } =
+    ap (λ xs. record_at xs i) c.in_ok-view_at.ensures.items ∙ record_at_update (λ x. record x { here = with_view r.site n members x.here }) r.groups i within in
+    let others : c.in_ok-others.others ≡ other_sites r.site (members_of (with_view r.site n members (record_at r.groups i).here)) =
+    c.in_ok-others.ensures ∙ ap (other_sites r.site) (c.members.ensures ∙ ap (λ x. members_of x.here) (c.record-2.ensures ∙ there)) in
+    (λ j. record r {
+      groups = c.in_ok-view_at.ensures.items j;
+      delay = c.in_ok-view_changed.ensures j;
+      acks = c.in_ok-tell.ensures.ok j;
+    })
+    ∙ (λ j. record r {
+      groups = update r.groups i (λ x. record x { here = with_view r.site n members x.here });
+      delay = record r.delay { numbers = put group_cmp (name j) n r.delay.numbers };
+      acks = told_ledger r.acks (name j) (others j);
+    })

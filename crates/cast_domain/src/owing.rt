@@ -1,0 +1,210 @@
+ghost use Rattle.std.specs.Prelude.{◌≡◌, ◌<◌, ◌+◌, IfOk, OnOk, vec_len};
+ghost use Rattle.std.specs.Option.{option_copied, option_map};
+ghost use Rattle.std.specs.List.{find};
+ghost use Rattle.cast_types.specs.Names.{uid_eq};
+ghost use Rattle.cast_frame.specs.declared.site.SiteFrame.TheVariants as frame;
+ghost use Rattle.cast_domain.specs.Group.{first_asking};
+ghost use Rattle.cast_domain.specs.Owing.{ask_frame, ask_key, id_in, message_key};
+
+use crate::domain::Domain;
+use crate::event::Outs;
+use crate::shared::Shared;
+use cast_frame::{Message, Received, SiteFrame};
+use cast_timer::{OwedKey, OwedKind, Side};
+use cast_types::{GroupNo, NoMemory, Proc, SiteNo, Uid};
+
+/// The first request of a group, owed to the home.
+pub(crate) fn ask_key(group: GroupNo, home: SiteNo) -> OwedKey
+    ensures { result ≡ ask_key group home }
+{
+    OwedKey {
+        kind: OwedKind::Ask,
+        group,
+        proc: Proc {
+            site: SiteNo(0),
+            serial: 0,
+        },
+        count: 0,
+        site: home,
+        side: Side::Site,
+    }
+}
+
+/// A frame of a kind about a message, owed to a site.
+pub(crate) fn message_key(kind: OwedKind, id: Uid, to: SiteNo) -> OwedKey
+    ensures { result ≡ message_key kind id to }
+{
+    OwedKey {
+        kind,
+        group: id.group,
+        proc: id.proc,
+        count: id.count,
+        site: to,
+        side: Side::Site,
+    }
+}
+
+// The message that a key is about, in a view of its group.
+fn id_in(view: u32, key: &OwedKey) -> Uid
+    ensures { result ≡ id_in view key.now }
+{
+    Uid {
+        group: key.group,
+        view,
+        proc: key.proc,
+        count: key.count,
+    }
+}
+
+// The message of an id among kept ones.
+fn message_among(kept: &[Received], id: Uid) -> Option<&Message>
+    ensures { option_copied result ≡ option_map (λ x. x.message) (find (λ x. uid_eq x.message.id id) kept.now) }
+{
+    let received = kept.iter().find(|received| received.message.id == id)?;
+    Some(&received.message)
+}
+
+impl Domain {
+    ghost use Rattle.cast_domain.specs.declared.event.Outs.{Outs};
+    ghost use Rattle.cast_domain.specs.Records.{Keeps, records_in};
+    ghost use Rattle.cast_domain.specs.Shared.{LeavesOthers};
+    ghost use Rattle.cast_domain.specs.Calls.{frame_for_in, frame_of_kind_in, message_in, owe_in, pay_in, resend_due_in, record_at, resend_in, send_for_in, tick_in};
+
+    // Sends a frame, and owes it from then on, unless it is owed already.
+    pub(crate) fn owe(
+        &self,
+        key: OwedKey,
+        shared: &mut Shared,
+        outs: &mut Outs,
+    ) -> Result<(), NoMemory>
+        ensures others { LeavesOthers self.now.config.domain shared.old shared.new }
+        ensures made { OnOk result (records_in self.now shared.new outs.new ≡ owe_in (records_in self.now shared.old outs.old) key) }
+    {
+        if shared.timers.is_owed(self.config.domain, &key) {
+            return Ok(());
+        }
+        self.send_for(&key, shared, outs)?;
+        shared.owe(self.config.domain, key, self.next_due())?;
+        Ok(())
+    }
+
+    // Owes a frame no more.
+    pub(crate) fn pay(&self, key: &OwedKey, shared: &mut Shared)
+        ensures others { LeavesOthers self.now.config.domain shared.old shared.new }
+        ensures made { (o : Outs) → records_in self.now shared.new o ≡ pay_in (records_in self.now shared.old o) key.now }
+    {
+        shared.pay(self.config.domain, key);
+    }
+
+    // The moment at which what is sent now is due again.
+    fn next_due(&self) -> u64
+        ensures { result ≡ self.now.moment + self.now.config.quotas.resend }
+    {
+        self.moment.after(self.config.quotas.resend)
+    }
+
+    // Sends the frame that a key stands for, where there is one.
+    pub(crate) fn send_for(
+        &self,
+        key: &OwedKey,
+        shared: &Shared,
+        outs: &mut Outs,
+    ) -> Result<(), NoMemory>
+        ensures { OnOk result (records_in self.now shared.now outs.new ≡ send_for_in (records_in self.now shared.now outs.old) key.now) }
+    {
+        match self.frame_for(key, shared)? {
+            Some(frame) => self.send(outs, key.site, frame),
+            None => Ok(()),
+        }
+    }
+
+    // The frame that a key of a configured group stands for.
+    fn frame_for(&self, key: &OwedKey, shared: &Shared) -> Result<Option<SiteFrame>, NoMemory>
+        ensures { IfOk result (λ f. (o : Outs) → f ≡ frame_for_in (records_in self.now shared.now o) key.now) }
+    {
+        match self.place_of(key.group) {
+            Some(place) => self.frame_at_key(place, key, shared),
+            None => Ok(None),
+        }
+    }
+
+    // The frame that a key of the group at a place stands for.
+    fn frame_at_key(
+        &self,
+        place: usize,
+        key: &OwedKey,
+        shared: &Shared,
+    ) -> Result<Option<SiteFrame>, NoMemory>
+        requires { place < vec_len self.now.groups }
+        ensures { IfOk result (λ f. (o : Outs) → f ≡ frame_of_kind_in (records_in self.now shared.now o) key.now place key.now.kind) }
+    {
+        match key.kind {
+            OwedKind::Ask => Ok(self.ask_frame(place, key.group)),
+            OwedKind::Data => self.data_frame(id_in(self.record(place).here.number, key), shared),
+            OwedKind::Ack => Ok(Some(SiteFrame::Ack(id_in(self.record(place).here.number, key)))),
+            OwedKind::Prepare | OwedKind::Want | OwedKind::Install => Ok(None),
+        }
+    }
+
+    // The first request of the group at a place.
+    fn ask_frame(&self, place: usize, group: GroupNo) -> Option<SiteFrame>
+        requires { place < vec_len self.now.groups }
+        ensures { result ≡ option_map (ask_frame group) (first_asking (record_at self.now.groups.items place).here.requests) }
+    {
+        let asking = self.record(place).here.first_request()?;
+        Some(SiteFrame::Ask {
+            group,
+            number: asking.number,
+            change: asking.change,
+            proc: asking.proc,
+        })
+    }
+
+    // A kept message as it is sent.
+    fn data_frame(&self, id: Uid, shared: &Shared) -> Result<Option<SiteFrame>, NoMemory>
+        ensures { IfOk result (λ f. (o : Outs) → f ≡ option_map frame.Data (message_in (records_in self.now shared.now o) id)) }
+    {
+        match message_among(shared.store.kept(self.config.domain), id) {
+            Some(message) => Ok(Some(SiteFrame::Data(message.copy()?))),
+            None => Ok(None),
+        }
+    }
+
+    // Time passes: the moment is at least this one, and what is due is sent again.
+    pub(crate) fn tick(
+        &mut self,
+        millis: u64,
+        shared: &mut Shared,
+        outs: &mut Outs,
+    ) -> Result<(), NoMemory>
+        ensures same { Keeps self.old self.new }
+        ensures others { LeavesOthers self.old.config.domain shared.old shared.new }
+        ensures made { OnOk result (records_in self.new shared.new outs.new ≡ tick_in (records_in self.old shared.old outs.old) millis) }
+    {
+        self.moment.reach(millis);
+        self.resend_due(shared, outs)
+    }
+
+    // Sends all frames that are due again, in their order.
+    fn resend_due(&self, shared: &mut Shared, outs: &mut Outs) -> Result<(), NoMemory>
+        ensures others { LeavesOthers self.now.config.domain shared.old shared.new }
+        ensures made { OnOk result (records_in self.now shared.new outs.new ≡ resend_due_in (records_in self.now shared.old outs.old)) }
+    {
+        let alloc = *self.groups.allocator();
+        let now = self.moment.millis();
+        for key in shared.timers.due(alloc, self.config.domain, now)? {
+            self.resend(key, shared, outs)?;
+        }
+        Ok(())
+    }
+
+    // Sends a frame that is due again.
+    fn resend(&self, key: OwedKey, shared: &mut Shared, outs: &mut Outs) -> Result<(), NoMemory>
+        ensures others { LeavesOthers self.now.config.domain shared.old shared.new }
+        ensures made { OnOk result (records_in self.now shared.new outs.new ≡ resend_in (records_in self.now shared.old outs.old) key) }
+    {
+        self.send_for(&key, shared, outs)?;
+        shared.renew(self.config.domain, key, self.next_due())?;
+        Ok(())
+    }
+}

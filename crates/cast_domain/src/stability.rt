@@ -1,0 +1,189 @@
+ghost use Rattle.std.specs.Prelude.{◌≡◌, ◌<◌, IfOk, OnOk, map, filter, vec_len};
+ghost use Rattle.std.specs.List.{fold};
+
+use crate::domain::Domain;
+use crate::event::Outs;
+use crate::home::is_among;
+use crate::owing::message_key;
+use crate::shared::Shared;
+use cast_frame::{Received, SiteFrame};
+use cast_timer::OwedKind;
+use cast_types::{Key, NoMemory, SiteNo, Uid};
+
+impl Domain {
+    ghost use Rattle.cast_domain.specs.declared.event.Outs.{Outs};
+    ghost use Rattle.cast_domain.specs.Records.{Keeps, no_outs, records_in, records_of};
+    ghost use Rattle.cast_domain.specs.Shared.{LeavesOthers, Part, no_part};
+    ghost use Rattle.cast_domain.specs.Calls.{ack_in, acknowledge_in, is_current_in, is_free_in, is_used_ack_in, let_go_in, release_in, stable_in, tell_more_in, tell_stable_in, with_ack_in};
+
+    // Acknowledges a received message: its site is owed that until it tells that the message is stable.
+    pub(crate) fn acknowledge(
+        &self,
+        to: SiteNo,
+        id: Uid,
+        shared: &mut Shared,
+        outs: &mut Outs,
+    ) -> Result<(), NoMemory>
+        ensures others { LeavesOthers self.now.config.domain shared.old shared.new }
+        ensures made { OnOk result (records_in self.now shared.new outs.new ≡ acknowledge_in (records_in self.now shared.old outs.old) to id) }
+    {
+        if self.acks.is_stable(id) {
+            return self.send(outs, to, SiteFrame::Ack(id));
+        }
+        self.owe(message_key(OwedKind::Ack, id, to), shared, outs)
+    }
+
+    // Ack: another site of the view has an own message, and is owed it no more. Where more messages are stable now, all
+    // other sites are told; where that one was stable before, the site was not told and is told again.
+    pub(crate) fn ack(
+        &mut self,
+        place: usize,
+        from: SiteNo,
+        id: Uid,
+        shared: &mut Shared,
+        outs: &mut Outs,
+    ) -> Result<(), NoMemory>
+        requires { place < vec_len self.old.groups }
+        ensures same { Keeps self.old self.new }
+        ensures others { LeavesOthers self.old.config.domain shared.old shared.new }
+        ensures made { OnOk result (records_in self.new shared.new outs.new ≡ ack_in (records_in self.old shared.old outs.old) place from id) }
+    {
+        if !self.is_used_ack(place, from, id) {
+            return Ok(());
+        }
+        let before = self.acks.stable_upto(id);
+        self.take_ack(from, id, shared)?;
+        if id.count <= before {
+            return self.tell_stable(id, before, from, outs);
+        }
+        self.tell_more(id, before, outs)
+    }
+
+    // Whether an acknowledgement is of a message of the current view of a local process, and from another site of it.
+    fn is_used_ack(&self, place: usize, from: SiteNo, id: Uid) -> bool
+        requires { place < vec_len self.now.groups }
+        ensures { (o : Outs) (part : Part) → result ≡ is_used_ack_in (records_of self.now part o) place from id }
+    {
+        self.record(place).here.is_current(id.view)
+            && 0 < id.count
+            && id.proc.site == self.site
+            && is_among(from, self.acks.others(id.group))
+    }
+
+    // Takes in that a site has an own message.
+    fn take_ack(&mut self, from: SiteNo, id: Uid, shared: &mut Shared) -> Result<(), NoMemory>
+        ensures same { Keeps self.old self.new }
+        ensures others { LeavesOthers self.old.config.domain shared.old shared.new }
+        ensures made { OnOk result ((o : Outs) → records_in self.new shared.new o ≡ with_ack_in (records_in self.old shared.old o) from id) }
+    {
+        self.pay(&message_key(OwedKind::Data, id, from), shared);
+        self.acks.ack(from, id)?;
+        Ok(())
+    }
+
+    // Tells a site that the first messages of a process, so many, are stable.
+    fn tell_stable(&self, id: Uid, count: u32, to: SiteNo, outs: &mut Outs) -> Result<(), NoMemory>
+        ensures { OnOk result ((part : Part) → records_of self.now part outs.new ≡ tell_stable_in id count (records_of self.now part outs.old) to) }
+    {
+        self.send(outs, to, SiteFrame::Stable(Uid { count, ..id }))
+    }
+
+    // Tells all other sites of the view, where more messages are stable than before.
+    fn tell_more(&self, id: Uid, before: u32, outs: &mut Outs) -> Result<(), NoMemory>
+        ensures { OnOk result ((part : Part) → records_of self.now part outs.new ≡ tell_more_in id before (records_of self.now part outs.old)) }
+    {
+        let upto = self.acks.stable_upto(id);
+        if before < upto {
+            return self.tell_sites(id, upto, self.acks.others(id.group), outs);
+        }
+        Ok(())
+    }
+
+    // Tells sites that the first messages of a process, so many, are stable.
+    fn tell_sites(
+        &self,
+        id: Uid,
+        count: u32,
+        sites: &[SiteNo],
+        outs: &mut Outs,
+    ) -> Result<(), NoMemory>
+        ensures { OnOk result ((part : Part) → records_of self.now part outs.new ≡ fold (tell_stable_in id count) (records_of self.now part outs.old) sites.now) }
+    {
+        for site in sites {
+            self.tell_stable(id, count, *site, outs)?;
+        }
+        Ok(())
+    }
+
+    // Stable: the process's own site tells that its messages up to this one are stable.
+    pub(crate) fn stable(
+        &mut self,
+        place: usize,
+        from: SiteNo,
+        id: Uid,
+        shared: &mut Shared,
+    ) -> Result<(), NoMemory>
+        requires { place < vec_len self.old.groups }
+        ensures same { Keeps self.old self.new }
+        ensures others { LeavesOthers self.old.config.domain shared.old shared.new }
+        ensures made { OnOk result ((o : Outs) → records_in self.new shared.new o ≡ stable_in (records_in self.old shared.old o) place from id) }
+    {
+        if self.record(place).here.is_current(id.view) && id.proc.site == from {
+            let key = message_key(OwedKind::Ack, id, from);
+            shared.pay_upto(self.config.domain, &key);
+            self.acks.learn_stable(id)?;
+        }
+        Ok(())
+    }
+
+    // Lets go of all free messages.
+    pub(crate) fn let_go(&mut self, shared: &mut Shared) -> Result<(), NoMemory>
+        ensures same { Keeps self.old self.new }
+        ensures others { LeavesOthers self.old.config.domain shared.old shared.new }
+        ensures made { OnOk result ((o : Outs) → records_in self.new shared.new o ≡ let_go_in (records_in self.old shared.old o)) }
+    {
+        let free = self.free_keys(shared.store.kept(self.config.domain))?;
+        for key in free.as_slice() {
+            self.release(*key, shared);
+        }
+        Ok(())
+    }
+
+    // The keys of the free ones among kept messages.
+    fn free_keys(&self, kept: &[Received]) -> Result<Vec<Key>, NoMemory>
+        ensures { IfOk result (λ keys. keys.items ≡ map (λ x. x.key) (filter (λ x. is_free_in (records_of self.now no_part no_outs) x.message.id) kept.now)) }
+    {
+        let alloc = *self.groups.allocator();
+        kept.iter()
+            .filter(|kept| self.is_free(kept.message.id))
+            .map(|kept| kept.key)
+            .collect(alloc)
+    }
+
+    // Whether a message is of the current view, stable, and delivered to each member here.
+    fn is_free(&self, id: Uid) -> bool
+        ensures { result ≡ is_free_in (records_of self.now no_part no_outs) id }
+    {
+        self.is_current(id) && self.acks.may_free(id, self.delay.is_awaited(id))
+    }
+
+    // Whether a message is of the current view of its group.
+    fn is_current(&self, id: Uid) -> bool
+        ensures { result ≡ is_current_in (records_of self.now no_part no_outs) id }
+    {
+        match self.place_of(id.group) {
+            Some(place) => self.record(place).here.is_current(id.view),
+            None => false,
+        }
+    }
+
+    // Keeps the message under a key no longer.
+    fn release(&mut self, key: Key, shared: &mut Shared)
+        ensures same { Keeps self.old self.new }
+        ensures others { LeavesOthers self.old.config.domain shared.old shared.new }
+        ensures made { (o : Outs) → records_in self.new shared.new o ≡ release_in (records_in self.old shared.old o) key }
+    {
+        shared.remove(self.config.domain, key);
+        self.delay.forget(key);
+    }
+}

@@ -1,0 +1,6 @@
+pub mod Runs
+pub mod Ledgers
+pub mod Witnesses
+pub mod Lists
+pub mod Greatest
+pub mod Meanings

@@ -1,0 +1,82 @@
+-- What a site keeps of receipts, as contracts see it, and what each call does to it.
+use Rattle.std.specs.Prelude.{ℕ, Bool, true, nat_le, max, min, if◌then◌else◌, List, [], ◌∷◌, map, unwrap_or}
+use Rattle.std.specs.List.{reduce}
+use Rattle.std.specs.FinMap.Entries.{find, put}
+use Rattle.cast_types.specs.declared.names.SiteNo.{SiteNo}
+use Rattle.cast_types.specs.declared.names.GroupNo.{GroupNo}
+use Rattle.cast_types.specs.declared.names.Uid.{Uid}
+use Rattle.cast_types.specs.declared.source.Source.{Source}
+use Rattle.cast_types.specs.Names.{group_cmp, site_eq}
+use Rattle.cast_types.specs.Sources.{source_cmp, source}
+use Rattle.cast_stable.specs.declared.witness.Witness.{Witness}
+use Rattle.cast_stable.specs.Runs.{Run, no_counts, contains, inserted}
+use Rattle.cast_stable.specs.Witnesses.{witness_cmp, witness}
+
+-- the site itself, the other sites of each group's view, the counts received of each source, those that each site
+-- acknowledged, and the count to which each source was told to be stable
+pub record Ledger : Type 0 where
+  pub here : SiteNo
+  pub others : List (GroupNo × List SiteNo)
+  pub received : List (Source × Run)
+  pub acked : List (Witness × Run)
+  pub told : List (Source × ℕ)
+
+abbrev pub source_of : Uid → Source
+source_of u = source u.group u.view u.proc
+
+abbrev pub others_in : Ledger → GroupNo → List SiteNo
+others_in l g = unwrap_or (find group_cmp g l.others) []
+
+abbrev pub received_run : Ledger → Source → Run
+received_run l s = unwrap_or (find source_cmp s l.received) no_counts
+
+abbrev pub acked_run : Ledger → Source → SiteNo → Run
+acked_run l s site = unwrap_or (find witness_cmp (witness s site) l.acked) no_counts
+
+abbrev pub told_count : Ledger → Source → ℕ
+told_count l s = unwrap_or (find source_cmp s l.told) 0
+
+-- What is read
+
+abbrev pub is_received_in : Ledger → Uid → Bool
+is_received_in l u = contains (received_run l (source_of u)) u.count
+
+abbrev pub has_acked_in : Ledger → SiteNo → Uid → Bool
+has_acked_in l from u = contains (acked_run l (source_of u) from) u.count
+
+-- the least of the counts to which the sites acknowledged a source without a gap, 0 of no site
+abbrev pub least_acked : Ledger → Source → List SiteNo → ℕ
+least_acked l s sites = unwrap_or (reduce min (map (λ site. (acked_run l s site).upto) sites)) 0
+
+abbrev pub upto_in : Ledger → Uid → ℕ
+upto_in l u = least_acked l (source_of u) (others_in l u.group)
+
+-- stable for a site that has these others in the view
+abbrev pub is_stable_among : Ledger → List SiteNo → Uid → Bool
+is_stable_among l [] u = true
+is_stable_among l (site ∷ sites) u =
+    if site_eq u.proc.site l.here then nat_le u.count (least_acked l (source_of u) (site ∷ sites))
+    else nat_le u.count (told_count l (source_of u))
+
+abbrev pub is_stable_in : Ledger → Uid → Bool
+is_stable_in l u = is_stable_among l (others_in l u.group) u
+
+-- What is changed
+
+abbrev pub new_ledger : SiteNo → Ledger
+new_ledger here = record { here = here; others = []; received = []; acked = []; told = [] }
+
+abbrev pub told_ledger : Ledger → GroupNo → List SiteNo → Ledger
+told_ledger l g sites = record l { others = put group_cmp g sites l.others }
+
+abbrev pub received_ledger : Ledger → Uid → Ledger
+received_ledger l u =
+    record l { received = put source_cmp (source_of u) (inserted (received_run l (source_of u)) u.count) l.received }
+
+abbrev pub acked_ledger : Ledger → SiteNo → Uid → Ledger
+acked_ledger l from u =
+    record l { acked = put witness_cmp (witness (source_of u) from) (inserted (acked_run l (source_of u) from) u.count) l.acked }
+
+abbrev pub learnt_ledger : Ledger → Uid → Ledger
+learnt_ledger l u =
+    record l { told = put source_cmp (source_of u) (max (told_count l (source_of u)) u.count) l.told }

@@ -1,0 +1,232 @@
+ghost use Rattle.std.specs.Prelude.{◌≡◌, ◌≢◌, ◌<◌, List, [], OnOk, OnErr, IfOk, not, ◌&&◌, unwrap_or, map, min};
+ghost use Rattle.std.specs.List.{reduce};
+ghost use Rattle.std.specs.Option.{option_copied};
+ghost use Rattle.cast_types.specs.declared.names.SiteNo.{SiteNo};
+ghost use Rattle.cast_types.specs.declared.names.GroupNo.{GroupNo};
+ghost use Rattle.cast_types.specs.declared.names.Uid.{Uid};
+ghost use Rattle.cast_types.specs.Names.{uid_eq};
+ghost use Rattle.cast_types.specs.Sets.{is_among};
+ghost use Rattle.cast_stable.specs.Stable.{Acked, has_acked, stable_upto, is_known_stable};
+ghost use Rattle.cast_stable.specs.Fits.{Fits};
+ghost use Rattle.cast_stable.specs.Runs.{no_counts, contains, inserted};
+ghost use Rattle.cast_stable.specs.Ledger.{new_ledger, source_of, others_in, acked_run, told_count, told_ledger, received_ledger, acked_ledger, learnt_ledger, is_received_in, has_acked_in, upto_in, is_stable_in};
+
+use crate::counted::Counted;
+use crate::witness::Witness;
+use cast_types::{GroupNo, Keyed, Listed, NoMemory, SiteNo, Source, Uid};
+use std::alloc::Global;
+use std::marker::Model;
+
+/// What a site keeps of who received which message: what it received itself, what other sites acknowledged, and what
+/// it was told to be stable. Contracts see a `Ledger`.
+#[derive(Drop)]
+pub struct Acks {
+    alloc: Global,
+    here: SiteNo,
+    others: Keyed<GroupNo, Listed<SiteNo>>,
+    received: Keyed<Source, Counted>,
+    acked: Keyed<Witness, Counted>,
+    told: Keyed<Source, u32>,
+}
+
+impl Model for Acks {
+    ghost use Rattle.cast_stable.specs.Ledger.{Ledger};
+
+    ghost Value = { Ledger };
+
+    ghost view = { λ a. record { here = a.here; others = a.others; received = a.received; acked = a.acked; told = a.told } };
+}
+
+impl Acks {
+    /// The records of a site that knows no views and received nothing.
+    pub fn new(alloc: Global, here: SiteNo) -> Self
+        ensures { result ≡ new_ledger here }
+    {
+        Acks {
+            alloc,
+            here,
+            others: Keyed::new(alloc),
+            received: Keyed::new(alloc),
+            acked: Keyed::new(alloc),
+            told: Keyed::new(alloc),
+        }
+    }
+
+    /// Takes in the other sites of a group's new view. `NoMemory` changes nothing.
+    pub fn tell(&mut self, group: GroupNo, others: Listed<SiteNo>) -> Result<(), NoMemory>
+        ensures ok { OnOk result (self.new ≡ told_ledger self.old group others) }
+        ensures err { OnErr result (self.new ≡ self.old) }
+    {
+        self.others.put(group, others)?;
+        Ok(())
+    }
+
+    /// Takes in that this site received a message. `NoMemory` changes nothing.
+    pub fn receive(&mut self, id: Uid) -> Result<(), NoMemory>
+        ensures ok { OnOk result (self.new ≡ received_ledger self.old id) }
+        ensures err { OnErr result (self.new ≡ self.old) }
+    {
+        let source = source_of(id);
+        let run = with_count(self.alloc, self.received.get(&source), id.count)?;
+        self.received.put(source, run)?;
+        Ok(())
+    }
+
+    /// Whether this site received a message. Takes no memory.
+    pub fn is_received(&self, id: Uid) -> bool
+        ensures value { result ≡ is_received_in self.now id }
+        ensures meaning { (here : SiteNo) (others : GroupNo → List SiteNo) (received : List Uid) (acks : List Acked) (told : List Uid) →
+            Fits here others received acks told self.now → 0 < id.count → result ≡ is_among uid_eq id received }
+    {
+        contains(self.received.get(&source_of(id)), id.count)
+    }
+
+    /// Takes in that a site acknowledged a message. `NoMemory` changes nothing.
+    pub fn ack(&mut self, from: SiteNo, id: Uid) -> Result<(), NoMemory>
+        ensures ok { OnOk result (self.new ≡ acked_ledger self.old from id) }
+        ensures err { OnErr result (self.new ≡ self.old) }
+    {
+        let witness = Witness {
+            source: source_of(id),
+            site: from,
+        };
+        let run = with_count(self.alloc, self.acked.get(&witness), id.count)?;
+        self.acked.put(witness, run)?;
+        Ok(())
+    }
+
+    /// Whether a site acknowledged a message. Takes no memory.
+    pub fn has_acked(&self, from: SiteNo, id: Uid) -> bool
+        ensures value { result ≡ has_acked_in self.now from id }
+        ensures meaning { (here : SiteNo) (others : GroupNo → List SiteNo) (received : List Uid) (acks : List Acked) (told : List Uid) →
+            Fits here others received acks told self.now → 0 < id.count → result ≡ has_acked acks id from }
+    {
+        let witness = Witness {
+            source: source_of(id),
+            site: from,
+        };
+        contains(self.acked.get(&witness), id.count)
+    }
+
+    /// How many messages of the id's process in its view are stable: the least over the other sites of the group's
+    /// view of the counts that each acknowledged without a gap, 0 where there is no other site. Takes no memory.
+    pub fn stable_upto(&self, id: Uid) -> u32
+        ensures value { result ≡ upto_in self.now id }
+        ensures meaning { (here : SiteNo) (others : GroupNo → List SiteNo) (received : List Uid) (acks : List Acked) (told : List Uid) →
+            Fits here others received acks told self.now → others id.group ≢ [] → result ≡ stable_upto acks (others id.group) id.group id.view id.proc }
+    {
+        self.least_acked(source_of(id), self.others(id.group))
+            .unwrap_or(0)
+    }
+
+    /// Takes in that the site of the id's process told its messages to this count to be stable. `NoMemory` changes
+    /// nothing.
+    pub fn learn_stable(&mut self, id: Uid) -> Result<(), NoMemory>
+        ensures ok { OnOk result (self.new ≡ learnt_ledger self.old id) }
+        ensures err { OnErr result (self.new ≡ self.old) }
+    {
+        let source = source_of(id);
+        let told = self.told_count(source).max(id.count);
+        self.told.put(source, told)?;
+        Ok(())
+    }
+
+    /// Whether a message is known to be stable here: at once in a view of this site alone; a message of this site by
+    /// the acknowledgements of all other sites; another by what its site told. Takes no memory.
+    pub fn is_stable(&self, id: Uid) -> bool
+        ensures value { result ≡ is_stable_in self.now id }
+        ensures meaning { (here : SiteNo) (others : GroupNo → List SiteNo) (received : List Uid) (acks : List Acked) (told : List Uid) →
+            Fits here others received acks told self.now → 0 < id.count → result ≡ is_known_stable here (others id.group) acks told id }
+    {
+        if self.others(id.group).is_empty() {
+            return true;
+        }
+        if id.proc.site == self.here {
+            return id.count <= self.stable_upto(id);
+        }
+        id.count <= self.told_count(source_of(id))
+    }
+
+    /// Whether a kept message may be let go: it is stable, and no local process awaits it. Takes no
+    /// memory.
+    pub fn may_free(&self, id: Uid, is_awaited: bool) -> bool
+        ensures value { result ≡ (is_stable_in self.now id && not is_awaited) }
+        ensures meaning { (here : SiteNo) (others : GroupNo → List SiteNo) (received : List Uid) (acks : List Acked) (told : List Uid) →
+            Fits here others received acks told self.now → 0 < id.count → result ≡ (is_known_stable here (others id.group) acks told id && not is_awaited) }
+    {
+        self.is_stable(id) && !is_awaited
+    }
+
+    /// The other sites of a group's view, none of a group of which no view was told. Takes no memory.
+    pub fn others(&self, group: GroupNo) -> &[SiteNo]
+        ensures { result.now ≡ others_in self.now group }
+    {
+        match self.others.get(&group) {
+            Some(others) => others.as_slice(),
+            None => &[],
+        }
+    }
+
+    // To which count a site acknowledged a source without a gap.
+    fn acked_upto(&self, source: Source, site: SiteNo) -> u32
+        ensures { result ≡ (acked_run self.now source site).upto }
+    {
+        match self.acked.get(&Witness { source, site }) {
+            Some(run) => run.upto(),
+            None => 0,
+        }
+    }
+
+    // The least count to which these sites acknowledged a source without a gap, `None` of no site.
+    fn least_acked(&self, source: Source, sites: &[SiteNo]) -> Option<u32>
+        ensures { result ≡ reduce min (map (λ site. (acked_run self.now source site).upto) sites.now) }
+    {
+        sites
+            .iter()
+            .map(|site| self.acked_upto(source, *site))
+            .min()
+    }
+
+    // To which count a source was told to be stable.
+    fn told_count(&self, source: Source) -> u32
+        ensures { result ≡ told_count self.now source }
+    {
+        match self.told.get(&source) {
+            Some(count) => *count,
+            None => 0,
+        }
+    }
+}
+
+// The process of a message in its view.
+fn source_of(id: Uid) -> Source
+    ensures { result ≡ source_of id }
+{
+    Source {
+        group: id.group,
+        view: id.view,
+        process: id.proc,
+    }
+}
+
+// Whether a count is in a set, an absent one being empty.
+fn contains(run: Option<&Counted>, count: u32) -> bool
+    ensures { result ≡ contains (unwrap_or (option_copied run.entry) no_counts) count }
+{
+    match run {
+        Some(run) => run.contains(count),
+        None => false,
+    }
+}
+
+// The set with a count in it, an absent one being empty.
+fn with_count(alloc: Global, run: Option<&Counted>, count: u32) -> Result<Counted, NoMemory>
+    ensures { IfOk result (λ r. r ≡ inserted (unwrap_or (option_copied run.entry) no_counts) count) }
+{
+    let mut with = match run {
+        Some(run) => run.copy()?,
+        None => Counted::new(alloc),
+    };
+    with.insert(count)?;
+    Ok(with)
+}

@@ -1,0 +1,106 @@
+ghost use Rattle.std.specs.Prelude.{◌≡◌, ℕ, ◌+◌, ◌<◌, ◌≤◌, ◌||◌, ◌==◌, true, false, OnOk, OnErr, IfOk, length};
+ghost use Rattle.cast_stable.specs.Runs.{no_counts, contains, run_after, absorbed, inserted};
+
+use cast_types::{NoMemory, sorted};
+use std::alloc::Global;
+use std::marker::Model;
+
+/// A set of counts from 1 on. Counts without a gap from 1 on take no memory. Contracts see a `Run`.
+#[derive(Drop)]
+pub struct Counted {
+    // All counts from 1 to this one are in the set.
+    upto: u32,
+    // The further ones in rising order, each above `upto + 1`.
+    above: Vec<u32>,
+}
+
+impl Model for Counted {
+    ghost use Rattle.std.specs.Prelude.{IsTrue};
+    ghost use Rattle.cast_stable.specs.Runs.{Run, is_run};
+
+    ghost Value = { Run };
+
+    ghost view = { λ c. record { upto = c.upto; above = c.above.items } };
+
+    ghost invariant = { λ c. IsTrue (is_run (record { upto = c.upto; above = c.above.items })) };
+}
+
+impl Counted {
+    /// No counts.
+    pub fn new(alloc: Global) -> Self
+        ensures { result ≡ no_counts }
+    {
+        Counted {
+            upto: 0,
+            above: Vec::new(alloc),
+        }
+    }
+
+    /// Puts a count into the set. Count 0 changes nothing, and neither does `NoMemory`.
+    pub fn insert(&mut self, count: u32) -> Result<(), NoMemory>
+        ensures ok { OnOk result (self.new ≡ inserted self.old count) }
+        ensures meaning { OnOk result ((m : ℕ) → 0 < m → contains self.new m ≡ (contains self.old m || m == count)) }
+        ensures err { OnErr result (self.new ≡ self.old) }
+    {
+        if count <= self.upto {
+            return Ok(());
+        }
+        if count == self.upto + 1 {
+            self.upto = absorb(count, &mut self.above);
+            return Ok(());
+        }
+        sorted::insert(&mut self.above, count)?;
+        Ok(())
+    }
+
+    /// Whether a count is in the set. Takes no memory.
+    pub fn contains(&self, count: u32) -> bool
+        ensures { result ≡ contains self.now count }
+    {
+        (0 < count && count <= self.upto) || self.above.contains(&count)
+    }
+
+    /// The greatest count such that all counts from 1 to it are in the set, 0 where count 1 is not.
+    pub fn upto(&self) -> u32
+        ensures value { result ≡ self.now.upto }
+        ensures all { (m : ℕ) → 0 < m → m ≤ result → contains self.now m ≡ true }
+        ensures next { contains self.now (result + 1) ≡ false }
+    {
+        self.upto
+    }
+
+    /// An equal value.
+    pub fn copy(&self) -> Result<Self, NoMemory>
+        ensures { IfOk result (λ c. c ≡ self.now) }
+    {
+        Ok(Counted {
+            upto: self.upto,
+            above: Vec::from_slice(*self.above.allocator(), &self.above)?,
+        })
+    }
+}
+
+// The last count of the run that goes on from a count. What the run takes leaves the list.
+fn absorb(count: u32, above: &mut Vec<u32>) -> u32
+    ensures last { result ≡ (absorbed count above.old.items).upto }
+    ensures rest { above.new.items ≡ (absorbed count above.old.items).above }
+{
+    let (last, taken) = run_after(count, above);
+    above.drain(..taken);
+    last
+}
+
+// The last count of the run that goes on from a count, and how many counts from the list's front it takes.
+fn run_after(count: u32, above: &[u32]) -> (u32, usize)
+    ensures run { result ≡ run_after count above.now }
+    ensures within { result.1 ≤ length above.now }
+{
+    let mut last = count;
+    for (taken, next) in above.iter().enumerate() {
+        if last.checked_add(1) != Some(*next) {
+            return (last, taken);
+        }
+        last = *next;
+    }
+    (last, above.len())
+}
