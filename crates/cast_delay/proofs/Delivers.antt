@@ -21,7 +21,7 @@ use Rattle.cast_delay.specs.declared.row.Fact.{Fact}
 use Rattle.cast_delay.specs.declared.row.Fact.TheVariants as fact
 use Rattle.cast_delay.specs.Ready.{Process, is_member, has_delivered}
 use Rattle.cast_types.specs.Sources.{source, source_cmp}
-use Rattle.cast_delay.specs.Rows.{number_of, standing_in, done_in, needed, has_past, row_allows, all_allow, is_ready_row, delivered_row, told_row}
+use Rattle.cast_delay.specs.Rows.{number_of, standing_in, done_in, needed, has_past, row_allows, all_allow, is_causally_ready_row, delivered_row, told_row}
 use Rattle.cast_delay.specs.Fits.{RowFits, IsSound, told, delivering}
 use Rattle.cast_delay.proofs.Listed.{list_any-append}
 use Rattle.cast_delay.proofs.Counted.{needed_own, within_entry}
@@ -56,7 +56,7 @@ pub record RowReady (numbers : List (GroupNo × ℕ)) (row : Row) (id : Uid) (ti
   pub allowed : all_allow numbers row id times ≡ true
   pub room : has_room (join row.time times) ≡ true
 
-pub ready_parts : (numbers : List (GroupNo × ℕ)) (row : Row) (id : Uid) (times : ClockList) → is_ready_row numbers row id times ≡ true → RowReady numbers row id times
+pub ready_parts : (numbers : List (GroupNo × ℕ)) (row : Row) (id : Uid) (times : ClockList) → is_causally_ready_row numbers row id times ≡ true → RowReady numbers row id times
 ready_parts numbers row id times ready =
     let a = and_parts (is_member (standing_in row id.group)) ((id.view == number_of numbers id.group) && (nat_lt (done_in row id.group id.view id.proc) id.count && (all_allow numbers row id times && has_room (join row.time times)))) ready in
     let b = and_parts (id.view == number_of numbers id.group) (nat_lt (done_in row id.group id.view id.proc) id.count && (all_allow numbers row id times && has_room (join row.time times))) a.1 in

@@ -1,5 +1,5 @@
 -- The first item of a list that passes a test, and what is found at a key after it was put there.
-use Rattle.std.proofs.Common.{◌≡◌, zero, suc, Bool, true, false, cond, List, [], ◌∷◌, ◌++◌, map, filter, Contains, Option, Some, None, unwrap_or, refl, sym, ap, subst, ◌∙◌, inl, inr, arith}
+use Rattle.std.proofs.Common.{◌≡◌, ℕ, zero, suc, ◌+◌, Bool, true, false, cond, not, List, [], ◌∷◌, ◌++◌, take, map, filter, Contains, Option, Some, None, unwrap_or, refl, sym, ap, subst, ◌∙◌, inl, inr, arith}
 use Rattle.std.specs.Prelude.{if◌then◌else◌}
 use Rattle.std.specs.List as list
 use Rattle.std.specs.Option.{option_map}
@@ -53,6 +53,22 @@ pub find-append_none : {A : Type 0} (t : A → Bool) (xs ys : List A) → list.f
 find-append_none t [] ys is = refl
 find-append_none t (y ∷ xs) ys is =
     elim (t y) as (λ b. cond b (Some y) (list.find t xs) ≡ None → cond b (Some y) (list.find t (xs ++ ys)) ≡ list.find t ys) [ true ↦ λ here. cc here | false ↦ λ later. find-append_none t xs ys later ] is
+
+-- nothing before the first place that passes does
+find_taken : {A : Type 0} (t : A → Bool) (x : A) (xs : List A) (n k : ℕ) → k ≡ 1 + n → t x ≡ false → list.find t (take n xs) ≡ None → list.find t (take k (x ∷ xs)) ≡ None
+find_taken t x xs n zero is fails rest = absurd (omega (arith, is))
+find_taken t x xs n (suc k) is fails rest =
+    let same : k ≡ n = omega (arith, is) in
+    ap (λ b. cond b (Some x) (list.find t (take k xs))) fails ∙ ap (λ j. list.find t (take j xs)) same ∙ rest
+
+pub none_before : {A : Type 0} (t : A → Bool) (xs : List A) → list.find t (take (list.position_or_len t xs) xs) ≡ None
+none_before t [] = refl
+none_before t (x ∷ xs) = elim (cases_Bool (t x)) [
+  | inl passes ↦ ap (λ b. list.find t (take (cond (not b) (1 + list.position_or_len t xs) 0) (x ∷ xs))) passes
+  | inr fails ↦
+      ap (λ b. list.find t (take (cond (not b) (1 + list.position_or_len t xs) 0) (x ∷ xs))) fails
+      ∙ find_taken t x xs (list.position_or_len t xs) (1 + list.position_or_len t xs) refl fails (none_before t xs)
+]
 
 -- a search is not changed where only what it passes over is taken out
 pub find_kept : {A : Type 0} (t keep : A → Bool) → ((x : A) → keep x ≡ false → t x ≡ false) → (xs : List A) → list.find t (filter keep xs) ≡ list.find t xs

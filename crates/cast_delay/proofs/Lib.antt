@@ -2,6 +2,7 @@ pub mod Listed
 pub mod Counted
 pub mod Means
 pub mod Finds
+pub mod Turns
 pub mod Delivers
 pub mod Rows
 pub mod Queues

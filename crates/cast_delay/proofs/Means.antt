@@ -1,9 +1,9 @@
--- By what the queue keeps of a process, a message is ready exactly if it is by what the process delivered.
+-- By what the queue keeps of a process, a message is causally ready exactly if it is by what the process delivered.
 use Rattle.std.proofs.Common.{◌≡◌, ℕ, ◌<◌, Bool, true, false, not, ◌&&◌, ◌||◌, List, [], ◌∷◌, Option, unwrap_or, refl, sym, ap, subst, ◌∙◌, inl, inr, arith}
-use Rattle.std.specs.Prelude.{nat_lt, ◌==◌}
+use Rattle.std.specs.Prelude.{nat_lt, nat_le, ◌==◌}
 use Rattle.std.specs.List.{list_all}
 use Rattle.std.specs.FinMap.Entries.{is_sorted}
-use Rattle.std.proofs.lemmas.Bool.{or_cases, false≢true, ltb-true, lt-ltb, cases_lt, not_from_false, not-true, false_from_ne_true, and_parts}
+use Rattle.std.proofs.lemmas.Bool.{or_cases, false≢true, ltb-true, lt-ltb, leb-true, le-leb, cases_lt, not_from_false, not-true, false_from_ne_true, and_parts, and_from}
 use Rattle.cast_types.specs.declared.names.GroupNo.{GroupNo}
 use Rattle.cast_types.specs.declared.names.Uid.{Uid}
 use Rattle.cast_types.specs.declared.names.Standing.{Standing}
@@ -16,7 +16,7 @@ use Rattle.cast_clock.proofs.Entries.{found_or, each_found, list_all_of, as_T}
 use Rattle.cast_frame.specs.declared.message.Message.{Message}
 use Rattle.cast_delay.specs.declared.row.Row.{Row}
 use Rattle.cast_delay.specs.Ready.{Process, Gate, is_member, is_outside, has_delivered, awaits, group_allows, is_causally_ready}
-use Rattle.cast_delay.specs.Rows.{number_of, standing_in, done_in, row_allows, all_allow, is_ready_row, awaits_row}
+use Rattle.cast_delay.specs.Rows.{number_of, standing_in, done_in, row_allows, all_allow, is_causally_ready_row, has_delivered_in, awaits_row}
 use Rattle.cast_delay.specs.Fits.{RowFits, IsSound}
 use Rattle.cast_delay.proofs.Listed.{same_bools}
 use Rattle.cast_delay.proofs.Counted.{past_counted}
@@ -30,6 +30,20 @@ among_holds t (h ∷ gs) g all among =
       | inl here ↦ subst (λ k. t k ≡ true) (sym (same_group g h here)) parts.0
       | inr later ↦ among_holds t gs g parts.1 later
     ]
+
+-- delivered, by its count
+pub delivered_means : (p : Process) (row : Row) → RowFits p row → (u : Uid) → has_delivered_in row u ≡ has_delivered p u
+delivered_means p row fits u = same_bools (has_delivered_in row u) (has_delivered p u) there back
+  where
+    there : has_delivered_in row u ≡ true → has_delivered p u ≡ true
+    there within =
+        let parts = and_parts (nat_lt 0 u.count) (nat_le u.count (done_in row u.group u.view u.proc)) within in
+        (fits.counts u).1 (ltb-true 0 u.count parts.0, leb-true u.count (done_in row u.group u.view u.proc) parts.1)
+
+    back : has_delivered p u ≡ true → has_delivered_in row u ≡ true
+    back has =
+        let bounds = (fits.counts u).0 has in
+        and_from (nat_lt 0 u.count) (nat_le u.count (done_in row u.group u.view u.proc)) (lt-ltb 0 u.count bounds.0) (le-leb u.count (done_in row u.group u.view u.proc) bounds.1)
 
 module _ (p : Process) (row : Row) (fits : RowFits p row) (id : Uid) (from_one : 0 < id.count) where
   -- not delivered, by its count
@@ -90,7 +104,7 @@ module _ (p : Process) (row : Row) (fits : RowFits p row) (m : Message) where
           ap (λ (o : Option Standing). allows q (unwrap_or o Outside)) (sym is) ∙ rule_at q ∙ rule_everywhere all q))
 
       -- the counts tell whether the message is ready
-      pub row_means : IsSound m → is_ready_row numbers row m.id m.times ≡ is_causally_ready groups gate p m
+      pub row_means : IsSound m → is_causally_ready_row numbers row m.id m.times ≡ is_causally_ready groups gate p m
       row_means sound =
           let fresh = undelivered_means p row fits m.id sound.from_one in
           λ i. is_member (fits.standing m.id.group i)

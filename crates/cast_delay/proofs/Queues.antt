@@ -1,34 +1,38 @@
 -- The queue names the first message that is ready, and keeps its meaning.
-use Rattle.std.proofs.Common.{◌≡◌, ◌↔◌, ℕ, ◌<◌, Bool, true, false, cond, not, List, [], ◌∷◌, ◌++◌, filter, Contains, Option, Some, None, unwrap_or, refl, sym, ap, subst, ◌∙◌, inl, inr, arith}
-use Rattle.std.specs.Prelude.{if◌then◌else◌}
+use Rattle.std.proofs.Common.{◌≡◌, ◌↔◌, ℕ, ◌+◌, ◌<◌, Bool, true, false, cond, not, ◌&&◌, List, length, take, [], ◌∷◌, ◌++◌, filter, Contains, Option, Some, None, unwrap_or, refl, sym, ap, subst, ◌∙◌, inl, inr, arith}
+use Rattle.std.specs.Prelude.{if◌then◌else◌, nat_lt, nat_le, slice_get}
 use Rattle.std.specs.List as list
-use Rattle.std.specs.Option.{IsSome, option_map, option_and_then}
+use Rattle.std.specs.Option.{IsSome, option_map, option_map_or, option_and_then}
 use Rattle.std.specs.FinMap.Entries.{put}
-use Rattle.std.proofs.lemmas.Bool.{cases_Bool, false≢true, not-false, and_parts, eqb-true, eq-eqb, ne_eqb}
+use Rattle.std.proofs.lemmas.Bool.{cases_Bool, false≢true, false_from_ne_true, not-false, and_parts, ltb-true, lt-ltb, leb-true, eqb-true, eq-eqb, ne_eqb}
 use Rattle.std.proofs.lemmas.List.{map-append}
+use Rattle.std.proofs.lemmas.List.Folds.{find_at}
 use Rattle.std.proofs.lemmas.List.Elements.{Contains-push_cases}
 use Rattle.cast_types.specs.declared.names.GroupNo.{GroupNo}
 use Rattle.cast_types.specs.declared.names.Proc.{Proc}
 use Rattle.cast_types.specs.declared.names.Key.{Key}
 use Rattle.cast_types.specs.declared.names.Uid.{Uid}
-use Rattle.cast_types.specs.Names.{group_cmp, group_eq, proc_eq}
+use Rattle.cast_types.specs.Names.{Entry, group_cmp, group_eq, proc_eq, named}
 use Rattle.cast_types.specs.Sets.{is_among, set_at}
 use Rattle.cast_types.proofs.Orders.{same_group}
 use Rattle.cast_clock.proofs.Entries.{option_cases}
 use Rattle.cast_frame.specs.declared.message.Message.{Message}
 use Rattle.cast_frame.specs.declared.message.Received.{Received}
 use Rattle.cast_frame.specs.Receipts.{key_eq, message_under}
+use Rattle.cast_frame.proofs.Places.{position_or_len_found}
+use Rattle.cast_delay.specs.declared.turn.Turn.{Turn}
 use Rattle.cast_delay.specs.declared.row.Row.{Row}
 use Rattle.cast_delay.specs.declared.row.Fact.{Fact}
 use Rattle.cast_delay.specs.declared.row.Fact.TheVariants as fact
 use Rattle.cast_delay.specs.declared.offered.Offered.{Offered}
-use Rattle.cast_delay.specs.Ready.{Process, Gate, is_member, is_outside, has_delivered, awaits, is_causally_ready}
-use Rattle.cast_delay.specs.Rows.{number_of, standing_in, is_ready_row, awaits_row, delivered_row, told_row}
-use Rattle.cast_delay.specs.Queue.{Queue, new_row, row_of, change_row, first_for, offered_under, next_key, but_offered, is_awaited, HasOneRowEach, after_delivery}
-use Rattle.cast_delay.specs.Fits.{IsSound, RowFits, row_for, offer_of, Fits, FirstReady, IsAwaited, set_process, told, delivering, FactFits}
+use Rattle.cast_delay.specs.Ready.{Process, Gate, is_member, is_outside, has_delivered, awaits, turn_in, is_causally_ready, is_ready}
+use Rattle.cast_delay.specs.Rows.{number_of, standing_in, is_causally_ready_row, is_ready_row, has_delivered_in, passed_by, awaits_row, delivered_row, told_row}
+use Rattle.cast_delay.specs.Queue.{Queue, new_row, row_of, change_row, first_for, offered_under, next_key, delivered_in, passed_in, but_offered, is_awaited, HasOneRowEach, after_delivery}
+use Rattle.cast_delay.specs.Fits.{IsSound, RowFits, row_for, offer_of, Fits, FirstReady, HasTurns, IsAwaited, set_process, told, delivering, FactFits}
 use Rattle.cast_delay.specs.Laws.{NewFits}
-use Rattle.cast_delay.proofs.Means.{row_means, awaits_means}
-use Rattle.cast_delay.proofs.Finds.{found_in, find_agree, find_mapped, never_found, find-append_some, find-append_none, find_kept, kept_parts, filter_mapped, any_in, found_any, put_at_group}
+use Rattle.cast_delay.proofs.Means.{row_means, awaits_means, delivered_means}
+use Rattle.cast_delay.proofs.Turns.{in_turn, same_turns}
+use Rattle.cast_delay.proofs.Finds.{found_in, find_agree, find_mapped, never_found, find-append_some, find-append_none, find_kept, none_before, kept_parts, filter_mapped, any_in, found_any, put_at_group}
 use Rattle.cast_delay.proofs.Delivers.{told_fits, delivered_fits, ready_parts}
 use Rattle.cast_delay.proofs.Rows.{some_row, rows_changed, row_admitted}
 
@@ -67,48 +71,75 @@ after_at : (offered : List Offered) (p : Proc) (key : Key) (rows : List Row) (o 
 after_at offered p key rows o at =
     ap (λ (x : Option Offered). elim x as (λ _. List Row) [ Some y ↦ change_row p (delivered_row y.id y.times) rows | None ↦ rows ]) at
 
+-- what was not admitted has delivered nothing
+nothing_done : (n : ℕ) → (nat_lt 0 n && nat_le n 0) ≡ false
+nothing_done n = false_from_ne_true (nat_lt 0 n && nat_le n 0) (λ both.
+    let parts = and_parts (nat_lt 0 n) (nat_le n 0) both in
+    omega (arith, ltb-true 0 n parts.0, leb-true n 0 parts.1))
+
+-- a first item that passes stands at place 0
+first_place : (t : Entry → Bool) (e : Entry) (ids : List Entry) → t e ≡ true → unwrap_or (list.position t (e ∷ ids)) (length (e ∷ ids)) ≡ 0
+first_place t e ids passes =
+    ap (λ b. unwrap_or (cond (nat_lt (cond (not b) (1 + list.position_or_len t ids) 0) (length (e ∷ ids))) (Some (cond (not b) (1 + list.position_or_len t ids) 0)) None) (length (e ∷ ids))) passes
+    ∙ ap (λ b. unwrap_or (cond b (Some 0) None) (length (e ∷ ids))) (lt-ltb 0 (length (e ∷ ids)) (omega arith))
+
+nothing_passed : (p : Proc) (g : GroupNo) (view : ℕ) (ids : List Entry) → passed_by (new_row p) g view ids ≡ 0
+nothing_passed p g view [] = refl
+nothing_passed p g view (e ∷ ids) = first_place (λ d. not (has_delivered_in (new_row p) (named g view d))) e ids (ap not (nothing_done e.1))
+
 module _ (groups : List GroupNo) (gate : GroupNo → Gate) (processes : Proc → Process) (received : List Received) (q : Queue) (fits : Fits groups gate processes received q) where
   -- the row that a process stands for means the rule
-  pub stands_for : (p : Proc) (m : Message) → IsSound m → is_ready_row q.numbers (row_for q.rows p) m.id m.times ≡ is_causally_ready groups gate (processes p) m
+  pub stands_for : (p : Proc) (m : Message) → IsSound m → is_causally_ready_row q.numbers (row_for q.rows p) m.id m.times ≡ is_causally_ready groups gate (processes p) m
   stands_for p m sound = row_means (processes p) (row_for q.rows p) (fits.rows p) m groups gate q.numbers fits.numbers (fits.groups_known p) sound
 
-  pub row_rules : (p : Proc) (row : Row) (m : Message) → row_of q.rows p ≡ Some row → IsSound m → is_ready_row q.numbers row m.id m.times ≡ is_causally_ready groups gate (processes p) m
-  row_rules p row m at sound = ap (λ (o : Option Row). is_ready_row q.numbers (unwrap_or o (new_row p)) m.id m.times) (sym at) ∙ stands_for p m sound
+  pub row_rules : (p : Proc) (row : Row) (m : Message) → row_of q.rows p ≡ Some row → IsSound m → is_causally_ready_row q.numbers row m.id m.times ≡ is_causally_ready groups gate (processes p) m
+  row_rules p row m at sound = ap (λ (o : Option Row). is_causally_ready_row q.numbers (unwrap_or o (new_row p)) m.id m.times) (sym at) ∙ stands_for p m sound
 
-  -- a process that was not admitted is named no message, as a row of no group would be
-  next_is : (p : Proc) → next_key q p ≡ option_map (λ o. o.key) (first_for q.numbers q.offered (row_for q.rows p))
-  next_is p = elim (option_cases (row_of q.rows p)) [
-    | inl none ↦
-        ap (λ (o : Option Row). option_map (λ x. x.key) (option_and_then (first_for q.numbers q.offered) o)) none
-        ∙ ap (λ (o : Option Offered). option_map (λ x. x.key) o) (sym (never_found (λ o. is_ready_row q.numbers (new_row p) o.id o.times) q.offered (λ o. refl)))
-        ∙ ap (λ (o : Option Row). option_map (λ x. x.key) (first_for q.numbers q.offered (unwrap_or o (new_row p)))) (sym none)
-    | inr (row, some) ↦
-        ap (λ (o : Option Row). option_map (λ x. x.key) (option_and_then (first_for q.numbers q.offered) o)) some
-        ∙ ap (λ (o : Option Row). option_map (λ x. x.key) (first_for q.numbers q.offered (unwrap_or o (new_row p)))) (sym some)
-  ]
+  module _ (p : Proc) (turns : List (GroupNo × Turn)) where
+    -- a process that was not admitted is named no message, as a row of no group would be
+    next_is : next_key turns q p ≡ option_map (λ o. o.key) (first_for turns q.numbers q.offered (row_for q.rows p))
+    next_is = elim (option_cases (row_of q.rows p)) [
+      | inl none ↦
+          ap (λ (o : Option Row). option_map (λ x. x.key) (option_and_then (first_for turns q.numbers q.offered) o)) none
+          ∙ ap (λ (o : Option Offered). option_map (λ x. x.key) o) (sym (never_found (is_ready_row turns q.numbers (new_row p)) q.offered (λ o. refl)))
+          ∙ ap (λ (o : Option Row). option_map (λ x. x.key) (first_for turns q.numbers q.offered (unwrap_or o (new_row p)))) (sym none)
+      | inr (row, some) ↦
+          ap (λ (o : Option Row). option_map (λ x. x.key) (option_and_then (first_for turns q.numbers q.offered) o)) some
+          ∙ ap (λ (o : Option Row). option_map (λ x. x.key) (first_for turns q.numbers q.offered (unwrap_or o (new_row p)))) (sym some)
+    ]
 
-  abbrev ready_at : Proc → Received → Bool
-  ready_at p r = is_causally_ready groups gate (processes p) r.message
+    module _ (turn : GroupNo → Turn) (agree : HasTurns (processes p) turns turn) where
+      -- and with the turns of its groups
+      pub turn_stands : (r : Received) → IsSound r.message → is_ready_row turns q.numbers (row_for q.rows p) (offer_of r) ≡ is_ready groups gate turn (processes p) r.message
+      turn_stands r sound =
+          ap (λ b. b && in_turn (turn_in turns) r.message) (stands_for p r.message sound)
+          ∙ same_turns groups gate (processes p) (turn_in turns) turn agree r.message
 
-  -- the first that is ready by the rows is the first that is ready
-  first_is : (p : Proc) → first_for q.numbers q.offered (row_for q.rows p) ≡ option_map offer_of (list.find (ready_at p) received)
-  first_is p =
-      ap (λ os. first_for q.numbers os (row_for q.rows p)) fits.offered
-      ∙ find_mapped offer_of (λ o. is_ready_row q.numbers (row_for q.rows p) o.id o.times) received
-      ∙ ap (λ (o : Option Received). option_map offer_of o) (find_agree (λ r. is_ready_row q.numbers (row_for q.rows p) r.message.id r.message.times) (ready_at p) received (λ r in_it. stands_for p r.message (fits.sound r in_it)))
+      pub turn_rules : (row : Row) (r : Received) → row_of q.rows p ≡ Some row → IsSound r.message → is_ready_row turns q.numbers row (offer_of r) ≡ is_ready groups gate turn (processes p) r.message
+      turn_rules row r at sound = ap (λ (o : Option Row). is_ready_row turns q.numbers (unwrap_or o (new_row p)) (offer_of r)) (sym at) ∙ turn_stands r sound
 
-  first_from : (p : Proc) (f : Option Received) → list.find (ready_at p) received ≡ f → FirstReady groups gate (processes p) received (option_map (λ o. o.key) (option_map offer_of f))
-  first_from p None is = find_mapped (λ r. r.message) (is_causally_ready groups gate (processes p)) received ∙ ap (λ (o : Option Received). option_map (λ r. r.message) o) is
-  first_from p (Some r) is = (
-    r.message,
-    fits.named r (found_in (ready_at p) received r is),
-    find_mapped (λ x. x.message) (is_causally_ready groups gate (processes p)) received ∙ ap (λ (o : Option Received). option_map (λ x. x.message) o) is,
-  )
+      abbrev ready_at : Received → Bool
+      ready_at r = is_ready groups gate turn (processes p) r.message
 
-  -- the queue names the first message that is ready
-  pub next_rules : (p : Proc) → FirstReady groups gate (processes p) received (next_key q p)
-  next_rules p =
-      subst (λ k. FirstReady groups gate (processes p) received k) (sym (next_is p ∙ ap (λ (o : Option Offered). option_map (λ x. x.key) o) (first_is p))) (first_from p (list.find (ready_at p) received) refl)
+      -- the first that is ready by the rows is the first that is ready
+      first_is : first_for turns q.numbers q.offered (row_for q.rows p) ≡ option_map offer_of (list.find ready_at received)
+      first_is =
+          ap (λ os. first_for turns q.numbers os (row_for q.rows p)) fits.offered
+          ∙ find_mapped offer_of (is_ready_row turns q.numbers (row_for q.rows p)) received
+          ∙ ap (λ (o : Option Received). option_map offer_of o) (find_agree (λ r. is_ready_row turns q.numbers (row_for q.rows p) (offer_of r)) ready_at received (λ r in_it. turn_stands r (fits.sound r in_it)))
+
+      first_from : (f : Option Received) → list.find ready_at received ≡ f → FirstReady groups gate turn (processes p) received (option_map (λ o. o.key) (option_map offer_of f))
+      first_from None is = find_mapped (λ r. r.message) (is_ready groups gate turn (processes p)) received ∙ ap (λ (o : Option Received). option_map (λ r. r.message) o) is
+      first_from (Some r) is = (
+        r.message,
+        fits.named r (found_in ready_at received r is),
+        find_mapped (λ x. x.message) (is_ready groups gate turn (processes p)) received ∙ ap (λ (o : Option Received). option_map (λ x. x.message) o) is,
+      )
+
+      -- the queue names the first message that is ready
+      pub next_rules : FirstReady groups gate turn (processes p) received (next_key turns q p)
+      next_rules =
+          subst (λ k. FirstReady groups gate turn (processes p) received k) (sym (next_is ∙ ap (λ (o : Option Offered). option_map (λ x. x.key) o) first_is)) (first_from (list.find ready_at received) refl)
 
   -- a process that is admitted means what it meant
   pub admit_fits : (p : Proc) → Fits groups gate processes received (record q { rows = q.rows ++ new_row p ∷ [] })
@@ -146,6 +177,52 @@ module _ (groups : List GroupNo) (gate : GroupNo → Gate) (processes : Proc →
   -- a process awaits a message by its row as it does by what it delivered
   pub awaited_by : (p : Proc) (row : Row) → row_of q.rows p ≡ Some row → (id : Uid) → 0 < id.count → awaits_row row id ≡ awaits (processes p) id
   awaited_by p row at id from_one = awaits_means (processes p) row (row_at p row at) id from_one
+
+  -- and has delivered one by its row as it did by what it delivered
+  pub delivered_by : (p : Proc) (row : Row) → row_of q.rows p ≡ Some row → (id : Uid) → has_delivered_in row id ≡ has_delivered (processes p) id
+  delivered_by p row at id = delivered_means (processes p) row (row_at p row at) id
+
+  pub delivered_rules : (p : Proc) (id : Uid) → delivered_in q p id ≡ has_delivered (processes p) id
+  delivered_rules p id = elim (option_cases (row_of q.rows p)) [
+    | inl none ↦
+        ap (λ (o : Option Row). option_map_or (λ row. has_delivered_in row id) o false) none
+        ∙ sym (nothing_done id.count)
+        ∙ ap (λ (o : Option Row). has_delivered_in (unwrap_or o (new_row p)) id) (sym none)
+        ∙ delivered_means (processes p) (row_for q.rows p) (fits.rows p) id
+    | inr (row, some) ↦
+        ap (λ (o : Option Row). option_map_or (λ r. has_delivered_in r id) o false) some
+        ∙ delivered_by p row some id
+  ]
+
+  -- a process has passed the ids that it delivered, up to the first that it did not
+  passed_as : (p : Proc) (row : Row) → RowFits (processes p) row → (g : GroupNo) (view : ℕ) (ids : List Entry) → passed_by row g view ids ≡ unwrap_or (list.position (λ e. not (has_delivered (processes p) (named g view e))) ids) (length ids)
+  passed_as p row fit g view ids = λ i. unwrap_or (list.position (λ e. not (delivered_means (processes p) row fit (named g view e) i)) ids) (length ids)
+
+  pub passed_rules : (p : Proc) (g : GroupNo) (view : ℕ) (ids : List Entry) → passed_in q p g view ids ≡ unwrap_or (list.position (λ e. not (has_delivered (processes p) (named g view e))) ids) (length ids)
+  passed_rules p g view ids = elim (option_cases (row_of q.rows p)) [
+    | inl none ↦
+        ap (λ (o : Option Row). option_map_or (λ row. passed_by row g view ids) o 0) none
+        ∙ sym (nothing_passed p g view ids)
+        ∙ ap (λ (o : Option Row). passed_by (unwrap_or o (new_row p)) g view ids) (sym none)
+        ∙ passed_as p (row_for q.rows p) (fits.rows p) g view ids
+    | inr (row, some) ↦
+        ap (λ (o : Option Row). option_map_or (λ r. passed_by r g view ids) o 0) some
+        ∙ passed_as p row (row_at p row some) g view ids
+  ]
+
+  -- the ids that it has passed it delivered
+  pub passed_delivered : (p : Proc) (g : GroupNo) (view : ℕ) (ids : List Entry) → list.find (λ e. not (has_delivered (processes p) (named g view e))) (take (passed_in q p g view ids) ids) ≡ None
+  passed_delivered p g view ids =
+      let missing : Entry → Bool = λ e. not (has_delivered (processes p) (named g view e)) in
+      ap (λ n. list.find missing (take n ids)) (passed_rules p g view ids ∙ position_or_len_found missing ids)
+      ∙ none_before missing ids
+
+  -- and what stands there is the first that it did not
+  pub passed_next : (p : Proc) (g : GroupNo) (view : ℕ) (ids : List Entry) → list.find (λ e. not (has_delivered (processes p) (named g view e))) ids ≡ slice_get ids (passed_in q p g view ids)
+  passed_next p g view ids =
+      let missing : Entry → Bool = λ e. not (has_delivered (processes p) (named g view e)) in
+      find_at missing ids
+      ∙ ap (λ n. slice_get ids n) (sym (passed_rules p g view ids ∙ position_or_len_found missing ids))
 
   -- who awaits a message was admitted
   awaits_admitted : (p : Proc) (id : Uid) → awaits (processes p) id ≡ true → (row : Row) × (row_of q.rows p ≡ Some row)
@@ -201,7 +278,7 @@ module _ (groups : List GroupNo) (gate : GroupNo → Gate) (processes : Proc →
   ready_row : (p : Proc) (m : Message) → IsSound m → is_causally_ready groups gate (processes p) m ≡ true → (row : Row) × (row_of q.rows p ≡ Some row)
   ready_row p m sound ready = elim (option_cases (row_of q.rows p)) [
     | inl none ↦
-        absurd (false≢true (ap (λ (o : Option Row). is_ready_row q.numbers (unwrap_or o (new_row p)) m.id m.times) (sym none) ∙ stands_for p m sound ∙ ready))
+        absurd (false≢true (ap (λ (o : Option Row). is_causally_ready_row q.numbers (unwrap_or o (new_row p)) m.id m.times) (sym none) ∙ stands_for p m sound ∙ ready))
     | inr some ↦ some
   ]
 
@@ -285,8 +362,14 @@ new_fits groups = record {
 }
 
 -- the clauses on what the queue answers
-pub next_means : (q : Queue) (p : Proc) (k : Option Key) → k ≡ next_key q p → (groups : List GroupNo) (gate : GroupNo → Gate) (processes : Proc → Process) (received : List Received) → Fits groups gate processes received q → FirstReady groups gate (processes p) received k
-next_means q p k is groups gate processes received fits = subst (λ x. FirstReady groups gate (processes p) received x) (sym is) (next_rules groups gate processes received q fits p)
+pub next_means : (turns : List (GroupNo × Turn)) (q : Queue) (p : Proc) (k : Option Key) → k ≡ next_key turns q p → (groups : List GroupNo) (gate : GroupNo → Gate) (processes : Proc → Process) (received : List Received) → Fits groups gate processes received q → (turn : GroupNo → Turn) → HasTurns (processes p) turns turn → FirstReady groups gate turn (processes p) received k
+next_means turns q p k is groups gate processes received fits turn agree = subst (λ x. FirstReady groups gate turn (processes p) received x) (sym is) (next_rules groups gate processes received q fits p turns turn agree)
+
+pub delivered_is : (q : Queue) (p : Proc) (id : Uid) (b : Bool) → b ≡ delivered_in q p id → (groups : List GroupNo) (gate : GroupNo → Gate) (processes : Proc → Process) (received : List Received) → Fits groups gate processes received q → b ≡ has_delivered (processes p) id
+delivered_is q p id b is groups gate processes received fits = is ∙ delivered_rules groups gate processes received q fits p id
+
+pub passed_is : (q : Queue) (p : Proc) (g : GroupNo) (view : ℕ) (ids : List Entry) (n : ℕ) → n ≡ passed_in q p g view ids → (groups : List GroupNo) (gate : GroupNo → Gate) (processes : Proc → Process) (received : List Received) → Fits groups gate processes received q → n ≡ unwrap_or (list.position (λ e. not (has_delivered (processes p) (named g view e))) ids) (length ids)
+passed_is q p g view ids n is groups gate processes received fits = is ∙ passed_rules groups gate processes received q fits p g view ids
 
 pub awaited_means : (q : Queue) (id : Uid) (b : Bool) → b ≡ is_awaited q.rows id → (groups : List GroupNo) (gate : GroupNo → Gate) (processes : Proc → Process) (received : List Received) → Fits groups gate processes received q → 0 < id.count → HasOneRowEach q.rows → (b ≡ true) ↔ IsAwaited processes id
 awaited_means q id b is groups gate processes received fits from_one one = subst (λ x. (x ≡ true) ↔ IsAwaited processes id) (sym is) (awaited_rules groups gate processes received q fits one id from_one)

@@ -1,5 +1,5 @@
 -- The test of readiness says what the rule says in words.
-use Rattle.std.proofs.Common.{◌≡◌, ◌⊎◌, ℕ, zero, suc, Bool, true, not, ◌&&◌, ◌||◌, List, [], ◌∷◌, Contains, Option, unwrap_or, refl, sym, ap, subst, ◌∙◌, inl, inr, arith}
+use Rattle.std.proofs.Common.{◌≡◌, ◌⊎◌, ℕ, zero, suc, Bool, true, not, ◌&&◌, ◌||◌, List, [], ◌∷◌, Contains, Option, Some, None, unwrap_or, refl, sym, ap, subst, ◌∙◌, inl, inr, arith}
 use Rattle.std.specs.Prelude.{nat_lt, ◌==◌, IsTrue}
 use Rattle.std.specs.List.{list_all, range_with_len}
 use Rattle.std.specs.FinMap.Entries.{is_sorted}
@@ -8,7 +8,9 @@ use Rattle.cast_types.specs.declared.names.GroupNo.{GroupNo}
 use Rattle.cast_types.specs.declared.names.Uid.{Uid}
 use Rattle.cast_types.specs.declared.names.Standing.{Standing}
 use Rattle.cast_types.specs.declared.names.Standing.TheVariants.{Outside, Joining, Member}
-use Rattle.cast_types.specs.Names.{group_cmp, proc_cmp, uid_eq, named}
+use Rattle.cast_types.specs.declared.names.Kind.{Kind}
+use Rattle.cast_types.specs.declared.names.Kind.TheVariants.{Causal, Atomic, Order}
+use Rattle.cast_types.specs.Names.{Entry, group_cmp, proc_cmp, uid_eq, named, entry_of, is_atomic}
 use Rattle.cast_types.specs.Sets.{is_among}
 use Rattle.cast_types.specs.Counts.{count_of}
 use Rattle.cast_types.proofs.Orders.{group_exact, proc_total, proc_exact, same_uid, uid_itself}
@@ -16,12 +18,16 @@ use Rattle.cast_clock.specs.Times.{first_clock, clock_of, view_of, join, has_roo
 use Rattle.cast_clock.specs.Laws.{is_in_order}
 use Rattle.cast_clock.proofs.Entries.{found_or, each_found, as_T}
 use Rattle.cast_frame.specs.declared.message.Message.{Message}
-use Rattle.cast_delay.specs.Ready.{Process, Gate, is_member, has_delivered, past_in, group_allows, is_causally_ready}
-use Rattle.cast_delay.specs.Rule.{HappenedBefore, Allows, MayBeDelivered, RuleInWords}
+use Rattle.cast_frame.specs.Bodies.{kind_of}
+use Rattle.cast_delay.specs.declared.turn.Turn.{Turn}
+use Rattle.cast_delay.specs.declared.turn.Turn.TheVariants.{Holding, Following}
+use Rattle.cast_delay.specs.Ready.{Process, Gate, is_member, has_delivered, past_in, group_allows, has_turn, is_causally_ready, is_ready}
+use Rattle.cast_delay.specs.Rule.{HappenedBefore, Allows, MayBeDelivered, IsTurnOf, MayBeDeliveredInTurn, RuleInWords, TurnInWords}
 use Rattle.cast_delay.proofs.Listed.{range_holds, holds_range}
 use Rattle.cast_delay.proofs.Counted.{past_spelled}
 use Rattle.cast_delay.proofs.Delivers.{only_member}
 use Rattle.cast_delay.proofs.Finds.{contains_here, contains_later}
+use Rattle.cast_delay.proofs.Turns.{in_turn, same_entry, entry_itself, ready_causally, ready_has_turn}
 
 -- an item of a longer list is its first or one of the rest
 contains_cases : {A : Type 0} (x y : A) (xs : List A) → Contains (x ∷ xs) y → (x ≡ y) ⊎ Contains xs y
@@ -146,3 +152,39 @@ module _ (p : Process) (m : Message) (ordered : IsTrue (is_in_order m.times)) wh
 
 pub rule_in_words : RuleInWords
 rule_in_words groups gate p m ordered = (words_there p m ordered groups gate, words_back p m ordered groups gate)
+
+-- the test of a turn says what the turn asks
+turn_there : (t : Turn) (e : Entry) → has_turn t e ≡ true → IsTurnOf t e
+turn_there (Holding room) e is = is
+turn_there (Following None) e is = false≢true is
+turn_there (Following (Some next)) e is = same_entry e next is
+
+turn_back : (t : Turn) (e : Entry) → IsTurnOf t e → has_turn t e ≡ true
+turn_back (Holding room) e is = is
+turn_back (Following None) e is = absurd is
+turn_back (Following (Some next)) e is = ap (λ (f : Entry). has_turn (Following (Some next)) f) is ∙ entry_itself next
+
+only_atomic : (k : Kind) → is_atomic k ≡ true → k ≡ Atomic
+only_atomic Causal e = absurd (false≢true e)
+only_atomic Atomic e = refl
+only_atomic Order e = absurd (false≢true e)
+
+pub turn_in_words : TurnInWords
+turn_in_words groups gate turn p m ordered = (there, back)
+  where
+    there : is_ready groups gate turn p m ≡ true → MayBeDeliveredInTurn groups gate turn p m
+    there ready = record {
+      causally = words_there p m ordered groups gate (ready_causally groups gate p turn m ready);
+      in_turn = λ atomic. turn_there (turn m.id.group) (entry_of m.id) (ready_has_turn groups gate p turn m ready (ap is_atomic atomic));
+    }
+
+    its_turn : MayBeDeliveredInTurn groups gate turn p m → in_turn turn m ≡ true
+    its_turn may = elim (cases_Bool (is_atomic (kind_of m.body))) [
+      | inl atomic ↦
+          or_right (not (is_atomic (kind_of m.body))) (has_turn (turn m.id.group) (entry_of m.id)) (turn_back (turn m.id.group) (entry_of m.id) (may.in_turn (only_atomic (kind_of m.body) atomic)))
+      | inr other ↦
+          or_left (not (is_atomic (kind_of m.body))) (has_turn (turn m.id.group) (entry_of m.id)) (not_from_false (is_atomic (kind_of m.body)) other)
+    ]
+
+    back : MayBeDeliveredInTurn groups gate turn p m → is_ready groups gate turn p m ≡ true
+    back may = and_from (is_causally_ready groups gate p m) (in_turn turn m) (words_back p m ordered groups gate may.causally) (its_turn may)

@@ -5,17 +5,19 @@ use Rattle.cast_types.specs.declared.names.GroupNo.{GroupNo}
 use Rattle.cast_types.specs.declared.names.Proc.{Proc}
 use Rattle.cast_types.specs.declared.names.Key.{Key}
 use Rattle.cast_types.specs.declared.names.Uid.{Uid}
-use Rattle.cast_types.specs.Names.{group_cmp, group_eq, proc_eq}
+use Rattle.cast_types.specs.Names.{group_cmp, group_eq, proc_eq, is_atomic}
 use Rattle.cast_types.specs.Sets.{is_among, set_at}
 use Rattle.cast_clock.specs.Times.{view_of, count_in, join}
 use Rattle.cast_frame.specs.declared.message.Message.{Message}
 use Rattle.cast_frame.specs.declared.message.Received.{Received}
+use Rattle.cast_frame.specs.Bodies.{kind_of}
 use Rattle.cast_frame.specs.Receipts.{messages, message_under}
+use Rattle.cast_delay.specs.declared.turn.Turn.{Turn}
 use Rattle.cast_delay.specs.declared.offered.Offered.{Offered}
 use Rattle.cast_delay.specs.declared.row.Row.{Row}
 use Rattle.cast_delay.specs.declared.row.Fact.{Fact}
 use Rattle.cast_delay.specs.declared.row.Fact.TheVariants as fact
-use Rattle.cast_delay.specs.Ready.{Process, Gate, is_outside, has_delivered, awaits, first_ready}
+use Rattle.cast_delay.specs.Ready.{Process, Gate, is_member, is_outside, has_delivered, awaits, turn_in, first_ready}
 use Rattle.cast_delay.specs.Rows.{number_of, standing_in, done_in}
 use Rattle.cast_delay.specs.Queue.{Queue, new_row, row_of}
 
@@ -37,7 +39,7 @@ abbrev pub row_for : List Row → Proc → Row
 row_for rows p = unwrap_or (row_of rows p) (new_row p)
 
 abbrev pub offer_of : Received → Offered
-offer_of r = record { key = r.key; id = r.message.id; times = r.message.times }
+offer_of r = record { key = r.key; id = r.message.id; atomic = is_atomic (kind_of r.message.body); times = r.message.times }
 
 -- the queue tells of these groups, processes and messages in order of receipt
 pub record Fits (groups : List GroupNo) (gate : GroupNo → Gate) (processes : Proc → Process) (received : List Received) (q : Queue) : Type 0 where
@@ -49,10 +51,14 @@ pub record Fits (groups : List GroupNo) (gate : GroupNo → Gate) (processes : P
   pub sound : (r : Received) → Contains received r → IsSound r.message
 
 -- the result is the key of the first message in order of receipt that is ready, and none only where none is
-abbrev pub FirstReady : List GroupNo → (GroupNo → Gate) → Process → List Received → Option Key → Type 0
-FirstReady groups gate p received None = first_ready groups gate p (messages received) ≡ None
-FirstReady groups gate p received (Some key) =
-    (m : Message) × (message_under received key ≡ Some m) × (first_ready groups gate p (messages received) ≡ Some m)
+abbrev pub FirstReady : List GroupNo → (GroupNo → Gate) → (GroupNo → Turn) → Process → List Received → Option Key → Type 0
+FirstReady groups gate turn p received None = first_ready groups gate turn p (messages received) ≡ None
+FirstReady groups gate turn p received (Some key) =
+    (m : Message) × (message_under received key ≡ Some m) × (first_ready groups gate turn p (messages received) ≡ Some m)
+
+-- the list has the turn of each group that the process is a member of
+abbrev pub HasTurns : Process → List (GroupNo × Turn) → (GroupNo → Turn) → Type 0
+HasTurns p turns turn = (g : GroupNo) → is_member (p.standing g) ≡ true → turn_in turns g ≡ turn g
 
 -- some process that is a member of the message's group has not delivered it
 abbrev pub IsAwaited : (Proc → Process) → Uid → Type 0

@@ -13,20 +13,38 @@ use Rattle.cast_clock.specs.Times.{no_time}
 use Rattle.cast_frame.specs.declared.message.Message.{Message}
 use Rattle.cast_frame.specs.declared.message.Received.{Received}
 use Rattle.cast_frame.specs.Receipts.{key_eq, message_under}
+use Rattle.cast_delay.specs.declared.turn.Turn.{Turn}
 use Rattle.cast_delay.specs.declared.row.Row.{Row}
 use Rattle.cast_delay.specs.declared.row.Fact.{Fact}
-use Rattle.cast_delay.specs.Ready.{Process, Gate, awaits, is_causally_ready}
-use Rattle.cast_delay.specs.Rows.{told_row, is_ready_row, awaits_row}
+use Rattle.cast_delay.specs.Ready.{Process, Gate, has_delivered, awaits, is_causally_ready, is_ready}
+use Rattle.cast_delay.specs.Rows.{told_row, is_causally_ready_row, is_ready_row, has_delivered_in, awaits_row}
 use Rattle.cast_delay.specs.Queue.{Queue, new_row, row_of, change_row, next_key, but_offered, after_delivery}
-use Rattle.cast_delay.specs.Fits.{Fits, FirstReady, IsSound, offer_of, set_process, told, delivering, FactFits}
+use Rattle.cast_delay.specs.Fits.{Fits, FirstReady, HasTurns, IsSound, offer_of, set_process, told, delivering, FactFits}
 
--- by what the queue keeps of a process, a message is ready exactly if it is by what the process delivered
+-- by what the queue keeps of a process, a message is causally ready exactly if it is by what the process delivered
 abbrev pub RowMeansTheRule : Type 0
 RowMeansTheRule =
     (groups : List GroupNo) (gate : GroupNo → Gate) (processes : Proc → Process) (received : List Received) (q : Queue)
     → Fits groups gate processes received q → (p : Proc) (row : Row) (m : Message)
     → row_of q.rows p ≡ Some row → IsSound m
-    → is_ready_row q.numbers row m.id m.times ≡ is_causally_ready groups gate (processes p) m
+    → is_causally_ready_row q.numbers row m.id m.times ≡ is_causally_ready groups gate (processes p) m
+
+-- and with the turns of its groups, a message that is offered is ready exactly if it is by what the process delivered
+abbrev pub TurnMeansTheRule : Type 0
+TurnMeansTheRule =
+    (groups : List GroupNo) (gate : GroupNo → Gate) (processes : Proc → Process) (received : List Received) (q : Queue)
+    → Fits groups gate processes received q → (p : Proc) (turns : List (GroupNo × Turn)) (turn : GroupNo → Turn)
+    → HasTurns (processes p) turns turn → (row : Row) (r : Received)
+    → row_of q.rows p ≡ Some row → IsSound r.message
+    → is_ready_row turns q.numbers row (offer_of r) ≡ is_ready groups gate turn (processes p) r.message
+
+-- by what the queue keeps of a process, it has delivered a message exactly if that is among what it delivered
+abbrev pub DeliveredIsTheRule : Type 0
+DeliveredIsTheRule =
+    (groups : List GroupNo) (gate : GroupNo → Gate) (processes : Proc → Process) (received : List Received) (q : Queue)
+    → Fits groups gate processes received q → (p : Proc) (row : Row)
+    → row_of q.rows p ≡ Some row → (id : Uid)
+    → has_delivered_in row id ≡ has_delivered (processes p) id
 
 -- by what the queue keeps of a process, it awaits a message exactly if it does by what it delivered
 abbrev pub AwaitedIsTheRule : Type 0
@@ -36,12 +54,13 @@ AwaitedIsTheRule =
     → row_of q.rows p ≡ Some row → (id : Uid) → 0 < id.count
     → awaits_row row id ≡ awaits (processes p) id
 
--- the queue names the first message that is ready
+-- the queue names the first message that is ready, by the turns of the groups that the process is a member of
 abbrev pub QueueMeansTheRule : Type 0
 QueueMeansTheRule =
     (groups : List GroupNo) (gate : GroupNo → Gate) (processes : Proc → Process) (received : List Received) (q : Queue)
-    → Fits groups gate processes received q → (p : Proc)
-    → FirstReady groups gate (processes p) received (next_key q p)
+    → Fits groups gate processes received q → (p : Proc) (turns : List (GroupNo × Turn)) (turn : GroupNo → Turn)
+    → HasTurns (processes p) turns turn
+    → FirstReady groups gate turn (processes p) received (next_key turns q p)
 
 -- a new queue means views of number 0, processes in no group, and no messages
 abbrev pub NewFits : Type 0
@@ -86,7 +105,7 @@ OfferKeepsMeaning =
     → IsSound r.message → message_under received r.key ≡ None
     → Fits groups gate processes (received ++ r ∷ []) (record q { offered = q.offered ++ offer_of r ∷ [] })
 
--- a process delivers a message that is ready for it
+-- a process delivers a message that is causally ready for it, as each is that is ready
 abbrev pub DeliveryKeepsMeaning : Type 0
 DeliveryKeepsMeaning =
     (groups : List GroupNo) (gate : GroupNo → Gate) (processes : Proc → Process) (received : List Received) (q : Queue)

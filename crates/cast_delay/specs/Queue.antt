@@ -1,16 +1,17 @@
 -- The queue as contracts see it: numbers of views, messages in order of receipt, and what is kept of each process.
-use Rattle.std.specs.Prelude.{◌≡◌, ℕ, Bool, not, if◌then◌else◌, List, [], map, filter, Contains, Option, Some, None}
+use Rattle.std.specs.Prelude.{◌≡◌, ℕ, Bool, false, not, if◌then◌else◌, List, [], map, filter, Contains, Option, Some, None}
 use Rattle.std.specs.List.{find, list_any}
-use Rattle.std.specs.Option.{option_map, option_and_then}
+use Rattle.std.specs.Option.{option_map, option_map_or, option_and_then}
 use Rattle.cast_types.specs.declared.names.GroupNo.{GroupNo}
 use Rattle.cast_types.specs.declared.names.Proc.{Proc}
 use Rattle.cast_types.specs.declared.names.Key.{Key}
 use Rattle.cast_types.specs.declared.names.Uid.{Uid}
-use Rattle.cast_types.specs.Names.{proc_eq}
+use Rattle.cast_types.specs.Names.{Entry, proc_eq}
 use Rattle.cast_frame.specs.Receipts.{key_eq}
+use Rattle.cast_delay.specs.declared.turn.Turn.{Turn}
 use Rattle.cast_delay.specs.declared.row.Row.{Row}
 use Rattle.cast_delay.specs.declared.offered.Offered.{Offered}
-use Rattle.cast_delay.specs.Rows.{is_ready_row, awaits_row, delivered_row}
+use Rattle.cast_delay.specs.Rows.{is_ready_row, has_delivered_in, passed_by, awaits_row, delivered_row}
 
 pub record Queue : Type 0 where
   pub numbers : List (GroupNo × ℕ)
@@ -28,15 +29,23 @@ abbrev pub change_row : Proc → (Row → Row) → List Row → List Row
 change_row p f rows = map (λ r. if proc_eq r.process p then f r else r) rows
 
 -- the first message offered that is ready for a row
-abbrev pub first_for : List (GroupNo × ℕ) → List Offered → Row → Option Offered
-first_for numbers offered row = find (λ o. is_ready_row numbers row o.id o.times) offered
+abbrev pub first_for : List (GroupNo × Turn) → List (GroupNo × ℕ) → List Offered → Row → Option Offered
+first_for turns numbers offered row = find (is_ready_row turns numbers row) offered
 
 abbrev pub offered_under : List Offered → Key → Option Offered
 offered_under offered key = find (λ o. key_eq o.key key) offered
 
--- the key of the first message that is ready for a process
-abbrev pub next_key : Queue → Proc → Option Key
-next_key q p = option_map (λ o. o.key) (option_and_then (first_for q.numbers q.offered) (row_of q.rows p))
+-- the key of the first message that is ready for a process, where these are the turns of groups
+abbrev pub next_key : List (GroupNo × Turn) → Queue → Proc → Option Key
+next_key turns q p = option_map (λ o. o.key) (option_and_then (first_for turns q.numbers q.offered) (row_of q.rows p))
+
+-- whether a process has delivered a message; one that was not admitted has delivered none
+abbrev pub delivered_in : Queue → Proc → Uid → Bool
+delivered_in q p id = option_map_or (λ row. has_delivered_in row id) (row_of q.rows p) false
+
+-- how many of these ids of a view of a group a process has delivered before the first that it has not
+abbrev pub passed_in : Queue → Proc → GroupNo → ℕ → List Entry → ℕ
+passed_in q p group view ids = option_map_or (λ row. passed_by row group view ids) (row_of q.rows p) 0
 
 -- the rows after a delivery of the message under a key
 abbrev pub after_delivery : List Offered → Proc → Key → List Row → List Row

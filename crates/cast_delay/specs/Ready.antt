@@ -1,16 +1,20 @@
--- When a received message may be delivered to a process: after all that happened before it.
-use Rattle.std.specs.Prelude.{ℕ, Bool, true, false, not, ◌&&◌, ◌||◌, ◌==◌, nat_lt, nat_le, List, map, filter, Option}
+-- When a received message may be delivered to a process: after all that happened before it, and an ABCAST in its turn.
+use Rattle.std.specs.Prelude.{ℕ, Bool, true, false, not, ◌&&◌, ◌||◌, ◌==◌, nat_lt, nat_le, List, map, filter, Option, Some, None}
 use Rattle.std.specs.List.{list_all, flat_map, find, range_with_len}
+use Rattle.std.specs.Option.{option_map_or}
 use Rattle.cast_types.specs.declared.names.GroupNo.{GroupNo}
 use Rattle.cast_types.specs.declared.names.Uid.{Uid}
 use Rattle.cast_types.specs.declared.names.Standing.{Standing}
 use Rattle.cast_types.specs.declared.names.Standing.TheVariants.{Outside, Joining, Member}
-use Rattle.cast_types.specs.Names.{Entry, uid_eq, named}
+use Rattle.cast_types.specs.Names.{Entry, group_eq, entry_eq, uid_eq, named, entry_of, is_atomic}
 use Rattle.cast_types.specs.Sets.{is_among}
 use Rattle.cast_types.specs.Counts.{CountList}
 use Rattle.cast_types.specs.Stamps.{ClockList}
 use Rattle.cast_clock.specs.Times.{clock_of, view_of, join, has_room}
 use Rattle.cast_frame.specs.declared.message.Message.{Message}
+use Rattle.cast_frame.specs.Bodies.{kind_of}
+use Rattle.cast_delay.specs.declared.turn.Turn.{Turn}
+use Rattle.cast_delay.specs.declared.turn.Turn.TheVariants.{Holding, Following}
 
 -- a local process: its time, what it is in each group, and all that it ever delivered, in order
 pub record Process : Type 0 where
@@ -73,6 +77,23 @@ is_causally_ready groups gate p m =
     && (list_all (λ h. group_allows (p.standing h) p (gate h) m h) groups
     && has_room (join p.time m.times))))
 
+-- whether it is an ABCAST's turn. Where the order is held here, each gets the next place while there is room;
+-- elsewhere it must be the one that stands next in the known order
+abbrev pub has_turn : Turn → Entry → Bool
+has_turn (Holding room) e = room
+has_turn (Following None) e = false
+has_turn (Following (Some next)) e = entry_eq e next
+
+-- the turn of a group in a list of turns: that of the first entry for it; without one nothing of it is known
+abbrev pub turn_in : List (GroupNo × Turn) → GroupNo → Turn
+turn_in turns g = option_map_or (λ t. t.1) (find (λ t. group_eq t.0 g) turns) (Following None)
+
+-- ready: causally, and an ABCAST also in its turn
+abbrev pub is_ready : List GroupNo → (GroupNo → Gate) → (GroupNo → Turn) → Process → Message → Bool
+is_ready groups gate turn p m =
+    is_causally_ready groups gate p m
+    && (not (is_atomic (kind_of m.body)) || has_turn (turn m.id.group) (entry_of m.id))
+
 -- the first message, in order of receipt, that is ready
-abbrev pub first_ready : List GroupNo → (GroupNo → Gate) → Process → List Message → Option Message
-first_ready groups gate p got = find (is_causally_ready groups gate p) got
+abbrev pub first_ready : List GroupNo → (GroupNo → Gate) → (GroupNo → Turn) → Process → List Message → Option Message
+first_ready groups gate turn p got = find (is_ready groups gate turn p) got

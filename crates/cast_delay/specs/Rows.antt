@@ -1,17 +1,19 @@
 -- What the queue keeps of a process, counts in place of ids, and the tests over it.
-use Rattle.std.specs.Prelude.{ℕ, ◌-◌, Bool, true, ◌&&◌, ◌||◌, ◌==◌, nat_lt, nat_le, if◌then◌else◌, List, unwrap_or}
-use Rattle.std.specs.List.{list_all}
+use Rattle.std.specs.Prelude.{ℕ, ◌-◌, Bool, true, not, ◌&&◌, ◌||◌, ◌==◌, nat_lt, nat_le, if◌then◌else◌, List, length, unwrap_or}
+use Rattle.std.specs.List.{list_all, position}
 use Rattle.std.specs.FinMap.Entries.{find, put}
 use Rattle.cast_types.specs.declared.names.GroupNo.{GroupNo}
 use Rattle.cast_types.specs.declared.names.Proc.{Proc}
 use Rattle.cast_types.specs.declared.names.Uid.{Uid}
 use Rattle.cast_types.specs.declared.names.Standing.{Standing}
 use Rattle.cast_types.specs.declared.names.Standing.TheVariants.{Outside, Joining, Member}
-use Rattle.cast_types.specs.Names.{Entry, group_cmp, uid_eq, named}
+use Rattle.cast_types.specs.Names.{Entry, group_cmp, uid_eq, named, entry_of}
 use Rattle.cast_types.specs.Stamps.{ClockList}
 use Rattle.cast_clock.specs.Times.{clock_of, view_of, join, has_room}
-use Rattle.cast_delay.specs.Ready.{is_member}
+use Rattle.cast_delay.specs.Ready.{is_member, has_turn, turn_in}
 use Rattle.cast_types.specs.Sources.{source, source_cmp}
+use Rattle.cast_delay.specs.declared.turn.Turn.{Turn}
+use Rattle.cast_delay.specs.declared.offered.Offered.{Offered}
 use Rattle.cast_delay.specs.declared.row.Row.{Row}
 use Rattle.cast_delay.specs.declared.row.Fact.{Fact}
 use Rattle.cast_delay.specs.declared.row.Fact.TheVariants as fact
@@ -44,14 +46,29 @@ row_allows row number id times g Member =
 abbrev pub all_allow : List (GroupNo × ℕ) → Row → Uid → ClockList → Bool
 all_allow numbers row id times = list_all (λ s. row_allows row (number_of numbers s.0) id times s.0 s.1) row.standings
 
--- ready, by what the queue keeps
-abbrev pub is_ready_row : List (GroupNo × ℕ) → Row → Uid → ClockList → Bool
-is_ready_row numbers row id times =
+-- causally ready, by what the queue keeps
+abbrev pub is_causally_ready_row : List (GroupNo × ℕ) → Row → Uid → ClockList → Bool
+is_causally_ready_row numbers row id times =
     is_member (standing_in row id.group)
     && ((id.view == number_of numbers id.group)
     && (nat_lt (done_in row id.group id.view id.proc) id.count
     && (all_allow numbers row id times
     && has_room (join row.time times))))
+
+-- ready, by what the queue keeps and these turns of groups
+abbrev pub is_ready_row : List (GroupNo × Turn) → List (GroupNo × ℕ) → Row → Offered → Bool
+is_ready_row turns numbers row o =
+    is_causally_ready_row numbers row o.id o.times
+    && (not o.atomic || has_turn (turn_in turns o.id.group) (entry_of o.id))
+
+-- the process has delivered it, by what the queue keeps
+abbrev pub has_delivered_in : Row → Uid → Bool
+has_delivered_in row u = nat_lt 0 u.count && nat_le u.count (done_in row u.group u.view u.proc)
+
+-- how many of these ids of a view of a group the process has delivered before the first that it has not
+abbrev pub passed_by : Row → GroupNo → ℕ → List Entry → ℕ
+passed_by row group view ids =
+    unwrap_or (position (λ e. not (has_delivered_in row (named group view e))) ids) (length ids)
 
 -- the process is a member of the message's group and has not delivered it, by what the queue keeps
 abbrev pub awaits_row : Row → Uid → Bool

@@ -1,13 +1,18 @@
 -- The delivery rule in words, id by id.
-use Rattle.std.specs.Prelude.{◌≡◌, ◌≢◌, ◌↔◌, ◌⊎◌, ◌<◌, ◌≤◌, true, IsTrue, List, Contains}
+use Rattle.std.specs.Prelude.{◌≡◌, ◌≢◌, ◌↔◌, ◌⊎◌, ◌<◌, ◌≤◌, true, IsTrue, List, Contains, Some, None}
 use Rattle.cast_types.specs.declared.names.GroupNo.{GroupNo}
 use Rattle.cast_types.specs.declared.names.Uid.{Uid}
 use Rattle.cast_types.specs.declared.names.Standing.{Standing}
 use Rattle.cast_types.specs.declared.names.Standing.TheVariants.{Outside, Joining, Member}
+use Rattle.cast_types.specs.declared.names.Kind.TheVariants.{Atomic}
+use Rattle.cast_types.specs.Names.{Entry, entry_of}
 use Rattle.cast_clock.specs.Times.{view_of, count_in, join, has_room}
 use Rattle.cast_clock.specs.Laws.{is_in_order}
 use Rattle.cast_frame.specs.declared.message.Message.{Message}
-use Rattle.cast_delay.specs.Ready.{Process, Gate, is_causally_ready}
+use Rattle.cast_frame.specs.Bodies.{kind_of}
+use Rattle.cast_delay.specs.declared.turn.Turn.{Turn}
+use Rattle.cast_delay.specs.declared.turn.Turn.TheVariants.{Holding, Following}
+use Rattle.cast_delay.specs.Ready.{Process, Gate, is_causally_ready, is_ready}
 
 -- a message of a group that the time of m covers, other than m
 pub record HappenedBefore (m : Message) (h : GroupNo) (u : Uid) : Type 0 where
@@ -27,7 +32,7 @@ Allows Member p gate m h =
     (view_of m.times h < gate.number)
     ⊎ ((view_of m.times h ≡ gate.number) × ((u : Uid) → HappenedBefore m h u → Contains p.delivered u))
 
--- m may be delivered to p now
+-- m may be delivered to p now, as far as what happened before it goes
 pub record MayBeDelivered (groups : List GroupNo) (gate : GroupNo → Gate) (p : Process) (m : Message) : Type 0 where
   pub member : p.standing m.id.group ≡ Member
   pub current : m.id.view ≡ (gate m.id.group).number
@@ -35,8 +40,26 @@ pub record MayBeDelivered (groups : List GroupNo) (gate : GroupNo → Gate) (p :
   pub allowed : (h : GroupNo) → Contains groups h → Allows (p.standing h) p (gate h) m h
   pub room : has_room (join p.time m.times) ≡ true
 
--- the test of readiness says this
+-- what a turn asks of an ABCAST: room for one more place where the order is held here, and elsewhere to be the very
+-- one that stands next
+abbrev pub IsTurnOf : Turn → Entry → Type 0
+IsTurnOf (Holding room) e = room ≡ true
+IsTurnOf (Following None) e = ⊥
+IsTurnOf (Following (Some next)) e = e ≡ next
+
+-- m may be delivered to p now: if it is an ABCAST, only in its turn
+pub record MayBeDeliveredInTurn (groups : List GroupNo) (gate : GroupNo → Gate) (turn : GroupNo → Turn) (p : Process) (m : Message) : Type 0 where
+  pub causally : MayBeDelivered groups gate p m
+  pub in_turn : kind_of m.body ≡ Atomic → IsTurnOf (turn m.id.group) (entry_of m.id)
+
+-- the test of causal readiness says the first of these
 abbrev pub RuleInWords : Type 0
 RuleInWords =
     (groups : List GroupNo) (gate : GroupNo → Gate) (p : Process) (m : Message) → IsTrue (is_in_order m.times)
     → (is_causally_ready groups gate p m ≡ true) ↔ MayBeDelivered groups gate p m
+
+-- and the test of readiness the second
+abbrev pub TurnInWords : Type 0
+TurnInWords =
+    (groups : List GroupNo) (gate : GroupNo → Gate) (turn : GroupNo → Turn) (p : Process) (m : Message) → IsTrue (is_in_order m.times)
+    → (is_ready groups gate turn p m ≡ true) ↔ MayBeDeliveredInTurn groups gate turn p m

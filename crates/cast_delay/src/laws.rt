@@ -1,23 +1,29 @@
-ghost use Rattle.cast_delay.specs.Rule.{RuleInWords};
-ghost use Rattle.cast_delay.specs.Laws.{RowMeansTheRule, QueueMeansTheRule, AwaitedIsTheRule, NewFits, AdmitKeepsMeaning, TellKeepsMeaning, ViewKeepsMeaning, OfferKeepsMeaning, ForgetKeepsMeaning, DeliveryKeepsMeaning};
+ghost use Rattle.cast_delay.specs.Rule.{RuleInWords, TurnInWords};
+ghost use Rattle.cast_delay.specs.Laws.{RowMeansTheRule, TurnMeansTheRule, QueueMeansTheRule, AwaitedIsTheRule, DeliveredIsTheRule, NewFits, AdmitKeepsMeaning, TellKeepsMeaning, ViewKeepsMeaning, OfferKeepsMeaning, ForgetKeepsMeaning, DeliveryKeepsMeaning};
 
 /// The test of readiness says what the delivery rule says in words: the process is a member of the message's group in
-/// its current view, has not delivered the message, and has delivered all that happened before it.
+/// its current view, has not delivered the message, and has delivered all that happened before it. With the turns of
+/// groups the test says also that an ABCAST stands at its turn: where its order is held here there is room for one more
+/// place, and elsewhere it is the one that stands next.
 pub fn readiness_is_the_rule_in_words()
-    ensures { RuleInWords }
+    ensures causally { RuleInWords }
+    ensures in_turn { TurnInWords }
 {}
 
-/// By what the queue keeps, a message is ready for a process exactly if the delivery rule over all that the process
-/// delivered says so, and the queue names the first such message in order of receipt; and a process awaits a message
-/// exactly if it is a member of its group that has not delivered it.
+/// By what the queue keeps, a message is ready for a process, causally and with the turns of its groups, exactly if the
+/// delivery rule over all that the process delivered says so, and the queue names the first message in order of receipt
+/// that is ready; a process awaits a message exactly if it is a member of its group that has not delivered it; and it
+/// has delivered a message exactly if that is among what it delivered.
 pub fn queue_means_the_rule()
     ensures row { RowMeansTheRule }
+    ensures turn { TurnMeansTheRule }
     ensures next { QueueMeansTheRule }
     ensures awaited { AwaitedIsTheRule }
+    ensures delivered { DeliveredIsTheRule }
 {}
 
 /// What each call does to the queue it does to what the queue means: a process takes in a fact, a group has a view of
-/// another number, a message is received, one is let go, and a process delivers a message that is ready for it.
+/// another number, a message is received, one is let go, and a process delivers a message that is causally ready for it.
 pub fn queue_keeps_its_meaning()
     ensures new { NewFits }
     ensures admit { AdmitKeepsMeaning }

@@ -1,15 +1,19 @@
 //! The delay queue: which received message a process may deliver next.
 //!
 //! The rule is that of Birman, Schiper and Stephenson, "Lightweight Causal and Atomic Group Multicast", ACM TOCS 9(3),
-//! 1991, for groups that overlap: a message waits until its process has delivered all that happened before it.
+//! 1991, for groups that overlap: a message waits until its process has delivered all that happened before it. An
+//! ABCAST, a message of the atomic kind, waits also for its turn: the place of ABCASTs in the order of their view is
+//! not kept here, but given with each question, a `Turn` for each group.
 //!
 //! Promised: `next_ready` gives the key of the first message in order of receipt that a process may deliver, and
-//! `None` only where there is none, for all processes, groups and messages that the queue tells of. `is_awaited` says
-//! whether some member of a message's group has not delivered it, so that it may not be let go yet. The rule speaks of
-//! the ids that a process delivered; the queue keeps counts in their place. It tells of what it was told: each call
-//! does to the queue what it does to these processes, groups and messages, where a message comes under a key of its
-//! own and names its own view and count, and is noted as delivered only when it is ready (`laws`). No answer takes
-//! memory, nor does `forget`. Where memory is refused, the queue is of no further use.
+//! `None` only where there is none, for all processes, groups and messages that the queue tells of and all turns.
+//! `is_awaited` says whether some member of a message's group has not delivered it, so that it may not be let go yet.
+//! `has_delivered` says whether a process has delivered a message, and `passed` how far it has delivered a list of
+//! them. The rule speaks of the ids that a process delivered; the queue keeps counts in their place. It tells of what
+//! it was told: each call does to the queue what it does to these processes, groups and messages, where a message comes
+//! under a key of its own and names its own view and count, and is noted as delivered only when all that happened
+//! before it was (`laws`). No answer takes memory, nor does `forget`. Where memory is refused, the queue is of no
+//! further use.
 //!
 //! The definitions are in `specs/`: `Ready` has the rule over delivered ids as a test and `Rule` in words, `Rows` and
 //! `Queue` what the queue keeps and does, exactly, `Fits` when it tells of given processes, groups and messages, and
@@ -20,10 +24,12 @@ pub mod laws;
 mod offered;
 mod queue;
 mod row;
+mod turn;
 
 pub use offered::Offered;
 pub use queue::Delay;
 pub use row::{Fact, Row};
+pub use turn::Turn;
 
 #[cfg(test)]
 mod tests;

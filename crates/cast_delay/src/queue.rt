@@ -1,24 +1,27 @@
-ghost use Rattle.std.specs.Prelude.{◌≡◌, ◌<◌, ◌↔◌, ◌&&◌, ◌++◌, ◌∷◌, [], List, OnOk, IsTrue, MatchOption, nat_lt, not, filter};
-ghost use Rattle.std.specs.List.{list_any};
+ghost use Rattle.std.specs.Prelude.{◌≡◌, ◌<◌, ◌↔◌, ◌&&◌, ◌++◌, ◌∷◌, [], List, OnOk, IsTrue, MatchOption, nat_lt, not, filter, length, unwrap_or, true};
+ghost use Rattle.std.specs.List.{list_any, position};
 ghost use Rattle.std.specs.Option.{option_copied, option_map, option_map_or};
 ghost use Rattle.std.specs.FinMap.Entries.{put};
-ghost use Rattle.cast_types.specs.Names.{group_cmp, proc_eq};
+ghost use Rattle.cast_types.specs.Names.{group_cmp, proc_eq, named, is_atomic};
 ghost use Rattle.cast_types.specs.declared.names.GroupNo.{GroupNo};
 ghost use Rattle.cast_types.specs.declared.names.Proc.{Proc};
 ghost use Rattle.cast_types.specs.declared.names.Standing.TheVariants.{Outside};
 ghost use Rattle.cast_clock.specs.Times.{no_time};
 ghost use Rattle.cast_frame.specs.declared.message.Received.{Received};
+ghost use Rattle.cast_frame.specs.Bodies.{kind_of};
 ghost use Rattle.cast_frame.specs.Receipts.{key_eq};
-ghost use Rattle.cast_delay.specs.Ready.{Process, Gate, is_member};
+ghost use Rattle.cast_delay.specs.declared.turn.Turn.{Turn};
+ghost use Rattle.cast_delay.specs.Ready.{Process, Gate, is_member, has_delivered, turn_in};
 ghost use Rattle.cast_delay.specs.Rows.{delivered_row, told_row, standing_in, done_in};
-ghost use Rattle.cast_delay.specs.Queue.{new_row, row_of, change_row, first_for, offered_under, next_key, but_offered, is_awaited, HasOneRowEach, after_delivery};
+ghost use Rattle.cast_delay.specs.Queue.{new_row, row_of, change_row, first_for, offered_under, next_key, delivered_in, passed_in, but_offered, is_awaited, HasOneRowEach, after_delivery};
 ghost use Rattle.cast_delay.specs.Fits.{Fits, FirstReady, IsAwaited};
 
 use crate::offered::Offered;
 use crate::row::{Fact, Row};
+use crate::turn::Turn;
 use cast_clock::Times;
 use cast_frame::Message;
-use cast_types::{GroupNo, Key, Keyed, NoMemory, Proc, Standing, Uid};
+use cast_types::{GroupNo, Key, Keyed, Kind, NoMemory, Proc, Standing, Uid};
 use std::alloc::Global;
 use std::marker::Model;
 
@@ -78,11 +81,12 @@ impl Delay {
 
     /// Adds a received message, the last one in order of receipt.
     pub fn offer(&mut self, key: Key, message: &Message) -> Result<(), NoMemory>
-        ensures { OnOk result (self.new ≡ record self.old { offered = self.old.offered ++ (record { key = key; id = message.now.id; times = message.now.times }) ∷ [] }) }
+        ensures { OnOk result (self.new ≡ record self.old { offered = self.old.offered ++ (record { key = key; id = message.now.id; atomic = is_atomic (kind_of message.now.body); times = message.now.times }) ∷ [] }) }
     {
         self.offered.push(Offered {
             key,
             id: message.id,
+            atomic: is_atomic(message.kind()),
             times: message.times.copy()?,
         })?;
         Ok(())
@@ -105,16 +109,45 @@ impl Delay {
         awaited_in(&self.rows, id)
     }
 
-    /// The first message in order of receipt that the process may deliver now, `None` where there is none. Takes no
-    /// memory.
-    pub fn next_ready(&self, process: Proc) -> Option<Key>
-        ensures value { result ≡ next_key self.now process }
+    /// The first message in order of receipt that the process may deliver now, `None` where there is none. The first
+    /// entry for a group in `turns` tells the process's turn there; an ABCAST of a group with none is not delivered.
+    /// Takes no memory.
+    pub fn next_ready(&self, process: Proc, turns: &[(GroupNo, Turn)]) -> Option<Key>
+        ensures value { result ≡ next_key turns.now self.now process }
         ensures meaning { (groups : List GroupNo) (gate : GroupNo → Gate) (processes : Proc → Process) (received : List Received) →
-            Fits groups gate processes received self.now → FirstReady groups gate (processes process) received result }
+            Fits groups gate processes received self.now → (turn : GroupNo → Turn) →
+            ((g : GroupNo) → is_member ((processes process).standing g) ≡ true → turn_in turns.now g ≡ turn g) →
+            FirstReady groups gate turn (processes process) received result }
     {
         let row = row_in(&self.rows, process)?;
-        let offered = first_in(&self.numbers, &self.offered, row)?;
+        let offered = first_in(turns, &self.numbers, &self.offered, row)?;
         Some(offered.key)
+    }
+
+    /// Whether the process has delivered a message. Takes no memory.
+    pub fn has_delivered(&self, process: Proc, id: Uid) -> bool
+        ensures value { result ≡ delivered_in self.now process id }
+        ensures meaning { (groups : List GroupNo) (gate : GroupNo → Gate) (processes : Proc → Process) (received : List Received) →
+            Fits groups gate processes received self.now → result ≡ has_delivered (processes process) id }
+    {
+        match row_in(&self.rows, process) {
+            Some(row) => row.has_delivered(id),
+            None => false,
+        }
+    }
+
+    /// How many of these ids, which are of a view of a group, the process has delivered before the first that it has
+    /// not: 0 to their number. Takes no memory.
+    pub fn passed(&self, process: Proc, group: GroupNo, view: u32, ids: &[(Proc, u32)]) -> usize
+        ensures value { result ≡ passed_in self.now process group view ids.now }
+        ensures meaning { (groups : List GroupNo) (gate : GroupNo → Gate) (processes : Proc → Process) (received : List Received) →
+            Fits groups gate processes received self.now →
+            result ≡ unwrap_or (position (λ e. not (has_delivered (processes process) (named group view e))) ids.now) (length ids.now) }
+    {
+        match row_in(&self.rows, process) {
+            Some(row) => row.passed(group, view, ids),
+            None => 0,
+        }
     }
 
     /// Takes in that the process delivered a message.
@@ -157,15 +190,28 @@ fn row_in(rows: &[Row], process: Proc) -> Option<&Row>
     rows.iter().find(|row| row.process == process)
 }
 
-// The first message that is ready for a row.
+// Whether a message of a kind is an ABCAST.
+fn is_atomic(kind: Kind) -> bool
+    ensures { result ≡ is_atomic kind }
+{
+    match kind {
+        Kind::Atomic => true,
+        Kind::Causal | Kind::Order => false,
+    }
+}
+
+// The first message that is ready for a row, where these are the turns of groups.
 fn first_in<'a>(
+    turns: &[(GroupNo, Turn)],
     numbers: &Keyed<GroupNo, u32>,
     offered: &'a [Offered],
     row: &Row,
 ) -> Option<&'a Offered>
-    ensures { option_copied result ≡ first_for numbers.now offered.now row.now }
+    ensures { option_copied result ≡ first_for turns.now numbers.now offered.now row.now }
 {
-    offered.iter().find(|offered| row.is_ready(numbers, offered.id, &offered.times))
+    offered
+        .iter()
+        .find(|offered| row.is_ready(turns, numbers, offered))
 }
 
 // The message under a key.

@@ -1,9 +1,12 @@
-ghost use Rattle.std.specs.Prelude.{◌≡◌, ℕ, List, OnOk, IfOk, ◌-◌, nat_le};
-ghost use Rattle.std.specs.List.{list_all};
+ghost use Rattle.std.specs.Prelude.{◌≡◌, ℕ, List, OnOk, IfOk, ◌-◌, nat_le, not};
+ghost use Rattle.std.specs.List.{list_all, position};
+ghost use Rattle.cast_types.specs.Names.{named};
 ghost use Rattle.cast_clock.specs.Times.{clock_of, view_of};
 ghost use Rattle.cast_delay.specs.Ready.{is_member};
 ghost use Rattle.cast_delay.specs.Rows.{number_of, needed};
 
+use crate::offered::Offered;
+use crate::turn::{Turn, turn_in};
 use cast_clock::{ClockFault, Times};
 use cast_types::{GroupNo, Keyed, NoMemory, Proc, Source, Stamp, Standing, Uid};
 use std::alloc::{AllocError, Global};
@@ -48,7 +51,7 @@ fn counts_in(times: &Stamp, group: GroupNo) -> &[(Proc, u32)]
 }
 
 impl Row {
-    ghost use Rattle.cast_delay.specs.Rows.{standing_in, done_in, needed, has_past, row_allows, all_allow, is_ready_row, awaits_row, delivered_row, told_row};
+    ghost use Rattle.cast_delay.specs.Rows.{standing_in, done_in, needed, has_past, row_allows, all_allow, is_causally_ready_row, is_ready_row, has_delivered_in, passed_by, awaits_row, delivered_row, told_row};
     ghost use Rattle.cast_delay.specs.Queue.{new_row};
 
     /// A process that is in no group.
@@ -141,15 +144,60 @@ impl Row {
         ))
     }
 
-    /// Whether a message may be delivered to the process now.
-    pub fn is_ready(&self, numbers: &Keyed<GroupNo, u32>, id: Uid, times: &Stamp) -> bool
-        ensures { result ≡ is_ready_row numbers.now self.now id times.now }
+    /// Whether all that happened before a message was delivered to the process, a member of its group in the current
+    /// view that has not delivered the message.
+    pub fn is_causally_ready(&self, numbers: &Keyed<GroupNo, u32>, id: Uid, times: &Stamp) -> bool
+        ensures { result ≡ is_causally_ready_row numbers.now self.now id times.now }
     {
         self.is_member(id.group)
             && id.view == number_in(numbers, id.group)
             && self.done(id.group, id.view, id.proc) < id.count
             && self.all_allow(numbers, id, times)
             && self.time.has_room_for(times)
+    }
+
+    /// Whether a message may be delivered to the process now, where these are the turns of groups.
+    pub fn is_ready(
+        &self,
+        turns: &[(GroupNo, Turn)],
+        numbers: &Keyed<GroupNo, u32>,
+        offered: &Offered,
+    ) -> bool
+        ensures { result ≡ is_ready_row turns.now numbers.now self.now offered.now }
+    {
+        let id = offered.id;
+        self.is_causally_ready(numbers, id, &offered.times)
+            && (!offered.atomic || turn_in(turns, id.group).is_of(id.proc, id.count))
+    }
+
+    /// Whether the process has delivered a message. Counts begin at 1.
+    pub fn has_delivered(&self, id: Uid) -> bool
+        ensures { result ≡ has_delivered_in self.now id }
+    {
+        0 < id.count && id.count <= self.done(id.group, id.view, id.proc)
+    }
+
+    // The place of the first of these ids of a view of a group that the process has not delivered.
+    fn first_missing(&self, group: GroupNo, view: u32, ids: &[(Proc, u32)]) -> Option<usize>
+        ensures { result ≡ position (λ e. not (has_delivered_in self.now (named group view e))) ids.now }
+    {
+        ids.iter().position(|(proc, count)| !self.has_delivered(Uid {
+            group,
+            view,
+            proc: *proc,
+            count: *count,
+        }))
+    }
+
+    /// How many of these ids, which are of a view of a group, the process has delivered before the first that it has
+    /// not: 0 to their number.
+    pub fn passed(&self, group: GroupNo, view: u32, ids: &[(Proc, u32)]) -> usize
+        ensures { result ≡ passed_by self.now group view ids.now }
+    {
+        match self.first_missing(group, view, ids) {
+            Some(place) => place,
+            None => ids.len(),
+        }
     }
 
     /// Whether the process is a member of a message's group and has not delivered the message.

@@ -1,18 +1,23 @@
 -- Requests that are not refused.
 use Rattle.std.proofs.Common.{◌≡◌, ℕ, ◌+◌, Bool, true, false, not, List, Option, Some, None, refl, ap, ◌∙◌}
-use Rattle.std.specs.Prelude.{◌==◌, nat_lt, length, if◌then◌else◌}
+use Rattle.std.specs.Prelude.{◌&&◌, ◌==◌, nat_lt, length, if◌then◌else◌}
+use Rattle.std.specs.Option.{option_map_or}
 use Rattle.cast_types.specs.declared.names.GroupNo.{GroupNo}
+use Rattle.cast_types.specs.declared.names.Proc.{Proc}
 use Rattle.cast_types.specs.declared.names.Standing.TheVariants.{Joining}
 use Rattle.cast_types.specs.declared.limits.TheConstants.{MAX_NUMBER, MAX_PAYLOAD}
-use Rattle.cast_types.specs.declared.refusal.Refusal.TheVariants.{NotMember, AlreadyMember, HeldFull, TooLong}
+use Rattle.cast_types.specs.declared.refusal.Refusal.TheVariants.{NotMember, AlreadyMember, OwnAbcast, HeldFull, TooLong}
 use Rattle.cast_clock.specs.Times.{view_of, bumped}
-use Rattle.cast_frame.specs.declared.message.Body.TheVariants as body
+use Rattle.cast_frame.specs.declared.client.CastKind.{CastKind}
 use Rattle.cast_frame.specs.declared.site.Change.TheVariants as change
+use Rattle.cast_frame.specs.Sequence.{Sequence}
+use Rattle.cast_order.specs.Log.{log_of, next_places}
 use Rattle.cast_delay.specs.Ready.{is_member, is_outside}
 use Rattle.cast_delay.specs.declared.row.Fact.TheVariants as fact
 use Rattle.cast_domain.specs.Records.{Records}
-use Rattle.cast_domain.specs.Step.{may_raise}
-use Rattle.cast_domain.specs.Calls.{Attempt, has_room_in, record_at, standing_of, time_of, local_in, tell_in, request_in, join_at, cast_at, send_message_in, next_message_in}
+use Rattle.cast_domain.specs.Effects.{may_raise}
+use Rattle.cast_domain.specs.Step.{body_of}
+use Rattle.cast_domain.specs.Calls.{Attempt, awaits_own_in, has_room_in, has_order_room_in, let_go_in, send_places_in, set_order_by_in, record_at, standing_of, time_of, local_in, tell_in, request_in, join_at, cast_at, send_message_in, next_message_in}
 
 -- what a join does that is not refused
 abbrev pub joined : Records → ℕ → GroupNo → ℕ → Records
@@ -26,30 +31,77 @@ join_made r k g i outside below =
     ap (λ b. if not b then (r, Some AlreadyMember) else if (record_at r.groups i).here.asked == MAX_NUMBER then (r, Some HeldFull) else (joined r k g i, None)) outside
     ∙ ap (λ b. if b then (r, Some HeldFull) else (joined r k g i, None)) below
 
--- what a cast does that is not refused
-abbrev pub sent : Records → ℕ → GroupNo → List ℕ → ℕ → Records
-sent r k g payload i =
+-- what a cast sends that is not refused
+abbrev pub sent : Records → ℕ → GroupNo → CastKind → List ℕ → ℕ → Records
+sent r k g cast payload i =
     send_message_in
     (tell_in r (local_in r k) (fact.Time (bumped (time_of r.delay (local_in r k)) g (local_in r k))))
-    (next_message_in r (local_in r k) g i (body.Causal payload))
+    (next_message_in r (local_in r k) g i (body_of cast payload))
 
-pub cast_made : (r : Records) (k : ℕ) (g : GroupNo) (payload : List ℕ) (i : ℕ) → nat_lt MAX_PAYLOAD (length payload) ≡ false → is_member (standing_of r.delay (local_in r k) g) ≡ true → has_room_in r ≡ true → may_raise (time_of r.delay (local_in r k)) g (local_in r k) ≡ true → cast_at r k g payload i ≡ (sent r k g payload i, None)
-cast_made r k g payload i short member room may =
-    let raised : Attempt = if not (may_raise (time_of r.delay (local_in r k)) g (local_in r k)) then (r, Some HeldFull) else (sent r k g payload i, None) in
-    let last : Attempt = if not (has_room_in r) then (r, Some HeldFull) else raised in
+-- what is left of a cast past the tests of payload and membership
+cast_owning : (r : Records) (k : ℕ) (g : GroupNo) (cast : CastKind) (payload : List ℕ) (i : ℕ) → nat_lt MAX_PAYLOAD (length payload) ≡ false → is_member (standing_of r.delay (local_in r k) g) ≡ true → cast_at r k g cast payload i ≡ (if awaits_own_in r (local_in r k) then (r, Some OwnAbcast) else if not (has_room_in r) then (r, Some HeldFull) else if not (may_raise (time_of r.delay (local_in r k)) g (local_in r k)) then (r, Some HeldFull) else (sent r k g cast payload i, None))
+cast_owning r k g cast payload i short member =
+    let last : Attempt = if awaits_own_in r (local_in r k) then (r, Some OwnAbcast) else if not (has_room_in r) then (r, Some HeldFull) else if not (may_raise (time_of r.delay (local_in r k)) g (local_in r k)) then (r, Some HeldFull) else (sent r k g cast payload i, None) in
     ap (λ b. if b then (r, Some TooLong) else if not (is_member (standing_of r.delay (local_in r k) g)) then (r, Some NotMember) else last) short
     ∙ ap (λ b. if not b then (r, Some NotMember) else last) member
+
+-- what is left of a cast past the tests that are not of room
+cast_past : (r : Records) (k : ℕ) (g : GroupNo) (cast : CastKind) (payload : List ℕ) (i : ℕ) → nat_lt MAX_PAYLOAD (length payload) ≡ false → is_member (standing_of r.delay (local_in r k) g) ≡ true → awaits_own_in r (local_in r k) ≡ false → cast_at r k g cast payload i ≡ (if not (has_room_in r) then (r, Some HeldFull) else if not (may_raise (time_of r.delay (local_in r k)) g (local_in r k)) then (r, Some HeldFull) else (sent r k g cast payload i, None))
+cast_past r k g cast payload i short member own =
+    let last : Attempt = if not (has_room_in r) then (r, Some HeldFull) else if not (may_raise (time_of r.delay (local_in r k)) g (local_in r k)) then (r, Some HeldFull) else (sent r k g cast payload i, None) in
+    cast_owning r k g cast payload i short member
+    ∙ ap (λ b. if b then (r, Some OwnAbcast) else last) own
+
+-- a cast that passes all tests is sent
+pub cast_made : (r : Records) (k : ℕ) (g : GroupNo) (cast : CastKind) (payload : List ℕ) (i : ℕ) → nat_lt MAX_PAYLOAD (length payload) ≡ false → is_member (standing_of r.delay (local_in r k) g) ≡ true → awaits_own_in r (local_in r k) ≡ false → has_room_in r ≡ true → may_raise (time_of r.delay (local_in r k)) g (local_in r k) ≡ true → cast_at r k g cast payload i ≡ (sent r k g cast payload i, None)
+cast_made r k g cast payload i short member own room may =
+    let raised : Attempt = if not (may_raise (time_of r.delay (local_in r k)) g (local_in r k)) then (r, Some HeldFull) else (sent r k g cast payload i, None) in
+    cast_past r k g cast payload i short member own
     ∙ ap (λ b. if not b then (r, Some HeldFull) else raised) room
-    ∙ ap (λ b. if not b then (r, Some HeldFull) else (sent r k g payload i, None)) may
+    ∙ ap (λ b. if not b then (r, Some HeldFull) else (sent r k g cast payload i, None)) may
 
--- a cast beside too many messages is refused
-pub cast_full : (r : Records) (k : ℕ) (g : GroupNo) (payload : List ℕ) (i : ℕ) → nat_lt MAX_PAYLOAD (length payload) ≡ false → is_member (standing_of r.delay (local_in r k) g) ≡ true → has_room_in r ≡ false → cast_at r k g payload i ≡ (r, Some HeldFull)
-cast_full r k g payload i short member full =
-    let raised : Attempt = if not (may_raise (time_of r.delay (local_in r k)) g (local_in r k)) then (r, Some HeldFull) else (sent r k g payload i, None) in
-    let last : Attempt = if not (has_room_in r) then (r, Some HeldFull) else raised in
-    ap (λ b. if b then (r, Some TooLong) else if not (is_member (standing_of r.delay (local_in r k) g)) then (r, Some NotMember) else last) short
-    ∙ ap (λ b. if not b then (r, Some NotMember) else last) member
+-- a cast of a process that awaits an ABCAST of its own is refused
+pub cast_owned : (r : Records) (k : ℕ) (g : GroupNo) (cast : CastKind) (payload : List ℕ) (i : ℕ) → nat_lt MAX_PAYLOAD (length payload) ≡ false → is_member (standing_of r.delay (local_in r k) g) ≡ true → awaits_own_in r (local_in r k) ≡ true → cast_at r k g cast payload i ≡ (r, Some OwnAbcast)
+cast_owned r k g cast payload i short member own =
+    let last : Attempt = if not (has_room_in r) then (r, Some HeldFull) else if not (may_raise (time_of r.delay (local_in r k)) g (local_in r k)) then (r, Some HeldFull) else (sent r k g cast payload i, None) in
+    cast_owning r k g cast payload i short member
+    ∙ ap (λ b. if b then (r, Some OwnAbcast) else last) own
+
+-- and so is a cast beside too many messages
+pub cast_full : (r : Records) (k : ℕ) (g : GroupNo) (cast : CastKind) (payload : List ℕ) (i : ℕ) → nat_lt MAX_PAYLOAD (length payload) ≡ false → is_member (standing_of r.delay (local_in r k) g) ≡ true → awaits_own_in r (local_in r k) ≡ false → has_room_in r ≡ false → cast_at r k g cast payload i ≡ (r, Some HeldFull)
+cast_full r k g cast payload i short member own full =
+    let raised : Attempt = if not (may_raise (time_of r.delay (local_in r k)) g (local_in r k)) then (r, Some HeldFull) else (sent r k g cast payload i, None) in
+    cast_past r k g cast payload i short member own
     ∙ ap (λ b. if not b then (r, Some HeldFull) else raised) full
+
+-- and one of a process whose count cannot be raised
+pub cast_unraised : (r : Records) (k : ℕ) (g : GroupNo) (cast : CastKind) (payload : List ℕ) (i : ℕ) → nat_lt MAX_PAYLOAD (length payload) ≡ false → is_member (standing_of r.delay (local_in r k) g) ≡ true → awaits_own_in r (local_in r k) ≡ false → has_room_in r ≡ true → may_raise (time_of r.delay (local_in r k)) g (local_in r k) ≡ false → cast_at r k g cast payload i ≡ (r, Some HeldFull)
+cast_unraised r k g cast payload i short member own room may =
+    let raised : Attempt = if not (may_raise (time_of r.delay (local_in r k)) g (local_in r k)) then (r, Some HeldFull) else (sent r k g cast payload i, None) in
+    cast_past r k g cast payload i short member own
+    ∙ ap (λ b. if not b then (r, Some HeldFull) else raised) room
+    ∙ ap (λ b. if not b then (r, Some HeldFull) else (sent r k g cast payload i, None)) may
+
+-- what the holder's set-order message does that is sent
+pub places_made : (r : Records) (i : ℕ) (p : Proc) (q : Sequence) → (is_member (standing_of r.delay p (record_at r.groups i).name) && has_order_room_in r) ≡ true → next_places (log_of r.orders (record_at r.groups i).name) ≡ Some q → may_raise (time_of r.delay p) (record_at r.groups i).name p ≡ true → set_order_by_in r i p ≡ let_go_in (send_places_in r i p q)
+places_made r i p q may next raised =
+    let g : GroupNo = (record_at r.groups i).name in
+    ap (λ b. if b then option_map_or (λ places. if may_raise (time_of r.delay p) g p then let_go_in (send_places_in r i p places) else r) (next_places (log_of r.orders g)) r else r) may
+    ∙ ap (λ o. option_map_or (λ places. if may_raise (time_of r.delay p) g p then let_go_in (send_places_in r i p places) else r) o r) next
+    ∙ ap (λ b. if b then let_go_in (send_places_in r i p q) else r) raised
+
+pub places_none : (r : Records) (i : ℕ) (p : Proc) → (is_member (standing_of r.delay p (record_at r.groups i).name) && has_order_room_in r) ≡ false → set_order_by_in r i p ≡ r
+places_none r i p may =
+    let g : GroupNo = (record_at r.groups i).name in
+    ap (λ b. if b then option_map_or (λ places. if may_raise (time_of r.delay p) g p then let_go_in (send_places_in r i p places) else r) (next_places (log_of r.orders g)) r else r) may
+
+-- a choice that gives nothing
+pub raised_none : {A : Type 0} (b : Bool) (x : A) → ◌≡◌ {A = Option (A × A)} None (if b then Some (x, x) else None) → b ≡ false
+raised_none {A = A} true x e = absurd (something e)
+  where
+    something : ◌≡◌ {A = Option (A × A)} None (Some (x, x)) → ⊥
+    something e = cc
+raised_none false x e = refl
 
 -- what a choice gives that gives something
 pub raised_some : {A : Type 0} (b : Bool) (x : A) (t : A) (u : A) → ◌≡◌ {A = Option (A × A)} (Some (t, u)) (if b then Some (x, x) else None) → (b ≡ true) × (t ≡ x) × (u ≡ x)

@@ -1,9 +1,9 @@
 -- What a session asks for changes a domain's records as it changes their history.
-use Rattle.std.proofs.Common.{◌≡◌, ℕ, ◌+◌, ◌<◌, Bool, true, false, not, List, [], ◌∷◌, length, Option, Some, None, refl, sym, ap, subst, ◌∙◌, arith}
+use Rattle.std.proofs.Common.{◌≡◌, ℕ, ◌+◌, ◌<◌, Bool, true, false, not, ◌&&◌, ◌||◌, List, [], ◌∷◌, length, Option, Some, None, refl, sym, ap, subst, ◌∙◌, inl, inr, arith}
 use Rattle.std.specs.Prelude.{◌==◌, nat_lt, if◌then◌else◌, slice_get}
-use Rattle.std.specs.List.{fold}
+use Rattle.std.specs.List.{fold, list_any}
 use Rattle.std.specs.Option.{option_map_or}
-use Rattle.std.proofs.lemmas.Bool.{not-false}
+use Rattle.std.proofs.lemmas.Bool.{not-false, false≢true, false_from_ne_true, and_parts, eqb-true, eq-eqb}
 use Rattle.std.proofs.lemmas.List.{length-map}
 use Rattle.cast_types.specs.declared.names.SiteNo.{SiteNo}
 use Rattle.cast_types.specs.declared.names.GroupNo.{GroupNo}
@@ -12,43 +12,53 @@ use Rattle.cast_types.specs.declared.names.Uid.{Uid}
 use Rattle.cast_types.specs.declared.names.Standing.{Standing}
 use Rattle.cast_types.specs.declared.names.Standing.TheVariants.{Joining}
 use Rattle.cast_types.specs.declared.refusal.Refusal.{Refusal}
-use Rattle.cast_types.specs.declared.refusal.Refusal.TheVariants.{NoGroup, NotMember, AlreadyMember, HeldFull, TooLong}
+use Rattle.cast_types.specs.declared.refusal.Refusal.TheVariants.{NoGroup, NotMember, AlreadyMember, OwnAbcast, HeldFull, TooLong}
 use Rattle.cast_types.specs.declared.limits.TheConstants.{MAX_NUMBER, MAX_PAYLOAD}
+use Rattle.cast_types.specs.Names.{is_atomic, is_order, proc_eq}
 use Rattle.cast_types.specs.Places.{update}
 use Rattle.cast_types.specs.Stamps.{ClockList}
 use Rattle.cast_clock.specs.Times.{view_of, count_in, bumped}
 use Rattle.cast_clock.proofs.Raised.{bump_raises, bump_leaves_views}
 use Rattle.cast_frame.specs.declared.message.Body.{Body}
-use Rattle.cast_frame.specs.declared.message.Body.TheVariants as body
 use Rattle.cast_frame.specs.declared.message.Message.{Message}
 use Rattle.cast_frame.specs.declared.site.Change.{Change}
 use Rattle.cast_frame.specs.declared.site.Change.TheVariants as change
+use Rattle.cast_frame.specs.declared.client.CastKind.{CastKind}
 use Rattle.cast_frame.specs.declared.client.CastKind.TheVariants as kind
 use Rattle.cast_frame.specs.declared.client.Request.{Request}
 use Rattle.cast_frame.specs.declared.client.Request.TheVariants.{Join, Leave, Cast}
 use Rattle.cast_frame.specs.declared.client.Push.TheVariants as push
 use Rattle.cast_frame.specs.declared.message.Received.{Received}
+use Rattle.cast_frame.specs.Bodies.{kind_of}
+use Rattle.cast_frame.specs.Receipts.{messages}
 use Rattle.cast_stable.specs.Stable.{has_acked}
-use Rattle.cast_stable.specs.Ledger.{has_acked_in}
+use Rattle.cast_stable.specs.Ledger.{others_in, has_acked_in}
 use Rattle.cast_timer.specs.declared.key.OwedKind.TheVariants as kinds
-use Rattle.cast_delay.specs.Ready.{is_member, is_outside}
+use Rattle.cast_delay.specs.Ready.{is_member, is_outside, has_delivered, awaits}
+use Rattle.cast_delay.specs.Queue.{delivered_in}
 use Rattle.cast_delay.specs.declared.row.Fact.TheVariants as fact
 use Rattle.cast_delay.specs.Fits.{IsSound}
+use Rattle.cast_delay.proofs.Queues.{delivered_rules}
+use Rattle.cast_delay.proofs.Listed.{same_bools}
+use Rattle.cast_order.specs.Log.{Log, log_of}
 use Rattle.cast_domain.specs.declared.record.GroupRecord.{GroupRecord}
-use Rattle.cast_domain.specs.Group.{with_request}
+use Rattle.cast_domain.specs.Group.{has_view, with_request}
 use Rattle.cast_domain.specs.Home.{is_empty}
 use Rattle.cast_frame.specs.declared.client.Command.{Command}
 use Rattle.cast_frame.specs.declared.client.Command.TheVariants as command
-use Rattle.cast_domain.specs.State.{State, local, is_group, set_process, set_group, set_standing, others_of, may_receive}
+use Rattle.cast_domain.specs.State.{State, local, is_group, set_process, set_group, set_standing, others_of, may_receive, gate_of}
+use Rattle.cast_domain.specs.Order.{awaits_own}
 use Rattle.cast_domain.specs.Owing.{ask_key, message_key, sent_for, owing}
-use Rattle.cast_domain.specs.Effects.{asking, requesting, pushing, receiving, sending_to, next_message, sending}
-use Rattle.cast_domain.specs.Step.{first_refusal, join_tests, cast_tests, may_raise, joining, attempting, requested, commanded}
+use Rattle.cast_domain.specs.Effects.{asking, requesting, pushing, receiving, sending_to, next_message, may_raise, sending}
+use Rattle.cast_domain.specs.Step.{first_refusal, join_tests, cast_tests, joining, attempting, body_of, requested, commanded}
 use Rattle.cast_domain.specs.Records.{Records, was_given}
-use Rattle.cast_domain.specs.Calls.{has_room_in, place_in, record_at, standing_of, time_of, send_for_in, owe_in, push_in, tell_in, ask_home_in, request_in, Attempt, join_at, join_in, receive_in, send_data_in, send_message_in, next_message_in, cast_at, cast_in, reply_in, requested_in, command_in}
-use Rattle.cast_domain.specs.Fits.{Fits, IsLawful}
+use Rattle.cast_domain.specs.Calls.{has_room_in, place_in, record_at, standing_of, time_of, send_for_in, owe_in, push_in, tell_in, ask_home_in, request_in, Attempt, join_at, join_in, learn_in, receive_in, send_data_in, send_message_in, next_message_in, is_own_in, awaits_own_in, cast_at, cast_in, reply_in, requested_in, command_in}
+use Rattle.cast_domain.specs.Fits.{process_named, LogFits, Fits, IsSpent, AreKept, IsLawful}
 use Rattle.cast_domain.proofs.Lawful.{lawful_standing}
 use Rattle.cast_domain.proofs.Owings.{fits_send_for, fits_owe}
-use Rattle.cast_domain.proofs.Standing.{fits_if, record_there, place_some, place_none, standing_there, time_there, fits_push, fits_here, fits_standing, fits_time, fits_receive}
+use Rattle.cast_domain.proofs.Standing.{and_none, fits_if, record_there, place_some, place_none, standing_there, time_there, fits_push, fits_here, fits_standing, fits_time, process_here, fits_receive_with}
+use Rattle.cast_domain.proofs.Logs.{logs_receive}
+use Rattle.cast_domain.proofs.Releases.{current_same}
 
 -- the records with the parts that the history has, as it has them
 abbrev written : Records → State → Records
@@ -150,6 +160,68 @@ fits_join r s f l k given g =
 pub room_there : (r : Records) (s : State) → Fits r s → has_room_in r ≡ may_receive s
 room_there r s f = (λ j. nat_lt ((sym (length-map r.part.kept (λ (x : Received). x.message)) ∙ ap length f.kept) j) (f.config j).quotas.held)
 
+-- Own ABCASTs
+
+-- the test of one of the history's messages
+abbrev own_of : State → ℕ → Message → Bool
+own_of s k m = is_atomic (kind_of m.body) && (proc_eq m.id.proc (local s k) && ((m.id.view == (s.group m.id.group).number) && awaits (s.process k) m.id))
+
+-- a member's site has the view
+same_tests : (a b v n o m d : Bool) → (m ≡ true → v ≡ true) → n ≡ o → (a && (b && ((v && n) && (m && d)))) ≡ (a && (b && (o && (m && d))))
+same_tests a b v n o true d seen same = ap (λ x. a && (b && (x && d))) (ap (λ y. y && n) (seen refl) ∙ same)
+same_tests a b v n o false d seen same = ap (λ x. a && (b && x)) (and_none (v && n) ∙ sym (and_none o))
+
+-- one message is awaited on both sides, or on neither
+own_same : (r : Records) (s : State) → Fits r s → IsLawful s → (k : ℕ) (m : Message) → is_own_in r (local s k) m ≡ own_of s k m
+own_same r s f l k m =
+    let g : GroupNo = m.id.group in
+    (λ j. is_atomic (kind_of m.body) && (proc_eq m.id.proc (local s k) && (current_same r s f l m.id j
+    && (is_member (standing_there r s f k g j) && not (delivered_there j)))))
+    ∙ same_tests (is_atomic (kind_of m.body)) (proc_eq m.id.proc (local s k)) (has_view (s.group g)) ((s.group g).number == m.id.view) (m.id.view == (s.group g).number) (is_member ((s.process k).standing g)) (not (has_delivered (s.process k) m.id))
+    (l.viewed k g)
+    (same_bools ((s.group g).number == m.id.view) (m.id.view == (s.group g).number)
+    (λ e. eq-eqb m.id.view (s.group g).number (sym (eqb-true (s.group g).number m.id.view e)))
+    (λ e. eq-eqb (s.group g).number m.id.view (sym (eqb-true m.id.view (s.group g).number e))))
+  where
+    delivered_there : delivered_in r.delay (local s k) m.id ≡ has_delivered (s.process k) m.id
+    delivered_there =
+        delivered_rules s.config.groups (gate_of s) (process_named s) r.part.kept r.delay f.delay (local s k) m.id
+        ∙ ap (λ p. has_delivered p m.id) (process_here s k)
+
+-- what is spent passes no test, so that it is enough to look among what is kept
+kept_any : (P : Message → Type 0) (test : Message → Bool) → ((m : Message) → P m → test m ≡ false) → (got kept : List Message) → AreKept P got kept → list_any test kept ≡ list_any test got
+kept_any P test fails [] kept none = ap (list_any test) none
+kept_any P test fails (m ∷ got) kept (inl (rest, is, more)) = ap (list_any test) is ∙ ap (λ b. test m || b) (kept_any P test fails got rest more)
+kept_any P test fails (m ∷ got) kept (inr (spent, more)) = kept_any P test fails got kept more ∙ sym (ap (λ b. b || list_any test got) (fails m spent))
+
+any_message : (t : Message → Bool) (xs : List Received) → list_any (λ (x : Received). t x.message) xs ≡ list_any t (messages xs)
+any_message t [] = refl
+any_message t (x ∷ xs) = ap (λ b. t x.message || b) (any_message t xs)
+
+any_same : (t u : Message → Bool) → ((m : Message) → t m ≡ u m) → (ms : List Message) → list_any t ms ≡ list_any u ms
+any_same t u same [] = refl
+any_same t u same (m ∷ ms) = λ j. same m j || any_same t u same ms j
+
+-- a spent message was delivered to each member here
+spent_own : (s : State) (k : ℕ) → was_given s.used k ≡ true → (m : Message) → IsSpent s m → own_of s k m ≡ false
+spent_own s k given m spent = false_from_ne_true (own_of s k m) (λ is.
+    let a = and_parts (is_atomic (kind_of m.body)) _ is in
+    let b = and_parts (proc_eq m.id.proc (local s k)) _ a.1 in
+    let c = and_parts (m.id.view == (s.group m.id.group).number) (awaits (s.process k) m.id) b.1 in
+    let d = and_parts (is_member ((s.process k).standing m.id.group)) (not (has_delivered (s.process k) m.id)) c.1 in
+    let has = spent.delivered k given d.0 (eqb-true m.id.view (s.group m.id.group).number c.0) in
+    false≢true (sym (ap not has) ∙ d.1))
+
+-- a process awaits an ABCAST of its own on both sides, or on neither
+pub awaits_own_there : (r : Records) (s : State) → Fits r s → IsLawful s → (k : ℕ) → was_given s.used k ≡ true → awaits_own_in r (local s k) ≡ awaits_own s k
+awaits_own_there r s f l k given =
+    any_message (is_own_in r (local s k)) r.part.kept
+    ∙ ap (list_any (is_own_in r (local s k))) f.kept
+    ∙ any_same (is_own_in r (local s k)) (own_of s k) (own_same r s f l k) s.kept
+    ∙ kept_any (IsSpent s) (own_of s k) (spent_own s k given) s.got s.kept l.spent
+
+-- Messages that are sent
+
 -- a message is sent to a site, and owed to it unless that has acknowledged it
 fits_sending : (u : Uid) → 0 < u.count → (r : Records) (s : State) → Fits r s → (to : SiteNo) → Fits (send_data_in u r to) (sending_to u s to)
 fits_sending u counted r s f to =
@@ -162,14 +234,21 @@ fits_sends : (u : Uid) → 0 < u.count → (sites : List SiteNo) (r : Records) (
 fits_sends u counted [] r s f = f
 fits_sends u counted (to ∷ sites) r s f = fits_sends u counted sites (send_data_in u r to) (sending_to u s to) (fits_sending u counted r s f to)
 
--- a message is received here, and sent to the other sites of the view
-fits_send_message : (r : Records) (s : State) → Fits r s → (m : Message) → IsSound m → Fits (send_message_in r m) (fold (sending_to m.id) (receiving s m) (others_of s m.id.group))
-fits_send_message r s f m sound =
-    subst (λ sites. Fits (fold (send_data_in m.id) (receive_in r m) sites) (fold (sending_to m.id) (receiving s m) (others_of s m.id.group))) (sym (f.acks.views m.id.group))
-    (fits_sends m.id sound.from_one (others_of s m.id.group) (receive_in r m) (receiving s m) (fits_receive r s f m sound))
+-- a message is received here, the logs that are kept tell of it, and it is sent to the other sites of the view
+pub fits_send_message_with : (r : Records) (s : State) → Fits r s → (m : Message) → IsSound m → (orders : List Log) → ((g : GroupNo) → LogFits (receiving s m) g (log_of orders g)) → Fits (fold (send_data_in m.id) (record (receive_in r m) { orders = orders }) (others_in r.acks m.id.group)) (fold (sending_to m.id) (receiving s m) (others_of s m.id.group))
+fits_send_message_with r s f m sound orders logs =
+    let now : Records = record (receive_in r m) { orders = orders } in
+    subst (λ sites. Fits (fold (send_data_in m.id) now sites) (fold (sending_to m.id) (receiving s m) (others_of s m.id.group))) (sym (f.acks.views m.id.group))
+    (fits_sends m.id sound.from_one (others_of s m.id.group) now (receiving s m) (fits_receive_with r s f m sound orders logs))
+
+-- a message of the current view, which is no set-order message
+fits_send_message : (r : Records) (s : State) → Fits r s → (m : Message) → IsSound m → (m.id.view == (s.group m.id.group).number) ≡ true → is_order (kind_of m.body) ≡ false → Fits (send_message_in r m) (fold (sending_to m.id) (receiving s m) (others_of s m.id.group))
+fits_send_message r s f m sound current plain =
+    fits_send_message_with r s f m sound (learn_in r.orders m.id.group m.body)
+    (logs_receive s m r.orders f.orders current (λ k. ap (λ b. b && proc_eq m.id.proc (local s k)) plain))
 
 -- a member's next message has its view, and a count from 1 on
-next_sound : (s : State) (g : GroupNo) (k : ℕ) (content : Body) → IsLawful s → is_member ((s.process k).standing g) ≡ true → IsSound (next_message s g k content)
+pub next_sound : (s : State) (g : GroupNo) (k : ℕ) (content : Body) → IsLawful s → is_member ((s.process k).standing g) ≡ true → IsSound (next_message s g k content)
 next_sound s g k content l member =
     let t = (s.process k).time in
     record {
@@ -179,8 +258,8 @@ next_sound s g k content l member =
     }
 
 -- what the cast of a member does
-fits_casting : (r : Records) (s : State) → Fits r s → IsLawful s → (k : ℕ) → was_given s.used k ≡ true → (i : ℕ) (g : GroupNo) → slice_get s.config.groups i ≡ Some g → (content : Body) → is_member ((s.process k).standing g) ≡ true → Fits (send_message_in (tell_in r (local s k) (fact.Time (bumped (time_of r.delay (local s k)) g (local s k)))) (next_message_in r (local s k) g i content)) (sending s g k content)
-fits_casting r s f l k given i g at content member =
+fits_casting : (r : Records) (s : State) → Fits r s → IsLawful s → (k : ℕ) → was_given s.used k ≡ true → (i : ℕ) (g : GroupNo) → slice_get s.config.groups i ≡ Some g → (content : Body) → is_order (kind_of content) ≡ false → is_member ((s.process k).standing g) ≡ true → Fits (send_message_in (tell_in r (local s k) (fact.Time (bumped (time_of r.delay (local s k)) g (local s k)))) (next_message_in r (local s k) g i content)) (sending s g k content)
+fits_casting r s f l k given i g at content plain member =
     let p : Proc = local s k in
     let there = record_there r s f i g at in
     let m : Message = next_message s g k content in
@@ -191,31 +270,40 @@ fits_casting r s f l k given i g at content member =
       body = content;
     })) in
     subst (λ x. Fits x (sending s g k content)) (sym same)
-    (fits_send_message (tell_in r p (fact.Time m.times)) (set_process s k (record (s.process k) { time = m.times })) (fits_time r s f k given m.times) m (next_sound s g k content l member))
+    (fits_send_message (tell_in r p (fact.Time m.times)) (set_process s k (record (s.process k) { time = m.times })) (fits_time r s f k given m.times) m (next_sound s g k content l member)
+    (eq-eqb (s.group g).number (s.group g).number refl) plain)
+
+-- a cast is no set-order message
+cast_plain : (cast : CastKind) (payload : List ℕ) → is_order (kind_of (body_of cast payload)) ≡ false
+cast_plain kind.Causal payload = refl
+cast_plain kind.Atomic payload = refl
 
 -- a process casts a message to a group
-pub fits_cast : (r : Records) (s : State) → Fits r s → IsLawful s → (k : ℕ) → was_given s.used k ≡ true → (g : GroupNo) (payload : List ℕ) → Attempts (cast_in r k g payload) s (cast_tests s k g payload) (sending s g k (body.Causal payload))
-fits_cast r s f l k given g payload =
-    as_written (λ x. Attempts (cast_in x k g payload) s (cast_tests s k g payload) (sending s g k (body.Causal payload))) r s f
-    (λ w. at_place (written r s) s w g (cast_at (written r s) k g payload) _ (sending s g k (body.Causal payload)) (placed w))
+pub fits_cast : (r : Records) (s : State) → Fits r s → IsLawful s → (k : ℕ) → was_given s.used k ≡ true → (g : GroupNo) (cast : CastKind) (payload : List ℕ) → Attempts (cast_in r k g cast payload) s (cast_tests s k g payload) (sending s g k (body_of cast payload))
+fits_cast r s f l k given g cast payload =
+    as_written (λ x. Attempts (cast_in x k g cast payload) s (cast_tests s k g payload) (sending s g k (body_of cast payload))) r s f
+    (λ w. at_place (written r s) s w g (cast_at (written r s) k g cast payload) _ (sending s g k (body_of cast payload)) (placed w))
   where
-    placed : Fits (written r s) s → (i : ℕ) → slice_get s.config.groups i ≡ Some g → is_group s g ≡ true → Attempts (cast_at (written r s) k g payload i) s ((nat_lt MAX_PAYLOAD (length payload), TooLong) ∷ (not (is_member ((s.process k).standing g)), NotMember) ∷ (not (may_receive s), HeldFull) ∷ (not (may_raise (s.process k).time g (local s k)), HeldFull) ∷ []) (sending s g k (body.Causal payload))
+    placed : Fits (written r s) s → (i : ℕ) → slice_get s.config.groups i ≡ Some g → is_group s g ≡ true → Attempts (cast_at (written r s) k g cast payload i) s ((nat_lt MAX_PAYLOAD (length payload), TooLong) ∷ (not (is_member ((s.process k).standing g)), NotMember) ∷ (awaits_own s k, OwnAbcast) ∷ (not (may_receive s), HeldFull) ∷ (not (may_raise (s.process k).time g (local s k)), HeldFull) ∷ []) (sending s g k (body_of cast payload))
     placed w i at listed =
         let x : Records = written r s in
         let p : Proc = local s k in
-        let t : State = sending s g k (body.Causal payload) in
-        let next : Records = send_message_in (tell_in x p (fact.Time (bumped (time_of x.delay p) g p))) (next_message_in x p g i (body.Causal payload)) in
+        let t : State = sending s g k (body_of cast payload) in
+        let next : Records = send_message_in (tell_in x p (fact.Time (bumped (time_of x.delay p) g p))) (next_message_in x p g i (body_of cast payload)) in
         let raised : Attempt = if◌then◌else◌ {A = Attempt} (not (may_raise (time_of x.delay p) g p)) (x, Some HeldFull) (next, None) in
         let last : Attempt = if◌then◌else◌ {A = Attempt} (not (has_room_in x)) (x, Some HeldFull) raised in
+        let owned : Attempt = if◌then◌else◌ {A = Attempt} (awaits_own_in x p) (x, Some OwnAbcast) last in
         tested x s (nat_lt MAX_PAYLOAD (length payload)) (nat_lt MAX_PAYLOAD (length payload)) TooLong
-        (if◌then◌else◌ {A = Attempt} (not (is_member (standing_of x.delay p g))) (x, Some NotMember) last) _ t refl w
-        (λ _. tested x s (not (is_member (standing_of x.delay p g))) (not (is_member ((s.process k).standing g))) NotMember last _ t
+        (if◌then◌else◌ {A = Attempt} (not (is_member (standing_of x.delay p g))) (x, Some NotMember) owned) _ t refl w
+        (λ _. tested x s (not (is_member (standing_of x.delay p g))) (not (is_member ((s.process k).standing g))) NotMember owned _ t
         (ap (λ y. not (is_member y)) (standing_there x s w k g)) w
-        (λ member. tested x s (not (has_room_in x)) (not (may_receive s)) HeldFull raised _ t
+        (λ member. tested x s (awaits_own_in x p) (awaits_own s k) OwnAbcast last _ t
+        (awaits_own_there x s w l k given) w
+        (λ _. tested x s (not (has_room_in x)) (not (may_receive s)) HeldFull raised _ t
         (ap not (room_there x s w)) w
         (λ _. tested x s (not (may_raise (time_of x.delay p) g p)) (not (may_raise (s.process k).time g p)) HeldFull (next, None) [] t
         (ap (λ y. not (may_raise y g p)) (time_there x s w k)) w
-        (λ _. passed next s t (fits_casting x s w l k given i g at (body.Causal payload) (not-false (is_member ((s.process k).standing g)) member))))))
+        (λ _. passed next s t (fits_casting x s w l k given i g at (body_of cast payload) (cast_plain cast payload) (not-false (is_member ((s.process k).standing g)) member)))))))
 
 -- Replies
 
@@ -232,8 +320,7 @@ fits_reply a s k tag tests effect h =
 pub fits_requested : (r : Records) (s : State) → Fits r s → IsLawful s → (k : ℕ) → was_given s.used k ≡ true → (q : Request) → Fits (requested_in r k q) (requested s k q)
 fits_requested r s f l k given (Join tag g) = fits_reply (join_in r k g) s k tag (join_tests s k g) (joining s k g) (fits_join r s f l k given g)
 fits_requested r s f l k given (Leave tag g) = f
-fits_requested r s f l k given (Cast tag g kind.Causal payload) = fits_reply (cast_in r k g payload) s k tag (cast_tests s k g payload) (sending s g k (body.Causal payload)) (fits_cast r s f l k given g payload)
-fits_requested r s f l k given (Cast tag g kind.Atomic payload) = f
+fits_requested r s f l k given (Cast tag g cast payload) = fits_reply (cast_in r k g cast payload) s k tag (cast_tests s k g payload) (sending s g k (body_of cast payload)) (fits_cast r s f l k given g cast payload)
 
 -- and each command of a session that is open
 pub fits_commanded : (r : Records) (s : State) → Fits r s → IsLawful s → (k : ℕ) → was_given s.used k ≡ true → (c : Command) → Fits (command_in r k c) (commanded s k c)

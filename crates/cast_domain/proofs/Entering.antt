@@ -33,17 +33,13 @@ use Rattle.cast_domain.specs.Effects.{pushing, enters, in_view, push_view, compl
 use Rattle.cast_domain.specs.Records.{Records, was_given}
 use Rattle.cast_domain.specs.Calls.{record_at, standing_of, send_in, push_in, tell_in, enter_in, take_in, view_in, complete_in}
 use Rattle.cast_domain.specs.Fits.{Fits, IsLawful}
-use Rattle.cast_domain.proofs.Standing.{fits_told, fits_if, record_there, standing_there, time_there, fits_send, fits_push, fits_view, still_in}
+use Rattle.cast_domain.proofs.Standing.{and_none, fits_told, fits_if, record_there, standing_there, time_there, fits_send, fits_push, fits_view, still_in}
 
 -- Small truths of tests
 
 or_none : (a : Bool) → (a || false) ≡ a
 or_none true = refl
 or_none false = refl
-
-and_none : (a : Bool) → (a && false) ≡ false
-and_none true = refl
-and_none false = refl
 
 and_true : (a : Bool) → (a && true) ≡ a
 and_true true = refl
@@ -303,11 +299,11 @@ module _ (g : GroupNo) (n : ℕ) (members : Membership) (request : ℕ) (t : Sta
       (λ k later. or_from (e k) (taken k && proc_eq (local t k) p) (fresh k (or_right (proc_eq (local t k) p) (is_among proc_eq (local t k) ps) later)) (ap (λ b. taken k && b) (apart k later) ∙ and_none (taken k))))
 
 -- a view is complete
-pub fits_complete : (r : Records) (s : State) → Fits r s → IsLawful s → (i : ℕ) (g : GroupNo) → slice_get s.config.groups i ≡ Some g → is_group s g ≡ true → (n : ℕ) (members : Membership) (request : ℕ) → is_members members ≡ true → Fits (send_in (complete_in r i n members request) s.config.home (frame.Installed g n)) (completing s g n members request)
-fits_complete r s f l i g at listed n members request typed =
+pub fits_complete : (r : Records) (s : State) → Fits r s → IsLawful s → (i : ℕ) (g : GroupNo) → slice_get s.config.groups i ≡ Some g → is_group s g ≡ true → (n : ℕ) (members : Membership) (request : ℕ) → is_members members ≡ true → (s.group g).number < n → Fits (send_in (complete_in r i n members request) s.config.home (frame.Installed g n)) (completing s g n members request)
+fits_complete r s f l i g at listed n members request typed newer =
     let now : State = set_group s g (with_view s.here n members (s.group g)) in
     let first : Records = view_in r i n members in
-    let f0 : Fits first now = fits_view r s f l i g at n members in
+    let f0 : Fits first now = fits_view r s f l i g at n members newer in
     let rising = (and_parts (is_rising proc_cmp members.list) _ typed).0 in
     let all = fits_take_all g n members request now members.list first (λ k. false) f0 listed rising (λ k _. refl) in
     let one_by_one = subst (λ x. Fits (fold (take_in g n members request) first members.list) x) (sym (at_once g n members request now (enters s g members request) f0.all_open)) all in

@@ -1,19 +1,21 @@
 -- What a frame changes of a domain's records it changes of their history.
-use Rattle.std.proofs.Common.{◌≡◌, ℕ, ◌+◌, ◌<◌, Bool, true, false, not, ◌&&◌, ◌||◌, List, [], ◌∷◌, ◌++◌, map, Some, None, refl, sym, ap, subst, ◌∙◌}
+use Rattle.std.proofs.Common.{◌≡◌, ℕ, ◌+◌, ◌<◌, Bool, true, false, not, ◌&&◌, ◌||◌, List, [], ◌∷◌, ◌++◌, map, Some, None, refl, sym, ap, subst, ◌∙◌, inl, inr, arith}
 use Rattle.std.specs.Prelude.{◌==◌, nat_lt, nat_le, if◌then◌else◌, slice_get}
 use Rattle.std.specs.List.{fold, list_any, list_all}
 use Rattle.std.specs.Option.{option_map_or}
-use Rattle.std.proofs.lemmas.Bool.{false≢true, and_parts, eqb-true, ltb-true}
+use Rattle.std.proofs.lemmas.Bool.{cases_Bool, false≢true, not-true, and_parts, eqb-true, ltb-true}
+use Rattle.std.proofs.lemmas.Bool.Decides.{nat_tests}
 use Rattle.cast_types.specs.declared.names.SiteNo.{SiteNo}
 use Rattle.cast_types.specs.declared.names.GroupNo.{GroupNo}
 use Rattle.cast_types.specs.declared.names.Proc.{Proc}
 use Rattle.cast_types.specs.declared.names.Uid.{Uid}
-use Rattle.cast_types.specs.Names.{site_eq, group_eq, proc_eq, uid_eq, is_causal}
+use Rattle.cast_types.specs.Names.{site_eq, group_eq, proc_eq, uid_eq, is_order}
 use Rattle.cast_types.specs.Places.{update}
 use Rattle.cast_types.specs.Sets.{is_among}
 use Rattle.cast_types.proofs.Orders.{same_site, same_uid, uid_itself}
 use Rattle.cast_delay.proofs.Listed.{same_bools}
 use Rattle.cast_clock.specs.Times.{clock_of, count_in}
+use Rattle.cast_frame.specs.declared.message.Body.{Body}
 use Rattle.cast_frame.specs.declared.message.Message.{Message}
 use Rattle.cast_frame.specs.declared.site.Change.{Change}
 use Rattle.cast_frame.specs.declared.site.Change.TheVariants as change
@@ -27,22 +29,25 @@ use Rattle.cast_timer.specs.Owed.{paid as paid_by, is_upto}
 use Rattle.cast_stable.specs.Ledger.{others_in, is_received_in, upto_in, is_stable_in, learnt_ledger}
 use Rattle.cast_stable.proofs.Meanings.{stable_meant, upto_meant, ack_fits, learn_fits}
 use Rattle.cast_delay.specs.Fits.{IsSound}
+use Rattle.cast_order.specs.Log.{log_of}
 use Rattle.cast_domain.specs.declared.record.GroupRecord.{GroupRecord}
 use Rattle.cast_domain.specs.declared.group.Group.{Group}
 use Rattle.cast_domain.specs.declared.group.Verdict.TheVariants.{Again, Completes, Ignored}
-use Rattle.cast_domain.specs.Group.{first_asking, members_of, is_current, with_answer, verdict_of}
+use Rattle.cast_domain.specs.Group.{first_asking, members_of, has_view, is_current, with_answer, verdict_of}
 use Rattle.cast_domain.specs.Home.{applied_of, after_request, after_installed}
-use Rattle.cast_domain.specs.State.{State, is_home, is_site, is_group, set_group, set_home, emitted, is_received, may_receive, others_of, upto, is_stable, counts_itself}
+use Rattle.cast_domain.specs.State.{State, local, is_home, is_site, is_group, set_group, set_home, emitted, is_received, may_take, others_of, upto, is_stable, counts_itself}
 use Rattle.cast_domain.specs.Owing.{ask_key, message_key, owing, paying}
 use Rattle.cast_domain.specs.Effects.{asking, receiving, completing}
 use Rattle.cast_domain.specs.Step.{is_used, acknowledging, data_used, on_data, is_used_ack, with_ack, tell_stable, tell_more, on_ack, paying_acks, on_stable, is_from_home, on_ask, on_asked, on_install, on_installed, group_of, on_frame, framed}
 use Rattle.cast_domain.specs.Shared.{part_paying_upto}
 use Rattle.cast_domain.specs.Records.{Records}
-use Rattle.cast_domain.specs.Calls.{has_room_in, is_home_in, place_in, record_at, send_in, owe_in, pay_in, ask_home_in, receive_in, is_well_formed_in, is_used_in, acknowledge_in, use_data_in, data_in, with_ack_in, is_used_ack_in, tell_stable_in, tell_more_in, ack_in, stable_in, asked_of_home_in, answered_in, complete_in, install_in, installed_in, frame_at, frame_in}
+use Rattle.cast_domain.specs.Calls.{may_take_in, is_home_in, place_in, record_at, send_in, owe_in, pay_in, ask_home_in, receive_in, is_used_in, acknowledge_in, use_data_in, data_in, with_ack_in, is_used_ack_in, tell_stable_in, tell_more_in, ack_in, stable_in, asked_of_home_in, answered_in, complete_in, install_in, installed_in, frame_at, frame_in}
 use Rattle.cast_domain.specs.Fits.{Fits, IsLawful, IsTypedFrame}
-use Rattle.cast_domain.proofs.Standing.{fits_if, record_there, place_some, place_none, fits_send, fits_here, fits_home, fits_receive}
+use Rattle.cast_domain.proofs.Standing.{and_none, orders_same, fits_if, record_there, place_some, place_none, fits_send, fits_here, fits_home, fits_receive}
 use Rattle.cast_domain.proofs.Lawful.{same_owed, lawful_same}
+use Rattle.cast_domain.proofs.Logs.{logs_ack}
 use Rattle.cast_domain.proofs.Owings.{fits_owed, fits_owe, fits_pay}
+use Rattle.cast_domain.proofs.Ordering.{order_room_there}
 use Rattle.cast_domain.proofs.Commands.{fits_ask_home, room_there}
 use Rattle.cast_domain.proofs.Entering.{fits_complete}
 
@@ -63,15 +68,29 @@ sound_counts m h =
       count = eqb-true (count_in m.times m.id.group m.id.proc) m.id.count b.1;
     }
 
--- a message that is used counts itself
-used_counts : (r : Records) (i : ℕ) (from : SiteNo) (m : Message) → is_used_in r i from m ≡ true → counts_itself m ≡ true
-used_counts r i from m used =
+-- a message that is used counts itself, is of its group's view, and is of another site
+record IsUsed (s : State) (m : Message) : Type 0 where
+  sound : IsSound m
+  current : (m.id.view == (s.group m.id.group).number) ≡ true
+  foreign : site_eq m.id.proc.site s.here ≡ false
+
+what_is_used : (s : State) (from : SiteNo) (m : Message) → is_used s from m ≡ true → IsUsed s m
+what_is_used s from m used =
     let a = and_parts (site_eq m.id.proc.site from) _ used in
-    let b = and_parts (not (site_eq from r.site)) _ a.1 in
-    let c = and_parts (m.id.view == (record_at r.groups i).here.number) _ b.1 in
-    let whole = and_parts (is_well_formed_in r i m) (is_causal (kind_of m.body)) c.1 in
-    let d = and_parts (list_all (λ x. is_among group_eq x.0 r.config.groups) m.times) _ whole.0 in
-    (and_parts (is_among proc_eq m.id.proc (members_of (record_at r.groups i).here)) (counts_itself m) d.1).1
+    let b = and_parts (not (site_eq from s.here)) _ a.1 in
+    let c = and_parts (m.id.view == (s.group m.id.group).number) _ b.1 in
+    let d = and_parts (is_group s m.id.group) _ c.1 in
+    let e = and_parts (list_all (λ x. is_group s x.0) m.times) _ d.1 in
+    let counts = (and_parts (is_among proc_eq m.id.proc (members_of (s.group m.id.group))) (counts_itself m) e.1).1 in
+    record {
+      sound = sound_counts m counts;
+      current = c.0;
+      foreign = ap (λ t. site_eq t s.here) (same_site m.id.proc.site from a.0) ∙ not-true (site_eq from s.here) b.0;
+    }
+
+-- it is no set-order message of a process here
+none_ours : (s : State) (m : Message) → site_eq m.id.proc.site s.here ≡ false → (k : ℕ) → (is_order (kind_of m.body) && proc_eq m.id.proc (local s k)) ≡ false
+none_ours s m foreign k = ap (λ b. is_order (kind_of m.body) && (b && (m.id.proc.serial == k))) foreign ∙ and_none (is_order (kind_of m.body))
 
 -- the acknowledgement is sent, and owed unless the message is known to be stable
 fits_acknowledge : (r : Records) (s : State) → Fits r s → (to : SiteNo) (u : Uid) → 0 < u.count → Fits (acknowledge_in r to u) (acknowledging s to u)
@@ -92,16 +111,20 @@ received_ids u (m ∷ got) = λ i. uid_turned u m.id i || received_ids u got i
 received_there : (r : Records) (s : State) → Fits r s → (u : Uid) → 0 < u.count → is_received_in r.acks u ≡ is_received s u
 received_there r s f u counted = f.acks.receipts u counted ∙ received_ids u s.got
 
+-- there is room for a message, or there is none, on both sides
+pub take_there : (r : Records) (s : State) → Fits r s → (b : Body) → may_take_in r b ≡ may_take s b
+take_there r s f b = λ j. if is_order (kind_of b) then order_room_there r s f j else room_there r s f j
+
 -- a message is received once, where there is room for it
-fits_use_data : (r : Records) (s : State) → Fits r s → (from : SiteNo) (m : Message) → IsSound m → Fits (use_data_in r from m) (data_used s from m)
-fits_use_data r s f from m sound =
+fits_use_data : (r : Records) (s : State) → Fits r s → (from : SiteNo) (m : Message) → IsUsed s m → Fits (use_data_in r from m) (data_used s from m)
+fits_use_data r s f from m used =
     let taken : Records = acknowledge_in (receive_in r m) from m.id in
     let t : State = acknowledging (receiving s m) from m.id in
-    fits_if (is_received_in r.acks m.id) (is_received s m.id) (send_in r from (frame.Ack m.id)) (if has_room_in r then taken else r) (emitted s from (frame.Ack m.id)) (if may_receive s then t else s)
-    (received_there r s f m.id sound.from_one)
+    fits_if (is_received_in r.acks m.id) (is_received s m.id) (send_in r from (frame.Ack m.id)) (if may_take_in r m.body then taken else r) (emitted s from (frame.Ack m.id)) (if may_take s m.body then t else s)
+    (received_there r s f m.id used.sound.from_one)
     (λ _. fits_send r s f from (frame.Ack m.id))
-    (λ _. fits_if (has_room_in r) (may_receive s) taken r t s (room_there r s f)
-    (λ _. fits_acknowledge (receive_in r m) (receiving s m) (fits_receive r s f m sound) from m.id sound.from_one)
+    (λ _. fits_if (may_take_in r m.body) (may_take s m.body) taken r t s (take_there r s f m.body)
+    (λ _. fits_acknowledge (receive_in r m) (receiving s m) (fits_receive r s f m used.sound used.current (none_ours s m used.foreign)) from m.id used.sound.from_one)
     (λ _. f))
 
 pub fits_data : (r : Records) (s : State) → Fits r s → (i : ℕ) (from : SiteNo) (m : Message) → slice_get s.config.groups i ≡ Some m.id.group → is_group s m.id.group ≡ true → Fits (data_in r i from m) (on_data s from m)
@@ -109,9 +132,9 @@ fits_data r s f i from m at listed =
     let there = record_there r s f i m.id.group at in
     let same : is_used_in r i from m ≡ is_used s from m = (λ j.
     site_eq m.id.proc.site from && (not (site_eq from (f.site j)) && ((m.id.view == (there j).here.number)
-    && ((sym listed j && (list_all (λ c. is_among group_eq c.0 (f.config j).groups) m.times && (is_among proc_eq m.id.proc (members_of (there j).here) && counts_itself m))) && is_causal (kind_of m.body))))) in
+    && (sym listed j && (list_all (λ c. is_among group_eq c.0 (f.config j).groups) m.times && (is_among proc_eq m.id.proc (members_of (there j).here) && counts_itself m)))))) in
     fits_if (is_used_in r i from m) (is_used s from m) (use_data_in r from m) r (data_used s from m) s same
-    (λ used. fits_use_data r s f from m (sound_counts m (used_counts r i from m used)))
+    (λ used. fits_use_data r s f from m (what_is_used s from m (sym same ∙ used)))
     (λ _. f)
 
 -- Stability
@@ -131,11 +154,13 @@ fits_with_ack r s f from u counted =
       moment = paid.moment;
       kept = paid.kept;
       fresh = paid.fresh;
+      received = f.received;
       owed = paid.owed;
       delay = paid.delay;
       admitted = paid.admitted;
       rows = paid.rows;
       acks = ack_fits s.here (others_of s) (map (λ m. m.id) s.got) s.acks s.told r.acks f.acks from u;
+      orders = λ h. logs_ack s from u h (log_of r.orders h) (f.orders h);
       frames = paid.frames;
       delivered = paid.delivered;
     }
@@ -201,11 +226,13 @@ fits_stable r s f i from u at =
       moment = paid.moment;
       kept = paid.kept;
       fresh = paid.fresh;
+      received = f.received;
       owed = paid.owed;
       delay = paid.delay;
       admitted = paid.admitted;
       rows = paid.rows;
       acks = learn_fits s.here (others_of s) (map (λ m. m.id) s.got) s.acks s.told r.acks f.acks u;
+      orders = orders_same s (record (paying_acks s u) { told = s.told ++ u ∷ [] }) r.orders refl refl refl refl refl refl f.orders;
       frames = paid.frames;
       delivered = paid.delivered;
     })
@@ -262,6 +289,16 @@ fits_asked r s f l i g at from number false =
 
 -- Views
 
+-- a view is completed where its number is a later one
+later_view : (group : Group) (n : ℕ) → verdict_of group n ≡ Completes → group.number < n
+later_view group n is = elim (cases_Bool (nat_le n group.number)) [
+  | inl known ↦ absurd (not_again (sym (ap (λ b. if b then Again else if has_view group then Ignored else Completes) known) ∙ is))
+  | inr later ↦ grind (arith, nat_tests)
+]
+  where
+    not_again : Again ≡ Completes → ⊥
+    not_again e = cc
+
 -- a view is completed, or answered again, or ignored
 pub fits_install : (r : Records) (s : State) → Fits r s → IsLawful s → (i : ℕ) (g : GroupNo) → slice_get s.config.groups i ≡ Some g → is_group s g ≡ true → (from : SiteNo) (n : ℕ) (members : Membership) (request : ℕ) → is_members members ≡ true → Fits (install_in r i from n members request) (on_install s from g n members request)
 fits_install r s f l i g at listed from n members request typed =
@@ -272,11 +309,11 @@ fits_install r s f l i g at listed from n members request typed =
     fits_if (site_eq from r.config.home) (is_from_home s from) _ r _ s (ap (λ c. site_eq from c.home) f.config)
     (λ is. let home : from ≡ s.config.home = same_site from s.config.home (sym (ap (λ c. site_eq from c.home) f.config) ∙ is) in
     subst (λ (x : Group). Fits (elim (verdict_of x n) [ Again ↦ send_in r from here | Completes ↦ send_in whole from here | Ignored ↦ r ]) (elim (verdict_of (s.group g) n) [ Again ↦ emitted s s.config.home (frame.Installed g n) | Completes ↦ completing s g n members request | Ignored ↦ s ])) (sym (ap (λ (x : GroupRecord). x.here) there))
-    (elim (verdict_of (s.group g) n) as (λ v. Fits (elim v [ Again ↦ send_in r from here | Completes ↦ send_in whole from here | Ignored ↦ r ]) (elim v [ Again ↦ emitted s s.config.home (frame.Installed g n) | Completes ↦ completing s g n members request | Ignored ↦ s ])) [
-      | Again ↦ fits_send_as r s f from s.config.home here (frame.Installed g n) home answer
-      | Completes ↦ subst (λ x. Fits x (completing s g n members request)) (λ j. send_in whole (sym home j) (sym answer j)) (fits_complete r s f l i g at listed n members request typed)
-      | Ignored ↦ f
-    ]))
+    (elim (verdict_of (s.group g) n) as (λ v. verdict_of (s.group g) n ≡ v → Fits (elim v [ Again ↦ send_in r from here | Completes ↦ send_in whole from here | Ignored ↦ r ]) (elim v [ Again ↦ emitted s s.config.home (frame.Installed g n) | Completes ↦ completing s g n members request | Ignored ↦ s ])) [
+      | Again ↦ λ _. fits_send_as r s f from s.config.home here (frame.Installed g n) home answer
+      | Completes ↦ λ is. subst (λ x. Fits x (completing s g n members request)) (λ j. send_in whole (sym home j) (sym answer j)) (fits_complete r s f l i g at listed n members request typed (later_view (s.group g) n is))
+      | Ignored ↦ λ _. f
+    ] refl))
     (λ _. f)
 
 -- the home waits for one site less

@@ -1,6 +1,6 @@
 -- What holds of each history that events lead to is kept by each effect.
-use Rattle.std.proofs.Common.{◌≡◌, ℕ, zero, suc, ◌+◌, ◌<◌, ◌≤◌, Bool, true, false, cond, not, Less, Equal, Greater, List, [], ◌∷◌, ◌++◌, Contains, Some, None, refl, sym, ap, subst, ◌∙◌, inl, inr, arith}
-use Rattle.std.specs.Prelude.{◌&&◌, ◌==◌, nat_lt, nat_le, if◌then◌else◌, filter}
+use Rattle.std.proofs.Common.{◌≡◌, ℕ, zero, suc, ◌+◌, ◌<◌, ◌≤◌, Bool, true, false, cond, not, Less, Equal, Greater, List, [], ◌∷◌, ◌++◌, Contains, Option, Some, None, refl, sym, ap, subst, ◌∙◌, inl, inr, arith}
+use Rattle.std.specs.Prelude.{◌&&◌, ◌⊎◌, ◌==◌, nat_lt, nat_le, if◌then◌else◌, filter}
 use Rattle.std.specs.List.{fold, list_any, list_all, range_with_len}
 use Rattle.std.specs.Ordering.{nat_cmp, MatchOrdering}
 use Rattle.std.specs.FinMap.Entries.{is_sorted}
@@ -15,15 +15,16 @@ use Rattle.cast_types.specs.declared.names.Uid.{Uid}
 use Rattle.cast_types.specs.declared.names.Standing.{Standing}
 use Rattle.cast_types.specs.declared.names.Standing.TheVariants.{Outside, Joining, Member}
 use Rattle.cast_types.specs.declared.clock.Clock.{Clock}
-use Rattle.cast_types.specs.Names.{site_eq, group_eq, group_cmp, proc_eq, uid_eq}
+use Rattle.cast_types.specs.Names.{site_eq, group_eq, group_cmp, proc_eq, uid_eq, is_atomic}
 use Rattle.cast_types.specs.Sets.{set_at, at_order, is_among}
 use Rattle.cast_types.specs.Stamps.{ClockList}
-use Rattle.cast_types.proofs.Orders.{same_site, site_itself, same_group, group_itself}
+use Rattle.cast_types.proofs.Orders.{same_site, site_itself, same_group, group_itself, same_uid, uid_itself}
 use Rattle.cast_clock.specs.Times.{clock_of, view_of, join_clocks, join_counts, join, has_room, bumped, entering}
 use Rattle.cast_clock.proofs.Joins.{clock_of-join}
 use Rattle.cast_clock.proofs.Raised.{bump_leaves_views, enter_begins, enter_leaves}
 use Rattle.cast_frame.specs.declared.message.Body.{Body}
 use Rattle.cast_frame.specs.declared.message.Message.{Message}
+use Rattle.cast_frame.specs.Bodies.{kind_of}
 use Rattle.cast_frame.specs.declared.site.Change.{Change}
 use Rattle.cast_frame.specs.declared.site.SiteFrame.{SiteFrame}
 use Rattle.cast_frame.specs.declared.site.SiteFrame.TheVariants as frame
@@ -36,7 +37,7 @@ use Rattle.cast_timer.specs.declared.key.Owed.{Owed}
 use Rattle.cast_timer.specs.declared.key.OwedKey.{OwedKey}
 use Rattle.cast_timer.specs.declared.key.OwedKind.TheVariants as kinds
 use Rattle.cast_timer.specs.Owed.{is_owed, with_owed}
-use Rattle.cast_delay.specs.Ready.{Process, Gate, is_member, is_outside, has_delivered, past_in, group_allows}
+use Rattle.cast_delay.specs.Ready.{Process, Gate, is_member, is_outside, has_delivered, past_in, group_allows, is_causally_ready}
 use Rattle.cast_delay.proofs.Delivers.{only_member}
 use Rattle.cast_delay.proofs.Means.{among_holds}
 use Rattle.cast_domain.specs.declared.session.Session.{Session}
@@ -46,12 +47,13 @@ use Rattle.cast_domain.specs.Group.{no_group, has_view, is_at, is_current, with_
 use Rattle.cast_domain.specs.declared.home.Home.{Home}
 use Rattle.cast_domain.specs.Home.{is_empty}
 use Rattle.cast_domain.specs.declared.config.DomainConfig.{DomainConfig}
-use Rattle.cast_domain.specs.State.{State, opening, local, serials, is_group, set_session, set_process, set_group, set_home, set_standing, emitted, others_of, gate_of, is_ready_for, local_members, is_stable, is_free, let_go}
+use Rattle.cast_domain.specs.State.{State, opening, local, serials, is_group, set_session, set_process, set_group, set_home, set_standing, emitted, others_of, gate_of, local_members, is_stable, is_free, let_go}
+use Rattle.cast_domain.specs.Order.{is_ready_for}
 use Rattle.cast_domain.specs.Owing.{ask_key, message_key, frame_for, sent_for, next_due, owing}
-use Rattle.cast_domain.specs.Effects.{asking, requesting, pushing, receiving, sending_to, next_message, sending_message, sending, payload_of, cast_kind_of, delivering, enters, in_view, all_in_view, push_view, completing}
+use Rattle.cast_domain.specs.Effects.{asking, requesting, pushing, receiving, sending_to, next_message, sending_message, sending, told_of, with_delivery, delivering, enters, in_view, all_in_view, push_view, completing}
 use Rattle.cast_domain.specs.Run.{before_event}
 use Rattle.cast_domain.specs.Records.{was_given}
-use Rattle.cast_domain.specs.Fits.{IsSpent, AreKept, IsLawful}
+use Rattle.cast_domain.specs.Fits.{IsSpent, AreKept, IsTraced, IsLawful}
 
 -- One process in one group
 
@@ -68,8 +70,8 @@ pub placed_of : (s : State) → IsLawful s → (k : ℕ) (g : GroupNo) → Place
 placed_of s l k g = record { known = l.known k g; current = l.current k g; viewed = l.viewed k g }
 
 -- a state with the configuration of a lawful one is lawful if each process is lawful in each group, and messages are in order
-pub lawful_from : (s t : State) → IsLawful s → t.config ≡ s.config → ((k : ℕ) (g : GroupNo) → PlacedIn t (t.process k) g) → ((m : Message) → Contains t.got m → is_sorted group_cmp m.times ≡ true) → AreKept (IsSpent t) t.got t.kept → ((g : GroupNo) → has_view (t.group g) ≡ true → is_group t g ≡ true) → IsLawful t
-lawful_from s t l config placed stamped spent listed = record {
+pub lawful_from : (s t : State) → IsLawful s → t.config ≡ s.config → ((k : ℕ) (g : GroupNo) → PlacedIn t (t.process k) g) → ((m : Message) → Contains t.got m → is_sorted group_cmp m.times ≡ true) → AreKept (IsSpent t) t.got t.kept → ((g : GroupNo) → has_view (t.group g) ≡ true → is_group t g ≡ true) → IsTraced t → IsLawful t
+lawful_from s t l config placed stamped spent listed traced = record {
   rising = subst (λ c. is_rising group_cmp c.groups ≡ true) (sym config) l.rising;
   known = λ k g. (placed k g).known;
   current = λ k g. (placed k g).current;
@@ -77,6 +79,17 @@ lawful_from s t l config placed stamped spent listed = record {
   stamped = stamped;
   spent = spent;
   listed = listed;
+  traced = traced;
+}
+
+-- What is traced
+
+-- what was received and noted is of views that are reached still, where the same was noted and delivered lists grow
+pub traced_on : (s t : State) → t.got ≡ s.got → ((k : ℕ) → t.abcasts k ≡ s.abcasts k) → ((g : GroupNo) → (s.group g).number ≤ (t.group g).number) → ((k : ℕ) (u : Uid) → has_delivered (s.process k) u ≡ true → has_delivered (t.process k) u ≡ true) → IsTraced s → IsTraced t
+traced_on s t got noted number more l = record {
+  reached = λ m at. let before = l.reached m (subst (λ ms. Contains ms m) got at) in let up = number m.id.group in omega (arith, before, up);
+  delivered = λ k u is. more k u (l.delivered k u (sym (ap (λ ids. is_among uid_eq u ids) (noted k)) ∙ is));
+  seen = λ k u is. let before = l.seen k u (sym (ap (λ ids. is_among uid_eq u ids) (noted k)) ∙ is) in let up = number u.group in omega (arith, before, up);
 }
 
 -- What is kept
@@ -153,6 +166,7 @@ pub record SameLaw (s : State) (t : State) : Type 0 where
   pub got : t.got ≡ s.got
   pub kept : t.kept ≡ s.kept
   pub delivered : (k : ℕ) → (t.process k).delivered ≡ (s.process k).delivered
+  pub abcasts : (k : ℕ) → t.abcasts k ≡ s.abcasts k
   pub standing : (k : ℕ) (g : GroupNo) → (t.process k).standing g ≡ (s.process k).standing g
   pub view_in : (k : ℕ) (g : GroupNo) → view_of (t.process k).time g ≡ view_of (s.process k).time g
   pub number : (g : GroupNo) → (t.group g).number ≡ (s.group g).number
@@ -175,9 +189,10 @@ lawful_same s t a l = lawful_from s t l a.config
     (spent_on s t a.used a.number (λ k g is. ap is_member (sym (a.standing k g)) ∙ is) (λ k u is. ap (λ ids. is_among uid_eq u ids) (a.delivered k) ∙ is))
     s.got s.kept l.spent)))
     (λ g seen. ap (λ c. is_among group_eq g c.groups) a.config ∙ l.listed g (sym (seen_view (t.group g) (s.group g) (a.view g)) ∙ seen))
+    (traced_on s t a.got a.abcasts (λ g. let same = a.number g in omega (arith, same)) (λ k u is. ap (λ ids. is_among uid_eq u ids) (a.delivered k) ∙ is) l.traced)
 
 pub same_self : (s : State) → SameLaw s s
-same_self s = record { config = refl; used = refl; got = refl; kept = refl; delivered = λ k. refl; standing = λ k g. refl; view_in = λ k g. refl; number = λ g. refl; view = λ g. refl }
+same_self s = record { config = refl; used = refl; got = refl; kept = refl; delivered = λ k. refl; abcasts = λ k. refl; standing = λ k g. refl; view_in = λ k g. refl; number = λ g. refl; view = λ g. refl }
 
 pub same_then : (s t u : State) → SameLaw s t → SameLaw t u → SameLaw s u
 same_then s t u a b = record {
@@ -186,6 +201,7 @@ same_then s t u a b = record {
   got = b.got ∙ a.got;
   kept = b.kept ∙ a.kept;
   delivered = λ k. b.delivered k ∙ a.delivered k;
+  abcasts = λ k. b.abcasts k ∙ a.abcasts k;
   standing = λ k g. b.standing k g ∙ a.standing k g;
   view_in = λ k g. b.view_in k g ∙ a.view_in k g;
   number = λ g. b.number g ∙ a.number g;
@@ -201,13 +217,13 @@ same_fold f h [] s = same_self s
 same_fold f h (x ∷ xs) s = same_then s (f s x) (fold f (f s x) xs) (h s x) (same_fold f h xs (f s x))
 
 pub same_session : (s : State) (k : ℕ) (v : Session) → SameLaw s (set_session s k v)
-same_session s k v = record { config = refl; used = refl; got = refl; kept = refl; delivered = λ k. refl; standing = λ k g. refl; view_in = λ k g. refl; number = λ g. refl; view = λ g. refl }
+same_session s k v = record { config = refl; used = refl; got = refl; kept = refl; delivered = λ k. refl; abcasts = λ k. refl; standing = λ k g. refl; view_in = λ k g. refl; number = λ g. refl; view = λ g. refl }
 
 pub same_home : (s : State) (g : GroupNo) (v : Home) → SameLaw s (set_home s g v)
-same_home s g v = record { config = refl; used = refl; got = refl; kept = refl; delivered = λ k. refl; standing = λ k g. refl; view_in = λ k g. refl; number = λ g. refl; view = λ g. refl }
+same_home s g v = record { config = refl; used = refl; got = refl; kept = refl; delivered = λ k. refl; abcasts = λ k. refl; standing = λ k g. refl; view_in = λ k g. refl; number = λ g. refl; view = λ g. refl }
 
 pub same_emitted : (s : State) (to : SiteNo) (f : SiteFrame) → SameLaw s (emitted s to f)
-same_emitted s to f = record { config = refl; used = refl; got = refl; kept = refl; delivered = λ k. refl; standing = λ k g. refl; view_in = λ k g. refl; number = λ g. refl; view = λ g. refl }
+same_emitted s to f = record { config = refl; used = refl; got = refl; kept = refl; delivered = λ k. refl; abcasts = λ k. refl; standing = λ k g. refl; view_in = λ k g. refl; number = λ g. refl; view = λ g. refl }
 
 pub same_pushing : (s : State) (k : ℕ) (p : Push) → SameLaw s (pushing s k p)
 same_pushing s k p = same_if s (set_session s k (pushed_to (s.session k) p)) s (is_open (s.session k)) (same_session s k (pushed_to (s.session k) p)) (same_self s)
@@ -220,6 +236,7 @@ same_group_set s g v number view = record {
   got = refl;
   kept = refl;
   delivered = λ k. refl;
+  abcasts = λ k. refl;
   standing = λ k h. refl;
   view_in = λ k h. refl;
   number = λ h. elim (group_eq g h) as (λ b. group_eq g h ≡ b → (if b then v else s.group h).number ≡ (s.group h).number) [
@@ -233,7 +250,7 @@ same_group_set s g v number view = record {
 }
 
 pub same_owed : (s : State) (owed : List Owed) → SameLaw s (record s { owed = owed })
-same_owed s owed = record { config = refl; used = refl; got = refl; kept = refl; delivered = λ k. refl; standing = λ k g. refl; view_in = λ k g. refl; number = λ g. refl; view = λ g. refl }
+same_owed s owed = record { config = refl; used = refl; got = refl; kept = refl; delivered = λ k. refl; abcasts = λ k. refl; standing = λ k g. refl; view_in = λ k g. refl; number = λ g. refl; view = λ g. refl }
 
 pub same_sent_for : (s : State) (key : OwedKey) → SameLaw s (sent_for s key)
 same_sent_for s key = elim (frame_for s key) as (λ o. SameLaw s (elim o [ Some f ↦ emitted s key.site f | None ↦ s ])) [
@@ -286,6 +303,7 @@ lawful_opening here config rising = record {
   stamped = λ m at. let inside = at.1 in absurd (omega arith);
   spent = refl;
   listed = λ g seen. absurd (false≢true seen);
+  traced = record { reached = λ m at. let inside = at.1 in absurd (omega arith); delivered = λ k u is. absurd (false≢true is); seen = λ k u is. absurd (false≢true is) };
 }
 
 pub lawful_before : (s : State) → IsLawful s → IsLawful (before_event s)
@@ -297,6 +315,7 @@ lawful_before s l = record {
   stamped = l.stamped;
   spent = kept_map (IsSpent s) (IsSpent (before_event s)) (λ m h. record { reached = h.reached; delivered = h.delivered }) s.got s.kept l.spent;
   listed = l.listed;
+  traced = record { reached = l.traced.reached; delivered = l.traced.delivered; seen = l.traced.seen };
 }
 
 pub lawful_after : (s : State) → IsLawful (before_event s) → IsLawful s
@@ -308,6 +327,7 @@ lawful_after s l = record {
   stamped = l.stamped;
   spent = kept_map (IsSpent (before_event s)) (IsSpent s) (λ m h. record { reached = h.reached; delivered = h.delivered }) s.got s.kept l.spent;
   listed = l.listed;
+  traced = record { reached = l.traced.reached; delivered = l.traced.delivered; seen = l.traced.seen };
 }
 
 -- One process
@@ -319,6 +339,7 @@ lawful_process s k v l placed member more = lawful_from s (set_process s k v) l 
     l.stamped
     (kept_map (IsSpent s) (IsSpent (set_process s k v)) (spent_on s (set_process s k v) refl (λ g. refl) members grown) s.got s.kept l.spent)
     l.listed
+    (traced_on s (set_process s k v) refl (λ j. refl) (λ g. omega arith) grown l.traced)
   where
     members : (j : ℕ) (g : GroupNo) → is_member ((if k == j then v else s.process j).standing g) ≡ true → is_member ((s.process j).standing g) ≡ true
     members j g = elim (k == j) as (λ b. k == j ≡ b → is_member ((if b then v else s.process j).standing g) ≡ true → is_member ((s.process j).standing g) ≡ true) [
@@ -351,14 +372,22 @@ lawful_standing s k g request heard l listed = lawful_process s k (record (s.pro
 
 -- Messages
 
-pub lawful_receiving : (s : State) (m : Message) → IsLawful s → is_sorted group_cmp m.times ≡ true → IsLawful (receiving s m)
-lawful_receiving s m l sorted = lawful_from s (receiving s m) l refl (placed_of s l)
+pub lawful_receiving : (s : State) (m : Message) → IsLawful s → is_sorted group_cmp m.times ≡ true → m.id.view ≤ (s.group m.id.group).number → IsLawful (receiving s m)
+lawful_receiving s m l sorted reached = lawful_from s (receiving s m) l refl (placed_of s l)
     (λ x at. elim (Contains-push_cases s.got m x at) [
       | inl before ↦ l.stamped x before
       | inr last ↦ subst (λ y. is_sorted group_cmp y.times ≡ true) last sorted
     ])
     (kept_push (IsSpent (receiving s m)) s.got s.kept m (kept_map (IsSpent s) (IsSpent (receiving s m)) (λ x h. record { reached = h.reached; delivered = h.delivered }) s.got s.kept l.spent))
     l.listed
+    (record {
+      reached = λ x at. elim (Contains-push_cases s.got m x at) [
+        | inl before ↦ l.traced.reached x before
+        | inr last ↦ subst (λ y. y.id.view ≤ (s.group y.id.group).number) last reached
+      ];
+      delivered = l.traced.delivered;
+      seen = l.traced.seen;
+    })
 
 -- what is free is let go
 pub lawful_let_go : (s : State) → IsLawful s → IsLawful (let_go s)
@@ -366,20 +395,21 @@ lawful_let_go s l = lawful_from s (let_go s) l refl (placed_of s l) l.stamped
     (kept_map (IsSpent s) (IsSpent (let_go s)) (λ x h. record { reached = h.reached; delivered = h.delivered }) s.got (let_go s).kept
     (kept_filter (IsSpent s) (λ m. not (is_free s m.id)) (λ m fails. free_spent s m (not-false (is_free s m.id) fails)) s.got s.kept l.spent))
     l.listed
+    (record { reached = l.traced.reached; delivered = l.traced.delivered; seen = l.traced.seen })
 
 pub same_sending_to : (u : Uid) (s : State) (to : SiteNo) → SameLaw s (sending_to u s to)
 same_sending_to u s to = same_if s (sent_for s (message_key kinds.Data u to)) (owing s (message_key kinds.Data u to)) (has_acked s.acks u to) (same_sent_for s (message_key kinds.Data u to)) (same_owing s (message_key kinds.Data u to))
 
 -- a process sends a message whose time has the views of its own
-pub lawful_sending_message : (s : State) (k : ℕ) (m : Message) → IsLawful s → ((g : GroupNo) → view_of m.times g ≡ view_of (s.process k).time g) → is_sorted group_cmp m.times ≡ true → IsLawful (sending_message s k m)
-lawful_sending_message s k m l views sorted =
+pub lawful_sending_message : (s : State) (k : ℕ) (m : Message) → IsLawful s → ((g : GroupNo) → view_of m.times g ≡ view_of (s.process k).time g) → is_sorted group_cmp m.times ≡ true → m.id.view ≤ (s.group m.id.group).number → IsLawful (sending_message s k m)
+lawful_sending_message s k m l views sorted reached =
     let now : State = set_process s k (record (s.process k) { time = m.times }) in
     let same : IsLawful now = lawful_process s k (record (s.process k) { time = m.times }) l
     (λ g. record { known = l.known k g; current = λ h. views g ∙ l.current k g h; viewed = l.viewed k g }) (λ g is. is) (λ u is. is) in
-    lawful_fold (sending_to m.id) (λ t to. lawful_same t (sending_to m.id t to) (same_sending_to m.id t to)) (others_of s m.id.group) (receiving now m) (lawful_receiving now m same sorted)
+    lawful_fold (sending_to m.id) (λ t to. lawful_same t (sending_to m.id t to) (same_sending_to m.id t to)) (others_of s m.id.group) (receiving now m) (lawful_receiving now m same sorted reached)
 
 pub lawful_sending : (s : State) (g : GroupNo) (k : ℕ) (content : Body) → IsLawful s → is_sorted group_cmp (bumped (s.process k).time g (local s k)) ≡ true → IsLawful (sending s g k content)
-lawful_sending s g k content l sorted = lawful_sending_message s k (next_message s g k content) l (λ h. bump_leaves_views (s.process k).time g h (local s k)) sorted
+lawful_sending s g k content l sorted = lawful_sending_message s k (next_message s g k content) l (λ h. bump_leaves_views (s.process k).time g h (local s k)) sorted (omega arith)
 
 -- the join with a time whose view is not later has the view
 joined_view : (a b : Clock) → b.view ≤ a.view → (join_clocks a b).view ≡ a.view
@@ -406,7 +436,8 @@ allowed_view Member p gate m g member allows =
 -- each configured group allows what is ready
 ready_allows : (s : State) (k : ℕ) (m : Message) → is_ready_for s k m ≡ true → list_all (λ h. group_allows ((s.process k).standing h) (s.process k) (gate_of s h) m h) s.config.groups ≡ true
 ready_allows s k m ready =
-    let b = and_parts (is_member ((s.process k).standing m.id.group)) _ ready in
+    let a = and_parts (is_causally_ready s.config.groups (gate_of s) (s.process k) m) _ ready in
+    let b = and_parts (is_member ((s.process k).standing m.id.group)) _ a.0 in
     let c = and_parts (m.id.view == (gate_of s m.id.group).number) _ b.1 in
     let d = and_parts _ _ c.1 in
     (and_parts (list_all (λ h. group_allows ((s.process k).standing h) (s.process k) (gate_of s h) m h) s.config.groups) (has_room (join (s.process k).time m.times)) d.1).0
@@ -421,17 +452,54 @@ delivered_view s k m l at ready g member =
     let own : view_of p.time g ≡ (s.group g).number = l.current k g member in
     join_view p.time m.times g (l.stamped m at) (subst (λ n. view_of m.times g ≤ n) (sym own) most) ∙ own
 
+-- what a program is told changes nothing of this
+lawful_told : (s : State) (k : ℕ) (m : Message) (o : Option Push) → IsLawful (with_delivery s k m) → IsLawful (elim o [ Some p ↦ pushing (with_delivery s k m) k p | None ↦ with_delivery s k m ])
+lawful_told s k m (Some p) l = lawful_pushing (with_delivery s k m) k p l
+lawful_told s k m None l = l
+
+-- an ABCAST that is delivered is noted
+traced_delivery : (s : State) (k : ℕ) (m : Message) → IsLawful s → IsLawful (set_process s k (record (s.process k) { time = join (s.process k).time m.times; delivered = (s.process k).delivered ++ m.id ∷ [] })) → Contains s.got m → IsTraced (with_delivery s k m)
+traced_delivery s k m l taken at = record {
+  reached = l.traced.reached;
+  delivered = λ j u is. elim (noted (is_atomic (kind_of m.body)) j u is) [ inl before ↦ taken.traced.delivered j u before | inr last ↦ now_delivered j u last.0 last.1 ];
+  seen = λ j u is. elim (noted (is_atomic (kind_of m.body)) j u is) [ inl before ↦ l.traced.seen j u before | inr last ↦ subst (λ x. x.view ≤ (s.group x.group).number) (sym last.1) (l.traced.reached m at) ];
+}
+  where
+    only_one : (u : Uid) → is_among uid_eq u (m.id ∷ []) ≡ true → uid_eq u m.id ≡ true
+    only_one u is = elim (or_cases (uid_eq u m.id) false is) [ inl this ↦ this | inr none ↦ absurd (false≢true none) ]
+
+    -- what is noted was noted, or is the message
+    pushed : (j : ℕ) (u : Uid) (b : Bool) → k == j ≡ b → is_among uid_eq u (if b then s.abcasts k ++ m.id ∷ [] else s.abcasts j) ≡ true → (is_among uid_eq u (s.abcasts j) ≡ true) ⊎ ((k == j ≡ true) × (u ≡ m.id))
+    pushed j u false other is = inl is
+    pushed j u true same is =
+        elim (or_cases (is_among uid_eq u (s.abcasts k)) (is_among uid_eq u (m.id ∷ [])) (sym (list_any-append (uid_eq u) (s.abcasts k) (m.id ∷ [])) ∙ is)) [
+          | inl before ↦ inl (ap (λ i. is_among uid_eq u (s.abcasts i)) (sym (eqb-true k j same)) ∙ before)
+          | inr last ↦ inr (same, same_uid u m.id (only_one u last))
+        ]
+
+    noted : (b : Bool) (j : ℕ) (u : Uid) → is_among uid_eq u ((if b then set_at (λ x y. x == y) s.abcasts k (s.abcasts k ++ m.id ∷ []) else s.abcasts) j) ≡ true → (is_among uid_eq u (s.abcasts j) ≡ true) ⊎ ((k == j ≡ true) × (u ≡ m.id))
+    noted false j u is = inl is
+    noted true j u is = pushed j u (k == j) refl is
+
+    now_delivered : (j : ℕ) (u : Uid) → k == j ≡ true → u ≡ m.id → has_delivered ((with_delivery s k m).process j) u ≡ true
+    now_delivered j u same is =
+        let v : Process = record (s.process k) { time = join (s.process k).time m.times; delivered = (s.process k).delivered ++ m.id ∷ [] } in
+        ap (λ b. has_delivered (if b then v else s.process j) u) same
+        ∙ list_any-append (uid_eq u) (s.process k).delivered (m.id ∷ [])
+        ∙ or_right (is_among uid_eq u (s.process k).delivered) (is_among uid_eq u (m.id ∷ [])) (or_left (uid_eq u m.id) false (ap (uid_eq u) (sym is) ∙ uid_itself u))
+
 pub lawful_delivering : (s : State) (k : ℕ) (m : Message) → IsLawful s → Contains s.got m → is_ready_for s k m ≡ true → IsLawful (delivering s k m)
 lawful_delivering s k m l at ready =
     let p : Process = s.process k in
     let v : Process = record p { time = join p.time m.times; delivered = p.delivered ++ m.id ∷ [] } in
     let set : State = set_process s k v in
-    let now : State = record set { deliveries = s.deliveries ++ (local s k, m.id) ∷ [] } in
+    let now : State = with_delivery s k m in
     let taken : IsLawful set = lawful_process s k v l (λ g. record { known = l.known k g; current = delivered_view s k m l at ready g; viewed = l.viewed k g }) (λ g is. is) (λ u is. list_any-append (uid_eq u) p.delivered (m.id ∷ []) ∙ or_left _ _ is) in
-    lawful_pushing now k (push.Deliver m.id (cast_kind_of m.body) (payload_of m.body))
+    lawful_told s k m (told_of m.id m.body)
     (lawful_from set now taken refl (placed_of set taken) taken.stamped
     (kept_map (IsSpent set) (IsSpent now) (λ x h. record { reached = h.reached; delivered = h.delivered }) s.got s.kept taken.spent)
-    taken.listed)
+    taken.listed
+    (traced_delivery s k m l taken at))
 
 -- Views
 
@@ -491,7 +559,16 @@ lawful_all_in_view s g n members request l listed none later =
       | true ↦ λ is _. subst (λ x. is_group s x ≡ true) (same_group g h is) listed
       | false ↦ λ _ seen. l.listed h seen
     ] refl)
+    (traced_on s (all_in_view now g n members request) refl (λ k. refl) risen
+    (λ k u is. elim (enters now g members request k) as (λ b. has_delivered (if b then in_view g n (s.process k) else s.process k) u ≡ true) [ true ↦ is | false ↦ is ])
+    l.traced)
   where
+    risen : (h : GroupNo) → (s.group h).number ≤ ((set_group s g (with_view s.here n members (s.group g))).group h).number
+    risen h = elim (group_eq g h) as (λ b. group_eq g h ≡ b → (s.group h).number ≤ (if b then with_view s.here n members (s.group g) else s.group h).number) [
+      | true ↦ λ is. subst (λ x. (s.group x).number ≤ n) (same_group g h is) (omega (arith, later))
+      | false ↦ λ _. omega arith
+    ] refl
+
     -- the group's view is another now, and in the other groups each process is what it was
     spent_now : (m : Message) → IsSpent s m → IsSpent (all_in_view (set_group s g (with_view s.here n members (s.group g))) g n members request) m
     spent_now m spent =

@@ -1,9 +1,9 @@
 -- What holds of each history that events lead to is kept by each event, and until the state rests.
-use Rattle.std.proofs.Common.{◌≡◌, ℕ, ◌+◌, ◌<◌, zero, suc, Bool, true, false, not, List, [], ◌∷◌, ◌++◌, length, Some, None, refl, sym, ap, subst, ◌∙◌, inl, inr, arith}
+use Rattle.std.proofs.Common.{◌≡◌, ℕ, ◌+◌, ◌<◌, ◌≤◌, zero, suc, Bool, true, false, not, List, [], ◌∷◌, ◌++◌, length, Some, None, refl, sym, ap, subst, ◌∙◌, inl, inr, arith}
 use Rattle.std.specs.Prelude.{◌&&◌, ◌==◌, nat_lt, nat_le, if◌then◌else◌}
 use Rattle.std.specs.List.{fold, find}
 use Rattle.std.specs.FinMap.Entries.{is_sorted}
-use Rattle.std.proofs.lemmas.Bool.{cases_eq, false≢true, and_parts, and_from, not-false, leb-true, le-leb}
+use Rattle.std.proofs.lemmas.Bool.{cases_eq, eqb-true, false≢true, and_parts, and_from, not-false, leb-true, le-leb}
 use Rattle.std.proofs.lemmas.Bool.Decides.{nat_tests}
 use Rattle.cast_types.specs.declared.names.SiteNo.{SiteNo}
 use Rattle.cast_types.specs.declared.names.GroupNo.{GroupNo}
@@ -17,13 +17,14 @@ use Rattle.cast_types.specs.Names.{site_eq, group_cmp}
 use Rattle.cast_types.specs.Repeat.{iterate}
 use Rattle.cast_types.specs.Stamps.{ClockList, is_stamp}
 use Rattle.cast_clock.specs.Times.{view_of, count_in, bumped, has_room}
+use Rattle.cast_frame.specs.declared.message.Body.{Body}
 use Rattle.cast_frame.specs.declared.message.Body.TheVariants as body
 use Rattle.cast_frame.specs.declared.message.Message.{Message}
 use Rattle.cast_frame.specs.declared.site.Change.{Change}
 use Rattle.cast_frame.specs.declared.site.Change.TheVariants as change
 use Rattle.cast_frame.specs.declared.site.SiteFrame.{SiteFrame}
 use Rattle.cast_frame.specs.declared.site.SiteFrame.TheVariants as frame
-use Rattle.cast_frame.specs.declared.client.CastKind.TheVariants as kind
+use Rattle.cast_frame.specs.declared.client.CastKind.{CastKind}
 use Rattle.cast_frame.specs.declared.client.Request.{Request}
 use Rattle.cast_frame.specs.declared.client.Request.TheVariants.{Join, Leave, Cast}
 use Rattle.cast_frame.specs.declared.client.Push.TheVariants as push
@@ -34,23 +35,25 @@ use Rattle.cast_timer.specs.declared.key.OwedKey.{OwedKey}
 use Rattle.cast_timer.specs.declared.key.OwedKind.TheVariants as kinds
 use Rattle.cast_timer.specs.Owed.{due_at}
 use Rattle.cast_delay.specs.Ready.{is_member}
+use Rattle.cast_order.specs.Order.{ids_to_list, place_after}
 use Rattle.cast_delay.proofs.Finds.{found_in}
 use Rattle.cast_domain.specs.Session.{is_open}
 use Rattle.cast_domain.specs.declared.group.Group.{Group}
 use Rattle.cast_domain.specs.declared.group.Verdict.TheVariants.{Again, Completes, Ignored}
-use Rattle.cast_domain.specs.Group.{first_asking, has_view, is_current, with_answer, verdict_of, sites_of}
+use Rattle.cast_domain.specs.Group.{holder_at, first_asking, members_of, has_view, is_current, with_answer, verdict_of, sites_of}
 use Rattle.cast_domain.specs.declared.home.Home.{Home}
-use Rattle.cast_domain.specs.Home.{applied_of, after_request, after_installed, may_decide, decided}
+use Rattle.cast_domain.specs.Home.{is_empty, applied_of, after_request, after_installed, may_decide, decided}
 use Rattle.cast_frame.specs.declared.client.Command.{Command}
 use Rattle.cast_frame.specs.declared.client.Command.TheVariants as command
 use Rattle.cast_domain.specs.declared.event.Event.{Event}
 use Rattle.cast_domain.specs.declared.event.Event.TheVariants as event
 use Rattle.cast_domain.specs.declared.event.Taken.TheVariants as taken
-use Rattle.cast_domain.specs.State.{State, local, serials, is_home, is_site, is_group, is_received, is_ready_for, may_receive, others_of, upto, is_stable, let_go, set_group, set_home, set_standing, emitted}
+use Rattle.cast_domain.specs.State.{State, local, serials, is_home, is_site, is_group, is_received, is_well_formed, may_order, may_take, others_of, upto, is_stable, let_go, set_group, set_home, set_standing, emitted}
+use Rattle.cast_domain.specs.Order.{order_of, unlisted, has_place, is_ready_for}
 use Rattle.cast_domain.specs.Owing.{ask_key, message_key, sent_for, owing, paying, resending, at_moment, ticked}
-use Rattle.cast_domain.specs.Effects.{asking, pushing, receiving, sending, delivering, completing}
-use Rattle.cast_domain.specs.Step.{acknowledging, data_used, is_used_ack, with_ack, tell_stable, tell_more, on_ack, paying_acks, on_stable, first_refusal, join_tests, cast_tests, may_raise, joining, attempting, requested, commanded, is_used, on_data, is_from_home, on_ask, on_asked, on_install, on_installed, group_of, on_frame, framed, opened, Effect, acted}
-use Rattle.cast_domain.specs.Rest.{deliver_first, deliver_all, settle, install_frame, send_install, decide, lead_all, pass, RestsAt}
+use Rattle.cast_domain.specs.Effects.{may_raise, asking, pushing, receiving, sending, delivering, completing}
+use Rattle.cast_domain.specs.Step.{acknowledging, data_used, is_used_ack, with_ack, tell_stable, tell_more, on_ack, paying_acks, on_stable, first_refusal, join_tests, cast_tests, joining, attempting, body_of, requested, commanded, is_used, on_data, is_from_home, on_ask, on_asked, on_install, on_installed, group_of, on_frame, framed, opened, Effect, acted}
+use Rattle.cast_domain.specs.Rest.{deliver_first, deliver_all, settle, may_set_order, set_order_by, set_order, set_orders, install_frame, send_install, decide, lead_all, pass, RestsAt}
 use Rattle.cast_domain.specs.Records.{was_given}
 use Rattle.cast_domain.specs.Fits.{IsSpent, IsLawful, IsTypedFrame, IsTyped}
 use Rattle.cast_domain.proofs.Spots.{found_passes}
@@ -59,6 +62,12 @@ use Rattle.cast_domain.proofs.Lawful.{SameLaw, same_self, same_then, same_if, sa
 -- a stamp is in order
 stamp_sorted : (t : ClockList) → is_stamp t ≡ true → is_sorted group_cmp t ≡ true
 stamp_sorted t stamp = (and_parts (is_sorted group_cmp t) _ stamp).0
+
+-- and so is a time that may be raised, once it is
+raised_sorted : (t : ClockList) (g : GroupNo) (p : Proc) → may_raise t g p ≡ true → is_sorted group_cmp (bumped t g p) ≡ true
+raised_sorted t g p may =
+    let room = and_parts (nat_lt (count_in t g p) MAX_NUMBER) (has_room (bumped t g p) && is_stamp (bumped t g p)) may in
+    stamp_sorted (bumped t g p) (and_parts (has_room (bumped t g p)) (is_stamp (bumped t g p)) room.1).1
 
 -- Commands
 
@@ -82,12 +91,10 @@ lawful_joining s k g l none =
     let listed : is_group s g ≡ true = not-false (is_group s g) (each_passes (join_tests s k g) none).0 in
     lawful_requesting now g change.Join (local s k) (lawful_standing s k g ((s.group g).asked + 1) (view_of (s.process k).time g) l listed)
 
-pub lawful_casting : (s : State) (k : ℕ) (g : GroupNo) (payload : List ℕ) → IsLawful s → first_refusal (cast_tests s k g payload) ≡ None → IsLawful (sending s g k (body.Causal payload))
-lawful_casting s k g payload l none =
-    let times = bumped (s.process k).time g (local s k) in
-    let raises = not-false (may_raise (s.process k).time g (local s k)) (each_passes (cast_tests s k g payload) none).1.1.1.1.0 in
-    let room = and_parts (nat_lt (count_in (s.process k).time g (local s k)) MAX_NUMBER) (has_room times && is_stamp times) raises in
-    lawful_sending s g k (body.Causal payload) l (stamp_sorted times (and_parts (has_room times) (is_stamp times) room.1).1)
+pub lawful_casting : (s : State) (k : ℕ) (g : GroupNo) (cast : CastKind) (payload : List ℕ) → IsLawful s → first_refusal (cast_tests s k g payload) ≡ None → IsLawful (sending s g k (body_of cast payload))
+lawful_casting s k g cast payload l none =
+    let raises = not-false (may_raise (s.process k).time g (local s k)) (each_passes (cast_tests s k g payload) none).1.1.1.1.1.0 in
+    lawful_sending s g k (body_of cast payload) l (raised_sorted (s.process k).time g (local s k) raises)
 
 pub lawful_attempting : (s : State) (k tag : ℕ) (tests : List (Bool × Refusal)) (effect : State) → IsLawful s → (first_refusal tests ≡ None → IsLawful effect) → IsLawful (attempting s k tag tests effect)
 lawful_attempting s k tag tests effect l lawful =
@@ -99,8 +106,7 @@ lawful_attempting s k tag tests effect l lawful =
 pub lawful_requested : (s : State) (k : ℕ) (r : Request) → IsLawful s → IsLawful (requested s k r)
 lawful_requested s k (Join tag g) l = lawful_attempting s k tag (join_tests s k g) (joining s k g) l (lawful_joining s k g l)
 lawful_requested s k (Leave tag g) l = l
-lawful_requested s k (Cast tag g kind.Causal payload) l = lawful_attempting s k tag (cast_tests s k g payload) (sending s g k (body.Causal payload)) l (lawful_casting s k g payload l)
-lawful_requested s k (Cast tag g kind.Atomic payload) l = l
+lawful_requested s k (Cast tag g cast payload) l = lawful_attempting s k tag (cast_tests s k g payload) (sending s g k (body_of cast payload)) l (lawful_casting s k g cast payload l)
 
 pub lawful_commanded : (s : State) (k : ℕ) (c : Command) → IsLawful s → IsLawful (commanded s k c)
 lawful_commanded s k (command.Request r) l = lawful_requested s k r l
@@ -111,21 +117,31 @@ lawful_commanded s k command.Bad l = l
 pub same_acknowledging : (s : State) (to : SiteNo) (u : Uid) → SameLaw s (acknowledging s to u)
 same_acknowledging s to u = same_if s (emitted s to (frame.Ack u)) (owing s (message_key kinds.Ack u to)) (is_stable s u) (same_emitted s to (frame.Ack u)) (same_owing s (message_key kinds.Ack u to))
 
+-- what is used is of the view that its group has reached
+used_reached : (s : State) (from : SiteNo) (m : Message) → is_used s from m ≡ true → m.id.view ≤ (s.group m.id.group).number
+used_reached s from m used =
+    let here = m.id.view == (s.group m.id.group).number in
+    let formed = is_well_formed s (members_of (s.group m.id.group)) m in
+    let a = and_parts (site_eq m.id.proc.site from) (not (site_eq from s.here) && (here && formed)) used in
+    let b = and_parts (not (site_eq from s.here)) (here && formed) a.1 in
+    let same = eqb-true m.id.view (s.group m.id.group).number (and_parts here formed b.1).0 in
+    omega (arith, same)
+
 pub lawful_on_data : (s : State) (from : SiteNo) (m : Message) → IsLawful s → is_stamp m.times ≡ true → IsLawful (on_data s from m)
 lawful_on_data s from m l stamp =
     let now : State = receiving s m in
     let taken : State = acknowledging now from m.id in
     lawful_if (data_used s from m) s (is_used s from m)
-    (λ _. lawful_if (emitted s from (frame.Ack m.id)) (if may_receive s then taken else s) (is_received s m.id)
+    (λ used. lawful_if (emitted s from (frame.Ack m.id)) (if may_take s m.body then taken else s) (is_received s m.id)
     (λ _. lawful_emitted s from (frame.Ack m.id) l)
-    (λ _. lawful_if taken s (may_receive s)
-    (λ _. lawful_same now taken (same_acknowledging now from m.id) (lawful_receiving s m l (stamp_sorted m.times stamp)))
+    (λ _. lawful_if taken s (may_take s m.body)
+    (λ _. lawful_same now taken (same_acknowledging now from m.id) (lawful_receiving s m l (stamp_sorted m.times stamp) (used_reached s from m used)))
     (λ _. l)))
     (λ _. l)
 
 -- what is acknowledged, told and owed is no matter
 same_known : (s : State) (acks : List Acked) (told : List Uid) (owed : List Owed) → SameLaw s (record s { acks = acks; told = told; owed = owed })
-same_known s acks told owed = record { config = refl; used = refl; got = refl; kept = refl; delivered = λ k. refl; standing = λ k g. refl; view_in = λ k g. refl; number = λ g. refl; view = λ g. refl }
+same_known s acks told owed = record { config = refl; used = refl; got = refl; kept = refl; delivered = λ k. refl; abcasts = λ k. refl; standing = λ k g. refl; view_in = λ k g. refl; number = λ g. refl; view = λ g. refl }
 
 pub same_on_ack : (s : State) (from : SiteNo) (u : Uid) → SameLaw s (on_ack s from u)
 same_on_ack s from u =
@@ -237,6 +253,7 @@ lawful_opened s l unborn = record {
     ];
   }) s.got s.kept l.spent;
   listed = l.listed;
+  traced = record { reached = l.traced.reached; delivered = l.traced.delivered; seen = l.traced.seen };
 }
   where
     given_less : (used k : ℕ) → (used + 1 ≡ k → ⊥) → was_given (used + 1) k ≡ true → was_given used k ≡ true
@@ -255,7 +272,7 @@ pub same_ticked : (s : State) (t : ℕ) → SameLaw s (ticked s t)
 same_ticked s t =
     let now : State = at_moment s t in
     same_then s now (ticked s t)
-    (record { config = refl; used = refl; got = refl; kept = refl; delivered = λ k. refl; standing = λ k g. refl; view_in = λ k g. refl; number = λ g. refl; view = λ g. refl })
+    (record { config = refl; used = refl; got = refl; kept = refl; delivered = λ k. refl; abcasts = λ k. refl; standing = λ k g. refl; view_in = λ k g. refl; number = λ g. refl; view = λ g. refl })
     (same_fold resending same_resending (due_at now.moment now.owed) now)
 
 pub lawful_acted : (s : State) (e : Event) → IsLawful s → IsUnborn s → IsTyped e → IsLawful (acted s e).0
@@ -291,6 +308,36 @@ lawful_deliver_all s k l = lawful_iterate (length s.got) (deliver_first k) (λ t
 pub lawful_settle : (s : State) → IsLawful s → IsLawful (settle s)
 lawful_settle s l = lawful_fold deliver_all lawful_deliver_all (serials s) s l
 
+-- Set-order messages
+
+-- the holder may raise its time as it sends a set-order message
+pub lawful_order_sent : (s : State) (g : GroupNo) (k : ℕ) (content : Body) → IsLawful s → may_set_order s g k ≡ true → IsLawful (sending s g k content)
+lawful_order_sent s g k content l may =
+    let raises = may_raise (s.process k).time g (local s k) in
+    let place = has_place (order_of s g) in
+    let some = not (is_empty (unlisted s g k)) in
+    let a = and_parts (is_member ((s.process k).standing g)) (may_order s && (some && (place && raises))) may in
+    let b = and_parts (may_order s) (some && (place && raises)) a.1 in
+    let c = and_parts some (place && raises) b.1 in
+    lawful_sending s g k content l (raised_sorted (s.process k).time g (local s k) (and_parts place raises c.1).1)
+
+pub lawful_set_order_by : (s : State) (g : GroupNo) (k : ℕ) → IsLawful s → IsLawful (set_order_by s g k)
+lawful_set_order_by s g k l =
+    let content : Body = body.Order (record { first = place_after (order_of s g); ids = ids_to_list (unlisted s g k) }) in
+    lawful_if (let_go (sending s g k content)) s (may_set_order s g k)
+    (λ may. lawful_let_go (sending s g k content) (lawful_order_sent s g k content l may))
+    (λ _. l)
+
+pub lawful_set_order : (s : State) (g : GroupNo) → IsLawful s → IsLawful (set_order s g)
+lawful_set_order s g l =
+    elim (holder_at s.here (s.group g)) as (λ o. IsLawful (elim o [ Some p ↦ set_order_by s g p.serial | None ↦ s ])) [
+      | Some p ↦ lawful_set_order_by s g p.serial l
+      | None ↦ l
+    ]
+
+pub lawful_set_orders : (s : State) → IsLawful s → IsLawful (set_orders s)
+lawful_set_orders s l = lawful_fold set_order lawful_set_order s.config.groups s l
+
 -- The home
 
 pub same_decide : (s : State) (g : GroupNo) → SameLaw s (decide s g)
@@ -311,7 +358,7 @@ lawful_lead_all s l = lawful_if (fold decide s s.config.groups) s (is_home s) (�
 -- The whole
 
 pub lawful_pass : (s : State) → IsLawful s → IsLawful (pass s)
-lawful_pass s l = lawful_lead_all (settle s) (lawful_settle s l)
+lawful_pass s l = lawful_lead_all (set_orders (settle s)) (lawful_set_orders (settle s) (lawful_settle s l))
 
 pub lawful_rests : (s t : State) → IsLawful s → RestsAt s t → IsLawful t
 lawful_rests s t l rests = subst IsLawful rests.1 (lawful_iterate rests.0 pass lawful_pass s l)

@@ -25,7 +25,7 @@ use Rattle.cast_domain.specs.Shared.{Part}
 use Rattle.cast_domain.specs.Records.{Records}
 use Rattle.cast_domain.specs.Calls.{place_in, send_in, message_in, frame_of_kind_in, frame_for_in, send_for_in, next_due_in, owe_in, pay_in, resend_in, resend_due_in, tick_in}
 use Rattle.cast_domain.specs.Fits.{Fits}
-use Rattle.cast_domain.proofs.Standing.{fits_if, fits_send, record_there, place_some, place_none}
+use Rattle.cast_domain.proofs.Standing.{orders_same, fits_if, fits_send, record_there, place_some, place_none}
 
 -- What is owed
 
@@ -42,11 +42,13 @@ fits_owed r s fits o p same = record {
   moment = fits.moment;
   kept = fits.kept;
   fresh = fits.fresh;
+  received = fits.received;
   owed = same;
   delay = fits.delay;
   admitted = fits.admitted;
   rows = fits.rows;
   acks = fits.acks;
+  orders = orders_same s (record s { owed = p }) r.orders refl refl refl refl refl refl fits.orders;
   frames = fits.frames;
   delivered = fits.delivered;
 }
@@ -144,11 +146,13 @@ fits_moment r s fits t = record {
   moment = ap (λ n. max n (min t MAX_MOMENT)) fits.moment;
   kept = fits.kept;
   fresh = fits.fresh;
+  received = fits.received;
   owed = fits.owed;
   delay = fits.delay;
   admitted = fits.admitted;
   rows = fits.rows;
   acks = fits.acks;
+  orders = orders_same s (at_moment s t) r.orders refl refl refl refl refl refl fits.orders;
   frames = fits.frames;
   delivered = fits.delivered;
 }

@@ -8,7 +8,8 @@ use Rattle.cast_domain.specs.Records.{Records}
 use Rattle.cast_domain.specs.Calls.{pass_in}
 use Rattle.cast_domain.specs.Fits.{Fits, IsLawful}
 use Rattle.cast_domain.proofs.LawfulSteps.{lawful_pass}
-use Rattle.cast_domain.proofs.Turns.{fits_pass, still_pass}
+use Rattle.cast_domain.proofs.Standing.{orders_same}
+use Rattle.cast_domain.proofs.Standstill.{fits_pass, still_pass}
 
 -- the records stand for a lawful history
 abbrev pub Stands : Records → State → Type 0
@@ -30,11 +31,13 @@ fits_between r s fits = record {
   moment = fits.moment;
   kept = fits.kept;
   fresh = fits.fresh;
+  received = fits.received;
   owed = fits.owed;
   delay = fits.delay;
   admitted = fits.admitted;
   rows = fits.rows;
   acks = fits.acks;
+  orders = orders_same s (before_event s) r.orders refl refl refl refl refl refl fits.orders;
   frames = refl;
   delivered = refl;
 }

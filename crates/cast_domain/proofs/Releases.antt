@@ -30,7 +30,7 @@ use Rattle.cast_domain.specs.Records.{Records}
 use Rattle.cast_domain.specs.Calls.{place_in, record_at, is_current_in, is_free_in, release_in, let_go_in}
 use Rattle.cast_domain.specs.Fits.{process_named, Fits, IsLawful}
 use Rattle.cast_domain.proofs.Totals.{In}
-use Rattle.cast_domain.proofs.Standing.{record_there, place_some, place_none, process_here}
+use Rattle.cast_domain.proofs.Standing.{orders_same, record_there, place_some, place_none, process_here}
 
 -- Rows and serials
 
@@ -136,7 +136,8 @@ unborn r s fits g =
 
 -- What is free
 
-current_same : (r : Records) (s : State) → Fits r s → IsLawful s → (u : Uid) → is_current_in r u ≡ is_current (s.group u.group) u.view
+-- a message is of the current view of its group on both sides, or on neither
+pub current_same : (r : Records) (s : State) → Fits r s → IsLawful s → (u : Uid) → is_current_in r u ≡ is_current (s.group u.group) u.view
 current_same r s fits l u =
     elim (place_in r u.group) as (λ o. place_in r u.group ≡ o → option_map_or (λ i. is_current (record_at r.groups i).here u.view) o false ≡ is_current (s.group u.group) u.view) [
       | Some i ↦ λ is. ap (λ (x : GroupRecord). is_current x.here u.view) (record_there r s fits i u.group (place_some r s fits u.group i is).0)
@@ -288,11 +289,13 @@ fits_let_go r s fits l =
       moment = fits.moment;
       kept = kept_now;
       fresh = λ n past. still_fresh keys r.part.kept n (fits.fresh n past);
+      received = fits.received;
       owed = fits.owed;
       delay = forgets keys s.config.groups (gate_of s) (process_named s) r.part.kept r.delay fits.delay;
       admitted = fits.admitted;
       rows = fits.rows;
       acks = fits.acks;
+      orders = orders_same s (let_go s) r.orders refl refl refl refl refl refl fits.orders;
       frames = fits.frames;
       delivered = fits.delivered;
     })

@@ -5,66 +5,63 @@ use Rattle.std.specs.List.{list_any, find}
 use Rattle.std.proofs.lemmas.Bool.{and_parts, not-true, eq-eqb}
 use Rattle.cast_types.specs.Names.{uid_eq}
 use Rattle.cast_types.specs.Repeat.{iterate}
-use Rattle.cast_types.specs.Sets.{set_at}
 use Rattle.cast_types.proofs.Iterates.{iterate_once, iterate_still}
 use Rattle.cast_clock.specs.Times.{join}
-use Rattle.cast_frame.specs.declared.client.Push.TheVariants as push
+use Rattle.cast_frame.specs.declared.client.Push.{Push}
 use Rattle.cast_frame.specs.declared.message.Message.{Message}
-use Rattle.cast_delay.specs.Ready.{Process, has_delivered, is_member}
-use Rattle.cast_domain.specs.State.{State, local, set_process, gate_of, is_ready_for, let_go}
-use Rattle.cast_domain.specs.Effects.{delivering, payload_of, cast_kind_of}
+use Rattle.cast_delay.specs.Ready.{Process, has_delivered, is_member, is_causally_ready}
+use Rattle.cast_domain.specs.State.{State, gate_of, let_go}
+use Rattle.cast_domain.specs.Order.{is_ready_for}
+use Rattle.cast_domain.specs.Effects.{pushing, told_of, abcasts_with, with_delivery, delivering}
 use Rattle.cast_domain.specs.Rest.{deliver_first, deliver_all}
 use Rattle.cast_domain.specs.Endings.{left, SettlesOne, TurnsAreEnough}
-use Rattle.cast_domain.proofs.Alikes.{Alike, alike_pushing, alike_let_go}
+use Rattle.cast_domain.proofs.Alikes.{Alike, alike_self, alike_then, alike_pushing, alike_let_go}
 use Rattle.cast_domain.proofs.Totals.{left_found, left_le}
 
 -- a process delivered a message
 pub record Delivers (k : ℕ) (m : Message) (s : State) (t : State) : Type 0 where
+  pub here : t.here ≡ s.here
   pub config : t.config ≡ s.config
   pub used : t.used ≡ s.used
-  pub got : t.got ≡ s.got
+  pub group : t.group ≡ s.group
   pub home : t.home ≡ s.home
+  pub got : t.got ≡ s.got
+  pub abcasts : t.abcasts ≡ abcasts_with s k m
   pub delivered : (j : ℕ) → (t.process j).delivered ≡ (if k == j then (s.process k).delivered ++ m.id ∷ [] else (s.process j).delivered)
 
-delivers_then : (k : ℕ) (m : Message) (s t u : State) → Delivers k m s t → Alike t u → Delivers k m s u
-delivers_then k m s t u a b = record {
-  config = b.config ∙ a.config;
-  used = b.used ∙ a.used;
-  got = b.got ∙ a.got;
-  home = b.home ∙ a.home;
-  delivered = λ j. b.delivered j ∙ a.delivered j;
-}
+-- what each process has delivered after a delivery
+pub delivered_at : (s : State) (k : ℕ) (m : Message) (j : ℕ) → ((with_delivery s k m).process j).delivered ≡ (if k == j then (s.process k).delivered ++ m.id ∷ [] else (s.process j).delivered)
+delivered_at s k m j =
+    let p : Process = record (s.process k) { time = join (s.process k).time m.times; delivered = (s.process k).delivered ++ m.id ∷ [] } in
+    elim (k == j) as (λ b. (if b then p else s.process j).delivered ≡ (if b then p.delivered else (s.process j).delivered)) [ true ↦ refl | false ↦ refl ]
 
--- the process as it is after a delivery, before anything is pushed
-abbrev after_delivery : State → ℕ → Message → State
-after_delivery s k m =
-    let p : Process = s.process k in
-    record (set_process s k (record p { time = join p.time m.times; delivered = p.delivered ++ m.id ∷ [] })) {
-      deliveries = s.deliveries ++ (local s k, m.id) ∷ [];
-    }
-
-at_one : (s : State) (k : ℕ) (v : Process) (j : ℕ) → (set_at (λ a b. a == b) s.process k v j).delivered ≡ (if k == j then v.delivered else (s.process j).delivered)
-at_one s k v j = elim (k == j) as (λ b. (if b then v else s.process j).delivered ≡ (if b then v.delivered else (s.process j).delivered)) [ true ↦ refl | false ↦ refl ]
-
-delivers_before : (s : State) (k : ℕ) (m : Message) → Delivers k m s (after_delivery s k m)
-delivers_before s k m = record { config = refl; used = refl; got = refl; home = refl; delivered = at_one s k (record (s.process k) { time = join (s.process k).time m.times; delivered = (s.process k).delivered ++ m.id ∷ [] }) }
+-- the program is told, or nothing is told
+alike_told : (s : State) (k : ℕ) (o : Option Push) → Alike s (elim o [ Some p ↦ pushing s k p | None ↦ s ])
+alike_told s k (Some p) = alike_pushing s k p
+alike_told s k None = alike_self s
 
 -- a process delivers a message, and what is free then is let go
 abbrev pub delivering_one : State → ℕ → Message → State
 delivering_one s k m = let_go (delivering s k m)
 
+pub alike_delivering : (s : State) (k : ℕ) (m : Message) → Alike (with_delivery s k m) (delivering_one s k m)
+alike_delivering s k m =
+    alike_then (with_delivery s k m) (delivering s k m) (delivering_one s k m)
+    (alike_told (with_delivery s k m) k (told_of m.id m.body)) (alike_let_go (delivering s k m))
+
 pub delivers : (s : State) (k : ℕ) (m : Message) → Delivers k m s (delivering_one s k m)
 delivers s k m =
-    let n : State = after_delivery s k m in
-    let t : State = delivering s k m in
-    delivers_then k m s t (let_go t)
-    (delivers_then k m s n t (delivers_before s k m) (alike_pushing n k (push.Deliver m.id (cast_kind_of m.body) (payload_of m.body))))
-    (alike_let_go t)
+    let a : Alike (with_delivery s k m) (delivering_one s k m) = alike_delivering s k m in
+    record { here = a.here; config = a.config; used = a.used; group = a.group; home = a.home; got = a.got; abcasts = a.abcasts; delivered = λ j. a.delivered j ∙ delivered_at s k m j }
 
--- what is ready was not delivered
+-- what is ready is causally ready
+pub ready_causally : (s : State) (k : ℕ) (m : Message) → is_ready_for s k m ≡ true → is_causally_ready s.config.groups (gate_of s) (s.process k) m ≡ true
+ready_causally s k m e = (and_parts (is_causally_ready s.config.groups (gate_of s) (s.process k) m) _ e).0
+
+-- and so it was not delivered
 pub ready_new : (s : State) (k : ℕ) (m : Message) → is_ready_for s k m ≡ true → list_any (uid_eq m.id) (s.process k).delivered ≡ false
 ready_new s k m e =
-    let b = and_parts (is_member ((s.process k).standing m.id.group)) _ e in
+    let b = and_parts (is_member ((s.process k).standing m.id.group)) _ (ready_causally s k m e) in
     let c = and_parts (m.id.view == (gate_of s m.id.group).number) _ b.1 in
     not-true (has_delivered (s.process k) m.id) (and_parts (not (has_delivered (s.process k) m.id)) _ c.1).0
 

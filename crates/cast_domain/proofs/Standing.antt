@@ -11,7 +11,7 @@ use Rattle.cast_types.specs.declared.names.SiteNo.{SiteNo}
 use Rattle.cast_types.specs.declared.names.GroupNo.{GroupNo}
 use Rattle.cast_types.specs.declared.names.Proc.{Proc}
 use Rattle.cast_types.specs.declared.names.Standing.{Standing}
-use Rattle.cast_types.specs.Names.{site_eq, group_cmp, group_eq, proc_eq}
+use Rattle.cast_types.specs.Names.{site_eq, group_cmp, group_eq, proc_eq, uid_eq, is_order, named}
 use Rattle.cast_types.specs.Places.{update}
 use Rattle.cast_types.specs.Sets.{is_among, set_at}
 use Rattle.cast_types.specs.Stamps.{ClockList}
@@ -20,11 +20,12 @@ use Rattle.cast_clock.proofs.Entries.{option_cases}
 use Rattle.cast_frame.specs.declared.message.Message.{Message}
 use Rattle.cast_frame.specs.declared.site.SiteFrame.{SiteFrame}
 use Rattle.cast_frame.specs.declared.client.Push.{Push}
+use Rattle.cast_frame.specs.Bodies.{kind_of}
 use Rattle.cast_frame.specs.Membership.{Membership}
 use Rattle.cast_delay.specs.declared.row.Row.{Row}
 use Rattle.cast_delay.specs.declared.row.Fact.{Fact}
 use Rattle.cast_delay.specs.declared.row.Fact.TheVariants as fact
-use Rattle.cast_delay.specs.Ready.{Process, Gate, is_outside}
+use Rattle.cast_delay.specs.Ready.{Process, Gate, is_outside, has_delivered}
 use Rattle.cast_delay.specs.Rows.{standing_in, told_row}
 use Rattle.cast_delay.specs.Queue.{new_row, row_of, change_row}
 use Rattle.cast_frame.specs.declared.message.Received.{Received}
@@ -36,6 +37,8 @@ use Rattle.cast_delay.specs.Fits.{IsSound, FactFits, Fits as QueueFits, set_proc
 use Rattle.cast_delay.proofs.Queues.{new_fits, admit_fits, tell_fits, view_fits, offer_fits}
 use Rattle.cast_delay.proofs.Listed.{same_bools}
 use Rattle.cast_delay.proofs.Finds.{find-append_some, find-append_none}
+use Rattle.cast_order.specs.Log.{Log, log_of, but_log}
+use Rattle.cast_order.proofs.Meanings.{new_fits as order_new_fits}
 use Rattle.cast_domain.specs.declared.config.DomainConfig.{DomainConfig}
 use Rattle.cast_domain.specs.declared.record.GroupRecord.{GroupRecord}
 use Rattle.cast_domain.specs.declared.session.Session.{Session}
@@ -49,9 +52,15 @@ use Rattle.cast_domain.specs.Step.{opened}
 use Rattle.cast_domain.specs.Run.{before_event}
 use Rattle.cast_domain.specs.Shared.{no_part}
 use Rattle.cast_domain.specs.Records.{Records, was_given}
-use Rattle.cast_domain.specs.Calls.{place_among, local_in, place_in, no_record, record_at, standing_of, time_of, send_in, push_in, tell_in, open_in, receive_in, view_in}
-use Rattle.cast_domain.specs.Fits.{process_named, record_for, session_in, Fits, IsLawful}
+use Rattle.cast_domain.specs.Calls.{place_among, local_in, place_in, no_record, record_at, standing_of, time_of, send_in, push_in, tell_in, open_in, learn_in, receive_in, view_in}
+use Rattle.cast_domain.specs.Fits.{process_named, record_for, session_in, LogFits, Fits, IsLawful}
+use Rattle.cast_domain.proofs.Logs.{log_alike, settled_same, logs_receive, logs_view}
 use Rattle.cast_domain.proofs.Spots.{length_update, update_own, update_other, push_last, push_other, update_mapped}
+
+-- nothing is left of two tests where the second fails
+pub and_none : (a : Bool) → (a && false) ≡ false
+and_none true = refl
+and_none false = refl
 
 -- Choices on both sides
 
@@ -61,6 +70,44 @@ fits_if true true x y u v same then_fits else_fits = then_fits refl
 fits_if true false x y u v same then_fits else_fits = absurd (false≢true (sym same))
 fits_if false true x y u v same then_fits else_fits = absurd (false≢true same)
 fits_if false false x y u v same then_fits else_fits = else_fits refl
+
+-- The order of views
+
+-- each log tells still of a history that has the same of groups, processes, messages and acknowledgements
+pub orders_same : (s t : State) (orders : List Log) → t.here ≡ s.here → t.group ≡ s.group → t.process ≡ s.process → t.got ≡ s.got → t.abcasts ≡ s.abcasts → t.acks ≡ s.acks → ((g : GroupNo) → LogFits s g (log_of orders g)) → (g : GroupNo) → LogFits t g (log_of orders g)
+orders_same s t orders here group process got abcasts acks fits g =
+    let settled = settled_same s t g here (λ i. (group i g).view) (λ i. (group i g).number) acks in
+    log_alike s t g (log_of orders g) here (λ i. (group i g).view) (λ i. (group i g).number) got (λ k i. abcasts i k)
+    (omega (arith, settled))
+    (λ p u is. (λ i. has_delivered (if site_eq p.site (here i) then process i p.serial else no_process) u) ∙ is)
+    (fits g)
+
+-- or where a process changed that has delivered the same
+pub orders_process : (s : State) (k : ℕ) (v : Process) (orders : List Log) → v.delivered ≡ (s.process k).delivered → ((g : GroupNo) → LogFits s g (log_of orders g)) → (g : GroupNo) → LogFits (set_process s k v) g (log_of orders g)
+orders_process s k v orders same fits g =
+    log_alike s (set_process s k v) g (log_of orders g) refl refl refl refl (λ j. refl) (omega arith)
+    (λ p u is. ap (is_among uid_eq u) (at p (site_eq p.site s.here) (k == p.serial) (eqb-true k p.serial)) ∙ is)
+    (fits g)
+  where
+    at : (p : Proc) (a b : Bool) → (b ≡ true → k ≡ p.serial) → (if a then (if b then v else s.process p.serial) else no_process).delivered ≡ (if a then s.process p.serial else no_process).delivered
+    at p true true is = same ∙ ap (λ n. (s.process n).delivered) (is refl)
+    at p true false is = refl
+    at p false b is = refl
+
+-- what holds of a group holds after a change that leaves it
+group_same : {A : Type 0} (f : Group → A) (s : State) (g : GroupNo) (v : Group) → f v ≡ f (s.group g) → (h : GroupNo) → f ((set_group s g v).group h) ≡ f (s.group h)
+group_same f s g v same h = elim (cases_Bool (group_eq g h)) [
+  | inl here ↦ ap (λ b. f (if b then v else s.group h)) here ∙ same ∙ ap (λ k. f (s.group k)) (same_group g h here)
+  | inr other ↦ ap (λ b. f (if b then v else s.group h)) other
+]
+
+-- or where a group changed that has the same number and view
+orders_group : (s : State) (g : GroupNo) (v : Group) (orders : List Log) → v.number ≡ (s.group g).number → v.view ≡ (s.group g).view → ((h : GroupNo) → LogFits s h (log_of orders h)) → (h : GroupNo) → LogFits (set_group s g v) h (log_of orders h)
+orders_group s g v orders number view fits h =
+    let views = group_same (λ x. x.view) s g v view h in
+    let numbers = group_same (λ x. x.number) s g v number h in
+    let settled = settled_same s (set_group s g v) h refl views numbers refl in
+    log_alike s (set_group s g v) h (log_of orders h) refl views numbers refl (λ k. refl) (omega (arith, settled)) (λ p u is. is) (fits h)
 
 -- Groups
 
@@ -175,11 +222,13 @@ fits_send r s fits to f = record {
   moment = fits.moment;
   kept = fits.kept;
   fresh = fits.fresh;
+  received = fits.received;
   owed = fits.owed;
   delay = fits.delay;
   admitted = fits.admitted;
   rows = fits.rows;
   acks = fits.acks;
+  orders = orders_same s (emitted s to f) r.orders refl refl refl refl refl refl fits.orders;
   frames = (λ i. fits.frames i ++ ((fits.config i).domain, to, f) ∷ []) ∙ sym (map-append (λ (x : SiteNo × SiteFrame). (s.config.domain, x.0, x.1)) s.frames ((to, f) ∷ []));
   delivered = fits.delivered;
 }
@@ -240,11 +289,13 @@ fits_push r s fits k p =
       moment = fits.moment;
       kept = fits.kept;
       fresh = fits.fresh;
+      received = fits.received;
       owed = fits.owed;
       delay = fits.delay;
       admitted = fits.admitted;
       rows = fits.rows;
       acks = fits.acks;
+      orders = orders_same s (set_session s k (pushed_to (s.session k) p)) r.orders refl refl refl refl refl refl fits.orders;
       frames = fits.frames;
       delivered = fits.delivered;
     }
@@ -314,18 +365,20 @@ fits_here r s fits lawful i g at change same seen = record {
   moment = fits.moment;
   kept = fits.kept;
   fresh = fits.fresh;
+  received = fits.received;
   owed = fits.owed;
   delay = subst (λ gate. QueueFits s.config.groups gate (process_named s) r.part.kept r.delay) (gate_same s g (change (s.group g)) same) fits.delay;
   admitted = fits.admitted;
   rows = fits.rows;
   acks = subst (λ others. AcksFits s.here others (map (λ m. m.id) s.got) s.acks s.told r.acks) (others_same s g (change (s.group g)) seen) fits.acks;
+  orders = orders_group s g (change (s.group g)) r.orders same seen fits.orders;
   frames = fits.frames;
   delivered = fits.delivered;
 }
 
 -- a view is known, and the queue is told of its number
-pub fits_view : (r : Records) (s : State) → Fits r s → IsLawful s → (i : ℕ) (g : GroupNo) → slice_get s.config.groups i ≡ Some g → (n : ℕ) (members : Membership) → Fits (view_in r i n members) (set_group s g (with_view s.here n members (s.group g)))
-fits_view r s fits lawful i g at n members = record {
+pub fits_view : (r : Records) (s : State) → Fits r s → IsLawful s → (i : ℕ) (g : GroupNo) → slice_get s.config.groups i ≡ Some g → (n : ℕ) (members : Membership) → (s.group g).number < n → Fits (view_in r i n members) (set_group s g (with_view s.here n members (s.group g)))
+fits_view r s fits lawful i g at n members newer = record {
   site = fits.site;
   config = fits.config;
   used = fits.used;
@@ -336,6 +389,7 @@ fits_view r s fits lawful i g at n members = record {
   moment = fits.moment;
   kept = fits.kept;
   fresh = fits.fresh;
+  received = fits.received;
   owed = fits.owed;
   delay = subst (λ h. QueueFits s.config.groups (gate_of (set_group s g (with_view s.here n members (s.group g)))) (process_named s) r.part.kept (record r.delay { numbers = put group_cmp h n r.delay.numbers }))
       (sym (ap (λ (x : GroupRecord). x.name) (record_there r s fits i g at)))
@@ -347,6 +401,9 @@ fits_view r s fits lawful i g at n members = record {
       (subst (λ l. AcksFits s.here (set_at group_eq (others_of s) g (other_sites s.here (members_of (with_view s.here n members (s.group g))))) (map (λ m. m.id) s.got) s.acks s.told l)
       (λ j. told_ledger r.acks (sym (record_there r s fits i g at) j).name (other_sites (sym fits.site j) (members_of (with_view (sym fits.site j) n members (sym (record_there r s fits i g at) j).here))))
       (acks_tell_fits s.here (others_of s) (map (λ m. m.id) s.got) s.acks s.told r.acks fits.acks g (other_sites s.here (members_of (with_view s.here n members (s.group g))))));
+  orders = subst (λ h. (x : GroupNo) → LogFits (set_group s g (with_view s.here n members (s.group g))) x (log_of (but_log h r.orders) x))
+      (sym (ap (λ (x : GroupRecord). x.name) (record_there r s fits i g at)))
+      (logs_view s g n members r.orders lawful.traced newer fits.orders);
   frames = fits.frames;
   delivered = fits.delivered;
 }
@@ -364,11 +421,13 @@ fits_home r s fits lawful i g at change = record {
   moment = fits.moment;
   kept = fits.kept;
   fresh = fits.fresh;
+  received = fits.received;
   owed = fits.owed;
   delay = fits.delay;
   admitted = fits.admitted;
   rows = fits.rows;
   acks = fits.acks;
+  orders = orders_same s (set_home s g (change (s.home g))) r.orders refl refl refl refl refl refl fits.orders;
   frames = fits.frames;
   delivered = fits.delivered;
 }
@@ -410,6 +469,11 @@ same_names p f keeps (r ∷ rows) = (λ i. name (proc_eq r.process p) i ∷ same
 pub named_set : (s : State) (k : ℕ) (f : Process → Process) → set_named (process_named s) (local s k) (f (process_named s (local s k))) ≡ process_named (set_process s k (f (s.process k)))
 named_set s k f = ap (λ p. set_named (process_named s) (local s k) (f p)) (process_here s k) ∙ sym (process_set s k (f (s.process k)))
 
+-- a fact changes nothing of what was delivered
+told_delivered : (f : Fact) (p : Process) → (told_of f p).delivered ≡ p.delivered
+told_delivered (fact.Standing g v) p = refl
+told_delivered (fact.Time t) p = refl
+
 -- a process that was admitted is told of a fact
 pub fits_told : (r : Records) (s : State) → Fits r s → (k : ℕ) → IsSome (row_of r.delay.rows (local s k)) → (f : Fact) → FactFits s.config.groups f → Fits (tell_in r (local s k) f) (set_process s k (told_of f (s.process k)))
 fits_told r s fits k row f ok = record {
@@ -423,12 +487,14 @@ fits_told r s fits k row f ok = record {
   moment = fits.moment;
   kept = fits.kept;
   fresh = fits.fresh;
+  received = fits.received;
   owed = fits.owed;
   delay = subst (λ ps. QueueFits s.config.groups (gate_of s) ps r.part.kept (record r.delay { rows = change_row (local s k) (told_row f) r.delay.rows })) (named_set s k (told_of f))
       (tell_fits s.config.groups (gate_of s) (process_named s) r.part.kept r.delay fits.delay (local s k) f row ok);
   admitted = λ j was. still_in (local s k) (told_row f) (told_keeps f) (local s j) r.delay.rows (fits.admitted j was);
   rows = same_names (local s k) (told_row f) (told_keeps f) r.delay.rows ∙ fits.rows;
   acks = fits.acks;
+  orders = orders_process s k (told_of f (s.process k)) r.orders (told_delivered f (s.process k)) fits.orders;
   frames = fits.frames;
   delivered = fits.delivered;
 }
@@ -453,9 +519,9 @@ fresh_push kept next m fresh n past =
     (find-append_none (λ (y : Received). key_eq y.key (record { 0 = n })) kept (x ∷ []) (mapped_none (λ (y : Received). y.message) (find (λ y. key_eq y.key (record { 0 = n })) kept) (fresh n (omega (arith, past))))
     ∙ ap (λ b. cond b (Some x) None) (ne_eqb next n (λ same. omega (arith, same, past))))
 
--- a message is received
-pub fits_receive : (r : Records) (s : State) → Fits r s → (m : Message) → IsSound m → Fits (receive_in r m) (receiving s m)
-fits_receive r s fits m sound = record {
+-- a message is received, and the logs that are kept tell of it
+pub fits_receive_with : (r : Records) (s : State) → Fits r s → (m : Message) → IsSound m → (orders : List Log) → ((g : GroupNo) → LogFits (receiving s m) g (log_of orders g)) → Fits (record (receive_in r m) { orders = orders }) (receiving s m)
+fits_receive_with r s fits m sound orders logs = record {
   site = fits.site;
   config = fits.config;
   used = fits.used;
@@ -466,15 +532,21 @@ fits_receive r s fits m sound = record {
   moment = fits.moment;
   kept = map-append (λ (x : Received). x.message) r.part.kept (record { key = record { 0 = r.part.next }; message = m } ∷ []) ∙ ap (λ ms. ms ++ m ∷ []) fits.kept;
   fresh = fresh_push r.part.kept r.part.next m fits.fresh;
+  received = ap (λ n. n + 1) fits.received ∙ sym (length-append s.got (m ∷ []));
   owed = fits.owed;
   delay = offer_fits s.config.groups (gate_of s) (process_named s) r.part.kept r.delay fits.delay (record { key = record { 0 = r.part.next }; message = m }) sound (fits.fresh r.part.next (omega arith));
   admitted = fits.admitted;
   rows = fits.rows;
   acks = subst (λ ids. AcksFits s.here (others_of s) ids s.acks s.told (received_ledger r.acks m.id)) (sym (map-append (λ (x : Message). x.id) s.got (m ∷ [])))
       (acks_receive_fits s.here (others_of s) (map (λ x. x.id) s.got) s.acks s.told r.acks fits.acks m.id);
+  orders = logs;
   frames = fits.frames;
   delivered = fits.delivered;
 }
+
+-- a message of the current view of its group is received, which is no set-order message of a process here
+pub fits_receive : (r : Records) (s : State) → Fits r s → (m : Message) → IsSound m → (m.id.view == (s.group m.id.group).number) ≡ true → ((k : ℕ) → (is_order (kind_of m.body) && proc_eq m.id.proc (local s k)) ≡ false) → Fits (receive_in r m) (receiving s m)
+fits_receive r s fits m sound current foreign = fits_receive_with r s fits m sound (learn_in r.orders m.id.group m.body) (logs_receive s m r.orders fits.orders current foreign)
 
 -- which serials were given after one more
 given_more : (used k : ℕ) → (used + 1 ≡ k → ⊥) → was_given used k ≡ was_given (used + 1) k
@@ -506,6 +578,7 @@ fits_open r s fits = record {
   moment = fits.moment;
   kept = fits.kept;
   fresh = fits.fresh;
+  received = fits.received;
   owed = fits.owed;
   delay = admit_fits s.config.groups (gate_of s) (process_named s) r.part.kept r.delay fits.delay named;
   admitted = admitted_now;
@@ -514,6 +587,7 @@ fits_open r s fits = record {
       ∙ (λ i. fits.rows i ++ record { site = fits.site i; serial = (ap (λ n. n + 1) fits.used ∙ last_serial s.used) i } ∷ [])
       ∙ sym (ap (λ n. map (local s) (range_with_len 1 n)) (one_more s.used) ∙ ap (map (local s)) (range_push 1 s.used) ∙ map-append (local s) (range_with_len 1 s.used) ((1 + s.used) ∷ []));
   acks = fits.acks;
+  orders = orders_same s (opened s) r.orders refl refl refl refl refl refl fits.orders;
   frames = fits.frames;
   delivered = fits.delivered;
 }
@@ -560,7 +634,7 @@ fits_open r s fits = record {
     ]
 
 -- a new domain stands for the history before its first event
-pub fits_before : (here : SiteNo) (config : DomainConfig) → Fits (record { site = here; config = config; used = 0; sessions = []; groups = map (record_for (opening here config)) config.groups; moment = 0; part = no_part; delay = record { numbers = []; offered = []; rows = [] }; acks = new_ledger here; frames = []; delivered = [] }) (before_event (opening here config))
+pub fits_before : (here : SiteNo) (config : DomainConfig) → Fits (record { site = here; config = config; used = 0; sessions = []; groups = map (record_for (opening here config)) config.groups; moment = 0; part = no_part; delay = record { numbers = []; offered = []; rows = [] }; acks = new_ledger here; orders = []; frames = []; delivered = [] }) (before_event (opening here config))
 fits_before here config = record {
   site = refl;
   config = refl;
@@ -572,11 +646,13 @@ fits_before here config = record {
   moment = refl;
   kept = refl;
   fresh = λ n past. refl;
+  received = refl;
   owed = refl;
   delay = subst (λ ps. QueueFits config.groups (λ g. record { number = 0 }) ps [] (record { numbers = []; offered = []; rows = [] })) (λ i p. idle p i) (new_fits config.groups);
   admitted = λ k was. absurd (false≢true (sym (none_given k) ∙ was));
   rows = refl;
   acks = acks_new_fits here;
+  orders = λ g. record { stable = 0; reached = omega arith; fits = order_new_fits g (λ p e. has_delivered (process_named (before_event (opening here config)) p) (named g 0 e)); counted = λ x in_it. absurd (omega (arith, in_it.1)) };
   frames = refl;
   delivered = refl;
 }

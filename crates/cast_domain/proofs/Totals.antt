@@ -27,6 +27,10 @@ total_lt f g [] y e at lt = absurd at
 total_lt f g (x ∷ xs) y e (inl here) lt = let less : f x < g x = subst (λ z. f z < g z) here lt in omega (arith, less, total_le f g xs e)
 total_lt f g (x ∷ xs) y e (inr there) lt = omega (arith, e x, total_lt f g xs y e there lt)
 
+pub total_more : {A : Type 0} (f g : A → ℕ) (xs : List A) → ((x : A) → f x ≤ g x + 1) → total f xs ≤ total g xs + length xs
+total_more f g [] e = omega arith
+total_more f g (x ∷ xs) e = omega (arith, e x, total_more f g xs e)
+
 pub one_le : (b : Bool) → one_if b ≤ 1
 one_le true = omega arith
 one_le false = omega arith
@@ -40,10 +44,10 @@ pub not_mono : (a b : Bool) → (a ≡ true → b ≡ true) → not b ≡ true �
 not_mono true b h n = absurd (true≢false (sym n ∙ ap not (h refl)))
 not_mono false b h n = refl
 
-among_push : (u v : Uid) (ids : List Uid) → list_any (uid_eq v) ids ≡ true → list_any (uid_eq v) (ids ++ u ∷ []) ≡ true
+pub among_push : (u v : Uid) (ids : List Uid) → list_any (uid_eq v) ids ≡ true → list_any (uid_eq v) (ids ++ u ∷ []) ≡ true
 among_push u v ids h = list_any-append (uid_eq v) ids (u ∷ []) ∙ or_left _ _ h
 
-among_last : (u : Uid) (ids : List Uid) → list_any (uid_eq u) (ids ++ u ∷ []) ≡ true
+pub among_last : (u : Uid) (ids : List Uid) → list_any (uid_eq u) (ids ++ u ∷ []) ≡ true
 among_last u ids = list_any-append (uid_eq u) ids (u ∷ []) ∙ or_right (list_any (uid_eq u) ids) _ (or_left (uid_eq u u) false (uid_itself u))
 
 pub left_push : (u : Uid) (ids : List Uid) (got : List Message) → left (ids ++ u ∷ []) got ≤ left ids got
@@ -70,3 +74,8 @@ left_found t ids (x ∷ got) m says found = elim (cases_Bool (t x)) [
 pub left_le : (ids : List Uid) (got : List Message) → left ids got ≤ length got
 left_le ids [] = omega arith
 left_le ids (m ∷ got) = omega (arith, one_le (not (list_any (uid_eq m.id) ids)), left_le ids got)
+
+-- one more message is one more at the most
+pub left_more : (ids : List Uid) (m : Message) (got : List Message) → left ids (got ++ m ∷ []) ≤ left ids got + 1
+left_more ids m [] = omega (arith, one_le (not (list_any (uid_eq m.id) ids)))
+left_more ids m (x ∷ got) = omega (arith, left_more ids m got)

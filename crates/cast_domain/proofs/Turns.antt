@@ -1,6 +1,6 @@
 -- The turns of the records' rest are those of the history that they stand for.
 use Rattle.std.proofs.Common.{◌≡◌, ℕ, zero, suc, ◌+◌, ◌<◌, ◌≤◌, Bool, true, false, cond, not, List, [], ◌∷◌, ◌++◌, length, map, Option, Some, None, refl, sym, ap, subst, ◌∙◌, inl, inr, arith}
-use Rattle.std.specs.Prelude.{◌==◌, nat_lt, nat_le, if◌then◌else◌, slice_get, filter}
+use Rattle.std.specs.Prelude.{◌&&◌, ◌==◌, nat_lt, nat_le, if◌then◌else◌, slice_get, filter, take}
 use Rattle.std.specs.List.{fold, find, range_with_len}
 use Rattle.std.specs.Option.{IsSome, option_map_or}
 use Rattle.std.proofs.lemmas.Bool.{false≢true, false_from_ne_true, and_parts, and_from, lt-ltb, le-leb, eqb-true, eq-eqb}
@@ -10,40 +10,44 @@ use Rattle.cast_types.specs.declared.names.GroupNo.{GroupNo}
 use Rattle.cast_types.specs.declared.names.Proc.{Proc}
 use Rattle.cast_types.specs.declared.names.Key.{Key}
 use Rattle.cast_types.specs.declared.names.Uid.{Uid}
-use Rattle.cast_types.specs.Names.{site_eq}
+use Rattle.cast_types.specs.Names.{Entry, site_eq, group_eq, is_atomic, named, entry_of}
+use Rattle.cast_types.proofs.Orders.{group_itself}
 use Rattle.cast_types.specs.Places.{update}
 use Rattle.cast_types.specs.Repeat.{iterate}
 use Rattle.cast_frame.specs.declared.message.Message.{Message}
+use Rattle.cast_frame.specs.Bodies.{kind_of}
 use Rattle.cast_frame.specs.declared.client.Push.{Push}
-use Rattle.cast_frame.specs.declared.client.Push.TheVariants as push
 use Rattle.cast_delay.specs.declared.row.Row.{Row}
 use Rattle.cast_delay.specs.declared.offered.Offered.{Offered}
-use Rattle.cast_delay.specs.Ready.{is_member, has_delivered, is_causally_ready, first_ready}
+use Rattle.cast_delay.specs.Ready.{is_member, is_outside, has_delivered, is_causally_ready, is_ready, first_ready}
 use Rattle.cast_delay.specs.Rows.{delivered_row}
-use Rattle.cast_delay.specs.Queue.{row_of, change_row, next_key, offered_under, after_delivery}
+use Rattle.cast_delay.specs.Queue.{row_of, change_row, next_key, offered_under, after_delivery, passed_in}
 use Rattle.cast_frame.specs.declared.message.Received.{Received}
 use Rattle.cast_frame.specs.Receipts.{messages, message_under}
-use Rattle.cast_delay.specs.Fits.{RowFits, row_for, FirstReady, Fits as QueueFits, delivering as delivering_to}
-use Rattle.cast_delay.proofs.Listed.{same_bools}
-use Rattle.cast_delay.proofs.Queues.{delivery_fits, next_rules}
+use Rattle.cast_delay.specs.Fits.{FirstReady, HasTurns, Fits as QueueFits, delivering as delivering_to}
+use Rattle.cast_delay.proofs.Delivers.{only_member}
+use Rattle.cast_delay.proofs.Queues.{delivery_fits, next_rules, passed_delivered}
+use Rattle.cast_order.specs.Log.{Log, log_of, change_log, next_in, told, passed}
 use Rattle.cast_domain.specs.declared.record.GroupRecord.{GroupRecord}
 use Rattle.cast_domain.specs.declared.home.Home.{Home}
 use Rattle.cast_domain.specs.Session.{is_open, pushed_to}
 use Rattle.cast_domain.specs.Group.{sites_of}
 use Rattle.cast_domain.specs.Home.{may_decide, decided}
-use Rattle.cast_domain.specs.State.{State, local, serials, gate_of, is_home, is_ready_for, is_free, set_session, set_process, set_home}
-use Rattle.cast_domain.specs.Effects.{pushing, delivering, payload_of, cast_kind_of}
-use Rattle.cast_domain.specs.Rest.{deliver_first, deliver_all, settle, send_install, install_frame, decide, lead_all, pass}
-use Rattle.cast_domain.specs.Endings.{total, one_if, left, rank, ranks, undelivered, to_do}
+use Rattle.cast_domain.specs.State.{State, local, is_group, gate_of, is_home, is_free, set_session, set_home}
+use Rattle.cast_domain.specs.Order.{is_of_view, holds, turn_of, is_ready_for}
+use Rattle.cast_domain.specs.Effects.{pushing, told_of, with_delivery, delivering}
+use Rattle.cast_domain.specs.Rest.{deliver_first, deliver_all, settle, send_install, install_frame, decide, lead_all}
+use Rattle.cast_domain.specs.Endings.{left}
 use Rattle.cast_domain.specs.Records.{Records, was_given}
-use Rattle.cast_domain.specs.Calls.{let_go_in, is_home_in, deliver_message_in, deliver_in, deliver_first_in, deliver_all_in, settle_at, settle_in, send_install_in, decide_in, lead_in, pass_in}
+use Rattle.cast_domain.specs.Calls.{push_in, let_go_in, is_home_in, holds_in, turns_in, note_delivery_in, push_delivery_in, deliver_message_in, deliver_in, deliver_first_in, deliver_all_in, settle_at, settle_in, send_install_in, decide_in, lead_in}
 use Rattle.cast_domain.specs.Fits.{process_named, record_for, Fits, IsSpent, AreKept, IsLawful}
-use Rattle.cast_domain.proofs.Settles.{delivering_one, delivers, ready_new, delivered_first, delivered_none, turns_are_enough}
-use Rattle.cast_domain.proofs.Rests.{moves_pass}
-use Rattle.cast_domain.proofs.Totals.{total_same, left_found, left_le}
+use Rattle.cast_domain.proofs.Settles.{delivering_one, delivers, ready_causally, ready_new, delivered_first, delivered_none, turns_are_enough}
+use Rattle.cast_domain.proofs.LogSteps.{noting, logs_deliver}
+use Rattle.cast_domain.proofs.Ordering.{holds_there, turns_there}
+use Rattle.cast_domain.proofs.Totals.{left_found, left_le}
 use Rattle.cast_domain.proofs.Spots.{found_passes}
 use Rattle.cast_domain.proofs.Lawful.{lawful_delivering}
-use Rattle.cast_domain.proofs.LawfulSteps.{lawful_first, lawful_deliver_all, lawful_settle, lawful_decide, same_decide}
+use Rattle.cast_domain.proofs.LawfulSteps.{lawful_first, lawful_deliver_all, lawful_decide}
 use Rattle.cast_domain.proofs.Releases.{fits_let_go}
 use Rattle.cast_delay.proofs.Finds.{found_in}
 use Rattle.cast_types.proofs.Iterates.{iterate_still}
@@ -75,19 +79,19 @@ pub kept_iterate : (n : ℕ) (f : State → State) → ((s : State) → Kept s (
 kept_iterate zero f h s = kept_self s
 kept_iterate (suc n) f h s = kept_then s (f s) (iterate n f (f s)) (h s) (kept_iterate n f h (f s))
 
--- a process that has delivered a message, before it is told
-abbrev after_turn : State → ℕ → Message → State
-after_turn s k m =
-    record (set_process s k (delivering_to m (s.process k))) { deliveries = s.deliveries ++ (local s k, m.id) ∷ [] }
-
 pub kept_pushing : (s : State) (k : ℕ) (p : Push) → Kept s (pushing s k p)
 kept_pushing s k p =
     kept_if s (set_session s k (pushed_to (s.session k) p)) s (is_open (s.session k)) (record { here = refl; config = refl; used = refl }) (kept_self s)
 
 pub kept_delivering : (s : State) (k : ℕ) (m : Message) → Kept s (delivering s k m)
-kept_delivering s k m =
-    let told : Push = push.Deliver m.id (cast_kind_of m.body) (payload_of m.body) in
-    kept_then s (after_turn s k m) (pushing (after_turn s k m) k told) (record { here = refl; config = refl; used = refl }) (kept_pushing (after_turn s k m) k told)
+kept_delivering s k m = kept_told (told_of m.id m.body)
+  where
+    t : State
+    t = with_delivery s k m
+
+    kept_told : (o : Option Push) → Kept s (elim o [ Some p ↦ pushing t k p | None ↦ t ])
+    kept_told (Some p) = kept_then s t (pushing t k p) (record { here = refl; config = refl; used = refl }) (kept_pushing t k p)
+    kept_told None = record { here = refl; config = refl; used = refl }
 
 pub kept_first : (k : ℕ) (s : State) → Kept s (deliver_first k s)
 kept_first k s = kept_found (find (is_ready_for s k) s.got)
@@ -126,9 +130,34 @@ names_after offered p key rows = names_found (offered_under offered key)
     names_found (Some x) = same_names p (delivered_row x.id x.times) (λ _. refl) rows
     names_found None = refl
 
+-- the records once the process has delivered the message under a key
+abbrev turned : Records → State → ℕ → Key → Message → Records
+turned r s k key m =
+    record r {
+      delay = record r.delay { rows = after_delivery r.delay.offered (local s k) key r.delay.rows };
+      delivered = r.delivered ++ (r.config.domain, local s k, m.id) ∷ [];
+    }
+
+-- how many places it passes then
+abbrev passing : Records → State → ℕ → Key → Message → ℕ
+passing r s k key m =
+    passed_in (record r.delay { rows = after_delivery r.delay.offered (local s k) key r.delay.rows }) (local s k) m.id.group m.id.view
+    (next_in (log_of r.orders m.id.group) (local s k))
+
+-- what is ready is of the current view of a group of the process, and it has not delivered it
+ready_current : (s : State) (k : ℕ) (m : Message) → is_ready_for s k m ≡ true → is_of_view s m.id.group m.id ≡ true
+ready_current s k m ready =
+    let a = and_parts (is_member ((s.process k).standing m.id.group)) _ (ready_causally s k m ready) in
+    ap (λ b. b && (m.id.view == (s.group m.id.group).number)) (group_itself m.id.group) ∙ (and_parts (m.id.view == (s.group m.id.group).number) _ a.1).0
+
+ready_listed : (s : State) (k : ℕ) (m : Message) → IsLawful s → is_ready_for s k m ≡ true → is_group s m.id.group ≡ true
+ready_listed s k m l ready =
+    let a = and_parts (is_member ((s.process k).standing m.id.group)) _ (ready_causally s k m ready) in
+    l.known k m.id.group (ap is_outside (only_member ((s.process k).standing m.id.group) a.0))
+
 -- before the process is told
-fits_turn : (r : Records) (s : State) → Fits r s → (k : ℕ) → was_given s.used k ≡ true → (key : Key) (m : Message) → message_under r.part.kept key ≡ Some m → is_ready_for s k m ≡ true → Fits (record r { delay = record r.delay { rows = after_delivery r.delay.offered (local s k) key r.delay.rows }; delivered = r.delivered ++ (r.config.domain, local s k, m.id) ∷ [] }) (after_turn s k m)
-fits_turn r s fits k given key m under ready = record {
+fits_turn : (r : Records) (s : State) → Fits r s → IsLawful s → (k : ℕ) → was_given s.used k ≡ true → (key : Key) (m : Message) → message_under r.part.kept key ≡ Some m → is_ready_for s k m ≡ true → Fits (record (turned r s k key m) { orders = noting s k m (passing r s k key m) r.orders }) (with_delivery s k m)
+fits_turn r s fits l k given key m under ready = record {
   site = fits.site;
   config = fits.config;
   used = fits.used;
@@ -139,30 +168,73 @@ fits_turn r s fits k given key m under ready = record {
   moment = fits.moment;
   kept = fits.kept;
   fresh = fits.fresh;
+  received = fits.received;
   owed = fits.owed;
-  delay = subst (λ ps. QueueFits s.config.groups (gate_of s) ps r.part.kept (record r.delay { rows = after_delivery r.delay.offered (local s k) key r.delay.rows })) (named_set s k (delivering_to m))
-      (delivery_fits s.config.groups (gate_of s) (process_named s) r.part.kept r.delay fits.delay (local s k) key m under
-      (ap (λ p. is_causally_ready s.config.groups (gate_of s) p m) (process_here s k) ∙ ready));
+  delay = delay_now;
   admitted = λ j was. still_after r.delay.offered (local s k) key (local s j) r.delay.rows (fits.admitted j was);
   rows = names_after r.delay.offered (local s k) key r.delay.rows ∙ fits.rows;
   acks = fits.acks;
+  orders = logs_deliver s k m (passing r s k key m) r.orders l.traced fits.orders (ready_new s k m ready) (ready_current s k m ready)
+      (subst (λ v. find (λ e. not (has_delivered (process_named (with_delivery s k m) (local s k)) (named m.id.group v e))) (take (passing r s k key m) ids) ≡ None) view
+      (passed_delivered s.config.groups (gate_of s) (process_named (with_delivery s k m)) r.part.kept (turned r s k key m).delay delay_now (local s k) m.id.group m.id.view ids));
   frames = fits.frames;
   delivered = (λ i. fits.delivered i ++ ((fits.config i).domain, local s k, m.id) ∷ []) ∙ sym (map-append (λ (x : Proc × Uid). (s.config.domain, x.0, x.1)) s.deliveries ((local s k, m.id) ∷ []));
 }
+  where
+    ids : List Entry
+    ids = next_in (log_of r.orders m.id.group) (local s k)
+
+    view : m.id.view ≡ (s.group m.id.group).number
+    view = eqb-true m.id.view (s.group m.id.group).number (and_parts (group_eq m.id.group m.id.group) (m.id.view == (s.group m.id.group).number) (ready_current s k m ready)).1
+
+    delay_now : QueueFits s.config.groups (gate_of s) (process_named (with_delivery s k m)) r.part.kept (turned r s k key m).delay
+    delay_now =
+        subst (λ ps. QueueFits s.config.groups (gate_of s) ps r.part.kept (turned r s k key m).delay) (named_set s k (delivering_to m))
+        (delivery_fits s.config.groups (gate_of s) (process_named s) r.part.kept r.delay fits.delay (local s k) key m under
+        (ap (λ p. is_causally_ready s.config.groups (gate_of s) p m) (process_here s k) ∙ ready_causally s k m ready))
+
+-- what is noted of the delivery of an ABCAST is what the history notes
+noted_as : (r : Records) (s : State) → Fits r s → IsLawful s → (k : ℕ) (key : Key) (m : Message) → is_ready_for s k m ≡ true → (if is_atomic (kind_of m.body) then note_delivery_in (turned r s k key m) (local s k) m.id else turned r s k key m) ≡ record (turned r s k key m) { orders = noting s k m (passing r s k key m) r.orders }
+noted_as r s fits l k key m ready = at (is_atomic (kind_of m.body))
+  where
+    g : GroupNo
+    g = m.id.group
+
+    tells : List Log
+    tells = change_log g (told (entry_of m.id)) r.orders
+
+    passes : List Log
+    passes = change_log g (passed (local s k) (passing r s k key m)) r.orders
+
+    same : holds_in (turned r s k key m) g (local s k) ≡ holds s g k
+    same = holds_there r s fits g (ready_listed s k m l ready) k
+
+    at : (b : Bool) → (if b then note_delivery_in (turned r s k key m) (local s k) m.id else turned r s k key m) ≡ record (turned r s k key m) { orders = if b then (if holds s g k then tells else passes) else r.orders }
+    at true = λ i. record (turned r s k key m) { orders = if same i then tells else passes }
+    at false = refl
+
+-- the program is told on both sides, or nothing is told
+fits_push_delivery : (r : Records) (s : State) → Fits r s → (k : ℕ) (m : Message) → Fits (push_delivery_in r (local s k) m) (elim (told_of m.id m.body) [ Some p ↦ pushing s k p | None ↦ s ])
+fits_push_delivery r s fits k m = at (told_of m.id m.body)
+  where
+    at : (o : Option Push) → Fits (option_map_or (push_in r k) o r) (elim o [ Some p ↦ pushing s k p | None ↦ s ])
+    at (Some p) = fits_push r s fits k p
+    at None = fits
 
 -- a process delivers a message that is ready, and is told; what is free then is let go
-pub fits_delivering : (r : Records) (s : State) → Fits r s → (k : ℕ) → was_given s.used k ≡ true → (key : Key) (m : Message) → message_under r.part.kept key ≡ Some m → is_ready_for s k m ≡ true → IsLawful (delivering s k m) → Fits (let_go_in (deliver_in (local s k) r key)) (delivering_one s k m)
-fits_delivering r s fits k given key m under ready lawful =
-    let turned : Records = record r { delay = record r.delay { rows = after_delivery r.delay.offered (local s k) key r.delay.rows }; delivered = r.delivered ++ (r.config.domain, local s k, m.id) ∷ [] } in
+pub fits_delivering : (r : Records) (s : State) → Fits r s → IsLawful s → (k : ℕ) → was_given s.used k ≡ true → (key : Key) (m : Message) → message_under r.part.kept key ≡ Some m → is_ready_for s k m ≡ true → IsLawful (delivering s k m) → Fits (let_go_in (deliver_in (local s k) r key)) (delivering_one s k m)
+fits_delivering r s fits l k given key m under ready lawful =
+    let next : Records = record (turned r s k key m) { orders = noting s k m (passing r s k key m) r.orders } in
     fits_let_go (deliver_in (local s k) r key) (delivering s k m)
     (subst (λ (o : Option Message). Fits (option_map_or (deliver_message_in r (local s k) key) o r) (delivering s k m)) (sym under)
-    (fits_push turned (after_turn s k m) (fits_turn r s fits k given key m under ready) k (push.Deliver m.id (cast_kind_of m.body) (payload_of m.body))))
+    (subst (λ x. Fits (push_delivery_in x (local s k) m) (delivering s k m)) (sym (noted_as r s fits l k key m ready))
+    (fits_push_delivery next (with_delivery s k m) (fits_turn r s fits l k given key m under ready) k m)))
     lawful
 
 -- a spent message is ready for nobody
 spent_not_ready : (s : State) (k : ℕ) → was_given s.used k ≡ true → (m : Message) → IsSpent s m → is_ready_for s k m ≡ false
 spent_not_ready s k given m spent = false_from_ne_true (is_ready_for s k m) (λ ready.
-    let a = and_parts (is_member ((s.process k).standing m.id.group)) _ ready in
+    let a = and_parts (is_member ((s.process k).standing m.id.group)) _ (ready_causally s k m ready) in
     let b = and_parts (m.id.view == (s.group m.id.group).number) _ a.1 in
     let c = and_parts (not (has_delivered (s.process k) m.id)) _ b.1 in
     let done = spent.delivered k given a.0 (eqb-true m.id.view (s.group m.id.group).number b.0) in
@@ -180,18 +252,22 @@ ready_kept s k given l = found_kept (IsSpent s) (is_ready_for s k) (spent_not_re
 -- the queue names the message that the rule names
 pub fits_first : (r : Records) (s : State) → Fits r s → IsLawful s → (k : ℕ) → was_given s.used k ≡ true → Fits (deliver_first_in (local s k) r) (deliver_first k s)
 fits_first r s fits l k given =
-    fits_next (next_key r.delay (local s k)) (next_rules s.config.groups (gate_of s) (process_named s) r.part.kept r.delay fits.delay (local s k))
+    fits_next (next_key (turns_in r (local s k)) r.delay (local s k)) (next_rules s.config.groups (gate_of s) (process_named s) r.part.kept r.delay fits.delay (local s k) (turns_in r (local s k)) (turn_of s k) turns)
   where
-    found_is : first_ready s.config.groups (gate_of s) (process_named s (local s k)) (messages r.part.kept) ≡ find (is_ready_for s k) s.got
-    found_is = (λ i. find (is_causally_ready s.config.groups (gate_of s) (process_here s k i)) (fits.kept i)) ∙ sym (ready_kept s k given l)
+    -- the turns of the groups that it is a member of
+    turns : HasTurns (process_named s (local s k)) (turns_in r (local s k)) (turn_of s k)
+    turns g member = turns_there r s fits k g (l.known k g (ap is_outside (only_member ((s.process k).standing g) (ap (λ p. is_member (p.standing g)) (sym (process_here s k)) ∙ member))))
 
-    fits_next : (o : Option Key) → FirstReady s.config.groups (gate_of s) (process_named s (local s k)) r.part.kept o → Fits (option_map_or (λ key. let_go_in (deliver_in (local s k) r key)) o r) (deliver_first k s)
+    found_is : first_ready s.config.groups (gate_of s) (turn_of s k) (process_named s (local s k)) (messages r.part.kept) ≡ find (is_ready_for s k) s.got
+    found_is = (λ i. find (is_ready s.config.groups (gate_of s) (turn_of s k) (process_here s k i)) (fits.kept i)) ∙ sym (ready_kept s k given l)
+
+    fits_next : (o : Option Key) → FirstReady s.config.groups (gate_of s) (turn_of s k) (process_named s (local s k)) r.part.kept o → Fits (option_map_or (λ key. let_go_in (deliver_in (local s k) r key)) o r) (deliver_first k s)
     fits_next None none = subst (Fits r) (sym (delivered_none s k (sym found_is ∙ none))) fits
     fits_next (Some key) (m, under, first) =
         let found : find (is_ready_for s k) s.got ≡ Some m = sym found_is ∙ first in
         let ready : is_ready_for s k m ≡ true = found_passes (is_ready_for s k) s.got m found in
         subst (Fits (let_go_in (deliver_in (local s k) r key))) (sym (delivered_first s k m found))
-        (fits_delivering r s fits k given key m under ready (lawful_delivering s k m l (found_in (is_ready_for s k) s.got m found) ready))
+        (fits_delivering r s fits l k given key m under ready (lawful_delivering s k m l (found_in (is_ready_for s k) s.got m found) ready))
 
 -- so many turns of one process
 fits_turns : (n : ℕ) (r : Records) (s : State) → Fits r s → IsLawful s → (k : ℕ) → was_given s.used k ≡ true → Fits (iterate n (deliver_first_in (local s k)) r) (iterate n (deliver_first k) s)
@@ -217,12 +293,16 @@ kept_less s k m e =
     let fewer = left_found (is_ready_for s k) (s.process k).delivered s.kept m (ready_new s k) e in
     let free : Message → Bool = λ x. not (is_free (delivering s k m) x.id) in
     let least = left_filter ((s.process k).delivered ++ m.id ∷ []) free s.kept in
-    let before : (delivering s k m).kept ≡ s.kept = kept_pushed (after_turn s k m) k (push.Deliver m.id (cast_kind_of m.body) (payload_of m.body)) in
+    let before : (delivering s k m).kept ≡ s.kept = kept_told (told_of m.id m.body) in
     let now : left (t.process k).delivered t.kept ≡ left ((s.process k).delivered ++ m.id ∷ []) (filter free s.kept) = (λ i. left (same i) (filter free (before i))) in
     omega (arith, fewer, least, now)
   where
     kept_pushed : (u : State) (j : ℕ) (p : Push) → (pushing u j p).kept ≡ u.kept
     kept_pushed u j p = elim (is_open (u.session j)) as (λ b. (if b then set_session u j (pushed_to (u.session j) p) else u).kept ≡ u.kept) [ true ↦ refl | false ↦ refl ]
+
+    kept_told : (o : Option Push) → (elim o as (λ _. State) [ Some p ↦ pushing (with_delivery s k m) k p | None ↦ with_delivery s k m ]).kept ≡ s.kept
+    kept_told (Some p) = kept_pushed (with_delivery s k m) k p
+    kept_told None = refl
 
 -- as many turns as messages are kept are enough
 settled_kept : (n : ℕ) (s : State) (k : ℕ) → IsLawful s → was_given s.used k ≡ true → left (s.process k).delivered s.kept ≤ n → find (is_ready_for (iterate n (deliver_first k) s) k) (iterate n (deliver_first k) s).got ≡ None
@@ -306,84 +386,3 @@ fits_lead r s fits lawful =
     (sym (ap length fits.groups ∙ length-map s.config.groups (record_for s)))
     (fits_decisions s.config.groups 0 r s fits lawful (λ i g at. subst (λ j. slice_get s.config.groups j ≡ Some g) (omega arith) at)))
     (λ _. fits)
-
--- The whole
-
--- deliveries, and then the home
-pub fits_pass : (r : Records) (s : State) → Fits r s → IsLawful s → Fits (pass_in r) (pass s)
-fits_pass r s fits lawful = fits_lead (settle_in r) (settle s) (fits_settle r s fits lawful) (lawful_settle s lawful)
-
--- a pass receives nothing
-got_first : (k : ℕ) (s : State) → (deliver_first k s).got ≡ s.got
-got_first k s = got_found (find (is_ready_for s k) s.got)
-  where
-    got_found : (o : Option Message) → (elim o as (λ _. State) [ Some m ↦ delivering_one s k m | None ↦ s ]).got ≡ s.got
-    got_found (Some m) = (delivers s k m).got
-    got_found None = refl
-
-got_iterate : (n k : ℕ) (s : State) → (iterate n (deliver_first k) s).got ≡ s.got
-got_iterate zero k s = refl
-got_iterate (suc n) k s = got_iterate n k (deliver_first k s) ∙ got_first k s
-
-got_settle : (ks : List ℕ) (s : State) → (fold deliver_all s ks).got ≡ s.got
-got_settle [] s = refl
-got_settle (k ∷ ks) s = got_settle ks (deliver_all s k) ∙ got_iterate (length s.got) k s
-
-got_decide : (s : State) (g : GroupNo) → (decide s g).got ≡ s.got
-got_decide s g = (same_decide s g).got
-
-got_decides : (gs : List GroupNo) (s : State) → (fold decide s gs).got ≡ s.got
-got_decides [] s = refl
-got_decides (g ∷ gs) s = got_decides gs (decide s g) ∙ got_decide s g
-
-got_pass : (s : State) → (pass s).got ≡ s.got
-got_pass s =
-    let t : State = settle s in
-    elim (is_home t) as (λ b. (if b then fold decide t t.config.groups else t).got ≡ t.got) [ true ↦ got_decides t.config.groups t | false ↦ refl ]
-    ∙ got_settle (serials s) s
-
--- histories of the same messages and records have the same to do
-pub same_to_do : (r : Records) (s t : State) → Fits r s → Fits r t → t.got ≡ s.got → to_do t ≡ to_do s
-same_to_do r s t a b got = λ i. undelivered_same i + ranks_same i
-  where
-    here_same : t.here ≡ s.here
-    here_same = sym b.site ∙ a.site
-
-    -- the same row tells what either process delivered
-    has_same : (k : ℕ) (u : Uid) → has_delivered (t.process k) u ≡ has_delivered (s.process k) u
-    has_same k u =
-        let row : Row = row_for r.delay.rows (local s k) in
-        let now : RowFits (process_named t (local s k)) row = b.delay.rows (local s k) in
-        let was : RowFits (process_named s (local s k)) row = a.delay.rows (local s k) in
-        ap (λ p. has_delivered p u) (sym (process_here t k))
-        ∙ ap (λ h. has_delivered (process_named t (record { site = h; serial = k })) u) here_same
-        ∙ same_bools (has_delivered (process_named t (local s k)) u) (has_delivered (process_named s (local s k)) u)
-        (λ e. (was.counts u).1 ((now.counts u).0 e))
-        (λ e. (now.counts u).1 ((was.counts u).0 e))
-        ∙ ap (λ p. has_delivered p u) (process_here s k)
-
-    left_same : (k : ℕ) (got : List Message) → left (t.process k).delivered got ≡ left (s.process k).delivered got
-    left_same k [] = refl
-    left_same k (m ∷ got) = λ i. one_if (not (has_same k m.id i)) + left_same k got i
-
-    undelivered_same : undelivered t ≡ undelivered s
-    undelivered_same =
-        (λ i. total (λ k. left (t.process k).delivered (got i)) (range_with_len 1 ((sym b.used ∙ a.used) i)))
-        ∙ total_same (λ k. left (t.process k).delivered s.got) (λ k. left (s.process k).delivered s.got) (range_with_len 1 s.used) (λ k. left_same k s.got)
-
-    ranks_in : (u : State) (gs : List GroupNo) → total (λ g. rank (u.home g)) gs ≡ total (λ (x : GroupRecord). rank x.home) (map (record_for u) gs)
-    ranks_in u [] = refl
-    ranks_in u (g ∷ gs) = ap (λ n. rank (u.home g) + n) (ranks_in u gs)
-
-    ranks_same : ranks t ≡ ranks s
-    ranks_same =
-        ranks_in t t.config.groups
-        ∙ ap (λ xs. total (λ (x : GroupRecord). rank x.home) xs) (sym b.groups ∙ a.groups)
-        ∙ sym (ranks_in s s.config.groups)
-
--- records that a pass leaves as they are stand at rest
-pub still_pass : (r : Records) (s : State) → Fits r s → Fits r (pass s) → pass s ≡ s
-still_pass r s before after = elim (moves_pass s).way [
-  | inl same ↦ same
-  | inr less ↦ let same = same_to_do r s (pass s) before after (got_pass s) in absurd (omega (arith, less, same))
-]

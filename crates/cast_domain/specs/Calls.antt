@@ -1,6 +1,6 @@
 -- What the calls of a domain do to its records, exactly.
-use Rattle.std.specs.Prelude.{ℕ, ◌+◌, ◌-◌, min, max, Bool, true, false, not, ◌&&◌, ◌==◌, nat_lt, nat_le, if◌then◌else◌, List, [], ◌∷◌, ◌++◌, length, map, filter, get_or, Option, Some, None}
-use Rattle.std.specs.List.{fold, find, list_all, range_with_len}
+use Rattle.std.specs.Prelude.{ℕ, ◌+◌, ◌-◌, ◌*◌, min, max, Bool, true, false, not, ◌&&◌, ◌==◌, nat_lt, nat_le, if◌then◌else◌, List, [], ◌∷◌, ◌++◌, length, map, filter, get_or, slice_get, Option, Some, None}
+use Rattle.std.specs.List.{fold, find, list_any, list_all, range_with_len}
 use Rattle.std.specs.Option.{option_map, option_map_or, option_and_then}
 use Rattle.std.specs.FinMap.Entries.{put}
 use Rattle.cast_types.specs.declared.names.SiteNo.{SiteNo}
@@ -11,9 +11,9 @@ use Rattle.cast_types.specs.declared.names.Key.{Key}
 use Rattle.cast_types.specs.declared.names.Standing.{Standing}
 use Rattle.cast_types.specs.declared.names.Standing.TheVariants.{Outside, Joining, Member}
 use Rattle.cast_types.specs.declared.refusal.Refusal.{Refusal}
-use Rattle.cast_types.specs.declared.refusal.Refusal.TheVariants.{NoGroup, NotMember, AlreadyMember, HeldFull, TooLong}
+use Rattle.cast_types.specs.declared.refusal.Refusal.TheVariants.{NoGroup, NotMember, AlreadyMember, OwnAbcast, HeldFull, TooLong}
 use Rattle.cast_types.specs.declared.limits.TheConstants.{MAX_NUMBER, MAX_PAYLOAD, MAX_MOMENT}
-use Rattle.cast_types.specs.Names.{site_eq, group_eq, group_cmp, proc_eq, uid_eq, is_causal}
+use Rattle.cast_types.specs.Names.{site_eq, group_eq, group_cmp, proc_eq, uid_eq, is_atomic, is_order, named, entry_of}
 use Rattle.cast_types.specs.Sets.{is_among}
 use Rattle.cast_types.specs.Places.{update}
 use Rattle.cast_types.specs.Repeat.{iterate}
@@ -26,19 +26,23 @@ use Rattle.cast_frame.specs.declared.site.Change.{Change}
 use Rattle.cast_frame.specs.declared.site.Change.TheVariants as change
 use Rattle.cast_frame.specs.declared.site.SiteFrame.{SiteFrame}
 use Rattle.cast_frame.specs.declared.site.SiteFrame.TheVariants as frame
-use Rattle.cast_frame.specs.declared.client.CastKind.TheVariants as kind
+use Rattle.cast_frame.specs.declared.client.CastKind.{CastKind}
 use Rattle.cast_frame.specs.declared.client.Request.{Request}
 use Rattle.cast_frame.specs.declared.client.Request.TheVariants.{Join, Leave, Cast}
 use Rattle.cast_frame.specs.declared.client.Push.{Push}
 use Rattle.cast_frame.specs.declared.client.Push.TheVariants as push
 use Rattle.cast_frame.specs.Bodies.{kind_of}
 use Rattle.cast_frame.specs.Membership.{Membership}
+use Rattle.cast_frame.specs.Sequence.{Sequence}
 use Rattle.cast_delay.specs.Ready.{is_member, is_outside}
+use Rattle.cast_delay.specs.declared.turn.Turn.{Turn}
+use Rattle.cast_delay.specs.declared.turn.Turn.TheVariants.{Holding, Following}
 use Rattle.cast_delay.specs.Rows.{standing_in}
 use Rattle.cast_delay.specs.declared.row.Fact.{Fact}
 use Rattle.cast_delay.specs.declared.row.Fact.TheVariants as fact
 use Rattle.cast_delay.specs.Rows.{told_row}
-use Rattle.cast_delay.specs.Queue.{Queue, new_row, row_of, change_row, next_key, after_delivery, is_awaited}
+use Rattle.cast_delay.specs.Queue.{Queue, new_row, row_of, change_row, next_key, after_delivery, is_awaited, delivered_in, passed_in}
+use Rattle.cast_order.specs.Log.{Log, log_of, change_log, but_log, learnt, next_in, passed, told, next_places, assigned, has_room_in as has_room_in_log}
 use Rattle.cast_stable.specs.Ledger.{others_in, is_received_in, has_acked_in, upto_in, is_stable_in, told_ledger, received_ledger, acked_ledger, learnt_ledger}
 use Rattle.cast_timer.specs.declared.key.OwedKey.{OwedKey}
 use Rattle.cast_timer.specs.declared.key.OwedKind.{OwedKind}
@@ -51,16 +55,16 @@ use Rattle.cast_frame.specs.declared.client.Command.TheVariants as command
 use Rattle.cast_domain.specs.declared.event.Event.{Event}
 use Rattle.cast_domain.specs.declared.event.Event.TheVariants as event
 use Rattle.cast_domain.specs.declared.group.Verdict.TheVariants.{Again, Completes, Ignored}
-use Rattle.cast_domain.specs.Session.{first_session, told}
-use Rattle.cast_domain.specs.Group.{no_group, members_of, other_sites, is_current, sites_of, first_asking, with_request, with_answer, with_view, verdict_of, is_taken_in}
+use Rattle.cast_domain.specs.Session.{first_session, told as told_session}
+use Rattle.cast_domain.specs.Group.{no_group, members_of, holder_of, is_process, holder_at, other_sites, is_current, sites_of, first_asking, with_request, with_answer, with_view, verdict_of, is_taken_in}
 use Rattle.cast_domain.specs.declared.home.Home.{Home}
 use Rattle.cast_domain.specs.Home.{first_home, is_empty, applied_of, after_request, after_installed, may_decide, decided}
 use Rattle.cast_domain.specs.Shared.{part_with, part_without, part_owing, part_renewing, part_paying, part_paying_upto}
 use Rattle.cast_domain.specs.Owing.{ask_key, message_key, id_in, ask_frame}
-use Rattle.cast_domain.specs.Effects.{payload_of, cast_kind_of}
+use Rattle.cast_domain.specs.Effects.{told_of, may_raise}
 use Rattle.cast_domain.specs.Rest.{install_frame}
 use Rattle.cast_domain.specs.State.{counts_itself}
-use Rattle.cast_domain.specs.Step.{may_raise, group_of}
+use Rattle.cast_domain.specs.Step.{body_of, group_of}
 use Rattle.cast_domain.specs.Records.{Records, was_given}
 
 -- Names
@@ -102,10 +106,18 @@ abbrev pub send_in : Records → SiteNo → SiteFrame → Records
 send_in r to f = record r { frames = r.frames ++ (r.config.domain, to, f) ∷ [] }
 
 abbrev pub push_in : Records → ℕ → Push → Records
-push_in r k p = if was_given (length r.sessions) k then record r { sessions = update r.sessions (k - 1) (told p) } else r
+push_in r k p = if was_given (length r.sessions) k then record r { sessions = update r.sessions (k - 1) (told_session p) } else r
 
 abbrev pub tell_in : Records → Proc → Fact → Records
 tell_in r p f = record r { delay = record r.delay { rows = change_row p (told_row f) r.delay.rows } }
+
+-- room for a set-order message, and for one more ABCAST at a holder
+abbrev pub has_order_room_in : Records → Bool
+has_order_room_in r = nat_lt (length r.part.kept) (2 * r.config.quotas.held)
+
+-- a message of this body may be received from another site
+abbrev pub may_take_in : Records → Body → Bool
+may_take_in r b = if is_order (kind_of b) then has_order_room_in r else has_room_in r
 
 -- Owed frames
 
@@ -206,12 +218,19 @@ join_at r k g i =
 abbrev pub join_in : Records → ℕ → GroupNo → Attempt
 join_in r k g = option_map_or (join_at r k g) (place_in r g) (r, Some NoGroup)
 
+-- the logs once a message of a group is received
+abbrev pub learn_in : List Log → GroupNo → Body → List Log
+learn_in orders g (body.Causal payload) = orders
+learn_in orders g (body.Atomic payload) = orders
+learn_in orders g (body.Order s) = change_log g (learnt s) orders
+
 abbrev pub receive_in : Records → Message → Records
 receive_in r m =
     record r {
       part = part_with r.part m;
-      delay = record r.delay { offered = r.delay.offered ++ record { key = record { 0 = r.part.next }; id = m.id; times = m.times } ∷ [] };
+      delay = record r.delay { offered = r.delay.offered ++ record { key = record { 0 = r.part.next }; id = m.id; times = m.times; atomic = is_atomic (kind_of m.body) } ∷ [] };
       acks = received_ledger r.acks m.id;
+      orders = learn_in r.orders m.id.group m.body;
     }
 
 -- an own message is sent to a site, and owed to it until it has acknowledged it, as it may have done before
@@ -231,17 +250,27 @@ next_message_in r p g i content =
       body = content;
     }
 
-abbrev pub cast_at : Records → ℕ → GroupNo → List ℕ → ℕ → Attempt
-cast_at r k g payload i =
+-- an ABCAST of its own, of the view of a group of which it is a member, that a process has not delivered
+abbrev pub is_own_in : Records → Proc → Message → Bool
+is_own_in r p m =
+    is_atomic (kind_of m.body)
+    && (proc_eq m.id.proc p && (is_current_in r m.id && (is_member (standing_of r.delay p m.id.group) && not (delivered_in r.delay p m.id))))
+
+abbrev pub awaits_own_in : Records → Proc → Bool
+awaits_own_in r p = list_any (λ x. is_own_in r p x.message) r.part.kept
+
+abbrev pub cast_at : Records → ℕ → GroupNo → CastKind → List ℕ → ℕ → Attempt
+cast_at r k g cast payload i =
     let p : Proc = local_in r k in
     if nat_lt MAX_PAYLOAD (length payload) then (r, Some TooLong)
     else if not (is_member (standing_of r.delay p g)) then (r, Some NotMember)
+    else if awaits_own_in r p then (r, Some OwnAbcast)
     else if not (has_room_in r) then (r, Some HeldFull)
     else if not (may_raise (time_of r.delay p) g p) then (r, Some HeldFull)
-    else (send_message_in (tell_in r p (fact.Time (bumped (time_of r.delay p) g p))) (next_message_in r p g i (body.Causal payload)), None)
+    else (send_message_in (tell_in r p (fact.Time (bumped (time_of r.delay p) g p))) (next_message_in r p g i (body_of cast payload)), None)
 
-abbrev pub cast_in : Records → ℕ → GroupNo → List ℕ → Attempt
-cast_in r k g payload = option_map_or (cast_at r k g payload) (place_in r g) (r, Some NoGroup)
+abbrev pub cast_in : Records → ℕ → GroupNo → CastKind → List ℕ → Attempt
+cast_in r k g cast payload = option_map_or (cast_at r k g cast payload) (place_in r g) (r, Some NoGroup)
 
 abbrev pub reply_in : Attempt → ℕ → ℕ → Records
 reply_in a k tag = push_in a.0 k (push.Reply tag a.1)
@@ -249,8 +278,7 @@ reply_in a k tag = push_in a.0 k (push.Reply tag a.1)
 abbrev pub requested_in : Records → ℕ → Request → Records
 requested_in r k (Join tag g) = reply_in (join_in r k g) k tag
 requested_in r k (Leave tag g) = r
-requested_in r k (Cast tag g kind.Causal payload) = reply_in (cast_in r k g payload) k tag
-requested_in r k (Cast tag g kind.Atomic payload) = r
+requested_in r k (Cast tag g cast payload) = reply_in (cast_in r k g cast payload) k tag
 
 abbrev pub command_in : Records → ℕ → Command → Records
 command_in r k (command.Request q) = if was_given r.used k then requested_in r k q else r
@@ -268,7 +296,7 @@ is_well_formed_in r i m =
 abbrev pub is_used_in : Records → ℕ → SiteNo → Message → Bool
 is_used_in r i from m =
     site_eq m.id.proc.site from && (not (site_eq from r.site) && ((m.id.view == (record_at r.groups i).here.number)
-    && (is_well_formed_in r i m && is_causal (kind_of m.body))))
+    && is_well_formed_in r i m))
 
 -- the acknowledgement of a message is owed to its site, until that has told that the message is stable
 abbrev pub acknowledge_in : Records → SiteNo → Uid → Records
@@ -277,7 +305,7 @@ acknowledge_in r to u = if is_stable_in r.acks u then send_in r to (frame.Ack u)
 abbrev pub use_data_in : Records → SiteNo → Message → Records
 use_data_in r from m =
     if is_received_in r.acks m.id then send_in r from (frame.Ack m.id)
-    else if has_room_in r then acknowledge_in (receive_in r m) from m.id else r
+    else if may_take_in r m.body then acknowledge_in (receive_in r m) from m.id else r
 
 abbrev pub data_in : Records → ℕ → SiteNo → Message → Records
 data_in r i from m = if is_used_in r i from m then use_data_in r from m else r
@@ -354,6 +382,7 @@ view_in r i n members =
       groups = update r.groups i (λ x. record x { here = with_view r.site n members x.here });
       delay = record r.delay { numbers = put group_cmp (record_at r.groups i).name n r.delay.numbers };
       acks = told_ledger r.acks (record_at r.groups i).name (other_sites r.site (members_of (with_view r.site n members (record_at r.groups i).here)));
+      orders = but_log (record_at r.groups i).name r.orders;
     }
 
 abbrev pub complete_in : Records → ℕ → ℕ → Membership → ℕ → Records
@@ -404,23 +433,89 @@ act_in r (event.Command d k c) = command_in r k c
 act_in r (event.Frame d from f) = frame_in r from f
 act_in r (event.Tick t) = tick_in r t
 
+-- The order of a view
+
+abbrev pub log_in : Records → GroupNo → Log
+log_in r g = log_of r.orders g
+
+-- a process is the holder of a group's view
+abbrev pub holds_in : Records → GroupNo → Proc → Bool
+holds_in r g p = option_map_or (λ i. is_process p (holder_of (record_at r.groups i).here)) (place_in r g) false
+
+-- how many messages of a process of this site are stable in a view: all in a view of this site alone
+abbrev pub settled_in : Records → GroupNo → ℕ → Proc → ℕ
+settled_in r g view p = if is_empty (others_in r.acks g) then MAX_NUMBER else upto_in r.acks (named g view (p, 0))
+
+-- the turn of a process in a group
+abbrev pub turn_at : Records → Proc → GroupRecord → Turn
+turn_at r p x =
+    if is_process p (holder_of x.here)
+    then Holding (has_order_room_in r && has_room_in_log (settled_in r x.name x.here.number p) (log_in r x.name))
+    else Following (slice_get (next_in (log_in r x.name) p) (passed_in r.delay p x.name x.here.number (next_in (log_in r x.name) p)))
+
+abbrev pub turns_in : Records → Proc → List (GroupNo × Turn)
+turns_in r p = map (λ x. (x.name, turn_at r p x)) r.groups
+
+-- the order's log notes that a process delivered an ABCAST: the holder has one more to list, another process may have
+-- passed places
+abbrev pub note_delivery_in : Records → Proc → Uid → Records
+note_delivery_in r p u =
+    record r {
+      orders =
+          if holds_in r u.group p then change_log u.group (told (entry_of u)) r.orders
+          else change_log u.group (passed p (passed_in r.delay p u.group u.view (next_in (log_in r u.group) p))) r.orders;
+    }
+
+-- the holder of the group at a place lists ABCASTs in a set-order message
+abbrev pub send_places_in : Records → ℕ → Proc → Sequence → Records
+send_places_in r i p places =
+    let g : GroupNo = (record_at r.groups i).name in
+    let time : ClockList = bumped (time_of r.delay p) g p in
+    send_message_in
+    (tell_in
+    (record r { orders = change_log g (assigned (count_in time g p) (settled_in r g (record_at r.groups i).here.number p)) r.orders })
+    p (fact.Time time))
+    (next_message_in r p g i (body.Order places))
+
+abbrev pub set_order_by_in : Records → ℕ → Proc → Records
+set_order_by_in r i p =
+    let g : GroupNo = (record_at r.groups i).name in
+    if is_member (standing_of r.delay p g) && has_order_room_in r
+    then option_map_or (λ places. if may_raise (time_of r.delay p) g p then let_go_in (send_places_in r i p places) else r) (next_places (log_in r g)) r
+    else r
+
+abbrev pub set_order_in : Records → ℕ → Records
+set_order_in r i = option_map_or (set_order_by_in r i) (holder_at r.site (record_at r.groups i).here) r
+
+abbrev pub set_orders_in : Records → Records
+set_orders_in r = fold set_order_in r (range_with_len 0 (length r.groups))
+
 -- The rest
+
+-- a process is told of a message that it delivered
+abbrev pub push_delivery_in : Records → Proc → Message → Records
+push_delivery_in r p m = option_map_or (push_in r p.serial) (told_of m.id m.body) r
+
+-- a process has delivered the message under a key
+abbrev pub take_delivery_in : Records → Proc → Key → Uid → Records
+take_delivery_in r p key u =
+    record r {
+      delay = record r.delay { rows = after_delivery r.delay.offered p key r.delay.rows };
+      delivered = r.delivered ++ (r.config.domain, p, u) ∷ [];
+    }
+
+abbrev pub note_if_in : Bool → Records → Proc → Uid → Records
+note_if_in atomic r p u = if atomic then note_delivery_in r p u else r
 
 -- a process delivers the message under a key, and is told
 abbrev pub deliver_message_in : Records → Proc → Key → Message → Records
-deliver_message_in r p key m =
-    push_in
-    (record r {
-      delay = record r.delay { rows = after_delivery r.delay.offered p key r.delay.rows };
-      delivered = r.delivered ++ (r.config.domain, p, m.id) ∷ [];
-    })
-    p.serial (push.Deliver m.id (cast_kind_of m.body) (payload_of m.body))
+deliver_message_in r p key m = push_delivery_in (note_if_in (is_atomic (kind_of m.body)) (take_delivery_in r p key m.id) p m.id) p m
 
 abbrev pub deliver_in : Proc → Records → Key → Records
 deliver_in p r key = option_map_or (deliver_message_in r p key) (message_under r.part.kept key) r
 
 abbrev pub deliver_first_in : Proc → Records → Records
-deliver_first_in p r = option_map_or (λ key. let_go_in (deliver_in p r key)) (next_key r.delay p) r
+deliver_first_in p r = option_map_or (λ key. let_go_in (deliver_in p r key)) (next_key (turns_in r p) r.delay p) r
 
 abbrev pub deliver_all_in : Records → Proc → Records
 deliver_all_in r p = iterate (length r.part.kept) (deliver_first_in p) r
@@ -445,4 +540,4 @@ abbrev pub lead_in : Records → Records
 lead_in r = if is_home_in r then fold decide_in r (range_with_len 0 (length r.groups)) else r
 
 abbrev pub pass_in : Records → Records
-pass_in r = lead_in (settle_in r)
+pass_in r = lead_in (set_orders_in (settle_in r))

@@ -1,20 +1,22 @@
 -- What processes, messages, requests and views do to a state, and what is sent and pushed with it.
-use Rattle.std.specs.Prelude.{ℕ, Bool, ◌&&◌, if◌then◌else◌, List, [], ◌∷◌, ◌++◌, filter}
+use Rattle.std.specs.Prelude.{ℕ, Bool, ◌&&◌, ◌==◌, nat_lt, if◌then◌else◌, List, [], ◌∷◌, ◌++◌, filter, Option, Some, None}
 use Rattle.std.specs.List.{fold}
 use Rattle.cast_types.specs.declared.names.SiteNo.{SiteNo}
 use Rattle.cast_types.specs.declared.names.GroupNo.{GroupNo}
 use Rattle.cast_types.specs.declared.names.Proc.{Proc}
 use Rattle.cast_types.specs.declared.names.Uid.{Uid}
 use Rattle.cast_types.specs.declared.names.Standing.TheVariants.{Member}
-use Rattle.cast_types.specs.Names.{group_eq, proc_eq}
+use Rattle.cast_types.specs.Names.{group_eq, proc_eq, is_atomic}
 use Rattle.cast_types.specs.Sets.{is_among, set_at}
-use Rattle.cast_clock.specs.Times.{count_in, join, bumped, entering}
+use Rattle.cast_types.specs.declared.limits.TheConstants.{MAX_NUMBER}
+use Rattle.cast_types.specs.Stamps.{ClockList, is_stamp}
+use Rattle.cast_clock.specs.Times.{count_in, join, bumped, entering, has_room}
 use Rattle.cast_frame.specs.declared.message.Body.{Body}
 use Rattle.cast_frame.specs.declared.message.Body.TheVariants as body
 use Rattle.cast_frame.specs.declared.message.Message.{Message}
+use Rattle.cast_frame.specs.Bodies.{kind_of}
 use Rattle.cast_frame.specs.declared.site.Change.{Change}
 use Rattle.cast_frame.specs.declared.site.SiteFrame.TheVariants as frame
-use Rattle.cast_frame.specs.declared.client.CastKind.{CastKind}
 use Rattle.cast_frame.specs.declared.client.CastKind.TheVariants as kind
 use Rattle.cast_frame.specs.declared.client.Push.{Push}
 use Rattle.cast_frame.specs.declared.client.Push.TheVariants as push
@@ -65,6 +67,11 @@ next_message s g k content =
       body = content;
     }
 
+-- a process's count in a group may be raised: it is not the last one, and the raised time has room and a spelling,
+-- as it always has where only members of the view are counted
+abbrev pub may_raise : ClockList → GroupNo → Proc → Bool
+may_raise t g p = nat_lt (count_in t g p) MAX_NUMBER && (has_room (bumped t g p) && is_stamp (bumped t g p))
+
 -- the message is stamped, received here, and sent to each other site of the view until that has acknowledged it
 abbrev pub sending_message : State → ℕ → Message → State
 sending_message s k m =
@@ -75,27 +82,30 @@ sending_message s k m =
 abbrev pub sending : State → GroupNo → ℕ → Body → State
 sending s g k content = sending_message s k (next_message s g k content)
 
--- what a program is told of a body; one without a payload is never delivered, and stands here for no bytes
-abbrev pub payload_of : Body → List ℕ
-payload_of (body.Causal payload) = payload
-payload_of (body.Atomic payload) = payload
-payload_of (body.Order sequence) = []
+-- what a program is told of a message that its process delivers: of a set-order message nothing
+abbrev pub told_of : Uid → Body → Option Push
+told_of id (body.Causal payload) = Some (push.Deliver id kind.Causal payload)
+told_of id (body.Atomic payload) = Some (push.Deliver id kind.Atomic payload)
+told_of id (body.Order sequence) = None
 
--- and how its delivery is ordered; one that is never delivered stands here for causal
-abbrev pub cast_kind_of : Body → CastKind
-cast_kind_of (body.Causal payload) = kind.Causal
-cast_kind_of (body.Atomic payload) = kind.Atomic
-cast_kind_of (body.Order sequence) = kind.Causal
+-- the ABCASTs that processes delivered, once one has delivered a message
+abbrev pub abcasts_with : State → ℕ → Message → ℕ → List Uid
+abcasts_with s k m =
+    if is_atomic (kind_of m.body) then set_at (λ a b. a == b) s.abcasts k (s.abcasts k ++ m.id ∷ []) else s.abcasts
+
+-- a process has delivered a message
+abbrev pub with_delivery : State → ℕ → Message → State
+with_delivery s k m =
+    let p : Process = s.process k in
+    record (set_process s k (record p { time = join p.time m.times; delivered = p.delivered ++ m.id ∷ [] })) {
+      abcasts = abcasts_with s k m;
+      deliveries = s.deliveries ++ (local s k, m.id) ∷ [];
+    }
 
 -- a process delivers a message, and the program is told
 abbrev pub delivering : State → ℕ → Message → State
 delivering s k m =
-    let p : Process = s.process k in
-    pushing
-    (record (set_process s k (record p { time = join p.time m.times; delivered = p.delivered ++ m.id ∷ [] })) {
-      deliveries = s.deliveries ++ (local s k, m.id) ∷ [];
-    })
-    k (push.Deliver m.id (cast_kind_of m.body) (payload_of m.body))
+    elim (told_of m.id m.body) [ Some p ↦ pushing (with_delivery s k m) k p | None ↦ with_delivery s k m ]
 
 -- Views
 

@@ -1,12 +1,17 @@
 -- The rest after an event comes to an end: what each change of a pass lowers, and the laws that follow.
-use Rattle.std.specs.Prelude.{◌≡◌, ℕ, ◌+◌, ◌<◌, ◌⊎◌, Bool, not, ◌==◌, if◌then◌else◌, List, [], ◌∷◌, None}
+use Rattle.std.specs.Prelude.{◌≡◌, ℕ, ◌+◌, ◌*◌, ◌<◌, ◌⊎◌, Bool, not, ◌&&◌, ◌==◌, if◌then◌else◌, List, [], ◌∷◌, length, filter, Some, None}
 use Rattle.std.specs.List.{list_any, find}
+use Rattle.cast_types.specs.declared.names.GroupNo.{GroupNo}
 use Rattle.cast_types.specs.declared.names.Uid.{Uid}
-use Rattle.cast_types.specs.Names.{uid_eq}
+use Rattle.cast_types.specs.Names.{uid_eq, is_atomic}
 use Rattle.cast_types.specs.Repeat.{iterate}
 use Rattle.cast_frame.specs.declared.message.Message.{Message}
+use Rattle.cast_frame.specs.Bodies.{kind_of}
+use Rattle.cast_delay.specs.Ready.{has_delivered}
 use Rattle.cast_domain.specs.declared.home.Home.{Home}
-use Rattle.cast_domain.specs.State.{State, serials, is_ready_for}
+use Rattle.cast_domain.specs.Group.{holder_at}
+use Rattle.cast_domain.specs.State.{State, serials}
+use Rattle.cast_domain.specs.Order.{is_of_view, unlisted, is_ready_for}
 use Rattle.cast_domain.specs.Rest.{deliver_first, deliver_all, pass, RestsAt}
 
 -- the sum over a list
@@ -33,9 +38,24 @@ rank h = one_if (h.number == 0)
 abbrev pub ranks : State → ℕ
 ranks s = total (λ g. rank (s.home g)) s.config.groups
 
--- what is to be done at the most
+-- an ABCAST of a group's view that a process of this site has not delivered
+abbrev pub is_to_come : State → GroupNo → ℕ → Message → Bool
+is_to_come s g k m = is_of_view s g m.id && (is_atomic (kind_of m.body) && not (has_delivered (s.process k) m.id))
+
+-- how many ABCASTs a process of this site has still to list, delivered or not
+abbrev pub to_list_by : State → GroupNo → ℕ → ℕ
+to_list_by s g k = length (unlisted s g k) + length (filter (is_to_come s g k) s.got)
+
+-- how many the holder has, where it is a process of this site
+abbrev pub to_list_in : State → GroupNo → ℕ
+to_list_in s g = elim (holder_at s.here (s.group g)) [ Some p ↦ to_list_by s g p.serial | None ↦ 0 ]
+
+abbrev pub to_list : State → ℕ
+to_list s = total (to_list_in s) s.config.groups
+
+-- what is to be done at the most: a set-order message lists an ABCAST, and is one more message for each process
 abbrev pub to_do : State → ℕ
-to_do s = undelivered s + ranks s
+to_do s = undelivered s + ranks s + (s.used + 1) * to_list s
 
 -- a move of a pass changes nothing, or lowers what is to be done
 pub record Moves (s : State) (t : State) : Type 0 where

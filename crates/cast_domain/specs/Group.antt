@@ -6,7 +6,7 @@ use Rattle.cast_types.specs.declared.names.SiteNo.{SiteNo}
 use Rattle.cast_types.specs.declared.names.Proc.{Proc}
 use Rattle.cast_types.specs.declared.names.Standing.{Standing}
 use Rattle.cast_types.specs.declared.names.Standing.TheVariants.{Outside, Joining, Member}
-use Rattle.cast_types.specs.Names.{site_eq, site_cmp}
+use Rattle.cast_types.specs.Names.{site_eq, site_cmp, proc_eq}
 use Rattle.cast_types.specs.Sets.{set_of}
 use Rattle.cast_frame.specs.declared.site.Change.{Change}
 use Rattle.cast_frame.specs.Membership.{Membership}
@@ -20,6 +20,18 @@ no_group = record { number = 0; view = None; asked = 0; requests = [] }
 
 abbrev pub members_of : Group → List Proc
 members_of g = elim g.view [ Some m ↦ m.list | None ↦ [] ]
+
+-- the member that sets the order of the view's ABCASTs
+abbrev pub holder_of : Group → Option Proc
+holder_of g = elim g.view [ Some m ↦ m.holder | None ↦ None ]
+
+abbrev pub is_process : Proc → Option Proc → Bool
+is_process p None = false
+is_process p (Some q) = proc_eq q p
+
+-- the holder, where it is a process of a site
+abbrev pub holder_at : SiteNo → Group → Option Proc
+holder_at here g = elim (holder_of g) [ Some p ↦ if site_eq p.site here then Some p else None | None ↦ None ]
 
 abbrev pub has_view : Group → Bool
 has_view g = elim g.view [ Some m ↦ true | None ↦ false ]

@@ -4,6 +4,7 @@ pub mod Group
 pub mod Phase
 pub mod Home
 pub mod State
+pub mod Order
 pub mod Owing
 pub mod Effects
 pub mod Rest

@@ -9,6 +9,7 @@ use Rattle.cast_types.specs.declared.limits.TheConstants.{MAX_NUMBER}
 use Rattle.cast_frame.specs.declared.site.SiteFrame.{SiteFrame}
 use Rattle.cast_delay.specs.Queue.{Queue}
 use Rattle.cast_stable.specs.Ledger.{Ledger}
+use Rattle.cast_order.specs.Log.{Log}
 use Rattle.cast_domain.specs.declared.config.DomainConfig.{DomainConfig}
 use Rattle.cast_domain.specs.declared.domain.Domain.{Domain}
 use Rattle.cast_domain.specs.declared.record.GroupRecord.{GroupRecord}
@@ -32,6 +33,7 @@ pub record Records : Type 0 where
   pub part : Part
   pub delay : Queue
   pub acks : Ledger
+  pub orders : List Log
   pub frames : List (DomainNo × SiteNo × SiteFrame)
   pub delivered : List (DomainNo × Proc × Uid)
 
@@ -48,6 +50,7 @@ records_of d part o =
       part = part;
       delay = d.delay;
       acks = d.acks;
+      orders = d.orders;
       frames = o.frames;
       delivered = o.delivered;
     }

@@ -1,5 +1,5 @@
 -- The state of one domain at one site, with its whole history, and what its parts say together.
-use Rattle.std.specs.Prelude.{ℕ, Bool, not, ◌&&◌, ◌==◌, nat_lt, List, [], ◌∷◌, ◌++◌, length, filter, Option}
+use Rattle.std.specs.Prelude.{ℕ, ◌*◌, Bool, not, ◌&&◌, ◌==◌, nat_lt, if◌then◌else◌, List, [], ◌∷◌, ◌++◌, length, filter, Option}
 use Rattle.std.specs.List.{find, list_any, list_all, range_with_len}
 use Rattle.cast_types.specs.declared.names.SiteNo.{SiteNo}
 use Rattle.cast_types.specs.declared.names.GroupNo.{GroupNo}
@@ -7,14 +7,16 @@ use Rattle.cast_types.specs.declared.names.Proc.{Proc}
 use Rattle.cast_types.specs.declared.names.Uid.{Uid}
 use Rattle.cast_types.specs.declared.names.Standing.{Standing}
 use Rattle.cast_types.specs.declared.names.Standing.TheVariants.{Outside}
-use Rattle.cast_types.specs.Names.{site_eq, group_eq, proc_eq, uid_eq}
+use Rattle.cast_types.specs.Names.{site_eq, group_eq, proc_eq, uid_eq, is_order}
 use Rattle.cast_types.specs.Sets.{is_among, set_at}
 use Rattle.cast_clock.specs.Times.{no_time, clock_of, count_in}
 use Rattle.cast_frame.specs.declared.message.Message.{Message}
+use Rattle.cast_frame.specs.Bodies.{kind_of}
+use Rattle.cast_frame.specs.declared.message.Body.{Body}
 use Rattle.cast_frame.specs.declared.site.SiteFrame.{SiteFrame}
 use Rattle.cast_stable.specs.Stable.{Acked, stable_upto, is_known_stable}
 use Rattle.cast_timer.specs.declared.key.Owed.{Owed}
-use Rattle.cast_delay.specs.Ready.{Process, Gate, is_member, has_delivered, is_causally_ready}
+use Rattle.cast_delay.specs.Ready.{Process, Gate, is_member, has_delivered}
 use Rattle.cast_domain.specs.declared.session.Session.{Session}
 use Rattle.cast_domain.specs.Session.{no_session}
 use Rattle.cast_domain.specs.declared.group.Group.{Group}
@@ -32,6 +34,8 @@ pub record State : Type 0 where
   pub used : ℕ
   pub session : ℕ → Session
   pub process : ℕ → Process
+  -- the ABCASTs that each process ever delivered, in order
+  pub abcasts : ℕ → List Uid
   pub group : GroupNo → Group
   pub home : GroupNo → Home
   -- every message ever received, in order, and those of them that were not let go
@@ -59,6 +63,7 @@ opening here config =
       used = 0;
       session = λ k. no_session;
       process = λ k. no_process;
+      abcasts = λ k. [];
       group = λ g. no_group;
       home = λ g. first_home;
       got = [];
@@ -117,9 +122,18 @@ is_received s u = list_any (λ m. uid_eq m.id u) s.got
 abbrev pub held : State → ℕ
 held s = length s.kept
 
--- a cast, or a message from another site, may be received beside those that are kept
+-- a cast, or a cast from another site, may be received beside those that are kept
 abbrev pub may_receive : State → Bool
 may_receive s = nat_lt (held s) s.config.quotas.held
+
+-- a set-order message may be sent or received beside them, and a holder may deliver an ABCAST: there is room for these
+-- where casts find none
+abbrev pub may_order : State → Bool
+may_order s = nat_lt (held s) (2 * s.config.quotas.held)
+
+-- a message of this body may be received from another site
+abbrev pub may_take : State → Body → Bool
+may_take s b = if is_order (kind_of b) then may_order s else may_receive s
 
 -- the kept message of an id
 abbrev pub message_of : State → Uid → Option Message
@@ -156,9 +170,6 @@ let_go s = record s { kept = filter (λ m. not (is_free s m.id)) s.kept }
 
 abbrev pub gate_of : State → GroupNo → Gate
 gate_of s g = record { number = (s.group g).number }
-
-abbrev pub is_ready_for : State → ℕ → Message → Bool
-is_ready_for s k m = is_causally_ready s.config.groups (gate_of s) (s.process k) m
 
 -- the message's own time has its view and its count, from 1 on
 abbrev pub counts_itself : Message → Bool

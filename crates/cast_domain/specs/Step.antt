@@ -7,23 +7,23 @@ use Rattle.cast_types.specs.declared.names.Proc.{Proc}
 use Rattle.cast_types.specs.declared.names.Uid.{Uid}
 use Rattle.cast_types.specs.declared.names.Standing.TheVariants.{Joining}
 use Rattle.cast_types.specs.declared.refusal.Refusal.{Refusal}
-use Rattle.cast_types.specs.declared.refusal.Refusal.TheVariants.{NotOpen, TooManySessions, NoGroup, NotMember, AlreadyMember, HeldFull, TooLong}
+use Rattle.cast_types.specs.declared.refusal.Refusal.TheVariants.{NotOpen, TooManySessions, NoGroup, NotMember, AlreadyMember, OwnAbcast, HeldFull, TooLong}
 use Rattle.cast_types.specs.declared.limits.TheConstants.{MAX_NUMBER, MAX_PAYLOAD}
-use Rattle.cast_types.specs.Names.{site_eq, is_causal}
+use Rattle.cast_types.specs.Names.{site_eq}
 use Rattle.cast_types.specs.Sets.{is_among}
-use Rattle.cast_types.specs.Stamps.{ClockList, is_stamp}
-use Rattle.cast_clock.specs.Times.{view_of, count_in, bumped, has_room}
+use Rattle.cast_clock.specs.Times.{view_of}
+use Rattle.cast_frame.specs.declared.message.Body.{Body}
 use Rattle.cast_frame.specs.declared.message.Body.TheVariants as body
 use Rattle.cast_frame.specs.declared.message.Message.{Message}
 use Rattle.cast_frame.specs.declared.site.Change.{Change}
 use Rattle.cast_frame.specs.declared.site.Change.TheVariants as change
 use Rattle.cast_frame.specs.declared.site.SiteFrame.{SiteFrame}
 use Rattle.cast_frame.specs.declared.site.SiteFrame.TheVariants as frame
+use Rattle.cast_frame.specs.declared.client.CastKind.{CastKind}
 use Rattle.cast_frame.specs.declared.client.CastKind.TheVariants as kind
 use Rattle.cast_frame.specs.declared.client.Request.{Request}
 use Rattle.cast_frame.specs.declared.client.Request.TheVariants.{Join, Leave, Cast}
 use Rattle.cast_frame.specs.declared.client.Push.TheVariants as push
-use Rattle.cast_frame.specs.Bodies.{kind_of}
 use Rattle.cast_frame.specs.Membership.{Membership}
 use Rattle.cast_timer.specs.declared.key.OwedKind.TheVariants as kinds
 use Rattle.cast_timer.specs.Owed.{paid, is_upto}
@@ -39,9 +39,10 @@ use Rattle.cast_domain.specs.declared.event.Event.{Event}
 use Rattle.cast_domain.specs.declared.event.Event.TheVariants as event
 use Rattle.cast_domain.specs.declared.event.Taken.{Taken}
 use Rattle.cast_domain.specs.declared.event.Taken.TheVariants as taken
-use Rattle.cast_domain.specs.State.{State, local, is_home, is_site, is_group, set_session, set_group, set_home, set_standing, emitted, is_received, may_receive, others_of, upto, is_stable, is_well_formed}
+use Rattle.cast_domain.specs.State.{State, local, is_home, is_site, is_group, set_session, set_group, set_home, set_standing, emitted, is_received, may_receive, may_take, others_of, upto, is_stable, is_well_formed}
+use Rattle.cast_domain.specs.Order.{awaits_own}
 use Rattle.cast_domain.specs.Owing.{ask_key, message_key, owing, paying, ticked}
-use Rattle.cast_domain.specs.Effects.{asking, requesting, pushing, receiving, sending, completing}
+use Rattle.cast_domain.specs.Effects.{may_raise, asking, requesting, pushing, receiving, sending, completing}
 
 -- Commands
 
@@ -56,16 +57,12 @@ join_tests s k g =
     ∷ (not (is_outside ((s.process k).standing g)), AlreadyMember)
     ∷ ((s.group g).asked == MAX_NUMBER, HeldFull) ∷ []
 
--- a process's count in a group may be raised: it is not the last one, and the raised time has room and a spelling,
--- as it always has where only members of the view are counted
-abbrev pub may_raise : ClockList → GroupNo → Proc → Bool
-may_raise t g p = nat_lt (count_in t g p) MAX_NUMBER && (has_room (bumped t g p) && is_stamp (bumped t g p))
-
 abbrev pub cast_tests : State → ℕ → GroupNo → List ℕ → List (Bool × Refusal)
 cast_tests s k g payload =
     (not (is_group s g), NoGroup)
     ∷ (nat_lt MAX_PAYLOAD (length payload), TooLong)
     ∷ (not (is_member ((s.process k).standing g)), NotMember)
+    ∷ (awaits_own s k, OwnAbcast)
     ∷ (not (may_receive s), HeldFull)
     ∷ (not (may_raise (s.process k).time g (local s k)), HeldFull) ∷ []
 
@@ -83,12 +80,16 @@ attempting s k tag tests effect =
       | None ↦ pushing effect k (push.Reply tag None)
     ]
 
--- there are no rules for leaves and atomic casts yet: they are ignored
+-- a cast of a kind
+abbrev pub body_of : CastKind → List ℕ → Body
+body_of kind.Causal payload = body.Causal payload
+body_of kind.Atomic payload = body.Atomic payload
+
+-- there is no rule for leaves yet: they are ignored
 abbrev pub requested : State → ℕ → Request → State
 requested s k (Join tag g) = attempting s k tag (join_tests s k g) (joining s k g)
 requested s k (Leave tag g) = s
-requested s k (Cast tag g kind.Causal payload) = attempting s k tag (cast_tests s k g payload) (sending s g k (body.Causal payload))
-requested s k (Cast tag g kind.Atomic payload) = s
+requested s k (Cast tag g cast payload) = attempting s k tag (cast_tests s k g payload) (sending s g k (body_of cast payload))
 
 -- and so are bytes that are no frame
 abbrev pub commanded : State → ℕ → Command → State
@@ -97,11 +98,11 @@ commanded s k command.Bad = s
 
 -- Data
 
--- a message of the site's view, from the process's own site, which is another; messages of other kinds are ignored
+-- a message of the site's view, from the process's own site, which is another
 abbrev pub is_used : State → SiteNo → Message → Bool
 is_used s from m =
     site_eq m.id.proc.site from && (not (site_eq from s.here) && ((m.id.view == (s.group m.id.group).number)
-    && (is_well_formed s (members_of (s.group m.id.group)) m && is_causal (kind_of m.body))))
+    && is_well_formed s (members_of (s.group m.id.group)) m))
 
 -- the acknowledgement is owed to the message's site, until that has told that the message is stable
 abbrev pub acknowledging : State → SiteNo → Uid → State
@@ -111,7 +112,7 @@ acknowledging s to u = if is_stable s u then emitted s to (frame.Ack u) else owi
 abbrev pub data_used : State → SiteNo → Message → State
 data_used s from m =
     if is_received s m.id then emitted s from (frame.Ack m.id)
-    else if may_receive s then acknowledging (receiving s m) from m.id else s
+    else if may_take s m.body then acknowledging (receiving s m) from m.id else s
 
 abbrev pub on_data : State → SiteNo → Message → State
 on_data s from m = if is_used s from m then data_used s from m else s

@@ -13,6 +13,7 @@ use crate::session::Session;
 use crate::shared::Shared;
 use cast_delay::{Delay, Fact};
 use cast_frame::{Push, SiteFrame};
+use cast_order::Orders;
 use cast_stable::Acks;
 use cast_types::{DomainNo, GroupNo, NoMemory, Proc, Refusal, SiteNo};
 use std::alloc::Global;
@@ -31,6 +32,7 @@ pub struct Domain {
     pub(crate) groups: Vec<GroupRecord>,
     pub(crate) delay: Delay,
     pub(crate) acks: Acks,
+    pub(crate) orders: Orders,
     halted: bool,
 }
 
@@ -67,6 +69,7 @@ impl Domain {
             groups,
             delay: Delay::new(alloc),
             acks: Acks::new(alloc, site),
+            orders: Orders::new(alloc),
             halted: false,
         })
     }

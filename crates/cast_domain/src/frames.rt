@@ -1,6 +1,6 @@
 ghost use Rattle.std.specs.Prelude.{◌≡◌, ◌<◌, false, IfOk, OnOk, vec_len};
 ghost use Rattle.std.specs.List.{fold, list_all, list_any};
-ghost use Rattle.cast_types.specs.Names.{group_eq, is_causal, proc_eq, uid_eq};
+ghost use Rattle.cast_types.specs.Names.{group_eq, proc_eq, uid_eq};
 ghost use Rattle.cast_types.specs.Sets.{is_among};
 ghost use Rattle.cast_frame.specs.declared.site.Change.TheVariants as asked_change;
 ghost use Rattle.cast_frame.specs.declared.site.SiteFrame.TheVariants as asked_frame;
@@ -18,7 +18,7 @@ use crate::shared::Shared;
 use cast_clock::Times;
 use cast_delay::Fact;
 use cast_frame::{Change, Members, Message, Push, SiteFrame};
-use cast_types::{Clock, GroupNo, Kind, NoMemory, Proc, SiteNo, Standing, Uid};
+use cast_types::{Clock, GroupNo, NoMemory, Proc, SiteNo, Standing, Uid};
 
 // What the types of a frame's parts promise, for the proofs: nothing is done.
 pub(crate) fn promised_by_types(frame: &SiteFrame)
@@ -152,7 +152,7 @@ impl Domain {
         Ok(())
     }
 
-    // Whether a message is of the site's view, comes from the process's own site, which is another, and is causal.
+    // Whether a message is of the site's view and comes from the process's own site, which is another.
     fn is_used(&self, place: usize, from: SiteNo, message: &Message) -> bool
         requires { place < vec_len self.now.groups }
         ensures { (o : Outs) (part : Part) → result ≡ is_used_in (records_of self.now part o) place from message.now }
@@ -161,7 +161,6 @@ impl Domain {
             && !(from == self.site)
             && message.id.view == self.record(place).here.number
             && self.is_well_formed(place, message)
-            && is_causal(message.kind())
     }
 
     // A message is received once, if there is room for it. One that was received is acknowledged again.
@@ -177,13 +176,15 @@ impl Domain {
         ensures made { OnOk result (records_in self.new shared.new outs.new ≡ use_data_in (records_in self.old shared.old outs.old) from message.now) }
     {
         if self.acks.is_received(message.id) {
-            return self.send(outs, from, SiteFrame::Ack(message.id));
+            self.send(outs, from, SiteFrame::Ack(message.id))?;
+            return Ok(());
         }
-        if !self.has_room(shared) {
+        if !self.may_take(&message.body, shared) {
             return Ok(());
         }
         self.receive(message.copy()?, shared)?;
-        self.acknowledge(from, message.id, shared, outs)
+        self.acknowledge(from, message.id, shared, outs)?;
+        Ok(())
     }
 
     // Whether all groups of the message's time are configured, its process is a member of the view, and its own time
@@ -361,6 +362,7 @@ impl Domain {
         let alloc = *self.groups.allocator();
         let others = other_sites(alloc, self.site, self.record(place).here.members())?;
         self.acks.tell(group, others)?;
+        self.orders.forget(group);
         Ok(())
     }
 
@@ -459,16 +461,6 @@ impl Domain {
             installed_at(&mut self.groups, place, from, view)?;
         }
         Ok(())
-    }
-}
-
-// Whether a kind is the causal one.
-fn is_causal(kind: Kind) -> bool
-    ensures { result ≡ is_causal kind }
-{
-    match kind {
-        Kind::Causal => true,
-        Kind::Atomic | Kind::Order => false,
     }
 }
 

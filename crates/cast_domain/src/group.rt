@@ -39,7 +39,7 @@ pub struct Group {
 }
 
 impl Group {
-    ghost use Rattle.cast_domain.specs.Group.{no_group, members_of, with_request, with_answer, with_view, first_asking, verdict_of, is_current};
+    ghost use Rattle.cast_domain.specs.Group.{no_group, members_of, holder_of, is_process, holder_at, with_request, with_answer, with_view, first_asking, verdict_of, is_current};
 
     /// A group of which the site knows no view.
     pub fn new(alloc: Global) -> Self
@@ -60,6 +60,36 @@ impl Group {
         match &self.view {
             Some(members) => members.list(),
             None => &[],
+        }
+    }
+
+    /// The member that sets the order of the view's ABCASTs, `None` where there is no view.
+    pub fn holder(&self) -> Option<Proc>
+        ensures { result ≡ holder_of self.now }
+    {
+        match &self.view {
+            Some(members) => members.holder(),
+            None => None,
+        }
+    }
+
+    /// Whether a process is the holder.
+    pub fn is_held_by(&self, process: Proc) -> bool
+        ensures { result ≡ is_process process (holder_of self.now) }
+    {
+        match self.holder() {
+            Some(holder) => holder == process,
+            None => false,
+        }
+    }
+
+    /// The holder, where it is a process of a site.
+    pub fn holder_at(&self, site: SiteNo) -> Option<Proc>
+        ensures { result ≡ holder_at site self.now }
+    {
+        match self.holder() {
+            Some(holder) if holder.site == site => Some(holder),
+            _ => None,
         }
     }
 

@@ -6,11 +6,11 @@
 //! safe and returns. Want of memory inside a step adds nothing and halts the domain, which then answers each event with
 //! `Refused(Halted)`.
 //!
-//! The definitions are in `specs/`: `State` has the whole history of a domain and what of it is kept and stable, `Owing`
-//! the frames that it owes and ticks, `Effects`, `Rest` and `Step` say what events do to it, and `Run` what a domain that
-//! is served alone answers, pushes and sends. `Records` is what the code keeps, with its part of what domains share
-//! (`Shared`), `Calls` what its calls do to that, exactly, and `Fits` when records stand for a history; `Stepped` is what
-//! the contract of a step says.
+//! The definitions are in `specs/`: `State` has the whole history of a domain and what of it is kept and stable, `Order`
+//! the order of a view and when a message is ready, `Owing` the frames that it owes and ticks, `Effects`, `Rest` and
+//! `Step` say what events do to it, and `Run` what a domain that is served alone answers, pushes and sends. `Records` is
+//! what the code keeps, with its part of what domains share (`Shared`), `Calls` what its calls do to that, exactly, and
+//! `Fits` when records stand for a history; `Stepped` is what the contract of a step says.
 #![tactic(auto)]
 
 mod config;
@@ -21,6 +21,7 @@ mod group;
 mod home;
 pub mod laws;
 mod moment;
+mod order;
 mod owing;
 mod record;
 mod requests;

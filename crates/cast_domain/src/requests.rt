@@ -1,9 +1,11 @@
 ghost use Rattle.std.specs.Prelude.{◌≡◌, ◌<◌, ◌≤◌, ◌+◌, ◌==◌, if◌then◌else◌, IfOk, OnOk, Some, None, length, vec_len};
 ghost use Rattle.std.specs.List.{fold};
+ghost use Rattle.cast_domain.specs.Step.{body_of};
 ghost use Rattle.cast_domain.specs.Calls.{record_at};
 
 use crate::domain::Domain;
 use crate::event::{Outs, Taken};
+use crate::order::learn;
 use crate::owing::{ask_key, message_key};
 use crate::record::ask_at;
 use crate::session::Session;
@@ -22,7 +24,7 @@ impl Domain {
     ghost use Rattle.cast_domain.specs.declared.event.Outs.{Outs};
     ghost use Rattle.cast_domain.specs.Records.{Keeps, records_in, records_of, was_given};
     ghost use Rattle.cast_domain.specs.Shared.{LeavesOthers, Part};
-    ghost use Rattle.cast_domain.specs.Step.{may_raise};
+    ghost use Rattle.cast_domain.specs.Effects.{may_raise};
     ghost use Rattle.cast_domain.specs.Calls.{ask_home_in, cast_at, cast_in, command_in, join_at, join_in, open_in, receive_in, request_in, requested_in, send_data_in, send_message_in, time_of};
 
     // A program connects.
@@ -67,7 +69,7 @@ impl Domain {
         Ok(Taken::Nothing)
     }
 
-    // Does what a program asks for, or refuses it, and replies. There are no rules for leaves and atomic casts yet.
+    // Does what a program asks for, or refuses it, and replies. There is no rule for leaves yet.
     fn request(
         &mut self,
         serial: u32,
@@ -87,17 +89,13 @@ impl Domain {
             Request::Cast {
                 tag,
                 group,
-                kind: CastKind::Causal,
+                kind,
                 payload,
             } => {
-                let refusal = self.cast(serial, *group, payload, shared, outs)?;
+                let refusal = self.cast(serial, *group, *kind, payload, shared, outs)?;
                 self.push(serial, Push::Reply { tag: *tag, refusal })
             }
-            Request::Leave { .. }
-            | Request::Cast {
-                kind: CastKind::Atomic,
-                ..
-            } => Ok(()),
+            Request::Leave { .. } => Ok(()),
         }
     }
 
@@ -209,16 +207,17 @@ impl Domain {
         &mut self,
         serial: u32,
         group: GroupNo,
+        kind: CastKind,
         payload: &Bytes,
         shared: &mut Shared,
         outs: &mut Outs,
     ) -> Result<Option<Refusal>, NoMemory>
         ensures same { Keeps self.old self.new }
         ensures others { LeavesOthers self.old.config.domain shared.old shared.new }
-        ensures made { IfOk result (λ refusal. (records_in self.new shared.new outs.new, refusal) ≡ cast_in (records_in self.old shared.old outs.old) serial group payload.now) }
+        ensures made { IfOk result (λ refusal. (records_in self.new shared.new outs.new, refusal) ≡ cast_in (records_in self.old shared.old outs.old) serial group kind payload.now) }
     {
         match self.place_of(group) {
-            Some(place) => self.cast_at(place, serial, group, payload, shared, outs),
+            Some(place) => self.cast_at(place, serial, group, kind, payload, shared, outs),
             None => Ok(Some(Refusal::NoGroup)),
         }
     }
@@ -229,6 +228,7 @@ impl Domain {
         place: usize,
         serial: u32,
         group: GroupNo,
+        kind: CastKind,
         payload: &Bytes,
         shared: &mut Shared,
         outs: &mut Outs,
@@ -236,7 +236,7 @@ impl Domain {
         requires { place < vec_len self.old.groups }
         ensures same { Keeps self.old self.new }
         ensures others { LeavesOthers self.old.config.domain shared.old shared.new }
-        ensures made { IfOk result (λ refusal. (records_in self.new shared.new outs.new, refusal) ≡ cast_at (records_in self.old shared.old outs.old) serial group payload.now place) }
+        ensures made { IfOk result (λ refusal. (records_in self.new shared.new outs.new, refusal) ≡ cast_at (records_in self.old shared.old outs.old) serial group kind payload.now place) }
     {
         let process = self.process(serial);
         if payload.len() > MAX_PAYLOAD {
@@ -247,6 +247,9 @@ impl Domain {
             Standing::Outside | Standing::Joining { .. } => {
                 return Ok(Some(Refusal::NotMember));
             }
+        }
+        if self.awaits_own(process, shared) {
+            return Ok(Some(Refusal::OwnAbcast));
         }
         if !self.has_room(shared) {
             return Ok(Some(Refusal::HeldFull));
@@ -263,7 +266,7 @@ impl Domain {
                 count: time.count(group, process),
             },
             times: stamp,
-            body: Body::Causal(content),
+            body: body_of(kind, content),
         };
         self.tell(process, Fact::Time(time))?;
         self.send_message(message, shared, outs)?;
@@ -272,7 +275,11 @@ impl Domain {
 
     // The time of a process with one more message of its own, and the stamp that this message bears. None where the
     // count cannot be raised.
-    fn raised(&self, process: Proc, group: GroupNo) -> Result<Option<(Times, Stamp)>, NoMemory>
+    pub(crate) fn raised(
+        &self,
+        process: Proc,
+        group: GroupNo,
+    ) -> Result<Option<(Times, Stamp)>, NoMemory>
         ensures { IfOk result (λ r. r ≡ (if may_raise (time_of self.now.delay process) group process
             then Some (bumped (time_of self.now.delay process) group process, bumped (time_of self.now.delay process) group process)
             else None)) }
@@ -296,7 +303,7 @@ impl Domain {
     }
 
     // Receives an own message here, and sends it to each other site of the view.
-    fn send_message(
+    pub(crate) fn send_message(
         &mut self,
         message: Message,
         shared: &mut Shared,
@@ -308,7 +315,8 @@ impl Domain {
     {
         let id = message.id;
         self.receive(message, shared)?;
-        self.send_data(id, self.acks.others(id.group), shared, outs)
+        self.send_data(id, self.acks.others(id.group), shared, outs)?;
+        Ok(())
     }
 
     // Sends an own message to sites.
@@ -355,8 +363,19 @@ impl Domain {
         let key = shared.store.next_key(self.config.domain);
         self.delay.offer(key, &message)?;
         self.acks.receive(message.id)?;
+        learn(&mut self.orders, &message)?;
         shared.put(self.config.domain, message)?;
         Ok(())
+    }
+}
+
+// The body of a cast.
+fn body_of(kind: CastKind, payload: Payload) -> Body
+    ensures { result ≡ body_of kind payload }
+{
+    match kind {
+        CastKind::Causal => Body::Causal(payload),
+        CastKind::Atomic => Body::Atomic(payload),
     }
 }
 

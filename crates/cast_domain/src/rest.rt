@@ -1,16 +1,16 @@
 ghost use Rattle.std.specs.Prelude.{◌≡◌, ◌<◌, false, IfOk, OnOk, vec_len};
 ghost use Rattle.std.specs.List.{fold};
-ghost use Rattle.cast_frame.specs.declared.client.Push.TheVariants as push;
-ghost use Rattle.cast_domain.specs.Effects.{cast_kind_of, payload_of};
+ghost use Rattle.std.specs.Option.{option_map_or};
+ghost use Rattle.cast_domain.specs.Effects.{told_of};
 
 use crate::domain::Domain;
 use crate::event::Outs;
 use crate::home::sites_of;
+use crate::order::is_atomic;
 use crate::record::decide_at;
 use crate::shared::Shared;
-use bytes::Bytes;
-use cast_frame::{Body, CastKind, Message, Payload, Push, SiteFrame, Tail};
-use cast_types::{Counts, Key, NoMemory, Proc, SiteNo};
+use cast_frame::{Body, CastKind, Message, Push, SiteFrame, Tail};
+use cast_types::{Counts, Key, NoMemory, Proc, SiteNo, Uid};
 use std::alloc::AllocError;
 
 impl Domain {
@@ -18,7 +18,7 @@ impl Domain {
     ghost use Rattle.cast_domain.specs.Records.{Keeps, records_in, records_of};
     ghost use Rattle.cast_domain.specs.Shared.{LeavesOthers, Part};
     ghost use Rattle.cast_domain.specs.Stepped.{IsRested};
-    ghost use Rattle.cast_domain.specs.Calls.{decide_in, deliver_all_in, deliver_in, let_go_in, lead_in, pass_in, record_at, send_install_in, settle_in};
+    ghost use Rattle.cast_domain.specs.Calls.{decide_in, deliver_all_in, deliver_in, let_go_in, lead_in, note_if_in, pass_in, push_in, record_at, send_install_in, settle_in, take_delivery_in};
 
     // What follows from an event, until nothing changes. No run makes 2^64 passes.
     pub(crate) fn rest(&mut self, shared: &mut Shared, outs: &mut Outs) -> Result<(), NoMemory>
@@ -34,7 +34,7 @@ impl Domain {
         Err(AllocError)
     }
 
-    // Deliveries by serial; then by group the home. Answers whether anything changed.
+    // Deliveries by serial; then by group set-order messages; then by group the home. Answers whether anything changed.
     fn pass(&mut self, shared: &mut Shared, outs: &mut Outs) -> Result<bool, NoMemory>
         ensures same { Keeps self.old self.new }
         ensures others { LeavesOthers self.old.config.domain shared.old shared.new }
@@ -42,8 +42,9 @@ impl Domain {
         ensures still { IfOk result (λ changed. changed ≡ false → records_in self.new shared.new outs.new ≡ records_in self.old shared.old outs.old) }
     {
         let settled = self.settle(shared, outs)?;
+        let ordered = self.set_orders(shared, outs)?;
         let led = self.lead(outs)?;
-        Ok(settled || led)
+        Ok(settled | ordered | led)
     }
 
     // Each process delivers until nothing is ready for it.
@@ -76,7 +77,7 @@ impl Domain {
     {
         let mut changed = false;
         for _turn in 0..self.held(shared) {
-            match self.delay.next_ready(process) {
+            match self.next_ready(process, shared)? {
                 Some(key) => self.deliver_next(process, key, shared, outs)?,
                 None => return Ok(changed),
             }
@@ -117,11 +118,50 @@ impl Domain {
             return Ok(());
         };
         let id = message.id;
+        let atomic = is_atomic(message.kind());
         let push = push_of(message)?;
+        self.take_delivery(process, key, id, outs)?;
+        self.note_if(atomic, process, id)?;
+        self.push_delivery(process, push)?;
+        Ok(())
+    }
+
+    // Takes in that a process delivered the message under a key.
+    fn take_delivery(
+        &mut self,
+        process: Proc,
+        key: Key,
+        id: Uid,
+        outs: &mut Outs,
+    ) -> Result<(), NoMemory>
+        ensures same { Keeps self.old self.new }
+        ensures made { OnOk result ((part : Part) → records_of self.new part outs.new ≡ take_delivery_in (records_of self.old part outs.old) process key id) }
+    {
         self.delay.delivered(process, key)?;
         outs.delivered.push((self.config.domain, process, id))?;
-        self.push(process.serial, push)?;
         Ok(())
+    }
+
+    // Notes for the order of its view that a process delivered a message, if it is an ABCAST.
+    fn note_if(&mut self, atomic: bool, process: Proc, id: Uid) -> Result<(), NoMemory>
+        ensures same { Keeps self.old self.new }
+        ensures made { OnOk result ((o : Outs) (part : Part) → records_of self.new part o ≡ note_if_in atomic (records_of self.old part o) process id) }
+    {
+        if atomic {
+            self.note_delivery(process, id)?;
+        }
+        Ok(())
+    }
+
+    // Pushes what a process is told of a message that it delivered.
+    fn push_delivery(&mut self, process: Proc, push: Option<Push>) -> Result<(), NoMemory>
+        ensures kept { Keeps self.old self.new }
+        ensures made { OnOk result ((o : Outs) (part : Part) → records_of self.new part o ≡ option_map_or (push_in (records_of self.old part o) process.serial) push (records_of self.old part o)) }
+    {
+        match push {
+            Some(push) => self.push(process.serial, push),
+            None => Ok(()),
+        }
     }
 
     // The home decides, by group.
@@ -196,18 +236,18 @@ impl Domain {
     }
 }
 
-// What a program is told of a message that it delivers. One without a payload is never delivered.
-fn push_of(message: &Message) -> Result<Push, NoMemory>
-    ensures { IfOk result (λ p. p ≡ push.Deliver message.now.id (cast_kind_of message.now.body) (payload_of message.now.body)) }
+// What a program is told of a message that its process delivers: of a set-order message nothing.
+fn push_of(message: &Message) -> Result<Option<Push>, NoMemory>
+    ensures { IfOk result (λ p. p ≡ told_of message.now.id message.now.body) }
 {
     let (kind, payload) = match &message.body {
         Body::Causal(payload) => (CastKind::Causal, payload.copy()?),
         Body::Atomic(payload) => (CastKind::Atomic, payload.copy()?),
-        Body::Order(_) => (CastKind::Causal, Payload::from_bytes(Bytes::new())),
+        Body::Order(_) => return Ok(None),
     };
-    Ok(Push::Deliver {
+    Ok(Some(Push::Deliver {
         id: message.id,
         kind,
         payload,
-    })
+    }))
 }

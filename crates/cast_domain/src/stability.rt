@@ -168,7 +168,7 @@ impl Domain {
     }
 
     // Whether a message is of the current view of its group.
-    fn is_current(&self, id: Uid) -> bool
+    pub(crate) fn is_current(&self, id: Uid) -> bool
         ensures { result ≡ is_current_in (records_of self.now no_part no_outs) id }
     {
         match self.place_of(id.group) {

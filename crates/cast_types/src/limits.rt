@@ -31,6 +31,9 @@ pub const MAX_KEPT: usize = 2_048;
 /// Most ids whose places in a view's order one message sets.
 pub const MAX_PLACED: usize = 64;
 
+/// Most ABCASTs that a holder delivers beyond those that its stable set-order messages list.
+pub const MAX_UNSETTLED: usize = 512;
+
 /// The last place of a view's order.
 pub const MAX_POSITION: u32 = 4_000_000_000;
 

@@ -1,4 +1,5 @@
 mod groups;
+mod orders;
 mod stability;
 
 use crate::print::print;
@@ -191,8 +192,6 @@ frame 43440107010002000100000002000000000000000000
 frame 4344010801000200010000000200010000000100000001
 frame 4344010901000200010000000200020000000100000001010100010000000201000200000001000000010000
 frame 4344010c010002000100000003
-frame 4344010101000200010000000200020000000100000001020100010000000201000200000001000000010000
-frame 434401010100020001000000020002000000010000000103010001000000020100020000000100000001000000010100020000000100000001
 ";
     let told = "push 1 1 opened 1.1
 push 1 1 reply 7 0
@@ -207,8 +206,8 @@ send 1 9 4344010b010001000100000002
 #[test]
 fn ignores_commands_without_a_rule(rt: HostRuntime) -> Result<(), Fail> {
     let alloc = rt.alloc();
-    let commands = "leave 1 1 8 1\nabcast 1 1 8 1 6869\nbad 1 1\n";
-    let unopened = "event 1 refused 2\nevent 2 refused 2\nevent 3 refused 2\n";
+    let commands = "leave 1 1 8 1\nbad 1 1\n";
+    let unopened = "event 1 refused 2\nevent 2 refused 2\n";
     assert!(rt; prints(alloc, &[QUIET, commands], &[unopened])?);
     let opened = "push 1 1 opened 1.1\n";
     assert!(rt; prints(alloc, &[QUIET, "open 1\n", commands], &[opened])?);

@@ -16,7 +16,7 @@ loop-turn-preserved c =
     let i = c.loop-turn._turn in
     let n = length (part_of c.args.self.now.config.domain c.args.shared.now).kept in
     let within : i < n = omega (arith, c.held-turn-end.ensures) in
-    let first : deliver_first_in p r ≡ let_go_in (deliver_in p r c.in-Some.key) = ap (λ o. option_map_or (λ key. let_go_in (deliver_in p r key)) o r) (sym c.next_ready.ensures.value ∙ c.in-Some.is) in
+    let first : deliver_first_in p r ≡ let_go_in (deliver_in p r c.in-Some.key) = ap (λ o. option_map_or (λ key. let_go_in (deliver_in p r key)) o r) (sym c.in_ok-key.ensures ∙ c.in-Some.is) in
     record {
       same = keeps_then _ _ _ c.loop-turn.invariant.same c.in_ok-deliver_next-in-Some.ensures.same;
       others = others_then c.args.self.now c.loop-turn.self _ _ _ c.loop-turn.invariant.same c.loop-turn.invariant.others c.in_ok-deliver_next-in-Some.ensures.others;
@@ -31,5 +31,5 @@ returns-in-None-clause-made c =
     let r = records_in c.loop-turn.self c.loop-turn.shared c.loop-turn.outs in
     let p = c.args.process in
     let n = length (part_of c.args.self.now.config.domain c.args.shared.now).kept in
-    let still : deliver_first_in p r ≡ r = ap (λ o. option_map_or (λ key. let_go_in (deliver_in p r key)) o r) (sym c.next_ready.ensures.value ∙ c.in-None.is) in
+    let still : deliver_first_in p r ≡ r = ap (λ o. option_map_or (λ key. let_go_in (deliver_in p r key)) o r) (sym c.in_ok-key.ensures ∙ c.in-None.is) in
     sym (iterate_still (n - c.loop-turn._turn) (deliver_first_in p) r still) ∙ c.loop-turn.invariant.left

@@ -28,6 +28,7 @@ returns-clause-begins c rising =
         part = no_part;
         delay = c.new-3.ensures j;
         acks = c.new-4.ensures j;
+        orders = c.new-5.ensures j;
         frames = [];
         delivered = [];
       })) (fits_before here config);

@@ -3,6 +3,7 @@ use Rattle.std.specs.FinMap.Entries.{put}
 use Rattle.cast_types.specs.Names.{group_cmp}
 use Rattle.cast_types.specs.Places.{update}
 use Rattle.cast_stable.specs.Ledger.{told_ledger}
+use Rattle.cast_order.specs.Log.{but_log}
 use Rattle.cast_domain.specs.Group.{members_of, other_sites, with_view}
 use Rattle.cast_domain.specs.Records.{records_of}
 use Rattle.cast_domain.specs.Calls.{record_at}
@@ -25,9 +26,11 @@ returns-clause-made c o part =
       groups = c.in_ok-view_at.ensures.items j;
       delay = c.in_ok-view_changed.ensures j;
       acks = c.in_ok-tell.ensures.ok j;
+      orders = c.forget.ensures j;
     })
     ∙ (λ j. record r {
       groups = update r.groups i (λ x. record x { here = with_view r.site n members x.here });
       delay = record r.delay { numbers = put group_cmp (name j) n r.delay.numbers };
       acks = told_ledger r.acks (name j) (others j);
+      orders = but_log (name j) r.orders;
     })

@@ -1,0 +1,281 @@
+-- What is kept of a group's order goes on telling of the order of its view.
+use Rattle.std.proofs.Common.{◌≡◌, ℕ, ◌+◌, ◌<◌, ◌≤◌, Bool, true, false, cond, List, [], ◌∷◌, ◌++◌, map, Contains, Option, Some, None, refl, sym, ap, subst, ◌∙◌, inl, inr, arith}
+use Rattle.std.specs.Prelude.{◌&&◌, ◌==◌, if◌then◌else◌, filter}
+use Rattle.std.specs.List.{flat_map}
+use Rattle.std.specs.Option.{option_map_or}
+use Rattle.std.proofs.lemmas.Bool.{cases_Bool, cases_lt, false≢true, false_from_ne_true, and_parts, or_left, or_right, eqb-true}
+use Rattle.std.proofs.lemmas.List.{append-nil}
+use Rattle.std.proofs.lemmas.List.Elements.{filter-append}
+use Rattle.std.proofs.lemmas.List.Folds.{list_any-append}
+use Rattle.std.proofs.lemmas.List.Concat.{flat_map-append}
+use Rattle.cast_types.specs.declared.names.SiteNo.{SiteNo}
+use Rattle.cast_types.specs.declared.names.GroupNo.{GroupNo}
+use Rattle.cast_types.specs.declared.names.Proc.{Proc}
+use Rattle.cast_types.specs.declared.names.Uid.{Uid}
+use Rattle.cast_types.specs.declared.limits.TheConstants.{MAX_NUMBER}
+use Rattle.cast_types.specs.Names.{Entry, site_eq, group_eq, proc_eq, uid_eq, is_order, named, entry_of}
+use Rattle.cast_types.specs.Sets.{is_among}
+use Rattle.cast_types.proofs.Orders.{same_group, group_itself, uid_itself}
+use Rattle.cast_frame.specs.declared.message.Body.{Body}
+use Rattle.cast_frame.specs.declared.message.Body.TheVariants as body
+use Rattle.cast_frame.specs.declared.message.Message.{Message}
+use Rattle.cast_frame.specs.Bodies.{kind_of}
+use Rattle.cast_frame.specs.Membership.{Membership}
+use Rattle.cast_frame.specs.Sequence.{Sequence}
+use Rattle.cast_stable.specs.Stable.{Acked, has_acked, stable_upto}
+use Rattle.cast_stable.proofs.Greatest.{stable_greatest}
+use Rattle.cast_delay.specs.Ready.{has_delivered}
+use Rattle.cast_delay.proofs.Finds.{contains_here, contains_later}
+use Rattle.cast_order.specs.Order.{Facts, facts_of, Listing}
+use Rattle.cast_order.specs.Log.{Log, new_log, log_of, but_log, learnt}
+use Rattle.cast_order.specs.Fits.{Fits as OrderFits}
+use Rattle.cast_order.proofs.Meanings.{new_fits as order_new_fits, learn_fits, more_fits}
+use Rattle.cast_order.proofs.Logs.{log_of_change, log_of_forget}
+use Rattle.cast_domain.specs.declared.group.Group.{Group}
+use Rattle.cast_domain.specs.Group.{no_group, holder_at, members_of, other_sites, with_view}
+use Rattle.cast_domain.specs.Home.{is_empty}
+use Rattle.cast_domain.specs.State.{State, local, others_of, set_group}
+use Rattle.cast_domain.specs.Order.{told_by, ids_told, is_of_view, facts_in}
+use Rattle.cast_domain.specs.Effects.{receiving}
+use Rattle.cast_domain.specs.Step.{with_ack}
+use Rattle.cast_domain.specs.Calls.{learn_in}
+use Rattle.cast_domain.specs.Fits.{process_named, told_here, lists_here, settled_of, settled_here, LogFits, IsTraced}
+
+-- Parts of a history that the order of a view is made of
+
+-- a process has delivered an id of the group's view
+abbrev pub has_passed : State → GroupNo → Proc → Entry → Bool
+has_passed s g p e = has_delivered (process_named s p) (named g (s.group g).number e)
+
+-- an id of a view of a group
+abbrev is_in : ℕ → GroupNo → Uid → Bool
+is_in n g u = group_eq u.group g && (u.view == n)
+
+abbrev facts_as : ℕ → GroupNo → List Message → Facts
+facts_as n g got = flat_map (λ m. told_by m.body) (filter (λ m. is_in n g m.id) got)
+
+abbrev viewing : Option Membership → Group
+viewing view = record no_group { view = view }
+
+abbrev told_as : SiteNo → Option Membership → ℕ → GroupNo → (ℕ → List Uid) → List Entry
+told_as here view n g abcasts = option_map_or (λ p. map entry_of (filter (is_in n g) (abcasts p.serial))) (holder_at here (viewing view)) []
+
+-- a set-order message of a process in a view
+abbrev pub sets : ℕ → GroupNo → Proc → Message → Bool
+sets n g p m = is_in n g m.id && (is_order (kind_of m.body) && proc_eq m.id.proc p)
+
+abbrev pub list_in : Message → ℕ × List Entry
+list_in m = (m.id.count, ids_told m.body)
+
+abbrev pub lists_by : SiteNo → ℕ → GroupNo → List Message → ℕ → Listing
+lists_by here n g got k = map list_in (filter (sets n g (record { site = here; serial = k })) got)
+
+abbrev lists_as : SiteNo → Option Membership → ℕ → GroupNo → List Message → Listing
+lists_as here view n g got = option_map_or (λ p. lists_by here n g got p.serial) (holder_at here (viewing view)) []
+
+-- a log tells of these facts, these ABCASTs and these lists, if they are those of the history
+pub log_made : (t : State) (g : GroupNo) (l : Log) (facts : Facts) (told : List Entry) (lists : Listing) → facts_in t g ≡ facts → told_here t g ≡ told → lists_here t g ≡ lists → (stable : ℕ) → stable ≤ settled_here t g → OrderFits facts told lists (has_passed t g) stable l → ((x : ℕ × List Entry) → Contains lists x → x.0 ≤ MAX_NUMBER) → LogFits t g l
+log_made t g l facts told lists at_facts at_told at_lists stable reached fits counted = record {
+  stable = stable;
+  reached = reached;
+  fits = subst (λ (a : Facts × List Entry × Listing). OrderFits a.0 a.1 a.2 (has_passed t g) stable l) (λ i. (sym at_facts i, sym at_told i, sym at_lists i)) fits;
+  counted = λ x in_it. counted x (subst (λ ls. Contains ls x) at_lists in_it);
+}
+
+-- a history that has the same of a group's order, where processes may have delivered more, and more may be stable
+pub log_alike : (s t : State) (g : GroupNo) (l : Log) → t.here ≡ s.here → (t.group g).view ≡ (s.group g).view → (t.group g).number ≡ (s.group g).number → t.got ≡ s.got → ((k : ℕ) → t.abcasts k ≡ s.abcasts k) → settled_here s g ≤ settled_here t g → ((p : Proc) (u : Uid) → has_delivered (process_named s p) u ≡ true → has_delivered (process_named t p) u ≡ true) → LogFits s g l → LogFits t g l
+log_alike s t g l here view number got abcasts settled more f =
+    log_made t g l (facts_in s g) (told_here s g) (lists_here s g)
+    (λ i. facts_as (number i) g (got i))
+    (λ i. told_as (here i) (view i) (number i) g (λ k. abcasts k i))
+    (λ i. lists_as (here i) (view i) (number i) g (got i))
+    f.stable (let reached = f.reached in omega (arith, reached, settled))
+    (more_fits (facts_in s g) (told_here s g) (lists_here s g) (has_passed s g) f.stable l f.fits (has_passed t g) f.stable
+    (λ p e is. ap (λ n. has_delivered (process_named t p) (named g n e)) number ∙ more p (named g (s.group g).number e) is) (omega arith))
+    f.counted
+
+-- what is settled is the same where the group's view and the acknowledgements are
+abbrev settled_as : SiteNo → Option Membership → ℕ → GroupNo → List Acked → ℕ
+settled_as here view n g acks =
+    option_map_or (λ p. if is_empty (other_sites here (members_of (viewing view))) then MAX_NUMBER else stable_upto acks (other_sites here (members_of (viewing view))) g n p)
+    (holder_at here (viewing view)) 0
+
+pub settled_same : (s t : State) (g : GroupNo) → t.here ≡ s.here → (t.group g).view ≡ (s.group g).view → (t.group g).number ≡ (s.group g).number → t.acks ≡ s.acks → settled_here s g ≡ settled_here t g
+settled_same s t g here view number acks = sym (λ i. settled_as (here i) (view i) (number i) g (acks i))
+
+-- A message that is received
+
+pub filter_skips : {A : Type 0} (t : A → Bool) (xs : List A) (x : A) → t x ≡ false → filter t (xs ++ x ∷ []) ≡ filter t xs
+filter_skips t xs x fails = filter-append t xs (x ∷ []) ∙ ap (λ b. filter t xs ++ cond b (x ∷ []) []) fails ∙ append-nil (filter t xs)
+
+pub filter_takes : {A : Type 0} (t : A → Bool) (xs : List A) (x : A) → t x ≡ true → filter t (xs ++ x ∷ []) ≡ filter t xs ++ x ∷ []
+filter_takes t xs x passes = filter-append t xs (x ∷ []) ∙ ap (λ b. filter t xs ++ cond b (x ∷ []) []) passes
+
+-- what a message of another view or group tells is not of the group's view
+facts_skip : (s : State) (g : GroupNo) (m : Message) → is_of_view s g m.id ≡ false → facts_in (receiving s m) g ≡ facts_in s g
+facts_skip s g m other = ap (flat_map (λ x. told_by x.body)) (filter_skips (λ x. is_of_view s g x.id) s.got m other)
+
+-- what one of the view tells comes last
+pub facts_push : (s : State) (g : GroupNo) (m : Message) → is_of_view s g m.id ≡ true → facts_in (receiving s m) g ≡ facts_in s g ++ told_by m.body
+facts_push s g m current =
+    ap (flat_map (λ x. told_by x.body)) (filter_takes (λ x. is_of_view s g x.id) s.got m current)
+    ∙ flat_map-append (λ x. told_by x.body) (filter (λ x. is_of_view s g x.id) s.got) (m ∷ [])
+    ∙ ap (λ fs. facts_in s g ++ fs) (append-nil (told_by m.body))
+
+-- a message that is no set-order message of the holder here adds no list
+abbrev IsForeign : State → GroupNo → Message → Type 0
+IsForeign s g m = (k : ℕ) → sets (s.group g).number g (local s k) m ≡ false
+
+lists_skip : (s : State) (g : GroupNo) (m : Message) → IsForeign s g m → lists_here (receiving s m) g ≡ lists_here s g
+lists_skip s g m foreign = at (holder_at s.here (s.group g))
+  where
+    at : (o : Option Proc) → option_map_or (λ p. lists_by s.here (s.group g).number g (s.got ++ m ∷ []) p.serial) o [] ≡ option_map_or (λ p. lists_by s.here (s.group g).number g s.got p.serial) o []
+    at None = refl
+    at (Some p) = ap (map list_in) (filter_skips (sets (s.group g).number g (local s p.serial)) s.got m (foreign p.serial))
+
+-- a message of another group, or another view
+pub log_apart : (s : State) (g : GroupNo) (m : Message) (l : Log) → is_of_view s g m.id ≡ false → LogFits s g l → LogFits (receiving s m) g l
+log_apart s g m l other f =
+    log_made (receiving s m) g l (facts_in s g) (told_here s g) (lists_here s g) (facts_skip s g m other) refl
+    (lists_skip s g m (λ k. ap (λ b. b && (is_order (kind_of m.body) && proc_eq m.id.proc (local s k))) other))
+    f.stable f.reached f.fits f.counted
+
+pub other_group : (s : State) (h : GroupNo) (m : Message) → group_eq m.id.group h ≡ false → is_of_view s h m.id ≡ false
+other_group s h m apart = ap (λ b. b && (m.id.view == (s.group h).number)) apart
+
+-- a message that tells nothing of an order
+log_silent : (s : State) (g : GroupNo) (m : Message) (l : Log) → told_by m.body ≡ [] → is_order (kind_of m.body) ≡ false → LogFits s g l → LogFits (receiving s m) g l
+log_silent s g m l silent plain f = elim (cases_Bool (is_of_view s g m.id)) [
+  | inr other ↦ log_apart s g m l other f
+  | inl current ↦
+      log_made (receiving s m) g l (facts_in s g) (told_here s g) (lists_here s g)
+      (facts_push s g m current ∙ ap (λ fs. facts_in s g ++ fs) silent ∙ append-nil (facts_in s g)) refl
+      (lists_skip s g m (λ k. ap (λ b. b && (is_order (kind_of m.body) && proc_eq m.id.proc (local s k))) current ∙ ap (λ b. b && proc_eq m.id.proc (local s k)) plain))
+      f.stable f.reached f.fits f.counted
+]
+
+-- a set-order message of another process
+log_learns : (s : State) (m : Message) (q : Sequence) (l : Log) → m.body ≡ body.Order q → is_of_view s m.id.group m.id ≡ true → IsForeign s m.id.group m → LogFits s m.id.group l → LogFits (receiving s m) m.id.group (learnt q l)
+log_learns s m q l is current foreign f =
+    let g : GroupNo = m.id.group in
+    log_made (receiving s m) g (learnt q l) (facts_in s g ++ facts_of q) (told_here s g) (lists_here s g)
+    (facts_push s g m current ∙ ap (λ b. facts_in s g ++ told_by b) is) refl (lists_skip s g m foreign)
+    f.stable f.reached (learn_fits (facts_in s g) (told_here s g) (lists_here s g) (has_passed s g) f.stable l f.fits q) f.counted
+
+-- each log tells of its order still once a message of the current view of its group is received, which is no set-order
+-- message of the holder here
+pub logs_receive : (s : State) (m : Message) (orders : List Log) → ((g : GroupNo) → LogFits s g (log_of orders g)) → m.id.view == (s.group m.id.group).number ≡ true → ((k : ℕ) → (is_order (kind_of m.body) && proc_eq m.id.proc (local s k)) ≡ false) → (h : GroupNo) → LogFits (receiving s m) h (log_of (learn_in orders m.id.group m.body) h)
+logs_receive s m orders fits current foreign h = at m.body refl
+  where
+    now : is_of_view s m.id.group m.id ≡ true
+    now = ap (λ b. b && (m.id.view == (s.group m.id.group).number)) (group_itself m.id.group) ∙ current
+
+    not_ours : IsForeign s m.id.group m
+    not_ours k = ap (λ b. b && (is_order (kind_of m.body) && proc_eq m.id.proc (local s k))) now ∙ foreign k
+
+    at : (b : Body) → m.body ≡ b → LogFits (receiving s m) h (log_of (learn_in orders m.id.group b) h)
+    at (body.Causal payload) is = log_silent s h m (log_of orders h) (ap told_by is) (ap (λ b. is_order (kind_of b)) is) (fits h)
+    at (body.Atomic payload) is = log_silent s h m (log_of orders h) (ap told_by is) (ap (λ b. is_order (kind_of b)) is) (fits h)
+    at (body.Order q) is =
+        subst (LogFits (receiving s m) h) (sym (log_of_change orders m.id.group h (learnt q) (λ l. refl)))
+        (elim (cases_Bool (group_eq m.id.group h)) [
+          | inl same ↦
+              subst (LogFits (receiving s m) h) (sym (ap (λ b. if b then learnt q (log_of orders m.id.group) else log_of orders h) same))
+              (subst (λ x. LogFits (receiving s m) x (learnt q (log_of orders m.id.group))) (same_group m.id.group h same)
+              (log_learns s m q (log_of orders m.id.group) is now not_ours (fits m.id.group)))
+          | inr apart ↦
+              subst (LogFits (receiving s m) h) (sym (ap (λ b. if b then learnt q (log_of orders m.id.group) else log_of orders h) apart))
+              (log_apart s h m (log_of orders h) (other_group s h m apart) (fits h))
+        ])
+
+-- A new view
+
+all_fail : {A : Type 0} (t : A → Bool) (xs : List A) → ((x : A) → Contains xs x → t x ≡ false) → filter t xs ≡ []
+all_fail t [] fails = refl
+all_fail t (x ∷ xs) fails = ap (λ b. cond b (x ∷ filter t xs) (filter t xs)) (fails x (contains_here x xs)) ∙ all_fail t xs (λ y in_it. fails y (contains_later y x xs in_it))
+
+ids_fail : (t : Uid → Bool) (us : List Uid) → ((u : Uid) → is_among uid_eq u us ≡ true → t u ≡ false) → filter t us ≡ []
+ids_fail t [] fails = refl
+ids_fail t (u ∷ us) fails =
+    ap (λ b. cond b (u ∷ filter t us) (filter t us)) (fails u (or_left (uid_eq u u) (is_among uid_eq u us) (uid_itself u)))
+    ∙ ids_fail t us (λ v in_it. fails v (or_right (uid_eq v u) (is_among uid_eq v us) in_it))
+
+-- what was reached before is not of a later view
+old_view : (s : State) (h : GroupNo) (n : ℕ) (u : Uid) → u.view ≤ (s.group u.group).number → (s.group h).number < n → is_in n h u ≡ false
+old_view s h n u reached later = false_from_ne_true (is_in n h u) (λ is.
+    let parts = and_parts (group_eq u.group h) (u.view == n) is in
+    let here : (s.group u.group).number ≡ (s.group h).number = ap (λ g. (s.group g).number) (same_group u.group h parts.0) in
+    let same = eqb-true u.view n parts.1 in
+    omega (arith, here, same, reached, later))
+
+-- of a later view nothing was told, delivered or listed
+log_new : (s t : State) (h : GroupNo) (l : Log) → IsTraced s → t.got ≡ s.got → ((k : ℕ) → t.abcasts k ≡ s.abcasts k) → (s.group h).number < (t.group h).number → OrderFits [] [] [] (has_passed t h) 0 l → LogFits t h l
+log_new s t h l traced got noted later fits =
+    let n : ℕ = (t.group h).number in
+    log_made t h l [] [] []
+    (ap (facts_as n h) got ∙ ap (flat_map (λ m. told_by m.body)) (all_fail (λ m. is_in n h m.id) s.got (λ m at. old_view s h n m.id (traced.reached m at) later)))
+    (told_none (holder_at t.here (t.group h)))
+    (lists_none (holder_at t.here (t.group h)))
+    0 (omega arith) fits (λ x in_it. let inside = in_it.1 in absurd (omega arith))
+  where
+    told_none : (o : Option Proc) → option_map_or (λ p. map entry_of (filter (is_in (t.group h).number h) (t.abcasts p.serial))) o [] ≡ []
+    told_none None = refl
+    told_none (Some p) =
+        ap (λ us. map entry_of (filter (is_in (t.group h).number h) us)) (noted p.serial)
+        ∙ ap (map entry_of) (ids_fail (is_in (t.group h).number h) (s.abcasts p.serial) (λ u in_it. old_view s h (t.group h).number u (traced.seen p.serial u in_it) later))
+
+    lists_none : (o : Option Proc) → option_map_or (λ p. lists_by t.here (t.group h).number h t.got p.serial) o [] ≡ []
+    lists_none None = refl
+    lists_none (Some p) =
+        ap (λ ms. lists_by t.here (t.group h).number h ms p.serial) got
+        ∙ ap (map list_in) (all_fail (sets (t.group h).number h (record { site = t.here; serial = p.serial })) s.got
+        (λ m at. ap (λ b. b && (is_order (kind_of m.body) && proc_eq m.id.proc (record { site = t.here; serial = p.serial }))) (old_view s h (t.group h).number m.id (traced.reached m at) later)))
+
+-- a group's log is a new one once the group has a later view, and the others' stay
+pub logs_view : (s : State) (g : GroupNo) (n : ℕ) (members : Membership) (orders : List Log) → IsTraced s → (s.group g).number < n → ((h : GroupNo) → LogFits s h (log_of orders h)) → (h : GroupNo) → LogFits (set_group s g (with_view s.here n members (s.group g))) h (log_of (but_log g orders) h)
+logs_view s g n members orders traced later fits h =
+    let w : Group = with_view s.here n members (s.group g) in
+    let t : State = set_group s g w in
+    subst (LogFits t h) (sym (log_of_forget orders g h))
+    (elim (cases_Bool (group_eq g h)) [
+      | inl same ↦
+          let number : (t.group h).number ≡ n = ap (λ b. (if b then w else s.group h).number) same in
+          let before : (s.group h).number < n = subst (λ x. (s.group x).number < n) (same_group g h same) later in
+          subst (LogFits t h) (sym (ap (λ b. if b then new_log g else log_of orders h) same))
+          (log_new s t h (new_log g) traced refl (λ k. refl) (omega (arith, number, before)) (order_new_fits g (has_passed t h)))
+      | inr apart ↦
+          let view : (t.group h).view ≡ (s.group h).view = ap (λ b. (if b then w else s.group h).view) apart in
+          let number : (t.group h).number ≡ (s.group h).number = ap (λ b. (if b then w else s.group h).number) apart in
+          let settled = settled_same s t h refl view number refl in
+          subst (LogFits t h) (sym (ap (λ b. if b then new_log g else log_of orders h) apart))
+          (log_alike s t h (log_of orders h) refl view number refl (λ k. refl) (omega (arith, settled)) (λ p u is. is) (fits h))
+    ])
+
+-- Acknowledgements
+
+-- one more acknowledgement leaves no fewer messages stable
+upto_grows : (acks : List Acked) (x : Acked) (others : List SiteNo) (g : GroupNo) (v : ℕ) (p : Proc) → (others ≡ [] → ⊥) → stable_upto acks others g v p ≤ stable_upto (acks ++ x ∷ []) others g v p
+upto_grows acks x others g v p some =
+    let more : List Acked = acks ++ x ∷ [] in
+    let before = stable_greatest acks others g v p some in
+    let after = stable_greatest more others g v p some in
+    let n : ℕ = stable_upto acks others g v p in
+    let m : ℕ = stable_upto more others g v p in
+    elim (cases_lt m n) [
+      | inl less ↦
+          let (site, at, lacks) = after.next in
+          let was : has_acked acks (named g v (p, m + 1)) site ≡ true = before.all site (m + 1) at (omega arith) (omega (arith, less)) in
+          absurd (false≢true (sym lacks ∙ list_any-append (λ a. site_eq a.0 site && uid_eq a.1 (named g v (p, m + 1))) acks (x ∷ []) ∙ or_left (has_acked acks (named g v (p, m + 1)) site) (has_acked (x ∷ []) (named g v (p, m + 1)) site) was))
+      | inr least ↦ omega (arith, least)
+    ]
+
+pub logs_ack : (s : State) (from : SiteNo) (u : Uid) (h : GroupNo) (l : Log) → LogFits s h l → LogFits (with_ack s from u) h l
+logs_ack s from u h l f = log_alike s (with_ack s from u) h l refl refl refl refl (λ k. refl) (grows (holder_at s.here (s.group h))) (λ p v is. is) f
+  where
+    grown : (others : List SiteNo) (p : Proc) → (if is_empty others then MAX_NUMBER else stable_upto s.acks others h (s.group h).number p) ≤ (if is_empty others then MAX_NUMBER else stable_upto (s.acks ++ (from, u) ∷ []) others h (s.group h).number p)
+    grown [] p = omega arith
+    grown (x ∷ others) p = upto_grows s.acks (from, u) (x ∷ others) h (s.group h).number p (λ none. cc)
+
+    grows : (o : Option Proc) → option_map_or (settled_of s h) o 0 ≤ option_map_or (settled_of (with_ack s from u) h) o 0
+    grows None = omega arith
+    grows (Some p) = grown (others_of s h) p

@@ -1,0 +1,184 @@
+-- What the records say of the order of a view is so of the history that they stand for: the turns of processes, and what
+-- the holder has still to list.
+use Rattle.std.proofs.Common.{◌≡◌, ℕ, ◌+◌, ◌≤◌, Bool, true, false, cond, not, List, [], ◌∷◌, ◌++◌, length, map, Contains, Option, Some, None, refl, sym, ap, ◌∙◌, inl, inr, arith}
+use Rattle.std.specs.Prelude.{◌*◌, ◌&&◌, ◌⊎◌, nat_lt, nat_le, if◌then◌else◌, filter, slice_get}
+use Rattle.std.specs.List.{find}
+use Rattle.std.specs.Option.{option_map_or}
+use Rattle.std.proofs.lemmas.Bool.{cases_Bool, false≢true, or_cases, le-leb, lt-ltb}
+use Rattle.std.proofs.lemmas.List.{length-append, length-map}
+use Rattle.cast_types.specs.declared.names.SiteNo.{SiteNo}
+use Rattle.cast_types.specs.declared.names.GroupNo.{GroupNo}
+use Rattle.cast_types.specs.declared.names.Proc.{Proc}
+use Rattle.cast_types.specs.declared.limits.TheConstants.{MAX_NUMBER, MAX_UNSETTLED, MAX_POSITION}
+use Rattle.cast_types.specs.Names.{Entry, group_eq, named}
+use Rattle.cast_types.specs.Sets.{is_among}
+use Rattle.cast_types.proofs.Orders.{same_group, group_itself, site_itself}
+use Rattle.cast_frame.specs.declared.message.Received.{Received}
+use Rattle.cast_stable.specs.Stable.{stable_upto, was_told, is_known_stable}
+use Rattle.cast_stable.specs.Ledger.{upto_in}
+use Rattle.cast_stable.proofs.Meanings.{upto_meant}
+use Rattle.cast_delay.specs.declared.turn.Turn.{Turn}
+use Rattle.cast_delay.specs.declared.turn.Turn.TheVariants.{Holding, Following}
+use Rattle.cast_delay.specs.Ready.{has_delivered, turn_in}
+use Rattle.cast_delay.specs.Queue.{passed_in}
+use Rattle.cast_delay.proofs.Finds.{contains_here, contains_later}
+use Rattle.cast_delay.proofs.Queues.{passed_next}
+use Rattle.cast_order.specs.Order.{listed_ids, still_to_list, ids_to_list, place_after}
+use Rattle.cast_order.specs.Log.{Log, log_of, next_in, next_places, unsettled_in, has_room_in}
+use Rattle.cast_order.proofs.Meanings.{next_rules as order_next_rules, unsettled_rules, assign_rules}
+use Rattle.cast_domain.specs.declared.record.GroupRecord.{GroupRecord}
+use Rattle.cast_domain.specs.Group.{holder_of, is_process}
+use Rattle.cast_domain.specs.Home.{is_empty}
+use Rattle.cast_domain.specs.State.{State, local, is_group, others_of, may_order}
+use Rattle.cast_domain.specs.Order.{facts_in, order_of, holds, lists_of, abcasts_delivered, unlisted, unsettled, has_place, has_room_for_order, turn_of}
+use Rattle.cast_domain.specs.Records.{Records}
+use Rattle.cast_domain.specs.Calls.{place_in, record_at, has_order_room_in, holds_in, settled_in, turn_at, turns_in}
+use Rattle.cast_domain.specs.Fits.{record_for, told_here, lists_here, settled_of, settled_here, process_named, Fits, LogFits}
+use Rattle.cast_domain.proofs.Logs.{has_passed}
+use Rattle.cast_domain.proofs.LogSteps.{holder_is}
+use Rattle.cast_domain.proofs.Standing.{record_there, place_some, place_none, process_here}
+
+-- room for set-order messages
+pub order_room_there : (r : Records) (s : State) → Fits r s → has_order_room_in r ≡ may_order s
+order_room_there r s f = (λ j. nat_lt ((sym (length-map r.part.kept (λ (x : Received). x.message)) ∙ ap length f.kept) j) (2 * (f.config j).quotas.held))
+
+-- who holds the order of a configured group
+pub holds_there : (r : Records) (s : State) → Fits r s → (g : GroupNo) → is_group s g ≡ true → (k : ℕ) → holds_in r g (local s k) ≡ holds s g k
+holds_there r s f g listed k = at (place_in r g) refl
+  where
+    at : (o : Option ℕ) → place_in r g ≡ o → option_map_or (λ i. is_process (local s k) (holder_of (record_at r.groups i).here)) o false ≡ holds s g k
+    at None is = absurd (false≢true (sym (place_none r s f g is) ∙ listed))
+    at (Some i) is = ap (λ (x : GroupRecord). is_process (local s k) (holder_of x.here)) (record_there r s f i g (place_some r s f g i is).0)
+
+-- how many messages of a process are settled
+pub settled_there : (r : Records) (s : State) → Fits r s → (g : GroupNo) (p : Proc) → settled_in r g (s.group g).number p ≡ settled_of s g p
+settled_there r s f g p = at (others_of s g) refl
+  where
+    n : ℕ
+    n = (s.group g).number
+
+    at : (others : List SiteNo) → others_of s g ≡ others → settled_in r g n p ≡ (if is_empty others then MAX_NUMBER else stable_upto s.acks others g n p)
+    at [] is = ap (λ (xs : List SiteNo). if is_empty xs then MAX_NUMBER else upto_in r.acks (named g n (p, 0))) (f.acks.views g ∙ is)
+    at (x ∷ others) is =
+        ap (λ (xs : List SiteNo). if is_empty xs then MAX_NUMBER else upto_in r.acks (named g n (p, 0))) (f.acks.views g ∙ is)
+        ∙ upto_meant s.here (others_of s) (map (λ m. m.id) s.got) s.acks s.told r.acks f.acks (named g n (p, 0)) (λ none. some (sym is ∙ none))
+        ∙ ap (λ xs. stable_upto s.acks xs g n p) is
+      where
+        some : x ∷ others ≡ [] → ⊥
+        some none = cc
+
+-- what the holder here did is what the holder did
+told_of_holder : (s : State) (g : GroupNo) (k : ℕ) → holds s g k ≡ true → told_here s g ≡ abcasts_delivered s g k
+told_of_holder s g k here = ap (λ o. option_map_or (λ p. abcasts_delivered s g p.serial) o []) (holder_is s g k here)
+
+lists_of_holder : (s : State) (g : GroupNo) (k : ℕ) → holds s g k ≡ true → lists_here s g ≡ lists_of s g k
+lists_of_holder s g k here = ap (λ o. option_map_or (λ p. lists_of s g p.serial) o []) (holder_is s g k here)
+
+pub settled_of_holder : (s : State) (g : GroupNo) (k : ℕ) → holds s g k ≡ true → settled_here s g ≡ settled_of s g (local s k)
+settled_of_holder s g k here = ap (λ o. option_map_or (settled_of s g) o 0) (holder_is s g k here)
+
+filter_agree : {A : Type 0} (t u : A → Bool) (xs : List A) → ((x : A) → Contains xs x → t x ≡ u x) → filter t xs ≡ filter u xs
+filter_agree t u [] same = refl
+filter_agree t u (x ∷ xs) same =
+    (λ i. cond (same x (contains_here x xs) i) (x ∷ filter t xs) (filter t xs))
+    ∙ ap (λ ys. cond (u x) (x ∷ ys) ys) (filter_agree t u xs (λ y in_it. same y (contains_later y x xs in_it)))
+
+-- a holder's message is stable if it is among the settled ones
+stable_settled : (s : State) (g : GroupNo) (k : ℕ) (count : ℕ) → count ≤ MAX_NUMBER → nat_le count (settled_of s g (local s k)) ≡ is_known_stable s.here (others_of s g) s.acks s.told (named g (s.group g).number (local s k, count))
+stable_settled s g k count most = at (others_of s g)
+  where
+    at : (others : List SiteNo) → nat_le count (if is_empty others then MAX_NUMBER else stable_upto s.acks others g (s.group g).number (local s k)) ≡ is_known_stable s.here others s.acks s.told (named g (s.group g).number (local s k, count))
+    at [] = le-leb count MAX_NUMBER most
+    at (x ∷ others) = sym (ap (λ b. if b then nat_le count (stable_upto s.acks (x ∷ others) g (s.group g).number (local s k)) else was_told s.told (named g (s.group g).number (local s k, count))) (site_itself s.here))
+
+-- what is unsettled
+unsettled_there : (s : State) (g : GroupNo) (k : ℕ) (l : Log) → LogFits s g l → holds s g k ≡ true → unsettled_in (settled_of s g (local s k)) l ≡ length (unsettled s g k)
+unsettled_there s g k l f here =
+    let n : ℕ = settled_of s g (local s k) in
+    let reached = f.reached in
+    let settled = settled_of_holder s g k here in
+    unsettled_rules (facts_in s g) (told_here s g) (lists_here s g) (has_passed s g) f.stable l f.fits n (omega (arith, reached, settled))
+    ∙ ap (λ ls. length (still_to_list (told_here s g) (listed_ids ls))) (filter_agree (λ x. nat_le x.0 n) (λ x. is_known_stable s.here (others_of s g) s.acks s.told (named g (s.group g).number (local s k, x.0))) (lists_here s g) (λ x in_it. stable_settled s g k x.0 (f.counted x in_it)))
+    ∙ (λ i. length (still_to_list (told_of_holder s g k here i) (listed_ids (filter (λ x. is_known_stable s.here (others_of s g) s.acks s.told (named g (s.group g).number (local s k, x.0))) (lists_of_holder s g k here i)))))
+
+-- what is still to list
+pub waiting_there : (s : State) (g : GroupNo) (k : ℕ) (l : Log) → LogFits s g l → holds s g k ≡ true → l.waiting ≡ unlisted s g k
+waiting_there s g k l f here = f.fits.waiting ∙ (λ i. still_to_list (told_of_holder s g k here i) (listed_ids (lists_of_holder s g k here i)))
+
+-- room for one more ABCAST at the holder
+room_there : (r : Records) (s : State) → Fits r s → (g : GroupNo) (k : ℕ) → holds s g k ≡ true → (has_order_room_in r && has_room_in (settled_in r g (s.group g).number (local s k)) (log_of r.orders g)) ≡ has_room_for_order s g k
+room_there r s f g k here =
+    let l : Log = log_of r.orders g in
+    let fits = f.orders g in
+    let total : length l.known + length l.waiting ≡ length (order_of s g ++ unlisted s g k) = (λ i. length (fits.fits.known i) + length (waiting_there s g k l fits here i)) ∙ sym (length-append (order_of s g) (unlisted s g k)) in
+    ap (λ n. has_order_room_in r && has_room_in n l) (settled_there r s f g (local s k))
+    ∙ (λ i. order_room_there r s f i && (nat_lt (unsettled_there s g k l fits here i) MAX_UNSETTLED && nat_lt (total i) MAX_POSITION))
+
+-- the next id that a process has not delivered
+next_there : (r : Records) (s : State) → Fits r s → (g : GroupNo) (k : ℕ) → slice_get (next_in (log_of r.orders g) (local s k)) (passed_in r.delay (local s k) g (s.group g).number (next_in (log_of r.orders g) (local s k))) ≡ find (λ e. not (has_delivered (s.process k) (named g (s.group g).number e))) (order_of s g)
+next_there r s f g k =
+    let l : Log = log_of r.orders g in
+    let p : Proc = local s k in
+    let fits = f.orders g in
+    sym (passed_next s.config.groups _ (process_named s) r.part.kept r.delay f.delay p g (s.group g).number (next_in l p))
+    ∙ sym (order_next_rules (facts_in s g) (told_here s g) (lists_here s g) (has_passed s g) fits.stable l fits.fits p)
+    ∙ ap (λ x. find (λ e. not (has_delivered x (named g (s.group g).number e))) (order_of s g)) (process_here s k)
+
+-- the turn of a process in a group
+pub turn_there : (r : Records) (s : State) → Fits r s → (g : GroupNo) (k : ℕ) → turn_at r (local s k) (record_for s g) ≡ turn_of s k g
+turn_there r s f g k =
+    elim (cases_Bool (holds s g k)) [
+      | inl here ↦
+          ap (λ b. if b then Holding (has_order_room_in r && has_room_in (settled_in r g (s.group g).number (local s k)) (log_of r.orders g)) else following) here
+          ∙ ap Holding (room_there r s f g k here)
+          ∙ sym (ap (λ b. if b then Holding (has_room_for_order s g k) else Following (find (λ e. not (has_delivered (s.process k) (named g (s.group g).number e))) (order_of s g))) here)
+      | inr away ↦
+          ap (λ b. if b then Holding (has_order_room_in r && has_room_in (settled_in r g (s.group g).number (local s k)) (log_of r.orders g)) else following) away
+          ∙ ap Following (next_there r s f g k)
+          ∙ sym (ap (λ b. if b then Holding (has_room_for_order s g k) else Following (find (λ e. not (has_delivered (s.process k) (named g (s.group g).number e))) (order_of s g))) away)
+    ]
+  where
+    following : Turn
+    following = Following (slice_get (next_in (log_of r.orders g) (local s k)) (passed_in r.delay (local s k) g (s.group g).number (next_in (log_of r.orders g) (local s k))))
+
+-- among the turns of all groups stands that of each
+find_turn : (f : GroupNo → Turn) (g : GroupNo) (gs : List GroupNo) → is_among group_eq g gs ≡ true → option_map_or (λ (t : GroupNo × Turn). t.1) (find (λ t. group_eq t.0 g) (map (λ h. (h, f h)) gs)) (Following None) ≡ f g
+find_turn f g [] none = absurd (false≢true none)
+find_turn f g (h ∷ gs) is = elim (cases_Bool (group_eq h g)) [
+  | inl same ↦
+      ap (λ b. option_map_or (λ (t : GroupNo × Turn). t.1) (cond b (Some (h, f h)) (find (λ t. group_eq t.0 g) (map (λ x. (x, f x)) gs))) (Following None)) same
+      ∙ ap f (same_group h g same)
+  | inr apart ↦
+      ap (λ b. option_map_or (λ (t : GroupNo × Turn). t.1) (cond b (Some (h, f h)) (find (λ t. group_eq t.0 g) (map (λ x. (x, f x)) gs))) (Following None)) apart
+      ∙ find_turn f g gs (later apart (or_cases (group_eq g h) (is_among group_eq g gs) is))
+]
+  where
+    later : group_eq h g ≡ false → (group_eq g h ≡ true) ⊎ (is_among group_eq g gs ≡ true) → is_among group_eq g gs ≡ true
+    later apart (inl here) = absurd (false≢true (sym apart ∙ ap (group_eq h) (same_group g h here) ∙ group_itself h))
+    later apart (inr rest) = rest
+
+map_map : {A B C : Type 0} (f : A → B) (h : B → C) (xs : List A) → map h (map f xs) ≡ map (λ x. h (f x)) xs
+map_map f h [] = refl
+map_map f h (x ∷ xs) = ap (λ ys. h (f x) ∷ ys) (map_map f h xs)
+
+pub turns_there : (r : Records) (s : State) → Fits r s → (k : ℕ) (g : GroupNo) → is_group s g ≡ true → turn_in (turns_in r (local s k)) g ≡ turn_of s k g
+turns_there r s f k g listed =
+    let at : List GroupRecord → Turn = λ xs. option_map_or (λ (t : GroupNo × Turn). t.1) (find (λ t. group_eq t.0 g) (map (λ (x : GroupRecord). (x.name, turn_at r (local s k) x)) xs)) (Following None) in
+    ap at f.groups
+    ∙ ap (λ ts. option_map_or (λ (t : GroupNo × Turn). t.1) (find (λ t. group_eq t.0 g) ts) (Following None)) (map_map (record_for s) (λ x. (x.name, turn_at r (local s k) x)) s.config.groups)
+    ∙ find_turn (λ h. turn_at r (local s k) (record_for s h)) g s.config.groups listed
+    ∙ turn_there r s f g k
+
+-- the places that the holder's next set-order message sets
+pub places_there : (r : Records) (s : State) → Fits r s → (g : GroupNo) (k : ℕ) → holds s g k ≡ true → next_places (log_of r.orders g) ≡ (if not (is_empty (unlisted s g k)) && has_place (order_of s g) then Some (record { first = place_after (order_of s g); ids = ids_to_list (unlisted s g k) }) else None)
+places_there r s f g k here =
+    let l : Log = log_of r.orders g in
+    let fits = f.orders g in
+    let still : still_to_list (told_here s g) (listed_ids (lists_here s g)) ≡ unlisted s g k = (λ i. still_to_list (told_of_holder s g k here i) (listed_ids (lists_of_holder s g k here i))) in
+    assign_rules (facts_in s g) (told_here s g) (lists_here s g) (has_passed s g) fits.stable l fits.fits
+    ∙ ap (λ ids. if nat_lt 0 (length ids) && nat_lt (length (order_of s g)) MAX_POSITION then Some (record { first = place_after (order_of s g); ids = ids_to_list ids }) else None) still
+    ∙ ap (λ b. if b && has_place (order_of s g) then Some (record { first = place_after (order_of s g); ids = ids_to_list (unlisted s g k) }) else None) (some (unlisted s g k))
+  where
+    some : (xs : List Entry) → nat_lt 0 (length xs) ≡ not (is_empty xs)
+    some [] = refl
+    some (x ∷ xs) = lt-ltb 0 (length (x ∷ xs)) (omega arith)

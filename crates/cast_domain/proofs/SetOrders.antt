@@ -1,0 +1,246 @@
+-- Set-order messages of the records are those of the history that they stand for.
+use Rattle.std.proofs.Common.{◌≡◌, ℕ, zero, suc, ◌+◌, ◌<◌, ◌≤◌, Bool, true, false, cond, not, List, [], ◌∷◌, length, map, Option, Some, None, unwrap_or, refl, sym, ap, subst, ◌∙◌, inl, inr, arith}
+use Rattle.std.specs.Prelude.{◌&&◌, ◌==◌, nat_lt, nat_le, if◌then◌else◌, slice_get}
+use Rattle.std.specs.List.{fold, range_with_len}
+use Rattle.std.specs.Option.{option_map_or}
+use Rattle.std.proofs.lemmas.Bool.{cases_Bool, cases_lt, false≢true, false_from_ne_true, and_parts, and_from, ltb-true, lt-ltb, le-leb, eqb-true, eq-eqb}
+use Rattle.std.proofs.lemmas.List.{length-map}
+use Rattle.std.proofs.lemmas.Option.{none-some, same_Some}
+use Rattle.cast_types.specs.declared.names.GroupNo.{GroupNo}
+use Rattle.cast_types.specs.declared.names.Proc.{Proc}
+use Rattle.cast_types.specs.declared.limits.TheConstants.{MAX_NUMBER}
+use Rattle.cast_types.specs.Names.{site_eq, group_eq, proc_eq}
+use Rattle.cast_types.specs.Stamps.{ClockList}
+use Rattle.cast_types.proofs.Orders.{same_site, group_itself, proc_itself}
+use Rattle.cast_clock.specs.Times.{count_in, bumped}
+use Rattle.cast_clock.proofs.Raised.{bump_raises}
+use Rattle.cast_frame.specs.declared.message.Body.{Body}
+use Rattle.cast_frame.specs.declared.message.Body.TheVariants as body
+use Rattle.cast_frame.specs.declared.message.Message.{Message}
+use Rattle.cast_frame.specs.Sequence.{Sequence}
+use Rattle.cast_delay.specs.declared.row.Row.{Row}
+use Rattle.cast_delay.specs.declared.row.Fact.TheVariants as fact
+use Rattle.cast_delay.specs.Ready.{is_member}
+use Rattle.cast_delay.specs.Rows.{standing_in}
+use Rattle.cast_delay.specs.Queue.{new_row, row_of}
+use Rattle.cast_order.specs.Order.{ids_to_list, place_after}
+use Rattle.cast_order.specs.Log.{Log, log_of, change_log, assigned, next_places}
+use Rattle.cast_domain.specs.declared.record.GroupRecord.{GroupRecord}
+use Rattle.cast_domain.specs.Group.{holder_of, is_process, holder_at}
+use Rattle.cast_domain.specs.Home.{is_empty}
+use Rattle.cast_domain.specs.State.{State, local, set_process, may_order, let_go}
+use Rattle.cast_domain.specs.Order.{order_of, holds, unlisted, has_place, is_of_view}
+use Rattle.cast_domain.specs.Effects.{may_raise, next_message, sending}
+use Rattle.cast_domain.specs.Rest.{may_set_order, set_order_by, set_order, set_orders}
+use Rattle.cast_domain.specs.Records.{Records, was_given}
+use Rattle.cast_domain.specs.Calls.{standing_of, time_of, has_order_room_in, log_in, learn_in, settled_in, tell_in, send_message_in, let_go_in, set_order_by_in, set_order_in, set_orders_in}
+use Rattle.cast_domain.specs.Fits.{record_for, Fits, IsLawful}
+use Rattle.cast_domain.proofs.Alikes.{alike_sending}
+use Rattle.cast_domain.proofs.LawfulSteps.{lawful_order_sent, lawful_set_order}
+use Rattle.cast_domain.proofs.LogSteps.{logs_place}
+use Rattle.cast_domain.proofs.Ordering.{order_room_there, settled_there, settled_of_holder, places_there}
+use Rattle.cast_domain.proofs.Standing.{record_there, process_here, standing_there, time_there, fits_time}
+use Rattle.cast_domain.proofs.Releases.{row_none, fits_let_go}
+use Rattle.cast_domain.proofs.Commands.{next_sound, fits_send_message_with}
+use Rattle.cast_domain.proofs.Turns.{Kept, kept_self, kept_if}
+
+-- Members
+
+-- no row is that of a serial that came before
+row_early : (s : State) (rows : List Row) (a n k : ℕ) → map (λ (row : Row). row.process) rows ≡ map (local s) (range_with_len a n) → k < a → row_of rows (local s k) ≡ None
+row_early s [] a n k names early = refl
+row_early s (x ∷ rows) a zero k names early = absurd (no_names names)
+  where
+    no_names : x.process ∷ map (λ (row : Row). row.process) rows ≡ [] → ⊥
+    no_names e = cc
+row_early s (x ∷ rows) a (suc n) k names early =
+    let first : x.process ≡ local s a = cc in
+    let rest : map (λ (row : Row). row.process) rows ≡ map (local s) (range_with_len (a + 1) n) = cc in
+    let apart : proc_eq x.process (local s k) ≡ false =
+    ap (λ p. proc_eq p (local s k)) first
+    ∙ false_from_ne_true (proc_eq (local s a) (local s k)) (λ same. let serials = eqb-true a k (and_parts (site_eq s.here s.here) (a == k) same).1 in absurd (omega (arith, serials, early))) in
+    ap (λ b. cond b (Some x) (row_of rows (local s k))) apart ∙ row_early s rows (a + 1) n k rest (omega (arith, early))
+
+-- who has no row is no member
+no_member : (r : Records) (s : State) → Fits r s → (k : ℕ) (g : GroupNo) → row_of r.delay.rows (local s k) ≡ None → is_member ((s.process k).standing g) ≡ false
+no_member r s f k g none =
+    ap (λ q. is_member (q.standing g)) (sym (process_here s k))
+    ∙ ap is_member (sym ((f.delay.rows (local s k)).standing g))
+    ∙ ap (λ (o : Option Row). is_member (standing_in (unwrap_or o (new_row (local s k))) g)) none
+
+-- a member's serial was given
+pub member_given : (r : Records) (s : State) → Fits r s → (k : ℕ) (g : GroupNo) → is_member ((s.process k).standing g) ≡ true → was_given s.used k ≡ true
+member_given r s f k g member = elim (cases_lt s.used k) [
+  | inl later ↦ absurd (false≢true (sym (no_member r s f k g (row_none s r.delay.rows 1 s.used k f.rows (omega (arith, later)))) ∙ member))
+  | inr within ↦ elim (cases_lt 0 k) [
+    | inl from_one ↦ and_from (nat_lt 0 k) (nat_le k s.used) (lt-ltb 0 k from_one) (le-leb k s.used (omega (arith, within)))
+    | inr none ↦ absurd (false≢true (sym (no_member r s f k g (row_early s r.delay.rows 1 s.used k f.rows (omega (arith, none)))) ∙ member))
+  ]
+]
+
+-- The message
+
+-- the holder lists these ids, over a record of the group that is at hand
+abbrev sent_at : Records → Proc → GroupRecord → Sequence → Records
+sent_at r p x places =
+    let time : ClockList = bumped (time_of r.delay p) x.name p in
+    send_message_in
+    (tell_in
+    (record r { orders = change_log x.name (assigned (count_in time x.name p) (settled_in r x.name x.here.number p)) r.orders })
+    p (fact.Time time))
+    (record {
+      id = record { group = x.name; view = x.here.number; proc = p; count = count_in time x.name p };
+      times = time;
+      body = body.Order places;
+    })
+
+fits_places : (r : Records) (s : State) → Fits r s → IsLawful s → (k : ℕ) (g : GroupNo) → holds s g k ≡ true → is_member ((s.process k).standing g) ≡ true → may_raise (s.process k).time g (local s k) ≡ true → (q : Sequence) → Some q ≡ next_places (log_of r.orders g) → Fits (sent_at r (local s k) (record_for s g) q) (sending s g k (body.Order q))
+fits_places r s f l k g here member raised q next =
+    subst (λ x. Fits x (sending s g k (body.Order q))) (sym same)
+    (fits_send_message_with (tell_in r p (fact.Time m.times)) s1 (fits_time r s f k (member_given r s f k g member) m.times) m (next_sound s g k (body.Order q) l member) (learn_in noted g (body.Order q))
+    (logs_place s1 k m q settled r.orders (fits_time r s f k (member_given r s f k g member) m.times).orders here current refl refl next (settled_there r s f g p ∙ sym (settled_of_holder s g k here)) most))
+  where
+    p : Proc
+    p = local s k
+
+    m : Message
+    m = next_message s g k (body.Order q)
+
+    s1 : State
+    s1 = set_process s k (record (s.process k) { time = m.times })
+
+    settled : ℕ
+    settled = settled_in r g (s.group g).number p
+
+    noted : List Log
+    noted = change_log g (assigned m.id.count settled) r.orders
+
+    current : is_of_view s g m.id ≡ true
+    current = and_from (group_eq g g) ((s.group g).number == (s.group g).number) (group_itself g) (eq-eqb (s.group g).number (s.group g).number refl)
+
+    most : m.id.count ≤ MAX_NUMBER
+    most =
+        let below = ltb-true (count_in (s.process k).time g p) MAX_NUMBER (and_parts (nat_lt (count_in (s.process k).time g p) MAX_NUMBER) _ raised).0 in
+        subst (λ n. n ≤ MAX_NUMBER) (sym (bump_raises (s.process k).time g p)) (omega (arith, below))
+
+    same : sent_at r p (record_for s g) q ≡ send_message_in (tell_in (record r { orders = noted }) p (fact.Time m.times)) m
+    same = λ j.
+        send_message_in
+        (tell_in (record r { orders = change_log g (assigned (count_in (bumped (time_there r s f k j) g p) g p) settled) r.orders }) p (fact.Time (bumped (time_there r s f k j) g p)))
+        (record {
+          id = record { group = g; view = (s.group g).number; proc = p; count = count_in (bumped (time_there r s f k j) g p) g p };
+          times = bumped (time_there r s f k j) g p;
+          body = body.Order q;
+        })
+
+-- five tests, one after another
+choose : (m o e h y : Bool) (x : Sequence → Records) (q : Sequence) (r : Records) (s t : State) → Fits r s → (m ≡ true → o ≡ true → e ≡ true → h ≡ true → y ≡ true → Fits (x q) t) → Fits (if m && o then option_map_or (λ p. if y then x p else r) (if e && h then Some q else None) r else r) (if m && (o && (e && (h && y))) then t else s)
+choose false o e h y x q r s t f go = f
+choose true false e h y x q r s t f go = f
+choose true true false h y x q r s t f go = f
+choose true true true false y x q r s t f go = f
+choose true true true true false x q r s t f go = f
+choose true true true true true x q r s t f go = go refl refl refl refl refl
+
+-- over a record of the group that is at hand
+abbrev set_at_hand : Records → Proc → GroupRecord → Records
+set_at_hand r p x =
+    if is_member (standing_of r.delay p x.name) && has_order_room_in r
+    then option_map_or (λ places. if may_raise (time_of r.delay p) x.name p then let_go_in (sent_at r p x places) else r) (next_places (log_in r x.name)) r
+    else r
+
+fits_set_order_by : (r : Records) (s : State) → Fits r s → IsLawful s → (i : ℕ) (g : GroupNo) → slice_get s.config.groups i ≡ Some g → (k : ℕ) → holds s g k ≡ true → Fits (set_order_by_in r i (local s k)) (set_order_by s g k)
+fits_set_order_by r s f l i g at k here =
+    subst (λ x. Fits (set_at_hand r p x) (set_order_by s g k)) (sym (record_there r s f i g at))
+    (subst (λ x. Fits x (set_order_by s g k)) (sym tested)
+    (choose member room some place raised (λ q. let_go_in (sent_at r p (record_for s g) q)) places r s (let_go (sending s g k (body.Order places))) f sets))
+  where
+    p : Proc
+    p = local s k
+
+    member : Bool
+    member = is_member ((s.process k).standing g)
+
+    room : Bool
+    room = may_order s
+
+    some : Bool
+    some = not (is_empty (unlisted s g k))
+
+    place : Bool
+    place = has_place (order_of s g)
+
+    raised : Bool
+    raised = may_raise (s.process k).time g p
+
+    places : Sequence
+    places = record { first = place_after (order_of s g); ids = ids_to_list (unlisted s g k) }
+
+    tested : set_at_hand r p (record_for s g) ≡ (if member && room then option_map_or (λ q. if raised then let_go_in (sent_at r p (record_for s g) q) else r) (if some && place then Some places else None) r else r)
+    tested = λ j.
+        if is_member (standing_there r s f k g j) && order_room_there r s f j
+        then option_map_or (λ q. if may_raise (time_there r s f k j) g p then let_go_in (sent_at r p (record_for s g) q) else r) (places_there r s f g k here j) r
+        else r
+
+    sets : member ≡ true → room ≡ true → some ≡ true → place ≡ true → raised ≡ true → Fits (let_go_in (sent_at r p (record_for s g) places)) (let_go (sending s g k (body.Order places)))
+    sets a b c d e =
+        let may : may_set_order s g k ≡ true = and_from member _ a (and_from room _ b (and_from some _ c (and_from place raised d e))) in
+        fits_let_go (sent_at r p (record_for s g) places) (sending s g k (body.Order places))
+        (fits_places r s f l k g here a e places (sym (places_there r s f g k here ∙ ap (λ x. if x then Some places else None) (and_from some place c d))))
+        (lawful_order_sent s g k (body.Order places) l may)
+
+-- the holder here is a process of this site
+pub holder_local : (s : State) (g : GroupNo) (p : Proc) → holder_at s.here (s.group g) ≡ Some p → (local s p.serial ≡ p) × (holds s g p.serial ≡ true)
+holder_local s g p = at (holder_of (s.group g))
+  where
+    at : (o : Option Proc) → elim o [ Some q ↦ if site_eq q.site s.here then Some q else None | None ↦ None ] ≡ Some p → (local s p.serial ≡ p) × (is_process (local s p.serial) o ≡ true)
+    at None is = absurd (none-some p is)
+    at (Some q) is = elim (cases_Bool (site_eq q.site s.here)) [
+      | inl here ↦
+          let same : q ≡ p = same_Some q p (sym (ap (λ b. if b then Some q else None) here) ∙ is) in
+          let site : p.site ≡ s.here = ap (λ (x : Proc). x.site) (sym same) ∙ same_site q.site s.here here in
+          let own : local s p.serial ≡ p = λ j. record { site = sym site j; serial = p.serial } in (
+            own,
+            ap (λ x. proc_eq x (local s p.serial)) same ∙ ap (λ x. proc_eq p x) own ∙ proc_itself p,
+          )
+      | inr away ↦ absurd (none-some p (sym (ap (λ b. if b then Some q else None) away) ∙ is))
+    ]
+
+pub fits_set_order : (r : Records) (s : State) → Fits r s → IsLawful s → (i : ℕ) (g : GroupNo) → slice_get s.config.groups i ≡ Some g → Fits (set_order_in r i) (set_order s g)
+fits_set_order r s f l i g at =
+    subst (λ o. Fits (option_map_or (set_order_by_in r i) o r) (set_order s g)) (sym (λ j. holder_at (f.site j) (record_there r s f i g at j).here))
+    (held (holder_at s.here (s.group g)) refl)
+  where
+    held : (o : Option Proc) → holder_at s.here (s.group g) ≡ o → Fits (option_map_or (set_order_by_in r i) o r) (elim o [ Some p ↦ set_order_by s g p.serial | None ↦ s ])
+    held None is = f
+    held (Some p) is =
+        let own = holder_local s g p is in
+        subst (λ x. Fits (set_order_by_in r i x) (set_order_by s g p.serial)) own.0 (fits_set_order_by r s f l i g at p.serial own.1)
+
+pub kept_set_order : (s : State) (g : GroupNo) → Kept s (set_order s g)
+kept_set_order s g = held (holder_at s.here (s.group g))
+  where
+    sent : (k : ℕ) (content : Body) → Kept s (let_go (sending s g k content))
+    sent k content = let a = alike_sending s g k content in record { here = a.here; config = a.config; used = a.used }
+
+    held : (o : Option Proc) → Kept s (elim o [ Some p ↦ set_order_by s g p.serial | None ↦ s ])
+    held None = kept_self s
+    held (Some p) =
+        let places : Sequence = record { first = place_after (order_of s g); ids = ids_to_list (unlisted s g p.serial) } in
+        kept_if s (let_go (sending s g p.serial (body.Order places))) s (may_set_order s g p.serial) (sent p.serial (body.Order places)) (kept_self s)
+
+-- the orders of groups from a place on, each of the one that stands there
+fits_orders : (gs : List GroupNo) (a : ℕ) (r : Records) (s : State) → Fits r s → IsLawful s → ((i : ℕ) (g : GroupNo) → slice_get gs i ≡ Some g → slice_get s.config.groups (a + i) ≡ Some g) → Fits (fold set_order_in r (range_with_len a (length gs))) (fold set_order s gs)
+fits_orders [] a r s fits lawful there = fits
+fits_orders (g ∷ gs) a r s fits lawful there =
+    let kept : Kept s (set_order s g) = kept_set_order s g in
+    let here : slice_get s.config.groups a ≡ Some g = subst (λ j. slice_get s.config.groups j ≡ Some g) (omega arith) (there zero g refl) in
+    fits_orders gs (a + 1) (set_order_in r a) (set_order s g) (fits_set_order r s fits lawful a g here) (lawful_set_order s g lawful)
+    (λ i h at. ap (λ c. slice_get c.groups (a + 1 + i)) kept.config ∙ subst (λ j. slice_get s.config.groups j ≡ Some h) (omega arith) (there (suc i) h at))
+
+-- the holders here set orders
+pub fits_set_orders : (r : Records) (s : State) → Fits r s → IsLawful s → Fits (set_orders_in r) (set_orders s)
+fits_set_orders r s fits lawful =
+    subst (λ n. Fits (fold set_order_in r (range_with_len 0 n)) (set_orders s))
+    (sym (ap length fits.groups ∙ length-map s.config.groups (record_for s)))
+    (fits_orders s.config.groups 0 r s fits lawful (λ i g at. subst (λ j. slice_get s.config.groups j ≡ Some g) (omega arith) at))

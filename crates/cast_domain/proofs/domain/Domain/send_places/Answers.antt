@@ -1,0 +1,37 @@
+use Rattle.std.proofs.Common.{◌≡◌, ◌∙◌, ap}
+use Rattle.cast_clock.specs.Times.{bumped, count_in}
+use Rattle.cast_frame.specs.declared.message.Body.TheVariants as body
+use Rattle.cast_delay.specs.declared.row.Fact.TheVariants as fact
+use Rattle.cast_order.specs.Log.{assigned, change_log}
+use Rattle.cast_domain.specs.Records.{records_in}
+use Rattle.cast_domain.specs.Calls.{record_at, send_message_in, settled_in, tell_in, time_of}
+use Rattle.cast_domain.proofs.Loops.{seen_as}
+use Rattle.cast_domain.proofs.domain.Domain.send_places.Goals as goal
+
+pub returns-clause-made : goal.returns-clause-made
+returns-clause-made c =
+    let d = c.args.self.now in
+    let o = c.args.outs.now in
+    let r = records_in d c.args.shared.now o in
+    let p = c.args.holder in
+    let i = c.args.place in
+    let name : c.record.result.now.name ≡ (record_at r.groups i).name = ap (λ x. x.name) c.record.ensures in
+    let view : c.record-2.result.now.here.number ≡ (record_at r.groups i).here.number = ap (λ x. x.here.number) c.record-2.ensures in
+    let time : c.args.time ≡ bumped (time_of r.delay p) (record_at r.groups i).name p = c.requires.raised in
+    let count : c.count-count.result ≡ count_in (bumped (time_of r.delay p) (record_at r.groups i).name p) (record_at r.groups i).name p = c.count-count.ensures ∙ λ j. count_in (time j) (name j) p in
+    let settled : c.settled-settled.result ≡ settled_in r (record_at r.groups i).name (record_at r.groups i).here.number p = c.settled-settled.ensures o r.part ∙ λ j. settled_in r (name j) (view j) p in
+    let noted : c.note.new.self ≡ change_log (record_at r.groups i).name (assigned (count_in (bumped (time_of r.delay p) (record_at r.groups i).name p) (record_at r.groups i).name p) (settled_in r (record_at r.groups i).name (record_at r.groups i).here.number p)) r.orders =
+    c.in_ok-note.ensures ∙ λ j. change_log (name j) (assigned (count j) (settled j)) r.orders in
+    let told : records_in c.tell.new.self c.args.shared.now o ≡ tell_in (record r { orders = c.note.new.self }) p (fact.Time c.args.time) =
+    seen_as (record d { orders = c.note.new.self }) c.tell.new.self c.in_ok-tell.ensures.kept c.args.shared.now o ∙ c.in_ok-tell.ensures.made o r.part in
+    c.in_ok-send_message.ensures.made
+    ∙ (λ j. send_message_in (told j) (record {
+      id = record { group = c.record.result.now.name; view = c.record-2.result.now.here.number; proc = p; count = c.count-count.result };
+      times = c.args.stamp;
+      body = body.Order c.args.places;
+    }))
+    ∙ (λ j. send_message_in (tell_in (record r { orders = noted j }) p (fact.Time (time j))) (record {
+      id = record { group = name j; view = view j; proc = p; count = count j };
+      times = (c.requires.stamped ∙ time) j;
+      body = body.Order c.args.places;
+    }))

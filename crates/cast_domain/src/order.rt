@@ -1,0 +1,286 @@
+ghost use Rattle.std.specs.Prelude.{◌≡◌, ◌<◌, ◌&&◌, false, IfOk, OnOk, vec_len};
+ghost use Rattle.std.specs.List.{list_any};
+ghost use Rattle.cast_types.specs.Names.{is_atomic};
+ghost use Rattle.cast_delay.specs.Queue.{next_key};
+ghost use Rattle.cast_delay.specs.Ready.{is_member};
+ghost use Rattle.cast_domain.specs.Records.{no_outs};
+ghost use Rattle.cast_domain.specs.Calls.{learn_in, record_at};
+
+use crate::domain::Domain;
+use crate::event::Outs;
+use crate::record::GroupRecord;
+use crate::shared::Shared;
+use cast_clock::Times;
+use cast_delay::{Fact, Turn};
+use cast_frame::{Body, Message, Placement, Received};
+use cast_order::Orders;
+use cast_types::limits::MAX_NUMBER;
+use cast_types::{GroupNo, Key, Kind, NoMemory, Proc, Stamp, Standing, Uid};
+
+impl Domain {
+    ghost use Rattle.cast_clock.specs.Times.{bumped};
+    ghost use Rattle.cast_domain.specs.declared.event.Outs.{Outs};
+    ghost use Rattle.cast_domain.specs.Records.{Keeps, records_in, records_of};
+    ghost use Rattle.cast_domain.specs.Shared.{LeavesOthers, Part, no_part};
+    ghost use Rattle.cast_domain.specs.Calls.{awaits_own_in, has_order_room_in, holds_in, is_own_in, log_in, may_take_in, note_delivery_in, send_places_in, set_order_by_in, set_order_in, set_orders_in, settled_in, standing_of, time_of, turn_at, turns_in};
+
+    // Whether a set-order message may be sent or received beside the messages that are kept, and a holder may deliver
+    // an ABCAST.
+    fn has_order_room(&self, shared: &Shared) -> bool
+        ensures { (o : Outs) → result ≡ has_order_room_in (records_in self.now shared.now o) }
+    {
+        (self.held(shared) as u64) < 2 * u64::from(self.config.quotas.held)
+    }
+
+    // Whether a message of this body may be received from another site.
+    pub(crate) fn may_take(&self, body: &Body, shared: &Shared) -> bool
+        ensures { (o : Outs) → result ≡ may_take_in (records_in self.now shared.now o) body.now }
+    {
+        match body.kind() {
+            Kind::Order => self.has_order_room(shared),
+            Kind::Causal | Kind::Atomic => self.has_room(shared),
+        }
+    }
+
+    // Whether a process has not delivered an ABCAST of its own, of the view of a group of which it is a member.
+    pub(crate) fn awaits_own(&self, process: Proc, shared: &Shared) -> bool
+        ensures { (o : Outs) → result ≡ awaits_own_in (records_in self.now shared.now o) process }
+    {
+        self.is_own_among(process, shared.store.kept(self.config.domain))
+    }
+
+    // Whether one of these messages is such an ABCAST.
+    fn is_own_among(&self, process: Proc, kept: &[Received]) -> bool
+        ensures { result ≡ list_any (λ x. is_own_in (records_of self.now no_part no_outs) process x.message) kept.now }
+    {
+        kept.iter().any(|kept| self.is_own(process, &kept.message))
+    }
+
+    // Whether a message is such an ABCAST.
+    fn is_own(&self, process: Proc, message: &Message) -> bool
+        ensures { result ≡ is_own_in (records_of self.now no_part no_outs) process message.now }
+    {
+        is_atomic(message.kind())
+            && message.id.proc == process
+            && self.is_current(message.id)
+            && is_member(self.delay.standing(process, message.id.group))
+            && !self.delay.has_delivered(process, message.id)
+    }
+
+    // The key of the first message that is ready for a process.
+    pub(crate) fn next_ready(&self, process: Proc, shared: &Shared) -> Result<Option<Key>, NoMemory>
+        ensures { IfOk result (λ key. key ≡ next_key (turns_in (records_in self.now shared.now no_outs) process) self.now.delay process) }
+    {
+        let turns = self.turns(process, shared)?;
+        Ok(self.delay.next_ready(process, &turns))
+    }
+
+    // The turns of a process, by group.
+    fn turns(&self, process: Proc, shared: &Shared) -> Result<Vec<(GroupNo, Turn)>, NoMemory>
+        ensures { IfOk result (λ turns. turns.items ≡ turns_in (records_in self.now shared.now no_outs) process) }
+    {
+        let alloc = *self.groups.allocator();
+        let mut turns = Vec::new(alloc);
+        for record in self.groups.as_slice() {
+            turns.push((record.name, self.turn(process, record, shared)))?;
+        }
+        Ok(turns)
+    }
+
+    // The turn of a process in a group.
+    fn turn(&self, process: Proc, kept: &GroupRecord, shared: &Shared) -> Turn
+        ensures { result ≡ turn_at (records_in self.now shared.now no_outs) process kept.now }
+    {
+        if kept.here.is_held_by(process) {
+            let settled = self.settled(kept.name, kept.here.number, process);
+            return Turn::Holding(
+                self.has_order_room(shared) && self.orders.has_room(kept.name, settled),
+            );
+        }
+        let ids = self.orders.next(kept.name, process);
+        let passed = self.delay.passed(process, kept.name, kept.here.number, ids);
+        Turn::Following(ids.get(passed).copied())
+    }
+
+    // How many messages of a process of this site are stable in a view: all in a view of this site alone.
+    fn settled(&self, group: GroupNo, view: u32, process: Proc) -> u32
+        ensures { (o : Outs) (part : Part) → result ≡ settled_in (records_of self.now part o) group view process }
+    {
+        if self.acks.others(group).is_empty() {
+            return MAX_NUMBER;
+        }
+        self.acks.stable_upto(Uid {
+            group,
+            view,
+            proc: process,
+            count: 0,
+        })
+    }
+
+    // Notes that a process delivered an ABCAST: the holder has one more to list, another process may have passed places.
+    pub(crate) fn note_delivery(&mut self, process: Proc, id: Uid) -> Result<(), NoMemory>
+        ensures same { Keeps self.old self.new }
+        ensures made { OnOk result ((o : Outs) (part : Part) → records_of self.new part o ≡ note_delivery_in (records_of self.old part o) process id) }
+    {
+        if self.holds(id.group, process) {
+            return self.orders.tell(id.group, (id.proc, id.count));
+        }
+        let ids = self.orders.next(id.group, process);
+        let passed = self.delay.passed(process, id.group, id.view, ids);
+        self.orders.pass(id.group, process, passed)
+    }
+
+    // Whether a process is the holder of a group's view.
+    fn holds(&self, group: GroupNo, process: Proc) -> bool
+        ensures { (o : Outs) (part : Part) → result ≡ holds_in (records_of self.now part o) group process }
+    {
+        match self.place_of(group) {
+            Some(place) => self.record(place).here.is_held_by(process),
+            None => false,
+        }
+    }
+
+    // The holders at this site set orders, by group. Answers whether anything changed.
+    pub(crate) fn set_orders(
+        &mut self,
+        shared: &mut Shared,
+        outs: &mut Outs,
+    ) -> Result<bool, NoMemory>
+        ensures same { Keeps self.old self.new }
+        ensures others { LeavesOthers self.old.config.domain shared.old shared.new }
+        ensures made { OnOk result (records_in self.new shared.new outs.new ≡ set_orders_in (records_in self.old shared.old outs.old)) }
+        ensures still { IfOk result (λ changed. changed ≡ false → records_in self.new shared.new outs.new ≡ records_in self.old shared.old outs.old) }
+    {
+        let mut changed = false;
+        for place in 0..self.groups.len() {
+            let set = self.set_order(place, shared, outs)?;
+            changed = changed | set;
+        }
+        Ok(changed)
+    }
+
+    // The holder of the group at a place sets its order, where it is a process of this site.
+    fn set_order(
+        &mut self,
+        place: usize,
+        shared: &mut Shared,
+        outs: &mut Outs,
+    ) -> Result<bool, NoMemory>
+        ensures same { Keeps self.old self.new }
+        ensures others { LeavesOthers self.old.config.domain shared.old shared.new }
+        ensures made { OnOk result (records_in self.new shared.new outs.new ≡ set_order_in (records_in self.old shared.old outs.old) place) }
+        ensures still { IfOk result (λ changed. changed ≡ false → records_in self.new shared.new outs.new ≡ records_in self.old shared.old outs.old) }
+    {
+        if place >= self.groups.len() {
+            return Ok(false);
+        }
+        match self.record(place).here.holder_at(self.site) {
+            Some(holder) => self.set_order_by(place, holder, shared, outs),
+            None => Ok(false),
+        }
+    }
+
+    // The holder lists ABCASTs, where it has some to list and there is room.
+    fn set_order_by(
+        &mut self,
+        place: usize,
+        holder: Proc,
+        shared: &mut Shared,
+        outs: &mut Outs,
+    ) -> Result<bool, NoMemory>
+        requires { place < vec_len self.old.groups }
+        ensures same { Keeps self.old self.new }
+        ensures others { LeavesOthers self.old.config.domain shared.old shared.new }
+        ensures made { OnOk result (records_in self.new shared.new outs.new ≡ set_order_by_in (records_in self.old shared.old outs.old) place holder) }
+        ensures still { IfOk result (λ changed. changed ≡ false → records_in self.new shared.new outs.new ≡ records_in self.old shared.old outs.old) }
+    {
+        let group = self.record(place).name;
+        if !self.may_list(holder, group, shared) {
+            return Ok(false);
+        }
+        let Some(places) = self.orders.assign(group)? else {
+            return Ok(false);
+        };
+        let Some((time, stamp)) = self.raised(holder, group)? else {
+            return Ok(false);
+        };
+        self.send_places(place, holder, time, stamp, places, shared, outs)?;
+        self.let_go(shared)?;
+        Ok(true)
+    }
+
+    // Whether the holder is a member, and there is room for one more set-order message.
+    fn may_list(&self, holder: Proc, group: GroupNo, shared: &Shared) -> bool
+        ensures { (o : Outs) → result ≡ (is_member (standing_of self.now.delay holder group) && has_order_room_in (records_in self.now shared.now o)) }
+    {
+        is_member(self.delay.standing(holder, group)) && self.has_order_room(shared)
+    }
+
+    // The holder of the group at a place lists ABCASTs in a set-order message.
+    fn send_places(
+        &mut self,
+        place: usize,
+        holder: Proc,
+        time: Times,
+        stamp: Stamp,
+        places: Placement,
+        shared: &mut Shared,
+        outs: &mut Outs,
+    ) -> Result<(), NoMemory>
+        requires placed { place < vec_len self.old.groups }
+        requires raised { time ≡ bumped (time_of self.old.delay holder) (record_at self.old.groups.items place).name holder }
+        requires stamped { stamp ≡ time }
+        ensures same { Keeps self.old self.new }
+        ensures others { LeavesOthers self.old.config.domain shared.old shared.new }
+        ensures made { OnOk result (records_in self.new shared.new outs.new ≡ send_places_in (records_in self.old shared.old outs.old) place holder places) }
+    {
+        let group = self.record(place).name;
+        let view = self.record(place).here.number;
+        let count = time.count(group, holder);
+        let message = Message {
+            id: Uid {
+                group,
+                view,
+                proc: holder,
+                count,
+            },
+            times: stamp,
+            body: Body::Order(places),
+        };
+        let settled = self.settled(group, view, holder);
+        self.orders.note(group, count, settled)?;
+        self.tell(holder, Fact::Time(time))?;
+        self.send_message(message, shared, outs)?;
+        Ok(())
+    }
+}
+
+// Takes in what a received message tells of the order of its view.
+pub(crate) fn learn(orders: &mut Orders, message: &Message) -> Result<(), NoMemory>
+    ensures { OnOk result (orders.new ≡ learn_in orders.old message.now.id.group message.now.body) }
+{
+    match &message.body {
+        Body::Order(places) => orders.learn(message.id.group, places),
+        Body::Causal(_) | Body::Atomic(_) => Ok(()),
+    }
+}
+
+// Whether a kind is that of ABCASTs.
+pub(crate) fn is_atomic(kind: Kind) -> bool
+    ensures { result ≡ is_atomic kind }
+{
+    match kind {
+        Kind::Atomic => true,
+        Kind::Causal | Kind::Order => false,
+    }
+}
+
+// Whether a process that is this in a group is a member.
+fn is_member(standing: Standing) -> bool
+    ensures { result ≡ is_member standing }
+{
+    match standing {
+        Standing::Member => true,
+        Standing::Outside | Standing::Joining { .. } => false,
+    }
+}

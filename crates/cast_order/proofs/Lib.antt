@@ -1,0 +1,6 @@
+pub mod Lists
+pub mod Told
+pub mod Once
+pub mod Meanings
+pub mod Logs
+pub mod Steps

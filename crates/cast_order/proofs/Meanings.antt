@@ -1,0 +1,221 @@
+-- What changes a group's log changes what it means in the same way; and what it means.
+use Rattle.std.proofs.Common.{◌≡◌, ℕ, ◌+◌, ◌<◌, ◌≤◌, min, Bool, true, false, cond, not, ◌&&◌, List, [], ◌∷◌, ◌++◌, length, take, drop, length-append, Option, Some, None, unwrap_or, refl, sym, ap, subst, ◌∙◌, inl, inr, arith}
+use Rattle.std.specs.Prelude.{nat_lt, if◌then◌else◌}
+use Rattle.std.specs.List.{find, filter}
+use Rattle.std.specs.Option.{option_or}
+use Rattle.std.specs.Ordering.{eq_by_cmp}
+use Rattle.std.specs.FinMap.Entries.{find as find_key, find-put}
+use Rattle.std.proofs.lemmas.Bool.{cases_Bool, false≢true, false_from_ne_true, or_cases}
+use Rattle.std.proofs.lemmas.List.{take-append-drop, take-append-le, take_min, length-drop}
+use Rattle.std.proofs.lemmas.List.Folds.{find-append}
+use Rattle.std.proofs.lemmas.List.Elements.{filter-append}
+use Rattle.cast_types.specs.declared.limits.TheConstants.{MAX_PLACED, MAX_POSITION}
+use Rattle.cast_types.specs.declared.names.Proc.{Proc}
+use Rattle.cast_types.specs.Names.{Entry, entry_eq, proc_cmp}
+use Rattle.cast_types.specs.Sets.{is_among}
+use Rattle.cast_types.proofs.Orders.{proc_total, proc_exact, tie_same}
+use Rattle.cast_frame.specs.Sequence.{Sequence}
+use Rattle.cast_order.specs.Order.{Facts, facts_of, id_at, Listing, listed_ids, still_to_list, ids_to_list, place_after, is_distinct}
+use Rattle.cast_order.specs.Log.{Log, with_facts, place_of, next_in, passed, waits_in, next_places, assigned, learnt}
+use Rattle.cast_order.specs.Fits.{Fits}
+use Rattle.cast_order.specs.Laws.{NewFits, LearnKeepsMeaning, TellKeepsMeaning, AssignKeepsMeaning, PassKeepsMeaning, MoreKeepsMeaning, NextIsTheRule, UnsettledIsTheRule, AssignIsTheRule, WholeIsTheRule}
+use Rattle.cast_order.proofs.Lists.{same_entry, kept_among, taken_among, none_fails, none_fails_more, take_on}
+use Rattle.cast_order.proofs.Told.{id_at-append, facts_told, past_told, known_grows, none_known}
+use Rattle.cast_order.proofs.Once.{among-append, among_left, distinct-append, distinct-filter, distinct-take, left_to_list, beyond_counted, listed_push, beyond_push, above_push, above_kept}
+
+pub new_fits : NewFits
+new_fits g has_passed = record {
+  known = sym none_known;
+  later = λ place low high. refl;
+  waiting = refl;
+  lists = λ n le. refl;
+  delivered_once = refl;
+  listed_once = refl;
+  listed_delivered = λ e has. has;
+  passed = λ p. refl;
+  within = λ p. omega arith;
+}
+
+pub learn_fits : LearnKeepsMeaning
+learn_fits facts delivered listed has_passed stable l fits s =
+    let later = with_facts (length l.known) l.later (facts_of s) in
+    let tells : (place : ℕ) → length l.known < place → place ≤ MAX_POSITION → id_at later place ≡ id_at (facts ++ facts_of s) place =
+    λ place low high.
+    facts_told (length l.known) l.later (facts_of s) place low high
+    ∙ ap (λ o. option_or o (id_at (facts_of s) place)) (fits.later place low high)
+    ∙ sym (id_at-append facts (facts_of s) place) in
+    let now = (learnt s l).known in
+    let grown : length l.known ≤ length now = simp length-append (omega arith) in
+    record {
+      known = known_grows facts (facts_of s) later l.known fits.known tells;
+      later = λ place low high. past_told (length now) later place low ∙ tells place (omega arith) high;
+      waiting = fits.waiting;
+      lists = fits.lists;
+      delivered_once = fits.delivered_once;
+      listed_once = fits.listed_once;
+      listed_delivered = fits.listed_delivered;
+      passed = λ p. ap (find (λ e. not (has_passed p e))) (take-append-le (place_of l p) l.known _ (fits.within p)) ∙ fits.passed p;
+      within = λ p. let le = fits.within p in omega arith;
+    }
+
+pub tell_fits : TellKeepsMeaning
+tell_fits facts delivered listed has_passed stable l fits e new =
+    let unlisted : is_among entry_eq e (listed_ids listed) ≡ false =
+    false_from_ne_true (is_among entry_eq e (listed_ids listed)) (λ has. false≢true (sym new ∙ fits.listed_delivered e has)) in
+    record {
+      known = fits.known;
+      later = fits.later;
+      waiting =
+          ap (λ w. w ++ e ∷ []) fits.waiting
+          ∙ ap (λ b. still_to_list delivered (listed_ids listed) ++ cond (not b) (e ∷ []) []) (sym unlisted)
+          ∙ sym (filter-append (λ x. not (is_among entry_eq x (listed_ids listed))) delivered (e ∷ []));
+      lists = fits.lists;
+      delivered_once = distinct-append delivered (e ∷ []) fits.delivered_once refl (λ x has. other x has);
+      listed_once = fits.listed_once;
+      listed_delivered = λ x has. among_left x delivered (e ∷ []) (fits.listed_delivered x has);
+      passed = fits.passed;
+      within = fits.within;
+    }
+  where
+    other : (x : Entry) → is_among entry_eq x delivered ≡ true → is_among entry_eq x (e ∷ []) ≡ false
+    other x has = false_from_ne_true (is_among entry_eq x (e ∷ [])) (λ h. elim (or_cases (entry_eq x e) false h) [
+      | inl same ↦ false≢true (sym new ∙ ap (λ z. is_among entry_eq z delivered) (sym (same_entry x e same)) ∙ has)
+      | inr none ↦ false≢true none
+    ])
+
+-- the ids of the next message are the first that wait
+assigned_ids : (l : Log) (q : Sequence) → Some q ≡ next_places l → q.ids ≡ ids_to_list l.waiting
+assigned_ids l q is =
+    elim (waits_in l && nat_lt (length l.known) MAX_POSITION) as (λ b. Some q ≡ cond b (Some (record { first = place_after l.known; ids = ids_to_list l.waiting })) None → q.ids ≡ ids_to_list l.waiting) [
+      | true ↦ λ some. ap (λ (o : Option Sequence). (unwrap_or o q).ids) some
+      | false ↦ λ none. cc
+    ] is
+
+assign_these : (facts : Facts) (delivered : List Entry) (listed : Listing) (has_passed : Proc → Entry → Bool) (stable : ℕ) (l : Log) → Fits facts delivered listed has_passed stable l → (count n : ℕ) → stable ≤ n → Fits facts delivered (listed ++ (count, ids_to_list l.waiting) ∷ []) has_passed n (assigned count n l)
+assign_these facts delivered listed has_passed stable l fits count n le =
+    let ids = listed_ids listed in
+    let taken = ids_to_list l.waiting in
+    let all = listed_push listed count taken in
+    record {
+      known = fits.known;
+      later = fits.later;
+      waiting =
+          ap (drop MAX_PLACED) fits.waiting
+          ∙ left_to_list delivered ids fits.delivered_once MAX_PLACED
+          ∙ ap (λ w. still_to_list delivered (ids ++ take MAX_PLACED w)) (sym fits.waiting)
+          ∙ ap (still_to_list delivered) (sym all);
+      lists = λ m high.
+          above_push m (filter (λ x. nat_lt n x.0) l.lists) count (length taken)
+          ∙ ap (λ k. k + cond (nat_lt m count) (length taken) 0) (above_kept n m l.lists high ∙ fits.lists m (omega arith))
+          ∙ sym (beyond_push m listed count taken);
+      delivered_once = fits.delivered_once;
+      listed_once = ap is_distinct all ∙ distinct-append ids taken fits.listed_once taken_once (λ e has. apart e has);
+      listed_delivered = λ e has. inside e (sym (ap (is_among entry_eq e) all) ∙ has);
+      passed = fits.passed;
+      within = fits.within;
+    }
+  where
+    waits : (e : Entry) → is_among entry_eq e (ids_to_list l.waiting) ≡ true → is_among entry_eq e (still_to_list delivered (listed_ids listed)) ≡ true
+    waits e has = sym (ap (is_among entry_eq e) fits.waiting) ∙ taken_among MAX_PLACED l.waiting e has
+
+    taken_once : is_distinct (ids_to_list l.waiting) ≡ true
+    taken_once = distinct-take MAX_PLACED l.waiting (ap is_distinct fits.waiting ∙ distinct-filter (λ x. not (is_among entry_eq x (listed_ids listed))) delivered fits.delivered_once)
+
+    apart : (e : Entry) → is_among entry_eq e (listed_ids listed) ≡ true → is_among entry_eq e (ids_to_list l.waiting) ≡ false
+    apart e has = false_from_ne_true (is_among entry_eq e (ids_to_list l.waiting)) (λ here.
+        let out = (kept_among (λ x. not (is_among entry_eq x (listed_ids listed))) delivered e (waits e here)).1 in
+        false≢true (ap not (sym has) ∙ out))
+
+    inside : (e : Entry) → is_among entry_eq e (listed_ids listed ++ ids_to_list l.waiting) ≡ true → is_among entry_eq e delivered ≡ true
+    inside e has = elim (or_cases (is_among entry_eq e (listed_ids listed)) (is_among entry_eq e (ids_to_list l.waiting)) (sym (among-append e (listed_ids listed) (ids_to_list l.waiting)) ∙ has)) [
+      | inl before ↦ fits.listed_delivered e before
+      | inr now ↦ (kept_among (λ x. not (is_among entry_eq x (listed_ids listed))) delivered e (waits e now)).0
+    ]
+
+pub assign_fits : AssignKeepsMeaning
+assign_fits facts delivered listed has_passed stable l fits count n q is le =
+    subst (λ ids. Fits facts delivered (listed ++ (count, ids) ∷ []) has_passed n (assigned count n l)) (sym (assigned_ids l q is)) (assign_these facts delivered listed has_passed stable l fits count n le)
+
+-- where a process stands after some process passed ids
+passed_place : (p : Proc) (n : ℕ) (l : Log) (q : Proc) → place_of (passed p n l) q ≡ cond (eq_by_cmp proc_cmp q p) (place_of l p + min n (length (next_in l p))) (place_of l q)
+passed_place p n l q =
+    let place = place_of l p + min n (length (next_in l p)) in
+    ap (λ (o : Option ℕ). unwrap_or o 0) (find-put proc_cmp proc_total q p place l.places)
+    ∙ elim (eq_by_cmp proc_cmp q p) as (λ b. unwrap_or (cond b (Some place) (find_key proc_cmp q l.places)) 0 ≡ cond b place (place_of l q)) [ true ↦ refl | false ↦ refl ]
+
+pub pass_fits : PassKeepsMeaning
+pass_fits facts delivered listed has_passed stable l fits p n all = record {
+  known = fits.known;
+  later = fits.later;
+  waiting = fits.waiting;
+  lists = fits.lists;
+  delivered_once = fits.delivered_once;
+  listed_once = fits.listed_once;
+  listed_delivered = fits.listed_delivered;
+  passed = λ q. elim (cases_Bool (eq_by_cmp proc_cmp q p)) [
+    | inl tie ↦
+        ap (λ k. find (λ e. not (has_passed q e)) (take k l.known)) (at_place q true tie)
+        ∙ subst (λ r. find (λ e. not (has_passed r e)) (take (place_of l p + min n (length (next_in l p))) l.known) ≡ None) (sym (tie_same proc_exact q p tie)) here
+    | inr other ↦ ap (λ k. find (λ e. not (has_passed q e)) (take k l.known)) (at_place q false other) ∙ fits.passed q
+  ];
+  within = λ q. elim (cases_Bool (eq_by_cmp proc_cmp q p)) [
+    | inl tie ↦ subst (λ k. k ≤ length l.known) (sym (at_place q true tie)) moved_within
+    | inr other ↦ subst (λ k. k ≤ length l.known) (sym (at_place q false other)) (fits.within q)
+  ];
+}
+  where
+    at_place : (q : Proc) (b : Bool) → eq_by_cmp proc_cmp q p ≡ b → place_of (passed p n l) q ≡ cond b (place_of l p + min n (length (next_in l p))) (place_of l q)
+    at_place q b is = passed_place p n l q ∙ ap (λ c. cond c (place_of l p + min n (length (next_in l p))) (place_of l q)) is
+
+    here : find (λ e. not (has_passed p e)) (take (place_of l p + min n (length (next_in l p))) l.known) ≡ None
+    here =
+        let t : Entry → Bool = λ e. not (has_passed p e) in
+        let most = min n (length (next_in l p)) in
+        ap (find t) (take_on (place_of l p) most l.known)
+        ∙ find-append t (take (place_of l p) l.known) (take most (next_in l p))
+        ∙ ap (λ o. option_or o (find t (take most (next_in l p)))) (fits.passed p)
+        ∙ ap (find t) (take_min n (next_in l p))
+        ∙ none_fails (has_passed p) (take n (next_in l p)) all
+
+    moved_within : place_of l p + min n (length (next_in l p)) ≤ length l.known
+    moved_within =
+        let rest = length-drop (place_of l p) l.known in
+        let before = fits.within p in
+        omega arith
+
+pub more_fits : MoreKeepsMeaning
+more_fits facts delivered listed has_passed stable l fits has_now n more le = record {
+  known = fits.known;
+  later = fits.later;
+  waiting = fits.waiting;
+  lists = λ m high. fits.lists m (omega arith);
+  delivered_once = fits.delivered_once;
+  listed_once = fits.listed_once;
+  listed_delivered = fits.listed_delivered;
+  passed = λ p. none_fails_more (has_passed p) (has_now p) (more p) (take (place_of l p) l.known) (fits.passed p);
+  within = fits.within;
+}
+
+pub next_rules : NextIsTheRule
+next_rules facts delivered listed has_passed stable l fits p =
+    let t : Entry → Bool = λ e. not (has_passed p e) in
+    let front = take (place_of l p) l.known in
+    ap (find t) (sym fits.known ∙ sym (take-append-drop (place_of l p) l.known))
+    ∙ find-append t front (drop (place_of l p) l.known)
+    ∙ ap (λ o. option_or o (find t (drop (place_of l p) l.known))) (fits.passed p)
+
+pub unsettled_rules : UnsettledIsTheRule
+unsettled_rules facts delivered listed has_passed stable l fits n le =
+    let counted = beyond_counted n delivered fits.delivered_once listed [] fits.listed_once (λ e has. refl) fits.listed_delivered in
+    let waiting = ap length fits.waiting in
+    let lists = fits.lists n le in
+    omega (arith, counted, waiting, lists)
+
+pub assign_rules : AssignIsTheRule
+assign_rules facts delivered listed has_passed stable l fits = λ i.
+    if nat_lt 0 (length (fits.waiting i)) && nat_lt (length (fits.known i)) MAX_POSITION
+    then Some (record { first = place_after (fits.known i); ids = ids_to_list (fits.waiting i) })
+    else None
+
+pub whole_rules : WholeIsTheRule
+whole_rules facts delivered listed has_passed stable l fits = λ i. fits.known i ++ fits.waiting i

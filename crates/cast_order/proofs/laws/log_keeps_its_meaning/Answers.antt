@@ -1,0 +1,20 @@
+use Rattle.cast_order.proofs.Meanings.{new_fits, learn_fits, tell_fits, assign_fits, pass_fits, more_fits}
+use Rattle.cast_order.proofs.laws.log_keeps_its_meaning.Goals as goal
+
+pub returns-clause-new : goal.returns-clause-new
+returns-clause-new c = new_fits
+
+pub returns-clause-learn : goal.returns-clause-learn
+returns-clause-learn c = learn_fits
+
+pub returns-clause-tell : goal.returns-clause-tell
+returns-clause-tell c = tell_fits
+
+pub returns-clause-assign : goal.returns-clause-assign
+returns-clause-assign c = assign_fits
+
+pub returns-clause-pass : goal.returns-clause-pass
+returns-clause-pass c = pass_fits
+
+pub returns-clause-more : goal.returns-clause-more
+returns-clause-more c = more_fits

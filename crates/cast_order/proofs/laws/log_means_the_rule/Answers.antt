@@ -1,0 +1,14 @@
+use Rattle.cast_order.proofs.Meanings.{next_rules, unsettled_rules, assign_rules, whole_rules}
+use Rattle.cast_order.proofs.laws.log_means_the_rule.Goals as goal
+
+pub returns-clause-next : goal.returns-clause-next
+returns-clause-next c = next_rules
+
+pub returns-clause-unsettled : goal.returns-clause-unsettled
+returns-clause-unsettled c = unsettled_rules
+
+pub returns-clause-assign : goal.returns-clause-assign
+returns-clause-assign c = assign_rules
+
+pub returns-clause-whole : goal.returns-clause-whole
+returns-clause-whole c = whole_rules

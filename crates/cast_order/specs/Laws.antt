@@ -1,0 +1,97 @@
+-- What is kept of a group's order keeps its meaning: what changes it changes what it means in the same way; what it
+-- means; and that groups do not mix.
+use Rattle.std.specs.Prelude.{◌≡◌, ℕ, ◌≤◌, Bool, true, false, List, [], ◌∷◌, ◌++◌, length, take, Some, None, if◌then◌else◌, ◌&&◌, nat_lt}
+use Rattle.std.specs.List.{list_all}
+use Rattle.cast_types.specs.declared.limits.TheConstants.{MAX_POSITION}
+use Rattle.cast_types.specs.declared.names.GroupNo.{GroupNo}
+use Rattle.cast_types.specs.declared.names.Proc.{Proc}
+use Rattle.cast_types.specs.Names.{Entry, entry_eq, group_eq}
+use Rattle.cast_types.specs.Sets.{is_among}
+use Rattle.cast_frame.specs.Sequence.{Sequence}
+use Rattle.cast_order.specs.Order.{Facts, facts_of, known_order, next_of, Listing, listed_ids, listed_upto, still_to_list, ids_to_list, place_after}
+use Rattle.cast_order.specs.Log.{Log, new_log, log_of, change_log, but_log, learnt, next_in, passed, told, next_places, assigned, unsettled_in, whole_order}
+use Rattle.cast_order.specs.Fits.{Fits}
+
+-- a new log means that nothing was told, delivered or listed
+abbrev pub NewFits : Type 0
+NewFits = (g : GroupNo) (has_passed : Proc → Entry → Bool) → Fits [] [] [] has_passed 0 (new_log g)
+
+-- a set-order message is received
+abbrev pub LearnKeepsMeaning : Type 0
+LearnKeepsMeaning =
+    (facts : Facts) (delivered : List Entry) (listed : Listing) (has_passed : Proc → Entry → Bool) (stable : ℕ) (l : Log)
+    → Fits facts delivered listed has_passed stable l → (s : Sequence)
+    → Fits (facts ++ facts_of s) delivered listed has_passed stable (learnt s l)
+
+-- the holder here delivers an ABCAST
+abbrev pub TellKeepsMeaning : Type 0
+TellKeepsMeaning =
+    (facts : Facts) (delivered : List Entry) (listed : Listing) (has_passed : Proc → Entry → Bool) (stable : ℕ) (l : Log)
+    → Fits facts delivered listed has_passed stable l → (e : Entry) → is_among entry_eq e delivered ≡ false
+    → Fits facts (delivered ++ e ∷ []) listed has_passed stable (told e l)
+
+-- it lists what is next in a set-order message of some count, when its messages up to n are stable
+abbrev pub AssignKeepsMeaning : Type 0
+AssignKeepsMeaning =
+    (facts : Facts) (delivered : List Entry) (listed : Listing) (has_passed : Proc → Entry → Bool) (stable : ℕ) (l : Log)
+    → Fits facts delivered listed has_passed stable l → (count n : ℕ) (q : Sequence) → Some q ≡ next_places l → stable ≤ n
+    → Fits facts delivered (listed ++ (count, q.ids) ∷ []) has_passed n (assigned count n l)
+
+-- a process delivered each of the next n ids
+abbrev pub PassKeepsMeaning : Type 0
+PassKeepsMeaning =
+    (facts : Facts) (delivered : List Entry) (listed : Listing) (has_passed : Proc → Entry → Bool) (stable : ℕ) (l : Log)
+    → Fits facts delivered listed has_passed stable l → (p : Proc) (n : ℕ) → list_all (has_passed p) (take n (next_in l p)) ≡ true
+    → Fits facts delivered listed has_passed stable (passed p n l)
+
+-- processes deliver more, and more messages are stable
+abbrev pub MoreKeepsMeaning : Type 0
+MoreKeepsMeaning =
+    (facts : Facts) (delivered : List Entry) (listed : Listing) (has_passed : Proc → Entry → Bool) (stable : ℕ) (l : Log)
+    → Fits facts delivered listed has_passed stable l → (has_now : Proc → Entry → Bool) (n : ℕ)
+    → ((p : Proc) (e : Entry) → has_passed p e ≡ true → has_now p e ≡ true) → stable ≤ n
+    → Fits facts delivered listed has_now n l
+
+-- from where a process stands on, the first id that it has not delivered is that of the whole order known
+abbrev pub NextIsTheRule : Type 0
+NextIsTheRule =
+    (facts : Facts) (delivered : List Entry) (listed : Listing) (has_passed : Proc → Entry → Bool) (stable : ℕ) (l : Log)
+    → Fits facts delivered listed has_passed stable l → (p : Proc)
+    → next_of (has_passed p) (known_order facts) ≡ next_of (has_passed p) (next_in l p)
+
+-- unsettled is what the holder delivered and its stable set-order messages do not list
+abbrev pub UnsettledIsTheRule : Type 0
+UnsettledIsTheRule =
+    (facts : Facts) (delivered : List Entry) (listed : Listing) (has_passed : Proc → Entry → Bool) (stable : ℕ) (l : Log)
+    → Fits facts delivered listed has_passed stable l → (n : ℕ) → stable ≤ n
+    → unsettled_in n l ≡ length (still_to_list delivered (listed_upto n listed))
+
+-- the next set-order message sets the places behind the order known, of the first ids that the holder delivered and has
+-- not listed
+abbrev pub AssignIsTheRule : Type 0
+AssignIsTheRule =
+    (facts : Facts) (delivered : List Entry) (listed : Listing) (has_passed : Proc → Entry → Bool) (stable : ℕ) (l : Log)
+    → Fits facts delivered listed has_passed stable l
+    → next_places l ≡ (
+    if nat_lt 0 (length (still_to_list delivered (listed_ids listed))) && nat_lt (length (known_order facts)) MAX_POSITION
+    then Some (record { first = place_after (known_order facts); ids = ids_to_list (still_to_list delivered (listed_ids listed)) })
+    else None)
+
+-- the whole order is the order known, and behind it what is still to list
+abbrev pub WholeIsTheRule : Type 0
+WholeIsTheRule =
+    (facts : Facts) (delivered : List Entry) (listed : Listing) (has_passed : Proc → Entry → Bool) (stable : ℕ) (l : Log)
+    → Fits facts delivered listed has_passed stable l
+    → whole_order l ≡ known_order facts ++ still_to_list delivered (listed_ids listed)
+
+-- a change of one group's log, which keeps the group that it is of, changes no other
+abbrev pub ChangeIsOfOneGroup : Type 0
+ChangeIsOfOneGroup =
+    (logs : List Log) (g h : GroupNo) (f : Log → Log) → ((l : Log) → (f l).group ≡ l.group)
+    → log_of (change_log g f logs) h ≡ (if group_eq g h then f (log_of logs g) else log_of logs h)
+
+-- a group that is forgotten has a new log, and each other the one that it had
+abbrev pub ForgetIsOfOneGroup : Type 0
+ForgetIsOfOneGroup =
+    (logs : List Log) (g h : GroupNo)
+    → log_of (but_log g logs) h ≡ (if group_eq g h then new_log g else log_of logs h)

@@ -1,0 +1,4 @@
+pub mod Order
+pub mod Log
+pub mod Fits
+pub mod Laws

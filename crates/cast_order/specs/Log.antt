@@ -1,0 +1,124 @@
+-- What a site keeps of a group's order, as contracts see it, and what each call does to it.
+use Rattle.std.specs.Prelude.{ℕ, ◌+◌, ◌-◌, Bool, not, ◌&&◌, nat_lt, nat_le, min, if◌then◌else◌, List, [], ◌∷◌, ◌++◌, length, drop, map, filter, Option, Some, None, unwrap_or}
+use Rattle.std.specs.List.{find, list_any, sum_by}
+use Rattle.std.specs.Option.{is_none}
+use Rattle.std.specs.FinMap.Entries.{find as find_key, put}
+use Rattle.cast_types.specs.declared.limits.TheConstants.{MAX_PLACED, MAX_UNSETTLED, MAX_POSITION}
+use Rattle.cast_types.specs.declared.names.GroupNo.{GroupNo}
+use Rattle.cast_types.specs.declared.names.Proc.{Proc}
+use Rattle.cast_types.specs.Names.{Entry, proc_cmp, group_eq}
+use Rattle.cast_frame.specs.Sequence.{Sequence}
+use Rattle.cast_order.specs.Order.{Facts, facts_of, id_at, order_from, ids_to_list, place_after}
+
+-- known: the order known; later: facts of places past a gap, in order of receipt; places: how many of the first ids
+-- known each local process has passed; waiting: ABCASTs that the holder here delivered and has not listed, in its order;
+-- lists: its set-order messages that were not stable when the last one was made, each by its count and how many ids
+pub record Log : Type 0 where
+  pub group : GroupNo
+  pub known : List Entry
+  pub later : Facts
+  pub places : List (Proc × ℕ)
+  pub waiting : List Entry
+  pub lists : List (ℕ × ℕ)
+
+abbrev pub new_log : GroupNo → Log
+new_log g = record { group = g; known = []; later = []; places = []; waiting = []; lists = [] }
+
+-- The logs of all groups, at most one of each
+
+abbrev pub log_of : List Log → GroupNo → Log
+log_of logs g = unwrap_or (find (λ l. group_eq l.group g) logs) (new_log g)
+
+-- the group's log changed
+abbrev pub change_in : GroupNo → (Log → Log) → List Log → List Log
+change_in g f logs = map (λ l. if group_eq l.group g then f l else l) logs
+
+-- a log of the group, where there is none
+abbrev pub opened : GroupNo → List Log → List Log
+opened g logs = if list_any (λ l. group_eq l.group g) logs then logs else logs ++ new_log g ∷ []
+
+-- the group's log changed, where there is none a new one
+abbrev pub change_log : GroupNo → (Log → Log) → List Log → List Log
+change_log g f logs =
+    if list_any (λ l. group_eq l.group g) logs then change_in g f logs else logs ++ f (new_log g) ∷ []
+
+-- the group has no log
+abbrev pub but_log : GroupNo → List Log → List Log
+but_log g logs = filter (λ l. not (group_eq l.group g)) logs
+
+-- What is told of the order
+
+-- facts with one more, if it is of a place past so many, up to the last one, of which they tell nothing
+abbrev pub with_fact : ℕ → Facts → ℕ → Entry → Facts
+with_fact known facts place id =
+    if nat_lt known place && (nat_le place MAX_POSITION && is_none (id_at facts place)) then facts ++ (place, id) ∷ [] else facts
+
+-- with each of these, in order
+abbrev pub with_facts : ℕ → Facts → Facts → Facts
+with_facts known facts [] = facts
+with_facts known facts (f ∷ more) = with_facts known (with_fact known facts f.0 f.1) more
+
+-- the order known with what later facts add to it, and the facts past that
+abbrev pub longer : Log → List Entry
+longer l = l.known ++ order_from (MAX_POSITION - length l.known) (length l.known + 1) l.later
+
+abbrev pub past : ℕ → Facts → Facts
+past known facts = filter (λ f. nat_lt known f.0) facts
+
+abbrev pub settled : Log → Log
+settled l = record l { known = longer l; later = past (length (longer l)) l.later }
+
+-- a set-order message is taken in
+abbrev pub learnt : Sequence → Log → Log
+learnt s l = settled (record l { later = with_facts (length l.known) l.later (facts_of s) })
+
+-- What local processes deliver
+
+abbrev pub place_of : Log → Proc → ℕ
+place_of l p = unwrap_or (find_key proc_cmp p l.places) 0
+
+abbrev pub next_in : Log → Proc → List Entry
+next_in l p = drop (place_of l p) l.known
+
+-- a process passed the next n ids, at most all that are known
+abbrev pub passed : Proc → ℕ → Log → Log
+passed p n l = record l { places = put proc_cmp p (place_of l p + min n (length (next_in l p))) l.places }
+
+-- What the holder lists
+
+abbrev pub told : Entry → Log → Log
+told e l = record l { waiting = l.waiting ++ e ∷ [] }
+
+abbrev pub waits_in : Log → Bool
+waits_in l = nat_lt 0 (length l.waiting)
+
+-- the places that the next set-order message sets, none where nothing waits or no place is left
+abbrev pub next_places : Log → Option Sequence
+next_places l =
+    if waits_in l && nat_lt (length l.known) MAX_POSITION
+    then Some (record { first = place_after l.known; ids = ids_to_list l.waiting }) else None
+
+-- a set-order message of this count lists what is next, and the holder's messages up to a count are stable
+abbrev pub assigned : ℕ → ℕ → Log → Log
+assigned count stable l =
+    record l {
+      waiting = drop MAX_PLACED l.waiting;
+      lists = filter (λ x. nat_lt stable x.0) l.lists ++ (count, length (ids_to_list l.waiting)) ∷ [];
+    }
+
+-- how many ids messages of counts above this one list
+abbrev pub ids_above : ℕ → List (ℕ × ℕ) → ℕ
+ids_above stable lists = sum_by (λ x. x.1) (filter (λ x. nat_lt stable x.0) lists)
+
+-- how many ABCASTs the holder delivered beyond those that its stable set-order messages list
+abbrev pub unsettled_in : ℕ → Log → ℕ
+unsettled_in stable l = length l.waiting + ids_above stable l.lists
+
+-- whether the holder may deliver one more: by their number, and by the places left
+abbrev pub has_room_in : ℕ → Log → Bool
+has_room_in stable l =
+    nat_lt (unsettled_in stable l) MAX_UNSETTLED && nat_lt (length l.known + length l.waiting) MAX_POSITION
+
+-- the order known, and behind it what waits to be listed
+abbrev pub whole_order : Log → List Entry
+whole_order l = l.known ++ l.waiting

@@ -1,0 +1,35 @@
+ghost use Rattle.cast_order.specs.Order.{KnownOrderInWords};
+ghost use Rattle.cast_order.specs.Laws.{NewFits, LearnKeepsMeaning, TellKeepsMeaning, AssignKeepsMeaning, PassKeepsMeaning, MoreKeepsMeaning, NextIsTheRule, UnsettledIsTheRule, AssignIsTheRule, WholeIsTheRule, ChangeIsOfOneGroup, ForgetIsOfOneGroup};
+
+/// The known order says what the rule says in words: each place has the first id told for it, and the order ends only
+/// before a place of which nothing was told, or at the last place.
+pub fn order_is_the_rule_in_words()
+    ensures { KnownOrderInWords }
+{}
+
+/// By what a site keeps, the first id that a process has not delivered is that of the whole order known; as many ABCASTs
+/// are unsettled as the holder delivered beyond those that its stable set-order messages list; its next one sets the
+/// places behind the order known, of what it delivered and has not listed; and that makes up the whole order.
+pub fn log_means_the_rule()
+    ensures next { NextIsTheRule }
+    ensures unsettled { UnsettledIsTheRule }
+    ensures assign { AssignIsTheRule }
+    ensures whole { WholeIsTheRule }
+{}
+
+/// What each call does to what is kept it does to what that means: a set-order message is received, the holder
+/// delivers an ABCAST and lists what is next, and processes deliver what the order names.
+pub fn log_keeps_its_meaning()
+    ensures new { NewFits }
+    ensures learn { LearnKeepsMeaning }
+    ensures tell { TellKeepsMeaning }
+    ensures assign { AssignKeepsMeaning }
+    ensures pass { PassKeepsMeaning }
+    ensures more { MoreKeepsMeaning }
+{}
+
+/// A call about one group changes what is kept of no other.
+pub fn groups_do_not_mix()
+    ensures change { ChangeIsOfOneGroup }
+    ensures forget { ForgetIsOfOneGroup }
+{}

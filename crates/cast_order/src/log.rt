@@ -1,0 +1,266 @@
+ghost use Rattle.std.specs.Prelude.{◌≡◌, ◌+◌, ◌-◌, ◌++◌, min, nat_lt, filter, length, take, drop, OnOk, IfOk};
+ghost use Rattle.std.specs.List.{enumerate_from};
+ghost use Rattle.cast_types.specs.declared.limits.TheConstants.{MAX_POSITION};
+ghost use Rattle.cast_order.specs.Order.{id_at, order_from, tail_start, tail_ids};
+ghost use Rattle.cast_order.specs.Log.{new_log, with_fact, with_facts, past, settled, learnt, place_of, next_in, passed, told, waits_in, next_places, assigned, ids_above, has_room_in, whole_order};
+
+use cast_frame::Placement;
+use cast_types::limits::{MAX_PLACED, MAX_POSITION, MAX_TAIL, MAX_UNSETTLED};
+use cast_types::{GroupNo, Keyed, Listed, NoMemory, Proc};
+use std::alloc::Global;
+use std::marker::Model;
+
+/// What a site keeps of one group's order. Contracts see a `Log`.
+#[derive(Drop)]
+pub struct OrderLog {
+    pub group: GroupNo,
+    known: Vec<(Proc, u32)>,
+    later: Vec<(usize, (Proc, u32))>,
+    places: Keyed<Proc, usize>,
+    waiting: Vec<(Proc, u32)>,
+    lists: Vec<(u32, usize)>,
+}
+
+impl Model for OrderLog {
+    ghost use Rattle.cast_order.specs.Log.{Log};
+
+    ghost Value = { Log };
+
+    ghost view = { λ l. record { group = l.group; known = l.known.items; later = l.later.items; places = l.places; waiting = l.waiting.items; lists = l.lists.items } };
+}
+
+impl OrderLog {
+    /// Nothing told, delivered or listed.
+    pub fn new(alloc: Global, group: GroupNo) -> Self
+        ensures { result ≡ new_log group }
+    {
+        OrderLog {
+            group,
+            known: Vec::new(alloc),
+            later: Vec::new(alloc),
+            places: Keyed::new(alloc),
+            waiting: Vec::new(alloc),
+            lists: Vec::new(alloc),
+        }
+    }
+
+    /// Takes in what a set-order message tells.
+    pub fn learn(&mut self, placement: &Placement) -> Result<(), NoMemory>
+        ensures { OnOk result (self.new ≡ learnt placement.now self.old) }
+    {
+        let known = self.known.len();
+        add_facts(&mut self.later, known, placement.first(), placement.ids())?;
+        self.settle()?;
+        Ok(())
+    }
+
+    // Adds to the order known what follows it without a gap, and keeps only the facts past that.
+    fn settle(&mut self) -> Result<(), NoMemory>
+        ensures { OnOk result (self.new ≡ settled self.old) }
+    {
+        extend(&mut self.known, &self.later)?;
+        keep_past(&mut self.later, self.known.len());
+        Ok(())
+    }
+
+    /// The order known.
+    pub fn known(&self) -> &[(Proc, u32)]
+        ensures { result.now ≡ self.now.known }
+    {
+        &self.known
+    }
+
+    /// The ids that a process has not passed.
+    pub fn next(&self, process: Proc) -> &[(Proc, u32)]
+        ensures { result.now ≡ next_in self.now process }
+    {
+        past_first(&self.known, self.place(process))
+    }
+
+    // How many of the first ids a process has passed.
+    fn place(&self, process: Proc) -> usize
+        ensures { result ≡ place_of self.now process }
+    {
+        match self.places.get(&process) {
+            Some(place) => *place,
+            None => 0,
+        }
+    }
+
+    /// Takes in that a process passed so many of its next ids, at most all that are known.
+    pub fn pass(&mut self, process: Proc, count: usize) -> Result<(), NoMemory>
+        ensures { OnOk result (self.new ≡ passed process count self.old) }
+    {
+        let more = count.min(self.next(process).len());
+        let place = self.place(process) + more;
+        self.places.put(process, place)?;
+        Ok(())
+    }
+
+    /// Takes in that the holder here delivered an ABCAST.
+    pub fn tell(&mut self, id: (Proc, u32)) -> Result<(), NoMemory>
+        ensures { OnOk result (self.new ≡ told id self.old) }
+    {
+        self.waiting.push(id)?;
+        Ok(())
+    }
+
+    /// Whether something is still to list.
+    pub fn waits(&self) -> bool
+        ensures { result ≡ waits_in self.now }
+    {
+        0 < self.waiting.len()
+    }
+
+    /// The places that the holder's next set-order message sets.
+    pub fn assign(&self) -> Result<Option<Placement>, NoMemory>
+        ensures { IfOk result (λ q. q ≡ next_places self.now) }
+    {
+        if !self.waits() || MAX_POSITION as usize <= self.known.len() {
+            return Ok(None);
+        }
+        let first = self.known.len() as u32 + 1;
+        let ids = Vec::from_slice(
+            *self.waiting.allocator(),
+            first_ids(&self.waiting, MAX_PLACED),
+        )?;
+        Ok(Some(Placement::from_parts(first, ids)))
+    }
+
+    /// Takes in that a set-order message of this count with the assigned ids was sent.
+    pub fn note(&mut self, count: u32, stable: u32) -> Result<(), NoMemory>
+        ensures { OnOk result (self.new ≡ assigned count stable self.old) }
+    {
+        let taken = first_ids(&self.waiting, MAX_PLACED).len();
+        keep_above(&mut self.lists, stable);
+        self.lists.push((count, taken))?;
+        remove_first(&mut self.waiting, MAX_PLACED);
+        Ok(())
+    }
+
+    /// Whether the holder may deliver one more ABCAST.
+    pub fn has_room(&self, stable: u32) -> bool
+        ensures { result ≡ has_room_in stable self.now }
+    {
+        let unsettled = unsettled(self.waiting.len(), &self.lists, stable);
+        unsettled < MAX_UNSETTLED && self.known.len() + self.waiting.len() < MAX_POSITION as usize
+    }
+
+    /// How many ids stand before the tail of the whole order, and its ids.
+    pub fn tail(&self) -> Result<(usize, Listed<(Proc, u32)>), NoMemory>
+        ensures { IfOk result (λ t. t ≡ (tail_start (whole_order self.now), tail_ids (whole_order self.now))) }
+    {
+        let known = self.known.len();
+        let start = (known + self.waiting.len()).saturating_sub(MAX_TAIL);
+        let alloc = *self.known.allocator();
+        let mut ids = Vec::from_slice(alloc, past_first(&self.known, start))?;
+        ids.extend_from_slice(past_first(&self.waiting, start.saturating_sub(known)))?;
+        Ok((start, Listed::from_vec(ids)))
+    }
+}
+
+// The ids behind the first ones.
+fn past_first(ids: &[(Proc, u32)], count: usize) -> &[(Proc, u32)]
+    ensures { result.now ≡ drop count ids.now }
+{
+    &ids[count.min(ids.len())..]
+}
+
+// The first ids, at most so many.
+fn first_ids(ids: &[(Proc, u32)], count: usize) -> &[(Proc, u32)]
+    ensures { result.now ≡ take count ids.now }
+{
+    &ids[..count.min(ids.len())]
+}
+
+// Removes the first ids.
+fn remove_first(ids: &mut Vec<(Proc, u32)>, count: usize)
+    ensures { ids.new.items ≡ drop count ids.old.items }
+{
+    let count = count.min(ids.len());
+    ids.drain(..count);
+}
+
+// The first id told for a place.
+fn id_at(facts: &[(usize, (Proc, u32))], place: usize) -> Option<(Proc, u32)>
+    ensures { result ≡ id_at facts.now place }
+{
+    for fact in facts {
+        if fact.0 == place {
+            return Some(fact.1);
+        }
+    }
+    None
+}
+
+// Adds a fact of a place past those known, where it is the first one of the place.
+fn add_fact(
+    facts: &mut Vec<(usize, (Proc, u32))>,
+    known: usize,
+    place: usize,
+    id: (Proc, u32),
+) -> Result<(), NoMemory>
+    ensures { OnOk result (facts.new.items ≡ with_fact known facts.old.items place id) }
+{
+    if known < place && place <= MAX_POSITION as usize && id_at(facts, place).is_none() {
+        facts.push((place, id))?;
+    }
+    Ok(())
+}
+
+// Adds the facts of a place and those after it.
+fn add_facts(
+    facts: &mut Vec<(usize, (Proc, u32))>,
+    known: usize,
+    first: u32,
+    ids: &[(Proc, u32)],
+) -> Result<(), NoMemory>
+    ensures { OnOk result (facts.new.items ≡ with_facts known facts.old.items (enumerate_from first ids.now)) }
+{
+    let mut place = first as usize;
+    for id in ids {
+        add_fact(facts, known, place, *id)?;
+        place += 1;
+    }
+    Ok(())
+}
+
+// Adds to the order known what the facts tell of the places behind it, up to a gap.
+fn extend(known: &mut Vec<(Proc, u32)>, facts: &[(usize, (Proc, u32))]) -> Result<(), NoMemory>
+    ensures { OnOk result (known.new.items ≡ known.old.items ++ order_from (MAX_POSITION - length known.old.items) (length known.old.items + 1) facts.now) }
+{
+    for place in known.len() + 1..MAX_POSITION as usize + 1 {
+        let Some(id) = id_at(facts, place) else {
+            break;
+        };
+        known.push(id)?;
+    }
+    Ok(())
+}
+
+// Keeps the facts of places past those known.
+fn keep_past(facts: &mut Vec<(usize, (Proc, u32))>, known: usize)
+    ensures { facts.new.items ≡ past known facts.old.items }
+{
+    facts.retain(|fact| known < fact.0);
+}
+
+// Keeps the messages of counts above this one.
+fn keep_above(lists: &mut Vec<(u32, usize)>, stable: u32)
+    ensures { lists.new.items ≡ filter (λ x. nat_lt stable x.0) lists.old.items }
+{
+    lists.retain(|list| stable < list.0);
+}
+
+// How many wait, with how many messages of counts above this one list.
+fn unsettled(waiting: usize, lists: &[(u32, usize)], stable: u32) -> usize
+    ensures { result ≡ min 18446744073709551615 (waiting + ids_above stable lists.now) }
+{
+    let mut total = waiting;
+    for (count, ids) in lists {
+        if stable < *count {
+            total = total.saturating_add(*ids);
+        }
+    }
+    total
+}

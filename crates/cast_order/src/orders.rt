@@ -1,0 +1,246 @@
+ghost use Rattle.std.specs.Prelude.{◌≡◌, [], not, filter, OnOk, IfOk};
+ghost use Rattle.std.specs.List.{find, list_any};
+ghost use Rattle.std.specs.Option.{option_copied};
+ghost use Rattle.cast_types.specs.Names.{group_eq};
+ghost use Rattle.cast_order.specs.Order.{tail_start, tail_ids};
+ghost use Rattle.cast_order.specs.Log.{log_of, change_in, opened, change_log, but_log, learnt, next_in, passed, told, waits_in, next_places, assigned, has_room_in, whole_order};
+
+use crate::log::OrderLog;
+use cast_frame::Placement;
+use cast_types::{GroupNo, Listed, NoMemory, Proc};
+use std::alloc::Global;
+use std::marker::Model;
+
+/// The orders of the current views of a domain's groups, as one site knows them. Contracts see the list of their logs.
+#[derive(Drop)]
+pub struct Orders {
+    logs: Vec<OrderLog>,
+}
+
+impl Model for Orders {
+    ghost use Rattle.std.specs.Prelude.{List};
+    ghost use Rattle.cast_order.specs.Log.{Log};
+
+    ghost Value = { List Log };
+
+    ghost view = { λ o. o.logs.items };
+}
+
+impl Orders {
+    /// Orders of which nothing is known.
+    pub fn new(alloc: Global) -> Self
+        ensures { result ≡ [] }
+    {
+        Orders {
+            logs: Vec::new(alloc),
+        }
+    }
+
+    /// Takes in a set-order message of a group's view. For each place the first id told for it counts. `NoMemory` leaves
+    /// the orders of no further use, as in all calls.
+    #[tactic(auto, using(crate::proofs::Logs::change_opened))]
+    pub fn learn(&mut self, group: GroupNo, placement: &Placement) -> Result<(), NoMemory>
+        ensures { OnOk result (self.new ≡ change_log group (learnt placement.now) self.old) }
+    {
+        open_in(&mut self.logs, group)?;
+        learn_in(&mut self.logs, group, placement)?;
+        Ok(())
+    }
+
+    /// The order of a group as far as it is known without a gap, from place 1 on: ids of ABCASTs, each a process and a
+    /// count. Takes no memory.
+    pub fn known(&self, group: GroupNo) -> &[(Proc, u32)]
+        ensures { result.now ≡ (log_of self.now group).known }
+    {
+        match log_in(&self.logs, group) {
+            Some(log) => log.known(),
+            None => &[],
+        }
+    }
+
+    /// The ids known from the process's place on: its next position is that of the first of them that it has not
+    /// delivered. Takes no memory.
+    pub fn next(&self, group: GroupNo, process: Proc) -> &[(Proc, u32)]
+        ensures { result.now ≡ next_in (log_of self.now group) process }
+    {
+        match log_in(&self.logs, group) {
+            Some(log) => log.next(process),
+            None => &[],
+        }
+    }
+
+    /// Takes in that the process delivered the first `count` ids of those that `next` gives, so that it passes them;
+    /// where that gives fewer, all of them.
+    #[tactic(auto, using(crate::proofs::Logs::change_opened))]
+    pub fn pass(&mut self, group: GroupNo, process: Proc, count: usize) -> Result<(), NoMemory>
+        ensures { OnOk result (self.new ≡ change_log group (passed process count) self.old) }
+    {
+        open_in(&mut self.logs, group)?;
+        pass_in(&mut self.logs, group, process, count)?;
+        Ok(())
+    }
+
+    /// Takes in that the holder of the group's view, a process here, delivered this ABCAST.
+    #[tactic(auto, using(crate::proofs::Logs::change_opened))]
+    pub fn tell(&mut self, group: GroupNo, id: (Proc, u32)) -> Result<(), NoMemory>
+        ensures { OnOk result (self.new ≡ change_log group (told id) self.old) }
+    {
+        open_in(&mut self.logs, group)?;
+        tell_in(&mut self.logs, group, id)?;
+        Ok(())
+    }
+
+    /// The places that the holder's next set-order message sets: those behind the order known, for the first ids that
+    /// it delivered and has not listed, at most 64. `None` where there is none, or no place is left.
+    pub fn assign(&self, group: GroupNo) -> Result<Option<Placement>, NoMemory>
+        ensures { IfOk result (λ q. q ≡ next_places (log_of self.now group)) }
+    {
+        match log_in(&self.logs, group) {
+            Some(log) => log.assign(),
+            None => Ok(None),
+        }
+    }
+
+    /// Takes in that the holder sent the ids that `assign` gives in a set-order message of this count, from 1 on, and
+    /// that its messages up to `stable` are stable, 0 where none is. The ids wait no more, and join the order known once
+    /// they are learnt here, as at any other site: until then `assign` would set the same places again, and `tail` lacks
+    /// them.
+    #[tactic(auto, using(crate::proofs::Logs::change_opened))]
+    pub fn note(&mut self, group: GroupNo, count: u32, stable: u32) -> Result<(), NoMemory>
+        ensures { OnOk result (self.new ≡ change_log group (assigned count stable) self.old) }
+    {
+        open_in(&mut self.logs, group)?;
+        note_in(&mut self.logs, group, count, stable)?;
+        Ok(())
+    }
+
+    /// Whether the holder here may deliver one more ABCAST: it delivered fewer than 512 beyond those that its set-order
+    /// messages up to count `stable` list, and a place is left for it. Takes no memory.
+    pub fn has_room(&self, group: GroupNo, stable: u32) -> bool
+        ensures { result ≡ has_room_in stable (log_of self.now group) }
+    {
+        match log_in(&self.logs, group) {
+            Some(log) => log.has_room(stable),
+            None => true,
+        }
+    }
+
+    /// Whether the holder here delivered an ABCAST that it has not listed. Takes no memory.
+    pub fn waits(&self, group: GroupNo) -> bool
+        ensures { result ≡ waits_in (log_of self.now group) }
+    {
+        match log_in(&self.logs, group) {
+            Some(log) => log.waits(),
+            None => false,
+        }
+    }
+
+    /// The last ids of the order known and, behind it, of what waits to be listed, at most 512, and how many stand before
+    /// them.
+    pub fn tail(&self, group: GroupNo) -> Result<(usize, Listed<(Proc, u32)>), NoMemory>
+        ensures { IfOk result (λ t. t ≡ (tail_start (whole_order (log_of self.now group)), tail_ids (whole_order (log_of self.now group)))) }
+    {
+        match log_in(&self.logs, group) {
+            Some(log) => log.tail(),
+            None => Ok((0, Listed::new(*self.logs.allocator()))),
+        }
+    }
+
+    /// Forgets all of a group's order: a new view has an empty one. Takes no memory.
+    pub fn forget(&mut self, group: GroupNo)
+        ensures { self.new ≡ filter (λ l. not (group_eq l.group group)) self.old }
+    {
+        forget_in(&mut self.logs, group);
+    }
+}
+
+// The log of a group.
+fn log_in(logs: &[OrderLog], group: GroupNo) -> Option<&OrderLog>
+    ensures { option_copied result ≡ find (λ l. group_eq l.group group) logs.now }
+{
+    logs.iter().find(|log| log.group == group)
+}
+
+// Whether a group has a log.
+fn has_log(logs: &[OrderLog], group: GroupNo) -> bool
+    ensures { result ≡ list_any (λ l. group_eq l.group group) logs.now }
+{
+    logs.iter().any(|log| log.group == group)
+}
+
+// Adds a new log for a group that has none.
+fn open_in(logs: &mut Vec<OrderLog>, group: GroupNo) -> Result<(), NoMemory>
+    ensures { OnOk result (logs.new.items ≡ opened group logs.old.items) }
+{
+    if has_log(logs, group) {
+        return Ok(());
+    }
+    let alloc = *logs.allocator();
+    logs.push(OrderLog::new(alloc, group))?;
+    Ok(())
+}
+
+// Each log of the group takes in a set-order message.
+fn learn_in(logs: &mut Vec<OrderLog>, group: GroupNo, placement: &Placement) -> Result<(), NoMemory>
+    ensures { OnOk result (logs.new.items ≡ change_in group (learnt placement.now) logs.old.items) }
+{
+    for log in logs.iter_mut() {
+        if log.group == group {
+            log.learn(placement)?;
+        }
+    }
+    Ok(())
+}
+
+// Each log of the group takes in how many ids a process passed.
+fn pass_in(
+    logs: &mut Vec<OrderLog>,
+    group: GroupNo,
+    process: Proc,
+    count: usize,
+) -> Result<(), NoMemory>
+    ensures { OnOk result (logs.new.items ≡ change_in group (passed process count) logs.old.items) }
+{
+    for log in logs.iter_mut() {
+        if log.group == group {
+            log.pass(process, count)?;
+        }
+    }
+    Ok(())
+}
+
+// Each log of the group takes in an ABCAST that the holder delivered.
+fn tell_in(logs: &mut Vec<OrderLog>, group: GroupNo, id: (Proc, u32)) -> Result<(), NoMemory>
+    ensures { OnOk result (logs.new.items ≡ change_in group (told id) logs.old.items) }
+{
+    for log in logs.iter_mut() {
+        if log.group == group {
+            log.tell(id)?;
+        }
+    }
+    Ok(())
+}
+
+// Each log of the group takes in that the assigned ids were sent.
+fn note_in(
+    logs: &mut Vec<OrderLog>,
+    group: GroupNo,
+    count: u32,
+    stable: u32,
+) -> Result<(), NoMemory>
+    ensures { OnOk result (logs.new.items ≡ change_in group (assigned count stable) logs.old.items) }
+{
+    for log in logs.iter_mut() {
+        if log.group == group {
+            log.note(count, stable)?;
+        }
+    }
+    Ok(())
+}
+
+// Keeps the logs of other groups.
+fn forget_in(logs: &mut Vec<OrderLog>, group: GroupNo)
+    ensures { logs.new.items ≡ but_log group logs.old.items }
+{
+    logs.retain(|log| log.group != group);
+}
