@@ -2,10 +2,9 @@
 use Rattle.std.proofs.Common.{◌≡◌, Bool, true, false, not, ◌&&◌, ◌||◌, List, refl, sym, ap, ◌∙◌, inl, inr}
 use Rattle.std.specs.Prelude.{◌==◌}
 use Rattle.std.specs.List as list
-use Rattle.std.proofs.lemmas.Bool.{false≢true, and_parts, and_from, or_cases, not-true, eqb-true, eq-eqb}
+use Rattle.std.proofs.lemmas.Bool.{false≢true, and_parts, or_cases, not-true}
 use Rattle.cast_types.specs.declared.names.GroupNo.{GroupNo}
-use Rattle.cast_types.specs.Names.{Entry, proc_eq, entry_eq, entry_of, is_atomic}
-use Rattle.cast_types.proofs.Orders.{same_proc, proc_itself}
+use Rattle.cast_types.specs.Names.{entry_of, is_atomic}
 use Rattle.cast_clock.specs.Times.{join, has_room}
 use Rattle.cast_frame.specs.declared.message.Message.{Message}
 use Rattle.cast_frame.specs.Bodies.{kind_of}
@@ -21,17 +20,6 @@ in_turn turn m = not (is_atomic (kind_of m.body)) || has_turn (turn m.id.group) 
 pub and_agree : (a b c : Bool) → (a ≡ true → b ≡ c) → (a && b) ≡ (a && c)
 and_agree true b c same = same refl
 and_agree false b c same = refl
-
--- entries that are equal are one
-pub same_entry : (a b : Entry) → entry_eq a b ≡ true → a ≡ b
-same_entry a b same =
-    let parts = and_parts (proc_eq a.0 b.0) (a.1 == b.1) same in
-    let proc = same_proc a.0 b.0 parts.0 in
-    let count = eqb-true a.1 b.1 parts.1 in
-    λ i. (proc i, count i)
-
-pub entry_itself : (a : Entry) → entry_eq a a ≡ true
-entry_itself a = and_from (proc_eq a.0 a.0) (a.1 == a.1) (proc_itself a.0) (eq-eqb a.1 a.1 refl)
 
 module _ (groups : List GroupNo) (gate : GroupNo → Gate) (p : Process) where
   -- the process is a member of the group of what is causally ready

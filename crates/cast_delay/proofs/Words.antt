@@ -13,7 +13,7 @@ use Rattle.cast_types.specs.declared.names.Kind.TheVariants.{Causal, Atomic, Ord
 use Rattle.cast_types.specs.Names.{Entry, group_cmp, proc_cmp, uid_eq, named, entry_of, is_atomic}
 use Rattle.cast_types.specs.Sets.{is_among}
 use Rattle.cast_types.specs.Counts.{count_of}
-use Rattle.cast_types.proofs.Orders.{group_exact, proc_total, proc_exact, same_uid, uid_itself}
+use Rattle.cast_types.proofs.Orders.{group_exact, proc_total, proc_exact, same_uid, uid_itself, same_entry, entry_itself}
 use Rattle.cast_clock.specs.Times.{first_clock, clock_of, view_of, join, has_room}
 use Rattle.cast_clock.specs.Laws.{is_in_order}
 use Rattle.cast_clock.proofs.Entries.{found_or, each_found, as_T}
@@ -27,7 +27,7 @@ use Rattle.cast_delay.proofs.Listed.{range_holds, holds_range}
 use Rattle.cast_delay.proofs.Counted.{past_spelled}
 use Rattle.cast_delay.proofs.Delivers.{only_member}
 use Rattle.cast_delay.proofs.Finds.{contains_here, contains_later}
-use Rattle.cast_delay.proofs.Turns.{in_turn, same_entry, entry_itself, ready_causally, ready_has_turn}
+use Rattle.cast_delay.proofs.Turns.{in_turn, ready_causally, ready_has_turn}
 
 -- an item of a longer list is its first or one of the rest
 contains_cases : {A : Type 0} (x y : A) (xs : List A) → Contains (x ∷ xs) y → (x ≡ y) ⊎ Contains xs y

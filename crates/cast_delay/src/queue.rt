@@ -21,7 +21,7 @@ use crate::row::{Fact, Row};
 use crate::turn::Turn;
 use cast_clock::Times;
 use cast_frame::Message;
-use cast_types::{GroupNo, Key, Keyed, Kind, NoMemory, Proc, Standing, Uid};
+use cast_types::{GroupNo, Key, Keyed, NoMemory, Proc, Standing, Uid};
 use std::alloc::Global;
 use std::marker::Model;
 
@@ -86,7 +86,7 @@ impl Delay {
         self.offered.push(Offered {
             key,
             id: message.id,
-            atomic: is_atomic(message.kind()),
+            atomic: message.kind().is_atomic(),
             times: message.times.copy()?,
         })?;
         Ok(())
@@ -188,16 +188,6 @@ fn row_in(rows: &[Row], process: Proc) -> Option<&Row>
     ensures { option_copied result ≡ row_of rows.now process }
 {
     rows.iter().find(|row| row.process == process)
-}
-
-// Whether a message of a kind is an ABCAST.
-fn is_atomic(kind: Kind) -> bool
-    ensures { result ≡ is_atomic kind }
-{
-    match kind {
-        Kind::Atomic => true,
-        Kind::Causal | Kind::Order => false,
-    }
 }
 
 // The first message that is ready for a row, where these are the turns of groups.

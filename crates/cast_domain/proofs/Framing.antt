@@ -13,7 +13,6 @@ use Rattle.cast_types.specs.Names.{site_eq, group_eq, proc_eq, uid_eq, is_order}
 use Rattle.cast_types.specs.Places.{update}
 use Rattle.cast_types.specs.Sets.{is_among}
 use Rattle.cast_types.proofs.Orders.{same_site, same_uid, uid_itself}
-use Rattle.cast_delay.proofs.Listed.{same_bools}
 use Rattle.cast_clock.specs.Times.{clock_of, count_in}
 use Rattle.cast_frame.specs.declared.message.Body.{Body}
 use Rattle.cast_frame.specs.declared.message.Message.{Message}
@@ -50,6 +49,7 @@ use Rattle.cast_domain.proofs.Owings.{fits_owed, fits_owe, fits_pay}
 use Rattle.cast_domain.proofs.Ordering.{order_room_there}
 use Rattle.cast_domain.proofs.Commands.{fits_ask_home, room_there}
 use Rattle.cast_domain.proofs.Entering.{fits_complete}
+use Rattle.cast_types.proofs.Tests.{same_bools}
 
 -- a frame, and the site that it is sent to, may be written in two ways
 fits_send_as : (r : Records) (s : State) → Fits r s → (to at : SiteNo) (f g : SiteFrame) → to ≡ at → f ≡ g → Fits (send_in r to f) (emitted s at g)

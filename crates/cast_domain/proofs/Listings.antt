@@ -12,7 +12,7 @@ use Rattle.cast_types.specs.declared.names.Proc.{Proc}
 use Rattle.cast_types.specs.declared.names.Uid.{Uid}
 use Rattle.cast_types.specs.Names.{Entry, entry_eq, uid_eq, proc_eq, group_eq, is_atomic, is_order, entry_of}
 use Rattle.cast_types.specs.Sets.{is_among, set_at}
-use Rattle.cast_types.proofs.Orders.{group_itself, proc_itself}
+use Rattle.cast_types.proofs.Orders.{group_itself, proc_itself, entry_itself}
 use Rattle.cast_frame.specs.declared.message.Body.TheVariants as body
 use Rattle.cast_frame.specs.declared.message.Message.{Message}
 use Rattle.cast_frame.specs.Bodies.{kind_of}
@@ -215,9 +215,6 @@ order_message_itself s g k =
     and_from (is_of_view s g (order_message s g k).id) _
     (and_from (group_eq g g) _ (group_itself g) (eq-eqb (s.group g).number (s.group g).number refl))
     (proc_itself (local s k))
-
-entry_itself : (e : Entry) → entry_eq e e ≡ true
-entry_itself e = and_from (proc_eq e.0 e.0) (e.1 == e.1) (proc_itself e.0) (eq-eqb e.1 e.1 refl)
 
 first_placed : (e : Entry) (es : List Entry) → is_among entry_eq e (ids_to_list (e ∷ es)) ≡ true
 first_placed e es = or_left (entry_eq e e) _ (entry_itself e)

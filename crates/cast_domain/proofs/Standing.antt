@@ -35,7 +35,6 @@ use Rattle.cast_stable.specs.Fits.{Fits as AcksFits}
 use Rattle.cast_stable.proofs.Meanings.{new_fits as acks_new_fits, tell_fits as acks_tell_fits, receive_fits as acks_receive_fits}
 use Rattle.cast_delay.specs.Fits.{IsSound, FactFits, Fits as QueueFits, set_process as set_named, told as told_of}
 use Rattle.cast_delay.proofs.Queues.{new_fits, admit_fits, tell_fits, view_fits, offer_fits}
-use Rattle.cast_delay.proofs.Listed.{same_bools}
 use Rattle.cast_delay.proofs.Finds.{find-append_some, find-append_none}
 use Rattle.cast_order.specs.Log.{Log, log_of, but_log}
 use Rattle.cast_order.proofs.Meanings.{new_fits as order_new_fits}
@@ -56,6 +55,7 @@ use Rattle.cast_domain.specs.Calls.{place_among, local_in, place_in, no_record, 
 use Rattle.cast_domain.specs.Fits.{process_named, record_for, session_in, LogFits, Fits, IsLawful}
 use Rattle.cast_domain.proofs.Logs.{log_alike, settled_same, logs_receive, logs_view}
 use Rattle.cast_domain.proofs.Spots.{length_update, update_own, update_other, push_last, push_other, update_mapped}
+use Rattle.cast_types.proofs.Tests.{same_bools}
 
 -- nothing is left of two tests where the second fails
 pub and_none : (a : Bool) → (a && false) ≡ false

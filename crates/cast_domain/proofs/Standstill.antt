@@ -15,7 +15,6 @@ use Rattle.cast_frame.specs.Bodies.{kind_of}
 use Rattle.cast_delay.specs.declared.row.Row.{Row}
 use Rattle.cast_delay.specs.Ready.{has_delivered}
 use Rattle.cast_delay.specs.Fits.{RowFits, row_for}
-use Rattle.cast_delay.proofs.Listed.{same_bools}
 use Rattle.cast_order.specs.Order.{ids_to_list, place_after}
 use Rattle.cast_order.specs.Log.{log_of}
 use Rattle.cast_domain.specs.declared.record.GroupRecord.{GroupRecord}
@@ -37,6 +36,7 @@ use Rattle.cast_domain.proofs.Standing.{process_here}
 use Rattle.cast_domain.proofs.Ordering.{waiting_there}
 use Rattle.cast_domain.proofs.Turns.{fits_settle, fits_lead}
 use Rattle.cast_domain.proofs.SetOrders.{holder_local, fits_set_orders}
+use Rattle.cast_types.proofs.Tests.{same_bools}
 
 -- deliveries, then set-order messages, and then the home
 pub fits_pass : (r : Records) (s : State) → Fits r s → IsLawful s → Fits (pass_in r) (pass s)

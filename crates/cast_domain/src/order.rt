@@ -1,6 +1,5 @@
 ghost use Rattle.std.specs.Prelude.{◌≡◌, ◌<◌, ◌&&◌, false, IfOk, OnOk, vec_len};
 ghost use Rattle.std.specs.List.{list_any};
-ghost use Rattle.cast_types.specs.Names.{is_atomic};
 ghost use Rattle.cast_delay.specs.Queue.{next_key};
 ghost use Rattle.cast_delay.specs.Ready.{is_member};
 ghost use Rattle.cast_domain.specs.Records.{no_outs};
@@ -60,7 +59,7 @@ impl Domain {
     fn is_own(&self, process: Proc, message: &Message) -> bool
         ensures { result ≡ is_own_in (records_of self.now no_part no_outs) process message.now }
     {
-        is_atomic(message.kind())
+        message.kind().is_atomic()
             && message.id.proc == process
             && self.is_current(message.id)
             && is_member(self.delay.standing(process, message.id.group))
@@ -262,16 +261,6 @@ pub(crate) fn learn(orders: &mut Orders, message: &Message) -> Result<(), NoMemo
     match &message.body {
         Body::Order(places) => orders.learn(message.id.group, places),
         Body::Causal(_) | Body::Atomic(_) => Ok(()),
-    }
-}
-
-// Whether a kind is that of ABCASTs.
-pub(crate) fn is_atomic(kind: Kind) -> bool
-    ensures { result ≡ is_atomic kind }
-{
-    match kind {
-        Kind::Atomic => true,
-        Kind::Causal | Kind::Order => false,
     }
 }
 

@@ -6,7 +6,6 @@ ghost use Rattle.cast_domain.specs.Effects.{told_of};
 use crate::domain::Domain;
 use crate::event::Outs;
 use crate::home::sites_of;
-use crate::order::is_atomic;
 use crate::record::decide_at;
 use crate::shared::Shared;
 use cast_frame::{Body, CastKind, Message, Push, SiteFrame, Tail};
@@ -118,7 +117,7 @@ impl Domain {
             return Ok(());
         };
         let id = message.id;
-        let atomic = is_atomic(message.kind());
+        let atomic = message.kind().is_atomic();
         let push = push_of(message)?;
         self.take_delivery(process, key, id, outs)?;
         self.note_if(atomic, process, id)?;

@@ -1,17 +1,11 @@
 -- Lists of entries: what a test finds and keeps, and what is among them.
 use Rattle.std.proofs.Common.{◌≡◌, ℕ, zero, suc, ◌+◌, ◌-◌, Bool, true, false, cond, not, List, [], ◌∷◌, ◌++◌, length, take, drop, Option, Some, None, refl, sym, ap, subst, ◌∙◌, inl, inr, arith}
-use Rattle.std.specs.Prelude.{◌==◌}
 use Rattle.std.specs.List.{find, filter, list_all}
 use Rattle.std.specs.Option.{option_or}
-use Rattle.std.proofs.lemmas.Bool.{cases_Bool, false≢true, false_from_ne_true, and_parts, and_from, or_cases, or_left, or_right, eqb-true, eq-eqb}
-use Rattle.std.proofs.lemmas.Bool.Decides.{same_from_decides}
-use Rattle.cast_types.specs.Names.{Entry, proc_eq, entry_eq}
+use Rattle.std.proofs.lemmas.Bool.{cases_Bool, false≢true, false_from_ne_true, and_parts, or_cases, or_left, or_right}
+use Rattle.cast_types.specs.Names.{Entry, entry_eq}
 use Rattle.cast_types.specs.Sets.{is_among}
-use Rattle.cast_types.proofs.Orders.{same_proc, proc_itself}
-
--- tests that follow from each other are one
-pub same_bools : (a b : Bool) → (a ≡ true → b ≡ true) → (b ≡ true → a ≡ true) → a ≡ b
-same_bools a b there back = same_from_decides {P = b ≡ true} a b (there, back) (λ e. e, λ e. e)
+use Rattle.cast_types.proofs.Orders.{same_entry, entry_itself}
 
 pub or_none : {A : Type 0} (o : Option A) → option_or o None ≡ o
 or_none None = refl
@@ -20,18 +14,6 @@ or_none (Some x) = refl
 pub or_again : {A : Type 0} (a b c : Option A) → option_or (option_or a b) c ≡ option_or a (option_or b c)
 or_again None b c = refl
 or_again (Some x) b c = refl
-
--- entries
-
-pub entry_itself : (a : Entry) → entry_eq a a ≡ true
-entry_itself a = and_from (proc_eq a.0 a.0) (a.1 == a.1) (proc_itself a.0) (eq-eqb a.1 a.1 refl)
-
-pub same_entry : (a b : Entry) → entry_eq a b ≡ true → a ≡ b
-same_entry a b h =
-    let parts = and_parts (proc_eq a.0 b.0) (a.1 == b.1) h in
-    let procs = same_proc a.0 b.0 parts.0 in
-    let counts = eqb-true a.1 b.1 parts.1 in
-    λ i. (procs i, counts i)
 
 -- an entry and one of a list that lacks it differ
 pub differ : (x y : Entry) (xs : List Entry) → is_among entry_eq x xs ≡ false → is_among entry_eq y xs ≡ true → entry_eq y x ≡ false

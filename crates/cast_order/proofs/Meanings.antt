@@ -13,13 +13,13 @@ use Rattle.cast_types.specs.declared.limits.TheConstants.{MAX_PLACED, MAX_POSITI
 use Rattle.cast_types.specs.declared.names.Proc.{Proc}
 use Rattle.cast_types.specs.Names.{Entry, entry_eq, proc_cmp}
 use Rattle.cast_types.specs.Sets.{is_among}
-use Rattle.cast_types.proofs.Orders.{proc_total, proc_exact, tie_same}
+use Rattle.cast_types.proofs.Orders.{proc_total, proc_exact, tie_same, same_entry}
 use Rattle.cast_frame.specs.Sequence.{Sequence}
 use Rattle.cast_order.specs.Order.{Facts, facts_of, id_at, Listing, listed_ids, still_to_list, ids_to_list, place_after, is_distinct}
 use Rattle.cast_order.specs.Log.{Log, with_facts, place_of, next_in, passed, waits_in, next_places, assigned, learnt}
 use Rattle.cast_order.specs.Fits.{Fits}
 use Rattle.cast_order.specs.Laws.{NewFits, LearnKeepsMeaning, TellKeepsMeaning, AssignKeepsMeaning, PassKeepsMeaning, MoreKeepsMeaning, NextIsTheRule, UnsettledIsTheRule, AssignIsTheRule, WholeIsTheRule}
-use Rattle.cast_order.proofs.Lists.{same_entry, kept_among, taken_among, none_fails, none_fails_more, take_on}
+use Rattle.cast_order.proofs.Lists.{kept_among, taken_among, none_fails, none_fails_more, take_on}
 use Rattle.cast_order.proofs.Told.{id_at-append, facts_told, past_told, known_grows, none_known}
 use Rattle.cast_order.proofs.Once.{among-append, among_left, distinct-append, distinct-filter, distinct-take, left_to_list, beyond_counted, listed_push, beyond_push, above_push, above_kept}
 

@@ -12,7 +12,8 @@ use Rattle.cast_types.specs.Names.{Entry, entry_eq}
 use Rattle.cast_types.specs.Sets.{is_among}
 use Rattle.cast_order.specs.Order.{Listing, listed_ids, listed_upto, listed_beyond, still_to_list, is_distinct}
 use Rattle.cast_order.specs.Log.{ids_above}
-use Rattle.cast_order.proofs.Lists.{entry_itself, same_entry, differ, differ_back, among_first, kept_among, taken_among, filter_alike, filter_within}
+use Rattle.cast_order.proofs.Lists.{differ, differ_back, among_first, kept_among, taken_among, filter_alike, filter_within}
+use Rattle.cast_types.proofs.Orders.{same_entry, entry_itself}
 
 abbrev among : Entry → List Entry → Bool
 among e xs = is_among entry_eq e xs

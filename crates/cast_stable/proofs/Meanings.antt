@@ -21,10 +21,11 @@ use Rattle.cast_stable.specs.Witnesses.{witness}
 use Rattle.cast_stable.specs.Stable.{Acked, has_acked, stable_upto, was_told, is_known_stable}
 use Rattle.cast_stable.specs.Ledger.{Ledger, source_of, others_in, received_run, acked_run, told_count, is_received_in, has_acked_in, least_acked, upto_in, is_stable_among, is_stable_in, new_ledger, told_ledger, received_ledger, acked_ledger, learnt_ledger}
 use Rattle.cast_stable.specs.Fits.{Fits}
-use Rattle.cast_stable.proofs.Runs.{same_bools, and_false, eqb_sym, next_apart, inserted_is, contains_inserted}
+use Rattle.cast_stable.proofs.Runs.{and_false, eqb_sym, next_apart, inserted_is, contains_inserted}
 use Rattle.cast_stable.proofs.Witnesses.{witness_total, witness_exact, key_cases, put_here, put_elsewhere}
 use Rattle.cast_stable.proofs.Lists.{contains_here, contains_later, contains_cases, least_first, least_each, least_reached}
 use Rattle.cast_stable.proofs.Greatest.{stable_greatest, one_greatest}
+use Rattle.cast_types.proofs.Tests.{same_bools}
 
 or_false : (b : Bool) → (b || false) ≡ b
 or_false b = or_comm b false

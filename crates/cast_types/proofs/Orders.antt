@@ -1,6 +1,6 @@
 -- The orders of names are total, and names that compare alike are one.
-use Rattle.std.proofs.Common.{◌≡◌, ℕ, Bool, true, false, ◌⊎◌, Ordering, Less, Equal, Greater, refl, sym, ap, ◌∙◌, inl, inr}
-use Rattle.std.specs.Prelude.{nat_lt, ◌==◌, ◌&&◌}
+use Rattle.std.proofs.Common.{◌≡◌, ℕ, true, false, ◌⊎◌, Ordering, Less, Equal, Greater, refl, sym, ap, ◌∙◌, inl, inr}
+use Rattle.std.specs.Prelude.{◌==◌, ◌&&◌}
 use Rattle.std.specs.Ordering.{nat_cmp, ordering_then, is_eq, eq_by_cmp}
 use Rattle.std.specs.Cmp.{IsTotalOrder}
 use Rattle.std.proofs.lemmas.Cmp.{nat_cmp_total, on_total, then_total, tied_itself}
@@ -10,8 +10,7 @@ use Rattle.cast_types.specs.declared.names.SiteNo.{SiteNo}
 use Rattle.cast_types.specs.declared.names.GroupNo.{GroupNo}
 use Rattle.cast_types.specs.declared.names.Proc.{Proc}
 use Rattle.cast_types.specs.declared.names.Uid.{Uid}
-use Rattle.cast_types.specs.declared.names.DomainNo.{DomainNo}
-use Rattle.cast_types.specs.Names.{Entry, domain_cmp, site_cmp, group_cmp, proc_cmp, entry_cmp, uid_cmp, site_eq, group_eq, proc_eq, uid_eq}
+use Rattle.cast_types.specs.Names.{Entry, domain_cmp, site_cmp, group_cmp, proc_cmp, entry_cmp, uid_cmp, site_eq, group_eq, proc_eq, entry_eq, uid_eq}
 
 pub domain_total : IsTotalOrder domain_cmp
 domain_total = on_total (λ d. d.0) nat_cmp_total
@@ -77,6 +76,13 @@ same_uid a b h =
     let counts = eqb-true a.count b.count third.1 in
     λ i. record { group = groups i; view = views i; proc = procs i; count = counts i }
 
+pub same_entry : (a b : Entry) → entry_eq a b ≡ true → a ≡ b
+same_entry a b h =
+    let parts = and_parts (proc_eq a.0 b.0) (a.1 == b.1) h in
+    let procs = same_proc a.0 b.0 parts.0 in
+    let counts = eqb-true a.1 b.1 parts.1 in
+    λ i. (procs i, counts i)
+
 -- a name tests equal to itself
 pub site_itself : (a : SiteNo) → site_eq a a ≡ true
 site_itself a = eq-eqb a.0 a.0 refl
@@ -86,6 +92,9 @@ group_itself a = eq-eqb a.0 a.0 refl
 
 pub proc_itself : (a : Proc) → proc_eq a a ≡ true
 proc_itself a = and_from (site_eq a.site a.site) (a.serial == a.serial) (site_itself a.site) (eq-eqb a.serial a.serial refl)
+
+pub entry_itself : (a : Entry) → entry_eq a a ≡ true
+entry_itself a = and_from (proc_eq a.0 a.0) (a.1 == a.1) (proc_itself a.0) (eq-eqb a.1 a.1 refl)
 
 pub uid_itself : (a : Uid) → uid_eq a a ≡ true
 uid_itself a =

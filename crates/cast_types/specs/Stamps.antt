@@ -1,5 +1,5 @@
 -- The time that a message bears: a clock for each group, in order of groups.
-use Rattle.std.specs.Prelude.{ℕ, Bool, ◌&&◌, nat_lt, nat_le, List, length}
+use Rattle.std.specs.Prelude.{Bool, ◌&&◌, nat_lt, nat_le, List, length}
 use Rattle.std.specs.List.{list_all}
 use Rattle.std.specs.FinMap.Entries.{is_sorted}
 use Rattle.cast_types.specs.declared.names.GroupNo.{GroupNo}

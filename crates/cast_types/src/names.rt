@@ -1,3 +1,5 @@
+ghost use Rattle.std.specs.Prelude.{◌≡◌};
+
 /// The number of a domain, 1 to 255.
 #[derive(Clone, Copy, Debug, PartialEq, Eq, PartialOrd, Ord, Hash)]
 pub struct DomainNo(pub u8);
@@ -37,6 +39,20 @@ pub enum Kind {
     Atomic,
     /// Sets places of that order (a sets-order message).
     Order,
+}
+
+impl Kind {
+    ghost use Rattle.cast_types.specs.Names.{is_atomic};
+
+    /// Whether a message of this kind is an ABCAST.
+    pub fn is_atomic(self) -> bool
+        ensures { result ≡ is_atomic self }
+    {
+        match self {
+            Kind::Atomic => true,
+            Kind::Causal | Kind::Order => false,
+        }
+    }
 }
 
 /// The key under which a domain keeps a message.

@@ -1,4 +1,4 @@
-use Rattle.std.proofs.Common.{◌≡◌, length, ◌<◌, Equal, get_or, sym, ap, ◌∙◌, arith}
+use Rattle.std.proofs.Common.{◌≡◌, length, ◌<◌, Equal, get_or, arith}
 use Rattle.std.proofs.lemmas.List.{get_or_default}
 use Rattle.cast_types.proofs.Entries.{put_at}
 use Rattle.cast_types.proofs.sorted.put.Goals as goal

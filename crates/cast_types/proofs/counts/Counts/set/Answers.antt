@@ -1,7 +1,3 @@
-use Rattle.std.proofs.Common.{◌≡◌, ap, true, ◌≤◌, length, ◌∙◌, rules}
-use Rattle.std.specs.FinMap.Entries.{put}
-use Rattle.cast_types.specs.Names.{proc_cmp}
-use Rattle.cast_types.specs.Counts.{is_counts}
 use Rattle.cast_types.proofs.CountLists.{counts-put}
 use Rattle.cast_types.proofs.counts.Counts.set.Goals as goal
 
