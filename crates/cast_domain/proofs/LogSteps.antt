@@ -23,7 +23,7 @@ use Rattle.cast_frame.specs.Sequence.{Sequence}
 use Rattle.cast_delay.specs.Ready.{Process, has_delivered}
 use Rattle.cast_order.specs.Order.{facts_of}
 use Rattle.cast_order.specs.Log.{Log, log_of, change_log, learnt, next_in, next_places, passed, told, assigned}
-use Rattle.cast_order.proofs.Meanings.{learn_fits, tell_fits, assign_fits, pass_fits, more_fits}
+use Rattle.cast_order.proofs.Meanings.{learnt_group, learn_fits, tell_fits, assign_fits, pass_fits, more_fits}
 use Rattle.cast_order.proofs.Logs.{log_of_change}
 use Rattle.cast_domain.specs.Group.{holder_of, is_process, holder_at}
 use Rattle.cast_domain.specs.State.{State, no_process, local}
@@ -216,7 +216,7 @@ logs_deliver s k m n orders traced fits fresh current passes h = at (is_atomic (
 -- when so many of its messages were stable
 pub logs_place : (s : State) (k : ℕ) (m : Message) (q : Sequence) (n : ℕ) (orders : List Log) → ((h : GroupNo) → LogFits s h (log_of orders h)) → holds s m.id.group k ≡ true → is_of_view s m.id.group m.id ≡ true → m.id.proc ≡ local s k → m.body ≡ body.Order q → Some q ≡ next_places (log_of orders m.id.group) → n ≡ settled_here s m.id.group → m.id.count ≤ MAX_NUMBER → (h : GroupNo) → LogFits (receiving s m) h (log_of (change_log m.id.group (learnt q) (change_log m.id.group (assigned m.id.count n) orders)) h)
 logs_place s k m q n orders fits here current own is next settled most h =
-    subst (LogFits t h) (sym (log_of_change noted g h (learnt q) (λ l. refl)))
+    subst (LogFits t h) (sym (log_of_change noted g h (learnt q) (learnt_group q)))
     (elim (cases_Bool (group_eq g h)) [
       | inl same ↦
           subst (LogFits t h) (sym (ap (λ b. if b then learnt q (log_of noted g) else log_of noted h) same))

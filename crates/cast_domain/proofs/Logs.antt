@@ -29,7 +29,7 @@ use Rattle.cast_delay.proofs.Finds.{contains_here, contains_later}
 use Rattle.cast_order.specs.Order.{Facts, facts_of, Listing}
 use Rattle.cast_order.specs.Log.{Log, new_log, log_of, but_log, learnt}
 use Rattle.cast_order.specs.Fits.{Fits as OrderFits}
-use Rattle.cast_order.proofs.Meanings.{new_fits as order_new_fits, learn_fits, more_fits}
+use Rattle.cast_order.proofs.Meanings.{new_fits as order_new_fits, learnt_group, learn_fits, more_fits}
 use Rattle.cast_order.proofs.Logs.{log_of_change, log_of_forget}
 use Rattle.cast_domain.specs.declared.group.Group.{Group}
 use Rattle.cast_domain.specs.Group.{no_group, holder_at, members_of, other_sites, with_view}
@@ -177,7 +177,7 @@ logs_receive s m orders fits current foreign h = at m.body refl
     at (body.Causal payload) is = log_silent s h m (log_of orders h) (ap told_by is) (ap (λ b. is_order (kind_of b)) is) (fits h)
     at (body.Atomic payload) is = log_silent s h m (log_of orders h) (ap told_by is) (ap (λ b. is_order (kind_of b)) is) (fits h)
     at (body.Order q) is =
-        subst (LogFits (receiving s m) h) (sym (log_of_change orders m.id.group h (learnt q) (λ l. refl)))
+        subst (LogFits (receiving s m) h) (sym (log_of_change orders m.id.group h (learnt q) (learnt_group q)))
         (elim (cases_Bool (group_eq m.id.group h)) [
           | inl same ↦
               subst (LogFits (receiving s m) h) (sym (ap (λ b. if b then learnt q (log_of orders m.id.group) else log_of orders h) same))

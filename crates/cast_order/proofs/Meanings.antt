@@ -1,7 +1,7 @@
 -- What changes a group's log changes what it means in the same way; and what it means.
 use Rattle.std.proofs.Common.{◌≡◌, ℕ, ◌+◌, ◌<◌, ◌≤◌, min, Bool, true, false, cond, not, ◌&&◌, List, [], ◌∷◌, ◌++◌, length, take, drop, length-append, Option, Some, None, unwrap_or, refl, sym, ap, subst, ◌∙◌, inl, inr, arith}
 use Rattle.std.specs.Prelude.{nat_lt, if◌then◌else◌}
-use Rattle.std.specs.List.{find, filter}
+use Rattle.std.specs.List.{find, filter, list_all}
 use Rattle.std.specs.Option.{option_or}
 use Rattle.std.specs.Ordering.{eq_by_cmp}
 use Rattle.std.specs.FinMap.Entries.{find as find_key, find-put}
@@ -15,8 +15,8 @@ use Rattle.cast_types.specs.Names.{Entry, entry_eq, proc_cmp}
 use Rattle.cast_types.specs.Sets.{is_among}
 use Rattle.cast_types.proofs.Orders.{proc_total, proc_exact, tie_same, same_entry}
 use Rattle.cast_frame.specs.Sequence.{Sequence}
-use Rattle.cast_order.specs.Order.{Facts, facts_of, id_at, Listing, listed_ids, still_to_list, ids_to_list, place_after, is_distinct}
-use Rattle.cast_order.specs.Log.{Log, with_facts, place_of, next_in, passed, waits_in, next_places, assigned, learnt}
+use Rattle.cast_order.specs.Order.{Facts, facts_of, id_at, Listing, listed_ids, still_to_list, ids_to_list, place_after, is_distinct, next_of}
+use Rattle.cast_order.specs.Log.{Log, with_facts, place_of, next_in, passed, waits_in, next_places, assigned, settled, learnt}
 use Rattle.cast_order.specs.Fits.{Fits}
 use Rattle.cast_order.specs.Laws.{NewFits, LearnKeepsMeaning, TellKeepsMeaning, AssignKeepsMeaning, PassKeepsMeaning, MoreKeepsMeaning, NextIsTheRule, UnsettledIsTheRule, AssignIsTheRule, WholeIsTheRule}
 use Rattle.cast_order.proofs.Lists.{kept_among, taken_among, none_fails, none_fails_more, take_on}
@@ -34,17 +34,30 @@ new_fits g has_passed = record {
   listed_delivered = λ e has. has;
   passed = λ p. refl;
   within = λ p. omega arith;
+  still_open = refl;
 }
 
-pub learn_fits : LearnKeepsMeaning
-learn_fits facts delivered listed has_passed stable l fits s =
+-- an open log takes in a set-order message
+abbrev pub taken_in : Sequence → Log → Log
+taken_in s l = settled (record l { later = with_facts (length l.known) l.later (facts_of s) })
+
+pub learnt_open : (s : Sequence) (l : Log) → l.closed ≡ false → learnt s l ≡ taken_in s l
+learnt_open s l still = ap (λ b. if b then l else taken_in s l) still
+
+-- the group of a log that learns stays
+pub learnt_group : (s : Sequence) (l : Log) → (learnt s l).group ≡ l.group
+learnt_group s l = elim l.closed as (λ b. (if b then l else taken_in s l).group ≡ l.group) [ true ↦ refl | false ↦ refl ]
+
+-- what it takes in was told of the order
+take_in_fits : (facts : Facts) (delivered : List Entry) (listed : Listing) (has_passed : Proc → Entry → Bool) (stable : ℕ) (l : Log) → Fits facts delivered listed has_passed stable l → (s : Sequence) → Fits (facts ++ facts_of s) delivered listed has_passed stable (taken_in s l)
+take_in_fits facts delivered listed has_passed stable l fits s =
     let later = with_facts (length l.known) l.later (facts_of s) in
     let tells : (place : ℕ) → length l.known < place → place ≤ MAX_POSITION → id_at later place ≡ id_at (facts ++ facts_of s) place =
     λ place low high.
     facts_told (length l.known) l.later (facts_of s) place low high
     ∙ ap (λ o. option_or o (id_at (facts_of s) place)) (fits.later place low high)
     ∙ sym (id_at-append facts (facts_of s) place) in
-    let now = (learnt s l).known in
+    let now = (taken_in s l).known in
     let grown : length l.known ≤ length now = simp length-append (omega arith) in
     record {
       known = known_grows facts (facts_of s) later l.known fits.known tells;
@@ -56,7 +69,12 @@ learn_fits facts delivered listed has_passed stable l fits s =
       listed_delivered = fits.listed_delivered;
       passed = λ p. ap (find (λ e. not (has_passed p e))) (take-append-le (place_of l p) l.known _ (fits.within p)) ∙ fits.passed p;
       within = λ p. let le = fits.within p in omega arith;
+      still_open = fits.still_open;
     }
+
+pub learn_fits : LearnKeepsMeaning
+learn_fits facts delivered listed has_passed stable l fits s =
+    subst (Fits (facts ++ facts_of s) delivered listed has_passed stable) (sym (learnt_open s l fits.still_open)) (take_in_fits facts delivered listed has_passed stable l fits s)
 
 pub tell_fits : TellKeepsMeaning
 tell_fits facts delivered listed has_passed stable l fits e new =
@@ -75,6 +93,7 @@ tell_fits facts delivered listed has_passed stable l fits e new =
       listed_delivered = λ x has. among_left x delivered (e ∷ []) (fits.listed_delivered x has);
       passed = fits.passed;
       within = fits.within;
+      still_open = fits.still_open;
     }
   where
     other : (x : Entry) → is_among entry_eq x delivered ≡ true → is_among entry_eq x (e ∷ []) ≡ false
@@ -113,6 +132,7 @@ assign_these facts delivered listed has_passed stable l fits count n le =
       listed_delivered = λ e has. inside e (sym (ap (is_among entry_eq e) all) ∙ has);
       passed = fits.passed;
       within = fits.within;
+      still_open = fits.still_open;
     }
   where
     waits : (e : Entry) → is_among entry_eq e (ids_to_list l.waiting) ≡ true → is_among entry_eq e (still_to_list delivered (listed_ids listed)) ≡ true
@@ -143,6 +163,57 @@ passed_place p n l q =
     ap (λ (o : Option ℕ). unwrap_or o 0) (find-put proc_cmp proc_total q p place l.places)
     ∙ elim (eq_by_cmp proc_cmp q p) as (λ b. unwrap_or (cond b (Some place) (find_key proc_cmp q l.places)) 0 ≡ cond b place (place_of l q)) [ true ↦ refl | false ↦ refl ]
 
+-- and that by whether it is the one that passed them
+at_place : (p : Proc) (n : ℕ) (l : Log) (q : Proc) (b : Bool) → eq_by_cmp proc_cmp q p ≡ b → place_of (passed p n l) q ≡ cond b (place_of l p + min n (length (next_in l p))) (place_of l q)
+at_place p n l q b is = passed_place p n l q ∙ ap (λ c. cond c (place_of l p + min n (length (next_in l p))) (place_of l q)) is
+
+-- each process has delivered the ids before its place, which is within the order known
+abbrev pub HasPassed : (Proc → Entry → Bool) → Log → Type 0
+HasPassed has_passed l = (p : Proc) → find (λ e. not (has_passed p e)) (take (place_of l p) l.known) ≡ None
+
+abbrev pub IsWithin : Log → Type 0
+IsWithin l = (p : Proc) → place_of l p ≤ length l.known
+
+-- both hold after a process passed ids that it has delivered
+pub pass_passes : (has_passed : Proc → Entry → Bool) (l : Log) → HasPassed has_passed l → (p : Proc) (n : ℕ) → list_all (has_passed p) (take n (next_in l p)) ≡ true → HasPassed has_passed (passed p n l)
+pass_passes has_passed l before p n all q = elim (cases_Bool (eq_by_cmp proc_cmp q p)) [
+  | inl tie ↦
+      ap (λ k. find (λ e. not (has_passed q e)) (take k l.known)) (at_place p n l q true tie)
+      ∙ subst (λ r. find (λ e. not (has_passed r e)) (take (place_of l p + min n (length (next_in l p))) l.known) ≡ None) (sym (tie_same proc_exact q p tie)) here
+  | inr other ↦ ap (λ k. find (λ e. not (has_passed q e)) (take k l.known)) (at_place p n l q false other) ∙ before q
+]
+  where
+    here : find (λ e. not (has_passed p e)) (take (place_of l p + min n (length (next_in l p))) l.known) ≡ None
+    here =
+        let t : Entry → Bool = λ e. not (has_passed p e) in
+        let most = min n (length (next_in l p)) in
+        ap (find t) (take_on (place_of l p) most l.known)
+        ∙ find-append t (take (place_of l p) l.known) (take most (next_in l p))
+        ∙ ap (λ o. option_or o (find t (take most (next_in l p)))) (before p)
+        ∙ ap (find t) (take_min n (next_in l p))
+        ∙ none_fails (has_passed p) (take n (next_in l p)) all
+
+pub pass_within : (l : Log) → IsWithin l → (p : Proc) (n : ℕ) → IsWithin (passed p n l)
+pass_within l before p n q = elim (cases_Bool (eq_by_cmp proc_cmp q p)) [
+  | inl tie ↦ subst (λ k. k ≤ length l.known) (sym (at_place p n l q true tie)) moved_within
+  | inr other ↦ subst (λ k. k ≤ length l.known) (sym (at_place p n l q false other)) (before q)
+]
+  where
+    moved_within : place_of l p + min n (length (next_in l p)) ≤ length l.known
+    moved_within =
+        let rest = length-drop (place_of l p) l.known in
+        let was = before p in
+        omega arith
+
+-- from where a process stands on, the first id that it has not delivered is that of all ids known
+pub next_known : (has_passed : Proc → Entry → Bool) (l : Log) → HasPassed has_passed l → (p : Proc) → next_of (has_passed p) l.known ≡ next_of (has_passed p) (next_in l p)
+next_known has_passed l before p =
+    let t : Entry → Bool = λ e. not (has_passed p e) in
+    let front = take (place_of l p) l.known in
+    ap (find t) (sym (take-append-drop (place_of l p) l.known))
+    ∙ find-append t front (drop (place_of l p) l.known)
+    ∙ ap (λ o. option_or o (find t (drop (place_of l p) l.known))) (before p)
+
 pub pass_fits : PassKeepsMeaning
 pass_fits facts delivered listed has_passed stable l fits p n all = record {
   known = fits.known;
@@ -152,36 +223,10 @@ pass_fits facts delivered listed has_passed stable l fits p n all = record {
   delivered_once = fits.delivered_once;
   listed_once = fits.listed_once;
   listed_delivered = fits.listed_delivered;
-  passed = λ q. elim (cases_Bool (eq_by_cmp proc_cmp q p)) [
-    | inl tie ↦
-        ap (λ k. find (λ e. not (has_passed q e)) (take k l.known)) (at_place q true tie)
-        ∙ subst (λ r. find (λ e. not (has_passed r e)) (take (place_of l p + min n (length (next_in l p))) l.known) ≡ None) (sym (tie_same proc_exact q p tie)) here
-    | inr other ↦ ap (λ k. find (λ e. not (has_passed q e)) (take k l.known)) (at_place q false other) ∙ fits.passed q
-  ];
-  within = λ q. elim (cases_Bool (eq_by_cmp proc_cmp q p)) [
-    | inl tie ↦ subst (λ k. k ≤ length l.known) (sym (at_place q true tie)) moved_within
-    | inr other ↦ subst (λ k. k ≤ length l.known) (sym (at_place q false other)) (fits.within q)
-  ];
+  passed = pass_passes has_passed l fits.passed p n all;
+  within = pass_within l fits.within p n;
+  still_open = fits.still_open;
 }
-  where
-    at_place : (q : Proc) (b : Bool) → eq_by_cmp proc_cmp q p ≡ b → place_of (passed p n l) q ≡ cond b (place_of l p + min n (length (next_in l p))) (place_of l q)
-    at_place q b is = passed_place p n l q ∙ ap (λ c. cond c (place_of l p + min n (length (next_in l p))) (place_of l q)) is
-
-    here : find (λ e. not (has_passed p e)) (take (place_of l p + min n (length (next_in l p))) l.known) ≡ None
-    here =
-        let t : Entry → Bool = λ e. not (has_passed p e) in
-        let most = min n (length (next_in l p)) in
-        ap (find t) (take_on (place_of l p) most l.known)
-        ∙ find-append t (take (place_of l p) l.known) (take most (next_in l p))
-        ∙ ap (λ o. option_or o (find t (take most (next_in l p)))) (fits.passed p)
-        ∙ ap (find t) (take_min n (next_in l p))
-        ∙ none_fails (has_passed p) (take n (next_in l p)) all
-
-    moved_within : place_of l p + min n (length (next_in l p)) ≤ length l.known
-    moved_within =
-        let rest = length-drop (place_of l p) l.known in
-        let before = fits.within p in
-        omega arith
 
 pub more_fits : MoreKeepsMeaning
 more_fits facts delivered listed has_passed stable l fits has_now n more le = record {
@@ -194,15 +239,12 @@ more_fits facts delivered listed has_passed stable l fits has_now n more le = re
   listed_delivered = fits.listed_delivered;
   passed = λ p. none_fails_more (has_passed p) (has_now p) (more p) (take (place_of l p) l.known) (fits.passed p);
   within = fits.within;
+  still_open = fits.still_open;
 }
 
 pub next_rules : NextIsTheRule
 next_rules facts delivered listed has_passed stable l fits p =
-    let t : Entry → Bool = λ e. not (has_passed p e) in
-    let front = take (place_of l p) l.known in
-    ap (find t) (sym fits.known ∙ sym (take-append-drop (place_of l p) l.known))
-    ∙ find-append t front (drop (place_of l p) l.known)
-    ∙ ap (λ o. option_or o (find t (drop (place_of l p) l.known))) (fits.passed p)
+    ap (next_of (has_passed p)) (sym fits.known) ∙ next_known has_passed l fits.passed p
 
 pub unsettled_rules : UnsettledIsTheRule
 unsettled_rules facts delivered listed has_passed stable l fits n le =

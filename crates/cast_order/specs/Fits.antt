@@ -1,6 +1,6 @@
 -- What is kept of a group's order means: what was told of it, what the holder here delivered and listed, and what local
 -- processes delivered.
-use Rattle.std.specs.Prelude.{◌≡◌, ℕ, ◌<◌, ◌≤◌, Bool, true, not, List, length, take, None}
+use Rattle.std.specs.Prelude.{◌≡◌, ℕ, ◌<◌, ◌≤◌, Bool, true, false, not, List, length, take, None}
 use Rattle.std.specs.List.{find}
 use Rattle.cast_types.specs.declared.limits.TheConstants.{MAX_POSITION}
 use Rattle.cast_types.specs.declared.names.Proc.{Proc}
@@ -20,5 +20,13 @@ pub record Fits (facts : Facts) (delivered : List Entry) (listed : Listing) (has
   pub delivered_once : is_distinct delivered ≡ true
   pub listed_once : is_distinct (listed_ids listed) ≡ true
   pub listed_delivered : (e : Entry) → is_among entry_eq e (listed_ids listed) ≡ true → is_among entry_eq e delivered ≡ true
+  pub passed : (p : Proc) → find (λ e. not (has_passed p e)) (take (place_of l p) l.known) ≡ None
+  pub within : (p : Proc) → place_of l p ≤ length l.known
+  pub still_open : l.closed ≡ false
+
+-- the log has this order, which is closed; and it tells of what each local process delivered
+pub record FitsClosed (order : List Entry) (has_passed : Proc → Entry → Bool) (l : Log) : Type 0 where
+  pub known : l.known ≡ order
+  pub closed : l.closed ≡ true
   pub passed : (p : Proc) → find (λ e. not (has_passed p e)) (take (place_of l p) l.known) ≡ None
   pub within : (p : Proc) → place_of l p ≤ length l.known

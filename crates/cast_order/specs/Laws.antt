@@ -1,5 +1,5 @@
 -- What is kept of a group's order keeps its meaning: what changes it changes what it means in the same way; what it
--- means; and that groups do not mix.
+-- means; that a closed order stays; and that groups do not mix.
 use Rattle.std.specs.Prelude.{◌≡◌, ℕ, ◌≤◌, Bool, true, false, List, [], ◌∷◌, ◌++◌, length, take, Some, None, if◌then◌else◌, ◌&&◌, nat_lt}
 use Rattle.std.specs.List.{list_all}
 use Rattle.cast_types.specs.declared.limits.TheConstants.{MAX_POSITION}
@@ -8,9 +8,9 @@ use Rattle.cast_types.specs.declared.names.Proc.{Proc}
 use Rattle.cast_types.specs.Names.{Entry, entry_eq, group_eq}
 use Rattle.cast_types.specs.Sets.{is_among}
 use Rattle.cast_frame.specs.Sequence.{Sequence}
-use Rattle.cast_order.specs.Order.{Facts, facts_of, known_order, next_of, Listing, listed_ids, listed_upto, still_to_list, ids_to_list, place_after}
-use Rattle.cast_order.specs.Log.{Log, new_log, log_of, change_log, but_log, learnt, next_in, passed, told, next_places, assigned, unsettled_in, whole_order}
-use Rattle.cast_order.specs.Fits.{Fits}
+use Rattle.cast_order.specs.Order.{Facts, facts_of, known_order, next_of, Listing, listed_ids, listed_upto, still_to_list, ids_to_list, place_after, closed_order}
+use Rattle.cast_order.specs.Log.{Log, new_log, log_of, change_log, but_log, learnt, next_in, passed, told, next_places, assigned, unsettled_in, whole_order, closed_by}
+use Rattle.cast_order.specs.Fits.{Fits, FitsClosed}
 
 -- a new log means that nothing was told, delivered or listed
 abbrev pub NewFits : Type 0
@@ -83,6 +83,45 @@ WholeIsTheRule =
     (facts : Facts) (delivered : List Entry) (listed : Listing) (has_passed : Proc → Entry → Bool) (stable : ℕ) (l : Log)
     → Fits facts delivered listed has_passed stable l
     → whole_order l ≡ known_order facts ++ still_to_list delivered (listed_ids listed)
+
+-- the end of the order is told
+abbrev pub CloseEndsTheOrder : Type 0
+CloseEndsTheOrder =
+    (facts : Facts) (delivered : List Entry) (listed : Listing) (has_passed : Proc → Entry → Bool) (stable : ℕ) (l : Log)
+    → Fits facts delivered listed has_passed stable l → (w : Entry → Bool) (start : ℕ) (ids : List Entry)
+    → FitsClosed (closed_order w start ids (known_order facts)) has_passed (closed_by w start ids l)
+
+-- of a closed order nothing is learnt
+abbrev pub ClosedLearnsNothing : Type 0
+ClosedLearnsNothing =
+    (order : List Entry) (has_passed : Proc → Entry → Bool) (l : Log) → FitsClosed order has_passed l → (s : Sequence)
+    → learnt s l ≡ l
+
+-- a process delivered each of the next n ids of a closed order
+abbrev pub PassKeepsClosed : Type 0
+PassKeepsClosed =
+    (order : List Entry) (has_passed : Proc → Entry → Bool) (l : Log) → FitsClosed order has_passed l
+    → (p : Proc) (n : ℕ) → list_all (has_passed p) (take n (next_in l p)) ≡ true
+    → FitsClosed order has_passed (passed p n l)
+
+-- processes deliver more
+abbrev pub MoreKeepsClosed : Type 0
+MoreKeepsClosed =
+    (order : List Entry) (has_passed : Proc → Entry → Bool) (l : Log) → FitsClosed order has_passed l
+    → (has_now : Proc → Entry → Bool) → ((p : Proc) (e : Entry) → has_passed p e ≡ true → has_now p e ≡ true)
+    → FitsClosed order has_now l
+
+-- the holder here delivers an ABCAST
+abbrev pub TellKeepsClosed : Type 0
+TellKeepsClosed =
+    (order : List Entry) (has_passed : Proc → Entry → Bool) (l : Log) → FitsClosed order has_passed l → (e : Entry)
+    → FitsClosed order has_passed (told e l)
+
+-- from where a process stands on, the first id that it has not delivered is that of the whole closed order
+abbrev pub NextIsOfTheClosed : Type 0
+NextIsOfTheClosed =
+    (order : List Entry) (has_passed : Proc → Entry → Bool) (l : Log) → FitsClosed order has_passed l → (p : Proc)
+    → next_of (has_passed p) order ≡ next_of (has_passed p) (next_in l p)
 
 -- a change of one group's log, which keeps the group that it is of, changes no other
 abbrev pub ChangeIsOfOneGroup : Type 0

@@ -1,5 +1,5 @@
 -- What a site keeps of a group's order, as contracts see it, and what each call does to it.
-use Rattle.std.specs.Prelude.{ℕ, ◌+◌, ◌-◌, Bool, not, ◌&&◌, nat_lt, nat_le, min, if◌then◌else◌, List, [], ◌∷◌, ◌++◌, length, drop, map, filter, Option, Some, None, unwrap_or}
+use Rattle.std.specs.Prelude.{ℕ, ◌+◌, ◌-◌, Bool, true, false, not, ◌&&◌, nat_lt, nat_le, min, if◌then◌else◌, List, [], ◌∷◌, ◌++◌, length, drop, map, filter, Option, Some, None, unwrap_or}
 use Rattle.std.specs.List.{find, list_any, sum_by}
 use Rattle.std.specs.Option.{is_none}
 use Rattle.std.specs.FinMap.Entries.{find as find_key, put}
@@ -8,11 +8,12 @@ use Rattle.cast_types.specs.declared.names.GroupNo.{GroupNo}
 use Rattle.cast_types.specs.declared.names.Proc.{Proc}
 use Rattle.cast_types.specs.Names.{Entry, proc_cmp, group_eq}
 use Rattle.cast_frame.specs.Sequence.{Sequence}
-use Rattle.cast_order.specs.Order.{Facts, facts_of, id_at, order_from, ids_to_list, place_after}
+use Rattle.cast_order.specs.Order.{Facts, facts_of, id_at, order_from, ids_to_list, place_after, closed_order}
 
 -- known: the order known; later: facts of places past a gap, in order of receipt; places: how many of the first ids
 -- known each local process has passed; waiting: ABCASTs that the holder here delivered and has not listed, in its order;
--- lists: its set-order messages that were not stable when the last one was made, each by its count and how many ids
+-- lists: its set-order messages that were not stable when the last one was made, each by its count and how many ids;
+-- closed: whether the order is closed, so that nothing more is learnt
 pub record Log : Type 0 where
   pub group : GroupNo
   pub known : List Entry
@@ -20,9 +21,10 @@ pub record Log : Type 0 where
   pub places : List (Proc × ℕ)
   pub waiting : List Entry
   pub lists : List (ℕ × ℕ)
+  pub closed : Bool
 
 abbrev pub new_log : GroupNo → Log
-new_log g = record { group = g; known = []; later = []; places = []; waiting = []; lists = [] }
+new_log g = record { group = g; known = []; later = []; places = []; waiting = []; lists = []; closed = false }
 
 -- The logs of all groups, at most one of each
 
@@ -68,9 +70,22 @@ past known facts = filter (λ f. nat_lt known f.0) facts
 abbrev pub settled : Log → Log
 settled l = record l { known = longer l; later = past (length (longer l)) l.later }
 
--- a set-order message is taken in
+-- a set-order message is taken in, unless the order is closed
 abbrev pub learnt : Sequence → Log → Log
-learnt s l = settled (record l { later = with_facts (length l.known) l.later (facts_of s) })
+learnt s l =
+    if l.closed then l else settled (record l { later = with_facts (length l.known) l.later (facts_of s) })
+
+-- the end of the order is told: the order known is the closed one, and nothing else is kept
+abbrev pub closed_by : (Entry → Bool) → ℕ → List Entry → Log → Log
+closed_by is_within start ids l = record {
+  group = l.group;
+  known = closed_order is_within start ids l.known;
+  later = [];
+  places = [];
+  waiting = [];
+  lists = [];
+  closed = true;
+}
 
 -- What local processes deliver
 

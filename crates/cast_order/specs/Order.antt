@@ -1,5 +1,5 @@
 -- The total order of a view's ABCASTs, by all that set-order messages told of it, and how the view's holder lists it.
-use Rattle.std.specs.Prelude.{◌≡◌, ℕ, zero, suc, ◌+◌, ◌-◌, ◌<◌, ◌≤◌, Bool, true, not, ◌&&◌, ◌==◌, nat_lt, nat_le, List, [], ◌∷◌, length, take, drop, filter, slice_get, Option, Some, None}
+use Rattle.std.specs.Prelude.{◌≡◌, ℕ, zero, suc, ◌+◌, ◌-◌, ◌<◌, ◌≤◌, Bool, true, not, ◌&&◌, ◌==◌, nat_lt, nat_le, List, [], ◌∷◌, ◌++◌, length, take, drop, filter, slice_get, Option, Some, None}
 use Rattle.std.specs.List.{find, flat_map, enumerate_from}
 use Rattle.std.specs.Option.{option_map}
 use Rattle.cast_types.specs.declared.limits.TheConstants.{MAX_PLACED, MAX_TAIL, MAX_POSITION}
@@ -75,6 +75,12 @@ tail_start order = length order - MAX_TAIL
 
 abbrev pub tail_ids : List Entry → List Entry
 tail_ids order = drop (tail_start order) order
+
+-- the order of a view that has ended, as a site knows it once it was told the end of that order, behind so many ids: its
+-- own first ids, as many as it knows of those, and behind them the ids that it was told, all without what the view's cut
+-- leaves out
+abbrev pub closed_order : (Entry → Bool) → ℕ → List Entry → List Entry → List Entry
+closed_order is_within start ids own = filter is_within (take start own ++ ids)
 
 -- no id stands in the list twice
 abbrev pub is_distinct : List Entry → Bool

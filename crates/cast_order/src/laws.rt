@@ -1,5 +1,5 @@
 ghost use Rattle.cast_order.specs.Order.{KnownOrderInWords};
-ghost use Rattle.cast_order.specs.Laws.{NewFits, LearnKeepsMeaning, TellKeepsMeaning, AssignKeepsMeaning, PassKeepsMeaning, MoreKeepsMeaning, NextIsTheRule, UnsettledIsTheRule, AssignIsTheRule, WholeIsTheRule, ChangeIsOfOneGroup, ForgetIsOfOneGroup};
+ghost use Rattle.cast_order.specs.Laws.{NewFits, LearnKeepsMeaning, TellKeepsMeaning, AssignKeepsMeaning, PassKeepsMeaning, MoreKeepsMeaning, NextIsTheRule, UnsettledIsTheRule, AssignIsTheRule, WholeIsTheRule, CloseEndsTheOrder, ClosedLearnsNothing, PassKeepsClosed, MoreKeepsClosed, TellKeepsClosed, NextIsOfTheClosed, ChangeIsOfOneGroup, ForgetIsOfOneGroup};
 
 /// The known order says what the rule says in words: each place has the first id told for it, and the order ends only
 /// before a place of which nothing was told, or at the last place.
@@ -26,6 +26,18 @@ pub fn log_keeps_its_meaning()
     ensures assign { AssignKeepsMeaning }
     ensures pass { PassKeepsMeaning }
     ensures more { MoreKeepsMeaning }
+{}
+
+/// When the end of a view's order is told, the order known becomes the closed one. Then nothing is learnt, processes
+/// deliver what the closed order names, the holder may still deliver, and the first id that a process has not delivered
+/// is that of the whole closed order.
+pub fn a_closed_order_stays()
+    ensures close { CloseEndsTheOrder }
+    ensures learn { ClosedLearnsNothing }
+    ensures pass { PassKeepsClosed }
+    ensures more { MoreKeepsClosed }
+    ensures tell { TellKeepsClosed }
+    ensures next { NextIsOfTheClosed }
 {}
 
 /// A call about one group changes what is kept of no other.

@@ -9,8 +9,9 @@
 //! names the places that the holder's next set-order message sets, of ids that it delivered and has listed in none,
 //! each once and in its order; and `has_room` counts exactly what the holder delivered beyond what its stable set-order
 //! messages list, all of it for all that was ever told of the view (`Fits`); each call does to the records what it does
-//! to that (`laws`). `known`, `next`, `has_room`, `waits` and `forget` take no memory. Where memory is refused, the
-//! orders are of no further use.
+//! to that (`laws`). `close` makes of the order known the one that a view has when it ends, and nothing more is learnt of
+//! that view. `known`, `next`, `has_room`, `waits` and `forget` take no memory. Where memory is refused, the orders are of
+//! no further use.
 //!
 //! The definitions are in `specs/`: `Order` has the rule over all that was told, as a function and in words, `Log` what a
 //! site keeps and does, exactly, `Fits` when that tells of given facts, deliveries and messages, and `Laws` that it goes

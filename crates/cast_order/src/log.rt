@@ -1,12 +1,13 @@
 ghost use Rattle.std.specs.Prelude.{◌≡◌, ◌+◌, ◌-◌, ◌++◌, min, nat_lt, filter, length, take, drop, OnOk, IfOk};
 ghost use Rattle.std.specs.List.{enumerate_from};
+ghost use Rattle.cast_types.specs.Counts.{is_within};
 ghost use Rattle.cast_types.specs.declared.limits.TheConstants.{MAX_POSITION};
 ghost use Rattle.cast_order.specs.Order.{id_at, order_from, tail_start, tail_ids};
-ghost use Rattle.cast_order.specs.Log.{new_log, with_fact, with_facts, past, settled, learnt, place_of, next_in, passed, told, waits_in, next_places, assigned, ids_above, has_room_in, whole_order};
+ghost use Rattle.cast_order.specs.Log.{new_log, with_fact, with_facts, past, settled, learnt, place_of, next_in, passed, told, waits_in, next_places, assigned, ids_above, has_room_in, whole_order, closed_by};
 
-use cast_frame::Placement;
+use cast_frame::{Placement, Tail};
 use cast_types::limits::{MAX_PLACED, MAX_POSITION, MAX_TAIL, MAX_UNSETTLED};
-use cast_types::{GroupNo, Keyed, Listed, NoMemory, Proc};
+use cast_types::{Counts, GroupNo, Keyed, Listed, NoMemory, Proc};
 use std::alloc::Global;
 use std::marker::Model;
 
@@ -19,6 +20,7 @@ pub struct OrderLog {
     places: Keyed<Proc, usize>,
     waiting: Vec<(Proc, u32)>,
     lists: Vec<(u32, usize)>,
+    closed: bool,
 }
 
 impl Model for OrderLog {
@@ -26,7 +28,7 @@ impl Model for OrderLog {
 
     ghost Value = { Log };
 
-    ghost view = { λ l. record { group = l.group; known = l.known.items; later = l.later.items; places = l.places; waiting = l.waiting.items; lists = l.lists.items } };
+    ghost view = { λ l. record { group = l.group; known = l.known.items; later = l.later.items; places = l.places; waiting = l.waiting.items; lists = l.lists.items; closed = l.closed } };
 }
 
 impl OrderLog {
@@ -41,13 +43,17 @@ impl OrderLog {
             places: Keyed::new(alloc),
             waiting: Vec::new(alloc),
             lists: Vec::new(alloc),
+            closed: false,
         }
     }
 
-    /// Takes in what a set-order message tells.
+    /// Takes in what a set-order message tells, unless the order is closed.
     pub fn learn(&mut self, placement: &Placement) -> Result<(), NoMemory>
         ensures { OnOk result (self.new ≡ learnt placement.now self.old) }
     {
+        if self.closed {
+            return Ok(());
+        }
         let known = self.known.len();
         add_facts(&mut self.later, known, placement.first(), placement.ids())?;
         self.settle()?;
@@ -60,6 +66,21 @@ impl OrderLog {
     {
         extend(&mut self.known, &self.later)?;
         keep_past(&mut self.later, self.known.len());
+        Ok(())
+    }
+
+    /// Closes the order: it becomes its first ids and those of the tail, all without ids beyond the cut.
+    pub fn close(&mut self, tail: &Tail, cut: &Counts) -> Result<(), NoMemory>
+        ensures { OnOk result (self.new ≡ closed_by (is_within cut.now) tail.now.start tail.now.ids self.old) }
+    {
+        self.known.truncate(tail.start() as usize);
+        self.known.extend_from_slice(tail.ids())?;
+        keep_within(&mut self.known, cut);
+        self.later.clear();
+        self.places = Keyed::new(*self.known.allocator());
+        self.waiting.clear();
+        self.lists.clear();
+        self.closed = true;
         Ok(())
     }
 
@@ -236,6 +257,13 @@ fn extend(known: &mut Vec<(Proc, u32)>, facts: &[(usize, (Proc, u32))]) -> Resul
         known.push(id)?;
     }
     Ok(())
+}
+
+// Keeps the ids within the cut.
+fn keep_within(ids: &mut Vec<(Proc, u32)>, cut: &Counts)
+    ensures { ids.new.items ≡ filter (is_within cut.now) ids.old.items }
+{
+    ids.retain(|id| id.1 <= cut.get(id.0));
 }
 
 // Keeps the facts of places past those known.

@@ -1,13 +1,14 @@
 ghost use Rattle.std.specs.Prelude.{◌≡◌, [], not, filter, OnOk, IfOk};
 ghost use Rattle.std.specs.List.{find, list_any};
 ghost use Rattle.std.specs.Option.{option_copied};
+ghost use Rattle.cast_types.specs.Counts.{is_within};
 ghost use Rattle.cast_types.specs.Names.{group_eq};
 ghost use Rattle.cast_order.specs.Order.{tail_start, tail_ids};
-ghost use Rattle.cast_order.specs.Log.{log_of, change_in, opened, change_log, but_log, learnt, next_in, passed, told, waits_in, next_places, assigned, has_room_in, whole_order};
+ghost use Rattle.cast_order.specs.Log.{log_of, change_in, opened, change_log, but_log, learnt, next_in, passed, told, waits_in, next_places, assigned, has_room_in, whole_order, closed_by};
 
 use crate::log::OrderLog;
-use cast_frame::Placement;
-use cast_types::{GroupNo, Listed, NoMemory, Proc};
+use cast_frame::{Placement, Tail};
+use cast_types::{Counts, GroupNo, Listed, NoMemory, Proc};
 use std::alloc::Global;
 use std::marker::Model;
 
@@ -36,8 +37,8 @@ impl Orders {
         }
     }
 
-    /// Takes in a set-order message of a group's view. For each place the first id told for it counts. `NoMemory` leaves
-    /// the orders of no further use, as in all calls.
+    /// Takes in a set-order message of a group's view, unless the view's order is closed. For each place the first id told
+    /// for it counts. `NoMemory` leaves the orders of no further use, as in all calls.
     #[tactic(auto, using(crate::proofs::Logs::change_opened))]
     pub fn learn(&mut self, group: GroupNo, placement: &Placement) -> Result<(), NoMemory>
         ensures { OnOk result (self.new ≡ change_log group (learnt placement.now) self.old) }
@@ -146,6 +147,19 @@ impl Orders {
         }
     }
 
+    /// Closes the order of a group's view, which has ended: `known` becomes the first ids known, as many as the tail says
+    /// stand before it, all where fewer are known, and behind them the tail's ids, all without ids beyond the cut.
+    /// Nothing more is learnt of it then, nothing waits to be listed, and each process is to go through it from its first
+    /// place on.
+    #[tactic(auto, using(crate::proofs::Logs::change_opened))]
+    pub fn close(&mut self, group: GroupNo, tail: &Tail, cut: &Counts) -> Result<(), NoMemory>
+        ensures { OnOk result (self.new ≡ change_log group (closed_by (is_within cut.now) tail.now.start tail.now.ids) self.old) }
+    {
+        open_in(&mut self.logs, group)?;
+        close_in(&mut self.logs, group, tail, cut)?;
+        Ok(())
+    }
+
     /// Forgets all of a group's order: a new view has an empty one. Takes no memory.
     pub fn forget(&mut self, group: GroupNo)
         ensures { self.new ≡ filter (λ l. not (group_eq l.group group)) self.old }
@@ -233,6 +247,23 @@ fn note_in(
     for log in logs.iter_mut() {
         if log.group == group {
             log.note(count, stable)?;
+        }
+    }
+    Ok(())
+}
+
+// Each log of the group takes in the end of the view's order.
+fn close_in(
+    logs: &mut Vec<OrderLog>,
+    group: GroupNo,
+    tail: &Tail,
+    cut: &Counts,
+) -> Result<(), NoMemory>
+    ensures { OnOk result (logs.new.items ≡ change_in group (closed_by (is_within cut.now) tail.now.start tail.now.ids) logs.old.items) }
+{
+    for log in logs.iter_mut() {
+        if log.group == group {
+            log.close(tail, cut)?;
         }
     }
     Ok(())

@@ -1,8 +1,8 @@
 ghost use Rattle.std.specs.Prelude.{◌≤◌};
 
 use crate::{Orders, laws};
-use cast_frame::Placement;
-use cast_types::{GroupNo, Proc, SiteNo};
+use cast_frame::{Placement, Tail};
+use cast_types::{Counts, GroupNo, Proc, SiteNo};
 use std::alloc::Global;
 use std::test::Fail;
 
@@ -29,6 +29,22 @@ fn placement(alloc: Global, first: u32, here: u32, next: u32) -> Result<Placemen
     ids.push(cast(here))?;
     ids.push(cast(next))?;
     Ok(Placement::from_parts(first, ids))
+}
+
+// The end of an order, behind three ids: the ABCASTs 13, 18 and 15.
+fn end(alloc: Global) -> Result<Tail, Fail> {
+    let mut ids = Vec::new(alloc);
+    ids.push(cast(13))?;
+    ids.push(cast(18))?;
+    ids.push(cast(15))?;
+    Ok(Tail::from_parts(3, ids))
+}
+
+// A cut that leaves out what the process cast after its first 15 messages.
+fn cut(alloc: Global) -> Result<Counts, Fail> {
+    let mut cut = Counts::new(alloc);
+    cut.set(HERE, 15)?;
+    Ok(cut)
 }
 
 #[test]
@@ -128,6 +144,27 @@ fn the_tail_has_the_last_ids(rt: HostRuntime) -> Result<(), Fail> {
 }
 
 #[test]
+fn a_closed_order_stays(rt: HostRuntime) -> Result<(), Fail> {
+    let mut orders = Orders::new(rt.alloc());
+    orders.learn(GROUP, &placement(rt.alloc(), 1, 11, 16)?)?;
+    orders.learn(GROUP, &placement(rt.alloc(), 3, 14, 12)?)?;
+    orders.pass(GROUP, HERE, 1)?;
+    orders.tell(GROUP, cast(17))?;
+    orders.close(GROUP, &end(rt.alloc())?, &cut(rt.alloc())?)?;
+    assert_eq!(rt; orders.known(GROUP).len(), 4);
+    assert!(rt; orders.known(GROUP).first() == Some(&cast(11)));
+    assert!(rt; orders.known(GROUP).get(1) == Some(&cast(14)));
+    assert!(rt; orders.known(GROUP).get(2) == Some(&cast(13)));
+    assert!(rt; orders.known(GROUP).last() == Some(&cast(15)));
+    assert_eq!(rt; orders.next(GROUP, HERE).len(), 4);
+    assert!(rt; !orders.waits(GROUP));
+    orders.learn(GROUP, &placement(rt.alloc(), 5, 12, 10)?)?;
+    assert_eq!(rt; orders.known(GROUP).len(), 4);
+    laws::a_closed_order_stays();
+    Ok(())
+}
+
+#[test]
 fn a_new_view_has_an_empty_order(rt: HostRuntime) -> Result<(), Fail> {
     let mut orders = Orders::new(rt.alloc());
     orders.learn(GROUP, &placement(rt.alloc(), 1, 11, 12)?)?;
@@ -148,6 +185,8 @@ fn a_new_view_has_an_empty_order(rt: HostRuntime) -> Result<(), Fail> {
 #[test]
 fn a_refused_call_says_so(rt: HostRuntime) -> Result<(), Fail> {
     let told = placement(rt.alloc(), 1, 11, 12)?;
+    let end = end(rt.alloc())?;
+    let cut = cut(rt.alloc())?;
     let mut orders = Orders::new(rt.alloc());
     let Ok(()) = orders.learn(GROUP, &told) else {
         return Ok(());
@@ -174,5 +213,9 @@ fn a_refused_call_says_so(rt: HostRuntime) -> Result<(), Fail> {
         return Ok(());
     };
     assert!(rt; !orders.waits(GROUP));
+    let Ok(()) = orders.close(GROUP, &end, &cut) else {
+        return Ok(());
+    };
+    assert_eq!(rt; orders.known(GROUP).len(), 4);
     Ok(())
 }

@@ -7,7 +7,7 @@ use Rattle.cast_order.proofs.log.OrderLog.assign.Goals as goal
 pub from_parts-requires : goal.from_parts-requires
 from_parts-requires c =
     let was = c.self.inside in
-    let l : Log = record { group = was.group; known = was.known.items; later = was.later.items; places = was.places; waiting = was.waiting.items; lists = was.lists.items } in
+    let l : Log = record { group = was.group; known = was.known.items; later = was.later.items; places = was.places; waiting = was.waiting.items; lists = was.lists.items; closed = was.closed } in
     let waits : waits_in c.args.self.now ≡ true = search rules in
     let room : length was.known.items < MAX_POSITION = omega arith in
     may_set l (c.len-2.result + 1) c.in_ok-ids.ids.items (ap waits_in c.self.view_is ∙ waits) room (omega arith)
