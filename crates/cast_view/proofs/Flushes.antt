@@ -1,0 +1,56 @@
+-- What a flush that gathers waits for, and what it wants.
+use Rattle.std.proofs.Common.{◌≡◌, ◌+◌, Bool, true, ◌&&◌, List, [], ◌∷◌, filter, Option, length, take, refl, sym, ap, ◌∙◌, arith}
+use Rattle.std.specs.Prelude.{◌==◌, if◌then◌else◌}
+use Rattle.std.specs.List.{filter_map}
+use Rattle.std.proofs.lemmas.Bool.{eqb-true, false_from_ne_true}
+use Rattle.cast_types.specs.declared.limits.TheConstants.{MAX_PLACED}
+use Rattle.cast_types.specs.declared.names.SiteNo.{SiteNo}
+use Rattle.cast_types.specs.declared.names.GroupNo.{GroupNo}
+use Rattle.cast_types.specs.Names.{Entry}
+use Rattle.cast_frame.specs.declared.message.Message.{Message}
+use Rattle.cast_types.specs.declared.names.Proc.{Proc}
+use Rattle.cast_frame.specs.Membership.{Membership}
+use Rattle.cast_view.specs.declared.phase.Phase.{Phase}
+use Rattle.cast_view.specs.declared.phase.Phase.TheVariants.{Gathering}
+use Rattle.cast_view.specs.Reports.{Reports, is_complete, cut_from, wanting, want_of, wants_of}
+use Rattle.cast_view.specs.Home.{Home, is_empty, is_suspected, may_decide, may_decide_in, wants_in, decided_list, decided_holder, decided_members, decided_phase, decided, after_decision}
+
+-- a list without items is empty
+empty_length : {A : Type 0} (xs : List A) → (length xs == 0) ≡ is_empty xs
+empty_length [] = refl
+empty_length (x ∷ xs) = false_from_ne_true (length (x ∷ xs) == 0) (λ none. absurd (omega (arith, eqb-true (length (x ∷ xs)) 0 none)))
+
+module _ (g : GroupNo) (h : Home) (awaited : List SiteNo) (reports : Reports) (bodies : List Message) (ids : List Entry)
+    (gathers : h.phase ≡ Gathering awaited reports bodies) (complete : is_complete awaited reports ≡ true)
+    (lacked : ids ≡ wanting g h.number (cut_from h.members.list reports) reports bodies) where
+  -- once all sites have reported, the decision may come when no message is wanted
+  pub decides_when_empty : (length ids == 0) ≡ may_decide g h
+  decides_when_empty =
+      empty_length ids
+      ∙ ap is_empty lacked
+      ∙ sym (ap (λ (b : Bool). b && is_empty (wanting g h.number (cut_from h.members.list reports) reports bodies)) complete)
+      ∙ sym (ap (may_decide_in g h) gathers)
+
+  -- and until then it wants the first of them
+  pub wants_when_complete : filter_map (want_of reports) (take MAX_PLACED ids) ≡ wants_in g h h.phase
+  wants_when_complete =
+      ap (λ (es : List Entry). filter_map (want_of reports) (take MAX_PLACED es)) lacked
+      ∙ sym (ap (λ (b : Bool). if b then wants_of g h.number (cut_from h.members.list reports) reports bodies else []) complete)
+      ∙ sym (ap (wants_in g h) gathers)
+
+-- the home after a decision, by its parts
+pub decided_parts :
+    (h : Home) (list : List Proc) (holder : Option Proc) (members : Membership) (joins leavings : List Proc) (suspected : List SiteNo) (phase : Phase)
+    → members ≡ record { list = list; holder = holder } → list ≡ decided_list h → holder ≡ decided_holder h list
+    → joins ≡ filter (λ p. is_suspected h p.site) h.joins → leavings ≡ [] → suspected ≡ [] → phase ≡ decided_phase h list h.phase
+    → record { number = h.number + 1; members = members; joins = joins; leavings = leavings; suspected = suspected; answers = h.answers; phase = phase } ≡ decided h
+decided_parts h list holder members joins leavings suspected phase with_both with_list with_holder with_joins with_leavings with_suspected with_phase =
+    let holders = with_holder ∙ ap (decided_holder h) with_list in
+    let memberships : record { list = list; holder = holder } ≡ decided_members h = λ i. record { list = with_list i; holder = holders i } in
+    let both = with_both ∙ memberships in
+    let phases = with_phase ∙ ap (λ (l : List Proc). decided_phase h l h.phase) with_list in
+    λ i. record { number = h.number + 1; members = both i; joins = with_joins i; leavings = with_leavings i; suspected = with_suspected i; answers = h.answers; phase = phases i }
+
+-- where it may decide the home is the decided one
+pub decision_taken : (g : GroupNo) (h : Home) → may_decide g h ≡ true → decided h ≡ after_decision g h
+decision_taken g h may = sym (ap (λ (b : Bool). if b then decided h else h) may)

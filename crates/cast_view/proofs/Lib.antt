@@ -1,0 +1,10 @@
+pub mod Tests
+pub mod Gathered
+pub mod Cuts
+pub mod Lacking
+pub mod Ends
+pub mod Risings
+pub mod Among
+pub mod Rooms
+pub mod Flushes
+pub mod Flushing

@@ -1,0 +1,4 @@
+pub mod Reports
+pub mod Decisions
+pub mod Home
+pub mod Laws

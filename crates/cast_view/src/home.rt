@@ -1,0 +1,464 @@
+ghost use Rattle.std.specs.Prelude.{◌≡◌, ◌≤◌, false, IfOk, OnOk, IsTrue, length};
+ghost use Rattle.cast_types.specs.Names.{proc_cmp, proc_eq, site_eq};
+ghost use Rattle.cast_types.specs.Sets.{with_item, without, apart_from};
+ghost use Rattle.cast_frame.specs.Membership.{is_held};
+ghost use Rattle.cast_view.specs.Reports.{cut_from, wanting};
+ghost use Rattle.cast_view.specs.Home.{sites_of, least_of};
+
+use crate::decisions::order_from;
+use crate::phase::{Answer, Decision, Phase, installing, is_among};
+use crate::procs::{Procs, is_listed};
+use crate::report::Report;
+use crate::reports::{cut_from, is_complete, wanting, wants_of};
+use cast_frame::{Change, Members, Message};
+use cast_types::limits::{MAX_MEMBERS, MAX_NUMBER};
+use cast_types::{GroupNo, Keyed, Listed, NoMemory, Proc, SiteNo, sorted};
+use std::alloc::Global;
+use std::marker::Model;
+use std::mem;
+
+/// A group at the home: its last decided view, what is to change, and the flush that runs. The next view never has more
+/// than 64 members. Contracts see a `Home`.
+#[derive(Drop)]
+pub struct HomeSide {
+    number: u32,
+    members: Members,
+    joins: Procs,
+    leavings: Procs,
+    suspected: Vec<SiteNo>,
+    answers: Keyed<SiteNo, Answer>,
+    phase: Phase,
+}
+
+impl Model for HomeSide {
+    ghost use Rattle.std.specs.Prelude.{IsTrue};
+    ghost use Rattle.cast_view.specs.Home.{Home, is_sound};
+
+    ghost Value = { Home };
+
+    ghost view = { λ h. record { number = h.number; members = h.members; joins = h.joins; leavings = h.leavings; suspected = h.suspected.items; answers = h.answers; phase = h.phase } };
+
+    ghost invariant = { λ h. IsTrue (is_sound (record { number = h.number; members = h.members; joins = h.joins; leavings = h.leavings; suspected = h.suspected.items; answers = h.answers; phase = h.phase })) };
+}
+
+impl HomeSide {
+    ghost use Rattle.cast_view.specs.Home.{first_home, answer_of, answer_to, is_refused, is_crowded, expected, stays, marked_leaving, with_suspect, changed_by, after_ask, after_suspicion, may_start, after_start, takes_report, after_reply, after_body, bodies_of, wants_in, may_decide, decided_list, decided_holder, decided_phase, after_decision, takes_installed, after_installed};
+
+    /// No view, nothing to change and no requests.
+    pub fn new(alloc: Global) -> Self
+        ensures { result ≡ first_home }
+    {
+        HomeSide {
+            number: 0,
+            members: Members::new(alloc),
+            joins: Procs::new(alloc),
+            leavings: Procs::new(alloc),
+            suspected: Vec::new(alloc),
+            answers: Keyed::new(alloc),
+            phase: Phase::Idle,
+        }
+    }
+
+    /// The number of the last decided view, first 0.
+    pub fn number(&self) -> u32
+        ensures { result ≡ self.now.number }
+    {
+        self.number
+    }
+
+    /// The members of the last decided view, and its holder.
+    pub fn members(&self) -> &Members
+        ensures { result.now ≡ self.now.members }
+    {
+        &self.members
+    }
+
+    /// How far the flush has come.
+    pub fn phase(&self) -> &Phase
+        ensures { result.now ≡ self.now.phase }
+    {
+        &self.phase
+    }
+
+    /// The messages that came for sites that lack them, in order of receipt.
+    pub fn bodies(&self) -> &[Message]
+        ensures { result.now ≡ bodies_of self.now.phase }
+    {
+        match &self.phase {
+            Phase::Idle => &[],
+            Phase::Gathering { bodies, .. } => bodies.as_slice(),
+            Phase::Installing { bodies, .. } => bodies.as_slice(),
+        }
+    }
+
+    /// The last request of a site that was applied, number 0 where none was.
+    pub fn last_answer(&self, site: SiteNo) -> Answer
+        ensures { result ≡ answer_of self.now site }
+    {
+        match self.answers.get(&site) {
+            Some(answer) => *answer,
+            None => Answer {
+                number: 0,
+                full: false,
+            },
+        }
+    }
+
+    /// Takes in a site's request, and answers whether it is refused because the group is full, or `None` where it is not to
+    /// be answered. The request after the site's last one is applied: a join is refused where the next views would have
+    /// more than 64 members with it, and a request for a process of another site changes nothing. The last one is
+    /// answered again, and one before it as if it had been granted. `NoMemory` leaves the group of no further use, as in
+    /// the next calls.
+    pub fn ask(
+        &mut self,
+        site: SiteNo,
+        number: u32,
+        change: Change,
+        process: Proc,
+    ) -> Result<Option<bool>, NoMemory>
+        ensures answer { IfOk result (λ full. full ≡ answer_to self.old site number change process) }
+        ensures new { OnOk result (self.new ≡ after_ask self.old site number change process) }
+    {
+        let last = self.last_answer(site);
+        if number <= last.number {
+            return Ok(Some(number == last.number && last.full));
+        }
+        if number - last.number > 1 {
+            return Ok(None);
+        }
+        let full = self.is_refused(site, change, process)?;
+        if process.site == site && !full {
+            self.change(change, process)?;
+        }
+        self.answers.put(site, Answer { number, full })?;
+        Ok(Some(full))
+    }
+
+    // Whether a request is refused: a join of a process of the asking site for which there is no room.
+    fn is_refused(&self, site: SiteNo, change: Change, process: Proc) -> Result<bool, NoMemory>
+        ensures { IfOk result (λ full. full ≡ is_refused self.now site change process) }
+    {
+        match change {
+            Change::Join if process.site == site => self.is_crowded(process),
+            Change::Join | Change::Leave => Ok(false),
+        }
+    }
+
+    // Whether with a process the next views would have more members than a view may have.
+    fn is_crowded(&self, process: Proc) -> Result<bool, NoMemory>
+        ensures { IfOk result (λ crowded. crowded ≡ is_crowded self.now process) }
+    {
+        let mut expected = self.expected()?;
+        expected.remove(process);
+        Ok(MAX_MEMBERS <= expected.as_slice().len())
+    }
+
+    // Whom the next views have, when nothing else changes.
+    fn expected(&self) -> Result<Procs, NoMemory>
+        ensures { IfOk result (λ procs. procs ≡ expected self.now) }
+    {
+        let mut procs = Procs::new(self.joins.alloc());
+        for member in self.members.list() {
+            if self.stays(*member) {
+                procs.insert(*member)?;
+            }
+        }
+        for process in self.joins.as_slice() {
+            procs.insert(*process)?;
+        }
+        Ok(procs)
+    }
+
+    // Whether a process is neither leaving nor at a suspected site.
+    fn stays(&self, process: Proc) -> bool
+        ensures { result ≡ stays self.now process }
+    {
+        !self.leavings.contains(process) && !is_among(process.site, &self.suspected)
+    }
+
+    // Marks a member as leaving. Then a process that joins is to come, and one that leaves is not.
+    fn change(&mut self, change: Change, process: Proc) -> Result<(), NoMemory>
+        requires { is_refused self.old process.site change process ≡ false }
+        ensures { OnOk result (self.new ≡ changed_by self.old change process) }
+    {
+        self.mark_leaving(process)?;
+        match change {
+            Change::Join => self.join(process)?,
+            Change::Leave => self.leave(process),
+        }
+        Ok(())
+    }
+
+    // Marks a member as leaving.
+    fn mark_leaving(&mut self, process: Proc) -> Result<(), NoMemory>
+        ensures { OnOk result (self.new ≡ marked_leaving self.old process) }
+    {
+        if is_listed(process, self.members.list()) {
+            self.leavings.insert(process)?;
+        }
+        Ok(())
+    }
+
+    // A process for which there is room is to come.
+    fn join(&mut self, process: Proc) -> Result<(), NoMemory>
+        requires { is_crowded self.old process ≡ false }
+        ensures { OnOk result (self.new ≡ record self.old { joins = with_item proc_cmp process self.old.joins }) }
+    {
+        self.joins.insert(process)?;
+        Ok(())
+    }
+
+    // A process is not to come. Takes no memory.
+    fn leave(&mut self, process: Proc)
+        ensures { self.new ≡ record self.old { joins = without proc_eq process self.old.joins } }
+    {
+        self.joins.remove(process);
+    }
+
+    /// Takes in that a site is suspected: its members, where the view has some, do not come into the next one, and the
+    /// flush awaits nothing from it.
+    pub fn suspect(&mut self, site: SiteNo) -> Result<(), NoMemory>
+        ensures { OnOk result (self.new ≡ after_suspicion self.old site) }
+    {
+        self.mark_suspected(site)?;
+        let phase = mem::replace(&mut self.phase, Phase::Idle);
+        self.phase = phase.without(site);
+        Ok(())
+    }
+
+    // Marks a site as suspected, where some member is at it.
+    fn mark_suspected(&mut self, site: SiteNo) -> Result<(), NoMemory>
+        ensures { OnOk result (self.new ≡ with_suspect self.old site) }
+    {
+        let sites = sites_of(self.joins.alloc(), self.members.list())?;
+        if is_among(site, sites.as_slice()) {
+            sorted::insert(&mut self.suspected, site)?;
+        }
+        Ok(())
+    }
+
+    // Whether a flush is wanted, and may start.
+    fn may_start(&self) -> bool
+        ensures { result ≡ may_start self.now }
+    {
+        self.phase.is_idle()
+            && self.number < MAX_NUMBER
+            && !(self.joins.is_empty() && self.leavings.is_empty() && self.suspected.is_empty())
+    }
+
+    /// Starts a flush, where none runs and something is to change, and answers whether it did.
+    pub fn start(&mut self) -> Result<bool, NoMemory>
+        ensures value { IfOk result (λ started. started ≡ may_start self.old) }
+        ensures new { OnOk result (self.new ≡ after_start self.old) }
+    {
+        if !self.may_start() {
+            return Ok(false);
+        }
+        let alloc = self.joins.alloc();
+        let sites = sites_of(alloc, self.members.list())?;
+        self.phase = Phase::Gathering {
+            awaited: apart_from(sites, &self.suspected),
+            reports: Listed::new(alloc),
+            bodies: Listed::new(alloc),
+        };
+        Ok(true)
+    }
+
+    /// Takes in what a site reports of a view, and answers whether it counts: it is the first report of this view from a
+    /// site that is awaited.
+    pub fn reply(&mut self, site: SiteNo, view: u32, report: Report) -> Result<bool, NoMemory>
+        ensures value { IfOk result (λ taken. taken ≡ takes_report self.old site view) }
+        ensures new { OnOk result (self.new ≡ after_reply self.old site view report) }
+    {
+        if view != self.number || !self.phase.awaits_report(site) {
+            return Ok(false);
+        }
+        let phase = mem::replace(&mut self.phase, Phase::Idle);
+        self.phase = phase.with_report(site, report)?;
+        Ok(true)
+    }
+
+    /// The messages that some of the sites lack, once all have reported: the first 64, each a process and a count, with
+    /// the least site that has it.
+    pub fn wants(&self, group: GroupNo) -> Result<Listed<(SiteNo, (Proc, u32))>, NoMemory>
+        ensures { IfOk result (λ wants. wants ≡ wants_in group self.now self.now.phase) }
+    {
+        let alloc = self.joins.alloc();
+        match &self.phase {
+            Phase::Gathering {
+                awaited,
+                reports,
+                bodies,
+            } if is_complete(awaited.as_slice(), reports.as_slice()) => {
+                let ids = self.wanting(group, reports.as_slice(), bodies.as_slice())?;
+                wants_of(alloc, reports.as_slice(), &ids)
+            }
+            _ => Ok(Listed::new(alloc)),
+        }
+    }
+
+    // The messages that some of the reporting sites lack and that did not come.
+    fn wanting(
+        &self,
+        group: GroupNo,
+        reports: &[(SiteNo, Report)],
+        bodies: &[Message],
+    ) -> Result<Vec<(Proc, u32)>, NoMemory>
+        ensures { IfOk result (λ l. l.items ≡ wanting group self.now.number (cut_from self.now.members.list reports.now) reports.now bodies.now) }
+    {
+        let alloc = self.joins.alloc();
+        let cut = cut_from(alloc, self.members.list(), reports)?;
+        wanting(alloc, group, self.number, &cut, reports, bodies)
+    }
+
+    /// Takes in a message that was wanted, while reports are gathered.
+    pub fn body(&mut self, message: Message) -> Result<(), NoMemory>
+        ensures { OnOk result (self.new ≡ after_body self.old message) }
+    {
+        let phase = mem::replace(&mut self.phase, Phase::Idle);
+        self.phase = phase.with_body(message)?;
+        Ok(())
+    }
+
+    // Whether all reports and all messages are there.
+    fn may_decide(&self, group: GroupNo) -> Result<bool, NoMemory>
+        ensures { IfOk result (λ may. may ≡ may_decide group self.now) }
+    {
+        match &self.phase {
+            Phase::Gathering {
+                awaited,
+                reports,
+                bodies,
+            } if is_complete(awaited.as_slice(), reports.as_slice()) => {
+                let ids = self.wanting(group, reports.as_slice(), bodies.as_slice())?;
+                Ok(ids.is_empty())
+            }
+            _ => Ok(false),
+        }
+    }
+
+    /// Decides the next view, once all sites have reported and no message is wanted, and answers whether it did. Members
+    /// are those that stay, and the joins that are not at suspected sites, which stay for the view after it. The holder
+    /// stays if it was not leaving and is still a member; else it is the least member.
+    pub fn decide(&mut self, group: GroupNo) -> Result<bool, NoMemory>
+        ensures value { IfOk result (λ decided. decided ≡ may_decide group self.old) }
+        ensures new { OnOk result (self.new ≡ after_decision group self.old) }
+    {
+        if !self.may_decide(group)? {
+            return Ok(false);
+        }
+        let alloc = self.joins.alloc();
+        let list = self.decided_list()?;
+        let holder = self.decided_holder(list.as_slice());
+        let phase = mem::replace(&mut self.phase, Phase::Idle);
+        let phase = self.decided_phase(phase, list.as_slice())?;
+        let suspected = mem::replace(&mut self.suspected, Vec::new(alloc));
+        self.joins.keep_at(&suspected);
+        self.leavings = Procs::new(alloc);
+        self.members = Members::from_parts(list.into_vec(), holder);
+        self.number += 1;
+        self.phase = phase;
+        Ok(true)
+    }
+
+    // The members that stay, and the joins that are not at suspected sites.
+    fn decided_list(&self) -> Result<Procs, NoMemory>
+        ensures value { IfOk result (λ procs. procs ≡ decided_list self.now) }
+        ensures few { IfOk result (λ procs. length procs ≤ 64) }
+    {
+        let mut procs = Procs::new(self.joins.alloc());
+        for member in self.members.list() {
+            if self.stays(*member) {
+                procs.insert(*member)?;
+            }
+        }
+        for process in self.joins.as_slice() {
+            if !is_among(process.site, &self.suspected) {
+                procs.insert(*process)?;
+            }
+        }
+        Ok(procs)
+    }
+
+    // The holder of the next view.
+    fn decided_holder(&self, list: &[Proc]) -> Option<Proc>
+        ensures value { result ≡ decided_holder self.now list.now }
+        ensures held { IsTrue (is_held list.now result) }
+    {
+        match self.members.holder() {
+            Some(holder) => {
+                if !self.leavings.contains(holder) && is_listed(holder, list) {
+                    Some(holder)
+                } else {
+                    least_of(list)
+                }
+            }
+            None => least_of(list),
+        }
+    }
+
+    // The phase after the decision: the sites of the next view, and those that were awaited, are to install it.
+    fn decided_phase(&self, phase: Phase, list: &[Proc]) -> Result<Phase, NoMemory>
+        ensures { IfOk result (λ p. p ≡ decided_phase self.now list.now phase) }
+    {
+        let Phase::Gathering {
+            awaited,
+            reports,
+            bodies,
+        } = phase
+        else {
+            return Ok(phase);
+        };
+        let alloc = self.joins.alloc();
+        let cut = cut_from(alloc, self.members.list(), reports.as_slice())?;
+        let tail = order_from(alloc, &cut, reports.as_slice())?;
+        let answers = Listed::from_vec(Vec::from_slice(alloc, self.answers.entries())?);
+        let mut waiting = sites_of(alloc, list)?.into_vec();
+        for site in awaited.as_slice() {
+            sorted::insert(&mut waiting, *site)?;
+        }
+        let decision = Decision { cut, tail, answers };
+        Ok(installing(Listed::from_vec(waiting), decision, bodies))
+    }
+
+    /// Takes in that a site has installed a view, and answers whether that was awaited. Takes no memory.
+    pub fn installed(&mut self, site: SiteNo, number: u32) -> bool
+        ensures value { result ≡ takes_installed self.old site number }
+        ensures new { self.new ≡ after_installed self.old site number }
+    {
+        if number != self.number || !self.phase.awaits_installed(site) {
+            return false;
+        }
+        let phase = mem::replace(&mut self.phase, Phase::Idle);
+        self.phase = phase.without(site);
+        true
+    }
+}
+
+/// The sites of processes, each once, in rising order.
+fn sites_of(alloc: Global, processes: &[Proc]) -> Result<Listed<SiteNo>, NoMemory>
+    ensures { IfOk result (λ l. l ≡ sites_of processes.now) }
+{
+    let mut sites = Vec::new(alloc);
+    for process in processes {
+        sorted::insert(&mut sites, process.site)?;
+    }
+    Ok(Listed::from_vec(sites))
+}
+
+// The sites that are not among the others.
+fn apart_from(sites: Listed<SiteNo>, others: &[SiteNo]) -> Listed<SiteNo>
+    ensures { result ≡ apart_from site_eq sites others.now }
+{
+    let mut rest = sites.into_vec();
+    rest.retain(|site| !is_among(*site, others));
+    Listed::from_vec(rest)
+}
+
+// The first of these processes, which is the least where they rise.
+fn least_of(list: &[Proc]) -> Option<Proc>
+    ensures value { result ≡ least_of list.now }
+    ensures held { IsTrue (is_held list.now result) }
+{
+    list.first().copied()
+}

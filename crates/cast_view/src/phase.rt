@@ -1,0 +1,210 @@
+ghost use Rattle.std.specs.Prelude.{◌≡◌, not, filter, IfOk};
+ghost use Rattle.cast_types.specs.Names.{site_eq, site_cmp};
+ghost use Rattle.cast_types.specs.Sets.{is_among, without};
+ghost use Rattle.std.specs.FinMap.Entries.{put};
+ghost use Rattle.cast_view.specs.Home.{is_idle, installing, phase_without, awaits_report, phase_with_report, phase_with_body, awaits_installed};
+
+use crate::report::Report;
+use crate::reports::has_report;
+use cast_frame::{Message, Tail};
+use cast_types::{Counts, Listed, NoMemory, SiteNo, sorted};
+
+/// The last request of a site that was applied.
+#[derive(Clone, Copy, Debug, PartialEq, Eq)]
+pub struct Answer {
+    /// Counts the requests of the site from 1.
+    pub number: u32,
+    /// Whether it was refused because the group was full.
+    pub full: bool,
+}
+
+/// What is decided beside the members of the next view.
+#[derive(Drop)]
+pub struct Decision {
+    /// How many messages of each process belong to the old view.
+    pub cut: Counts,
+    /// The end of the order of the old view.
+    pub tail: Tail,
+    /// The last request of each site that was applied, in rising order of the sites.
+    pub answers: Listed<(SiteNo, Answer)>,
+}
+
+/// How far a flush has come.
+#[derive(Drop)]
+pub enum Phase {
+    /// None runs.
+    Idle,
+    /// Reports are awaited, and then messages that some of the sites lack.
+    Gathering {
+        /// The sites that report, in rising order.
+        awaited: Listed<SiteNo>,
+        /// The reports that came, in rising order of the sites.
+        reports: Listed<(SiteNo, Report)>,
+        /// The messages that came, in order of receipt.
+        bodies: Listed<Message>,
+    },
+    /// The next view is decided.
+    Installing {
+        /// The sites, one at least, that have not installed it yet, in rising order.
+        waiting: Listed<SiteNo>,
+        /// What goes with the new view.
+        decision: Decision,
+        /// Messages for sites that lack them.
+        bodies: Listed<Message>,
+    },
+}
+
+impl Phase {
+    /// Whether no flush runs.
+    pub fn is_idle(&self) -> bool
+        ensures { result ≡ is_idle self.now }
+    {
+        match self {
+            Phase::Idle => true,
+            Phase::Gathering { .. } | Phase::Installing { .. } => false,
+        }
+    }
+
+    /// Whether a site's report is awaited, and has not come yet.
+    pub fn awaits_report(&self, site: SiteNo) -> bool
+        ensures { result ≡ awaits_report self.now site }
+    {
+        match self {
+            Phase::Gathering {
+                awaited,
+                reports,
+                ..
+            } => is_among(site, awaited.as_slice()) && !has_report(reports.as_slice(), site),
+            Phase::Idle | Phase::Installing { .. } => false,
+        }
+    }
+
+    /// Whether a site is still to install the view that is decided.
+    pub fn awaits_installed(&self, site: SiteNo) -> bool
+        ensures { result ≡ awaits_installed self.now site }
+    {
+        match self {
+            Phase::Installing { waiting, .. } => is_among(site, waiting.as_slice()),
+            Phase::Idle | Phase::Gathering { .. } => false,
+        }
+    }
+
+    /// The phase in which nothing is awaited from a site any more. Takes no memory.
+    pub(crate) fn without(self, site: SiteNo) -> Self
+        ensures { result ≡ phase_without site self }
+    {
+        match self {
+            Phase::Idle => Phase::Idle,
+            Phase::Gathering {
+                awaited,
+                reports,
+                bodies,
+            } => Phase::Gathering {
+                awaited: sites_without(awaited, site),
+                reports: reports_without(reports, site),
+                bodies,
+            },
+            Phase::Installing {
+                waiting,
+                decision,
+                bodies,
+            } => installing(sites_without(waiting, site), decision, bodies),
+        }
+    }
+
+    /// The phase with a site's report.
+    pub(crate) fn with_report(self, site: SiteNo, report: Report) -> Result<Self, NoMemory>
+        ensures { IfOk result (λ phase. phase ≡ phase_with_report site report self) }
+    {
+        match self {
+            Phase::Gathering {
+                awaited,
+                reports,
+                bodies,
+            } => Ok(Phase::Gathering {
+                awaited,
+                reports: with_report(reports, site, report)?,
+                bodies,
+            }),
+            other => Ok(other),
+        }
+    }
+
+    /// The phase with a message that was wanted.
+    pub(crate) fn with_body(self, message: Message) -> Result<Self, NoMemory>
+        ensures { IfOk result (λ phase. phase ≡ phase_with_body message self) }
+    {
+        match self {
+            Phase::Gathering {
+                awaited,
+                reports,
+                mut bodies,
+            } => {
+                bodies.push(message)?;
+                Ok(Phase::Gathering {
+                    awaited,
+                    reports,
+                    bodies,
+                })
+            }
+            other => Ok(other),
+        }
+    }
+}
+
+/// Installing goes on until no site is waited for.
+pub(crate) fn installing(
+    waiting: Listed<SiteNo>,
+    decision: Decision,
+    bodies: Listed<Message>,
+) -> Phase
+    ensures { result ≡ installing waiting decision bodies }
+{
+    if waiting.is_empty() {
+        Phase::Idle
+    } else {
+        Phase::Installing {
+            waiting,
+            decision,
+            bodies,
+        }
+    }
+}
+
+/// Whether a site is one of these.
+pub(crate) fn is_among(site: SiteNo, sites: &[SiteNo]) -> bool
+    ensures { result ≡ is_among site_eq site sites.now }
+{
+    sites.iter().any(|other| site == *other)
+}
+
+// The sites but for one.
+fn sites_without(sites: Listed<SiteNo>, site: SiteNo) -> Listed<SiteNo>
+    ensures { result ≡ without site_eq site sites }
+{
+    let mut rest = sites.into_vec();
+    rest.retain(|other| !(site == *other));
+    Listed::from_vec(rest)
+}
+
+// The reports but for one site's.
+fn reports_without(reports: Listed<(SiteNo, Report)>, site: SiteNo) -> Listed<(SiteNo, Report)>
+    ensures { result ≡ filter (λ r. not (site_eq site r.0)) reports }
+{
+    let mut rest = reports.into_vec();
+    rest.retain(|report| !(site == report.0));
+    Listed::from_vec(rest)
+}
+
+// The reports with one of a site.
+fn with_report(
+    reports: Listed<(SiteNo, Report)>,
+    site: SiteNo,
+    report: Report,
+) -> Result<Listed<(SiteNo, Report)>, NoMemory>
+    ensures { IfOk result (λ l. l ≡ put site_cmp site report reports) }
+{
+    let mut all = reports.into_vec();
+    sorted::put(&mut all, site, report)?;
+    Ok(Listed::from_vec(all))
+}
