@@ -12,7 +12,7 @@ use Rattle.cast_delay.specs.Ready.{Process, first_of, covered, has_delivered}
 use Rattle.cast_delay.specs.Rows.{done_in, needed, has_past}
 use Rattle.cast_delay.specs.Fits.{RowFits}
 use Rattle.cast_delay.proofs.Listed.{list_all-filter, list_all-map, list_all-flat_map, list_all_agree, range_holds, holds_range}
-use Rattle.cast_types.proofs.Tests.{same_bools}
+use Rattle.cast_types.proofs.Bools.{same_bools}
 
 -- the message's own entry needs one less
 pub needed_own : (id : Uid) (h : GroupNo) (v : ℕ) (e : Entry) → uid_eq (named h v e) id ≡ true → needed id h v e ≡ e.1 - 1

@@ -9,7 +9,7 @@ use Rattle.std.proofs.lemmas.Bool.{cases_Bool, false≢true, or_cases, or_left, 
 use Rattle.cast_types.specs.declared.names.GroupNo.{GroupNo}
 use Rattle.cast_types.specs.Names.{group_cmp, group_eq}
 use Rattle.cast_types.proofs.Orders.{group_total, group_exact, same_group, group_itself, tie_self, tie_same}
-use Rattle.cast_types.proofs.Tests.{same_bools}
+use Rattle.cast_types.proofs.Bools.{same_bools}
 
 pub contains_here : {A : Type 0} (x : A) (xs : List A) → Contains (x ∷ xs) x
 contains_here x xs = (0, omega arith, refl)

@@ -19,7 +19,7 @@ use Rattle.cast_delay.specs.Ready.{Process, Gate, is_member, is_outside, has_del
 use Rattle.cast_delay.specs.Rows.{number_of, standing_in, done_in, row_allows, all_allow, is_causally_ready_row, has_delivered_in, awaits_row}
 use Rattle.cast_delay.specs.Fits.{RowFits, IsSound}
 use Rattle.cast_delay.proofs.Counted.{past_counted}
-use Rattle.cast_types.proofs.Tests.{same_bools}
+use Rattle.cast_types.proofs.Bools.{same_bools}
 
 -- what holds of all items of a list holds of one that is among them
 pub among_holds : (t : GroupNo → Bool) (gs : List GroupNo) (g : GroupNo) → list_all t gs ≡ true → is_among group_eq g gs ≡ true → t g ≡ true

@@ -58,7 +58,7 @@ use Rattle.cast_domain.proofs.Owings.{fits_send_for, fits_owe}
 use Rattle.cast_domain.proofs.Standing.{and_none, fits_if, record_there, place_some, place_none, standing_there, time_there, fits_push, fits_here, fits_standing, fits_time, process_here, fits_receive_with}
 use Rattle.cast_domain.proofs.Logs.{logs_receive}
 use Rattle.cast_domain.proofs.Releases.{current_same}
-use Rattle.cast_types.proofs.Tests.{same_bools}
+use Rattle.cast_types.proofs.Bools.{same_bools}
 
 -- the records with the parts that the history has, as it has them
 abbrev written : Records → State → Records

@@ -49,7 +49,7 @@ use Rattle.cast_domain.proofs.Owings.{fits_owed, fits_owe, fits_pay}
 use Rattle.cast_domain.proofs.Ordering.{order_room_there}
 use Rattle.cast_domain.proofs.Commands.{fits_ask_home, room_there}
 use Rattle.cast_domain.proofs.Entering.{fits_complete}
-use Rattle.cast_types.proofs.Tests.{same_bools}
+use Rattle.cast_types.proofs.Bools.{same_bools}
 
 -- a frame, and the site that it is sent to, may be written in two ways
 fits_send_as : (r : Records) (s : State) → Fits r s → (to at : SiteNo) (f g : SiteFrame) → to ≡ at → f ≡ g → Fits (send_in r to f) (emitted s at g)

@@ -55,7 +55,7 @@ use Rattle.cast_domain.specs.Calls.{place_among, local_in, place_in, no_record, 
 use Rattle.cast_domain.specs.Fits.{process_named, record_for, session_in, LogFits, Fits, IsLawful}
 use Rattle.cast_domain.proofs.Logs.{log_alike, settled_same, logs_receive, logs_view}
 use Rattle.cast_domain.proofs.Spots.{length_update, update_own, update_other, push_last, push_other, update_mapped}
-use Rattle.cast_types.proofs.Tests.{same_bools}
+use Rattle.cast_types.proofs.Bools.{same_bools}
 
 -- nothing is left of two tests where the second fails
 pub and_none : (a : Bool) → (a && false) ≡ false

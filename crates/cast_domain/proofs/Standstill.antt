@@ -36,7 +36,7 @@ use Rattle.cast_domain.proofs.Standing.{process_here}
 use Rattle.cast_domain.proofs.Ordering.{waiting_there}
 use Rattle.cast_domain.proofs.Turns.{fits_settle, fits_lead}
 use Rattle.cast_domain.proofs.SetOrders.{holder_local, fits_set_orders}
-use Rattle.cast_types.proofs.Tests.{same_bools}
+use Rattle.cast_types.proofs.Bools.{same_bools}
 
 -- deliveries, then set-order messages, and then the home
 pub fits_pass : (r : Records) (s : State) → Fits r s → IsLawful s → Fits (pass_in r) (pass s)

@@ -25,7 +25,7 @@ use Rattle.cast_stable.proofs.Runs.{and_false, eqb_sym, next_apart, inserted_is,
 use Rattle.cast_stable.proofs.Witnesses.{witness_total, witness_exact, key_cases, put_here, put_elsewhere}
 use Rattle.cast_stable.proofs.Lists.{contains_here, contains_later, contains_cases, least_first, least_each, least_reached}
 use Rattle.cast_stable.proofs.Greatest.{stable_greatest, one_greatest}
-use Rattle.cast_types.proofs.Tests.{same_bools}
+use Rattle.cast_types.proofs.Bools.{same_bools}
 
 or_false : (b : Bool) → (b || false) ≡ b
 or_false b = or_comm b false

@@ -8,7 +8,7 @@ use Rattle.std.proofs.Math.Bool.{or_assoc, or_comm}
 use Rattle.std.proofs.lemmas.Bool.{and_parts, and_from, or_cases, or_left, or_right, cases_lt, cases_eq, lt-ltb, ltb-true, le-leb, leb-true, leb-false, lt-leb, eq-eqb, eqb-true, eqb-false, false_from_ne_true}
 use Rattle.cast_types.specs.Sets.{with_item, at_order}
 use Rattle.cast_stable.specs.Runs.{Run, rises_above, is_run, contains, run_after, absorbed, inserted}
-use Rattle.cast_types.proofs.Tests.{same_bools}
+use Rattle.cast_types.proofs.Bools.{same_bools}
 
 pub eqb_sym : (m k : ℕ) → (m == k) ≡ (k == m)
 eqb_sym m k = same_bools (m == k) (k == m) (λ h. eq-eqb k m (sym (eqb-true m k h))) (λ h. eq-eqb m k (sym (eqb-true k m h)))

@@ -5,4 +5,4 @@ pub mod Iterates
 pub mod Orders
 pub mod Sources
 pub mod CountLists
-pub mod Tests
+pub mod Bools

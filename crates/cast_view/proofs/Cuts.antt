@@ -14,7 +14,7 @@ use Rattle.cast_types.proofs.Orders.{proc_total, proc_exact, same_proc, proc_its
 use Rattle.cast_frame.specs.Rising.{is_rising}
 use Rattle.cast_view.specs.Reports.{Reports, greatest_count, cut_from}
 use Rattle.cast_view.specs.Laws.{CutInWords}
-use Rattle.cast_view.proofs.Tests.{all_filter, length_filter}
+use Rattle.cast_view.proofs.Each.{all_filter, length_filter}
 
 -- the cut is counts
 

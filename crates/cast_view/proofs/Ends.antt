@@ -12,7 +12,7 @@ use Rattle.cast_frame.specs.Stretch.{Stretch}
 use Rattle.cast_view.specs.Reports.{Reports}
 use Rattle.cast_view.specs.Decisions.{end_of, no_stretch, longest, unplaced, added, ids_from}
 use Rattle.cast_view.specs.Laws.{LongestInWords, OrderIsWhole, OrderIsWithinTheCut}
-use Rattle.cast_view.proofs.Tests.{all_filter, all_filtered, all_take, all_append, length_filter}
+use Rattle.cast_view.proofs.Each.{all_filter, all_filtered, all_take, all_append, length_filter}
 
 -- the farther of two
 abbrev farther : Stretch → Stretch → Stretch

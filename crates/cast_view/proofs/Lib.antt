@@ -1,4 +1,4 @@
-pub mod Tests
+pub mod Each
 pub mod Gathered
 pub mod Cuts
 pub mod Lacking

@@ -435,7 +435,7 @@ impl HomeSide {
     }
 }
 
-/// The sites of processes, each once, in rising order.
+// The sites of processes, each once, in rising order.
 fn sites_of(alloc: Global, processes: &[Proc]) -> Result<Listed<SiteNo>, NoMemory>
     ensures { IfOk result (λ l. l ≡ sites_of processes.now) }
 {

@@ -1,4 +1,4 @@
--- Laws of tests.
+-- Laws of truth values.
 use Rattle.std.proofs.Common.{◌≡◌, Bool, true}
 use Rattle.std.proofs.lemmas.Bool.Decides.{same_from_decides}
 
