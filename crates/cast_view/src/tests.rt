@@ -36,12 +36,12 @@ fn home_of(alloc: Global, processes: &[Proc]) -> Result<HomeSide, Fail> {
     Ok(home)
 }
 
-// A report of one kept message, without any counts.
-fn report(alloc: Global, kept: (Proc, u32)) -> Result<Report, Fail> {
+// A report of these counts and of one kept message.
+fn report(alloc: Global, counts: Counts, kept: (Proc, u32)) -> Result<Report, Fail> {
     let mut entries = Vec::new(alloc);
     entries.push((kept, false))?;
     Ok(Report {
-        counts: Counts::new(alloc),
+        counts,
         tail: Tail::new(alloc),
         kept: Kept::from_entries(entries),
     })
@@ -117,19 +117,26 @@ fn a_full_group_refuses_a_join(rt: HostRuntime) -> Result<(), Fail> {
     Ok(())
 }
 
+// A home of the first process alone, which asked to leave; the flush awaits a report.
+fn leaving(alloc: Global) -> Result<HomeSide, Fail> {
+    let mut home = home_of(alloc, &[FIRST])?;
+    home.ask(FIRST.site, 2, Change::Leave, FIRST)?;
+    home.start()?;
+    Ok(home)
+}
+
+// Whether a report of a site counts, in which it says that it has had and keeps the third process's first message.
+fn counts(alloc: Global, home: &mut HomeSide, site: SiteNo, view: u32) -> Result<bool, Fail> {
+    let report = report_of_one(alloc)?;
+    Ok(home.reply(site, view, report)?)
+}
+
 #[test]
 fn a_process_joins_again_during_its_leave(rt: HostRuntime) -> Result<(), Fail> {
-    let mut home = home_of(rt.alloc(), &[FIRST])?;
-    home.ask(FIRST.site, 2, Change::Leave, FIRST)?;
-    assert!(rt; home.start()?);
+    let mut home = leaving(rt.alloc())?;
     home.ask(FIRST.site, 3, Change::Join, FIRST)?;
-    let nothing = Report {
-        counts: Counts::new(rt.alloc()),
-        tail: Tail::new(rt.alloc()),
-        kept: Kept::new(rt.alloc()),
-    };
     assert!(rt; !home.decide(GROUP)?);
-    assert!(rt; home.reply(FIRST.site, 1, nothing)?);
+    assert!(rt; counts(rt.alloc(), &mut home, FIRST.site, 1)?);
     assert!(rt; home.decide(GROUP)?);
     assert_eq!(rt; home.number(), 2);
     assert!(rt; home.members().list().first() == Some(&FIRST));
@@ -137,27 +144,59 @@ fn a_process_joins_again_during_its_leave(rt: HostRuntime) -> Result<(), Fail> {
     Ok(())
 }
 
-#[test]
-fn a_suspected_site_is_not_awaited(rt: HostRuntime) -> Result<(), Fail> {
-    let mut home = home_of(rt.alloc(), &[FIRST, SECOND, THIRD])?;
+// A home of three sites whose third is suspected. The first two have reported: the second has had a message of the third
+// that the first lacks.
+fn reported(alloc: Global) -> Result<HomeSide, Fail> {
+    let mut home = home_of(alloc, &[FIRST, SECOND, THIRD])?;
     home.suspect(THIRD.site)?;
-    assert!(rt; home.start()?);
-    assert!(rt; home.reply(FIRST.site, 1, report(rt.alloc(), (THIRD, 2))?)?);
-    assert!(rt; home.wants(GROUP)?.is_empty());
-    assert!(rt; !home.reply(SECOND.site, 2, report(rt.alloc(), (THIRD, 1))?)?);
-    let mut second = report(rt.alloc(), (THIRD, 1))?;
-    second.counts.set(THIRD, 1)?;
-    assert!(rt; home.reply(SECOND.site, 1, second)?);
+    home.start()?;
+    home.reply(
+        FIRST.site,
+        1,
+        report(alloc, Counts::new(alloc), (THIRD, 2))?,
+    )?;
+    home.reply(SECOND.site, 1, report_of_one(alloc)?)?;
+    Ok(home)
+}
+
+// A report of the first message of the third process, which was had and is kept.
+fn report_of_one(alloc: Global) -> Result<Report, Fail> {
+    let mut counts = Counts::new(alloc);
+    counts.set(THIRD, 1)?;
+    report(alloc, counts, (THIRD, 1))
+}
+
+#[test]
+fn the_first_report_of_the_view_counts(rt: HostRuntime) -> Result<(), Fail> {
+    let mut home = leaving(rt.alloc())?;
+    assert!(rt; !counts(rt.alloc(), &mut home, FIRST.site, 2)?);
+    assert!(rt; !counts(rt.alloc(), &mut home, THIRD.site, 1)?);
+    assert!(rt; counts(rt.alloc(), &mut home, FIRST.site, 1)?);
+    assert!(rt; !counts(rt.alloc(), &mut home, FIRST.site, 1)?);
+    Ok(())
+}
+
+#[test]
+fn what_some_site_lacks_is_wanted(rt: HostRuntime) -> Result<(), Fail> {
+    let mut home = reported(rt.alloc())?;
     let wants = home.wants(GROUP)?;
+    assert_eq!(rt; wants.len(), 1);
     assert!(rt; wants.as_slice().first() == Some(&(SECOND.site, (THIRD, 1))));
     assert!(rt; !home.decide(GROUP)?);
     home.body(message(rt.alloc(), THIRD, 1)?)?;
     assert_eq!(rt; home.bodies().len(), 1);
     assert!(rt; home.wants(GROUP)?.is_empty());
+    Ok(())
+}
+
+#[test]
+fn a_suspected_site_is_not_awaited(rt: HostRuntime) -> Result<(), Fail> {
+    let mut home = reported(rt.alloc())?;
+    home.body(message(rt.alloc(), THIRD, 1)?)?;
     assert!(rt; home.decide(GROUP)?);
     assert_eq!(rt; home.members().list().len(), 2);
     assert_eq!(rt; waiting(&home).len(), 2);
-    home.installed(FIRST.site, 2);
+    assert!(rt; home.installed(FIRST.site, 2));
     home.suspect(SECOND.site)?;
     assert!(rt; home.phase().is_idle());
     Ok(())
