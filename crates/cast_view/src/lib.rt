@@ -27,7 +27,6 @@ mod reports;
 
 pub use home::HomeSide;
 pub use phase::{Answer, Decision, Phase};
-pub use procs::Procs;
 pub use report::Report;
 
 #[cfg(test)]
