@@ -20,6 +20,3 @@ mod times;
 
 pub use fault::ClockFault;
 pub use times::Times;
-
-#[cfg(test)]
-mod tests;

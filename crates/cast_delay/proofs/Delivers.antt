@@ -14,7 +14,7 @@ use Rattle.cast_types.proofs.Orders.{group_total, group_exact, proc_exact, same_
 use Rattle.cast_types.proofs.CountLists.{sorted-put}
 use Rattle.cast_clock.specs.Times.{clock_of, view_of, join, has_room}
 use Rattle.cast_clock.proofs.Entries.{found_or}
-use Rattle.cast_frame.specs.declared.message.Message.{Message}
+use Rattle.cast_message.specs.declared.message.Message.{Message}
 use Rattle.cast_types.specs.declared.source.Source.{Source}
 use Rattle.cast_delay.specs.declared.row.Row.{Row}
 use Rattle.cast_delay.specs.declared.row.Fact.{Fact}

@@ -13,7 +13,7 @@ use Rattle.cast_types.specs.Sets.{is_among}
 use Rattle.cast_types.proofs.Orders.{group_total, group_exact, same_group}
 use Rattle.cast_clock.specs.Times.{clock_of, view_of, join, has_room}
 use Rattle.cast_clock.proofs.Entries.{found_or, each_found, list_all_of, as_T}
-use Rattle.cast_frame.specs.declared.message.Message.{Message}
+use Rattle.cast_message.specs.declared.message.Message.{Message}
 use Rattle.cast_delay.specs.declared.row.Row.{Row}
 use Rattle.cast_delay.specs.Ready.{Process, Gate, is_member, is_outside, has_delivered, awaits, group_allows, is_causally_ready}
 use Rattle.cast_delay.specs.Rows.{number_of, standing_in, done_in, row_allows, all_allow, is_causally_ready_row, has_delivered_in, awaits_row}

@@ -16,10 +16,10 @@ use Rattle.cast_types.specs.Names.{Entry, group_cmp, group_eq, proc_eq, named}
 use Rattle.cast_types.specs.Sets.{is_among, set_at}
 use Rattle.cast_types.proofs.Orders.{same_group}
 use Rattle.cast_clock.proofs.Entries.{option_cases}
-use Rattle.cast_frame.specs.declared.message.Message.{Message}
-use Rattle.cast_frame.specs.declared.message.Received.{Received}
-use Rattle.cast_frame.specs.Receipts.{key_eq, message_under}
-use Rattle.cast_frame.proofs.Places.{position_or_len_found}
+use Rattle.cast_message.specs.declared.message.Message.{Message}
+use Rattle.cast_message.specs.declared.message.Received.{Received}
+use Rattle.cast_message.specs.Receipts.{key_eq, message_under}
+use Rattle.cast_message.proofs.Places.{position_or_len_found}
 use Rattle.cast_delay.specs.declared.turn.Turn.{Turn}
 use Rattle.cast_delay.specs.declared.row.Row.{Row}
 use Rattle.cast_delay.specs.declared.row.Fact.{Fact}

@@ -6,8 +6,8 @@ use Rattle.std.proofs.lemmas.Bool.{false≢true, and_parts, or_cases, not-true}
 use Rattle.cast_types.specs.declared.names.GroupNo.{GroupNo}
 use Rattle.cast_types.specs.Names.{entry_of, is_atomic}
 use Rattle.cast_clock.specs.Times.{join, has_room}
-use Rattle.cast_frame.specs.declared.message.Message.{Message}
-use Rattle.cast_frame.specs.Bodies.{kind_of}
+use Rattle.cast_message.specs.declared.message.Message.{Message}
+use Rattle.cast_message.specs.Bodies.{kind_of}
 use Rattle.cast_delay.specs.declared.turn.Turn.{Turn}
 use Rattle.cast_delay.specs.Ready.{Process, Gate, is_member, has_delivered, group_allows, has_turn, is_causally_ready, is_ready}
 use Rattle.cast_delay.proofs.Finds.{find_agree}

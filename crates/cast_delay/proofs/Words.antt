@@ -17,8 +17,8 @@ use Rattle.cast_types.proofs.Orders.{group_exact, proc_total, proc_exact, same_u
 use Rattle.cast_clock.specs.Times.{first_clock, clock_of, view_of, join, has_room}
 use Rattle.cast_clock.specs.Laws.{is_in_order}
 use Rattle.cast_clock.proofs.Entries.{found_or, each_found, as_T}
-use Rattle.cast_frame.specs.declared.message.Message.{Message}
-use Rattle.cast_frame.specs.Bodies.{kind_of}
+use Rattle.cast_message.specs.declared.message.Message.{Message}
+use Rattle.cast_message.specs.Bodies.{kind_of}
 use Rattle.cast_delay.specs.declared.turn.Turn.{Turn}
 use Rattle.cast_delay.specs.declared.turn.Turn.TheVariants.{Holding, Following}
 use Rattle.cast_delay.specs.Ready.{Process, Gate, is_member, has_delivered, past_in, group_allows, has_turn, is_causally_ready, is_ready}

@@ -8,10 +8,10 @@ use Rattle.cast_types.specs.declared.names.Uid.{Uid}
 use Rattle.cast_types.specs.Names.{group_cmp, group_eq, proc_eq, is_atomic}
 use Rattle.cast_types.specs.Sets.{is_among, set_at}
 use Rattle.cast_clock.specs.Times.{view_of, count_in, join}
-use Rattle.cast_frame.specs.declared.message.Message.{Message}
-use Rattle.cast_frame.specs.declared.message.Received.{Received}
-use Rattle.cast_frame.specs.Bodies.{kind_of}
-use Rattle.cast_frame.specs.Receipts.{messages, message_under}
+use Rattle.cast_message.specs.declared.message.Message.{Message}
+use Rattle.cast_message.specs.declared.message.Received.{Received}
+use Rattle.cast_message.specs.Bodies.{kind_of}
+use Rattle.cast_message.specs.Receipts.{messages, message_under}
 use Rattle.cast_delay.specs.declared.turn.Turn.{Turn}
 use Rattle.cast_delay.specs.declared.offered.Offered.{Offered}
 use Rattle.cast_delay.specs.declared.row.Row.{Row}

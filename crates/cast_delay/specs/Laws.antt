@@ -10,9 +10,9 @@ use Rattle.cast_types.specs.declared.names.Uid.{Uid}
 use Rattle.cast_types.specs.Names.{group_cmp, group_eq}
 use Rattle.cast_types.specs.Sets.{set_at}
 use Rattle.cast_clock.specs.Times.{no_time}
-use Rattle.cast_frame.specs.declared.message.Message.{Message}
-use Rattle.cast_frame.specs.declared.message.Received.{Received}
-use Rattle.cast_frame.specs.Receipts.{key_eq, message_under}
+use Rattle.cast_message.specs.declared.message.Message.{Message}
+use Rattle.cast_message.specs.declared.message.Received.{Received}
+use Rattle.cast_message.specs.Receipts.{key_eq, message_under}
 use Rattle.cast_delay.specs.declared.turn.Turn.{Turn}
 use Rattle.cast_delay.specs.declared.row.Row.{Row}
 use Rattle.cast_delay.specs.declared.row.Fact.{Fact}

@@ -7,7 +7,7 @@ use Rattle.cast_types.specs.declared.names.Proc.{Proc}
 use Rattle.cast_types.specs.declared.names.Key.{Key}
 use Rattle.cast_types.specs.declared.names.Uid.{Uid}
 use Rattle.cast_types.specs.Names.{Entry, proc_eq}
-use Rattle.cast_frame.specs.Receipts.{key_eq}
+use Rattle.cast_message.specs.Receipts.{key_eq}
 use Rattle.cast_delay.specs.declared.turn.Turn.{Turn}
 use Rattle.cast_delay.specs.declared.row.Row.{Row}
 use Rattle.cast_delay.specs.declared.offered.Offered.{Offered}

@@ -8,8 +8,8 @@ use Rattle.cast_types.specs.declared.names.Kind.TheVariants.{Atomic}
 use Rattle.cast_types.specs.Names.{Entry, entry_of}
 use Rattle.cast_clock.specs.Times.{view_of, count_in, join, has_room}
 use Rattle.cast_clock.specs.Laws.{is_in_order}
-use Rattle.cast_frame.specs.declared.message.Message.{Message}
-use Rattle.cast_frame.specs.Bodies.{kind_of}
+use Rattle.cast_message.specs.declared.message.Message.{Message}
+use Rattle.cast_message.specs.Bodies.{kind_of}
 use Rattle.cast_delay.specs.declared.turn.Turn.{Turn}
 use Rattle.cast_delay.specs.declared.turn.Turn.TheVariants.{Holding, Following}
 use Rattle.cast_delay.specs.Ready.{Process, Gate, is_causally_ready, is_ready}

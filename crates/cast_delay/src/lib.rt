@@ -30,6 +30,3 @@ pub use offered::Offered;
 pub use queue::Delay;
 pub use row::{Fact, Row};
 pub use turn::Turn;
-
-#[cfg(test)]
-mod tests;

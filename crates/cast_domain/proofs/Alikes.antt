@@ -7,17 +7,17 @@ use Rattle.cast_types.specs.declared.names.SiteNo.{SiteNo}
 use Rattle.cast_types.specs.declared.names.GroupNo.{GroupNo}
 use Rattle.cast_types.specs.declared.names.Uid.{Uid}
 use Rattle.cast_types.specs.Sets.{set_at}
-use Rattle.cast_frame.specs.declared.message.Body.{Body}
-use Rattle.cast_frame.specs.declared.message.Message.{Message}
-use Rattle.cast_frame.specs.declared.site.SiteFrame.{SiteFrame}
-use Rattle.cast_frame.specs.declared.client.Push.{Push}
+use Rattle.cast_message.specs.declared.message.Body.{Body}
+use Rattle.cast_message.specs.declared.message.Message.{Message}
+use Rattle.cast_message.specs.declared.site.SiteFrame.{SiteFrame}
+use Rattle.cast_message.specs.declared.client.Push.{Push}
 use Rattle.cast_stable.specs.Stable.{has_acked}
 use Rattle.cast_timer.specs.declared.key.OwedKey.{OwedKey}
 use Rattle.cast_timer.specs.declared.key.OwedKind.TheVariants as kinds
 use Rattle.cast_timer.specs.Owed.{is_owed, with_owed}
 use Rattle.cast_delay.specs.Ready.{Process}
-use Rattle.cast_domain.specs.declared.session.Session.{Session}
-use Rattle.cast_domain.specs.Session.{is_open, pushed_to}
+use Rattle.cast_model.specs.declared.session.Session.{Session}
+use Rattle.cast_model.specs.Session.{is_open, pushed_to}
 use Rattle.cast_domain.specs.State.{State, set_session, set_process, emitted, others_of, let_go}
 use Rattle.cast_domain.specs.Owing.{message_key, frame_for, sent_for, owing, next_due}
 use Rattle.cast_domain.specs.Effects.{pushing, receiving, sending_to, next_message, sending}

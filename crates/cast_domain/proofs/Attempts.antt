@@ -8,9 +8,9 @@ use Rattle.cast_types.specs.declared.names.Standing.TheVariants.{Joining}
 use Rattle.cast_types.specs.declared.limits.TheConstants.{MAX_NUMBER, MAX_PAYLOAD}
 use Rattle.cast_types.specs.declared.refusal.Refusal.TheVariants.{NotMember, AlreadyMember, OwnAbcast, HeldFull, TooLong}
 use Rattle.cast_clock.specs.Times.{view_of, bumped}
-use Rattle.cast_frame.specs.declared.client.CastKind.{CastKind}
-use Rattle.cast_frame.specs.declared.site.Change.TheVariants as change
-use Rattle.cast_frame.specs.Sequence.{Sequence}
+use Rattle.cast_message.specs.declared.client.CastKind.{CastKind}
+use Rattle.cast_message.specs.declared.site.Change.TheVariants as change
+use Rattle.cast_message.specs.Sequence.{Sequence}
 use Rattle.cast_order.specs.Log.{log_of, next_places}
 use Rattle.cast_delay.specs.Ready.{is_member, is_outside}
 use Rattle.cast_delay.specs.declared.row.Fact.TheVariants as fact

@@ -19,18 +19,18 @@ use Rattle.cast_types.specs.Places.{update}
 use Rattle.cast_types.specs.Stamps.{ClockList}
 use Rattle.cast_clock.specs.Times.{view_of, count_in, bumped}
 use Rattle.cast_clock.proofs.Raised.{bump_raises, bump_leaves_views}
-use Rattle.cast_frame.specs.declared.message.Body.{Body}
-use Rattle.cast_frame.specs.declared.message.Message.{Message}
-use Rattle.cast_frame.specs.declared.site.Change.{Change}
-use Rattle.cast_frame.specs.declared.site.Change.TheVariants as change
-use Rattle.cast_frame.specs.declared.client.CastKind.{CastKind}
-use Rattle.cast_frame.specs.declared.client.CastKind.TheVariants as kind
-use Rattle.cast_frame.specs.declared.client.Request.{Request}
-use Rattle.cast_frame.specs.declared.client.Request.TheVariants.{Join, Leave, Cast}
-use Rattle.cast_frame.specs.declared.client.Push.TheVariants as push
-use Rattle.cast_frame.specs.declared.message.Received.{Received}
-use Rattle.cast_frame.specs.Bodies.{kind_of}
-use Rattle.cast_frame.specs.Receipts.{messages}
+use Rattle.cast_message.specs.declared.message.Body.{Body}
+use Rattle.cast_message.specs.declared.message.Message.{Message}
+use Rattle.cast_message.specs.declared.site.Change.{Change}
+use Rattle.cast_message.specs.declared.site.Change.TheVariants as change
+use Rattle.cast_message.specs.declared.client.CastKind.{CastKind}
+use Rattle.cast_message.specs.declared.client.CastKind.TheVariants as kind
+use Rattle.cast_message.specs.declared.client.Request.{Request}
+use Rattle.cast_message.specs.declared.client.Request.TheVariants.{Join, Leave, Cast}
+use Rattle.cast_message.specs.declared.client.Push.TheVariants as push
+use Rattle.cast_message.specs.declared.message.Received.{Received}
+use Rattle.cast_message.specs.Bodies.{kind_of}
+use Rattle.cast_message.specs.Receipts.{messages}
 use Rattle.cast_stable.specs.Stable.{has_acked}
 use Rattle.cast_stable.specs.Ledger.{others_in, has_acked_in}
 use Rattle.cast_timer.specs.declared.key.OwedKind.TheVariants as kinds
@@ -41,10 +41,10 @@ use Rattle.cast_delay.specs.Fits.{IsSound}
 use Rattle.cast_delay.proofs.Queues.{delivered_rules}
 use Rattle.cast_order.specs.Log.{Log, log_of}
 use Rattle.cast_domain.specs.declared.record.GroupRecord.{GroupRecord}
-use Rattle.cast_domain.specs.Group.{has_view, with_request}
-use Rattle.cast_domain.specs.Home.{is_empty}
-use Rattle.cast_frame.specs.declared.client.Command.{Command}
-use Rattle.cast_frame.specs.declared.client.Command.TheVariants as command
+use Rattle.cast_model.specs.Group.{has_view, with_request}
+use Rattle.cast_model.specs.Home.{is_empty}
+use Rattle.cast_message.specs.declared.client.Command.{Command}
+use Rattle.cast_message.specs.declared.client.Command.TheVariants as command
 use Rattle.cast_domain.specs.State.{State, local, is_group, set_process, set_group, set_standing, others_of, may_receive, gate_of}
 use Rattle.cast_domain.specs.Order.{awaits_own}
 use Rattle.cast_domain.specs.Owing.{ask_key, message_key, sent_for, owing}

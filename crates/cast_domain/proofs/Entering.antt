@@ -14,20 +14,20 @@ use Rattle.cast_types.specs.Names.{site_eq, group_eq, proc_eq, proc_cmp}
 use Rattle.cast_types.specs.Sets.{is_among, set_at}
 use Rattle.cast_types.proofs.Orders.{proc_total, same_site, same_proc, site_itself, proc_itself}
 use Rattle.cast_clock.specs.Times.{entering}
-use Rattle.cast_frame.specs.declared.site.SiteFrame.TheVariants as frame
-use Rattle.cast_frame.specs.declared.client.Push.{Push}
-use Rattle.cast_frame.specs.declared.client.Push.TheVariants as push
-use Rattle.cast_frame.specs.Membership.{Membership, is_members}
-use Rattle.cast_frame.specs.Rising.{is_rising}
+use Rattle.cast_message.specs.declared.site.SiteFrame.TheVariants as frame
+use Rattle.cast_message.specs.declared.client.Push.{Push}
+use Rattle.cast_message.specs.declared.client.Push.TheVariants as push
+use Rattle.cast_message.specs.Membership.{Membership, is_members}
+use Rattle.cast_message.specs.Rising.{is_rising}
 use Rattle.cast_delay.specs.declared.row.Row.{Row}
 use Rattle.cast_delay.specs.declared.row.Fact.TheVariants as fact
 use Rattle.cast_delay.specs.Ready.{Process, is_outside}
 use Rattle.cast_delay.specs.Rows.{standing_in, told_row}
 use Rattle.cast_delay.specs.Queue.{row_of}
 use Rattle.cast_domain.specs.declared.record.GroupRecord.{GroupRecord}
-use Rattle.cast_domain.specs.declared.session.Session.{Session}
-use Rattle.cast_domain.specs.Session.{is_open, pushed_to, told}
-use Rattle.cast_domain.specs.Group.{with_view, is_taken_in}
+use Rattle.cast_model.specs.declared.session.Session.{Session}
+use Rattle.cast_model.specs.Session.{is_open, pushed_to, told}
+use Rattle.cast_model.specs.Group.{with_view, is_taken_in}
 use Rattle.cast_domain.specs.State.{State, local, serials, is_group, set_session, set_process, set_group, set_standing}
 use Rattle.cast_domain.specs.Effects.{pushing, enters, in_view, push_view, completing}
 use Rattle.cast_domain.specs.Records.{Records, was_given}

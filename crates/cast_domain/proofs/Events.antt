@@ -3,12 +3,12 @@ use Rattle.std.proofs.Common.{◌≡◌, ℕ, ◌+◌, true, false, refl, sym, a
 use Rattle.std.specs.Prelude.{◌==◌, if◌then◌else◌}
 use Rattle.cast_types.specs.declared.refusal.Refusal.TheVariants.{NotOpen, TooManySessions}
 use Rattle.cast_types.specs.declared.limits.TheConstants.{MAX_NUMBER}
-use Rattle.cast_domain.specs.Session.{is_open}
-use Rattle.cast_domain.specs.declared.event.Event.{Event}
-use Rattle.cast_domain.specs.declared.event.Event.TheVariants as event
-use Rattle.cast_frame.specs.declared.client.Command.{Command}
-use Rattle.cast_frame.specs.declared.client.Command.TheVariants as command
-use Rattle.cast_domain.specs.declared.event.Taken.TheVariants as taken
+use Rattle.cast_model.specs.Session.{is_open}
+use Rattle.cast_model.specs.declared.event.Event.{Event}
+use Rattle.cast_model.specs.declared.event.Event.TheVariants as event
+use Rattle.cast_message.specs.declared.client.Command.{Command}
+use Rattle.cast_message.specs.declared.client.Command.TheVariants as command
+use Rattle.cast_model.specs.declared.event.Taken.TheVariants as taken
 use Rattle.cast_domain.specs.State.{State}
 use Rattle.cast_domain.specs.Step.{commanded, opened, Effect, acted}
 use Rattle.cast_domain.specs.Records.{Records, was_given, answer_to}

@@ -1,12 +1,12 @@
 -- One process joins a group at its own home, and casts: the stored run, and what follows it.
 use Rattle.std.specs.Prelude.{◌≡◌, ℕ, zero, suc, false, List, [], ◌∷◌, Some, None, refl}
 use Rattle.cast_types.specs.declared.refusal.Refusal.TheVariants.{TooLong}
-use Rattle.cast_frame.specs.declared.site.Change.TheVariants as change
-use Rattle.cast_frame.specs.declared.site.SiteFrame.TheVariants as frame
-use Rattle.cast_frame.specs.declared.client.CastKind.TheVariants as kind
-use Rattle.cast_frame.specs.declared.client.Push.TheVariants as push
-use Rattle.cast_domain.specs.declared.event.Event.{Event}
-use Rattle.cast_domain.specs.declared.event.Taken.TheVariants as taken
+use Rattle.cast_message.specs.declared.site.Change.TheVariants as change
+use Rattle.cast_message.specs.declared.site.SiteFrame.TheVariants as frame
+use Rattle.cast_message.specs.declared.client.CastKind.TheVariants as kind
+use Rattle.cast_message.specs.declared.client.Push.TheVariants as push
+use Rattle.cast_model.specs.declared.event.Event.{Event}
+use Rattle.cast_model.specs.declared.event.Taken.TheVariants as taken
 use Rattle.cast_domain.specs.Run.{Ran, run_of}
 use Rattle.cast_domain.proofs.Words.{site, group, uid, members, config, opens, asks_join, casts, comes, install, then_run, pushed_after, p11}
 

@@ -14,14 +14,14 @@ use Rattle.cast_types.specs.Places.{update}
 use Rattle.cast_types.specs.Sets.{is_among}
 use Rattle.cast_types.proofs.Orders.{same_site, same_uid, uid_itself}
 use Rattle.cast_clock.specs.Times.{clock_of, count_in}
-use Rattle.cast_frame.specs.declared.message.Body.{Body}
-use Rattle.cast_frame.specs.declared.message.Message.{Message}
-use Rattle.cast_frame.specs.declared.site.Change.{Change}
-use Rattle.cast_frame.specs.declared.site.Change.TheVariants as change
-use Rattle.cast_frame.specs.declared.site.SiteFrame.{SiteFrame}
-use Rattle.cast_frame.specs.declared.site.SiteFrame.TheVariants as frame
-use Rattle.cast_frame.specs.Bodies.{kind_of}
-use Rattle.cast_frame.specs.Membership.{Membership, is_members}
+use Rattle.cast_message.specs.declared.message.Body.{Body}
+use Rattle.cast_message.specs.declared.message.Message.{Message}
+use Rattle.cast_message.specs.declared.site.Change.{Change}
+use Rattle.cast_message.specs.declared.site.Change.TheVariants as change
+use Rattle.cast_message.specs.declared.site.SiteFrame.{SiteFrame}
+use Rattle.cast_message.specs.declared.site.SiteFrame.TheVariants as frame
+use Rattle.cast_message.specs.Bodies.{kind_of}
+use Rattle.cast_message.specs.Membership.{Membership, is_members}
 use Rattle.cast_timer.specs.declared.key.OwedKey.{OwedKey}
 use Rattle.cast_timer.specs.declared.key.OwedKind.TheVariants as kinds
 use Rattle.cast_timer.specs.Owed.{paid as paid_by, is_upto}
@@ -30,10 +30,10 @@ use Rattle.cast_stable.proofs.Meanings.{stable_meant, upto_meant, ack_fits, lear
 use Rattle.cast_delay.specs.Fits.{IsSound}
 use Rattle.cast_order.specs.Log.{log_of}
 use Rattle.cast_domain.specs.declared.record.GroupRecord.{GroupRecord}
-use Rattle.cast_domain.specs.declared.group.Group.{Group}
-use Rattle.cast_domain.specs.declared.group.Verdict.TheVariants.{Again, Completes, Ignored}
-use Rattle.cast_domain.specs.Group.{first_asking, members_of, has_view, is_current, with_answer, verdict_of}
-use Rattle.cast_domain.specs.Home.{applied_of, after_request, after_installed}
+use Rattle.cast_model.specs.declared.group.Group.{Group}
+use Rattle.cast_model.specs.declared.group.Verdict.TheVariants.{Again, Completes, Ignored}
+use Rattle.cast_model.specs.Group.{first_asking, members_of, has_view, is_current, with_answer, verdict_of}
+use Rattle.cast_model.specs.Home.{applied_of, after_request, after_installed}
 use Rattle.cast_domain.specs.State.{State, local, is_home, is_site, is_group, set_group, set_home, emitted, is_received, may_take, others_of, upto, is_stable, counts_itself}
 use Rattle.cast_domain.specs.Owing.{ask_key, message_key, owing, paying}
 use Rattle.cast_domain.specs.Effects.{asking, receiving, completing}

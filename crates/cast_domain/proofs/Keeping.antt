@@ -1,15 +1,15 @@
 -- What is kept, acknowledged and sent again, by worked examples.
 use Rattle.std.specs.Prelude.{◌≡◌, ℕ, [], ◌∷◌, refl}
 use Rattle.cast_types.specs.declared.refusal.Refusal.TheVariants.{HeldFull}
-use Rattle.cast_frame.specs.declared.message.Body.TheVariants as body
-use Rattle.cast_frame.specs.declared.message.Message.{Message}
-use Rattle.cast_frame.specs.declared.site.SiteFrame.TheVariants as frame
-use Rattle.cast_frame.specs.declared.client.CastKind.TheVariants as kind
-use Rattle.cast_frame.specs.declared.client.Push.TheVariants as push
+use Rattle.cast_message.specs.declared.message.Body.TheVariants as body
+use Rattle.cast_message.specs.declared.message.Message.{Message}
+use Rattle.cast_message.specs.declared.site.SiteFrame.TheVariants as frame
+use Rattle.cast_message.specs.declared.client.CastKind.TheVariants as kind
+use Rattle.cast_message.specs.declared.client.Push.TheVariants as push
 use Rattle.std.specs.Prelude.{Some, None, false}
-use Rattle.cast_domain.specs.declared.config.DomainConfig.{DomainConfig}
-use Rattle.cast_domain.specs.declared.event.Event.{Event}
-use Rattle.cast_domain.specs.declared.event.Event.TheVariants as event
+use Rattle.cast_model.specs.declared.config.DomainConfig.{DomainConfig}
+use Rattle.cast_model.specs.declared.event.Event.{Event}
+use Rattle.cast_model.specs.declared.event.Event.TheVariants as event
 use Rattle.cast_domain.specs.Run.{Ran, run_of}
 use Rattle.cast_domain.proofs.Words.{site, group, uid, at, alone, config, opens, asks_join, casts, comes, data_from, install, then_run, pushed_after, p11, p21}
 

@@ -22,16 +22,16 @@ use Rattle.cast_types.proofs.Orders.{same_site, site_itself, same_group, group_i
 use Rattle.cast_clock.specs.Times.{clock_of, view_of, join_clocks, join_counts, join, has_room, bumped, entering}
 use Rattle.cast_clock.proofs.Joins.{clock_of-join}
 use Rattle.cast_clock.proofs.Raised.{bump_leaves_views, enter_begins, enter_leaves}
-use Rattle.cast_frame.specs.declared.message.Body.{Body}
-use Rattle.cast_frame.specs.declared.message.Message.{Message}
-use Rattle.cast_frame.specs.Bodies.{kind_of}
-use Rattle.cast_frame.specs.declared.site.Change.{Change}
-use Rattle.cast_frame.specs.declared.site.SiteFrame.{SiteFrame}
-use Rattle.cast_frame.specs.declared.site.SiteFrame.TheVariants as frame
-use Rattle.cast_frame.specs.declared.client.Push.{Push}
-use Rattle.cast_frame.specs.declared.client.Push.TheVariants as push
-use Rattle.cast_frame.specs.Membership.{Membership}
-use Rattle.cast_frame.specs.Rising.{is_rising}
+use Rattle.cast_message.specs.declared.message.Body.{Body}
+use Rattle.cast_message.specs.declared.message.Message.{Message}
+use Rattle.cast_message.specs.Bodies.{kind_of}
+use Rattle.cast_message.specs.declared.site.Change.{Change}
+use Rattle.cast_message.specs.declared.site.SiteFrame.{SiteFrame}
+use Rattle.cast_message.specs.declared.site.SiteFrame.TheVariants as frame
+use Rattle.cast_message.specs.declared.client.Push.{Push}
+use Rattle.cast_message.specs.declared.client.Push.TheVariants as push
+use Rattle.cast_message.specs.Membership.{Membership}
+use Rattle.cast_message.specs.Rising.{is_rising}
 use Rattle.cast_stable.specs.Stable.{has_acked}
 use Rattle.cast_timer.specs.declared.key.Owed.{Owed}
 use Rattle.cast_timer.specs.declared.key.OwedKey.{OwedKey}
@@ -40,13 +40,13 @@ use Rattle.cast_timer.specs.Owed.{is_owed, with_owed}
 use Rattle.cast_delay.specs.Ready.{Process, Gate, is_member, is_outside, has_delivered, past_in, group_allows, is_causally_ready}
 use Rattle.cast_delay.proofs.Delivers.{only_member}
 use Rattle.cast_delay.proofs.Means.{among_holds}
-use Rattle.cast_domain.specs.declared.session.Session.{Session}
-use Rattle.cast_domain.specs.Session.{is_open, pushed_to}
-use Rattle.cast_domain.specs.declared.group.Group.{Group}
-use Rattle.cast_domain.specs.Group.{no_group, has_view, is_at, is_current, with_request, with_view, is_taken_in}
-use Rattle.cast_domain.specs.declared.home.Home.{Home}
-use Rattle.cast_domain.specs.Home.{is_empty}
-use Rattle.cast_domain.specs.declared.config.DomainConfig.{DomainConfig}
+use Rattle.cast_model.specs.declared.session.Session.{Session}
+use Rattle.cast_model.specs.Session.{is_open, pushed_to}
+use Rattle.cast_model.specs.declared.group.Group.{Group}
+use Rattle.cast_model.specs.Group.{no_group, has_view, is_at, is_current, with_request, with_view, is_taken_in}
+use Rattle.cast_model.specs.declared.home.Home.{Home}
+use Rattle.cast_model.specs.Home.{is_empty}
+use Rattle.cast_model.specs.declared.config.DomainConfig.{DomainConfig}
 use Rattle.cast_domain.specs.State.{State, opening, local, serials, is_group, set_session, set_process, set_group, set_home, set_standing, emitted, others_of, gate_of, local_members, is_stable, is_free, let_go}
 use Rattle.cast_domain.specs.Order.{is_ready_for}
 use Rattle.cast_domain.specs.Owing.{ask_key, message_key, frame_for, sent_for, next_due, owing}

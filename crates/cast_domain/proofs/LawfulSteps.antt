@@ -17,18 +17,18 @@ use Rattle.cast_types.specs.Names.{site_eq, group_cmp}
 use Rattle.cast_types.specs.Repeat.{iterate}
 use Rattle.cast_types.specs.Stamps.{ClockList, is_stamp}
 use Rattle.cast_clock.specs.Times.{view_of, count_in, bumped, has_room}
-use Rattle.cast_frame.specs.declared.message.Body.{Body}
-use Rattle.cast_frame.specs.declared.message.Body.TheVariants as body
-use Rattle.cast_frame.specs.declared.message.Message.{Message}
-use Rattle.cast_frame.specs.declared.site.Change.{Change}
-use Rattle.cast_frame.specs.declared.site.Change.TheVariants as change
-use Rattle.cast_frame.specs.declared.site.SiteFrame.{SiteFrame}
-use Rattle.cast_frame.specs.declared.site.SiteFrame.TheVariants as frame
-use Rattle.cast_frame.specs.declared.client.CastKind.{CastKind}
-use Rattle.cast_frame.specs.declared.client.Request.{Request}
-use Rattle.cast_frame.specs.declared.client.Request.TheVariants.{Join, Leave, Cast}
-use Rattle.cast_frame.specs.declared.client.Push.TheVariants as push
-use Rattle.cast_frame.specs.Membership.{Membership}
+use Rattle.cast_message.specs.declared.message.Body.{Body}
+use Rattle.cast_message.specs.declared.message.Body.TheVariants as body
+use Rattle.cast_message.specs.declared.message.Message.{Message}
+use Rattle.cast_message.specs.declared.site.Change.{Change}
+use Rattle.cast_message.specs.declared.site.Change.TheVariants as change
+use Rattle.cast_message.specs.declared.site.SiteFrame.{SiteFrame}
+use Rattle.cast_message.specs.declared.site.SiteFrame.TheVariants as frame
+use Rattle.cast_message.specs.declared.client.CastKind.{CastKind}
+use Rattle.cast_message.specs.declared.client.Request.{Request}
+use Rattle.cast_message.specs.declared.client.Request.TheVariants.{Join, Leave, Cast}
+use Rattle.cast_message.specs.declared.client.Push.TheVariants as push
+use Rattle.cast_message.specs.Membership.{Membership}
 use Rattle.cast_stable.specs.Stable.{Acked}
 use Rattle.cast_timer.specs.declared.key.Owed.{Owed}
 use Rattle.cast_timer.specs.declared.key.OwedKey.{OwedKey}
@@ -37,17 +37,17 @@ use Rattle.cast_timer.specs.Owed.{due_at}
 use Rattle.cast_delay.specs.Ready.{is_member}
 use Rattle.cast_order.specs.Order.{ids_to_list, place_after}
 use Rattle.cast_delay.proofs.Finds.{found_in}
-use Rattle.cast_domain.specs.Session.{is_open}
-use Rattle.cast_domain.specs.declared.group.Group.{Group}
-use Rattle.cast_domain.specs.declared.group.Verdict.TheVariants.{Again, Completes, Ignored}
-use Rattle.cast_domain.specs.Group.{holder_at, first_asking, members_of, has_view, is_current, with_answer, verdict_of, sites_of}
-use Rattle.cast_domain.specs.declared.home.Home.{Home}
-use Rattle.cast_domain.specs.Home.{is_empty, applied_of, after_request, after_installed, may_decide, decided}
-use Rattle.cast_frame.specs.declared.client.Command.{Command}
-use Rattle.cast_frame.specs.declared.client.Command.TheVariants as command
-use Rattle.cast_domain.specs.declared.event.Event.{Event}
-use Rattle.cast_domain.specs.declared.event.Event.TheVariants as event
-use Rattle.cast_domain.specs.declared.event.Taken.TheVariants as taken
+use Rattle.cast_model.specs.Session.{is_open}
+use Rattle.cast_model.specs.declared.group.Group.{Group}
+use Rattle.cast_model.specs.declared.group.Verdict.TheVariants.{Again, Completes, Ignored}
+use Rattle.cast_model.specs.Group.{holder_at, first_asking, members_of, has_view, is_current, with_answer, verdict_of, sites_of}
+use Rattle.cast_model.specs.declared.home.Home.{Home}
+use Rattle.cast_model.specs.Home.{is_empty, applied_of, after_request, after_installed, may_decide, decided}
+use Rattle.cast_message.specs.declared.client.Command.{Command}
+use Rattle.cast_message.specs.declared.client.Command.TheVariants as command
+use Rattle.cast_model.specs.declared.event.Event.{Event}
+use Rattle.cast_model.specs.declared.event.Event.TheVariants as event
+use Rattle.cast_model.specs.declared.event.Taken.TheVariants as taken
 use Rattle.cast_domain.specs.State.{State, local, serials, is_home, is_site, is_group, is_received, is_well_formed, may_order, may_take, others_of, upto, is_stable, let_go, set_group, set_home, set_standing, emitted}
 use Rattle.cast_domain.specs.Order.{order_of, unlisted, has_place, is_ready_for}
 use Rattle.cast_domain.specs.Owing.{ask_key, message_key, sent_for, owing, paying, resending, at_moment, ticked}

@@ -1,4 +1,3 @@
-pub mod Risings
 pub mod Words
 pub mod FirstCast
 pub mod Waiting

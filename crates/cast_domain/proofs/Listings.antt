@@ -13,12 +13,12 @@ use Rattle.cast_types.specs.declared.names.Uid.{Uid}
 use Rattle.cast_types.specs.Names.{Entry, entry_eq, uid_eq, proc_eq, group_eq, is_atomic, is_order, entry_of}
 use Rattle.cast_types.specs.Sets.{is_among, set_at}
 use Rattle.cast_types.proofs.Orders.{group_itself, proc_itself, entry_itself}
-use Rattle.cast_frame.specs.declared.message.Body.TheVariants as body
-use Rattle.cast_frame.specs.declared.message.Message.{Message}
-use Rattle.cast_frame.specs.Bodies.{kind_of}
+use Rattle.cast_message.specs.declared.message.Body.TheVariants as body
+use Rattle.cast_message.specs.declared.message.Message.{Message}
+use Rattle.cast_message.specs.Bodies.{kind_of}
 use Rattle.cast_order.specs.Order.{listed_ids, still_to_list, ids_to_list, place_after}
-use Rattle.cast_domain.specs.Home.{is_empty}
-use Rattle.cast_domain.specs.Group.{holder_at}
+use Rattle.cast_model.specs.Home.{is_empty}
+use Rattle.cast_model.specs.Group.{holder_at}
 use Rattle.cast_domain.specs.State.{State, local}
 use Rattle.cast_domain.specs.Order.{ids_told, is_of_view, lists_of, abcasts_delivered, order_of, unlisted, is_ready_for}
 use Rattle.cast_domain.specs.Effects.{receiving, next_message, with_delivery}

@@ -16,16 +16,16 @@ use Rattle.cast_types.specs.Names.{Entry, site_eq, group_eq, proc_eq, entry_eq, 
 use Rattle.cast_types.specs.Sets.{is_among, set_at}
 use Rattle.cast_types.proofs.Orders.{same_group, group_itself, same_proc, proc_itself, site_itself}
 use Rattle.cast_clock.specs.Times.{join}
-use Rattle.cast_frame.specs.declared.message.Body.TheVariants as body
-use Rattle.cast_frame.specs.declared.message.Message.{Message}
-use Rattle.cast_frame.specs.Bodies.{kind_of}
-use Rattle.cast_frame.specs.Sequence.{Sequence}
+use Rattle.cast_message.specs.declared.message.Body.TheVariants as body
+use Rattle.cast_message.specs.declared.message.Message.{Message}
+use Rattle.cast_message.specs.Bodies.{kind_of}
+use Rattle.cast_message.specs.Sequence.{Sequence}
 use Rattle.cast_delay.specs.Ready.{Process, has_delivered}
 use Rattle.cast_order.specs.Order.{facts_of}
 use Rattle.cast_order.specs.Log.{Log, log_of, change_log, learnt, next_in, next_places, passed, told, assigned}
 use Rattle.cast_order.proofs.Meanings.{learnt_group, learn_fits, tell_fits, assign_fits, pass_fits, more_fits}
 use Rattle.cast_order.proofs.Logs.{log_of_change}
-use Rattle.cast_domain.specs.Group.{holder_of, is_process, holder_at}
+use Rattle.cast_model.specs.Group.{holder_of, is_process, holder_at}
 use Rattle.cast_domain.specs.State.{State, no_process, local}
 use Rattle.cast_domain.specs.Order.{told_by, is_of_view, facts_in, holds, abcasts_delivered}
 use Rattle.cast_domain.specs.Effects.{receiving, abcasts_with, with_delivery}

@@ -16,12 +16,12 @@ use Rattle.cast_types.specs.declared.limits.TheConstants.{MAX_NUMBER}
 use Rattle.cast_types.specs.Names.{Entry, site_eq, group_eq, proc_eq, uid_eq, is_order, named, entry_of}
 use Rattle.cast_types.specs.Sets.{is_among}
 use Rattle.cast_types.proofs.Orders.{same_group, group_itself, uid_itself}
-use Rattle.cast_frame.specs.declared.message.Body.{Body}
-use Rattle.cast_frame.specs.declared.message.Body.TheVariants as body
-use Rattle.cast_frame.specs.declared.message.Message.{Message}
-use Rattle.cast_frame.specs.Bodies.{kind_of}
-use Rattle.cast_frame.specs.Membership.{Membership}
-use Rattle.cast_frame.specs.Sequence.{Sequence}
+use Rattle.cast_message.specs.declared.message.Body.{Body}
+use Rattle.cast_message.specs.declared.message.Body.TheVariants as body
+use Rattle.cast_message.specs.declared.message.Message.{Message}
+use Rattle.cast_message.specs.Bodies.{kind_of}
+use Rattle.cast_message.specs.Membership.{Membership}
+use Rattle.cast_message.specs.Sequence.{Sequence}
 use Rattle.cast_stable.specs.Stable.{Acked, has_acked, stable_upto}
 use Rattle.cast_stable.proofs.Greatest.{stable_greatest}
 use Rattle.cast_delay.specs.Ready.{has_delivered}
@@ -31,9 +31,9 @@ use Rattle.cast_order.specs.Log.{Log, new_log, log_of, but_log, learnt}
 use Rattle.cast_order.specs.Fits.{Fits as OrderFits}
 use Rattle.cast_order.proofs.Meanings.{new_fits as order_new_fits, learnt_group, learn_fits, more_fits}
 use Rattle.cast_order.proofs.Logs.{log_of_change, log_of_forget}
-use Rattle.cast_domain.specs.declared.group.Group.{Group}
-use Rattle.cast_domain.specs.Group.{no_group, holder_at, members_of, other_sites, with_view}
-use Rattle.cast_domain.specs.Home.{is_empty}
+use Rattle.cast_model.specs.declared.group.Group.{Group}
+use Rattle.cast_model.specs.Group.{no_group, holder_at, members_of, other_sites, with_view}
+use Rattle.cast_model.specs.Home.{is_empty}
 use Rattle.cast_domain.specs.State.{State, local, others_of, set_group}
 use Rattle.cast_domain.specs.Order.{told_by, ids_told, is_of_view, facts_in}
 use Rattle.cast_domain.specs.Effects.{receiving}

@@ -7,10 +7,10 @@ use Rattle.cast_types.specs.Repeat.{iterate}
 use Rattle.cast_domain.specs.declared.domain.Domain.{Domain}
 use Rattle.cast_domain.specs.declared.record.GroupRecord.{GroupRecord}
 use Rattle.cast_domain.specs.Calls.{record_at}
-use Rattle.cast_domain.specs.declared.config.DomainConfig.{DomainConfig}
+use Rattle.cast_model.specs.declared.config.DomainConfig.{DomainConfig}
 use Rattle.cast_domain.specs.declared.shared.Shared.{Shared}
 use Rattle.cast_domain.specs.Shared.{LeavesOthers, part_of}
-use Rattle.cast_domain.specs.declared.event.Outs.{Outs}
+use Rattle.cast_model.specs.declared.event.Outs.{Outs}
 use Rattle.cast_domain.specs.Records.{Keeps, records_of, records_in}
 
 pub keeps_then : (a b c : Domain) → Keeps a b → Keeps b c → Keeps a c

@@ -13,7 +13,7 @@ use Rattle.cast_types.specs.declared.limits.TheConstants.{MAX_NUMBER, MAX_UNSETT
 use Rattle.cast_types.specs.Names.{Entry, group_eq, named}
 use Rattle.cast_types.specs.Sets.{is_among}
 use Rattle.cast_types.proofs.Orders.{same_group, group_itself, site_itself}
-use Rattle.cast_frame.specs.declared.message.Received.{Received}
+use Rattle.cast_message.specs.declared.message.Received.{Received}
 use Rattle.cast_stable.specs.Stable.{stable_upto, was_told, is_known_stable}
 use Rattle.cast_stable.specs.Ledger.{upto_in}
 use Rattle.cast_stable.proofs.Meanings.{upto_meant}
@@ -27,8 +27,8 @@ use Rattle.cast_order.specs.Order.{listed_ids, still_to_list, ids_to_list, place
 use Rattle.cast_order.specs.Log.{Log, log_of, next_in, next_places, unsettled_in, has_room_in}
 use Rattle.cast_order.proofs.Meanings.{next_rules as order_next_rules, unsettled_rules, assign_rules}
 use Rattle.cast_domain.specs.declared.record.GroupRecord.{GroupRecord}
-use Rattle.cast_domain.specs.Group.{holder_of, is_process}
-use Rattle.cast_domain.specs.Home.{is_empty}
+use Rattle.cast_model.specs.Group.{holder_of, is_process}
+use Rattle.cast_model.specs.Home.{is_empty}
 use Rattle.cast_domain.specs.State.{State, local, is_group, others_of, may_order}
 use Rattle.cast_domain.specs.Order.{facts_in, order_of, holds, lists_of, abcasts_delivered, unlisted, unsettled, has_place, has_room_for_order, turn_of}
 use Rattle.cast_domain.specs.Records.{Records}

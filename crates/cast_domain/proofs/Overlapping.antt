@@ -3,11 +3,11 @@
 use Rattle.std.specs.Prelude.{◌≡◌, ℕ, false, List, [], ◌∷◌, refl}
 use Rattle.cast_types.specs.declared.names.Proc.{Proc}
 use Rattle.cast_types.specs.Names.{Entry}
-use Rattle.cast_frame.specs.declared.message.Body.TheVariants as body
-use Rattle.cast_frame.specs.declared.message.Message.{Message}
-use Rattle.cast_frame.specs.declared.site.SiteFrame.TheVariants as frame
-use Rattle.cast_frame.specs.declared.client.CastKind.TheVariants as kind
-use Rattle.cast_frame.specs.declared.client.Push.TheVariants as push
+use Rattle.cast_message.specs.declared.message.Body.TheVariants as body
+use Rattle.cast_message.specs.declared.message.Message.{Message}
+use Rattle.cast_message.specs.declared.site.SiteFrame.TheVariants as frame
+use Rattle.cast_message.specs.declared.client.CastKind.TheVariants as kind
+use Rattle.cast_message.specs.declared.client.Push.TheVariants as push
 use Rattle.cast_domain.specs.Run.{Ran, run_of}
 use Rattle.cast_domain.proofs.Words.{site, group, uid, at, members, config, opens, asks_join, comes, data_from, install, then_run, pushed_after, proc, p11, p21}
 

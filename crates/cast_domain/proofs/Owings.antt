@@ -7,18 +7,18 @@ use Rattle.cast_types.specs.declared.names.SiteNo.{SiteNo}
 use Rattle.cast_types.specs.declared.names.Uid.{Uid}
 use Rattle.cast_types.specs.declared.limits.TheConstants.{MAX_MOMENT}
 use Rattle.cast_types.specs.Names.{uid_eq}
-use Rattle.cast_frame.specs.declared.message.Message.{Message}
-use Rattle.cast_frame.specs.declared.message.Received.{Received}
-use Rattle.cast_frame.specs.Receipts.{messages}
-use Rattle.cast_frame.specs.declared.site.SiteFrame.{SiteFrame}
-use Rattle.cast_frame.specs.declared.site.SiteFrame.TheVariants as frame
+use Rattle.cast_message.specs.declared.message.Message.{Message}
+use Rattle.cast_message.specs.declared.message.Received.{Received}
+use Rattle.cast_message.specs.Receipts.{messages}
+use Rattle.cast_message.specs.declared.site.SiteFrame.{SiteFrame}
+use Rattle.cast_message.specs.declared.site.SiteFrame.TheVariants as frame
 use Rattle.cast_timer.specs.declared.key.Owed.{Owed}
 use Rattle.cast_timer.specs.declared.key.OwedKey.{OwedKey}
 use Rattle.cast_timer.specs.declared.key.OwedKind.{OwedKind}
 use Rattle.cast_timer.specs.declared.key.OwedKind.TheVariants.{Ask, Data, Prepare, Want, Install, Ack}
 use Rattle.cast_timer.specs.Owed.{is_owed, with_owed, paid, renewed, key_eq, due_at}
 use Rattle.cast_domain.specs.declared.record.GroupRecord.{GroupRecord}
-use Rattle.cast_domain.specs.Group.{first_asking}
+use Rattle.cast_model.specs.Group.{first_asking}
 use Rattle.cast_domain.specs.State.{State, emitted, message_of}
 use Rattle.cast_domain.specs.Owing.{id_in, ask_frame, frame_of_kind, frame_for, sent_for, next_due, owing, paying, resending, at_moment, resending_due, ticked}
 use Rattle.cast_domain.specs.Shared.{Part}

@@ -12,9 +12,9 @@ use Rattle.cast_types.specs.declared.names.Key.{Key}
 use Rattle.cast_types.specs.declared.names.Uid.{Uid}
 use Rattle.cast_types.specs.Names.{site_eq, proc_eq}
 use Rattle.cast_types.proofs.Orders.{proc_itself}
-use Rattle.cast_frame.specs.declared.message.Message.{Message}
-use Rattle.cast_frame.specs.declared.message.Received.{Received}
-use Rattle.cast_frame.specs.Receipts.{key_eq, messages, message_under}
+use Rattle.cast_message.specs.declared.message.Message.{Message}
+use Rattle.cast_message.specs.declared.message.Received.{Received}
+use Rattle.cast_message.specs.Receipts.{key_eq, messages, message_under}
 use Rattle.cast_delay.specs.declared.row.Row.{Row}
 use Rattle.cast_delay.specs.declared.offered.Offered.{Offered}
 use Rattle.cast_delay.specs.Ready.{Process, Gate, is_member, has_delivered}
@@ -24,7 +24,7 @@ use Rattle.cast_delay.specs.Fits.{Fits as QueueFits}
 use Rattle.cast_delay.proofs.Queues.{forget_fits, awaited_by}
 use Rattle.cast_stable.proofs.Meanings.{stable_meant}
 use Rattle.cast_domain.specs.declared.record.GroupRecord.{GroupRecord}
-use Rattle.cast_domain.specs.Group.{has_view, is_current}
+use Rattle.cast_model.specs.Group.{has_view, is_current}
 use Rattle.cast_domain.specs.State.{State, local, others_of, is_free, local_members, let_go, gate_of}
 use Rattle.cast_domain.specs.Records.{Records}
 use Rattle.cast_domain.specs.Calls.{place_in, record_at, is_current_in, is_free_in, release_in, let_go_in}

@@ -14,12 +14,12 @@ use Rattle.cast_types.specs.Repeat.{iterate}
 use Rattle.cast_types.specs.Sets.{set_at}
 use Rattle.cast_types.proofs.Iterates.{iterate_still}
 use Rattle.cast_types.proofs.Orders.{same_group, group_itself}
-use Rattle.cast_frame.specs.declared.message.Message.{Message}
+use Rattle.cast_message.specs.declared.message.Message.{Message}
 use Rattle.cast_delay.specs.Ready.{is_member}
-use Rattle.cast_domain.specs.declared.home.Home.{Home}
-use Rattle.cast_domain.specs.Phase.{is_idle}
-use Rattle.cast_domain.specs.Group.{holder_at, sites_of}
-use Rattle.cast_domain.specs.Home.{is_empty, may_decide, decided}
+use Rattle.cast_model.specs.declared.home.Home.{Home}
+use Rattle.cast_model.specs.Phase.{is_idle}
+use Rattle.cast_model.specs.Group.{holder_at, sites_of}
+use Rattle.cast_model.specs.Home.{is_empty, may_decide, decided}
 use Rattle.cast_domain.specs.State.{State, serials, is_home, may_order, let_go, set_home}
 use Rattle.cast_domain.specs.Order.{unlisted, is_ready_for}
 use Rattle.cast_domain.specs.Effects.{receiving, sending_message, with_delivery}

@@ -14,10 +14,10 @@ use Rattle.cast_types.specs.Stamps.{ClockList}
 use Rattle.cast_types.proofs.Orders.{same_site, group_itself, proc_itself}
 use Rattle.cast_clock.specs.Times.{count_in, bumped}
 use Rattle.cast_clock.proofs.Raised.{bump_raises}
-use Rattle.cast_frame.specs.declared.message.Body.{Body}
-use Rattle.cast_frame.specs.declared.message.Body.TheVariants as body
-use Rattle.cast_frame.specs.declared.message.Message.{Message}
-use Rattle.cast_frame.specs.Sequence.{Sequence}
+use Rattle.cast_message.specs.declared.message.Body.{Body}
+use Rattle.cast_message.specs.declared.message.Body.TheVariants as body
+use Rattle.cast_message.specs.declared.message.Message.{Message}
+use Rattle.cast_message.specs.Sequence.{Sequence}
 use Rattle.cast_delay.specs.declared.row.Row.{Row}
 use Rattle.cast_delay.specs.declared.row.Fact.TheVariants as fact
 use Rattle.cast_delay.specs.Ready.{is_member}
@@ -26,8 +26,8 @@ use Rattle.cast_delay.specs.Queue.{new_row, row_of}
 use Rattle.cast_order.specs.Order.{ids_to_list, place_after}
 use Rattle.cast_order.specs.Log.{Log, log_of, change_log, assigned, next_places}
 use Rattle.cast_domain.specs.declared.record.GroupRecord.{GroupRecord}
-use Rattle.cast_domain.specs.Group.{holder_of, is_process, holder_at}
-use Rattle.cast_domain.specs.Home.{is_empty}
+use Rattle.cast_model.specs.Group.{holder_of, is_process, holder_at}
+use Rattle.cast_model.specs.Home.{is_empty}
 use Rattle.cast_domain.specs.State.{State, local, set_process, may_order, let_go}
 use Rattle.cast_domain.specs.Order.{order_of, holds, unlisted, has_place, is_of_view}
 use Rattle.cast_domain.specs.Effects.{may_raise, next_message, sending}

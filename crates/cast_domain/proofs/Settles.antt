@@ -7,8 +7,8 @@ use Rattle.cast_types.specs.Names.{uid_eq}
 use Rattle.cast_types.specs.Repeat.{iterate}
 use Rattle.cast_types.proofs.Iterates.{iterate_once, iterate_still}
 use Rattle.cast_clock.specs.Times.{join}
-use Rattle.cast_frame.specs.declared.client.Push.{Push}
-use Rattle.cast_frame.specs.declared.message.Message.{Message}
+use Rattle.cast_message.specs.declared.client.Push.{Push}
+use Rattle.cast_message.specs.declared.message.Message.{Message}
 use Rattle.cast_delay.specs.Ready.{Process, has_delivered, is_member, is_causally_ready}
 use Rattle.cast_domain.specs.State.{State, gate_of, let_go}
 use Rattle.cast_domain.specs.Order.{is_ready_for}

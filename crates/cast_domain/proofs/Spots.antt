@@ -11,7 +11,7 @@ use Rattle.cast_types.specs.declared.names.GroupNo.{GroupNo}
 use Rattle.cast_types.specs.Names.{group_cmp, group_eq}
 use Rattle.cast_types.specs.Places.{update}
 use Rattle.cast_types.proofs.Orders.{group_total, same_group}
-use Rattle.cast_frame.specs.Rising.{is_rising}
+use Rattle.cast_message.specs.Rising.{is_rising}
 
 pub length_update : {X : Type 0} (f : X → X) (xs : List X) (i : ℕ) → length (update xs i f) ≡ length xs
 length_update f [] i = refl

@@ -17,19 +17,19 @@ use Rattle.cast_types.specs.Sets.{is_among, set_at}
 use Rattle.cast_types.specs.Stamps.{ClockList}
 use Rattle.cast_types.proofs.Orders.{same_group, same_site, group_itself, site_itself, proc_itself}
 use Rattle.cast_clock.proofs.Entries.{option_cases}
-use Rattle.cast_frame.specs.declared.message.Message.{Message}
-use Rattle.cast_frame.specs.declared.site.SiteFrame.{SiteFrame}
-use Rattle.cast_frame.specs.declared.client.Push.{Push}
-use Rattle.cast_frame.specs.Bodies.{kind_of}
-use Rattle.cast_frame.specs.Membership.{Membership}
+use Rattle.cast_message.specs.declared.message.Message.{Message}
+use Rattle.cast_message.specs.declared.site.SiteFrame.{SiteFrame}
+use Rattle.cast_message.specs.declared.client.Push.{Push}
+use Rattle.cast_message.specs.Bodies.{kind_of}
+use Rattle.cast_message.specs.Membership.{Membership}
 use Rattle.cast_delay.specs.declared.row.Row.{Row}
 use Rattle.cast_delay.specs.declared.row.Fact.{Fact}
 use Rattle.cast_delay.specs.declared.row.Fact.TheVariants as fact
 use Rattle.cast_delay.specs.Ready.{Process, Gate, is_outside, has_delivered}
 use Rattle.cast_delay.specs.Rows.{standing_in, told_row}
 use Rattle.cast_delay.specs.Queue.{new_row, row_of, change_row}
-use Rattle.cast_frame.specs.declared.message.Received.{Received}
-use Rattle.cast_frame.specs.Receipts.{key_eq, message_under}
+use Rattle.cast_message.specs.declared.message.Received.{Received}
+use Rattle.cast_message.specs.Receipts.{key_eq, message_under}
 use Rattle.cast_stable.specs.Ledger.{new_ledger, told_ledger, received_ledger}
 use Rattle.cast_stable.specs.Fits.{Fits as AcksFits}
 use Rattle.cast_stable.proofs.Meanings.{new_fits as acks_new_fits, tell_fits as acks_tell_fits, receive_fits as acks_receive_fits}
@@ -38,13 +38,13 @@ use Rattle.cast_delay.proofs.Queues.{new_fits, admit_fits, tell_fits, view_fits,
 use Rattle.cast_delay.proofs.Finds.{find-append_some, find-append_none}
 use Rattle.cast_order.specs.Log.{Log, log_of, but_log}
 use Rattle.cast_order.proofs.Meanings.{new_fits as order_new_fits}
-use Rattle.cast_domain.specs.declared.config.DomainConfig.{DomainConfig}
+use Rattle.cast_model.specs.declared.config.DomainConfig.{DomainConfig}
 use Rattle.cast_domain.specs.declared.record.GroupRecord.{GroupRecord}
-use Rattle.cast_domain.specs.declared.session.Session.{Session}
-use Rattle.cast_domain.specs.declared.group.Group.{Group}
-use Rattle.cast_domain.specs.declared.home.Home.{Home}
-use Rattle.cast_domain.specs.Session.{no_session, first_session, is_open, pushed_to, told}
-use Rattle.cast_domain.specs.Group.{no_group, members_of, other_sites, with_view}
+use Rattle.cast_model.specs.declared.session.Session.{Session}
+use Rattle.cast_model.specs.declared.group.Group.{Group}
+use Rattle.cast_model.specs.declared.home.Home.{Home}
+use Rattle.cast_model.specs.Session.{no_session, first_session, is_open, pushed_to, told}
+use Rattle.cast_model.specs.Group.{no_group, members_of, other_sites, with_view}
 use Rattle.cast_domain.specs.State.{State, opening, no_process, local, is_group, gate_of, others_of, set_session, set_process, set_group, set_home, set_standing, emitted}
 use Rattle.cast_domain.specs.Effects.{pushing, receiving}
 use Rattle.cast_domain.specs.Step.{opened}

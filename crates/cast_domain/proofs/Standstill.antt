@@ -8,17 +8,17 @@ use Rattle.cast_types.specs.declared.names.Proc.{Proc}
 use Rattle.cast_types.specs.declared.names.Uid.{Uid}
 use Rattle.cast_types.specs.Names.{group_eq, is_atomic}
 use Rattle.cast_types.specs.Repeat.{iterate}
-use Rattle.cast_frame.specs.declared.message.Body.{Body}
-use Rattle.cast_frame.specs.declared.message.Body.TheVariants as body
-use Rattle.cast_frame.specs.declared.message.Message.{Message}
-use Rattle.cast_frame.specs.Bodies.{kind_of}
+use Rattle.cast_message.specs.declared.message.Body.{Body}
+use Rattle.cast_message.specs.declared.message.Body.TheVariants as body
+use Rattle.cast_message.specs.declared.message.Message.{Message}
+use Rattle.cast_message.specs.Bodies.{kind_of}
 use Rattle.cast_delay.specs.declared.row.Row.{Row}
 use Rattle.cast_delay.specs.Ready.{has_delivered}
 use Rattle.cast_delay.specs.Fits.{RowFits, row_for}
 use Rattle.cast_order.specs.Order.{ids_to_list, place_after}
 use Rattle.cast_order.specs.Log.{log_of}
 use Rattle.cast_domain.specs.declared.record.GroupRecord.{GroupRecord}
-use Rattle.cast_domain.specs.Group.{holder_at}
+use Rattle.cast_model.specs.Group.{holder_at}
 use Rattle.cast_domain.specs.State.{State, local, serials, is_home, let_go}
 use Rattle.cast_domain.specs.Order.{order_of, unlisted, is_ready_for}
 use Rattle.cast_domain.specs.Effects.{sending, next_message}

@@ -6,7 +6,7 @@ use Rattle.std.proofs.lemmas.List.Folds.{list_any-append}
 use Rattle.cast_types.specs.declared.names.Uid.{Uid}
 use Rattle.cast_types.specs.Names.{uid_eq}
 use Rattle.cast_types.proofs.Orders.{uid_itself}
-use Rattle.cast_frame.specs.declared.message.Message.{Message}
+use Rattle.cast_message.specs.declared.message.Message.{Message}
 use Rattle.cast_domain.specs.Endings.{total, one_if, left}
 
 pub total_same : {A : Type 0} (f g : A → ℕ) (xs : List A) → ((x : A) → f x ≡ g x) → total f xs ≡ total g xs

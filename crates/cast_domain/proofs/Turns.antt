@@ -14,25 +14,25 @@ use Rattle.cast_types.specs.Names.{Entry, site_eq, group_eq, is_atomic, named, e
 use Rattle.cast_types.proofs.Orders.{group_itself}
 use Rattle.cast_types.specs.Places.{update}
 use Rattle.cast_types.specs.Repeat.{iterate}
-use Rattle.cast_frame.specs.declared.message.Message.{Message}
-use Rattle.cast_frame.specs.Bodies.{kind_of}
-use Rattle.cast_frame.specs.declared.client.Push.{Push}
+use Rattle.cast_message.specs.declared.message.Message.{Message}
+use Rattle.cast_message.specs.Bodies.{kind_of}
+use Rattle.cast_message.specs.declared.client.Push.{Push}
 use Rattle.cast_delay.specs.declared.row.Row.{Row}
 use Rattle.cast_delay.specs.declared.offered.Offered.{Offered}
 use Rattle.cast_delay.specs.Ready.{is_member, is_outside, has_delivered, is_causally_ready, is_ready, first_ready}
 use Rattle.cast_delay.specs.Rows.{delivered_row}
 use Rattle.cast_delay.specs.Queue.{row_of, change_row, next_key, offered_under, after_delivery, passed_in}
-use Rattle.cast_frame.specs.declared.message.Received.{Received}
-use Rattle.cast_frame.specs.Receipts.{messages, message_under}
+use Rattle.cast_message.specs.declared.message.Received.{Received}
+use Rattle.cast_message.specs.Receipts.{messages, message_under}
 use Rattle.cast_delay.specs.Fits.{FirstReady, HasTurns, Fits as QueueFits, delivering as delivering_to}
 use Rattle.cast_delay.proofs.Delivers.{only_member}
 use Rattle.cast_delay.proofs.Queues.{delivery_fits, next_rules, passed_delivered}
 use Rattle.cast_order.specs.Log.{Log, log_of, change_log, next_in, told, passed}
 use Rattle.cast_domain.specs.declared.record.GroupRecord.{GroupRecord}
-use Rattle.cast_domain.specs.declared.home.Home.{Home}
-use Rattle.cast_domain.specs.Session.{is_open, pushed_to}
-use Rattle.cast_domain.specs.Group.{sites_of}
-use Rattle.cast_domain.specs.Home.{may_decide, decided}
+use Rattle.cast_model.specs.declared.home.Home.{Home}
+use Rattle.cast_model.specs.Session.{is_open, pushed_to}
+use Rattle.cast_model.specs.Group.{sites_of}
+use Rattle.cast_model.specs.Home.{may_decide, decided}
 use Rattle.cast_domain.specs.State.{State, local, is_group, gate_of, is_home, is_free, set_session, set_home}
 use Rattle.cast_domain.specs.Order.{is_of_view, holds, turn_of, is_ready_for}
 use Rattle.cast_domain.specs.Effects.{pushing, told_of, with_delivery, delivering}

@@ -1,8 +1,8 @@
 -- A message waits for what happened before it, and is received once.
 use Rattle.std.specs.Prelude.{◌≡◌, [], ◌∷◌, refl}
-use Rattle.cast_frame.specs.declared.site.SiteFrame.TheVariants as frame
-use Rattle.cast_frame.specs.declared.client.CastKind.TheVariants as kind
-use Rattle.cast_frame.specs.declared.client.Push.TheVariants as push
+use Rattle.cast_message.specs.declared.site.SiteFrame.TheVariants as frame
+use Rattle.cast_message.specs.declared.client.CastKind.TheVariants as kind
+use Rattle.cast_message.specs.declared.client.Push.TheVariants as push
 use Rattle.cast_domain.specs.Run.{Ran}
 use Rattle.cast_domain.proofs.Words.{site, uid, alone, data_from, in_second_view, then_run, pushed_after, p21}
 

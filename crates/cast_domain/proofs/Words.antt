@@ -7,19 +7,19 @@ use Rattle.cast_types.specs.declared.names.Proc.{Proc}
 use Rattle.cast_types.specs.declared.names.Uid.{Uid}
 use Rattle.cast_types.specs.declared.clock.Clock.{Clock}
 use Rattle.cast_types.specs.Names.{Entry}
-use Rattle.cast_frame.specs.declared.message.Body.TheVariants as body
-use Rattle.cast_frame.specs.declared.message.Message.{Message}
-use Rattle.cast_frame.specs.declared.site.SiteFrame.{SiteFrame}
-use Rattle.cast_frame.specs.declared.site.SiteFrame.TheVariants as frame
-use Rattle.cast_frame.specs.declared.client.Push.{Push}
-use Rattle.cast_frame.specs.declared.client.CastKind.{CastKind}
-use Rattle.cast_frame.specs.declared.client.CastKind.TheVariants as kind
-use Rattle.cast_frame.specs.declared.client.Request.TheVariants.{Join, Leave, Cast}
-use Rattle.cast_frame.specs.Membership.{Membership}
-use Rattle.cast_domain.specs.declared.config.DomainConfig.{DomainConfig}
-use Rattle.cast_frame.specs.declared.client.Command.TheVariants as command
-use Rattle.cast_domain.specs.declared.event.Event.{Event}
-use Rattle.cast_domain.specs.declared.event.Event.TheVariants as event
+use Rattle.cast_message.specs.declared.message.Body.TheVariants as body
+use Rattle.cast_message.specs.declared.message.Message.{Message}
+use Rattle.cast_message.specs.declared.site.SiteFrame.{SiteFrame}
+use Rattle.cast_message.specs.declared.site.SiteFrame.TheVariants as frame
+use Rattle.cast_message.specs.declared.client.Push.{Push}
+use Rattle.cast_message.specs.declared.client.CastKind.{CastKind}
+use Rattle.cast_message.specs.declared.client.CastKind.TheVariants as kind
+use Rattle.cast_message.specs.declared.client.Request.TheVariants.{Join, Leave, Cast}
+use Rattle.cast_message.specs.Membership.{Membership}
+use Rattle.cast_model.specs.declared.config.DomainConfig.{DomainConfig}
+use Rattle.cast_message.specs.declared.client.Command.TheVariants as command
+use Rattle.cast_model.specs.declared.event.Event.{Event}
+use Rattle.cast_model.specs.declared.event.Event.TheVariants as event
 use Rattle.cast_domain.specs.Run.{Ran, run_of, run_in}
 
 abbrev pub domain : DomainNo

@@ -19,21 +19,21 @@ use Rattle.cast_types.specs.Places.{update}
 use Rattle.cast_types.specs.Repeat.{iterate}
 use Rattle.cast_types.specs.Stamps.{ClockList}
 use Rattle.cast_clock.specs.Times.{no_time, view_of, count_in, bumped, entering}
-use Rattle.cast_frame.specs.declared.message.Body.{Body}
-use Rattle.cast_frame.specs.declared.message.Body.TheVariants as body
-use Rattle.cast_frame.specs.declared.message.Message.{Message}
-use Rattle.cast_frame.specs.declared.site.Change.{Change}
-use Rattle.cast_frame.specs.declared.site.Change.TheVariants as change
-use Rattle.cast_frame.specs.declared.site.SiteFrame.{SiteFrame}
-use Rattle.cast_frame.specs.declared.site.SiteFrame.TheVariants as frame
-use Rattle.cast_frame.specs.declared.client.CastKind.{CastKind}
-use Rattle.cast_frame.specs.declared.client.Request.{Request}
-use Rattle.cast_frame.specs.declared.client.Request.TheVariants.{Join, Leave, Cast}
-use Rattle.cast_frame.specs.declared.client.Push.{Push}
-use Rattle.cast_frame.specs.declared.client.Push.TheVariants as push
-use Rattle.cast_frame.specs.Bodies.{kind_of}
-use Rattle.cast_frame.specs.Membership.{Membership}
-use Rattle.cast_frame.specs.Sequence.{Sequence}
+use Rattle.cast_message.specs.declared.message.Body.{Body}
+use Rattle.cast_message.specs.declared.message.Body.TheVariants as body
+use Rattle.cast_message.specs.declared.message.Message.{Message}
+use Rattle.cast_message.specs.declared.site.Change.{Change}
+use Rattle.cast_message.specs.declared.site.Change.TheVariants as change
+use Rattle.cast_message.specs.declared.site.SiteFrame.{SiteFrame}
+use Rattle.cast_message.specs.declared.site.SiteFrame.TheVariants as frame
+use Rattle.cast_message.specs.declared.client.CastKind.{CastKind}
+use Rattle.cast_message.specs.declared.client.Request.{Request}
+use Rattle.cast_message.specs.declared.client.Request.TheVariants.{Join, Leave, Cast}
+use Rattle.cast_message.specs.declared.client.Push.{Push}
+use Rattle.cast_message.specs.declared.client.Push.TheVariants as push
+use Rattle.cast_message.specs.Bodies.{kind_of}
+use Rattle.cast_message.specs.Membership.{Membership}
+use Rattle.cast_message.specs.Sequence.{Sequence}
 use Rattle.cast_delay.specs.Ready.{is_member, is_outside}
 use Rattle.cast_delay.specs.declared.turn.Turn.{Turn}
 use Rattle.cast_delay.specs.declared.turn.Turn.TheVariants.{Holding, Following}
@@ -48,17 +48,17 @@ use Rattle.cast_timer.specs.declared.key.OwedKey.{OwedKey}
 use Rattle.cast_timer.specs.declared.key.OwedKind.{OwedKind}
 use Rattle.cast_timer.specs.declared.key.OwedKind.TheVariants as kinds
 use Rattle.cast_timer.specs.Owed.{is_owed, due_at}
-use Rattle.cast_frame.specs.Receipts.{key_eq, message_under}
+use Rattle.cast_message.specs.Receipts.{key_eq, message_under}
 use Rattle.cast_domain.specs.declared.record.GroupRecord.{GroupRecord}
-use Rattle.cast_frame.specs.declared.client.Command.{Command}
-use Rattle.cast_frame.specs.declared.client.Command.TheVariants as command
-use Rattle.cast_domain.specs.declared.event.Event.{Event}
-use Rattle.cast_domain.specs.declared.event.Event.TheVariants as event
-use Rattle.cast_domain.specs.declared.group.Verdict.TheVariants.{Again, Completes, Ignored}
-use Rattle.cast_domain.specs.Session.{first_session, told as told_session}
-use Rattle.cast_domain.specs.Group.{no_group, members_of, holder_of, is_process, holder_at, other_sites, is_current, sites_of, first_asking, with_request, with_answer, with_view, verdict_of, is_taken_in}
-use Rattle.cast_domain.specs.declared.home.Home.{Home}
-use Rattle.cast_domain.specs.Home.{first_home, is_empty, applied_of, after_request, after_installed, may_decide, decided}
+use Rattle.cast_message.specs.declared.client.Command.{Command}
+use Rattle.cast_message.specs.declared.client.Command.TheVariants as command
+use Rattle.cast_model.specs.declared.event.Event.{Event}
+use Rattle.cast_model.specs.declared.event.Event.TheVariants as event
+use Rattle.cast_model.specs.declared.group.Verdict.TheVariants.{Again, Completes, Ignored}
+use Rattle.cast_model.specs.Session.{first_session, told as told_session}
+use Rattle.cast_model.specs.Group.{no_group, members_of, holder_of, is_process, holder_at, other_sites, is_current, sites_of, first_asking, with_request, with_answer, with_view, verdict_of, is_taken_in}
+use Rattle.cast_model.specs.declared.home.Home.{Home}
+use Rattle.cast_model.specs.Home.{first_home, is_empty, applied_of, after_request, after_installed, may_decide, decided}
 use Rattle.cast_domain.specs.Shared.{part_with, part_without, part_owing, part_renewing, part_paying, part_paying_upto}
 use Rattle.cast_domain.specs.Owing.{ask_key, message_key, id_in, ask_frame}
 use Rattle.cast_domain.specs.Effects.{told_of, may_raise}

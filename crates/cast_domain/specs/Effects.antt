@@ -11,22 +11,22 @@ use Rattle.cast_types.specs.Sets.{is_among, set_at}
 use Rattle.cast_types.specs.declared.limits.TheConstants.{MAX_NUMBER}
 use Rattle.cast_types.specs.Stamps.{ClockList, is_stamp}
 use Rattle.cast_clock.specs.Times.{count_in, join, bumped, entering, has_room}
-use Rattle.cast_frame.specs.declared.message.Body.{Body}
-use Rattle.cast_frame.specs.declared.message.Body.TheVariants as body
-use Rattle.cast_frame.specs.declared.message.Message.{Message}
-use Rattle.cast_frame.specs.Bodies.{kind_of}
-use Rattle.cast_frame.specs.declared.site.Change.{Change}
-use Rattle.cast_frame.specs.declared.site.SiteFrame.TheVariants as frame
-use Rattle.cast_frame.specs.declared.client.CastKind.TheVariants as kind
-use Rattle.cast_frame.specs.declared.client.Push.{Push}
-use Rattle.cast_frame.specs.declared.client.Push.TheVariants as push
-use Rattle.cast_frame.specs.Membership.{Membership}
+use Rattle.cast_message.specs.declared.message.Body.{Body}
+use Rattle.cast_message.specs.declared.message.Body.TheVariants as body
+use Rattle.cast_message.specs.declared.message.Message.{Message}
+use Rattle.cast_message.specs.Bodies.{kind_of}
+use Rattle.cast_message.specs.declared.site.Change.{Change}
+use Rattle.cast_message.specs.declared.site.SiteFrame.TheVariants as frame
+use Rattle.cast_message.specs.declared.client.CastKind.TheVariants as kind
+use Rattle.cast_message.specs.declared.client.Push.{Push}
+use Rattle.cast_message.specs.declared.client.Push.TheVariants as push
+use Rattle.cast_message.specs.Membership.{Membership}
 use Rattle.cast_stable.specs.Stable.{has_acked}
 use Rattle.cast_timer.specs.declared.key.OwedKind.TheVariants as kinds
 use Rattle.cast_delay.specs.Ready.{Process}
-use Rattle.cast_domain.specs.Session.{is_open, pushed_to}
-use Rattle.cast_domain.specs.Group.{with_request, with_view, is_taken_in}
-use Rattle.cast_domain.specs.Home.{is_empty}
+use Rattle.cast_model.specs.Session.{is_open, pushed_to}
+use Rattle.cast_model.specs.Group.{with_request, with_view, is_taken_in}
+use Rattle.cast_model.specs.Home.{is_empty}
 use Rattle.cast_domain.specs.State.{State, local, serials, set_session, set_process, set_group, emitted, others_of}
 use Rattle.cast_domain.specs.Owing.{ask_key, message_key, sent_for, owing}
 

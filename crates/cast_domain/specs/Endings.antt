@@ -5,11 +5,11 @@ use Rattle.cast_types.specs.declared.names.GroupNo.{GroupNo}
 use Rattle.cast_types.specs.declared.names.Uid.{Uid}
 use Rattle.cast_types.specs.Names.{uid_eq, is_atomic}
 use Rattle.cast_types.specs.Repeat.{iterate}
-use Rattle.cast_frame.specs.declared.message.Message.{Message}
-use Rattle.cast_frame.specs.Bodies.{kind_of}
+use Rattle.cast_message.specs.declared.message.Message.{Message}
+use Rattle.cast_message.specs.Bodies.{kind_of}
 use Rattle.cast_delay.specs.Ready.{has_delivered}
-use Rattle.cast_domain.specs.declared.home.Home.{Home}
-use Rattle.cast_domain.specs.Group.{holder_at}
+use Rattle.cast_model.specs.declared.home.Home.{Home}
+use Rattle.cast_model.specs.Group.{holder_at}
 use Rattle.cast_domain.specs.State.{State, serials}
 use Rattle.cast_domain.specs.Order.{is_of_view, unlisted, is_ready_for}
 use Rattle.cast_domain.specs.Rest.{deliver_first, deliver_all, pass, RestsAt}

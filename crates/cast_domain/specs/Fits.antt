@@ -11,32 +11,33 @@ use Rattle.cast_types.specs.Names.{Entry, site_eq, group_cmp, uid_eq, named}
 use Rattle.cast_types.specs.Sets.{is_among}
 use Rattle.cast_types.specs.Stamps.{is_stamp}
 use Rattle.cast_clock.specs.Times.{view_of}
-use Rattle.cast_frame.specs.declared.message.Message.{Message}
-use Rattle.cast_frame.specs.declared.site.SiteFrame.{SiteFrame}
-use Rattle.cast_frame.specs.declared.site.SiteFrame.TheVariants as frame
-use Rattle.cast_frame.specs.Rising.{is_rising}
-use Rattle.cast_frame.specs.Membership.{is_members}
+use Rattle.cast_message.specs.declared.message.Message.{Message}
+use Rattle.cast_message.specs.declared.site.SiteFrame.{SiteFrame}
+use Rattle.cast_message.specs.declared.site.SiteFrame.TheVariants as frame
+use Rattle.cast_message.specs.Rising.{is_rising}
+use Rattle.cast_message.specs.Membership.{is_members}
 use Rattle.cast_delay.specs.Ready.{Process, is_member, is_outside, has_delivered}
 use Rattle.cast_delay.specs.Queue.{row_of}
 use Rattle.cast_delay.specs.Fits.{Fits as QueueFits}
-use Rattle.cast_frame.specs.Receipts.{messages, message_under}
+use Rattle.cast_message.specs.Receipts.{messages, message_under}
 use Rattle.cast_stable.specs.Fits.{Fits as AcksFits}
 use Rattle.cast_order.specs.Order.{Listing}
 use Rattle.cast_order.specs.Log.{Log, log_of}
 use Rattle.cast_order.specs.Fits.{Fits as OrderFits}
 use Rattle.cast_domain.specs.declared.domain.Domain.{Domain}
 use Rattle.cast_domain.specs.declared.record.GroupRecord.{GroupRecord}
-use Rattle.cast_domain.specs.declared.event.Event.{Event}
-use Rattle.cast_domain.specs.declared.event.Event.TheVariants as event
-use Rattle.cast_domain.specs.declared.session.Session.{Session}
-use Rattle.cast_domain.specs.Session.{no_session, is_open}
-use Rattle.cast_domain.specs.Group.{holder_at, has_view}
-use Rattle.cast_domain.specs.Home.{is_empty}
+use Rattle.cast_model.specs.declared.event.Event.{Event}
+use Rattle.cast_model.specs.declared.event.Event.TheVariants as event
+use Rattle.cast_model.specs.declared.session.Session.{Session}
+use Rattle.cast_model.specs.Session.{no_session, is_open}
+use Rattle.cast_model.specs.Group.{holder_at, has_view}
+use Rattle.cast_model.specs.Home.{is_empty}
 use Rattle.cast_domain.specs.State.{State, no_process, local, serials, gate_of, is_group, others_of, upto}
 use Rattle.cast_domain.specs.Order.{facts_in, abcasts_delivered, lists_of}
 use Rattle.cast_domain.specs.Run.{before_event}
 use Rattle.cast_domain.specs.Shared.{Part}
-use Rattle.cast_domain.specs.Records.{Records, records_of, no_outs, was_given}
+use Rattle.cast_model.specs.Outs.{no_outs}
+use Rattle.cast_domain.specs.Records.{Records, records_of, was_given}
 
 -- a process by its name
 abbrev pub process_named : State → Proc → Process

@@ -1,8 +1,3 @@
-pub mod Events
-pub mod Session
-pub mod Group
-pub mod Phase
-pub mod Home
 pub mod State
 pub mod Order
 pub mod Owing

@@ -6,15 +6,15 @@ use Rattle.cast_types.specs.declared.names.GroupNo.{GroupNo}
 use Rattle.cast_types.specs.declared.names.Uid.{Uid}
 use Rattle.cast_types.specs.declared.limits.TheConstants.{MAX_UNSETTLED, MAX_POSITION}
 use Rattle.cast_types.specs.Names.{Entry, group_eq, proc_eq, is_atomic, is_order, named, entry_of}
-use Rattle.cast_frame.specs.declared.message.Body.{Body}
-use Rattle.cast_frame.specs.declared.message.Body.TheVariants as body
-use Rattle.cast_frame.specs.declared.message.Message.{Message}
-use Rattle.cast_frame.specs.Bodies.{kind_of}
+use Rattle.cast_message.specs.declared.message.Body.{Body}
+use Rattle.cast_message.specs.declared.message.Body.TheVariants as body
+use Rattle.cast_message.specs.declared.message.Message.{Message}
+use Rattle.cast_message.specs.Bodies.{kind_of}
 use Rattle.cast_order.specs.Order.{Facts, facts_of, known_order, next_of, Listing, listed_ids, still_to_list}
 use Rattle.cast_delay.specs.declared.turn.Turn.{Turn}
 use Rattle.cast_delay.specs.declared.turn.Turn.TheVariants.{Holding, Following}
 use Rattle.cast_delay.specs.Ready.{has_delivered, awaits, is_ready}
-use Rattle.cast_domain.specs.Group.{holder_of, is_process}
+use Rattle.cast_model.specs.Group.{holder_of, is_process}
 use Rattle.cast_domain.specs.State.{State, local, is_stable, may_order, gate_of}
 
 -- Set-order messages

@@ -7,15 +7,15 @@ use Rattle.cast_types.specs.declared.names.GroupNo.{GroupNo}
 use Rattle.cast_types.specs.declared.names.Proc.{Proc}
 use Rattle.cast_types.specs.declared.names.Uid.{Uid}
 use Rattle.cast_types.specs.declared.limits.TheConstants.{MAX_MOMENT}
-use Rattle.cast_frame.specs.declared.site.SiteFrame.{SiteFrame}
-use Rattle.cast_frame.specs.declared.site.SiteFrame.TheVariants as frame
+use Rattle.cast_message.specs.declared.site.SiteFrame.{SiteFrame}
+use Rattle.cast_message.specs.declared.site.SiteFrame.TheVariants as frame
 use Rattle.cast_timer.specs.declared.key.OwedKey.{OwedKey}
 use Rattle.cast_timer.specs.declared.key.OwedKind.{OwedKind}
 use Rattle.cast_timer.specs.declared.key.OwedKind.TheVariants.{Ask, Data, Prepare, Want, Install, Ack}
 use Rattle.cast_timer.specs.declared.key.Side.TheVariants.{Site}
 use Rattle.cast_timer.specs.Owed.{is_owed, with_owed, paid, renewed, key_eq, due_at}
-use Rattle.cast_domain.specs.declared.group.Asking.{Asking}
-use Rattle.cast_domain.specs.Group.{first_asking}
+use Rattle.cast_model.specs.declared.group.Asking.{Asking}
+use Rattle.cast_model.specs.Group.{first_asking}
 use Rattle.cast_domain.specs.State.{State, is_group, emitted, message_of}
 
 -- Keys

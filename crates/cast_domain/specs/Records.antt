@@ -6,21 +6,21 @@ use Rattle.cast_types.specs.declared.names.Proc.{Proc}
 use Rattle.cast_types.specs.declared.names.Uid.{Uid}
 use Rattle.cast_types.specs.declared.refusal.Refusal.TheVariants.{NotOpen, TooManySessions}
 use Rattle.cast_types.specs.declared.limits.TheConstants.{MAX_NUMBER}
-use Rattle.cast_frame.specs.declared.site.SiteFrame.{SiteFrame}
+use Rattle.cast_message.specs.declared.site.SiteFrame.{SiteFrame}
 use Rattle.cast_delay.specs.Queue.{Queue}
 use Rattle.cast_stable.specs.Ledger.{Ledger}
 use Rattle.cast_order.specs.Log.{Log}
-use Rattle.cast_domain.specs.declared.config.DomainConfig.{DomainConfig}
+use Rattle.cast_model.specs.declared.config.DomainConfig.{DomainConfig}
 use Rattle.cast_domain.specs.declared.domain.Domain.{Domain}
 use Rattle.cast_domain.specs.declared.record.GroupRecord.{GroupRecord}
-use Rattle.cast_domain.specs.declared.session.Session.{Session}
-use Rattle.cast_domain.specs.declared.event.Outs.{Outs}
+use Rattle.cast_model.specs.declared.session.Session.{Session}
+use Rattle.cast_model.specs.declared.event.Outs.{Outs}
 use Rattle.cast_domain.specs.declared.shared.Shared.{Shared}
 use Rattle.cast_domain.specs.Shared.{Part, part_of}
-use Rattle.cast_domain.specs.declared.event.Event.{Event}
-use Rattle.cast_domain.specs.declared.event.Event.TheVariants.{Open, Command, Frame, Tick}
-use Rattle.cast_domain.specs.declared.event.Taken.{Taken}
-use Rattle.cast_domain.specs.declared.event.Taken.TheVariants.{Nothing, Opened, Refused}
+use Rattle.cast_model.specs.declared.event.Event.{Event}
+use Rattle.cast_model.specs.declared.event.Event.TheVariants.{Open, Command, Frame, Tick}
+use Rattle.cast_model.specs.declared.event.Taken.{Taken}
+use Rattle.cast_model.specs.declared.event.Taken.TheVariants.{Nothing, Opened, Refused}
 
 -- what a domain keeps, and what a step has sent and delivered so far
 pub record Records : Type 0 where
@@ -57,14 +57,6 @@ records_of d part o =
 
 abbrev pub records_in : Domain → Shared → Outs → Records
 records_in d shared o = records_of d (part_of d.config.domain shared) o
-
--- nothing was sent, delivered or halted
-abbrev pub no_outs : Outs
-no_outs = record { frames = []; halted = []; delivered = [] }
-
--- a step's frames and deliveries come after those before it
-abbrev pub outs_then : Outs → Outs → Outs
-outs_then before step = record before { frames = before.frames ++ step.frames; delivered = before.delivered ++ step.delivered }
 
 abbrev pub sessions_of : Domain → List Session
 sessions_of d = d.sessions.items

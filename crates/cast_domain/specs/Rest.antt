@@ -4,12 +4,12 @@ use Rattle.std.specs.List.{fold, find}
 use Rattle.cast_types.specs.declared.names.SiteNo.{SiteNo}
 use Rattle.cast_types.specs.declared.names.GroupNo.{GroupNo}
 use Rattle.cast_types.specs.Repeat.{iterate, ComesToRest}
-use Rattle.cast_frame.specs.declared.site.SiteFrame.{SiteFrame}
-use Rattle.cast_frame.specs.declared.site.SiteFrame.TheVariants as frame
-use Rattle.cast_domain.specs.Group.{holder_at, sites_of}
-use Rattle.cast_domain.specs.declared.home.Home.{Home}
-use Rattle.cast_domain.specs.Home.{is_empty, applied_of, may_decide, decided}
-use Rattle.cast_frame.specs.declared.message.Body.TheVariants as body
+use Rattle.cast_message.specs.declared.site.SiteFrame.{SiteFrame}
+use Rattle.cast_message.specs.declared.site.SiteFrame.TheVariants as frame
+use Rattle.cast_model.specs.Group.{holder_at, sites_of}
+use Rattle.cast_model.specs.declared.home.Home.{Home}
+use Rattle.cast_model.specs.Home.{is_empty, applied_of, may_decide, decided}
+use Rattle.cast_message.specs.declared.message.Body.TheVariants as body
 use Rattle.cast_delay.specs.Ready.{is_member}
 use Rattle.cast_order.specs.Order.{ids_to_list, place_after}
 use Rattle.cast_domain.specs.State.{State, local, serials, is_home, may_order, let_go, set_home, emitted}

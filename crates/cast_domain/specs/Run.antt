@@ -1,11 +1,11 @@
 -- Steps and whole runs of one domain.
 use Rattle.std.specs.Prelude.{◌≡◌, ℕ, List, [], ◌∷◌, ◌++◌}
 use Rattle.cast_types.specs.declared.names.SiteNo.{SiteNo}
-use Rattle.cast_frame.specs.declared.site.SiteFrame.{SiteFrame}
-use Rattle.cast_frame.specs.declared.client.Push.{Push}
-use Rattle.cast_domain.specs.declared.config.DomainConfig.{DomainConfig}
-use Rattle.cast_domain.specs.declared.event.Event.{Event}
-use Rattle.cast_domain.specs.declared.event.Taken.{Taken}
+use Rattle.cast_message.specs.declared.site.SiteFrame.{SiteFrame}
+use Rattle.cast_message.specs.declared.client.Push.{Push}
+use Rattle.cast_model.specs.declared.config.DomainConfig.{DomainConfig}
+use Rattle.cast_model.specs.declared.event.Event.{Event}
+use Rattle.cast_model.specs.declared.event.Taken.{Taken}
 use Rattle.cast_domain.specs.State.{State, opening, let_go}
 use Rattle.cast_types.specs.Repeat.{iterate}
 use Rattle.cast_domain.specs.Rest.{RestsAt, pass}

@@ -2,9 +2,9 @@
 use Rattle.std.specs.Prelude.{◌≡◌, ℕ, ◌+◌, not, ◌==◌, if◌then◌else◌, List, [], ◌∷◌, ◌++◌, filter}
 use Rattle.cast_types.specs.declared.names.DomainNo.{DomainNo}
 use Rattle.cast_types.specs.declared.names.Key.{Key}
-use Rattle.cast_frame.specs.Receipts.{key_eq}
-use Rattle.cast_frame.specs.declared.message.Message.{Message}
-use Rattle.cast_frame.specs.declared.message.Received.{Received}
+use Rattle.cast_message.specs.Receipts.{key_eq}
+use Rattle.cast_message.specs.declared.message.Message.{Message}
+use Rattle.cast_message.specs.declared.message.Received.{Received}
 use Rattle.cast_store.specs.Store.{kept_in, next_in}
 use Rattle.cast_timer.specs.declared.key.Owed.{Owed}
 use Rattle.cast_timer.specs.declared.key.OwedKey.{OwedKey}

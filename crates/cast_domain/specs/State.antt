@@ -10,20 +10,20 @@ use Rattle.cast_types.specs.declared.names.Standing.TheVariants.{Outside}
 use Rattle.cast_types.specs.Names.{site_eq, group_eq, proc_eq, uid_eq, is_order}
 use Rattle.cast_types.specs.Sets.{is_among, set_at}
 use Rattle.cast_clock.specs.Times.{no_time, clock_of, count_in}
-use Rattle.cast_frame.specs.declared.message.Message.{Message}
-use Rattle.cast_frame.specs.Bodies.{kind_of}
-use Rattle.cast_frame.specs.declared.message.Body.{Body}
-use Rattle.cast_frame.specs.declared.site.SiteFrame.{SiteFrame}
+use Rattle.cast_message.specs.declared.message.Message.{Message}
+use Rattle.cast_message.specs.Bodies.{kind_of}
+use Rattle.cast_message.specs.declared.message.Body.{Body}
+use Rattle.cast_message.specs.declared.site.SiteFrame.{SiteFrame}
 use Rattle.cast_stable.specs.Stable.{Acked, stable_upto, is_known_stable}
 use Rattle.cast_timer.specs.declared.key.Owed.{Owed}
 use Rattle.cast_delay.specs.Ready.{Process, Gate, is_member, has_delivered}
-use Rattle.cast_domain.specs.declared.session.Session.{Session}
-use Rattle.cast_domain.specs.Session.{no_session}
-use Rattle.cast_domain.specs.declared.group.Group.{Group}
-use Rattle.cast_domain.specs.Group.{no_group, members_of, other_sites, is_current}
-use Rattle.cast_domain.specs.declared.home.Home.{Home}
-use Rattle.cast_domain.specs.Home.{first_home}
-use Rattle.cast_domain.specs.declared.config.DomainConfig.{DomainConfig}
+use Rattle.cast_model.specs.declared.session.Session.{Session}
+use Rattle.cast_model.specs.Session.{no_session}
+use Rattle.cast_model.specs.declared.group.Group.{Group}
+use Rattle.cast_model.specs.Group.{no_group, members_of, other_sites, is_current}
+use Rattle.cast_model.specs.declared.home.Home.{Home}
+use Rattle.cast_model.specs.Home.{first_home}
+use Rattle.cast_model.specs.declared.config.DomainConfig.{DomainConfig}
 
 pub record State : Type 0 where
   pub here : SiteNo

@@ -12,33 +12,33 @@ use Rattle.cast_types.specs.declared.limits.TheConstants.{MAX_NUMBER, MAX_PAYLOA
 use Rattle.cast_types.specs.Names.{site_eq}
 use Rattle.cast_types.specs.Sets.{is_among}
 use Rattle.cast_clock.specs.Times.{view_of}
-use Rattle.cast_frame.specs.declared.message.Body.{Body}
-use Rattle.cast_frame.specs.declared.message.Body.TheVariants as body
-use Rattle.cast_frame.specs.declared.message.Message.{Message}
-use Rattle.cast_frame.specs.declared.site.Change.{Change}
-use Rattle.cast_frame.specs.declared.site.Change.TheVariants as change
-use Rattle.cast_frame.specs.declared.site.SiteFrame.{SiteFrame}
-use Rattle.cast_frame.specs.declared.site.SiteFrame.TheVariants as frame
-use Rattle.cast_frame.specs.declared.client.CastKind.{CastKind}
-use Rattle.cast_frame.specs.declared.client.CastKind.TheVariants as kind
-use Rattle.cast_frame.specs.declared.client.Request.{Request}
-use Rattle.cast_frame.specs.declared.client.Request.TheVariants.{Join, Leave, Cast}
-use Rattle.cast_frame.specs.declared.client.Push.TheVariants as push
-use Rattle.cast_frame.specs.Membership.{Membership}
+use Rattle.cast_message.specs.declared.message.Body.{Body}
+use Rattle.cast_message.specs.declared.message.Body.TheVariants as body
+use Rattle.cast_message.specs.declared.message.Message.{Message}
+use Rattle.cast_message.specs.declared.site.Change.{Change}
+use Rattle.cast_message.specs.declared.site.Change.TheVariants as change
+use Rattle.cast_message.specs.declared.site.SiteFrame.{SiteFrame}
+use Rattle.cast_message.specs.declared.site.SiteFrame.TheVariants as frame
+use Rattle.cast_message.specs.declared.client.CastKind.{CastKind}
+use Rattle.cast_message.specs.declared.client.CastKind.TheVariants as kind
+use Rattle.cast_message.specs.declared.client.Request.{Request}
+use Rattle.cast_message.specs.declared.client.Request.TheVariants.{Join, Leave, Cast}
+use Rattle.cast_message.specs.declared.client.Push.TheVariants as push
+use Rattle.cast_message.specs.Membership.{Membership}
 use Rattle.cast_timer.specs.declared.key.OwedKind.TheVariants as kinds
 use Rattle.cast_timer.specs.Owed.{paid, is_upto}
 use Rattle.cast_delay.specs.Ready.{is_member, is_outside}
-use Rattle.cast_domain.specs.Session.{first_session, is_open}
-use Rattle.cast_domain.specs.declared.group.Verdict.TheVariants.{Again, Completes, Ignored}
-use Rattle.cast_domain.specs.Group.{first_asking, members_of, is_current, with_answer, verdict_of}
-use Rattle.cast_domain.specs.declared.home.Home.{Home}
-use Rattle.cast_domain.specs.Home.{applied_of, after_request, after_installed}
-use Rattle.cast_frame.specs.declared.client.Command.{Command}
-use Rattle.cast_frame.specs.declared.client.Command.TheVariants as command
-use Rattle.cast_domain.specs.declared.event.Event.{Event}
-use Rattle.cast_domain.specs.declared.event.Event.TheVariants as event
-use Rattle.cast_domain.specs.declared.event.Taken.{Taken}
-use Rattle.cast_domain.specs.declared.event.Taken.TheVariants as taken
+use Rattle.cast_model.specs.Session.{first_session, is_open}
+use Rattle.cast_model.specs.declared.group.Verdict.TheVariants.{Again, Completes, Ignored}
+use Rattle.cast_model.specs.Group.{first_asking, members_of, is_current, with_answer, verdict_of}
+use Rattle.cast_model.specs.declared.home.Home.{Home}
+use Rattle.cast_model.specs.Home.{applied_of, after_request, after_installed}
+use Rattle.cast_message.specs.declared.client.Command.{Command}
+use Rattle.cast_message.specs.declared.client.Command.TheVariants as command
+use Rattle.cast_model.specs.declared.event.Event.{Event}
+use Rattle.cast_model.specs.declared.event.Event.TheVariants as event
+use Rattle.cast_model.specs.declared.event.Taken.{Taken}
+use Rattle.cast_model.specs.declared.event.Taken.TheVariants as taken
 use Rattle.cast_domain.specs.State.{State, local, is_home, is_site, is_group, set_session, set_group, set_home, set_standing, emitted, is_received, may_receive, may_take, others_of, upto, is_stable, is_well_formed}
 use Rattle.cast_domain.specs.Order.{awaits_own}
 use Rattle.cast_domain.specs.Owing.{ask_key, message_key, owing, paying, ticked}

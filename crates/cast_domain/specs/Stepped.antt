@@ -1,14 +1,15 @@
 -- What a step of a domain is: the step of the history that its records stand for.
 use Rattle.std.specs.Prelude.{◌≡◌, []}
 use Rattle.cast_domain.specs.declared.domain.Domain.{Domain}
-use Rattle.cast_domain.specs.declared.event.Event.{Event}
-use Rattle.cast_domain.specs.declared.event.Outs.{Outs}
-use Rattle.cast_domain.specs.declared.event.Taken.{Taken}
+use Rattle.cast_model.specs.declared.event.Event.{Event}
+use Rattle.cast_model.specs.declared.event.Outs.{Outs}
+use Rattle.cast_model.specs.declared.event.Taken.{Taken}
 use Rattle.cast_domain.specs.State.{State}
 use Rattle.cast_domain.specs.Run.{IsStep}
 use Rattle.cast_domain.specs.Rest.{RestsAt}
 use Rattle.cast_domain.specs.Shared.{Part}
-use Rattle.cast_domain.specs.Records.{Records, outs_then}
+use Rattle.cast_model.specs.Outs.{outs_then}
+use Rattle.cast_domain.specs.Records.{Records}
 use Rattle.cast_domain.specs.Fits.{Fits, IsLawful, Means, tagged}
 
 -- whatever lawful history the old records stand for, the new ones stand for the one in which it comes to rest

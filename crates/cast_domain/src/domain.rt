@@ -1,18 +1,13 @@
 ghost use Rattle.std.specs.Prelude.{◌≡◌, ◌<◌, true, false, IfSome, IfOk, OnOk, OnErr, length, vec_len};
 ghost use Rattle.cast_types.specs.Places.{update};
-ghost use Rattle.cast_domain.specs.Session.{told};
+ghost use Rattle.cast_model.specs.Session.{told};
 
-use crate::config::DomainConfig;
-use crate::event::{Event, Outs, Taken};
 use crate::frames::promised_by_types;
-use crate::group::Group;
-use crate::home::Home;
-use crate::moment::Moment;
 use crate::record::{GroupRecord, place_among};
-use crate::session::Session;
 use crate::shared::Shared;
 use cast_delay::{Delay, Fact};
-use cast_frame::{Push, SiteFrame};
+use cast_message::{Push, SiteFrame};
+use cast_model::{DomainConfig, Event, Group, Home, Moment, Outs, Session, Taken};
 use cast_order::Orders;
 use cast_stable::Acks;
 use cast_types::{DomainNo, GroupNo, NoMemory, Proc, Refusal, SiteNo};
@@ -38,7 +33,7 @@ pub struct Domain {
 
 impl Domain {
     ghost use Rattle.cast_types.specs.Names.{group_cmp};
-    ghost use Rattle.cast_frame.specs.Rising.{is_rising};
+    ghost use Rattle.cast_message.specs.Rising.{is_rising};
     ghost use Rattle.cast_domain.specs.State.{opening};
     ghost use Rattle.cast_domain.specs.Records.{number_of, is_halted, used_of, sessions_of, IsFor};
     ghost use Rattle.cast_domain.specs.Shared.{no_part};
@@ -98,7 +93,7 @@ impl Domain {
 
 impl Domain {
     ghost use Rattle.cast_types.specs.Names.{site_eq};
-    ghost use Rattle.cast_domain.specs.declared.event.Outs.{Outs};
+    ghost use Rattle.cast_model.specs.declared.event.Outs.{Outs};
     ghost use Rattle.cast_domain.specs.Records.{Keeps, answer_to, is_halted, number_of, records_in, records_of, used_after, used_of};
     ghost use Rattle.cast_domain.specs.Shared.{LeavesOthers, Part, part_of};
     ghost use Rattle.cast_domain.specs.Fits.{IsTyped};

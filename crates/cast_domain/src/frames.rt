@@ -2,22 +2,22 @@ ghost use Rattle.std.specs.Prelude.{◌≡◌, ◌<◌, false, IfOk, OnOk, vec_l
 ghost use Rattle.std.specs.List.{fold, list_all, list_any};
 ghost use Rattle.cast_types.specs.Names.{group_eq, proc_eq, uid_eq};
 ghost use Rattle.cast_types.specs.Sets.{is_among};
-ghost use Rattle.cast_frame.specs.declared.site.Change.TheVariants as asked_change;
-ghost use Rattle.cast_frame.specs.declared.site.SiteFrame.TheVariants as asked_frame;
+ghost use Rattle.cast_message.specs.declared.site.Change.TheVariants as asked_change;
+ghost use Rattle.cast_message.specs.declared.site.SiteFrame.TheVariants as asked_frame;
 ghost use Rattle.cast_domain.specs.Step.{group_of};
 ghost use Rattle.cast_domain.specs.Fits.{IsTypedFrame};
 ghost use Rattle.cast_domain.specs.State.{counts_itself};
 
 use crate::domain::Domain;
-use crate::event::Outs;
-use crate::group::Verdict;
-use crate::home::{is_among, other_sites};
 use crate::owing::ask_key;
 use crate::record::{answer_at, apply_at, installed_at, view_at};
 use crate::shared::Shared;
 use cast_clock::Times;
 use cast_delay::Fact;
-use cast_frame::{Change, Members, Message, Push, SiteFrame};
+use cast_message::{Change, Members, Message, Push, SiteFrame};
+use cast_model::group::is_taken_in;
+use cast_model::home::{is_among, other_sites};
+use cast_model::{Outs, Verdict};
 use cast_types::{Clock, GroupNo, NoMemory, Proc, SiteNo, Standing, Uid};
 
 // What the types of a frame's parts promise, for the proofs: nothing is done.
@@ -62,8 +62,8 @@ fn group_of(frame: &SiteFrame) -> GroupNo
 }
 
 impl Domain {
-    ghost use Rattle.cast_domain.specs.declared.event.Outs.{Outs};
-    ghost use Rattle.cast_domain.specs.Group.{is_taken_in};
+    ghost use Rattle.cast_model.specs.declared.event.Outs.{Outs};
+    ghost use Rattle.cast_model.specs.Group.{is_taken_in};
     ghost use Rattle.cast_domain.specs.Records.{Keeps, records_in, records_of};
     ghost use Rattle.cast_domain.specs.Shared.{LeavesOthers, Part};
     ghost use Rattle.cast_domain.specs.Calls.{answered_in, asked_of_home_in, complete_in, data_in, enter_in, frame_at, frame_in, install_in, installed_in, is_used_in, is_well_formed_in, send_in, standing_of, take_in, time_of, use_data_in, view_in};
@@ -406,14 +406,7 @@ impl Domain {
     fn is_taken_in(&self, process: Proc, group: GroupNo, request: u32) -> bool
         ensures { result ≡ is_taken_in request (standing_of self.now.delay process group) }
     {
-        match self.delay.standing(process, group) {
-            Standing::Outside => false,
-            Standing::Joining {
-                request: number,
-                ..
-            } => number <= request,
-            Standing::Member => true,
-        }
+        is_taken_in(self.delay.standing(process, group), request)
     }
 
     // A process enters a view, and is told.

@@ -2,23 +2,23 @@ ghost use Rattle.std.specs.Prelude.{◌≡◌, ◌<◌, ◌&&◌, false, IfOk, O
 ghost use Rattle.std.specs.List.{list_any};
 ghost use Rattle.cast_delay.specs.Queue.{next_key};
 ghost use Rattle.cast_delay.specs.Ready.{is_member};
-ghost use Rattle.cast_domain.specs.Records.{no_outs};
+ghost use Rattle.cast_model.specs.Outs.{no_outs};
 ghost use Rattle.cast_domain.specs.Calls.{learn_in, record_at};
 
 use crate::domain::Domain;
-use crate::event::Outs;
 use crate::record::GroupRecord;
 use crate::shared::Shared;
 use cast_clock::Times;
 use cast_delay::{Fact, Turn};
-use cast_frame::{Body, Message, Placement, Received};
+use cast_message::{Body, Message, Placement, Received};
+use cast_model::Outs;
 use cast_order::Orders;
 use cast_types::limits::MAX_NUMBER;
 use cast_types::{GroupNo, Key, Kind, NoMemory, Proc, Stamp, Standing, Uid};
 
 impl Domain {
     ghost use Rattle.cast_clock.specs.Times.{bumped};
-    ghost use Rattle.cast_domain.specs.declared.event.Outs.{Outs};
+    ghost use Rattle.cast_model.specs.declared.event.Outs.{Outs};
     ghost use Rattle.cast_domain.specs.Records.{Keeps, records_in, records_of};
     ghost use Rattle.cast_domain.specs.Shared.{LeavesOthers, Part, no_part};
     ghost use Rattle.cast_domain.specs.Calls.{awaits_own_in, has_order_room_in, holds_in, is_own_in, log_in, may_take_in, note_delivery_in, send_places_in, set_order_by_in, set_order_in, set_orders_in, settled_in, standing_of, time_of, turn_at, turns_in};

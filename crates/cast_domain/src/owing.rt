@@ -2,14 +2,14 @@ ghost use Rattle.std.specs.Prelude.{◌≡◌, ◌<◌, ◌+◌, IfOk, OnOk, vec
 ghost use Rattle.std.specs.Option.{option_copied, option_map};
 ghost use Rattle.std.specs.List.{find};
 ghost use Rattle.cast_types.specs.Names.{uid_eq};
-ghost use Rattle.cast_frame.specs.declared.site.SiteFrame.TheVariants as frame;
-ghost use Rattle.cast_domain.specs.Group.{first_asking};
+ghost use Rattle.cast_message.specs.declared.site.SiteFrame.TheVariants as frame;
+ghost use Rattle.cast_model.specs.Group.{first_asking};
 ghost use Rattle.cast_domain.specs.Owing.{ask_frame, ask_key, id_in, message_key};
 
 use crate::domain::Domain;
-use crate::event::Outs;
 use crate::shared::Shared;
-use cast_frame::{Message, Received, SiteFrame};
+use cast_message::{Message, Received, SiteFrame};
+use cast_model::Outs;
 use cast_timer::{OwedKey, OwedKind, Side};
 use cast_types::{GroupNo, NoMemory, Proc, SiteNo, Uid};
 
@@ -65,7 +65,7 @@ fn message_among(kept: &[Received], id: Uid) -> Option<&Message>
 }
 
 impl Domain {
-    ghost use Rattle.cast_domain.specs.declared.event.Outs.{Outs};
+    ghost use Rattle.cast_model.specs.declared.event.Outs.{Outs};
     ghost use Rattle.cast_domain.specs.Records.{Keeps, records_in};
     ghost use Rattle.cast_domain.specs.Shared.{LeavesOthers};
     ghost use Rattle.cast_domain.specs.Calls.{frame_for_in, frame_of_kind_in, message_in, owe_in, pay_in, resend_due_in, record_at, resend_in, send_for_in, tick_in};

@@ -2,13 +2,12 @@ ghost use Rattle.std.specs.Prelude.{◌≡◌, ◌<◌, IfOk, IfSome, OnOk, vec_
 ghost use Rattle.std.specs.List.{position};
 ghost use Rattle.cast_types.specs.Names.{group_eq};
 ghost use Rattle.cast_types.specs.Places.{update};
-ghost use Rattle.cast_domain.specs.Group.{with_answer, with_request, with_view};
-ghost use Rattle.cast_domain.specs.Home.{after_decision, after_installed, after_request, may_decide};
+ghost use Rattle.cast_model.specs.Group.{with_answer, with_request, with_view};
+ghost use Rattle.cast_model.specs.Home.{after_decision, after_installed, after_request, may_decide};
 ghost use Rattle.cast_domain.specs.Calls.{record_at};
 
-use crate::group::Group;
-use crate::home::Home;
-use cast_frame::{Change, Members};
+use cast_message::{Change, Members};
+use cast_model::{Group, Home};
 use cast_types::{GroupNo, NoMemory, Proc, SiteNo};
 
 /// What a domain keeps of a group: the site's side, and, at the home's site, the home's.

@@ -4,16 +4,15 @@ ghost use Rattle.cast_domain.specs.Step.{body_of};
 ghost use Rattle.cast_domain.specs.Calls.{record_at};
 
 use crate::domain::Domain;
-use crate::event::{Outs, Taken};
 use crate::order::learn;
 use crate::owing::{ask_key, message_key};
 use crate::record::ask_at;
-use crate::session::Session;
 use crate::shared::Shared;
 use bytes::Bytes;
 use cast_clock::{ClockFault, Times};
 use cast_delay::Fact;
-use cast_frame::{Body, CastKind, Change, Command, Message, Payload, Push, Request};
+use cast_message::{Body, CastKind, Change, Command, Message, Payload, Push, Request};
+use cast_model::{Outs, Session, Taken};
 use cast_timer::OwedKind;
 use cast_types::limits::{MAX_NUMBER, MAX_PAYLOAD};
 use cast_types::{GroupNo, NoMemory, Proc, Refusal, SiteNo, Stamp, Standing, Uid};
@@ -21,7 +20,7 @@ use std::alloc::AllocError;
 
 impl Domain {
     ghost use Rattle.cast_clock.specs.Times.{bumped, view_of};
-    ghost use Rattle.cast_domain.specs.declared.event.Outs.{Outs};
+    ghost use Rattle.cast_model.specs.declared.event.Outs.{Outs};
     ghost use Rattle.cast_domain.specs.Records.{Keeps, records_in, records_of, was_given};
     ghost use Rattle.cast_domain.specs.Shared.{LeavesOthers, Part};
     ghost use Rattle.cast_domain.specs.Effects.{may_raise};

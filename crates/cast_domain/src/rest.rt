@@ -4,11 +4,11 @@ ghost use Rattle.std.specs.Option.{option_map_or};
 ghost use Rattle.cast_domain.specs.Effects.{told_of};
 
 use crate::domain::Domain;
-use crate::event::Outs;
-use crate::home::sites_of;
 use crate::record::decide_at;
 use crate::shared::Shared;
-use cast_frame::{Body, CastKind, Message, Push, SiteFrame, Tail};
+use cast_message::{Body, CastKind, Message, Push, SiteFrame, Tail};
+use cast_model::Outs;
+use cast_model::home::sites_of;
 use cast_types::{Counts, Key, NoMemory, Proc, SiteNo, Uid};
 use std::alloc::AllocError;
 

@@ -1,7 +1,7 @@
 ghost use Rattle.std.specs.Prelude.{◌≡◌, OnOk};
 ghost use Rattle.cast_types.specs.declared.names.DomainNo.{DomainNo};
 
-use cast_frame::Message;
+use cast_message::Message;
 use cast_store::Store;
 use cast_timer::{OwedKey, Timers};
 use cast_types::{DomainNo, Key, NoMemory};

@@ -2,17 +2,18 @@ ghost use Rattle.std.specs.Prelude.{◌≡◌, ◌<◌, IfOk, OnOk, map, filter,
 ghost use Rattle.std.specs.List.{fold};
 
 use crate::domain::Domain;
-use crate::event::Outs;
-use crate::home::is_among;
 use crate::owing::message_key;
 use crate::shared::Shared;
-use cast_frame::{Received, SiteFrame};
+use cast_message::{Received, SiteFrame};
+use cast_model::Outs;
+use cast_model::home::is_among;
 use cast_timer::OwedKind;
 use cast_types::{Key, NoMemory, SiteNo, Uid};
 
 impl Domain {
-    ghost use Rattle.cast_domain.specs.declared.event.Outs.{Outs};
-    ghost use Rattle.cast_domain.specs.Records.{Keeps, no_outs, records_in, records_of};
+    ghost use Rattle.cast_model.specs.declared.event.Outs.{Outs};
+    ghost use Rattle.cast_model.specs.Outs.{no_outs};
+    ghost use Rattle.cast_domain.specs.Records.{Keeps, records_in, records_of};
     ghost use Rattle.cast_domain.specs.Shared.{LeavesOthers, Part, no_part};
     ghost use Rattle.cast_domain.specs.Calls.{ack_in, acknowledge_in, is_current_in, is_free_in, is_used_ack_in, let_go_in, release_in, stable_in, tell_more_in, tell_stable_in, with_ack_in};
 

@@ -11,16 +11,16 @@ use Rattle.cast_types.specs.declared.names.Uid.{Uid}
 use Rattle.cast_types.specs.Names.{Entry}
 use Rattle.cast_frame.specs.declared.fault.FrameFault.{FrameFault}
 use Rattle.cast_frame.specs.declared.fault.FrameFault.TheVariants.{Magic, Version, WrongType, Length, Range}
-use Rattle.cast_frame.specs.declared.message.Message.{Message}
-use Rattle.cast_frame.specs.declared.site.Change.{Change}
-use Rattle.cast_frame.specs.declared.site.Change.TheVariants.{Join, Leave}
-use Rattle.cast_frame.specs.declared.site.SiteFrame.{SiteFrame}
-use Rattle.cast_frame.specs.declared.site.SiteFrame.TheVariants.{Data, Ack, Stable, Ask, Asked, Prepare, Flushed, Want, Forward, Install, Installed, Out}
+use Rattle.cast_message.specs.declared.message.Message.{Message}
+use Rattle.cast_message.specs.declared.site.Change.{Change}
+use Rattle.cast_message.specs.declared.site.Change.TheVariants.{Join, Leave}
+use Rattle.cast_message.specs.declared.site.SiteFrame.{SiteFrame}
+use Rattle.cast_message.specs.declared.site.SiteFrame.TheVariants.{Data, Ack, Stable, Ask, Asked, Prepare, Flushed, Want, Forward, Install, Installed, Out}
 use Rattle.cast_frame.specs.declared.reading.FrameType.{FrameType}
 use Rattle.cast_frame.specs.declared.reading.FrameType.TheVariants as types
-use Rattle.cast_frame.specs.Membership.{Membership}
-use Rattle.cast_frame.specs.Stretch.{Stretch}
-use Rattle.cast_frame.specs.Keeping.{KeptList}
+use Rattle.cast_message.specs.Membership.{Membership}
+use Rattle.cast_message.specs.Stretch.{Stretch}
+use Rattle.cast_message.specs.Keeping.{KeptList}
 use Rattle.cast_frame.specs.Spelling.{byte, short, word, spelled_proc, spelled_counts, spelled_members, spelled_tail, spelled_kept, change_code, full_code, frame_code, spelled_fields, spelled_site}
 use Rattle.cast_frame.specs.Reading.{◌>>=◌, byte_at, number_at, domain_at, site_at, group_at, count_at, proc_at, uid_at, counts_at, message_at, members_at, tail_at, kept_at, change_of, full_of, data_at, ack_at, stable_at, ask_at, asked_at, prepare_at, flushed_at, want_at, forward_at, install_at, installed_at, out_at, type_of, type_at, fields_at, magic_at, version_at, frame_at, site_frame_of}
 use Rattle.cast_frame.specs.Spelled.{IsFrom, IsName, IsCount, IsProc, IsUid, IsMessage, IsFlushed, IsInstall, IsFrame, IsSpelled}

@@ -7,11 +7,4 @@ pub mod Orders
 pub mod Messages
 pub mod Frames
 pub mod Sizes
-pub mod ClientSizes
-pub mod Refusals
-pub mod ClientBodies
-pub mod ClientFronts
-pub mod ClientStays
-pub mod Places
 pub mod Vectors
-pub mod ClientVectors

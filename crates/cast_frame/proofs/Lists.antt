@@ -7,7 +7,7 @@ use Rattle.std.specs.FinMap.Entries.{is_sorted, below_all}
 use Rattle.std.proofs.lemmas.Bool.{and_parts, and_from, false≢true}
 use Rattle.std.proofs.lemmas.List.Concat.{flat_map-cons}
 use Rattle.cast_frame.specs.declared.fault.FrameFault.TheVariants.{NotSorted}
-use Rattle.cast_frame.specs.Rising.{is_rising}
+use Rattle.cast_message.specs.Rising.{is_rising}
 use Rattle.cast_frame.specs.Reading.{◌>>=◌, Reader, many, above}
 use Rattle.cast_frame.proofs.Fields.{IsBytes, bind_ok, ok_is, pass_ok, Took, joined, Takes, Again}
 

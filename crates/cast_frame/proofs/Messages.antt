@@ -3,10 +3,10 @@ use Rattle.std.proofs.Common.{◌≡◌, ℕ, eqb, List, ◌++◌, Ok, refl, sym
 use Rattle.std.proofs.lemmas.Bool.{cases_Bool, false≢true, eqb-true, eq-eqb}
 use Rattle.cast_types.specs.declared.names.Kind.{Kind}
 use Rattle.cast_types.specs.declared.names.Kind.TheVariants as kind
-use Rattle.cast_frame.specs.declared.message.Body.{Body}
-use Rattle.cast_frame.specs.declared.message.Body.TheVariants as body
-use Rattle.cast_frame.specs.declared.message.Message.{Message}
-use Rattle.cast_frame.specs.Bodies.{kind_of}
+use Rattle.cast_message.specs.declared.message.Body.{Body}
+use Rattle.cast_message.specs.declared.message.Body.TheVariants as body
+use Rattle.cast_message.specs.declared.message.Message.{Message}
+use Rattle.cast_message.specs.Bodies.{kind_of}
 use Rattle.cast_frame.specs.Spelling.{byte, kind_code, spelled_uid, spelled_times, spelled_body, spelled_message}
 use Rattle.cast_frame.specs.Reading.{◌>>=◌, byte_at, uid_at, times_at, payload_at, sequence_at, kind_numbered, kind_at, causal_at, atomic_at, order_at, body_at, message_at}
 use Rattle.cast_frame.specs.Spelled.{IsFrom, IsBody, IsMessage}

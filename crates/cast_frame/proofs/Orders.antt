@@ -7,9 +7,9 @@ use Rattle.std.specs.FinMap.Entries.{is_sorted}
 use Rattle.std.proofs.lemmas.Bool.{and_parts, and_from, cases_Bool, false≢true, le-leb, leb-true, eqb-true, eq-eqb}
 use Rattle.cast_types.specs.Names.{Entry, entry_cmp}
 use Rattle.cast_types.proofs.Orders.{entry_total}
-use Rattle.cast_frame.specs.Stretch.{Stretch, is_stretch}
-use Rattle.cast_frame.specs.Sequence.{Sequence, is_sequence}
-use Rattle.cast_frame.specs.Keeping.{Marked, KeptList, is_kept}
+use Rattle.cast_message.specs.Stretch.{Stretch, is_stretch}
+use Rattle.cast_message.specs.Sequence.{Sequence, is_sequence}
+use Rattle.cast_message.specs.Keeping.{Marked, KeptList, is_kept}
 use Rattle.cast_frame.specs.Spelling.{byte, short, word, spelled_entry, spelled_sequence, spelled_tail, mark_code, spelled_marked, spelled_kept}
 use Rattle.cast_frame.specs.Reading.{◌>>=◌, byte_at, number_at, many, above, entry_at, id_at, nothing_of, sequence_at, tail_at, id_above, mark_at, marked_above, id_of, kept_at}
 use Rattle.cast_frame.specs.Spelled.{IsFrom, IsEntry, ArePlaced, IsTail, IsMarked, AreKept}

@@ -13,16 +13,16 @@ use Rattle.cast_types.specs.declared.clock.Clock.{Clock}
 use Rattle.cast_types.specs.Names.{Entry}
 use Rattle.cast_types.proofs.CountLists.{counts_parts}
 use Rattle.cast_frame.specs.declared.fault.FrameFault.{FrameFault}
-use Rattle.cast_frame.specs.declared.message.Body.{Body}
-use Rattle.cast_frame.specs.declared.message.Body.TheVariants as body
-use Rattle.cast_frame.specs.declared.message.Message.{Message}
-use Rattle.cast_frame.specs.declared.site.SiteFrame.{SiteFrame}
-use Rattle.cast_frame.specs.declared.site.SiteFrame.TheVariants.{Data, Ack, Stable, Ask, Asked, Prepare, Flushed, Want, Forward, Install, Installed, Out}
-use Rattle.cast_frame.specs.Membership.{Membership}
-use Rattle.cast_frame.specs.Stretch.{Stretch}
-use Rattle.cast_frame.specs.Sequence.{Sequence}
-use Rattle.cast_frame.specs.Keeping.{Marked, KeptList}
-use Rattle.cast_frame.specs.Bodies.{kind_of}
+use Rattle.cast_message.specs.declared.message.Body.{Body}
+use Rattle.cast_message.specs.declared.message.Body.TheVariants as body
+use Rattle.cast_message.specs.declared.message.Message.{Message}
+use Rattle.cast_message.specs.declared.site.SiteFrame.{SiteFrame}
+use Rattle.cast_message.specs.declared.site.SiteFrame.TheVariants.{Data, Ack, Stable, Ask, Asked, Prepare, Flushed, Want, Forward, Install, Installed, Out}
+use Rattle.cast_message.specs.Membership.{Membership}
+use Rattle.cast_message.specs.Stretch.{Stretch}
+use Rattle.cast_message.specs.Sequence.{Sequence}
+use Rattle.cast_message.specs.Keeping.{Marked, KeptList}
+use Rattle.cast_message.specs.Bodies.{kind_of}
 use Rattle.cast_frame.specs.Spelling.{byte, short, word, spelled_proc, spelled_entry, spelled_uid, spelled_counts, spelled_clock, spelled_times, spelled_payload, spelled_sequence, kind_code, spelled_body, spelled_message, spelled_holder, spelled_members, spelled_tail, mark_code, spelled_marked, spelled_kept, change_code, full_code, frame_code, spelled_fields, spelled_site}
 use Rattle.cast_frame.specs.Spelled.{AreCounts, IsClock, AreTimes, ArePlaced, IsBody, IsMessage, AreMembers, IsTail, AreKept, IsFrame, IsSpelled}
 use Rattle.cast_frame.specs.Reading.{Gives, site_frame_of}

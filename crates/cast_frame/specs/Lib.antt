@@ -1,16 +1,5 @@
 pub mod Faults
-pub mod Bodies
-pub mod Receipts
-pub mod Rising
-pub mod Membership
-pub mod Stretch
-pub mod Sequence
-pub mod Keeping
 pub mod Spelling
 pub mod Reading
 pub mod Spelled
 pub mod Laws
-pub mod ClientSpelling
-pub mod ClientReading
-pub mod ClientSpelled
-pub mod ClientLaws

@@ -10,15 +10,15 @@ use Rattle.cast_types.specs.declared.clock.Clock.{Clock}
 use Rattle.cast_types.specs.Names.{Entry}
 use Rattle.cast_types.specs.Counts.{is_counts}
 use Rattle.cast_types.specs.Stamps.{is_stamp}
-use Rattle.cast_frame.specs.declared.message.Body.{Body}
-use Rattle.cast_frame.specs.declared.message.Body.TheVariants as body
-use Rattle.cast_frame.specs.declared.message.Message.{Message}
-use Rattle.cast_frame.specs.declared.site.SiteFrame.{SiteFrame}
-use Rattle.cast_frame.specs.declared.site.SiteFrame.TheVariants.{Data, Ack, Stable, Ask, Asked, Prepare, Flushed, Want, Forward, Install, Installed, Out}
-use Rattle.cast_frame.specs.Membership.{Membership, is_members}
-use Rattle.cast_frame.specs.Stretch.{Stretch, is_stretch}
-use Rattle.cast_frame.specs.Sequence.{Sequence, is_sequence}
-use Rattle.cast_frame.specs.Keeping.{Marked, KeptList, is_kept}
+use Rattle.cast_message.specs.declared.message.Body.{Body}
+use Rattle.cast_message.specs.declared.message.Body.TheVariants as body
+use Rattle.cast_message.specs.declared.message.Message.{Message}
+use Rattle.cast_message.specs.declared.site.SiteFrame.{SiteFrame}
+use Rattle.cast_message.specs.declared.site.SiteFrame.TheVariants.{Data, Ack, Stable, Ask, Asked, Prepare, Flushed, Want, Forward, Install, Installed, Out}
+use Rattle.cast_message.specs.Membership.{Membership, is_members}
+use Rattle.cast_message.specs.Stretch.{Stretch, is_stretch}
+use Rattle.cast_message.specs.Sequence.{Sequence, is_sequence}
+use Rattle.cast_message.specs.Keeping.{Marked, KeptList, is_kept}
 
 -- low ≤ n ≤ high
 pub record IsFrom (low high n : ℕ) : Type 0 where

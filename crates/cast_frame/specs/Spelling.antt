@@ -11,18 +11,18 @@ use Rattle.cast_types.specs.declared.names.Kind.{Kind}
 use Rattle.cast_types.specs.declared.names.Kind.TheVariants as kind
 use Rattle.cast_types.specs.declared.clock.Clock.{Clock}
 use Rattle.cast_types.specs.Names.{Entry, proc_eq}
-use Rattle.cast_frame.specs.declared.message.Body.{Body}
-use Rattle.cast_frame.specs.declared.message.Body.TheVariants as body
-use Rattle.cast_frame.specs.declared.message.Message.{Message}
-use Rattle.cast_frame.specs.declared.site.Change.{Change}
-use Rattle.cast_frame.specs.declared.site.Change.TheVariants.{Join, Leave}
-use Rattle.cast_frame.specs.declared.site.SiteFrame.{SiteFrame}
-use Rattle.cast_frame.specs.declared.site.SiteFrame.TheVariants.{Data, Ack, Stable, Ask, Asked, Prepare, Flushed, Want, Forward, Install, Installed, Out}
-use Rattle.cast_frame.specs.Membership.{Membership}
-use Rattle.cast_frame.specs.Stretch.{Stretch}
-use Rattle.cast_frame.specs.Sequence.{Sequence}
-use Rattle.cast_frame.specs.Keeping.{Marked, KeptList}
-use Rattle.cast_frame.specs.Bodies.{kind_of}
+use Rattle.cast_message.specs.declared.message.Body.{Body}
+use Rattle.cast_message.specs.declared.message.Body.TheVariants as body
+use Rattle.cast_message.specs.declared.message.Message.{Message}
+use Rattle.cast_message.specs.declared.site.Change.{Change}
+use Rattle.cast_message.specs.declared.site.Change.TheVariants.{Join, Leave}
+use Rattle.cast_message.specs.declared.site.SiteFrame.{SiteFrame}
+use Rattle.cast_message.specs.declared.site.SiteFrame.TheVariants.{Data, Ack, Stable, Ask, Asked, Prepare, Flushed, Want, Forward, Install, Installed, Out}
+use Rattle.cast_message.specs.Membership.{Membership}
+use Rattle.cast_message.specs.Stretch.{Stretch}
+use Rattle.cast_message.specs.Sequence.{Sequence}
+use Rattle.cast_message.specs.Keeping.{Marked, KeptList}
+use Rattle.cast_message.specs.Bodies.{kind_of}
 
 unfoldable pub byte : ℕ → List ℕ
 byte n = n ∷ []

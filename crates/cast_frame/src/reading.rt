@@ -7,13 +7,8 @@ ghost use Rattle.cast_types.specs.Names.{group_cmp, proc_cmp};
 
 use crate::fault::FrameFault;
 use crate::header::{MAGIC, VERSION};
-use crate::kept::Kept;
-use crate::members::{Members, Tail};
-use crate::message::{Body, Message};
-use crate::payload::Payload;
-use crate::placement::Placement;
-use crate::site::{Change, SiteFrame};
 use bytes::Bytes;
+use cast_message::{Body, Change, Kept, Members, Message, Payload, Placement, SiteFrame, Tail};
 use cast_types::limits::{
     MAX_GROUPS, MAX_KEPT, MAX_MEMBERS, MAX_NUMBER, MAX_ORDER, MAX_PAYLOAD, MAX_PLACED,
     MAX_POSITION, MAX_SITE_FRAME, MAX_TAIL,
@@ -39,7 +34,7 @@ enum FrameType {
 }
 
 #[tactic(auto, unfolding(crate::specs::Reading::byte_at, crate::specs::Reading::within_range))]
-pub(crate) fn read_byte(low: u8, high: u8, bytes: &[u8]) -> Result<(u8, &[u8]), FrameFault>
+pub fn read_byte(low: u8, high: u8, bytes: &[u8]) -> Result<(u8, &[u8]), FrameFault>
     ensures { GivesField result (byte_at low high bytes.now) }
 {
     match bytes {
@@ -69,7 +64,7 @@ fn read_short(low: u16, high: u16, bytes: &[u8]) -> Result<(u16, &[u8]), FrameFa
 }
 
 #[tactic(auto, unfolding(crate::specs::Reading::number_at, crate::specs::Reading::within_range))]
-pub(crate) fn read_word(low: u32, high: u32, bytes: &[u8]) -> Result<(u32, &[u8]), FrameFault>
+pub fn read_word(low: u32, high: u32, bytes: &[u8]) -> Result<(u32, &[u8]), FrameFault>
     ensures { GivesField result (number_at w32 low high bytes.now) }
 {
     if bytes.len() < 4 {
@@ -100,7 +95,7 @@ fn read_site(bytes: &[u8]) -> Result<(SiteNo, &[u8]), FrameFault>
 }
 
 #[tactic(auto, unfolding(crate::specs::Reading::group_at))]
-pub(crate) fn read_group(bytes: &[u8]) -> Result<(GroupNo, &[u8]), FrameFault>
+pub fn read_group(bytes: &[u8]) -> Result<(GroupNo, &[u8]), FrameFault>
     ensures { GivesField result (group_at bytes.now) }
 {
     let (number, rest) = read_short(1, u16::MAX, bytes)?;
@@ -108,14 +103,14 @@ pub(crate) fn read_group(bytes: &[u8]) -> Result<(GroupNo, &[u8]), FrameFault>
 }
 
 #[tactic(auto, unfolding(crate::specs::Reading::count_at))]
-pub(crate) fn read_count(bytes: &[u8]) -> Result<(u32, &[u8]), FrameFault>
+pub fn read_count(bytes: &[u8]) -> Result<(u32, &[u8]), FrameFault>
     ensures { GivesField result (count_at bytes.now) }
 {
     read_word(1, MAX_NUMBER, bytes)
 }
 
 #[tactic(auto, unfolding(crate::specs::Reading::proc_at))]
-pub(crate) fn read_proc(bytes: &[u8]) -> Result<(Proc, &[u8]), FrameFault>
+pub fn read_proc(bytes: &[u8]) -> Result<(Proc, &[u8]), FrameFault>
     ensures { GivesField result (proc_at bytes.now) }
 {
     let (site, rest) = read_site(bytes)?;
@@ -124,7 +119,7 @@ pub(crate) fn read_proc(bytes: &[u8]) -> Result<(Proc, &[u8]), FrameFault>
 }
 
 #[tactic(auto, unfolding(crate::specs::Reading::uid_at))]
-pub(crate) fn read_uid(bytes: &[u8]) -> Result<(Uid, &[u8]), FrameFault>
+pub fn read_uid(bytes: &[u8]) -> Result<(Uid, &[u8]), FrameFault>
     ensures { GivesField result (uid_at bytes.now) }
 {
     let (group, rest) = read_group(bytes)?;
@@ -419,7 +414,7 @@ fn read_holder<'a>(
 }
 
 #[tactic(auto, unfolding(crate::specs::Reading::members_at))]
-pub(crate) fn read_members(alloc: Global, bytes: &[u8]) -> Result<(Members, &[u8]), FrameFault>
+pub fn read_members(alloc: Global, bytes: &[u8]) -> Result<(Members, &[u8]), FrameFault>
     ensures { GivesField result (members_at bytes.now) }
 {
     let (count, rest) = read_byte(0, MAX_MEMBERS as u8, bytes)?;

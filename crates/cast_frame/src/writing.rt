@@ -1,17 +1,12 @@
 ghost use Rattle.std.specs.Prelude.{◌≡◌, ◌++◌, ◌≤◌, length, IfOk, OnOk};
 ghost use Rattle.std.specs.List.{flat_map, position, position_or_len};
 ghost use Rattle.cast_types.specs.Names.{proc_eq};
-ghost use Rattle.cast_frame.specs.declared.site.SiteFrame.TheVariants.{Ask, Asked, Flushed, Install};
+ghost use Rattle.cast_message.specs.declared.site.SiteFrame.TheVariants.{Ask, Asked, Flushed, Install};
 ghost use Rattle.cast_frame.specs.Spelling.{change_code, frame_code, kind_code, short, spelled_body, spelled_clock, spelled_counts, spelled_entry, spelled_fields, spelled_holder, spelled_kept, spelled_marked, spelled_members, spelled_message, spelled_payload, spelled_proc, spelled_sequence, spelled_site, spelled_tail, spelled_times, spelled_uid, word};
 
 use crate::header::{MAGIC, VERSION};
-use crate::kept::Kept;
-use crate::members::{Members, Tail};
-use crate::message::{Body, Message};
-use crate::payload::Payload;
-use crate::placement::Placement;
-use crate::site::{Change, SiteFrame};
 use bytes::{BufMut, Bytes, BytesMut};
+use cast_message::{Body, Change, Kept, Members, Message, Payload, Placement, SiteFrame, Tail};
 use cast_types::{Clock, Counts, DomainNo, GroupNo, Kind, NoMemory, Proc, SiteNo, Stamp, Uid};
 use std::alloc::Global;
 
@@ -19,7 +14,7 @@ use std::alloc::Global;
 const USUAL_LEN: usize = 512;
 
 #[tactic(auto, unfolding(crate::specs::Spelling::spelled_proc, crate::specs::Spelling::short, crate::specs::Spelling::word))]
-pub(crate) fn put_proc(out: &mut BytesMut, proc: Proc) -> Result<(), NoMemory>
+pub fn put_proc(out: &mut BytesMut, proc: Proc) -> Result<(), NoMemory>
     ensures { OnOk result (out.new.items ≡ out.old.items ++ spelled_proc proc) }
 {
     out.put_u16(proc.site.0)?;
@@ -37,7 +32,7 @@ fn put_entry(out: &mut BytesMut, entry: (Proc, u32)) -> Result<(), NoMemory>
 }
 
 #[tactic(auto, unfolding(crate::specs::Spelling::spelled_uid, crate::specs::Spelling::short, crate::specs::Spelling::word))]
-pub(crate) fn put_uid(out: &mut BytesMut, id: Uid) -> Result<(), NoMemory>
+pub fn put_uid(out: &mut BytesMut, id: Uid) -> Result<(), NoMemory>
     ensures { OnOk result (out.new.items ≡ out.old.items ++ spelled_uid id) }
 {
     out.put_u16(id.group.0)?;
@@ -161,7 +156,7 @@ fn position_of(members: &[Proc], holder: Proc) -> Option<usize>
     members.iter().position(|member| holder == *member)
 }
 
-#[tactic(auto, using(crate::proofs::Places::position_or_len_found, crate::proofs::Places::position_or_len_within))]
+#[tactic(auto, using(cast_message::proofs::Places::position_or_len_found, cast_message::proofs::Places::position_or_len_within))]
 fn place_of(members: &[Proc], holder: Proc) -> usize
     ensures place { result ≡ position_or_len (proc_eq holder) members.now }
     ensures bound { result ≤ length members.now }
@@ -184,7 +179,7 @@ fn put_holder(out: &mut BytesMut, members: &[Proc], holder: Option<Proc>) -> Res
 }
 
 #[tactic(auto, unfolding(crate::specs::Spelling::spelled_members, crate::specs::Spelling::byte))]
-pub(crate) fn put_members(out: &mut BytesMut, members: &Members) -> Result<(), NoMemory>
+pub fn put_members(out: &mut BytesMut, members: &Members) -> Result<(), NoMemory>
     ensures { OnOk result (out.new.items ≡ out.old.items ++ spelled_members members.now) }
 {
     let list = members.list();
@@ -262,7 +257,7 @@ fn code_of_frame(frame: &SiteFrame) -> u8
 }
 
 #[tactic(auto, unfolding(crate::specs::Spelling::short, crate::specs::Spelling::word))]
-pub(crate) fn put_view(out: &mut BytesMut, group: GroupNo, view: u32) -> Result<(), NoMemory>
+pub fn put_view(out: &mut BytesMut, group: GroupNo, view: u32) -> Result<(), NoMemory>
     ensures { OnOk result (out.new.items ≡ out.old.items ++ (short group.0 ++ word view)) }
 {
     out.put_u16(group.0)?;

@@ -14,7 +14,7 @@ use Rattle.cast_types.specs.declared.names.Proc.{Proc}
 use Rattle.cast_types.specs.Names.{Entry, entry_eq, proc_cmp}
 use Rattle.cast_types.specs.Sets.{is_among}
 use Rattle.cast_types.proofs.Orders.{proc_total, proc_exact, tie_same, same_entry}
-use Rattle.cast_frame.specs.Sequence.{Sequence}
+use Rattle.cast_message.specs.Sequence.{Sequence}
 use Rattle.cast_order.specs.Order.{Facts, facts_of, id_at, Listing, listed_ids, still_to_list, ids_to_list, place_after, is_distinct, next_of}
 use Rattle.cast_order.specs.Log.{Log, with_facts, place_of, next_in, passed, waits_in, next_places, assigned, settled, learnt}
 use Rattle.cast_order.specs.Fits.{Fits}

@@ -5,7 +5,7 @@ use Rattle.std.proofs.lemmas.Bool.{and_from, lt-ltb, ltb-true, le-leb}
 use Rattle.std.proofs.lemmas.List.{append-nil, length-take}
 use Rattle.cast_types.specs.declared.limits.TheConstants.{MAX_PLACED, MAX_TAIL, MAX_POSITION}
 use Rattle.cast_types.specs.Names.{Entry}
-use Rattle.cast_frame.specs.Sequence.{Sequence, is_sequence}
+use Rattle.cast_message.specs.Sequence.{Sequence, is_sequence}
 use Rattle.cast_order.specs.Order.{Facts, id_at, order_from, ids_to_list, place_after, tail_start, tail_ids}
 use Rattle.cast_order.specs.Log.{Log, waits_in, next_places}
 use Rattle.cast_order.proofs.Lists.{drop_on}

@@ -7,7 +7,7 @@ use Rattle.cast_types.specs.declared.names.GroupNo.{GroupNo}
 use Rattle.cast_types.specs.declared.names.Proc.{Proc}
 use Rattle.cast_types.specs.Names.{Entry, entry_eq, group_eq}
 use Rattle.cast_types.specs.Sets.{is_among}
-use Rattle.cast_frame.specs.Sequence.{Sequence}
+use Rattle.cast_message.specs.Sequence.{Sequence}
 use Rattle.cast_order.specs.Order.{Facts, facts_of, known_order, next_of, Listing, listed_ids, listed_upto, still_to_list, ids_to_list, place_after, closed_order}
 use Rattle.cast_order.specs.Log.{Log, new_log, log_of, change_log, but_log, learnt, next_in, passed, told, next_places, assigned, unsettled_in, whole_order, closed_by}
 use Rattle.cast_order.specs.Fits.{Fits, FitsClosed}

@@ -7,7 +7,7 @@ use Rattle.cast_types.specs.declared.limits.TheConstants.{MAX_PLACED, MAX_UNSETT
 use Rattle.cast_types.specs.declared.names.GroupNo.{GroupNo}
 use Rattle.cast_types.specs.declared.names.Proc.{Proc}
 use Rattle.cast_types.specs.Names.{Entry, proc_cmp, group_eq}
-use Rattle.cast_frame.specs.Sequence.{Sequence}
+use Rattle.cast_message.specs.Sequence.{Sequence}
 use Rattle.cast_order.specs.Order.{Facts, facts_of, id_at, order_from, ids_to_list, place_after, closed_order}
 
 -- known: the order known; later: facts of places past a gap, in order of receipt; places: how many of the first ids

@@ -23,6 +23,3 @@ mod log;
 mod orders;
 
 pub use orders::Orders;
-
-#[cfg(test)]
-mod tests;

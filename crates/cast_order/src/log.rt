@@ -5,7 +5,7 @@ ghost use Rattle.cast_types.specs.declared.limits.TheConstants.{MAX_POSITION};
 ghost use Rattle.cast_order.specs.Order.{id_at, order_from, tail_start, tail_ids};
 ghost use Rattle.cast_order.specs.Log.{new_log, with_fact, with_facts, past, settled, learnt, place_of, next_in, passed, told, waits_in, next_places, assigned, ids_above, has_room_in, whole_order, closed_by};
 
-use cast_frame::{Placement, Tail};
+use cast_message::{Placement, Tail};
 use cast_types::limits::{MAX_PLACED, MAX_POSITION, MAX_TAIL, MAX_UNSETTLED};
 use cast_types::{Counts, GroupNo, Keyed, Listed, NoMemory, Proc};
 use std::alloc::Global;

@@ -7,7 +7,7 @@ ghost use Rattle.cast_order.specs.Order.{tail_start, tail_ids};
 ghost use Rattle.cast_order.specs.Log.{log_of, change_in, opened, change_log, but_log, learnt, next_in, passed, told, waits_in, next_places, assigned, has_room_in, whole_order, closed_by};
 
 use crate::log::OrderLog;
-use cast_frame::{Placement, Tail};
+use cast_message::{Placement, Tail};
 use cast_types::{Counts, GroupNo, Listed, NoMemory, Proc};
 use std::alloc::Global;
 use std::marker::Model;

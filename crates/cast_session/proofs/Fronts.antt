@@ -2,9 +2,9 @@
 use Rattle.std.proofs.Common.{◌≡◌, ℕ, ◌≤◌, ◌<◌, List, [], ◌++◌, length, take, Option, Ok, refl, ap, ◌∙◌, arith}
 use Rattle.std.proofs.lemmas.List.{append-nil, length-take}
 use Rattle.std.specs.Io.KnownBytes.{Consumes, IsAtEnd}
-use Rattle.cast_frame.specs.declared.client.ClientRead.TheVariants as read
-use Rattle.cast_frame.specs.ClientReading.{client_of}
-use Rattle.cast_frame.proofs.ClientStays.{of_the_length, of_the_frame, more_is_wanting, ends_with_them}
+use Rattle.cast_client.specs.declared.front.ClientRead.TheVariants as read
+use Rattle.cast_client.specs.Reading.{client_of}
+use Rattle.cast_client.proofs.Stays.{of_the_length, of_the_frame, more_is_wanting, ends_with_them}
 use Rattle.cast_session.specs.declared.frames.Turn.{Turn}
 use Rattle.cast_session.specs.declared.frames.Turn.TheVariants.{Frame, Part, End, Fault, ReadFault}
 use Rattle.cast_session.specs.Turns.{Added, CameTo, Turned}

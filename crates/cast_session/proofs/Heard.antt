@@ -3,15 +3,15 @@ use Rattle.std.proofs.Common.{◌≡◌, ℕ, zero, suc, ◌≤◌, List, [], �
 use Rattle.std.proofs.lemmas.List.{append-nil, length-drop, drop-append-le}
 use Rattle.std.proofs.Math.Seq.{drop-append_seam}
 use Rattle.cast_frame.specs.declared.fault.FrameFault.{FrameFault}
-use Rattle.cast_frame.specs.declared.client.ClientFrame.{ClientFrame}
-use Rattle.cast_frame.specs.declared.client.ClientFrame.TheVariants as client
-use Rattle.cast_frame.specs.declared.client.ClientRead.{ClientRead}
-use Rattle.cast_frame.specs.declared.client.ClientRead.TheVariants.{Frame, More}
-use Rattle.cast_frame.specs.declared.client.Request.{Request as Asked}
-use Rattle.cast_frame.specs.declared.client.Command.{Command}
-use Rattle.cast_frame.specs.declared.client.Command.TheVariants.{Request}
-use Rattle.cast_frame.specs.ClientReading.{client_of}
-use Rattle.cast_frame.proofs.ClientStays.{frame_is_there, length_fits, frame_stays, fault_stays}
+use Rattle.cast_message.specs.declared.client.ClientFrame.{ClientFrame}
+use Rattle.cast_message.specs.declared.client.ClientFrame.TheVariants as client
+use Rattle.cast_client.specs.declared.front.ClientRead.{ClientRead}
+use Rattle.cast_client.specs.declared.front.ClientRead.TheVariants.{Frame, More}
+use Rattle.cast_message.specs.declared.client.Request.{Request as Asked}
+use Rattle.cast_message.specs.declared.client.Command.{Command}
+use Rattle.cast_message.specs.declared.client.Command.TheVariants.{Request}
+use Rattle.cast_client.specs.Reading.{client_of}
+use Rattle.cast_client.proofs.Stays.{frame_is_there, length_fits, frame_stays, fault_stays}
 use Rattle.cast_session.specs.Known.{IsBeginning}
 use Rattle.cast_session.specs.Commands.{Heard, nothing, and_then, heard, commands_within, commands_of}
 use Rattle.cast_session.proofs.Fronts.{no_front}

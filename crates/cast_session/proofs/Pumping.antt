@@ -5,13 +5,13 @@ use Rattle.std.specs.Result.{is_err, OnErr, OnOk}
 use Rattle.std.specs.Io.KnownBytes.{Consumes}
 use Rattle.cast_frame.specs.declared.fault.FrameFault.{FrameFault}
 use Rattle.cast_frame.specs.declared.fault.FrameFault.TheVariants.{WrongType, NoMemory}
-use Rattle.cast_frame.specs.declared.client.ClientFrame.TheVariants as client
-use Rattle.cast_frame.specs.declared.client.ClientRead.TheVariants as read
-use Rattle.cast_frame.specs.declared.client.Push.{Push}
-use Rattle.cast_frame.specs.declared.client.Request.{Request as Asked}
-use Rattle.cast_frame.specs.declared.client.Command.{Command}
-use Rattle.cast_frame.specs.declared.client.Command.TheVariants.{Request, Bad}
-use Rattle.cast_frame.specs.ClientReading.{client_of}
+use Rattle.cast_message.specs.declared.client.ClientFrame.TheVariants as client
+use Rattle.cast_client.specs.declared.front.ClientRead.TheVariants as read
+use Rattle.cast_message.specs.declared.client.Push.{Push}
+use Rattle.cast_message.specs.declared.client.Request.{Request as Asked}
+use Rattle.cast_message.specs.declared.client.Command.{Command}
+use Rattle.cast_message.specs.declared.client.Command.TheVariants.{Request, Bad}
+use Rattle.cast_client.specs.Reading.{client_of}
 use Rattle.cast_session.specs.declared.frames.Turn.{Turn}
 use Rattle.cast_session.specs.declared.frames.Turn.TheVariants as turn
 use Rattle.cast_session.specs.declared.incoming.InEnd.{InEnd}

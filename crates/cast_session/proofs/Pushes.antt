@@ -1,9 +1,9 @@
 -- The spellings of pushes, one after the other.
 use Rattle.std.proofs.Common.{◌≡◌, ℕ, ◌+◌, ◌<◌, List, ◌++◌, length, drop, get_or, Option, refl, ap, ◌∙◌, add-one, drop-cons}
 use Rattle.std.specs.Io.KnownBytes.{Appends}
-use Rattle.cast_frame.specs.declared.client.ClientFrame.TheVariants as client
-use Rattle.cast_frame.specs.declared.client.Push.{Push}
-use Rattle.cast_frame.specs.ClientSpelling.{spelled_client}
+use Rattle.cast_message.specs.declared.client.ClientFrame.TheVariants as client
+use Rattle.cast_message.specs.declared.client.Push.{Push}
+use Rattle.cast_client.specs.Spelling.{spelled_client}
 use Rattle.cast_session.specs.Outgoing.{WrotePart, spelled_pushes}
 use Rattle.cast_session.proofs.Written.{Wrote, wrote_piece, wrote_piece_part}
 

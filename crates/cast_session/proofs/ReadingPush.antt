@@ -5,14 +5,14 @@ use Rattle.std.proofs.Math.Seq.{drop-append_seam}
 use Rattle.std.specs.Io.KnownBytes.{Consumes, IsAtEnd}
 use Rattle.cast_frame.specs.declared.fault.FrameFault.{FrameFault}
 use Rattle.cast_frame.specs.declared.fault.FrameFault.TheVariants.{Short, WrongType}
-use Rattle.cast_frame.specs.declared.client.ClientFrame.{ClientFrame}
-use Rattle.cast_frame.specs.declared.client.ClientFrame.TheVariants as client
-use Rattle.cast_frame.specs.declared.client.ClientRead.{ClientRead}
-use Rattle.cast_frame.specs.declared.client.ClientRead.TheVariants as read
-use Rattle.cast_frame.specs.declared.client.Push.{Push}
-use Rattle.cast_frame.specs.declared.client.Request.{Request}
-use Rattle.cast_frame.specs.ClientReading.{client_of}
-use Rattle.cast_frame.proofs.ClientStays.{frame_stays, fault_stays}
+use Rattle.cast_message.specs.declared.client.ClientFrame.{ClientFrame}
+use Rattle.cast_message.specs.declared.client.ClientFrame.TheVariants as client
+use Rattle.cast_client.specs.declared.front.ClientRead.{ClientRead}
+use Rattle.cast_client.specs.declared.front.ClientRead.TheVariants as read
+use Rattle.cast_message.specs.declared.client.Push.{Push}
+use Rattle.cast_message.specs.declared.client.Request.{Request}
+use Rattle.cast_client.specs.Reading.{client_of}
+use Rattle.cast_client.proofs.Stays.{frame_stays, fault_stays}
 use Rattle.cast_session.specs.declared.frames.Turn.TheVariants as turn
 use Rattle.cast_session.specs.declared.client.PushFault.TheVariants as faults
 use Rattle.cast_session.specs.Known.{Between}

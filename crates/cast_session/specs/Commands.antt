@@ -2,12 +2,12 @@
 use Rattle.std.specs.Prelude.{ℕ, zero, suc, List, [], ◌∷◌, ◌++◌, length, drop, Option, Some, None, Result, Ok, Err}
 use Rattle.cast_frame.specs.declared.fault.FrameFault.{FrameFault}
 use Rattle.cast_frame.specs.declared.fault.FrameFault.TheVariants.{WrongType}
-use Rattle.cast_frame.specs.declared.client.ClientFrame.TheVariants as client
-use Rattle.cast_frame.specs.declared.client.ClientRead.{ClientRead}
-use Rattle.cast_frame.specs.declared.client.ClientRead.TheVariants.{Frame, More}
-use Rattle.cast_frame.specs.declared.client.Command.{Command}
-use Rattle.cast_frame.specs.declared.client.Command.TheVariants.{Request, Bad}
-use Rattle.cast_frame.specs.ClientReading.{client_of}
+use Rattle.cast_message.specs.declared.client.ClientFrame.TheVariants as client
+use Rattle.cast_client.specs.declared.front.ClientRead.{ClientRead}
+use Rattle.cast_client.specs.declared.front.ClientRead.TheVariants.{Frame, More}
+use Rattle.cast_message.specs.declared.client.Command.{Command}
+use Rattle.cast_message.specs.declared.client.Command.TheVariants.{Request, Bad}
+use Rattle.cast_client.specs.Reading.{client_of}
 
 -- the commands, and the fault that ended them
 pub record Heard : Type 0 where

@@ -2,9 +2,9 @@
 use Rattle.std.specs.Prelude.{ℕ, List, Option, Result, MatchResult}
 use Rattle.std.specs.List.{flat_map}
 use Rattle.std.specs.Io.KnownBytes.{Appends}
-use Rattle.cast_frame.specs.declared.client.ClientFrame.TheVariants as client
-use Rattle.cast_frame.specs.declared.client.Push.{Push}
-use Rattle.cast_frame.specs.ClientSpelling.{spelled_client}
+use Rattle.cast_message.specs.declared.client.ClientFrame.TheVariants as client
+use Rattle.cast_message.specs.declared.client.Push.{Push}
+use Rattle.cast_client.specs.Spelling.{spelled_client}
 use Rattle.cast_session.specs.Known.{IsBeginning}
 
 -- the writer has a beginning of the bytes more

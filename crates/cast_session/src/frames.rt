@@ -1,9 +1,11 @@
 ghost use Rattle.std.specs.Prelude.{◌≡◌, ◌+◌, ◌^◌, ◌<◌, ◌++◌, ◌↔◌, [], IsTrue, Ok};
-ghost use Rattle.cast_frame.specs.ClientReading.{client_of};
-ghost use Rattle.cast_frame.specs.declared.client.ClientRead.TheVariants.{More};
+ghost use Rattle.cast_client.specs.Reading.{client_of};
+ghost use Rattle.cast_client.specs.declared.front.ClientRead.TheVariants.{More};
 
 use crate::watched::Watched;
-use cast_frame::{ClientFrame, ClientRead, FrameFault, decode_client};
+use cast_client::{ClientRead, decode_client};
+use cast_frame::FrameFault;
+use cast_message::ClientFrame;
 use std::alloc::Global;
 use std::io::{ErrorKind, Read};
 

@@ -5,7 +5,8 @@ ghost use Rattle.cast_session.specs.Watching.{HasFailedOrLasted};
 use crate::frames::{Incoming, TURNS, Turn};
 use crate::sink::Sink;
 use crate::watched::Watched;
-use cast_frame::{ClientFrame, Command, FrameFault};
+use cast_frame::FrameFault;
+use cast_message::{ClientFrame, Command};
 use std::alloc::Global;
 use std::io::Read;
 

@@ -30,6 +30,3 @@ pub use incoming::{InEnd, pump_in};
 pub use outgoing::{OutFault, pump_out};
 pub use sink::Sink;
 pub use watched::Watched;
-
-#[cfg(test)]
-mod tests;

@@ -4,7 +4,8 @@ ghost use Rattle.cast_session.specs.Watching.{HasFailed};
 ghost use Rattle.cast_session.specs.declared.outgoing.OutFault.TheVariants.{NoMemory};
 
 use crate::watched::Watched;
-use cast_frame::{Push, encode_push};
+use cast_client::encode_push;
+use cast_message::Push;
 use std::alloc::{AllocError, Global};
 use std::io::{ErrorKind, Write};
 use thiserror::Error;

@@ -1,9 +1,9 @@
 ghost use Rattle.std.specs.Prelude.{List, [], ◌∷◌, None, OnOk, OnErr};
 ghost use Rattle.std.specs.declared.option.Option.{Option};
-ghost use Rattle.cast_frame.specs.declared.client.Command.{Command};
+ghost use Rattle.cast_message.specs.declared.client.Command.{Command};
 ghost use Rattle.cast_session.specs.Known.{Adds};
 
-use cast_frame::Command;
+use cast_message::Command;
 use cast_types::NoMemory;
 
 /// What takes the commands of a program, in their order.

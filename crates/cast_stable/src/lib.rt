@@ -22,6 +22,3 @@ mod witness;
 pub use acks::Acks;
 pub use counted::Counted;
 pub use witness::Witness;
-
-#[cfg(test)]
-mod tests;

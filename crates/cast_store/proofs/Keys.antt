@@ -6,8 +6,8 @@ use Rattle.std.specs.List.{list_all, find, filter, position, position_or_len, re
 use Rattle.std.proofs.lemmas.Bool.{cases_Bool, and_parts, and_from, ltb-true, lt-ltb, eqb-true, ne_eqb}
 use Rattle.std.proofs.lemmas.Option.{cond_some}
 use Rattle.cast_types.specs.declared.names.Key.{Key}
-use Rattle.cast_frame.specs.declared.message.Received.{Received}
-use Rattle.cast_frame.specs.Receipts.{key_eq, message_under}
+use Rattle.cast_message.specs.declared.message.Received.{Received}
+use Rattle.cast_message.specs.Receipts.{key_eq, message_under}
 use Rattle.cast_store.specs.Store.{is_rising, but_under}
 
 -- whether all keys are above a number

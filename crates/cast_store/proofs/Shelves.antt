@@ -7,7 +7,7 @@ use Rattle.std.proofs.lemmas.Bool.{false_from_ne_true, eqb-true, eq-eqb}
 use Rattle.std.proofs.lemmas.List.Quantifiers.{position-Some}
 use Rattle.cast_types.specs.declared.names.DomainNo.{DomainNo}
 use Rattle.cast_types.specs.Places.{update}
-use Rattle.cast_frame.specs.declared.message.Received.{Received}
+use Rattle.cast_message.specs.declared.message.Received.{Received}
 use Rattle.cast_store.specs.Store.{Shelf, is_of, shelf_of, kept_in, next_in}
 use Rattle.cast_store.proofs.Finds.{find_place, find_no_place, find_update, find_update_no, find_push_yes, find_push_no, find_filter, find_filter_none}
 

@@ -4,9 +4,9 @@ use Rattle.std.specs.List.{list_all, find}
 use Rattle.std.specs.Option.{option_map_or}
 use Rattle.cast_types.specs.declared.names.DomainNo.{DomainNo}
 use Rattle.cast_types.specs.declared.names.Key.{Key}
-use Rattle.cast_frame.specs.declared.message.Message.{Message}
-use Rattle.cast_frame.specs.declared.message.Received.{Received}
-use Rattle.cast_frame.specs.Receipts.{key_eq}
+use Rattle.cast_message.specs.declared.message.Message.{Message}
+use Rattle.cast_message.specs.declared.message.Received.{Received}
+use Rattle.cast_message.specs.Receipts.{key_eq}
 
 -- what is kept for one domain, and the number of its next key
 pub record Shelf : Type 0 where

@@ -15,6 +15,3 @@ mod row;
 mod store;
 
 pub use store::Store;
-
-#[cfg(test)]
-mod tests;

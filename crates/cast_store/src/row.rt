@@ -1,10 +1,10 @@
 ghost use Rattle.std.specs.Prelude.{◌≡◌, ◌<◌, [], IfOk, IfErr, IfNone, IfSome, OnOk, OnErr, IsTrue, length};
 ghost use Rattle.std.specs.Option.{option_copied};
 ghost use Rattle.std.specs.List.{position, find};
-ghost use Rattle.cast_frame.specs.Receipts.{key_eq, message_under};
+ghost use Rattle.cast_message.specs.Receipts.{key_eq, message_under};
 ghost use Rattle.cast_store.specs.Store.{with_message, without_key, is_rising};
 
-use cast_frame::{Message, Received};
+use cast_message::{Message, Received};
 use cast_types::{DomainNo, Key};
 use std::alloc::Global;
 use std::marker::Model;

@@ -3,11 +3,11 @@ ghost use Rattle.std.specs.Option.{option_copied};
 ghost use Rattle.std.specs.List.{position};
 ghost use Rattle.cast_types.specs.declared.names.DomainNo.{DomainNo};
 ghost use Rattle.cast_types.specs.Places.{update};
-ghost use Rattle.cast_frame.specs.Receipts.{key_eq, message_under};
+ghost use Rattle.cast_message.specs.Receipts.{key_eq, message_under};
 ghost use Rattle.cast_store.specs.Store.{Shelf, is_of, shelf_of, kept_in, next_in, with_message, without_key, is_rising};
 
 use crate::row::Row;
-use cast_frame::{Message, Received};
+use cast_message::{Message, Received};
 use cast_types::{DomainNo, Key};
 use std::alloc::Global;
 use std::marker::Model;

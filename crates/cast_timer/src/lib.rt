@@ -19,6 +19,3 @@ mod timers;
 
 pub use key::{Owed, OwedKey, OwedKind, Side};
 pub use timers::Timers;
-
-#[cfg(test)]
-mod tests;

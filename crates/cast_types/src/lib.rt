@@ -32,6 +32,3 @@ pub use source::Source;
 
 /// Want of memory: an allocation was refused.
 pub type NoMemory = std::alloc::AllocError;
-
-#[cfg(test)]
-mod tests;

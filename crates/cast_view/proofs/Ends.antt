@@ -8,7 +8,7 @@ use Rattle.std.proofs.lemmas.List.{take_all, length-take}
 use Rattle.cast_types.specs.Names.{Entry, entry_eq}
 use Rattle.cast_types.specs.Sets.{is_among, apart_from}
 use Rattle.cast_types.specs.Counts.{CountList, is_within}
-use Rattle.cast_frame.specs.Stretch.{Stretch}
+use Rattle.cast_message.specs.Stretch.{Stretch}
 use Rattle.cast_view.specs.Reports.{Reports}
 use Rattle.cast_view.specs.Decisions.{end_of, no_stretch, longest, unplaced, added, ids_from}
 use Rattle.cast_view.specs.Laws.{LongestInWords, OrderIsWhole, OrderIsWithinTheCut}

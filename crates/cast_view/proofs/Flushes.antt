@@ -7,9 +7,9 @@ use Rattle.cast_types.specs.declared.limits.TheConstants.{MAX_PLACED}
 use Rattle.cast_types.specs.declared.names.SiteNo.{SiteNo}
 use Rattle.cast_types.specs.declared.names.GroupNo.{GroupNo}
 use Rattle.cast_types.specs.Names.{Entry}
-use Rattle.cast_frame.specs.declared.message.Message.{Message}
+use Rattle.cast_message.specs.declared.message.Message.{Message}
 use Rattle.cast_types.specs.declared.names.Proc.{Proc}
-use Rattle.cast_frame.specs.Membership.{Membership}
+use Rattle.cast_message.specs.Membership.{Membership}
 use Rattle.cast_view.specs.declared.phase.Phase.{Phase}
 use Rattle.cast_view.specs.declared.phase.Phase.TheVariants.{Gathering}
 use Rattle.cast_view.specs.Reports.{Reports, is_complete, cut_from, wanting, want_of, wants_of}

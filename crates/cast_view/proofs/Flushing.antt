@@ -5,11 +5,11 @@ use Rattle.cast_types.specs.declared.names.GroupNo.{GroupNo}
 use Rattle.cast_types.specs.declared.names.Proc.{Proc}
 use Rattle.cast_types.specs.Names.{Entry, named}
 use Rattle.cast_types.specs.Counts.{CountList}
-use Rattle.cast_frame.specs.declared.message.Body.TheVariants as body
-use Rattle.cast_frame.specs.declared.message.Message.{Message}
-use Rattle.cast_frame.specs.declared.site.Change.TheVariants as change
-use Rattle.cast_frame.specs.Keeping.{KeptList}
-use Rattle.cast_frame.specs.Stretch.{Stretch}
+use Rattle.cast_message.specs.declared.message.Body.TheVariants as body
+use Rattle.cast_message.specs.declared.message.Message.{Message}
+use Rattle.cast_message.specs.declared.site.Change.TheVariants as change
+use Rattle.cast_message.specs.Keeping.{KeptList}
+use Rattle.cast_message.specs.Stretch.{Stretch}
 use Rattle.cast_view.specs.declared.report.Report.{Report}
 use Rattle.cast_view.specs.declared.phase.Phase.TheVariants.{Installing}
 use Rattle.cast_view.specs.Home.{Home, first_home, answer_to, after_ask, after_suspicion, after_start, after_reply, after_body, wants_in, after_decision, after_installed}

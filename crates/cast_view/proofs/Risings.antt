@@ -6,7 +6,7 @@ use Rattle.std.specs.Ordering.{is_lt, ordering_reverse}
 use Rattle.std.specs.Cmp.{IsTotalOrder}
 use Rattle.std.proofs.lemmas.Bool.{and_parts, and_from, false≢true}
 use Rattle.cast_types.specs.Sets.{with_item, with_items, at_order}
-use Rattle.cast_frame.specs.Rising.{is_rising}
+use Rattle.cast_message.specs.Rising.{is_rising}
 
 -- what is less is Less
 less_is : (o : Ordering) → is_lt o ≡ true → o ≡ Less

@@ -12,9 +12,9 @@ use Rattle.cast_types.specs.declared.names.Proc.{Proc}
 use Rattle.cast_types.specs.Names.{site_eq, site_cmp, proc_eq, proc_cmp}
 use Rattle.cast_types.specs.Sets.{is_among, with_item, with_items, without}
 use Rattle.cast_types.proofs.Orders.{proc_total, proc_exact, site_exact, same_proc, proc_itself, site_itself}
-use Rattle.cast_frame.specs.Rising.{is_rising}
-use Rattle.cast_frame.specs.declared.message.Message.{Message}
-use Rattle.cast_frame.specs.declared.site.Change.TheVariants.{Join}
+use Rattle.cast_message.specs.Rising.{is_rising}
+use Rattle.cast_message.specs.declared.message.Message.{Message}
+use Rattle.cast_message.specs.declared.site.Change.TheVariants.{Join}
 use Rattle.cast_view.specs.declared.phase.Decision.{Decision}
 use Rattle.cast_view.specs.declared.phase.Phase.{Phase}
 use Rattle.cast_view.specs.declared.phase.Phase.TheVariants.{Idle, Gathering, Installing}

@@ -5,7 +5,7 @@ use Rattle.cast_types.specs.declared.limits.TheConstants.{MAX_PLACED, MAX_ORDER}
 use Rattle.cast_types.specs.Names.{Entry, entry_eq, entry_cmp}
 use Rattle.cast_types.specs.Sets.{set_of, apart_from}
 use Rattle.cast_types.specs.Counts.{CountList, is_within}
-use Rattle.cast_frame.specs.Stretch.{Stretch}
+use Rattle.cast_message.specs.Stretch.{Stretch}
 use Rattle.cast_view.specs.Reports.{Reports}
 
 -- how far a part of an order reaches

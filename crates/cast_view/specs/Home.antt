@@ -7,10 +7,10 @@ use Rattle.cast_types.specs.declared.names.GroupNo.{GroupNo}
 use Rattle.cast_types.specs.declared.names.Proc.{Proc}
 use Rattle.cast_types.specs.Names.{Entry, site_eq, proc_eq, site_cmp, proc_cmp}
 use Rattle.cast_types.specs.Sets.{is_among, set_of, with_item, with_items, without, apart_from}
-use Rattle.cast_frame.specs.declared.message.Message.{Message}
-use Rattle.cast_frame.specs.declared.site.Change.{Change}
-use Rattle.cast_frame.specs.declared.site.Change.TheVariants as change
-use Rattle.cast_frame.specs.Membership.{Membership}
+use Rattle.cast_message.specs.declared.message.Message.{Message}
+use Rattle.cast_message.specs.declared.site.Change.{Change}
+use Rattle.cast_message.specs.declared.site.Change.TheVariants as change
+use Rattle.cast_message.specs.Membership.{Membership}
 use Rattle.cast_view.specs.declared.report.Report.{Report}
 use Rattle.cast_view.specs.declared.phase.Answer.{Answer}
 use Rattle.cast_view.specs.declared.phase.Decision.{Decision}

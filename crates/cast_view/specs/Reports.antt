@@ -10,7 +10,7 @@ use Rattle.cast_types.specs.declared.names.Proc.{Proc}
 use Rattle.cast_types.specs.Names.{Entry, site_eq, entry_eq, entry_cmp, uid_eq, named}
 use Rattle.cast_types.specs.Sets.{set_of}
 use Rattle.cast_types.specs.Counts.{CountList, count_of, is_within}
-use Rattle.cast_frame.specs.declared.message.Message.{Message}
+use Rattle.cast_message.specs.declared.message.Message.{Message}
 use Rattle.cast_view.specs.declared.report.Report.{Report}
 
 -- the reports of sites, in rising order of the sites

@@ -8,7 +8,7 @@ ghost use Rattle.cast_view.specs.Decisions.{end_of, no_stretch, longest, unplace
 
 use crate::report::Report;
 use crate::reports::is_within;
-use cast_frame::Tail;
+use cast_message::Tail;
 use cast_types::limits::{MAX_ORDER, MAX_PLACED};
 use cast_types::{Counts, NoMemory, Proc, SiteNo, sorted};
 use std::alloc::Global;

@@ -1,7 +1,7 @@
 ghost use Rattle.std.specs.Prelude.{◌≡◌, ◌≤◌, false, IfOk, OnOk, IsTrue, length};
 ghost use Rattle.cast_types.specs.Names.{proc_cmp, proc_eq, site_eq};
 ghost use Rattle.cast_types.specs.Sets.{with_item, without, apart_from};
-ghost use Rattle.cast_frame.specs.Membership.{is_held};
+ghost use Rattle.cast_message.specs.Membership.{is_held};
 ghost use Rattle.cast_view.specs.Reports.{cut_from, wanting};
 ghost use Rattle.cast_view.specs.Home.{sites_of, least_of};
 
@@ -10,7 +10,7 @@ use crate::phase::{Answer, Decision, Phase, installing, is_among};
 use crate::procs::{Procs, is_listed};
 use crate::report::Report;
 use crate::reports::{cut_from, is_complete, wanting, wants_of};
-use cast_frame::{Change, Members, Message};
+use cast_message::{Change, Members, Message};
 use cast_types::limits::{MAX_MEMBERS, MAX_NUMBER};
 use cast_types::{GroupNo, Keyed, Listed, NoMemory, Proc, SiteNo, sorted};
 use std::alloc::Global;

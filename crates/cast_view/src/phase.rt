@@ -6,7 +6,7 @@ ghost use Rattle.cast_view.specs.Home.{is_idle, installing, phase_without, await
 
 use crate::report::Report;
 use crate::reports::has_report;
-use cast_frame::{Message, Tail};
+use cast_message::{Message, Tail};
 use cast_types::{Counts, Listed, NoMemory, SiteNo, sorted};
 
 /// The last request of a site that was applied.

@@ -1,4 +1,4 @@
-use cast_frame::{Kept, Tail};
+use cast_message::{Kept, Tail};
 use cast_types::Counts;
 
 /// What a site reports of the view that is flushed.

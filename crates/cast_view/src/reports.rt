@@ -4,11 +4,11 @@ ghost use Rattle.cast_types.specs.Names.{proc_cmp, entry_cmp};
 ghost use Rattle.cast_types.specs.Sets.{with_items};
 ghost use Rattle.cast_types.specs.Counts.{is_within};
 ghost use Rattle.cast_types.specs.declared.limits.TheConstants.{MAX_PLACED};
-ghost use Rattle.cast_frame.specs.Rising.{is_rising};
+ghost use Rattle.cast_message.specs.Rising.{is_rising};
 ghost use Rattle.cast_view.specs.Reports.{has_report, is_complete, greatest_count, cut_from, keeps, all_kept, is_needed, keeper_of, has_body, wanting, want_of};
 
 use crate::report::Report;
-use cast_frame::Message;
+use cast_message::Message;
 use cast_types::limits::MAX_PLACED;
 use cast_types::{Counts, GroupNo, Listed, NoMemory, Proc, SiteNo, Uid, sorted};
 use std::alloc::Global;

@@ -1,6 +1,6 @@
 use crate::{HomeSide, Phase, Report};
 use bytes::Bytes;
-use cast_frame::{Body, Change, Kept, Message, Payload, Tail};
+use cast_message::{Body, Change, Kept, Message, Payload, Tail};
 use cast_types::{Clock, Counts, GroupNo, Proc, SiteNo, Stamp, Uid};
 use std::alloc::Global;
 use std::test::Fail;

@@ -1,25 +1,12 @@
 //! `castd`, a group communication daemon. `castd replay FILE` replays a script, which says how a daemon is configured
 //! and what happens to it, and prints what it answers, what it pushes to its programs and what it sends to other sites.
 //!
-//! Promised: a script that is accepted spells what it is read as (`script::parse`). What is printed for it is the text of
-//! a log in which the domain, unless want of memory halted it, answers, pushes and sends what a daemon that serves it
-//! alone does (`run`, `table::replay`).
-//!
-//! The definitions are in `specs/`: `Scripts` has what a script spells, `Tables` what one event does to a table of
-//! domains, `Replays` what a whole list of events gives, and `Texts` how it is printed.
+//! This is the command line alone. What is promised of the printed text stands in the crate `cast_replay`.
 #![tactic(auto)]
 
-pub mod print;
-pub mod run;
-pub mod script;
-pub mod table;
-#[cfg(test)]
-mod tests;
-pub mod words;
-
+use cast_replay::{no_memory, run_script, unreadable};
 use clap::error::ErrorKind;
 use clap::{Arg, ArgAction, ArgMatches, Command};
-use run::{no_memory, run_script, unreadable};
 use std::alloc::Global;
 use std::io::Write;
 use std::process::ExitCode;
@@ -28,6 +15,9 @@ use std::{env, fs, io};
 
 // The status of a command line that is not understood.
 const USAGE: u8 = 2;
+
+// The version of the program.
+const VERSION: &str = "0.1.0";
 
 // The words that the program understands.
 fn command<'a>(alloc: Global) -> Result<Command<'a>, clap::Error> {
@@ -41,6 +31,7 @@ fn command<'a>(alloc: Global) -> Result<Command<'a>, clap::Error> {
     Ok(
         Command::new(alloc, "castd")
             .about("A group communication daemon")
+            .version(VERSION)
             .subcommand_required(true)
             .subcommand(replay)?,
     )

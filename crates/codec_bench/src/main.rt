@@ -4,7 +4,8 @@
 #![tactic(auto)]
 
 use anyhow::{Result, bail};
-use cast_frame::{Body, SiteFrame, decode_site, encode_site};
+use cast_frame::{decode_site, encode_site};
+use cast_message::{Body, SiteFrame};
 use std::alloc::Global;
 use std::rt::{Clock, Env, Files};
 use std::time::Instant;

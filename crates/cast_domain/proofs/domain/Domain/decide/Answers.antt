@@ -2,8 +2,8 @@ use Rattle.std.proofs.Common.{◌≡◌, ◌<◌, ◌∙◌, sym, ap, true, fals
 use Rattle.std.specs.Prelude.{if◌then◌else◌}
 use Rattle.std.specs.List.{fold}
 use Rattle.cast_types.specs.Places.{update}
-use Rattle.cast_domain.specs.Group.{sites_of}
-use Rattle.cast_domain.specs.Home.{may_decide, decided, after_decision}
+use Rattle.cast_model.specs.Group.{sites_of}
+use Rattle.cast_model.specs.Home.{may_decide, decided, after_decision}
 use Rattle.cast_domain.specs.Records.{records_of}
 use Rattle.cast_domain.specs.Calls.{record_at, send_install_in}
 use Rattle.cast_domain.proofs.Loops.{record_at_update, update_same, update_still}

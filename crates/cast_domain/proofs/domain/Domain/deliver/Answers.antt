@@ -1,8 +1,8 @@
 use Rattle.std.proofs.Common.{◌≡◌, ◌∙◌, sym, ap, Some}
 use Rattle.std.specs.Option.{option_copied, option_map_or}
 use Rattle.cast_types.specs.Names.{is_atomic}
-use Rattle.cast_frame.specs.Bodies.{kind_of}
-use Rattle.cast_frame.specs.Receipts.{message_under}
+use Rattle.cast_message.specs.Bodies.{kind_of}
+use Rattle.cast_message.specs.Receipts.{message_under}
 use Rattle.cast_domain.specs.Records.{records_in, records_of}
 use Rattle.cast_domain.specs.Calls.{note_if_in, push_in, take_delivery_in, deliver_message_in}
 use Rattle.cast_domain.proofs.Loops.{keeps_then, seen_as}

@@ -1,6 +1,6 @@
 use Rattle.std.proofs.Common.{◌∙◌, ap}
 use Rattle.cast_types.specs.declared.names.Standing.TheVariants.{Member}
-use Rattle.cast_frame.specs.declared.client.Push.TheVariants as push
+use Rattle.cast_message.specs.declared.client.Push.TheVariants as push
 use Rattle.cast_delay.specs.declared.row.Fact.TheVariants as fact
 use Rattle.cast_domain.specs.Records.{records_of}
 use Rattle.cast_domain.specs.Calls.{push_in, tell_in}

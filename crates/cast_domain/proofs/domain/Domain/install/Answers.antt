@@ -2,10 +2,10 @@ use Rattle.std.proofs.Common.{◌≡◌, ◌∙◌, sym, ap, true}
 use Rattle.std.specs.Prelude.{if◌then◌else◌}
 use Rattle.std.proofs.lemmas.Result.{on_ok_weaker}
 use Rattle.cast_types.specs.Names.{site_eq}
-use Rattle.cast_frame.specs.declared.site.SiteFrame.TheVariants as frame
-use Rattle.cast_domain.specs.declared.group.Verdict.{Verdict}
-use Rattle.cast_domain.specs.declared.group.Verdict.TheVariants.{Again, Completes, Ignored}
-use Rattle.cast_domain.specs.Group.{verdict_of}
+use Rattle.cast_message.specs.declared.site.SiteFrame.TheVariants as frame
+use Rattle.cast_model.specs.declared.group.Verdict.{Verdict}
+use Rattle.cast_model.specs.declared.group.Verdict.TheVariants.{Again, Completes, Ignored}
+use Rattle.cast_model.specs.Group.{verdict_of}
 use Rattle.cast_domain.specs.Records.{Records, records_of}
 use Rattle.cast_domain.specs.Calls.{record_at, send_in, complete_in}
 use Rattle.cast_domain.proofs.domain.Domain.install.Goals as goal

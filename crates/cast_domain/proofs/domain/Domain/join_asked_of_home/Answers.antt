@@ -3,8 +3,8 @@ use Rattle.std.specs.Prelude.{if◌then◌else◌, ◌==◌, nat_le, not}
 use Rattle.std.proofs.lemmas.Bool.Decides.{nat_tests}
 use Rattle.std.proofs.lemmas.Result.{on_ok_weaker}
 use Rattle.cast_types.specs.Places.{update}
-use Rattle.cast_frame.specs.declared.site.SiteFrame.TheVariants as frame
-use Rattle.cast_domain.specs.Home.{applied_of, after_request}
+use Rattle.cast_message.specs.declared.site.SiteFrame.TheVariants as frame
+use Rattle.cast_model.specs.Home.{applied_of, after_request}
 use Rattle.cast_domain.specs.Records.{Records, records_of}
 use Rattle.cast_domain.specs.Calls.{asked_frame_at, is_home_in, record_at, send_in}
 use Rattle.cast_domain.proofs.domain.Domain.join_asked_of_home.Goals as goal

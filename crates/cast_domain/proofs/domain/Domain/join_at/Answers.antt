@@ -4,7 +4,7 @@ use Rattle.std.proofs.lemmas.Bool.Decides.{nat_tests}
 use Rattle.cast_types.specs.declared.limits.TheConstants.{MAX_NUMBER}
 use Rattle.cast_types.specs.declared.names.Standing.TheVariants.{Joining}
 use Rattle.cast_clock.specs.Times.{view_of}
-use Rattle.cast_frame.specs.declared.site.Change.TheVariants as change
+use Rattle.cast_message.specs.declared.site.Change.TheVariants as change
 use Rattle.cast_delay.specs.Ready.{is_outside}
 use Rattle.cast_delay.specs.declared.row.Fact.TheVariants as fact
 use Rattle.cast_domain.specs.Records.{records_in}

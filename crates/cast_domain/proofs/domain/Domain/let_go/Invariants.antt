@@ -1,6 +1,6 @@
 use Rattle.std.proofs.Common.{◌≡◌, drop}
 use Rattle.std.specs.List.{fold}
-use Rattle.cast_domain.specs.declared.event.Outs.{Outs}
+use Rattle.cast_model.specs.declared.event.Outs.{Outs}
 use Rattle.cast_domain.specs.Shared.{LeavesOthers}
 use Rattle.cast_domain.specs.Calls.{let_go_in, release_in}
 use Rattle.cast_domain.specs.Records.{Keeps, records_in}

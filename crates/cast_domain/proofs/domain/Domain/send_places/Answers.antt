@@ -1,6 +1,6 @@
 use Rattle.std.proofs.Common.{◌≡◌, ◌∙◌, ap}
 use Rattle.cast_clock.specs.Times.{bumped, count_in}
-use Rattle.cast_frame.specs.declared.message.Body.TheVariants as body
+use Rattle.cast_message.specs.declared.message.Body.TheVariants as body
 use Rattle.cast_delay.specs.declared.row.Fact.TheVariants as fact
 use Rattle.cast_order.specs.Log.{assigned, change_log}
 use Rattle.cast_domain.specs.Records.{records_in}

@@ -1,10 +1,11 @@
 use Rattle.std.proofs.Common.{◌≡◌, ◌++◌, ◌∙◌, sym, ap, subst}
-use Rattle.cast_domain.specs.declared.config.DomainConfig.{DomainConfig}
+use Rattle.cast_model.specs.declared.config.DomainConfig.{DomainConfig}
 use Rattle.cast_domain.specs.Run.{before_event}
 use Rattle.cast_domain.specs.Step.{acted}
 use Rattle.cast_domain.specs.State.{let_go}
 use Rattle.cast_domain.specs.Shared.{part_of}
-use Rattle.cast_domain.specs.Records.{no_outs, outs_then, records_in, records_of}
+use Rattle.cast_model.specs.Outs.{no_outs, outs_then}
+use Rattle.cast_domain.specs.Records.{records_in, records_of}
 use Rattle.cast_domain.specs.Stepped.{step_outs}
 use Rattle.cast_domain.specs.Calls.{act_in}
 use Rattle.cast_domain.specs.Fits.{Fits, IsLawful}

@@ -3,8 +3,9 @@ use Rattle.std.specs.Prelude.{◌&&◌, if◌then◌else◌, slice_get}
 use Rattle.cast_delay.specs.declared.turn.Turn.TheVariants.{Holding, Following}
 use Rattle.cast_delay.specs.Queue.{passed_in}
 use Rattle.cast_order.specs.Log.{log_of, next_in, has_room_in}
-use Rattle.cast_domain.specs.Group.{holder_of, is_process}
-use Rattle.cast_domain.specs.Records.{no_outs, records_in}
+use Rattle.cast_model.specs.Group.{holder_of, is_process}
+use Rattle.cast_model.specs.Outs.{no_outs}
+use Rattle.cast_domain.specs.Records.{records_in}
 use Rattle.cast_domain.specs.Shared.{part_of}
 use Rattle.cast_domain.specs.Calls.{has_order_room_in, settled_in}
 use Rattle.cast_domain.proofs.domain.Domain.turn.Goals as goal

@@ -3,7 +3,8 @@ use Rattle.std.proofs.lemmas.List.{map-append, take_more}
 use Rattle.cast_types.specs.declared.names.GroupNo.{GroupNo}
 use Rattle.cast_delay.specs.declared.turn.Turn.{Turn}
 use Rattle.cast_domain.specs.declared.record.GroupRecord.{GroupRecord}
-use Rattle.cast_domain.specs.Records.{no_outs, records_in}
+use Rattle.cast_model.specs.Outs.{no_outs}
+use Rattle.cast_domain.specs.Records.{records_in}
 use Rattle.cast_domain.specs.Calls.{turn_at}
 use Rattle.cast_domain.proofs.domain.Domain.turns.Goals as goal
 

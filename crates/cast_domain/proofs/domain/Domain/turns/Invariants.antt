@@ -1,5 +1,6 @@
 use Rattle.std.proofs.Common.{◌≡◌, map, take}
-use Rattle.cast_domain.specs.Records.{no_outs, records_in}
+use Rattle.cast_model.specs.Outs.{no_outs}
+use Rattle.cast_domain.specs.Records.{records_in}
 use Rattle.cast_domain.specs.Calls.{turn_at}
 use Rattle.cast_domain.proofs.domain.Domain.turns.Given as goal
 

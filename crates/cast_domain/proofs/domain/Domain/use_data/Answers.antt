@@ -1,6 +1,6 @@
 use Rattle.std.proofs.Common.{◌≡◌, ◌∙◌, sym, ap, true, false}
 use Rattle.std.specs.Prelude.{if◌then◌else◌}
-use Rattle.cast_frame.specs.declared.site.SiteFrame.TheVariants as frame
+use Rattle.cast_message.specs.declared.site.SiteFrame.TheVariants as frame
 use Rattle.cast_stable.specs.Ledger.{is_received_in}
 use Rattle.cast_domain.specs.Records.{Records, records_in}
 use Rattle.cast_domain.specs.Calls.{acknowledge_in, may_take_in, receive_in, send_in}

@@ -1,5 +1,5 @@
 use Rattle.std.proofs.Common.{◌≡◌, ◌+◌, ◌++◌, ◌∷◌, [], refl, rules}
-use Rattle.cast_frame.specs.declared.message.Received.{Received}
+use Rattle.cast_message.specs.declared.message.Received.{Received}
 use Rattle.cast_store.proofs.Keys.{rising_push, free_next}
 use Rattle.cast_store.proofs.row.Row.put.Goals as goal
 

@@ -1,8 +1,8 @@
 use Rattle.std.proofs.Common.{◌≡◌, List, Option, Some, None, ap, sym, ◌∙◌, not, rules}
 use Rattle.std.specs.Option.{option_map}
 use Rattle.std.specs.List.{find, position, remove}
-use Rattle.cast_frame.specs.declared.message.Received.{Received}
-use Rattle.cast_frame.specs.Receipts.{key_eq, message_under}
+use Rattle.cast_message.specs.declared.message.Received.{Received}
+use Rattle.cast_message.specs.Receipts.{key_eq, message_under}
 use Rattle.cast_store.specs.Store.{Shelf, without_key, but_under}
 use Rattle.cast_store.proofs.Finds.{find_place, find_no_place, keep_all}
 use Rattle.cast_store.proofs.Keys.{removed_is, rising_filter}

@@ -1,7 +1,7 @@
 use Rattle.std.proofs.Common.{◌≡◌, ◌∙◌, List, get_or, Some, None, ap, sym, refl}
 use Rattle.std.specs.List.{position}
-use Rattle.cast_frame.specs.declared.message.Received.{Received}
-use Rattle.cast_frame.specs.Receipts.{message_under}
+use Rattle.cast_message.specs.declared.message.Received.{Received}
+use Rattle.cast_message.specs.Receipts.{message_under}
 use Rattle.cast_store.specs.Store.{Shelf, is_of, kept_in, next_in, without_key, but_under}
 use Rattle.cast_store.proofs.Shelves.{empty, kept_at, next_at, kept_absent, kept_changed, next_changed, others_changed}
 use Rattle.cast_store.proofs.store.Store.remove.Goals as goal

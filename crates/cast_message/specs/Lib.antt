@@ -1,0 +1,9 @@
+pub mod Bodies
+pub mod Receipts
+pub mod Rising
+pub mod Membership
+pub mod Stretch
+pub mod Sequence
+pub mod Keeping
+pub mod Fitting
+pub mod Replies

@@ -1,0 +1,51 @@
+-- A set in rising order stays so when an item is added.
+use Rattle.std.proofs.Common.{◌≡◌, true, List, [], ◌∷◌, Ordering, Less, Equal, Greater, refl, ap, ◌∙◌}
+use Rattle.std.specs.List.{list_all}
+use Rattle.std.specs.Ordering.{is_lt, ordering_reverse}
+use Rattle.std.specs.Cmp.{IsTotalOrder}
+use Rattle.std.proofs.lemmas.Bool.{and_parts, and_from, false≢true}
+use Rattle.cast_types.specs.Sets.{with_item, at_order}
+use Rattle.cast_message.specs.Rising.{is_rising}
+
+-- what is less is Less
+less_is : (o : Ordering) → is_lt o ≡ true → o ≡ Less
+less_is Less h = refl
+less_is Equal h = absurd (false≢true h)
+less_is Greater h = absurd (false≢true h)
+
+module _ {A : Type 0} (cmp : A → A → Ordering) (total : IsTotalOrder cmp) where
+  -- what is below the first of a list is below each of it
+  below_more : (x y : A) (ys : List A) → cmp x y ≡ Less → list_all (λ z. is_lt (cmp y z)) ys ≡ true → list_all (λ z. is_lt (cmp x z)) ys ≡ true
+  below_more x y [] less all = refl
+  below_more x y (z ∷ zs) less all =
+      let parts = and_parts (is_lt (cmp y z)) (list_all (λ w. is_lt (cmp y w)) zs) all in
+      and_from (is_lt (cmp x z)) (list_all (λ w. is_lt (cmp x w)) zs)
+      (ap is_lt (total.trans x y z less (less_is (cmp y z) parts.0)))
+      (below_more x y zs less parts.1)
+
+  -- what is below an item and below each of a set is below each of both
+  below_both : (z x : A) (xs : List A) → cmp z x ≡ Less → list_all (λ y. is_lt (cmp z y)) xs ≡ true → list_all (λ y. is_lt (cmp z y)) (with_item cmp x xs) ≡ true
+  below_both z x [] less all = and_from (is_lt (cmp z x)) true (ap is_lt less) refl
+  below_both z x (y ∷ ys) less all =
+      let parts = and_parts (is_lt (cmp z y)) (list_all (λ w. is_lt (cmp z w)) ys) all in
+      elim (cmp x y) as (λ o. list_all (λ w. is_lt (cmp z w)) (at_order o (x ∷ y ∷ ys) (y ∷ ys) (y ∷ with_item cmp x ys)) ≡ true) [
+        | Less ↦ and_from (is_lt (cmp z x)) (list_all (λ w. is_lt (cmp z w)) (y ∷ ys)) (ap is_lt less) all
+        | Equal ↦ all
+        | Greater ↦ and_from (is_lt (cmp z y)) (list_all (λ w. is_lt (cmp z w)) (with_item cmp x ys)) parts.0 (below_both z x ys less parts.1)
+      ]
+
+  pub rising-with_item : (x : A) (xs : List A) → is_rising cmp xs ≡ true → is_rising cmp (with_item cmp x xs) ≡ true
+  rising-with_item x [] rising = refl
+  rising-with_item x (y ∷ ys) rising =
+      let parts = and_parts (list_all (λ z. is_lt (cmp y z)) ys) (is_rising cmp ys) rising in
+      elim (cmp x y) as (λ o. cmp x y ≡ o → is_rising cmp (at_order o (x ∷ y ∷ ys) (y ∷ ys) (y ∷ with_item cmp x ys)) ≡ true) [
+        | Less ↦ λ is.
+            and_from (list_all (λ z. is_lt (cmp x z)) (y ∷ ys)) (is_rising cmp (y ∷ ys))
+            (and_from (is_lt (cmp x y)) (list_all (λ z. is_lt (cmp x z)) ys) (ap is_lt is) (below_more x y ys is parts.0))
+            rising
+        | Equal ↦ λ is. rising
+        | Greater ↦ λ is.
+            and_from (list_all (λ z. is_lt (cmp y z)) (with_item cmp x ys)) (is_rising cmp (with_item cmp x ys))
+            (below_both y x ys (total.antisymm y x ∙ ap ordering_reverse is) parts.0)
+            (rising-with_item x ys parts.1)
+      ] refl

@@ -1,0 +1,6 @@
+pub mod Events
+pub mod Outs
+pub mod Session
+pub mod Group
+pub mod Phase
+pub mod Home

@@ -1,0 +1,10 @@
+pub mod Places
+pub mod Turns
+pub mod Applies
+pub mod Parts
+pub mod Runs
+pub mod Served
+pub mod Named
+pub mod Ticked
+pub mod SoFars
+pub mod Replayed

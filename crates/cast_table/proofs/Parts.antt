@@ -1,0 +1,104 @@
+-- The part of one domain in lists of events, answers and frames.
+use Rattle.std.proofs.Common.{◌≡◌, ℕ, Bool, true, false, cond, List, [], ◌∷◌, ◌++◌, map, filter, length, Some, None, Result, refl, sym, ap, ◌∙◌, arith}
+use Rattle.std.specs.Prelude.{◌||◌}
+use Rattle.std.specs.Option.{option_map_or}
+use Rattle.std.proofs.Math.Bool.{or-false, or_assoc}
+use Rattle.std.proofs.lemmas.Bool.{eqb-true, eq-eqb, false≢true, false_from_ne_true}
+use Rattle.std.proofs.lemmas.List.{map-append}
+use Rattle.std.proofs.lemmas.List.Elements.{filter-append}
+use Rattle.cast_types.specs.declared.names.DomainNo.{DomainNo}
+use Rattle.cast_types.specs.declared.names.SiteNo.{SiteNo}
+use Rattle.cast_message.specs.declared.site.SiteFrame.{SiteFrame}
+use Rattle.cast_model.specs.declared.event.Event.{Event}
+use Rattle.cast_model.specs.declared.event.Taken.{Taken}
+use Rattle.cast_model.specs.Events.{domain_of}
+use Rattle.cast_domain.specs.Fits.{tagged}
+use Rattle.cast_model.specs.declared.log.Fault.{Fault}
+use Rattle.cast_table.specs.Tables.{domain_eq}
+use Rattle.cast_table.specs.Replays.{names, is_own, own, named_answers, some_answer, frames_of}
+
+abbrev pub Sent : Type 0
+Sent = DomainNo × SiteNo × SiteFrame
+
+pub same_domain : (a b : DomainNo) → domain_eq a b ≡ true → a ≡ b
+same_domain a b h = ap (λ (n : ℕ). record { 0 = n }) (eqb-true a.0 b.0 h)
+
+pub domain_itself : (a : DomainNo) → domain_eq a a ≡ true
+domain_itself a = eq-eqb a.0 a.0 refl
+
+pub domain_flipped : (a b : DomainNo) → domain_eq a b ≡ false → domain_eq b a ≡ false
+domain_flipped a b h =
+    false_from_ne_true (domain_eq b a) (λ e. false≢true (sym h ∙ ap (domain_eq a) (same_domain b a e) ∙ domain_itself a))
+
+-- which events are a domain's own
+
+pub named_own : (d : DomainNo) (e : Event) → names d e ≡ true → is_own d e ≡ true
+named_own d e named =
+    elim (domain_of e) as (λ o. option_map_or (λ n. domain_eq n d) o false ≡ true → option_map_or (λ n. domain_eq n d) o true ≡ true) [
+      | None ↦ λ wrong. absurd (false≢true wrong)
+      | Some n ↦ λ same. same
+    ] named
+
+pub other_unnamed : (d : DomainNo) (e : Event) → is_own d e ≡ false → names d e ≡ false
+other_unnamed d e other =
+    false_from_ne_true (names d e) (λ named. false≢true (sym other ∙ named_own d e named))
+
+-- one more event
+
+pub own_more : (d : DomainNo) (events : List Event) (e : Event) → own d (events ++ e ∷ []) ≡ own d events ++ own d (e ∷ [])
+own_more d events e = filter-append (is_own d) events (e ∷ [])
+
+push_chosen : {X : Type 0} (b : Bool) (x : X) (xs ys : List X) → cond b (x ∷ (xs ++ ys)) (xs ++ ys) ≡ cond b (x ∷ xs) xs ++ ys
+push_chosen true x xs ys = refl
+push_chosen false x xs ys = refl
+
+pub named_more : {X : Type 0} (d : DomainNo) (events : List Event) (answers : List X) (e : Event) (a : X) → length events ≡ length answers → named_answers d (events ++ e ∷ []) (answers ++ a ∷ []) ≡ named_answers d events answers ++ named_answers d (e ∷ []) (a ∷ [])
+named_more d [] [] e a long = refl
+named_more d [] (b ∷ answers) e a long = absurd (omega arith)
+named_more d (f ∷ events) [] e a long = absurd (omega arith)
+named_more d (f ∷ events) (b ∷ answers) e a long =
+    ap (λ rest. cond (names d f) (b ∷ rest) rest) (named_more d events answers e a (omega arith))
+    ∙ push_chosen (names d f) b (named_answers d events answers) (named_answers d (e ∷ []) (a ∷ []))
+
+pub some_more : (is : Event → Result Taken Fault → Bool) (events : List Event) (answers : List (Result Taken Fault)) (e : Event) (a : Result Taken Fault) → length events ≡ length answers → some_answer is (events ++ e ∷ []) (answers ++ a ∷ []) ≡ (some_answer is events answers || is e a)
+some_more is [] [] e a long = or-false (is e a)
+some_more is [] (b ∷ answers) e a long = absurd (omega arith)
+some_more is (f ∷ events) [] e a long = absurd (omega arith)
+some_more is (f ∷ events) (b ∷ answers) e a long =
+    ap (λ rest. is f b || rest) (some_more is events answers e a (omega arith))
+    ∙ sym (or_assoc (is f b) (some_answer is events answers) (is e a))
+
+-- where the event is the domain's own, and where it is not
+
+pub own_one : (d : DomainNo) (e : Event) → is_own d e ≡ true → own d (e ∷ []) ≡ e ∷ []
+own_one d e its = ap (λ b. cond b (e ∷ []) []) its
+
+pub own_none : (d : DomainNo) (e : Event) → is_own d e ≡ false → own d (e ∷ []) ≡ []
+own_none d e other = ap (λ b. cond b (e ∷ []) []) other
+
+pub named_one : {X : Type 0} (d : DomainNo) (e : Event) (a : X) → names d e ≡ true → named_answers d (e ∷ []) (a ∷ []) ≡ a ∷ []
+named_one d e a named = ap (λ b. cond b (a ∷ []) []) named
+
+pub named_none : {X : Type 0} (d : DomainNo) (e : Event) (a : X) → names d e ≡ false → named_answers d (e ∷ []) (a ∷ []) ≡ []
+named_none d e a unnamed = ap (λ b. cond b (a ∷ []) []) unnamed
+
+-- more frames
+
+pub frames_more : (d : DomainNo) (before more : List Sent) → frames_of d (before ++ more) ≡ frames_of d before ++ frames_of d more
+frames_more d before more =
+    ap (map (λ (f : Sent). (f.1, f.2))) (filter-append (λ (f : Sent). domain_eq f.0 d) before more)
+    ∙ map-append (λ (f : Sent). (f.1, f.2)) (filter (λ f. domain_eq f.0 d) before) (filter (λ f. domain_eq f.0 d) more)
+
+pub frames_own : (d : DomainNo) (sent : List (SiteNo × SiteFrame)) → frames_of d (tagged d sent) ≡ sent
+frames_own d [] = refl
+frames_own d (x ∷ sent) =
+    let rest : List Sent = filter (λ (f : Sent). domain_eq f.0 d) (tagged d sent) in
+    ap (λ b. map (λ (f : Sent). (f.1, f.2)) (cond b ((d, x.0, x.1) ∷ rest) rest)) (domain_itself d)
+    ∙ ap (λ (later : List (SiteNo × SiteFrame)). x ∷ later) (frames_own d sent)
+
+pub frames_other : (d q : DomainNo) (sent : List (SiteNo × SiteFrame)) → domain_eq d q ≡ false → frames_of q (tagged d sent) ≡ []
+frames_other d q [] differ = refl
+frames_other d q (x ∷ sent) differ =
+    let rest : List Sent = filter (λ (f : Sent). domain_eq f.0 q) (tagged d sent) in
+    ap (λ b. map (λ (f : Sent). (f.1, f.2)) (cond b ((d, x.0, x.1) ∷ rest) rest)) differ
+    ∙ frames_other d q sent differ

@@ -1,0 +1,186 @@
+-- What one event does to a table of domains.
+use Rattle.std.specs.Prelude.{◌≡◌, ◌==◌, nat_le, if◌then◌else◌, ℕ, Bool, true, false, List, [], ◌∷◌, ◌++◌, Option, Some, None, Result, Ok, Err, slice_get, slice_set}
+use Rattle.std.specs.List.{list_any, list_all, position_from}
+use Rattle.cast_types.specs.declared.names.DomainNo.{DomainNo}
+use Rattle.cast_types.specs.declared.names.SiteNo.{SiteNo}
+use Rattle.cast_types.specs.declared.refusal.Refusal.TheVariants as refusal
+use Rattle.cast_types.specs.Names.{group_cmp}
+use Rattle.cast_message.specs.Rising.{is_rising}
+use Rattle.cast_model.specs.declared.config.DomainConfig.{DomainConfig}
+use Rattle.cast_domain.specs.declared.domain.Domain.{Domain}
+use Rattle.cast_model.specs.declared.event.Event.{Event}
+use Rattle.cast_model.specs.declared.event.Outs.{Outs}
+use Rattle.cast_model.specs.declared.event.Taken.{Taken}
+use Rattle.cast_model.specs.declared.event.Taken.TheVariants.{Nothing, Refused}
+use Rattle.cast_domain.specs.declared.shared.Shared.{Shared}
+use Rattle.cast_model.specs.Events.{domain_of}
+use Rattle.cast_domain.specs.Records.{number_of, is_halted, used_of, IsFor}
+use Rattle.cast_domain.specs.Shared.{Part, part_of, no_part, LeavesOthers}
+use Rattle.cast_domain.specs.State.{opening}
+use Rattle.cast_domain.specs.Fits.{Means}
+use Rattle.cast_domain.specs.Stepped.{IsStepped}
+use Rattle.cast_model.specs.declared.log.Fault.{Fault}
+use Rattle.cast_model.specs.declared.log.Fault.TheVariants.{NoMemory, Halted, NoDomain}
+use Rattle.cast_table.specs.declared.table.Table.{Table}
+
+abbrev pub domain_eq : DomainNo → DomainNo → Bool
+domain_eq d e = d.0 == e.0
+
+-- the domains of a table, in order
+abbrev pub domains_of : Table → List Domain
+domains_of table = table.domains.items
+
+-- where the first domain of a number stands
+abbrev pub place_named : DomainNo → List Domain → Option ℕ
+place_named number domains = position_from (λ d. domain_eq (number_of d) number) 0 domains
+
+-- nothing of any domain is among what is shared
+abbrev pub SharesNothing : Table → Type 0
+SharesNothing table = (d : DomainNo) → part_of d table.shared ≡ no_part
+
+-- a domain of this configuration at this site, before its first event
+pub record IsNew (here : SiteNo) (config : DomainConfig) (d : Domain) : Type 0 where
+  pub number : number_of d ≡ config.domain
+  pub running : is_halted d ≡ false
+  pub placed : IsFor here config d
+  pub unused : used_of d ≡ 0
+  pub begins : is_rising group_cmp config.groups ≡ true → Means d no_part (opening here config)
+
+-- what domains are lent for their steps: what they share, and where they add what they send and deliver
+pub record Lent : Type 0 where
+  pub shared : Shared
+  pub outs : Outs
+
+abbrev pub lent : Table → Outs → Lent
+lent table outs = record { shared = table.shared; outs = outs }
+
+-- the same where the halted domains are noted apart
+abbrev pub lending : Shared → Outs → List DomainNo → Lent
+lending shared outs halted = record { shared = shared; outs = record outs { halted = halted } }
+
+-- the part of a domain in what is lent
+abbrev pub part_in : Lent → Domain → Part
+part_in l d = part_of (number_of d) l.shared
+
+-- a domain answers an event: it makes its step, or, where it is halted, refuses and is left as it is
+pub record IsTaken (old : Domain) (event : Event) (taken : Taken) (new : Domain) (before : Lent) (after : Lent) : Type 0 where
+  pub number : number_of new ≡ number_of old
+  pub halted : is_halted new ≡ is_halted old
+  pub steps : is_halted old ≡ false → IsStepped old (part_in before old) event taken new (part_in after old) before.outs after.outs
+  pub refuses : is_halted old ≡ true → (taken ≡ Refused refusal.Halted) × (new ≡ old) × (after ≡ before)
+  pub others : LeavesOthers (number_of old) before.shared after.shared
+
+-- a domain finds no memory in its step: it is halted and noted, and nothing is sent or delivered
+pub record IsHalting (old : Domain) (new : Domain) (before : Lent) (after : Lent) : Type 0 where
+  pub number : number_of new ≡ number_of old
+  pub ran : is_halted old ≡ false
+  pub stops : is_halted new ≡ true
+  pub outs : after.outs ≡ record (before.outs) { halted = before.outs.halted ++ number_of old ∷ [] }
+  pub others : LeavesOthers (number_of old) before.shared after.shared
+
+-- what an event does to a domain whose turn it is
+abbrev pub IsTurn : Result Taken Fault → Event → Domain → Domain → Lent → Lent → Type 0
+IsTurn (Ok taken) event old new before after = IsTaken old event taken new before after
+IsTurn (Err NoMemory) event old new before after = (new ≡ old) × (after ≡ before)
+IsTurn (Err (Halted d)) event old new before after = (d ≡ number_of old) × IsHalting old new before after
+IsTurn (Err NoDomain) event old new before after = ⊥
+
+-- An event that names a domain
+
+-- one domain takes an event, and every other domain stays as it is
+pub record IsTurnAt (place : ℕ) (answer : Result Taken Fault) (event : Event) (old : List Domain) (new : List Domain) (before : Lent) (after : Lent) : Type 0 where
+  pub domain : Domain
+  pub next : Domain
+  pub stands : slice_get old place ≡ Some domain
+  pub others : new ≡ slice_set old place next
+  pub turn : IsTurn answer event domain next before after
+
+-- what an event does where the domain that it names stands here, or nowhere
+abbrev pub IsAppliedAt : Option ℕ → Result Taken Fault → Event → List Domain → List Domain → Lent → Lent → Type 0
+IsAppliedAt None answer event old new before after = (answer ≡ Err NoDomain) × (new ≡ old) × (after ≡ before)
+IsAppliedAt (Some place) answer event old new before after = IsTurnAt place answer event old new before after
+
+-- A tick
+
+-- what a domain answers in its turn, by whether it was halted and whether it is now
+abbrev pub answer_in_turn : Domain → Domain → Result Taken Fault
+answer_in_turn old new =
+    if is_halted old then Ok (Refused refusal.Halted) else if is_halted new then Err (Halted (number_of old)) else Ok Nothing
+
+-- each domain takes the event in its turn, with what the ones before it left of what is lent
+abbrev pub AreTurns : Event → List Domain → List Domain → Lent → Lent → Type 0
+AreTurns event [] [] before after = after ≡ before
+AreTurns event [] (new ∷ news) before after = ⊥
+AreTurns event (old ∷ olds) [] before after = ⊥
+AreTurns event (old ∷ olds) (new ∷ news) before after =
+    (between : Lent) × IsTurn (answer_in_turn old new) event old new before between × AreTurns event olds news between after
+
+-- the domain that a turn halted
+abbrev pub halted_by : Result Taken Fault → List DomainNo
+halted_by (Ok taken) = []
+halted_by (Err NoMemory) = []
+halted_by (Err (Halted d)) = d ∷ []
+halted_by (Err NoDomain) = []
+
+-- the domains that were halted in their turns, in order
+abbrev pub stopped : List Domain → List Domain → List DomainNo
+stopped [] news = []
+stopped (old ∷ olds) [] = []
+stopped (old ∷ olds) (new ∷ news) = halted_by (answer_in_turn old new) ++ stopped olds news
+
+-- the lower of two numbers, where the first is there
+abbrev pub lower : Option DomainNo → DomainNo → DomainNo
+lower None d = d
+lower (Some e) d = if nat_le e.0 d.0 then e else d
+
+-- a number is one of these, and none of them is below it
+pub record IsLeast (d : DomainNo) (numbers : List DomainNo) : Type 0 where
+  pub among : list_any (domain_eq d) numbers ≡ true
+  pub lowest : list_all (λ e. nat_le d.0 e.0) numbers ≡ true
+
+-- the least of these, if there is any
+abbrev pub IsLeastOf : Option DomainNo → List DomainNo → Type 0
+IsLeastOf None numbers = numbers ≡ []
+IsLeastOf (Some d) numbers = IsLeast d numbers
+
+-- what a tick does to domains: all take it in turn, and the answer tells the least number of those that it halted
+abbrev pub IsTicked : Result Taken Fault → Event → List Domain → List Domain → Lent → Lent → Type 0
+IsTicked (Ok taken) event old new before after =
+    (taken ≡ Nothing) × IsLeastOf None (stopped old new) × AreTurns event old new before after
+IsTicked (Err NoMemory) event old new before after = (new ≡ old) × (after ≡ before)
+IsTicked (Err (Halted d)) event old new before after = IsLeastOf (Some d) (stopped old new) × AreTurns event old new before after
+IsTicked (Err NoDomain) event old new before after = ⊥
+
+-- Any event
+
+-- the first domain of the number that the event names takes it, or all take it in turn
+abbrev pub IsAppliedTo : Option DomainNo → Result Taken Fault → Event → List Domain → List Domain → Lent → Lent → Type 0
+IsAppliedTo None answer event old new before after = IsTicked answer event old new before after
+IsAppliedTo (Some d) answer event old new before after = IsAppliedAt (place_named d old) answer event old new before after
+
+-- what an event does to domains
+abbrev pub IsApplied : Result Taken Fault → Event → List Domain → List Domain → Lent → Lent → Type 0
+IsApplied answer event old new before after = IsAppliedTo (domain_of event) answer event old new before after
+
+-- nothing is changed where no domain is named, or where there is no memory to begin with
+abbrev pub IsUnchanged : Result Taken Fault → Table → Table → Outs → Outs → Type 0
+IsUnchanged (Ok taken) old new before after = Unit {0}
+IsUnchanged (Err NoMemory) old new before after = (new ≡ old) × (after ≡ before)
+IsUnchanged (Err (Halted d)) old new before after = Unit {0}
+IsUnchanged (Err NoDomain) old new before after = (new ≡ old) × (after ≡ before)
+
+-- the domain that is named is noted as halted exactly where its step halts it
+abbrev pub NotesOne : Result Taken Fault → DomainNo → List DomainNo → List DomainNo → Type 0
+NotesOne (Ok taken) named before after = after ≡ before
+NotesOne (Err NoMemory) named before after = after ≡ before
+NotesOne (Err (Halted d)) named before after = (d ≡ named) × (after ≡ before ++ d ∷ [])
+NotesOne (Err NoDomain) named before after = after ≡ before
+
+-- and at a tick each domain whose step halts it
+abbrev pub NotesHaltsOf : Option DomainNo → Result Taken Fault → List Domain → List Domain → List DomainNo → List DomainNo → Type 0
+NotesHaltsOf None answer old new before after = after ≡ before ++ stopped old new
+NotesHaltsOf (Some d) answer old new before after = NotesOne answer d before after
+
+-- domains are noted as halted exactly where their steps halt them
+abbrev pub NotesHalts : Result Taken Fault → Event → List Domain → List Domain → List DomainNo → List DomainNo → Type 0
+NotesHalts answer event old new before after = NotesHaltsOf (domain_of event) answer old new before after

@@ -1,0 +1,283 @@
+ghost use Rattle.std.specs.Prelude.{◌≡◌, ◌≢◌, ◌<◌, ◌≤◌, ◌+◌, ◌++◌, Err, IfOk, IfSome, None, OnErr, OnOk, length, map, vec_len};
+ghost use Rattle.std.specs.List.{AllZip};
+ghost use Rattle.std.specs.Vec.{vec_capacity};
+ghost use Rattle.cast_model.specs.Events.{domain_of};
+ghost use Rattle.cast_table.specs.Tables.{AreTurns, IsApplied, IsAppliedAt, IsLeastOf, IsNew, IsTicked, IsTurn, IsUnchanged, NotesHalts, NotesOne, SharesNothing, answer_in_turn, domains_of, halted_by, lending, lent, lower, place_named, stopped};
+ghost use Rattle.cast_table.specs.Replays.{AnswersNoDomain, ServesEachAlone, frames_of, given_of, lacks_memory};
+
+use cast_domain::{Domain, Session, Shared};
+use cast_message::{Push, SiteFrame};
+use cast_model::{Config, Event, Fault, Given, Log, Outs, Taken};
+use cast_types::{DomainNo, Listed, NoMemory, SiteNo};
+use std::alloc::{AllocError, Global};
+use std::mem;
+
+/// The domains of a daemon, in the order of its configuration, and what they share.
+#[derive(Drop)]
+pub struct Table {
+    domains: Vec<Domain>,
+    shared: Shared,
+}
+
+impl Table {
+    /// Domains before their first event.
+    pub fn new(alloc: Global, config: Config) -> Result<Self, NoMemory>
+        ensures domains { IfOk result (λ table. AllZip (IsNew config.site) config.domains (domains_of table)) }
+        ensures unshared { IfOk result SharesNothing }
+    {
+        let Config { site, domains } = config;
+        let mut tenants = Vec::new(alloc);
+        for domain in domains.into_vec() {
+            tenants.push(Domain::new(alloc, site, domain)?)?;
+        }
+        Ok(Table {
+            domains: tenants,
+            shared: Shared::new(alloc),
+        })
+    }
+
+    /// Makes the step of the domain that the event names, or, at a tick, of every domain in turn: one that is halted is
+    /// left as it is, and where one finds no memory the others go on. What is sent and delivered, and each domain that is
+    /// halted, is added to `outs`.
+    pub fn apply(&mut self, event: &Event, outs: &mut Outs) -> Result<Taken, Fault>
+        ensures applied { IsApplied result event.now (domains_of self.old) (domains_of self.new) (lent self.old outs.old) (lent self.new outs.new) }
+        ensures unchanged { IsUnchanged result self.old self.new outs.old outs.new }
+        ensures halted { NotesHalts result event.now (domains_of self.old) (domains_of self.new) outs.old.halted outs.new.halted }
+    {
+        match event.domain() {
+            Some(number) => self.apply_named(number, event, outs),
+            None => self.apply_to_all(event, outs),
+        }
+    }
+
+    // Makes the step of the first domain of this number, which the event names.
+    fn apply_named(
+        &mut self,
+        number: DomainNo,
+        event: &Event,
+        outs: &mut Outs,
+    ) -> Result<Taken, Fault>
+        ensures applied { IsAppliedAt (place_named number (domains_of self.old)) result event.now (domains_of self.old) (domains_of self.new) (lent self.old outs.old) (lent self.new outs.new) }
+        ensures unchanged { IsUnchanged result self.old self.new outs.old outs.new }
+        ensures halted { NotesOne result number outs.old.halted outs.new.halted }
+    {
+        let Some(place) = place_of(&self.domains, number) else {
+            return Err(Fault::NoDomain);
+        };
+        let Ok(mut halted) = halted_with_room(outs, 1) else {
+            return Err(Fault::NoMemory);
+        };
+        let domain = &mut self.domains[place];
+        let taken = turn(domain, &mut self.shared, event, outs, &mut halted);
+        outs.halted = Listed::from_vec(halted);
+        taken
+    }
+
+    // Makes the steps of all domains in turn: the event is a tick.
+    fn apply_to_all(&mut self, event: &Event, outs: &mut Outs) -> Result<Taken, Fault>
+        requires { domain_of event.now ≡ None }
+        ensures applied { IsTicked result event.now (domains_of self.old) (domains_of self.new) (lent self.old outs.old) (lent self.new outs.new) }
+        ensures unchanged { IsUnchanged result self.old self.new outs.old outs.new }
+        ensures halted { outs.new.halted ≡ outs.old.halted ++ stopped (domains_of self.old) (domains_of self.new) }
+    {
+        let Ok(mut halted) = halted_with_room(outs, self.domains.len()) else {
+            return Err(Fault::NoMemory);
+        };
+        let noted = halted.len();
+        turns(
+            &mut self.domains,
+            &mut self.shared,
+            event,
+            outs,
+            &mut halted,
+        );
+        let least = least_of(&halted[noted..]);
+        outs.halted = Listed::from_vec(halted);
+        match least {
+            Some(number) => Err(Fault::Halted(number)),
+            None => Ok(Taken::Nothing),
+        }
+    }
+}
+
+// Where the first domain of a number stands.
+fn place_of(domains: &[Domain], number: DomainNo) -> Option<usize>
+    ensures named { result ≡ place_named number domains.now }
+    ensures within { IfSome result (λ i. i < length domains.now) }
+{
+    domains.iter().position(|domain| domain.number() == number)
+}
+
+// Takes the halted domains out, with room for so many more. `NoMemory` changes nothing.
+fn halted_with_room(outs: &mut Outs, more: usize) -> Result<Vec<DomainNo>, NoMemory>
+    ensures taken { IfOk result (λ halted. halted.items ≡ outs.old.halted) }
+    ensures room { IfOk result (λ halted. length halted.items + more ≤ vec_capacity halted) }
+    ensures rest { OnOk result ((outs.new.frames ≡ outs.old.frames) × (outs.new.delivered ≡ outs.old.delivered)) }
+    ensures err { OnErr result (outs.new ≡ outs.old) }
+{
+    let empty = Listed::new(outs.halted.alloc());
+    let mut halted = mem::replace(&mut outs.halted, empty).into_vec();
+    match halted.reserve(more) {
+        Ok(()) => Ok(halted),
+        Err(error) => {
+            outs.halted = Listed::from_vec(halted);
+            Err(error)
+        }
+    }
+}
+
+// The step of one domain. Where it finds no memory, it is noted as halted.
+fn turn(
+    domain: &mut Domain,
+    shared: &mut Shared,
+    event: &Event,
+    outs: &mut Outs,
+    halted: &mut Vec<DomainNo>,
+) -> Result<Taken, Fault>
+    requires { length halted.old.items < vec_capacity halted.old }
+    ensures turn { IsTurn result event.now domain.old domain.new (lending shared.old outs.old halted.old.items) (lending shared.new outs.new halted.new.items) }
+    ensures begun { result ≢ Err Fault.NoMemory }
+    ensures unnamed { domain_of event.now ≡ None → result ≡ answer_in_turn domain.old domain.new }
+    ensures noted { halted.new.items ≡ halted.old.items ++ halted_by result }
+    ensures room { vec_capacity halted.old ≤ vec_capacity halted.new }
+{
+    match domain.step(shared, event, outs) {
+        Ok(taken) => Ok(taken),
+        Err(_) => {
+            let number = domain.number();
+            halted.push(number).unwrap();
+            Err(Fault::Halted(number))
+        }
+    }
+}
+
+// The steps of all domains in turn: the event is a tick. Each that is halted is noted.
+fn turns(
+    domains: &mut Vec<Domain>,
+    shared: &mut Shared,
+    event: &Event,
+    outs: &mut Outs,
+    halted: &mut Vec<DomainNo>,
+)
+    requires unnamed { domain_of event.now ≡ None }
+    requires room { length halted.old.items + vec_len domains.old ≤ vec_capacity halted.old }
+    ensures turns { AreTurns event.now domains.old.items domains.new.items (lending shared.old outs.old halted.old.items) (lending shared.new outs.new halted.new.items) }
+    ensures noted { halted.new.items ≡ halted.old.items ++ stopped domains.old.items domains.new.items }
+{
+    for domain in domains.iter_mut() {
+        let _ = turn(domain, shared, event, outs, halted);
+    }
+}
+
+// The least of these numbers.
+fn least_of(numbers: &[DomainNo]) -> Option<DomainNo>
+    ensures { IsLeastOf result numbers.now }
+{
+    let mut least = None;
+    for number in numbers {
+        least = Some(lower(least, *number));
+    }
+    least
+}
+
+// The lower of two numbers, where the first is there.
+fn lower(least: Option<DomainNo>, number: DomainNo) -> DomainNo
+    ensures { result ≡ lower least number }
+{
+    match least {
+        Some(other) if other <= number => other,
+        _ => number,
+    }
+}
+
+/// Applies events one after another to a daemon that was just started. Each domain that want of memory does not halt
+/// answers, pushes and sends what it does where it is served alone, with no other event. `NoMemory` where an event finds
+/// no memory to begin with, or the log has no room.
+pub fn replay(alloc: Global, config: Config, events: &[Event]) -> Result<Log, NoMemory>
+    ensures all { IfOk result (λ log. length log.answers ≡ length events.now) }
+    ensures alone { IfOk result (λ log. ServesEachAlone config events.now log) }
+    ensures no_domain { IfOk result (λ log. AnswersNoDomain config events.now log) }
+{
+    let mut table = Table::new(alloc, config)?;
+    let mut outs = Outs::new(alloc);
+    let mut answers = Listed::new(alloc);
+    for event in events {
+        let answer = table.apply(event, &mut outs);
+        if lacks_memory(&answer) {
+            return Err(AllocError);
+        }
+        answers.push(answer)?;
+    }
+    let given = given_by_all(alloc, table, outs.frames.as_slice())?;
+    Ok(Log { answers, given })
+}
+
+// Whether there was no memory to begin with.
+fn lacks_memory(answer: &Result<Taken, Fault>) -> bool
+    ensures { result ≡ lacks_memory answer.now }
+{
+    matches!(answer, Err(Fault::NoMemory))
+}
+
+// What each domain gave, in order, where these frames were sent.
+fn given_by_all(
+    alloc: Global,
+    table: Table,
+    frames: &[(DomainNo, SiteNo, SiteFrame)],
+) -> Result<Listed<Given>, NoMemory>
+    ensures { IfOk result (λ given. given ≡ map (given_of frames.now) (domains_of table)) }
+{
+    let mut given = Listed::new(alloc);
+    for domain in table.domains {
+        given.push(given_by(alloc, domain, frames)?)?;
+    }
+    Ok(given)
+}
+
+// The frames that were sent for a domain.
+fn sent_for(
+    alloc: Global,
+    number: DomainNo,
+    frames: &[(DomainNo, SiteNo, SiteFrame)],
+) -> Result<Listed<(SiteNo, SiteFrame)>, NoMemory>
+    ensures { IfOk result (λ sent. sent ≡ frames_of number frames.now) }
+{
+    let mut sent = Listed::new(alloc);
+    for (domain, to, frame) in frames {
+        if *domain == number {
+            sent.push((*to, frame.copy()?))?;
+        }
+    }
+    Ok(sent)
+}
+
+// What was pushed to each session.
+fn pushes_to(alloc: Global, sessions: Vec<Session>) -> Result<Listed<Listed<Push>>, NoMemory>
+    ensures { IfOk result (λ pushes. pushes ≡ map (λ s. s.pushed) sessions.items) }
+{
+    let mut pushes = Listed::new(alloc);
+    for session in sessions {
+        pushes.push(session.pushed)?;
+    }
+    Ok(pushes)
+}
+
+// What a domain gave, where these frames were sent.
+fn given_by(
+    alloc: Global,
+    domain: Domain,
+    frames: &[(DomainNo, SiteNo, SiteFrame)],
+) -> Result<Given, NoMemory>
+    ensures { IfOk result (λ given. given ≡ given_of frames.now domain) }
+{
+    let number = domain.number();
+    let halted = domain.is_halted();
+    let sent = sent_for(alloc, number, frames)?;
+    let pushes = pushes_to(alloc, domain.into_sessions())?;
+    Ok(Given {
+        domain: number,
+        pushes,
+        sent,
+        halted,
+    })
+}

@@ -1,9 +1,0 @@
-use Rattle.std.proofs.Common.{take}
-use Rattle.castd.specs.Tables.{lent}
-use Rattle.castd.proofs.SoFars.{SoFar}
-use Rattle.castd.proofs.table.replay.Given as goal
-
--- what each domain has given after the events so far
-abbrev pub invariant-loop-event : goal.invariant-loop-event
-invariant-loop-event l =
-    SoFar l.fn.config (take l.event-index l.events) l.answers (lent l.table l.outs) l.table.domains.items

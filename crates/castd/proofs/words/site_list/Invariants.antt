@@ -1,7 +1,0 @@
-use Rattle.std.proofs.Common.{◌≡◌, map, take}
-use Rattle.std.specs.Fmt.{decimal}
-use Rattle.castd.specs.Scripts.{texts}
-use Rattle.castd.proofs.words.site_list.Given as goal
-
-abbrev pub invariant-loop-piece : goal.invariant-loop-piece
-invariant-loop-piece l = texts (take l.piece-index l.piece-items) ≡ map (λ s. decimal s.0) l.sites.items

@@ -1,4 +1,0 @@
-pub mod Scripts
-pub mod Texts
-pub mod Tables
-pub mod Replays
