@@ -12,6 +12,7 @@ pub mod Settles
 pub mod Rests
 pub mod Places
 pub mod Attempts
+pub mod Times
 pub mod Loops
 pub mod Spots
 pub mod Logs

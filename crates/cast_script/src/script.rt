@@ -221,13 +221,20 @@ fn site_line(alloc: Global, line: &str) -> Result<SiteNo, LineFault>
 {
     let words = words_of(alloc, line)?;
     let (first, words) = words.split_first().ok_or(Reason::UnknownWord)?;
-    if head_of(first)? != Head::Site {
-        return Err(LineFault::Refused(Reason::Order));
+    match head_of(first)? {
+        Head::Site => Ok(site(words)?),
+        _ => Err(LineFault::Refused(Reason::Order)),
     }
+}
+
+// `site N`, from the second word on
+fn site(words: &[&str]) -> Result<SiteNo, Reason>
+    ensures { IfOk result (λ site. SpellsSite (codes "site" ∷ texts words.now) site) }
+{
     let [site] = words else {
-        return Err(LineFault::Refused(Reason::WrongCount));
+        return Err(Reason::WrongCount);
     };
-    Ok(site_word(site)?)
+    site_word(site)
 }
 
 // `domain D home S sites S,.. groups G,.. quotas SESSIONS HELD OUTBOX RESEND`

@@ -94,6 +94,37 @@ pub with_items_append : {A : Type 0} (cmp : A → A → Ordering) (s xs ys : Lis
 with_items_append cmp s [] ys = refl
 with_items_append cmp s (x ∷ xs) ys = with_items_append cmp (with_item cmp x s) xs ys
 
+-- the next item of a list is added before the rest
+pub added_next : {A : Type 0} (cmp : A → A → Ordering) (s t u : List A) (xs : List A) (i : ℕ) (d : A) → i < length xs → t ≡ with_item cmp (get_or xs i d) s → with_items cmp s (drop i xs) ≡ u → with_items cmp t (drop (i + 1) xs) ≡ u
+added_next cmp s t u xs i d within added so_far =
+    ap (λ v. with_items cmp v (drop (i + 1) xs)) added
+    ∙ sym (at_drop_more (with_items cmp s) xs i d within)
+    ∙ so_far
+
+-- and so is what a function gives of it
+pub added_more : {X A : Type 0} (cmp : A → A → Ordering) (f : X → A) (s t u : List A) (xs : List X) (i : ℕ) (d : X) → i < length xs → t ≡ with_item cmp (f (get_or xs i d)) s → with_items cmp s (map f (drop i xs)) ≡ u → with_items cmp t (map f (drop (i + 1) xs)) ≡ u
+added_more cmp f s t u xs i d within added so_far =
+    ap (λ v. with_items cmp v (map f (drop (i + 1) xs))) added
+    ∙ sym (at_drop_more (λ ys. with_items cmp s (map f ys)) xs i d within)
+    ∙ so_far
+
+module _ {A : Type 0} (cmp : A → A → Ordering) (keep : A → Bool) (s t u : List A) (xs : List A) (i : ℕ) (d : A) (within : i < length xs) where
+  -- the next item is added where a test keeps it
+  pub kept_next : (tail : List A) → keep (get_or xs i d) ≡ true → t ≡ with_item cmp (get_or xs i d) s → with_items cmp s (filter keep (drop i xs) ++ tail) ≡ u → with_items cmp t (filter keep (drop (i + 1) xs) ++ tail) ≡ u
+  kept_next tail keeps added so_far =
+      ap (λ v. with_items cmp v (filter keep (drop (i + 1) xs) ++ tail)) added
+      ∙ sym (ap (λ b. with_items cmp s (cond b (get_or xs i d ∷ filter keep (drop (i + 1) xs)) (filter keep (drop (i + 1) xs)) ++ tail)) keeps)
+      ∙ sym (at_drop_more (λ ys. with_items cmp s (filter keep ys ++ tail)) xs i d within)
+      ∙ so_far
+
+  -- and else it is passed over
+  pub passed_next : (tail : List A) → keep (get_or xs i d) ≡ false → t ≡ s → with_items cmp s (filter keep (drop i xs) ++ tail) ≡ u → with_items cmp t (filter keep (drop (i + 1) xs) ++ tail) ≡ u
+  passed_next tail passes same so_far =
+      ap (λ v. with_items cmp v (filter keep (drop (i + 1) xs) ++ tail)) same
+      ∙ sym (ap (λ b. with_items cmp s (cond b (get_or xs i d ∷ filter keep (drop (i + 1) xs)) (filter keep (drop (i + 1) xs)) ++ tail)) passes)
+      ∙ sym (at_drop_more (λ ys. with_items cmp s (filter keep ys ++ tail)) xs i d within)
+      ∙ so_far
+
 -- the items of one more member of a list are added before those of the rest
 pub gathered_more : {X A : Type 0} (cmp : A → A → Ordering) (f : X → List A) (s t u : List A) (xs : List X) (i : ℕ) (x : X) → i < length xs → x ≡ get_or xs i x → t ≡ with_items cmp s (f x) → with_items cmp s (flat_map f (drop i xs)) ≡ u → with_items cmp t (flat_map f (drop (i + 1) xs)) ≡ u
 gathered_more {A} cmp f s t u xs i x within read added so_far =

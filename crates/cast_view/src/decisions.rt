@@ -8,9 +8,10 @@ ghost use Rattle.cast_view.specs.Decisions.{end_of, no_stretch, longest, unplace
 
 use crate::report::Report;
 use crate::reports::is_within;
+use crate::sets::insert_id;
 use cast_message::Tail;
 use cast_types::limits::{MAX_ORDER, MAX_PLACED};
-use cast_types::{Counts, NoMemory, Proc, SiteNo, sorted};
+use cast_types::{Counts, NoMemory, Proc, SiteNo};
 use std::alloc::Global;
 
 // How far a part of an order reaches.
@@ -42,7 +43,7 @@ fn add_unplaced(ids: &mut Vec<(Proc, u32)>, report: &Report) -> Result<(), NoMem
 {
     for (id, is_unplaced) in report.kept.entries() {
         if *is_unplaced {
-            sorted::insert(ids, *id)?;
+            insert_id(ids, *id)?;
         }
     }
     Ok(())

@@ -1,8 +1,9 @@
-ghost use Rattle.std.specs.Prelude.{◌≡◌, ◌≤◌, false, IfOk, OnOk, IsTrue, length};
-ghost use Rattle.cast_types.specs.Names.{proc_cmp, proc_eq, site_eq};
-ghost use Rattle.cast_types.specs.Sets.{with_item, without, apart_from};
+ghost use Rattle.std.specs.Prelude.{◌≡◌, ◌≤◌, false, IfOk, OnOk, IsTrue, List, length};
+ghost use Rattle.cast_types.specs.Names.{Entry, proc_cmp, proc_eq, site_cmp, site_eq};
+ghost use Rattle.cast_types.specs.Sets.{with_item, with_items, without, apart_from};
 ghost use Rattle.cast_message.specs.Membership.{is_held};
 ghost use Rattle.cast_view.specs.Reports.{cut_from, wanting};
+ghost use Rattle.cast_view.specs.Decisions.{order_from};
 ghost use Rattle.cast_view.specs.Home.{sites_of, least_of};
 
 use crate::decisions::order_from;
@@ -10,9 +11,10 @@ use crate::phase::{Answer, Decision, Phase, installing, is_among};
 use crate::procs::{Procs, is_listed};
 use crate::report::Report;
 use crate::reports::{cut_from, is_complete, wanting, wants_of};
+use crate::sets::insert_site;
 use cast_message::{Change, Members, Message};
 use cast_types::limits::{MAX_MEMBERS, MAX_NUMBER};
-use cast_types::{GroupNo, Keyed, Listed, NoMemory, Proc, SiteNo, sorted};
+use cast_types::{GroupNo, Keyed, Listed, NoMemory, Proc, SiteNo};
 use std::alloc::Global;
 use std::marker::Model;
 use std::mem;
@@ -232,7 +234,7 @@ impl HomeSide {
     {
         let sites = sites_of(self.joins.alloc(), self.members.list())?;
         if is_among(site, sites.as_slice()) {
-            sorted::insert(&mut self.suspected, site)?;
+            insert_site(&mut self.suspected, site)?;
         }
         Ok(())
     }
@@ -409,16 +411,20 @@ impl HomeSide {
         else {
             return Ok(phase);
         };
+        let decision = self.decision(reports.as_slice())?;
+        let waiting = sites_and(self.joins.alloc(), list, awaited.as_slice())?;
+        Ok(installing(waiting, decision, bodies))
+    }
+
+    // What goes with the next view.
+    fn decision(&self, reports: &[(SiteNo, Report)]) -> Result<Decision, NoMemory>
+        ensures { let cut : List Entry = cut_from self.now.members.list reports.now in IfOk result (λ d. d ≡ record { cut = cut; tail = order_from cut reports.now; answers = self.now.answers }) }
+    {
         let alloc = self.joins.alloc();
-        let cut = cut_from(alloc, self.members.list(), reports.as_slice())?;
-        let tail = order_from(alloc, &cut, reports.as_slice())?;
+        let cut = cut_from(alloc, self.members.list(), reports)?;
+        let tail = order_from(alloc, &cut, reports)?;
         let answers = Listed::from_vec(Vec::from_slice(alloc, self.answers.entries())?);
-        let mut waiting = sites_of(alloc, list)?.into_vec();
-        for site in awaited.as_slice() {
-            sorted::insert(&mut waiting, *site)?;
-        }
-        let decision = Decision { cut, tail, answers };
-        Ok(installing(Listed::from_vec(waiting), decision, bodies))
+        Ok(Decision { cut, tail, answers })
     }
 
     /// Takes in that a site has installed a view, and answers whether that was awaited. Takes no memory.
@@ -441,7 +447,22 @@ fn sites_of(alloc: Global, processes: &[Proc]) -> Result<Listed<SiteNo>, NoMemor
 {
     let mut sites = Vec::new(alloc);
     for process in processes {
-        sorted::insert(&mut sites, process.site)?;
+        insert_site(&mut sites, process.site)?;
+    }
+    Ok(Listed::from_vec(sites))
+}
+
+// The sites of processes, and other sites, each once, in rising order.
+fn sites_and(
+    alloc: Global,
+    processes: &[Proc],
+    others: &[SiteNo],
+) -> Result<Listed<SiteNo>, NoMemory>
+    ensures { IfOk result (λ l. l ≡ with_items site_cmp (sites_of processes.now) others.now) }
+{
+    let mut sites = sites_of(alloc, processes)?.into_vec();
+    for site in others {
+        insert_site(&mut sites, *site)?;
     }
     Ok(Listed::from_vec(sites))
 }

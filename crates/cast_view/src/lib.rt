@@ -24,10 +24,8 @@ mod phase;
 mod procs;
 mod report;
 mod reports;
+mod sets;
 
 pub use home::HomeSide;
 pub use phase::{Answer, Decision, Phase};
 pub use report::Report;
-
-#[cfg(test)]
-mod tests;

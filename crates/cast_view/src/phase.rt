@@ -1,4 +1,4 @@
-ghost use Rattle.std.specs.Prelude.{◌≡◌, not, filter, IfOk};
+ghost use Rattle.std.specs.Prelude.{◌≡◌, ◌++◌, ◌∷◌, [], not, filter, IfOk};
 ghost use Rattle.cast_types.specs.Names.{site_eq, site_cmp};
 ghost use Rattle.cast_types.specs.Sets.{is_among, without};
 ghost use Rattle.std.specs.FinMap.Entries.{put};
@@ -138,15 +138,12 @@ impl Phase {
             Phase::Gathering {
                 awaited,
                 reports,
-                mut bodies,
-            } => {
-                bodies.push(message)?;
-                Ok(Phase::Gathering {
-                    awaited,
-                    reports,
-                    bodies,
-                })
-            }
+                bodies,
+            } => Ok(Phase::Gathering {
+                awaited,
+                reports,
+                bodies: with_message(bodies, message)?,
+            }),
             other => Ok(other),
         }
     }
@@ -194,6 +191,14 @@ fn reports_without(reports: Listed<(SiteNo, Report)>, site: SiteNo) -> Listed<(S
     let mut rest = reports.into_vec();
     rest.retain(|report| !(site == report.0));
     Listed::from_vec(rest)
+}
+
+// The messages and one more.
+fn with_message(mut bodies: Listed<Message>, message: Message) -> Result<Listed<Message>, NoMemory>
+    ensures { IfOk result (λ l. l ≡ bodies ++ message ∷ []) }
+{
+    bodies.push(message)?;
+    Ok(bodies)
 }
 
 // The reports with one of a site.

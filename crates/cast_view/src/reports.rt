@@ -8,16 +8,17 @@ ghost use Rattle.cast_message.specs.Rising.{is_rising};
 ghost use Rattle.cast_view.specs.Reports.{has_report, is_complete, greatest_count, cut_from, keeps, all_kept, is_needed, keeper_of, has_body, wanting, want_of};
 
 use crate::report::Report;
+use crate::sets::insert_id;
 use cast_message::Message;
 use cast_types::limits::MAX_PLACED;
-use cast_types::{Counts, GroupNo, Listed, NoMemory, Proc, SiteNo, Uid, sorted};
+use cast_types::{Counts, GroupNo, Listed, NoMemory, Proc, SiteNo, Uid};
 use std::alloc::Global;
 
 /// Whether a site has reported.
 pub(crate) fn has_report(reports: &[(SiteNo, Report)], site: SiteNo) -> bool
     ensures { result ≡ has_report reports.now site }
 {
-    reports.iter().any(|(from, _)| *from == site)
+    reports.iter().any(|report| report.0 == site)
 }
 
 /// Whether each of these sites has reported.
@@ -62,7 +63,7 @@ pub(crate) fn cut_from(
 fn keeps(report: &Report, id: (Proc, u32)) -> bool
     ensures { result ≡ keeps report.now id }
 {
-    report.kept.entries().iter().any(|(kept, _)| *kept == id)
+    report.kept.entries().iter().any(|kept| kept.0 == id)
 }
 
 /// Whether a message is within the cut.
@@ -96,7 +97,7 @@ fn add_kept(ids: &mut Vec<(Proc, u32)>, report: &Report) -> Result<(), NoMemory>
     ensures { OnOk result (ids.new.items ≡ with_items entry_cmp ids.old.items (map (λ k. k.0) report.now.kept)) }
 {
     for (id, _) in report.kept.entries() {
-        sorted::insert(ids, *id)?;
+        insert_id(ids, *id)?;
     }
     Ok(())
 }

@@ -9,7 +9,7 @@ use Rattle.cast_delay.specs.declared.row.Fact.TheVariants as fact
 use Rattle.cast_domain.specs.Records.{records_in}
 use Rattle.cast_domain.specs.Effects.{may_raise}
 use Rattle.cast_domain.specs.Calls.{awaits_own_in, has_room_in, record_at, send_message_in, tell_in, standing_of, time_of, local_in}
-use Rattle.cast_domain.proofs.Attempts.{cast_made, cast_owned, cast_full, cast_unraised, raised_none, raised_some}
+use Rattle.cast_domain.proofs.Attempts.{sent, cast_made, cast_owned, cast_full, cast_unraised, raised_none, raised_some}
 use Rattle.cast_domain.proofs.Loops.{seen_as}
 use Rattle.cast_domain.proofs.domain.Domain.cast_at.Goals as goal
 
@@ -66,7 +66,8 @@ returns-clause-made c =
     let room : has_room_in r ≡ true = sym (c.has_room.ensures c.args.outs.now) ∙ c.if-not-has_room.false in
     let own : awaits_own_in r (local_in r k) ≡ false = sym (c.awaits_own.ensures c.args.outs.now ∙ ap (awaits_own_in r) p) ∙ c.if-awaits_own.false in
     let may : may_raise (time_of r.delay (local_in r k)) g (local_in r k) ≡ true = ap (λ x. may_raise (time_of r.delay x) g x) (sym p) ∙ raised.0 in
-    ap (λ x. (x, None))
+    ◌∙◌ {b = (sent r k g c.args.kind c.args.payload.now i, None)}
+    (ap (λ x. (x, None))
     (c.in_ok-send_message.ensures.made
     ∙ (λ j. send_message_in ((seen_as c.args.self.now c.tell.new.self c.in_ok-tell.ensures.kept c.args.shared.now c.args.outs.now ∙ c.in_ok-tell.ensures.made c.args.outs.now r.part) j) (record {
       id = record { group = g; view = c.record.result.now.here.number; proc = q; count = c.count.result };
@@ -77,5 +78,5 @@ returns-clause-made c =
       id = record { group = g; view = view j; proc = p j; count = count j };
       times = stamp j;
       body = body_of c.args.kind c.args.payload.now;
-    }))
-    ∙ sym (cast_made r k g c.args.kind c.args.payload.now i short member own room may)
+    })))
+    (sym (cast_made r k g c.args.kind c.args.payload.now i short member own room may))
