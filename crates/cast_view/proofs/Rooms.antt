@@ -20,7 +20,7 @@ use Rattle.cast_view.specs.declared.phase.Phase.{Phase}
 use Rattle.cast_view.specs.declared.phase.Phase.TheVariants.{Idle, Gathering, Installing}
 use Rattle.cast_view.specs.Reports.{cut_from}
 use Rattle.cast_view.specs.Decisions.{order_from}
-use Rattle.cast_view.specs.Home.{Home, expected, stays, is_leaving, is_suspected, is_crowded, is_refused, is_sound, has_next_number, installing, phase_without, sites_of, decided_list, decided_phase, decided, marked_leaving}
+use Rattle.cast_view.specs.Home.{Home, expected, stays, is_leaving, is_suspected, is_crowded, is_refused, is_sound, has_next_number, installing, sites_of, decided_list, decided_phase, decided, marked_leaving}
 use Rattle.cast_view.proofs.Risings.{rising_kept, rising-with_items}
 use Rattle.cast_view.proofs.Among.{among_kept, among_with_item, among_set_of}
 
@@ -192,18 +192,6 @@ with_more_sites s t sites among = among_with_item site_cmp site_exact site_eq t 
 next_installing : (n : ℕ) (waiting : List SiteNo) (decision : Decision) (bodies : List Message) → has_next_number n (installing waiting decision bodies) ≡ true
 next_installing n [] decision bodies = refl
 next_installing n (s ∷ waiting) decision bodies = refl
-
--- nor does it where one site fewer is waited for
-next_without : (n : ℕ) (s : SiteNo) (phase : Phase) → has_next_number n phase ≡ true → has_next_number n (phase_without s phase) ≡ true
-next_without n s Idle next = refl
-next_without n s (Gathering awaited reports bodies) next = next
-next_without n s (Installing waiting decision bodies) next = next_installing n (without site_eq s waiting) decision bodies
-
--- where nothing is awaited from a site any more there is still room
-pub sound_without : (h : Home) (s : SiteNo) → IsTrue (is_sound h) → IsTrue (is_sound (record h { phase = phase_without s h.phase }))
-sound_without h s sound =
-    let parts = and_parts (nat_le (length (expected h)) MAX_MEMBERS) (has_next_number h.number h.phase) sound in
-    and_from (nat_le (length (expected h)) MAX_MEMBERS) (has_next_number h.number (phase_without s h.phase)) parts.0 (next_without h.number s h.phase parts.1)
 
 -- after a decision none is needed
 next_decided : (h : Home) (n : ℕ) (members : List Proc) (phase : Phase) → has_next_number n (decided_phase h members phase) ≡ true
