@@ -8,7 +8,7 @@
 //! left, the message comes back and nothing is changed.
 //!
 //! The definitions are in `specs/Store.antt`: what a domain keeps, the number of its next key, and what it is for keys
-//! to rise. Which message a list has under a key is in `cast_frame/specs/Receipts.antt`.
+//! to rise. Which message a list has under a key is in `cast_message/specs/Receipts.antt`.
 #![tactic(auto)]
 
 mod row;
