@@ -5,7 +5,7 @@ use Rattle.cast_model.specs.declared.log.Log.{Log}
 use Rattle.cast_table.specs.Replays.{IsServed}
 use Rattle.cast_script.specs.declared.script.Script.{Script}
 use Rattle.cast_script.specs.Scripts.{SpellsScript, used_lines_of}
-use Rattle.cast_script.specs.Texts.{log_text}
+use Rattle.cast_print.specs.Texts.{log_text}
 
 -- a text shows what comes of the script that the bytes spell, each domain served as if alone
 pub record Shows (bytes : List ℕ) (text : List ℕ) : Type 0 where

@@ -7,7 +7,5 @@
 #![tactic(auto)]
 
 pub mod run;
-#[cfg(test)]
-mod tests;
 
 pub use run::{RunFault, no_memory, printed_log, run_script, unreadable};

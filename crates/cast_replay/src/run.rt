@@ -4,7 +4,7 @@ ghost use Rattle.cast_replay.specs.Shown.{Shows};
 ghost use Rattle.std.specs.Str.{IsUtf8};
 ghost use Rattle.cast_replay.specs.declared.run.RunFault.TheVariants.{NotText, Script, NoMemory};
 
-use cast_script::print::print;
+use cast_print::print;
 use cast_script::{Reason, ScriptFault, parse};
 use cast_table::replay;
 use cast_types::NoMemory;

@@ -1,12 +1,10 @@
-//! The texts of a replay: scripts, which say how a daemon is configured and what happens to it, and printed logs.
+//! Scripts, which say how a daemon is configured and what happens to it.
 //!
-//! Promised: a script that is accepted spells what it is read as, within the limits (`parse`), and the text that is
-//! printed is that of the log (`print`).
+//! Promised: a script that is accepted spells what it is read as, within the limits (`parse`).
 //!
-//! The definitions are in `specs/`: `Scripts` has what a script spells, `Texts` how a log is printed.
+//! The definitions are in `specs/Scripts.antt`.
 #![tactic(auto)]
 
-pub mod print;
 pub mod script;
 pub mod words;
 

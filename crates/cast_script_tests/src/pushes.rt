@@ -3,7 +3,7 @@ ghost use Rattle.std.specs.Prelude.{◌≤◌, length};
 use bytes::Bytes;
 use cast_message::{CastKind, Payload, Push};
 use cast_model::{Given, Log};
-use cast_script::print::print;
+use cast_print::print;
 use cast_types::{DomainNo, GroupNo, Listed, Proc, Refusal, SiteNo, Uid};
 use std::alloc::{AllocError, Global};
 use std::test::Fail;

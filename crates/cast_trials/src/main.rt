@@ -1,0 +1,36 @@
+//! Trials of the whole program and of the codec. `cast_trials rows SCRIPT ..` goes through worked examples, and
+//! `cast_trials speed FILE ROUNDS` measures how fast a frame is decoded and encoded.
+//!
+//! The worked examples are the scripts in `data/`, one for each rule, and the frames in `stdin`. What has to be printed for
+//! them stands in `stdout`.
+#![tactic(auto)]
+
+mod frames;
+mod scripts;
+mod speed;
+
+use anyhow::{Result, bail};
+use std::rt::{Clock, Env, Files};
+use std::{env, io};
+
+// Does what the arguments ask for.
+fn run<R: Clock + Env + Files + Input + Print + AllocGlobal>(rt: &R) -> Result<()> {
+    let words = env::args(rt)?.collect::<Vec<String>>(rt.alloc())?;
+    match words.as_slice() {
+        [_, job, names @ ..] if job.as_str() == "rows" => {
+            let mut out = io::writer(rt);
+            scripts::replay_all(rt, names, &mut out)?;
+            for name in names.iter().take(1) {
+                scripts::replay_closed(rt, name, &mut out)?;
+            }
+            frames::try_all(rt)?;
+        }
+        [_, job, file, rounds] if job.as_str() == "speed" => speed::measure(rt, file, rounds)?,
+        _ => bail!("usage: cast_trials rows SCRIPT .. | cast_trials speed FILE ROUNDS"),
+    }
+    Ok(())
+}
+
+fn main(rt: HostRuntime) -> Result<()> {
+    run(&rt)
+}
