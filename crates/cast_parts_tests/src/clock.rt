@@ -1,9 +1,34 @@
+use crate::messages::{holds, raise, stamp_of};
 use cast_clock::{ClockFault, Times};
-use cast_types::{GroupNo, Proc, SiteNo, Stamp};
+use cast_types::{GroupNo, NoMemory, Proc, SiteNo, Stamp};
 use std::alloc::Global;
 use std::test::Fail;
 
 const GROUP: GroupNo = GroupNo(7);
+
+// Another time of the group: its view, and the processes that have a count of 1, of serials from one to before another.
+type Other = (u32, u32, u32);
+
+// What is done with a time of one group, and what is to be seen of it.
+#[derive(Clone, Copy)]
+enum Step {
+    // It enters a view.
+    Enters(u32),
+    // The counts of the processes of serials from one to before another are raised.
+    Raises(u32, u32),
+    // It becomes its join with another, for which it has room and which lies above both.
+    Joins(Other),
+    // It is refused its join with another, and the count of a process.
+    Refuses(Other, u32),
+    // Whether it is at most another, and whether the other is at most it.
+    Order(Other, (bool, bool)),
+    // The count of a process.
+    Count(u32, u32),
+    // The view, in which it is of this group alone.
+    View(u32),
+    // Whether it has a stamp.
+    HasStamp(bool),
+}
 
 fn member(serial: u32) -> Proc {
     Proc {
@@ -12,126 +37,164 @@ fn member(serial: u32) -> Proc {
     }
 }
 
-fn raise(time: &mut Times, serial: u32) -> Result<(), ClockFault> {
-    let process = member(serial);
-    if time.count(GROUP, process) < u32::MAX {
-        time.bump(GROUP, process)?;
+fn raises(time: &mut Times, from: u32, to: u32) -> Result<(), ClockFault> {
+    for serial in from..to {
+        raise(time, GROUP, member(serial))?;
     }
     Ok(())
 }
 
-// A time of one group with a count of 1 for the processes of serials `from` to `to - 1`.
-fn time_of(alloc: Global, view: u32, from: u32, to: u32) -> Result<Times, ClockFault> {
+fn time_of(alloc: Global, (view, from, to): Other) -> Result<Times, ClockFault> {
     let mut time = Times::new(alloc);
     time.enter(GROUP, view)?;
-    for serial in from..to {
-        raise(&mut time, serial)?;
-    }
+    raises(&mut time, from, to)?;
     Ok(time)
 }
 
-fn stamp_of(time: &Times) -> Result<Stamp, Fail> {
-    match time.stamp()? {
-        Some(stamp) => Ok(stamp),
-        None => Err(Fail::new("a time without a stamp")),
+// Whether the first time is at most the second, and whether the second is at most the first.
+fn order_of(time: &Times, other: &Times) -> (bool, bool) {
+    (time.at_most(other), other.at_most(time))
+}
+
+// Whether there is room for the stamp, and the join with it succeeds.
+fn merges(time: &mut Times, stamp: &Stamp) -> bool {
+    time.has_room_for(stamp) && time.merge(stamp).is_ok()
+}
+
+// Whether the time can be joined with a stamp, and is above what it was then.
+fn rises(time: &mut Times, stamp: &Stamp) -> Result<bool, NoMemory> {
+    let before = time.copy()?;
+    let merged = merges(time, stamp);
+    Ok(merged && order_of(&before, time) == (true, false))
+}
+
+// Whether it is above the other time too once it is joined with it.
+fn joins(time: &mut Times, other: Times) -> Result<bool, Fail> {
+    let stamp = stamp_of(&other)?;
+    let risen = rises(time, &stamp)?;
+    Ok(risen && other.at_most(time))
+}
+
+// Whether there is no room for the stamp, and the join with it is refused.
+fn refuses_stamp(time: &mut Times, stamp: &Stamp) -> bool {
+    !time.has_room_for(stamp) && time.merge(stamp) == Err(ClockFault::TooMany)
+}
+
+// Whether the count of one more process is refused.
+fn refuses_count(time: &mut Times, serial: u32) -> bool {
+    raise(time, GROUP, member(serial)) == Err(ClockFault::TooMany)
+}
+
+// Whether a stamp and the count of a process are refused, and the time is unchanged then.
+fn stays(time: &mut Times, stamp: &Stamp, serial: u32) -> Result<bool, NoMemory> {
+    let before = time.copy()?;
+    let refused = refuses_stamp(time, stamp) && refuses_count(time, serial);
+    Ok(refused && order_of(time, &before) == (true, true))
+}
+
+// The same of the stamp of another time.
+fn refuses(time: &mut Times, other: Times, serial: u32) -> Result<bool, Fail> {
+    let stamp = stamp_of(&other)?;
+    Ok(stays(time, &stamp, serial)?)
+}
+
+// Whether the time and another stand in this order.
+fn is_ordered(time: &Times, other: Times, order: (bool, bool)) -> bool {
+    order_of(time, &other) == order
+}
+
+fn is_alone_in(time: &Times, view: u32) -> bool {
+    time.view(GROUP) == view && time.entries().len() == 1 && time.get(GroupNo(8)).is_none()
+}
+
+fn has_stamp(time: &Times) -> Result<bool, NoMemory> {
+    let stamp = time.stamp()?;
+    Ok(stamp.is_some())
+}
+
+// Does a step, and tells whether the time is as it says.
+fn does(alloc: Global, time: &mut Times, step: Step) -> Result<bool, Fail> {
+    match step {
+        Step::Enters(view) => time.enter(GROUP, view)?,
+        Step::Raises(from, to) => raises(time, from, to)?,
+        Step::Joins(other) => return joins(time, time_of(alloc, other)?),
+        Step::Refuses(other, serial) => return refuses(time, time_of(alloc, other)?, serial),
+        Step::Order(other, order) => return Ok(is_ordered(time, time_of(alloc, other)?, order)),
+        Step::Count(serial, count) => return Ok(time.count(GROUP, member(serial)) == count),
+        Step::View(view) => return Ok(is_alone_in(time, view)),
+        Step::HasStamp(has) => return Ok(has_stamp(time)? == has),
     }
+    Ok(true)
 }
 
-// The join of a time with another, that had room for it.
-fn joined(time: &Times, other: &Times) -> Result<Times, Fail> {
-    let stamp = stamp_of(other)?;
-    if !time.has_room_for(&stamp) {
-        return Err(Fail::new("no room"));
+// A time that has heard of no view becomes in turn as the steps say.
+fn goes(alloc: Global, steps: &[Step]) -> Result<(), Fail> {
+    let mut time = Times::new(alloc);
+    for (place, step) in steps.iter().enumerate() {
+        let well = does(alloc, &mut time, *step)?;
+        holds(place, well)?;
     }
-    let mut join = time.copy()?;
-    join.merge(&stamp)?;
-    Ok(join)
-}
-
-// Whether the processes of these serials have these counts.
-fn counts(time: &Times, rows: &[(u32, u32)]) -> bool {
-    rows.iter()
-        .all(|row| time.count(GROUP, member(row.0)) == row.1)
-}
-
-// A time of view 3 with counts 2 and 1 for the first two processes.
-fn time_of_two(alloc: Global) -> Result<Times, ClockFault> {
-    let mut time = time_of(alloc, 3, 1, 3)?;
-    raise(&mut time, 1)?;
-    Ok(time)
+    Ok(())
 }
 
 #[test]
 fn joins_the_counts_of_one_view(rt: HostRuntime) -> Result<(), Fail> {
-    let mine = time_of_two(rt.alloc())?;
-    let theirs = time_of(rt.alloc(), 3, 2, 4)?;
-    let join = joined(&mine, &theirs)?;
-    assert!(rt;
-        !mine.at_most(&theirs)
-            && !theirs.at_most(&mine)
-            && counts(&join, &[(1, 2), (2, 1), (3, 1), (4, 0)])
-            && mine.at_most(&join)
-            && theirs.at_most(&join)
-            && !join.at_most(&mine)
-    );
-    Ok(())
+    goes(
+        rt.alloc(),
+        &[
+            Step::Enters(3),
+            Step::Raises(1, 3),
+            Step::Raises(1, 2),
+            Step::Order((3, 2, 4), (false, false)),
+            Step::Joins((3, 2, 4)),
+            Step::Count(1, 2),
+            Step::Count(2, 1),
+            Step::Count(3, 1),
+            Step::Count(4, 0),
+        ],
+    )
 }
 
 #[test]
 fn a_later_view_outranks_counts(rt: HostRuntime) -> Result<(), Fail> {
-    let mine = time_of(rt.alloc(), 3, 1, 3)?;
-    let theirs = time_of(rt.alloc(), 4, 2, 3)?;
-    let join = joined(&mine, &theirs)?;
-    assert!(rt;
-        mine.at_most(&theirs)
-            && !theirs.at_most(&mine)
-            && join.view(GROUP) == 4
-            && counts(&join, &[(1, 0), (2, 1)])
-            && join.entries().len() == 1
-            && join.get(GroupNo(8)).is_none()
-    );
-    Ok(())
-}
-
-// Whether the time of 64 counts refuses a further one, and is unchanged then.
-fn refuses(time: &mut Times, stamp: &Stamp) -> Result<bool, Fail> {
-    let before = time.copy()?;
-    let has_room = time.has_room_for(stamp);
-    let merged = time.merge(stamp);
-    let raised = raise(time, 65);
-    Ok(
-        !has_room
-            && merged == Err(ClockFault::TooMany)
-            && raised == Err(ClockFault::TooMany)
-            && time.at_most(&before)
-            && before.at_most(time),
+    goes(
+        rt.alloc(),
+        &[
+            Step::Enters(3),
+            Step::Raises(1, 3),
+            Step::Order((4, 2, 3), (true, false)),
+            Step::Joins((4, 2, 3)),
+            Step::View(4),
+            Step::Count(1, 0),
+            Step::Count(2, 1),
+        ],
     )
 }
 
 #[test]
 fn a_65th_count_is_refused(rt: HostRuntime) -> Result<(), Fail> {
-    let mut mine = time_of(rt.alloc(), 3, 1, 65)?;
-    let stamp = stamp_of(&time_of(rt.alloc(), 3, 65, 66)?)?;
-    let refused = refuses(&mut mine, &stamp)?;
-    raise(&mut mine, 64)?;
-    assert!(rt; refused && counts(&mine, &[(64, 2)]));
-    Ok(())
-}
-
-// Whether a time has a stamp once its group entered these views in turn.
-fn has_stamp(alloc: Global, views: &[u32]) -> Result<bool, Fail> {
-    let mut time = Times::new(alloc);
-    for view in views {
-        time.enter(GROUP, *view)?;
-    }
-    Ok(time.stamp()?.is_some())
+    goes(
+        rt.alloc(),
+        &[
+            Step::Enters(3),
+            Step::Raises(1, 65),
+            Step::Refuses((3, 65, 66), 65),
+            Step::Raises(64, 65),
+            Step::Count(64, 2),
+        ],
+    )
 }
 
 #[test]
 fn an_empty_time_has_no_stamp(rt: HostRuntime) -> Result<(), Fail> {
-    let at_first = has_stamp(rt.alloc(), &[])?;
-    let in_view_0 = has_stamp(rt.alloc(), &[0])?;
-    let in_view_1 = has_stamp(rt.alloc(), &[0, 1])?;
-    assert!(rt; !at_first && !in_view_0 && in_view_1);
-    Ok(())
+    goes(
+        rt.alloc(),
+        &[
+            Step::HasStamp(false),
+            Step::Enters(0),
+            Step::HasStamp(false),
+            Step::Enters(1),
+            Step::HasStamp(true),
+        ],
+    )
 }

@@ -1,7 +1,8 @@
-use crate::messages::{GROUP, SENDER, atomic, causal, id_of};
+use crate::messages::{GROUP, SENDER, atomic, causal, holds, id_of, time_at};
 use cast_clock::Times;
 use cast_delay::{Delay, Fact, Turn};
-use cast_types::{GroupNo, Key, Proc, SiteNo, Standing};
+use cast_message::Message;
+use cast_types::{GroupNo, Key, NoMemory, Proc, SiteNo, Standing};
 use std::alloc::Global;
 use std::test::Fail;
 
@@ -16,58 +17,75 @@ const JOINING: Standing = Standing::Joining {
     heard: 0,
 };
 
-// The queue of a process in view 1 of the group.
-fn queue_of_a_member(alloc: Global) -> Result<Delay, Fail> {
-    let mut queue = Delay::new(alloc);
+// What happens to the queue of a process in view 1 of the group, and what is to be seen of it.
+#[derive(Clone, Copy)]
+enum Step {
+    // The sender's message of a count comes under a key.
+    Comes(usize, u32),
+    // The same with an ABCAST.
+    ComesAtomic(usize, u32),
+    // The message under a key is the next one, and the process delivers it.
+    Takes(usize),
+    // The message under a key is let go.
+    Forgets(usize),
+    // The process asks to join.
+    Joins,
+    // The process is told that it is in view 1.
+    Enters,
+    // The message under a key is the next one, where the process has no turn.
+    Next(usize),
+    // There is none for a process.
+    Waits(Proc),
+    // Whether the message under a key is the next one, in a turn of the group.
+    InTurn(Turn, usize, bool),
+    // The message that is the next one in two turns of the group, which come after one of another group.
+    InTurns(Turn, Turn, Option<Key>),
+    // What a process is in the group.
+    Stands(Proc, Standing),
+    // Whether the sender's message of a count is awaited.
+    Awaits(u32, bool),
+    // Whether a process has delivered it.
+    Has(Proc, u32, bool),
+    // How many of the sender's first two messages of a view a process has delivered.
+    Passed(Proc, u32, usize),
+    // How many of its messages the time of the process has.
+    Counts(u32),
+}
+
+fn tells(queue: &mut Delay, fact: Fact) -> Result<(), NoMemory> {
+    queue.tell(MEMBER, &fact)
+}
+
+fn stands(queue: &mut Delay, standing: Standing) -> Result<(), NoMemory> {
+    tells(queue, Fact::Standing(GROUP, standing))
+}
+
+// Adds a process in view 1 of the group.
+fn admits(queue: &mut Delay) -> Result<(), NoMemory> {
     queue.admit(MEMBER)?;
     queue.view_changed(GROUP, 1)?;
-    queue.tell(MEMBER, &Fact::Standing(GROUP, Standing::Member))?;
-    Ok(queue)
+    stands(queue, Standing::Member)
 }
 
-// The sender's message of a count comes under a key.
-fn offers(alloc: Global, queue: &mut Delay, key: usize, count: u32) -> Result<(), Fail> {
-    let message = causal(alloc, count)?;
-    queue.offer(Key(key), &message)?;
-    Ok(())
+fn comes(queue: &mut Delay, key: usize, message: Message) -> Result<(), NoMemory> {
+    queue.offer(Key(key), &message)
 }
 
-// The queue of a member with one message, under a key.
-fn queue_of_one(alloc: Global, key: usize, count: u32) -> Result<Delay, Fail> {
-    let mut queue = queue_of_a_member(alloc)?;
-    offers(alloc, &mut queue, key, count)?;
-    Ok(queue)
+fn enters(queue: &mut Delay, time: Times) -> Result<(), NoMemory> {
+    tells(queue, Fact::Time(time))?;
+    stands(queue, Standing::Member)
 }
 
-// The same with an ABCAST.
-fn queue_of_an_abcast(alloc: Global, key: usize, count: u32) -> Result<Delay, Fail> {
-    let mut queue = queue_of_a_member(alloc)?;
-    let message = atomic(alloc, count)?;
-    queue.offer(Key(key), &message)?;
-    Ok(queue)
+// The key of the message that a process may deliver now.
+fn next(queue: &Delay, process: Proc, turns: &[(GroupNo, Turn)]) -> Option<Key> {
+    queue.next_ready(process, turns)
 }
 
-// Whether the messages under these keys come in turn; the process delivers each.
-fn takes(queue: &mut Delay, keys: &[usize]) -> Result<bool, Fail> {
-    let mut well = true;
-    for key in keys {
-        well = queue.next_ready(MEMBER, &[]) == Some(Key(*key)) && well;
-        queue.delivered(MEMBER, Key(*key))?;
-    }
-    Ok(well)
-}
-
-fn waits(queue: &Delay, process: Proc) -> bool {
-    queue.next_ready(process, &[]) == None
-}
-
-// Whether the message under the key is the next one in a turn of the group.
-fn comes(queue: &Delay, turn: Turn, key: usize) -> bool {
-    queue.next_ready(MEMBER, &[(GROUP, turn)]) == Some(Key(key))
-}
-
-fn stands(queue: &Delay, process: Proc, standing: Standing) -> bool {
-    queue.standing(process, GROUP) == standing
+// Whether the message under a key is the next one; the process delivers it.
+fn takes(queue: &mut Delay, key: usize) -> Result<bool, NoMemory> {
+    let is_next = next(queue, MEMBER, &[]) == Some(Key(key));
+    queue.delivered(MEMBER, Key(key))?;
+    Ok(is_next)
 }
 
 fn count_of_the_sender(queue: &Delay) -> u32 {
@@ -77,127 +95,192 @@ fn count_of_the_sender(queue: &Delay) -> u32 {
     }
 }
 
+fn next_in_turns(queue: &Delay, earlier: Turn, later: Turn) -> Option<Key> {
+    let first = (GroupNo(2), Turn::Holding(false));
+    next(queue, MEMBER, &[first, (GROUP, earlier), (GROUP, later)])
+}
+
+fn passed(queue: &Delay, process: Proc, view: u32) -> usize {
+    queue.passed(process, GROUP, view, &[(SENDER, 1), (SENDER, 2)])
+}
+
+// Whether the queue is as a step says that changes nothing.
+fn shows(queue: &Delay, step: Step) -> bool {
+    match step {
+        Step::Next(key) => next(queue, MEMBER, &[]) == Some(Key(key)),
+        Step::Waits(process) => next(queue, process, &[]) == None,
+        Step::InTurn(turn, key, comes) => {
+            (next(queue, MEMBER, &[(GROUP, turn)]) == Some(Key(key))) == comes
+        }
+        Step::InTurns(earlier, later, key) => next_in_turns(queue, earlier, later) == key,
+        Step::Stands(process, standing) => queue.standing(process, GROUP) == standing,
+        Step::Awaits(count, awaits) => queue.is_awaited(id_of(count)) == awaits,
+        Step::Has(process, count, has) => queue.has_delivered(process, id_of(count)) == has,
+        Step::Passed(process, view, count) => passed(queue, process, view) == count,
+        Step::Counts(count) => count_of_the_sender(queue) == count,
+        _ => false,
+    }
+}
+
+// Does a step that changes the queue, or tells whether it is as the step says.
+fn does(alloc: Global, queue: &mut Delay, step: Step) -> Result<bool, Fail> {
+    let done = match step {
+        Step::Comes(key, count) => comes(queue, key, causal(alloc, count)?),
+        Step::ComesAtomic(key, count) => comes(queue, key, atomic(alloc, count)?),
+        Step::Joins => stands(queue, JOINING),
+        Step::Enters => enters(queue, time_at(alloc, 0)?),
+        Step::Forgets(key) => {
+            queue.forget(Key(key));
+            Ok(())
+        }
+        Step::Takes(key) => return Ok(takes(queue, key)?),
+        _ => return Ok(shows(queue, step)),
+    };
+    done?;
+    Ok(true)
+}
+
+// The queue of a process in view 1 of the group becomes in turn as the steps say.
+fn goes(alloc: Global, steps: &[Step]) -> Result<(), Fail> {
+    let mut queue = Delay::new(alloc);
+    admits(&mut queue)?;
+    for (place, step) in steps.iter().enumerate() {
+        let well = does(alloc, &mut queue, *step)?;
+        holds(place, well)?;
+    }
+    Ok(())
+}
+
 #[test]
 fn two_messages_in_the_wrong_order(rt: HostRuntime) -> Result<(), Fail> {
-    let mut queue = queue_of_one(rt.alloc(), 0, 2)?;
-    let waited = waits(&queue, MEMBER);
-    offers(rt.alloc(), &mut queue, 1, 1)?;
-    let taken = takes(&mut queue, &[1, 0])?;
-    assert!(rt; waited && taken && waits(&queue, MEMBER) && count_of_the_sender(&queue) == 2);
-    Ok(())
-}
-
-// A process that is joining, with the sender's first message.
-fn queue_of_a_joining(alloc: Global) -> Result<Delay, Fail> {
-    let mut queue = queue_of_a_member(alloc)?;
-    queue.tell(MEMBER, &Fact::Standing(GROUP, JOINING))?;
-    offers(alloc, &mut queue, 7, 1)?;
-    Ok(queue)
-}
-
-// The process is told that it is in view 1.
-fn enters(alloc: Global, queue: &mut Delay) -> Result<(), Fail> {
-    let mut time = Times::new(alloc);
-    time.enter(GROUP, 1)?;
-    queue.tell(MEMBER, &Fact::Time(time))?;
-    queue.tell(MEMBER, &Fact::Standing(GROUP, Standing::Member))?;
-    Ok(())
+    goes(
+        rt.alloc(),
+        &[
+            Step::Comes(0, 2),
+            Step::Waits(MEMBER),
+            Step::Comes(1, 1),
+            Step::Takes(1),
+            Step::Takes(0),
+            Step::Waits(MEMBER),
+            Step::Counts(2),
+        ],
+    )
 }
 
 #[test]
 fn a_joining_process_takes_nothing_of_the_group(rt: HostRuntime) -> Result<(), Fail> {
-    let mut queue = queue_of_a_joining(rt.alloc())?;
-    let joins = stands(&queue, MEMBER, JOINING) && waits(&queue, MEMBER);
-    enters(rt.alloc(), &mut queue)?;
-    let taken = takes(&mut queue, &[7])?;
-    assert!(rt;
-        joins && taken && waits(&queue, SENDER) && stands(&queue, SENDER, Standing::Outside)
-    );
-    Ok(())
+    goes(
+        rt.alloc(),
+        &[
+            Step::Joins,
+            Step::Comes(7, 1),
+            Step::Stands(MEMBER, JOINING),
+            Step::Waits(MEMBER),
+            Step::Enters,
+            Step::Takes(7),
+            Step::Waits(SENDER),
+            Step::Stands(SENDER, Standing::Outside),
+        ],
+    )
 }
 
 #[test]
 fn a_message_is_awaited_until_it_is_delivered(rt: HostRuntime) -> Result<(), Fail> {
-    let mut queue = queue_of_one(rt.alloc(), 3, 1)?;
-    let awaited = queue.is_awaited(id_of(1));
-    let taken = takes(&mut queue, &[3])?;
-    assert!(rt; awaited && taken && !queue.is_awaited(id_of(1)) && queue.is_awaited(id_of(2)));
-    Ok(())
+    goes(
+        rt.alloc(),
+        &[
+            Step::Comes(3, 1),
+            Step::Awaits(1, true),
+            Step::Takes(3),
+            Step::Awaits(1, false),
+            Step::Awaits(2, true),
+        ],
+    )
 }
 
 #[test]
 fn a_message_that_is_let_go_is_not_offered(rt: HostRuntime) -> Result<(), Fail> {
-    let mut queue = queue_of_one(rt.alloc(), 3, 1)?;
-    queue.forget(Key(2));
-    let is_left = queue.next_ready(MEMBER, &[]) == Some(Key(3));
-    queue.forget(Key(3));
-    assert!(rt; is_left && waits(&queue, MEMBER));
-    Ok(())
+    goes(
+        rt.alloc(),
+        &[
+            Step::Comes(3, 1),
+            Step::Forgets(2),
+            Step::Next(3),
+            Step::Forgets(3),
+            Step::Waits(MEMBER),
+        ],
+    )
 }
 
 #[test]
 fn an_abcast_waits_for_its_turn(rt: HostRuntime) -> Result<(), Fail> {
-    let queue = queue_of_an_abcast(rt.alloc(), 5, 1)?;
-    assert!(rt;
-        waits(&queue, MEMBER)
-            && !comes(&queue, Turn::Following(Some((SENDER, 2))), 5)
-            && comes(&queue, Turn::Following(Some((SENDER, 1))), 5)
-            && !comes(&queue, Turn::Holding(false), 5)
-            && comes(&queue, Turn::Holding(true), 5)
-    );
-    Ok(())
+    goes(
+        rt.alloc(),
+        &[
+            Step::ComesAtomic(5, 1),
+            Step::Waits(MEMBER),
+            Step::InTurn(Turn::Following(Some((SENDER, 2))), 5, false),
+            Step::InTurn(Turn::Following(Some((SENDER, 1))), 5, true),
+            Step::InTurn(Turn::Holding(false), 5, false),
+            Step::InTurn(Turn::Holding(true), 5, true),
+        ],
+    )
 }
 
 #[test]
 fn the_first_turn_of_a_group_counts(rt: HostRuntime) -> Result<(), Fail> {
-    let queue = queue_of_an_abcast(rt.alloc(), 5, 1)?;
-    let first = (GroupNo(2), Turn::Holding(false));
-    let second = (GROUP, Turn::Holding(true));
-    let third = (GROUP, Turn::Holding(false));
-    assert!(rt;
-        queue.next_ready(MEMBER, &[first, second, third]) == Some(Key(5))
-            && queue.next_ready(MEMBER, &[first, third, second]) == None
-    );
-    Ok(())
+    goes(
+        rt.alloc(),
+        &[
+            Step::ComesAtomic(5, 1),
+            Step::InTurns(Turn::Holding(true), Turn::Holding(false), Some(Key(5))),
+            Step::InTurns(Turn::Holding(false), Turn::Holding(true), None),
+        ],
+    )
 }
 
 #[test]
 fn an_abcast_waits_also_for_what_happened_before_it(rt: HostRuntime) -> Result<(), Fail> {
-    let mut queue = queue_of_an_abcast(rt.alloc(), 0, 2)?;
-    let waited = !comes(&queue, Turn::Holding(true), 0);
-    offers(rt.alloc(), &mut queue, 1, 1)?;
-    let taken = takes(&mut queue, &[1])?;
-    assert!(rt; waited && taken && comes(&queue, Turn::Holding(true), 0));
-    Ok(())
-}
-
-// Whether processes have delivered so many of the sender's first two messages of a view, as the rows say.
-fn passed(queue: &Delay, rows: &[(Proc, u32, usize)]) -> bool {
-    let ids = [(SENDER, 1), (SENDER, 2)];
-    rows.iter()
-        .all(|row| queue.passed(row.0, GROUP, row.1, &ids) == row.2)
+    goes(
+        rt.alloc(),
+        &[
+            Step::ComesAtomic(0, 2),
+            Step::InTurn(Turn::Holding(true), 0, false),
+            Step::Comes(1, 1),
+            Step::Takes(1),
+            Step::InTurn(Turn::Holding(true), 0, true),
+        ],
+    )
 }
 
 #[test]
 fn how_far_a_process_has_delivered(rt: HostRuntime) -> Result<(), Fail> {
-    let mut queue = queue_of_one(rt.alloc(), 0, 1)?;
-    let none = passed(&queue, &[(MEMBER, 1, 0)]);
-    let taken = takes(&mut queue, &[0])?;
-    assert!(rt;
-        none && taken
-            && queue.has_delivered(MEMBER, id_of(1))
-            && !queue.has_delivered(MEMBER, id_of(2))
-            && !queue.has_delivered(SENDER, id_of(1))
-            && passed(&queue, &[(MEMBER, 1, 1), (MEMBER, 2, 0), (SENDER, 1, 0)])
-    );
-    Ok(())
+    goes(
+        rt.alloc(),
+        &[
+            Step::Comes(0, 1),
+            Step::Passed(MEMBER, 1, 0),
+            Step::Takes(0),
+            Step::Has(MEMBER, 1, true),
+            Step::Has(MEMBER, 2, false),
+            Step::Has(SENDER, 1, false),
+            Step::Passed(MEMBER, 1, 1),
+            Step::Passed(MEMBER, 2, 0),
+            Step::Passed(SENDER, 1, 0),
+        ],
+    )
 }
 
 #[test]
 fn a_process_has_delivered_the_whole_list(rt: HostRuntime) -> Result<(), Fail> {
-    let mut queue = queue_of_one(rt.alloc(), 0, 1)?;
-    offers(rt.alloc(), &mut queue, 1, 2)?;
-    let taken = takes(&mut queue, &[0, 1])?;
-    assert!(rt; taken && passed(&queue, &[(MEMBER, 1, 2)]));
-    Ok(())
+    goes(
+        rt.alloc(),
+        &[
+            Step::Comes(0, 1),
+            Step::Comes(1, 2),
+            Step::Takes(0),
+            Step::Takes(1),
+            Step::Passed(MEMBER, 1, 2),
+        ],
+    )
 }

@@ -1,3 +1,4 @@
+use crate::messages::holds;
 use cast_message::{Placement, Tail};
 use cast_order::{Orders, laws};
 use cast_types::limits::MAX_POSITION;
@@ -19,24 +20,57 @@ const NEXT: Proc = Proc {
     serial: 2,
 };
 
+// What is done with the orders of a domain, and what is to be seen of them.
+#[derive(Clone, Copy)]
+enum Step<'a> {
+    // A set-order message of a group tells a place, and the counts that stand there and at the next.
+    Learns(GroupNo, (u32, u32, u32)),
+    // The process delivers so many of those that come next.
+    Passes(usize),
+    // The holder delivers the ABCASTs of the counts from one to before another.
+    Tells(u32, u32),
+    // The holder has sent its set-order message of a count, where its messages up to another are stable.
+    Sends(u32, u32),
+    // It does so with what it has to list, and learns that: places from one on, and how many ABCASTs stand there, from a
+    // first count to a last.
+    Lists(u32, u32, u32, (usize, u32, u32)),
+    // The order of the group ends, with an end and a cut.
+    Closes,
+    // The order of the group is forgotten.
+    Forgets,
+    // The first of the places that the next set-order message sets, 0 where it sets none.
+    Assigns(u32),
+    // How many ids stand before the tail, and the counts of the tail.
+    Tail(usize, &'a [u32]),
+    // The same of a long tail.
+    LongTail(usize, (usize, u32, u32)),
+    // The counts of a group's order, as far as it is known.
+    Known(GroupNo, &'a [u32]),
+    // How many are known of the group's.
+    CountKnown(usize),
+    // The counts that come next for a process.
+    Next(Proc, &'a [u32]),
+    // Whether ABCASTs wait to be listed.
+    Waits(bool),
+    // Whether the holder of a group may deliver one more, where its messages up to a count are stable.
+    HasRoom(GroupNo, u32, bool),
+}
+
 // The ABCAST of a count of the process.
 fn cast(count: u32) -> (Proc, u32) {
     (HERE, count)
 }
 
-// What a set-order message tells: the ABCASTs of these counts stand at a place and the next.
-fn placement(alloc: Global, first: u32, here: u32, next: u32) -> Result<Placement, Fail> {
-    if first < 1 || MAX_POSITION < first {
-        return Err(Fail::new("not a place"));
-    }
+// What a set-order message tells: the ABCASTs of these counts stand at a place, from 1 on, and the next.
+fn placement(alloc: Global, (first, here, next): (u32, u32, u32)) -> Result<Placement, NoMemory> {
     let mut ids = Vec::new(alloc);
     ids.push(cast(here))?;
     ids.push(cast(next))?;
-    Ok(Placement::from_parts(first, ids))
+    Ok(Placement::from_parts(first.clamp(1, MAX_POSITION), ids))
 }
 
 // The end of an order, behind three ids: the ABCASTs 13, 18 and 15.
-fn end(alloc: Global) -> Result<Tail, Fail> {
+fn end(alloc: Global) -> Result<Tail, NoMemory> {
     let mut ids = Vec::new(alloc);
     ids.push(cast(13))?;
     ids.push(cast(18))?;
@@ -45,238 +79,321 @@ fn end(alloc: Global) -> Result<Tail, Fail> {
 }
 
 // A cut that leaves out what the process cast after its first 15 messages.
-fn cut(alloc: Global) -> Result<Counts, Fail> {
+fn cut(alloc: Global) -> Result<Counts, NoMemory> {
     let mut cut = Counts::new(alloc);
     cut.set(HERE, 15)?;
     Ok(cut)
 }
 
-// Takes in what set-order messages of a group tell: a place, and the counts that stand there and at the next.
-fn learns(
-    alloc: Global,
-    orders: &mut Orders,
-    group: GroupNo,
-    rows: &[(u32, u32, u32)],
-) -> Result<(), Fail> {
-    for (first, here, next) in rows {
-        let told = placement(alloc, *first, *here, *next)?;
-        orders.learn(group, &told)?;
+// Whether these are the ABCASTs of these counts, in this order.
+fn are(ids: &[(Proc, u32)], counts: &[u32]) -> bool {
+    let mut well = ids.len() == counts.len();
+    for (id, count) in ids.iter().zip(counts) {
+        well = *id == cast(*count) && well;
     }
-    Ok(())
+    well
 }
 
-// What a site knows that was told so of one group.
-fn orders_of(alloc: Global, rows: &[(u32, u32, u32)]) -> Result<Orders, Fail> {
-    let mut orders = Orders::new(alloc);
-    learns(alloc, &mut orders, GROUP, rows)?;
-    Ok(orders)
+// Whether these are so many, of these first and last counts.
+fn is_run(ids: &[(Proc, u32)], (len, first, last): (usize, u32, u32)) -> bool {
+    ids.len() == len && ids.first() == Some(&cast(first)) && ids.last() == Some(&cast(last))
 }
 
-// The holder delivers the ABCASTs of the counts `from` to `to - 1`.
-fn tells(orders: &mut Orders, from: u32, to: u32) -> Result<(), Fail> {
+fn tells(orders: &mut Orders, from: u32, to: u32) -> Result<(), NoMemory> {
     for count in from..to {
         orders.tell(GROUP, cast(count))?;
     }
     Ok(())
 }
 
-// Whether these are the ABCASTs of these counts, in this order.
-fn are(ids: &[(Proc, u32)], counts: &[u32]) -> bool {
-    ids.len() == counts.len()
-        && ids
-            .iter()
-            .zip(counts)
-            .all(|(id, count)| *id == cast(*count))
+// The set-order message of a count is sent and learnt.
+fn sends(orders: &mut Orders, count: u32, stable: u32, told: &Placement) -> Result<(), NoMemory> {
+    orders.note(GROUP, count, stable)?;
+    orders.learn(GROUP, told)
 }
 
-// Whether these are so many, of these first and last counts.
-fn run(ids: &[(Proc, u32)], len: usize, first: u32, last: u32) -> bool {
-    ids.len() == len && ids.first() == Some(&cast(first)) && ids.last() == Some(&cast(last))
+// Whether the holder's next set-order message, which is sent and learnt, sets a run of places from this one on.
+fn lists(
+    orders: &mut Orders,
+    count: u32,
+    stable: u32,
+    place: u32,
+    run: (usize, u32, u32),
+) -> Result<bool, NoMemory> {
+    let Some(placement) = orders.assign(GROUP)? else {
+        return Ok(false);
+    };
+    sends(orders, count, stable, &placement)?;
+    Ok(placement.first() == place && is_run(placement.ids(), run))
+}
+
+fn closes(alloc: Global, orders: &mut Orders) -> Result<(), NoMemory> {
+    let end = end(alloc)?;
+    let cut = cut(alloc)?;
+    orders.close(GROUP, &end, &cut)
+}
+
+// The first place that the next set-order message sets.
+fn first_assigned(orders: &Orders) -> Result<u32, NoMemory> {
+    match orders.assign(GROUP)? {
+        Some(placement) => Ok(placement.first()),
+        None => Ok(0),
+    }
+}
+
+// Whether the order ends in these, behind so many ids.
+fn has_tail(orders: &Orders, start: usize, counts: &[u32]) -> Result<bool, NoMemory> {
+    let (before, ids) = orders.tail(GROUP)?;
+    Ok(before == start && are(ids.as_slice(), counts))
+}
+
+// The same of many.
+fn has_long_tail(orders: &Orders, start: usize, run: (usize, u32, u32)) -> Result<bool, NoMemory> {
+    let (before, ids) = orders.tail(GROUP)?;
+    Ok(before == start && is_run(ids.as_slice(), run))
+}
+
+// Whether the orders are as a step says that changes nothing and takes no memory.
+fn shows(orders: &Orders, step: Step<'_>) -> bool {
+    match step {
+        Step::Known(group, counts) => are(orders.known(group), counts),
+        Step::CountKnown(count) => orders.known(GROUP).len() == count,
+        Step::Next(process, counts) => are(orders.next(GROUP, process), counts),
+        Step::Waits(waits) => orders.waits(GROUP) == waits,
+        Step::HasRoom(group, stable, has_room) => orders.has_room(group, stable) == has_room,
+        _ => false,
+    }
+}
+
+// Takes in a set-order message of a group.
+fn learns(
+    alloc: Global,
+    orders: &mut Orders,
+    group: GroupNo,
+    told: (u32, u32, u32),
+) -> Result<(), NoMemory> {
+    let placement = placement(alloc, told)?;
+    orders.learn(group, &placement)
+}
+
+// Whether the orders are as a step says that takes memory.
+fn finds(orders: &mut Orders, step: Step<'_>) -> Result<bool, NoMemory> {
+    match step {
+        Step::Lists(count, stable, place, run) => lists(orders, count, stable, place, run),
+        Step::Assigns(place) => Ok(first_assigned(orders)? == place),
+        Step::Tail(start, counts) => has_tail(orders, start, counts),
+        Step::LongTail(start, run) => has_long_tail(orders, start, run),
+        _ => Ok(shows(orders, step)),
+    }
+}
+
+// Does a step, and tells whether the orders are as it says.
+fn does(alloc: Global, orders: &mut Orders, step: Step<'_>) -> Result<bool, NoMemory> {
+    let done = match step {
+        Step::Learns(group, told) => learns(alloc, orders, group, told),
+        Step::Passes(count) => orders.pass(GROUP, HERE, count),
+        Step::Tells(from, to) => tells(orders, from, to),
+        Step::Sends(count, stable) => orders.note(GROUP, count, stable),
+        Step::Closes => closes(alloc, orders),
+        Step::Forgets => {
+            orders.forget(GROUP);
+            Ok(())
+        }
+        _ => return finds(orders, step),
+    };
+    done?;
+    Ok(true)
+}
+
+// The orders of a domain of which nothing is known become in turn as the steps say.
+fn goes(alloc: Global, steps: &[Step<'_>]) -> Result<(), Fail> {
+    let mut orders = Orders::new(alloc);
+    for (place, step) in steps.iter().enumerate() {
+        let well = does(alloc, &mut orders, *step)?;
+        holds(place, well)?;
+    }
+    Ok(())
 }
 
 #[test]
 fn the_order_is_known_up_to_a_gap(rt: HostRuntime) -> Result<(), Fail> {
-    let mut orders = orders_of(rt.alloc(), &[(4, 14, 15)])?;
-    let at_first = are(orders.known(GROUP), &[]);
-    learns(rt.alloc(), &mut orders, GROUP, &[(1, 11, 12)])?;
-    let to_the_gap = are(orders.known(GROUP), &[11, 12]);
-    learns(rt.alloc(), &mut orders, GROUP, &[(3, 13, 19)])?;
-    assert!(rt; at_first && to_the_gap && are(orders.known(GROUP), &[11, 12, 13, 14, 15]));
-    Ok(())
+    goes(
+        rt.alloc(),
+        &[
+            Step::Learns(GROUP, (4, 14, 15)),
+            Step::Known(GROUP, &[]),
+            Step::Learns(GROUP, (1, 11, 12)),
+            Step::Known(GROUP, &[11, 12]),
+            Step::Learns(GROUP, (3, 13, 19)),
+            Step::Known(GROUP, &[11, 12, 13, 14, 15]),
+        ],
+    )
 }
 
 #[test]
 fn the_first_id_of_a_place_counts(rt: HostRuntime) -> Result<(), Fail> {
-    let orders = orders_of(rt.alloc(), &[(1, 11, 12), (1, 16, 17)])?;
-    assert!(rt; are(orders.known(GROUP), &[11, 12]) && are(orders.known(OTHER), &[]));
-    Ok(())
+    goes(
+        rt.alloc(),
+        &[
+            Step::Learns(GROUP, (1, 11, 12)),
+            Step::Learns(GROUP, (1, 16, 17)),
+            Step::Known(GROUP, &[11, 12]),
+            Step::Known(OTHER, &[]),
+        ],
+    )
 }
 
 #[test]
 fn a_process_goes_on_from_its_place(rt: HostRuntime) -> Result<(), Fail> {
-    let mut orders = orders_of(rt.alloc(), &[(1, 11, 12)])?;
-    orders.pass(GROUP, HERE, 1)?;
-    let one_is_left = are(orders.next(GROUP, HERE), &[12]);
-    orders.pass(GROUP, HERE, 9)?;
-    let none_is_left = are(orders.next(GROUP, HERE), &[]);
-    learns(rt.alloc(), &mut orders, GROUP, &[(3, 13, 14)])?;
-    assert!(rt;
-        one_is_left
-            && none_is_left
-            && are(orders.next(GROUP, HERE), &[13, 14])
-            && are(orders.next(GROUP, NEXT), &[11, 12, 13, 14])
-    );
-    Ok(())
-}
-
-// The places that the holder's next set-order message sets, which is sent and learnt.
-fn lists(orders: &mut Orders, count: u32, stable: u32) -> Result<Placement, Fail> {
-    let Some(placement) = orders.assign(GROUP)? else {
-        return Err(Fail::new("nothing to list"));
-    };
-    orders.note(GROUP, count, stable)?;
-    orders.learn(GROUP, &placement)?;
-    Ok(placement)
-}
-
-// Whether it sets so many places from this one on, to these first and last counts.
-fn sets(placement: &Placement, place: u32, len: usize, first: u32, last: u32) -> bool {
-    placement.first() == place && run(placement.ids(), len, first, last)
+    goes(
+        rt.alloc(),
+        &[
+            Step::Learns(GROUP, (1, 11, 12)),
+            Step::Passes(1),
+            Step::Next(HERE, &[12]),
+            Step::Passes(9),
+            Step::Next(HERE, &[]),
+            Step::Learns(GROUP, (3, 13, 14)),
+            Step::Next(HERE, &[13, 14]),
+            Step::Next(NEXT, &[11, 12, 13, 14]),
+        ],
+    )
 }
 
 #[test]
 fn the_holder_lists_what_it_delivered(rt: HostRuntime) -> Result<(), Fail> {
-    let mut orders = orders_of(rt.alloc(), &[(1, 11, 12)])?;
-    tells(&mut orders, 101, 201)?;
-    let waits = orders.waits(GROUP);
-    let first = lists(&mut orders, 1, 0)?;
-    let second = lists(&mut orders, 2, 1)?;
-    assert!(rt;
-        waits
-            && sets(&first, 3, 64, 101, 164)
-            && sets(&second, 67, 36, 165, 200)
-            && !orders.waits(GROUP)
-    );
-    Ok(())
+    goes(
+        rt.alloc(),
+        &[
+            Step::Learns(GROUP, (1, 11, 12)),
+            Step::Tells(101, 201),
+            Step::Waits(true),
+            Step::Lists(1, 0, 3, (64, 101, 164)),
+            Step::Lists(2, 1, 67, (36, 165, 200)),
+            Step::Waits(false),
+        ],
+    )
 }
 
 #[test]
 fn the_holder_waits_for_its_messages_to_be_stable(rt: HostRuntime) -> Result<(), Fail> {
-    let mut orders = Orders::new(rt.alloc());
-    tells(&mut orders, 1, 512)?;
-    let before = orders.has_room(GROUP, 0);
-    tells(&mut orders, 512, 513)?;
-    let after = orders.has_room(GROUP, 0);
-    orders.note(GROUP, 7, 0)?;
-    assert!(rt;
-        before
-            && !after
-            && !orders.has_room(GROUP, 6)
-            && orders.has_room(GROUP, 7)
-            && orders.has_room(OTHER, 0)
-    );
-    Ok(())
+    goes(
+        rt.alloc(),
+        &[
+            Step::Tells(1, 512),
+            Step::HasRoom(GROUP, 0, true),
+            Step::Tells(512, 513),
+            Step::HasRoom(GROUP, 0, false),
+            Step::Sends(7, 0),
+            Step::HasRoom(GROUP, 6, false),
+            Step::HasRoom(GROUP, 7, true),
+            Step::HasRoom(OTHER, 0, true),
+        ],
+    )
 }
 
 #[test]
 fn nothing_is_told_at_first(rt: HostRuntime) -> Result<(), Fail> {
-    let orders = Orders::new(rt.alloc());
-    let places = orders.assign(GROUP)?;
-    let (start, ids) = orders.tail(GROUP)?;
-    assert!(rt;
-        !orders.waits(GROUP)
-            && are(orders.next(GROUP, HERE), &[])
-            && places.is_none()
-            && start == 0
-            && ids.is_empty()
-    );
-    Ok(())
+    goes(
+        rt.alloc(),
+        &[
+            Step::Waits(false),
+            Step::Next(HERE, &[]),
+            Step::Assigns(0),
+            Step::Tail(0, &[]),
+        ],
+    )
 }
 
 #[test]
 fn the_tail_has_the_last_ids(rt: HostRuntime) -> Result<(), Fail> {
-    let mut orders = orders_of(rt.alloc(), &[(1, 11, 12)])?;
-    tells(&mut orders, 101, 612)?;
-    let (start, ids) = orders.tail(GROUP)?;
-    assert!(rt; start == 1 && run(ids.as_slice(), 512, 12, 611));
-    Ok(())
-}
-
-// An order of three ids and a tail; a process has passed one of them.
-fn closed_order(alloc: Global) -> Result<Orders, Fail> {
-    let end = end(alloc)?;
-    let cut = cut(alloc)?;
-    let mut orders = orders_of(alloc, &[(1, 11, 16), (3, 14, 12)])?;
-    orders.pass(GROUP, HERE, 1)?;
-    orders.tell(GROUP, cast(17))?;
-    orders.close(GROUP, &end, &cut)?;
-    Ok(orders)
+    goes(
+        rt.alloc(),
+        &[
+            Step::Learns(GROUP, (1, 11, 12)),
+            Step::Tells(101, 612),
+            Step::LongTail(1, (512, 12, 611)),
+        ],
+    )
 }
 
 #[test]
 fn a_closed_order_stays(rt: HostRuntime) -> Result<(), Fail> {
-    let mut orders = closed_order(rt.alloc())?;
-    let known = are(orders.known(GROUP), &[11, 14, 13, 15]);
-    let next = are(orders.next(GROUP, HERE), &[11, 14, 13, 15]);
-    let waits = orders.waits(GROUP);
-    learns(rt.alloc(), &mut orders, GROUP, &[(5, 12, 10)])?;
-    laws::a_closed_order_stays();
-    assert!(rt; known && next && !waits && are(orders.known(GROUP), &[11, 14, 13, 15]));
-    Ok(())
+    goes(
+        rt.alloc(),
+        &[
+            Step::Learns(GROUP, (1, 11, 16)),
+            Step::Learns(GROUP, (3, 14, 12)),
+            Step::Passes(1),
+            Step::Tells(17, 18),
+            Step::Closes,
+            Step::Known(GROUP, &[11, 14, 13, 15]),
+            Step::Next(HERE, &[11, 14, 13, 15]),
+            Step::Waits(false),
+            Step::Learns(GROUP, (5, 12, 10)),
+            Step::Known(GROUP, &[11, 14, 13, 15]),
+        ],
+    )
 }
 
 #[test]
 fn a_new_view_has_an_empty_order(rt: HostRuntime) -> Result<(), Fail> {
-    let mut orders = orders_of(rt.alloc(), &[(1, 11, 12)])?;
-    learns(rt.alloc(), &mut orders, OTHER, &[(1, 21, 22)])?;
-    orders.tell(GROUP, cast(101))?;
-    orders.forget(GROUP);
+    goes(
+        rt.alloc(),
+        &[
+            Step::Learns(GROUP, (1, 11, 12)),
+            Step::Learns(OTHER, (1, 21, 22)),
+            Step::Tells(101, 102),
+            Step::Forgets,
+            Step::Known(GROUP, &[]),
+            Step::Waits(false),
+            Step::Known(OTHER, &[21, 22]),
+        ],
+    )
+}
+
+// A law is called like any function, and does nothing when it runs.
+#[test]
+fn laws_can_be_called() {
+    laws::a_closed_order_stays();
     laws::order_is_the_rule_in_words();
     laws::log_means_the_rule();
     laws::log_keeps_its_meaning();
     laws::groups_do_not_mix();
-    assert!(rt;
-        are(orders.known(GROUP), &[]) && !orders.waits(GROUP) && are(orders.known(OTHER), &[21, 22])
-    );
-    Ok(())
 }
 
-// Goes through all calls as far as memory goes, and keeps in `well` whether each that succeeded is seen.
-fn goes_on(orders: &mut Orders, told: &Placement, well: &mut bool) -> Result<(), NoMemory> {
-    orders.learn(GROUP, told)?;
-    *well = are(orders.known(GROUP), &[11, 12]) && *well;
-    orders.pass(GROUP, HERE, 1)?;
-    *well = are(orders.next(GROUP, HERE), &[12]) && *well;
-    orders.tell(GROUP, cast(101))?;
-    *well = orders.waits(GROUP) && *well;
-    let (start, ids) = orders.tail(GROUP)?;
-    *well = start == 0 && are(ids.as_slice(), &[11, 12, 101]) && *well;
-    Ok(())
-}
-
-// The same of the calls after them.
-fn ends(orders: &mut Orders, end: &Tail, cut: &Counts, well: &mut bool) -> Result<(), NoMemory> {
-    let next = orders.assign(GROUP)?;
-    *well = next.is_some_and(|next| next.first() == 3) && *well;
-    orders.note(GROUP, 1, 0)?;
-    *well = !orders.waits(GROUP) && *well;
-    orders.close(GROUP, end, cut)?;
-    *well = orders.known(GROUP).len() == 4 && *well;
-    Ok(())
+// Whether the orders become in turn as the steps say, as far as memory goes.
+fn goes_while_it_can(alloc: Global, steps: &[Step<'_>]) -> bool {
+    let mut orders = Orders::new(alloc);
+    let mut well = true;
+    for step in steps {
+        match does(alloc, &mut orders, *step) {
+            Ok(is_so) => well = is_so && well,
+            Err(_) => return well,
+        }
+    }
+    well
 }
 
 // A call that is refused memory says so, and none gives another answer in place of that.
 #[test]
-fn a_refused_call_says_so(rt: HostRuntime) -> Result<(), Fail> {
-    let told = placement(rt.alloc(), 1, 11, 12)?;
-    let end = end(rt.alloc())?;
-    let cut = cut(rt.alloc())?;
-    let mut orders = Orders::new(rt.alloc());
-    let mut well = true;
-    let gone_on = goes_on(&mut orders, &told, &mut well);
-    if gone_on.is_ok() {
-        let _ended = ends(&mut orders, &end, &cut, &mut well);
-    }
+fn a_refused_call_says_so(rt: HostRuntime) {
+    let well = goes_while_it_can(
+        rt.alloc(),
+        &[
+            Step::Learns(GROUP, (1, 11, 12)),
+            Step::Known(GROUP, &[11, 12]),
+            Step::Passes(1),
+            Step::Next(HERE, &[12]),
+            Step::Tells(101, 102),
+            Step::Waits(true),
+            Step::Tail(0, &[11, 12, 101]),
+            Step::Assigns(3),
+            Step::Sends(1, 0),
+            Step::Waits(false),
+            Step::Closes,
+            Step::CountKnown(4),
+        ],
+    );
     assert!(rt; well);
-    Ok(())
 }

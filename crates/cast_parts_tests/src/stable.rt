@@ -1,6 +1,6 @@
-use crate::messages::{GROUP, id_of};
+use crate::messages::{GROUP, holds};
 use cast_stable::{Acks, Counted, laws};
-use cast_types::{Listed, Proc, SiteNo, Uid};
+use cast_types::{Listed, NoMemory, Proc, SiteNo, Uid};
 use std::alloc::Global;
 use std::test::Fail;
 
@@ -10,25 +10,45 @@ const SECOND: SiteNo = SiteNo(2);
 
 const THIRD: SiteNo = SiteNo(3);
 
-// Message `count` of the first process of the second site in a view of the group.
-fn theirs(view: u32, count: u32) -> Uid {
+// A message: the site of its process, the view and the count.
+type Name = (SiteNo, u32, u32);
+
+// What is done with the records of this site, and what is to be seen of them.
+#[derive(Clone, Copy)]
+enum Step {
+    // This site shares its view of the group with two others.
+    Shares,
+    // A site acknowledges a message.
+    Acks(SiteNo, Name),
+    // This site receives one.
+    Receives(Name),
+    // The site of the message's process tells its messages up to it to be stable.
+    Learns(Name),
+    // Whether a message is known to be stable.
+    Stable(Name, bool),
+    // How many of this site's messages are stable.
+    Upto(u32),
+    // Whether a message may be let go, where it is awaited or not.
+    MayFree(Name, bool, bool),
+    // Whether a site acknowledged a message.
+    Acked(SiteNo, Name, bool),
+    // Whether this site received one.
+    Received(Name, bool),
+    // How many other sites share the view of the group.
+    Others(usize),
+}
+
+// A message of the first process of a site.
+fn id((site, view, count): Name) -> Uid {
     Uid {
         group: GROUP,
         view,
-        proc: Proc {
-            site: SECOND,
-            serial: 1,
-        },
+        proc: Proc { site, serial: 1 },
         count,
     }
 }
 
-// The same of this site in view 1.
-fn mine(count: u32) -> Uid {
-    id_of(count)
-}
-
-fn counted_of(alloc: Global, counts: &[u32]) -> Result<Counted, Fail> {
+fn counted_of(alloc: Global, counts: &[u32]) -> Result<Counted, NoMemory> {
     let mut counted = Counted::new(alloc);
     for count in counts {
         counted.insert(*count)?;
@@ -37,114 +57,179 @@ fn counted_of(alloc: Global, counts: &[u32]) -> Result<Counted, Fail> {
 }
 
 // Whether a set runs to a count, and has further counts or not, as the rows say.
-fn counts(counted: &Counted, upto: u32, rows: &[(u32, bool)]) -> bool {
-    counted.upto() == upto && rows.iter().all(|row| counted.contains(row.0) == row.1)
+fn has(counted: &Counted, upto: u32, rows: &[(u32, bool)]) -> bool {
+    let mut well = counted.upto() == upto;
+    for (count, is_in) in rows {
+        well = counted.contains(*count) == *is_in && well;
+    }
+    well
+}
+
+// The same of the set of these counts, and of its copy.
+fn joins(alloc: Global, counts: &[u32], upto: u32, rows: &[(u32, bool)]) -> Result<bool, NoMemory> {
+    let counted = counted_of(alloc, counts)?;
+    let copied = counted.copy()?;
+    Ok(has(&counted, upto, rows) && has(&copied, upto, rows))
 }
 
 #[test]
 fn counts_join_the_run(rt: HostRuntime) -> Result<(), Fail> {
-    let apart = counted_of(rt.alloc(), &[5, 2, 3, 0, 3])?;
-    let begun = counted_of(rt.alloc(), &[5, 2, 3, 0, 3, 1])?;
-    let whole = counted_of(rt.alloc(), &[5, 2, 3, 0, 3, 1, 4])?.copy()?;
-    assert!(rt;
-        counts(&apart, 0, &[(3, true), (0, false)])
-            && counts(&begun, 3, &[(4, false), (5, true)])
-            && counts(&whole, 5, &[])
-    );
+    let apart = joins(rt.alloc(), &[5, 2, 3, 0, 3], 0, &[(3, true), (0, false)])?;
+    let begun = joins(rt.alloc(), &[5, 2, 3, 0, 3, 1], 3, &[(4, false), (5, true)])?;
+    let whole = joins(rt.alloc(), &[5, 2, 3, 0, 3, 1, 4], 5, &[])?;
+    assert!(rt; apart && begun && whole);
     Ok(())
 }
 
-// The records of site 1, which shares its view of the group with sites 2 and 3.
-fn records_of_three(alloc: Global) -> Result<Acks, Fail> {
-    let mut others = Vec::new(alloc);
+// The sites other than this one.
+fn others(alloc: Global) -> Result<Listed<SiteNo>, NoMemory> {
+    let mut others = Listed::new(alloc);
     others.push(SECOND)?;
     others.push(THIRD)?;
-    let mut acks = Acks::new(alloc, HERE);
-    acks.tell(GROUP, Listed::from_vec(others))?;
-    Ok(acks)
+    Ok(others)
 }
 
-// Sites acknowledge messages.
-fn acked(acks: &mut Acks, rows: &[(SiteNo, Uid)]) -> Result<(), Fail> {
-    for row in rows {
-        acks.ack(row.0, row.1)?;
+// Whether the records are as a step says that changes nothing.
+fn shows(acks: &Acks, step: Step) -> bool {
+    match step {
+        Step::Stable(name, is_stable) => acks.is_stable(id(name)) == is_stable,
+        Step::Upto(count) => acks.stable_upto(id((HERE, 1, 1))) == count,
+        Step::MayFree(name, is_awaited, may) => acks.may_free(id(name), is_awaited) == may,
+        Step::Acked(site, name, has_acked) => acks.has_acked(site, id(name)) == has_acked,
+        Step::Received(name, is_received) => acks.is_received(id(name)) == is_received,
+        Step::Others(count) => acks.others(GROUP).len() == count,
+        _ => false,
     }
-    Ok(())
 }
 
-// What sites acknowledged of the messages of this one: the first two, but of the first a site only that of a later view.
-fn acks_of_two(alloc: Global) -> Result<Acks, Fail> {
-    let later = Uid { view: 2, ..mine(1) };
-    let mut acks = records_of_three(alloc)?;
-    let rows = [
-        (SECOND, mine(1)),
-        (SECOND, mine(2)),
-        (THIRD, mine(2)),
-        (THIRD, later),
-    ];
-    acked(&mut acks, &rows)?;
-    Ok(acks)
+// Does a step, and tells whether the records are as it says.
+fn does(alloc: Global, acks: &mut Acks, step: Step) -> Result<bool, NoMemory> {
+    let done = match step {
+        Step::Shares => acks.tell(GROUP, others(alloc)?),
+        Step::Acks(site, name) => acks.ack(site, id(name)),
+        Step::Receives(name) => acks.receive(id(name)),
+        Step::Learns(name) => acks.learn_stable(id(name)),
+        _ => return Ok(shows(acks, step)),
+    };
+    done?;
+    Ok(true)
+}
+
+// The number of steps until records are not as a step says: all of them where they always are.
+fn follows(alloc: Global, acks: &mut Acks, steps: &[Step]) -> Result<usize, NoMemory> {
+    for (place, step) in steps.iter().enumerate() {
+        if !does(alloc, acks, *step)? {
+            return Ok(place);
+        }
+    }
+    Ok(steps.len())
+}
+
+// The same of the records of a site that knows no views.
+fn begins(alloc: Global, steps: &[Step]) -> Result<usize, NoMemory> {
+    let mut acks = Acks::new(alloc, HERE);
+    follows(alloc, &mut acks, steps)
+}
+
+// The records of a site that knows no views become in turn as the steps say.
+fn goes(alloc: Global, steps: &[Step]) -> Result<(), Fail> {
+    let place = begins(alloc, steps)?;
+    holds(place, place == steps.len())
 }
 
 #[test]
 fn a_message_is_not_stable_before_all_other_sites_have_it(rt: HostRuntime) -> Result<(), Fail> {
-    let acks = acks_of_two(rt.alloc())?;
-    assert!(rt; !acks.is_stable(mine(1)) && acks.stable_upto(mine(1)) == 0);
-    Ok(())
+    goes(
+        rt.alloc(),
+        &[
+            Step::Shares,
+            Step::Acks(SECOND, (HERE, 1, 1)),
+            Step::Acks(SECOND, (HERE, 1, 2)),
+            Step::Acks(THIRD, (HERE, 1, 2)),
+            Step::Acks(THIRD, (HERE, 2, 1)),
+            Step::Stable((HERE, 1, 1), false),
+            Step::Upto(0),
+        ],
+    )
 }
 
 #[test]
 fn a_message_is_stable_once_all_other_sites_have_it(rt: HostRuntime) -> Result<(), Fail> {
-    let mut acks = acks_of_two(rt.alloc())?;
-    acked(&mut acks, &[(THIRD, mine(1))])?;
-    assert!(rt;
-        acks.stable_upto(mine(1)) == 2
-            && acks.others(GROUP).len() == 2
-            && acks.is_stable(mine(2))
-            && !acks.is_stable(mine(3))
-            && acks.may_free(mine(2), false)
-            && !acks.may_free(mine(2), true)
-            && acks.has_acked(THIRD, mine(2))
-            && !acks.has_acked(THIRD, mine(3))
-    );
-    Ok(())
+    goes(
+        rt.alloc(),
+        &[
+            Step::Shares,
+            Step::Acks(SECOND, (HERE, 1, 1)),
+            Step::Acks(SECOND, (HERE, 1, 2)),
+            Step::Acks(THIRD, (HERE, 1, 2)),
+            Step::Acks(THIRD, (HERE, 2, 1)),
+            Step::Acks(THIRD, (HERE, 1, 1)),
+            Step::Upto(2),
+            Step::Others(2),
+            Step::Stable((HERE, 1, 2), true),
+            Step::Stable((HERE, 1, 3), false),
+            Step::MayFree((HERE, 1, 2), false, true),
+            Step::MayFree((HERE, 1, 2), true, false),
+            Step::Acked(THIRD, (HERE, 1, 2), true),
+            Step::Acked(THIRD, (HERE, 1, 3), false),
+        ],
+    )
 }
 
 #[test]
 fn a_message_is_received_by_its_count(rt: HostRuntime) -> Result<(), Fail> {
-    let mut acks = records_of_three(rt.alloc())?;
-    let before = acks.is_received(theirs(1, 2));
-    acks.receive(theirs(1, 2))?;
-    assert!(rt; !before && acks.is_received(theirs(1, 2)) && !acks.is_received(theirs(1, 1)));
-    Ok(())
+    goes(
+        rt.alloc(),
+        &[
+            Step::Shares,
+            Step::Received((SECOND, 1, 2), false),
+            Step::Receives((SECOND, 1, 2)),
+            Step::Received((SECOND, 1, 2), true),
+            Step::Received((SECOND, 1, 1), false),
+        ],
+    )
 }
 
 #[test]
 fn a_message_of_another_site_is_stable_once_that_site_says_so(rt: HostRuntime) -> Result<(), Fail> {
-    let mut acks = records_of_three(rt.alloc())?;
-    for count in [2, 1] {
-        acks.learn_stable(theirs(1, count))?;
-    }
-    assert!(rt;
-        acks.is_stable(theirs(1, 2))
-            && !acks.is_stable(theirs(1, 3))
-            && !acks.is_stable(theirs(2, 1))
-    );
-    Ok(())
+    goes(
+        rt.alloc(),
+        &[
+            Step::Shares,
+            Step::Learns((SECOND, 1, 2)),
+            Step::Learns((SECOND, 1, 1)),
+            Step::Stable((SECOND, 1, 2), true),
+            Step::Stable((SECOND, 1, 3), false),
+            Step::Stable((SECOND, 2, 1), false),
+        ],
+    )
 }
 
 #[test]
-fn a_message_to_a_view_of_one_site_is_stable_at_once(rt: HostRuntime) {
-    let acks = Acks::new(rt.alloc(), HERE);
+fn a_message_to_a_view_of_one_site_is_stable_at_once(rt: HostRuntime) -> Result<(), Fail> {
+    goes(
+        rt.alloc(),
+        &[Step::Stable((HERE, 1, 1), true), Step::Upto(0)],
+    )
+}
+
+// A law is called like any function, and does nothing when it runs.
+#[test]
+fn laws_can_be_called() {
     laws::stable_is_greatest();
     laws::records_mean_the_rule();
     laws::records_keep_their_meaning();
-    assert!(rt; acks.is_stable(mine(1)) && acks.stable_upto(mine(1)) == 0);
+}
+
+// Whether a site has received a message exactly if it was not refused memory for it.
+fn keeps_unless_refused(alloc: Global) -> bool {
+    let mut acks = Acks::new(alloc, HERE);
+    let is_kept = acks.receive(id((HERE, 1, 2))).is_ok();
+    acks.is_received(id((HERE, 1, 2))) == is_kept
 }
 
 #[test]
 fn a_refused_call_changes_nothing(rt: HostRuntime) {
-    let mut acks = Acks::new(rt.alloc(), HERE);
-    let is_kept = acks.receive(mine(2)).is_ok();
-    assert!(rt; acks.is_received(mine(2)) == is_kept);
+    let well = keeps_unless_refused(rt.alloc());
+    assert!(rt; well);
 }

@@ -1,5 +1,6 @@
+use crate::messages::holds;
 use cast_timer::{OwedKey, OwedKind, Side, Timers};
-use cast_types::{DomainNo, GroupNo, Proc, SiteNo};
+use cast_types::{DomainNo, GroupNo, NoMemory, Proc, SiteNo};
 use std::alloc::Global;
 use std::test::Fail;
 
@@ -10,7 +11,43 @@ const THERE: DomainNo = DomainNo(2);
 // A domain that owes nothing.
 const NOWHERE: DomainNo = DomainNo(3);
 
-fn key(kind: OwedKind, count: u32) -> OwedKey {
+// A frame that is owed: a request, and the first three messages of a process.
+#[derive(Clone, Copy)]
+enum Frame {
+    Ask,
+    First,
+    Second,
+    Third,
+}
+
+// One domain owes three frames, two of them due at 200 and one at 150; the other owes one of them too, due at 180.
+const TWO: [(DomainNo, Frame, u64); 4] = [
+    (HERE, Frame::First, 200),
+    (HERE, Frame::Second, 150),
+    (THERE, Frame::First, 180),
+    (HERE, Frame::Ask, 200),
+];
+
+// What is done with the timers, and what is to be seen of them.
+#[derive(Clone, Copy)]
+enum Step<'a> {
+    // Domains owe frames for moments.
+    Owes(&'a [(DomainNo, Frame, u64)]),
+    // A domain owes a frame for a moment, and for no other any more.
+    Renews(DomainNo, Frame, u64),
+    // It owes the frame no more.
+    Pays(DomainNo, Frame),
+    // It owes no more the frames up to this one.
+    PaysUpto(DomainNo, Frame),
+    // It owes nothing any more.
+    Drops(DomainNo),
+    // These frames of a domain are due at a moment, in this order.
+    Due(DomainNo, u64, &'a [Frame]),
+    // Whether a domain owes a frame.
+    Owed(DomainNo, Frame, bool),
+}
+
+fn key_of(kind: OwedKind, count: u32) -> OwedKey {
     OwedKey {
         kind,
         group: GroupNo(7),
@@ -24,161 +61,156 @@ fn key(kind: OwedKind, count: u32) -> OwedKey {
     }
 }
 
-fn ask() -> OwedKey {
-    key(OwedKind::Ask, 5)
+fn key(frame: Frame) -> OwedKey {
+    match frame {
+        Frame::Ask => key_of(OwedKind::Ask, 5),
+        Frame::First => key_of(OwedKind::Data, 1),
+        Frame::Second => key_of(OwedKind::Data, 2),
+        Frame::Third => key_of(OwedKind::Data, 3),
+    }
 }
 
-fn first() -> OwedKey {
-    key(OwedKind::Data, 1)
-}
-
-fn second() -> OwedKey {
-    key(OwedKind::Data, 2)
-}
-
-fn third() -> OwedKey {
-    key(OwedKind::Data, 3)
-}
-
-// Owes frames of domains for moments.
-fn owes(timers: &mut Timers, rows: &[(DomainNo, OwedKey, u64)]) -> Result<(), Fail> {
-    for (domain, key, due) in rows {
-        timers.owe(*domain, *key, *due)?;
+fn owes(timers: &mut Timers, rows: &[(DomainNo, Frame, u64)]) -> Result<(), NoMemory> {
+    for (domain, frame, due) in rows {
+        timers.owe(*domain, key(*frame), *due)?;
     }
     Ok(())
 }
 
-// The same, each for no other moment any more.
-fn renews(timers: &mut Timers, rows: &[(DomainNo, OwedKey, u64)]) -> Result<(), Fail> {
-    for (domain, key, due) in rows {
-        timers.renew(*domain, *key, *due)?;
+// Whether keys are those of these frames, in this order.
+fn are(keys: &[OwedKey], frames: &[Frame]) -> bool {
+    let mut well = keys.len() == frames.len();
+    for (owed, frame) in keys.iter().zip(frames) {
+        well = *owed == key(*frame) && well;
     }
-    Ok(())
+    well
 }
 
-// One domain owes three frames, two of them due at 200 and one at 150; the other owes one of them too, due at 180.
-fn timers_of_two(alloc: Global) -> Result<Timers, Fail> {
-    let mut timers = Timers::new(alloc);
-    let rows = [
-        (HERE, first(), 200),
-        (HERE, second(), 150),
-        (THERE, first(), 180),
-        (HERE, ask(), 200),
-    ];
-    owes(&mut timers, &rows)?;
-    Ok(timers)
-}
-
-// Whether these frames of domains are due at these moments, in this order.
-fn dues(
+// Whether these frames of a domain are due at a moment, in this order.
+fn is_due(
     alloc: Global,
     timers: &Timers,
-    rows: &[(DomainNo, u64, &[OwedKey])],
-) -> Result<bool, Fail> {
-    let mut well = true;
-    for (domain, now, keys) in rows {
-        let due = timers.due(alloc, *domain, *now)?;
-        well = due.as_slice() == *keys && well;
-    }
-    Ok(well)
+    domain: DomainNo,
+    now: u64,
+    frames: &[Frame],
+) -> Result<bool, NoMemory> {
+    let due = timers.due(alloc, domain, now)?;
+    Ok(are(due.as_slice(), frames))
 }
 
-// Whether frames of domains are owed or not, as the rows say.
-fn owed(timers: &Timers, rows: &[(DomainNo, OwedKey, bool)]) -> bool {
-    rows.iter()
-        .all(|row| timers.is_owed(row.0, &row.1) == row.2)
+// Does a step, and tells whether the timers are as it says.
+fn does(alloc: Global, timers: &mut Timers, step: Step<'_>) -> Result<bool, NoMemory> {
+    match step {
+        Step::Owes(rows) => owes(timers, rows)?,
+        Step::Renews(domain, frame, due) => timers.renew(domain, key(frame), due)?,
+        Step::Pays(domain, frame) => timers.pay(domain, &key(frame)),
+        Step::PaysUpto(domain, frame) => timers.pay_upto(domain, &key(frame)),
+        Step::Drops(domain) => timers.drop_domain(domain),
+        Step::Due(domain, now, frames) => return is_due(alloc, timers, domain, now, frames),
+        Step::Owed(domain, frame, is_owed) => {
+            return Ok(timers.is_owed(domain, &key(frame)) == is_owed);
+        }
+    }
+    Ok(true)
+}
+
+// Timers become in turn as the steps say.
+fn goes(alloc: Global, steps: &[Step<'_>]) -> Result<(), Fail> {
+    let mut timers = Timers::new(alloc);
+    for (place, step) in steps.iter().enumerate() {
+        let well = does(alloc, &mut timers, *step)?;
+        holds(place, well)?;
+    }
+    Ok(())
 }
 
 #[test]
 fn frames_are_due_by_moment_and_then_by_key(rt: HostRuntime) -> Result<(), Fail> {
-    let timers = timers_of_two(rt.alloc())?;
-    let none: [OwedKey; 0] = [];
-    let one = [second()];
-    let all = [second(), ask(), first()];
-    let rows = [
-        (HERE, 149, none.as_slice()),
-        (HERE, 199, one.as_slice()),
-        (HERE, 200, all.as_slice()),
-        (NOWHERE, 201, none.as_slice()),
-    ];
-    let well = dues(rt.alloc(), &timers, &rows)?;
-    assert!(rt; well);
-    Ok(())
+    goes(
+        rt.alloc(),
+        &[
+            Step::Owes(&TWO),
+            Step::Due(HERE, 149, &[]),
+            Step::Due(HERE, 199, &[Frame::Second]),
+            Step::Due(HERE, 200, &[Frame::Second, Frame::Ask, Frame::First]),
+            Step::Due(NOWHERE, 201, &[]),
+        ],
+    )
 }
 
 #[test]
 fn a_frame_that_is_owed_is_owed_once(rt: HostRuntime) -> Result<(), Fail> {
-    let mut timers = timers_of_two(rt.alloc())?;
-    owes(&mut timers, &[(HERE, ask(), 200)])?;
-    let all = [second(), ask(), first()];
-    let well = dues(rt.alloc(), &timers, &[(HERE, 201, all.as_slice())])?;
-    assert!(rt; well);
-    Ok(())
+    goes(
+        rt.alloc(),
+        &[
+            Step::Owes(&TWO),
+            Step::Owes(&[(HERE, Frame::Ask, 200)]),
+            Step::Due(HERE, 201, &[Frame::Second, Frame::Ask, Frame::First]),
+        ],
+    )
 }
 
 #[test]
 fn paying_leaves_the_other_frames(rt: HostRuntime) -> Result<(), Fail> {
-    let mut timers = timers_of_two(rt.alloc())?;
-    let before = timers.is_owed(HERE, &first());
-    timers.pay(HERE, &first());
-    timers.pay(NOWHERE, &second());
-    let after = [
-        (HERE, first(), false),
-        (HERE, second(), true),
-        (THERE, first(), true),
-        (THERE, second(), false),
-    ];
-    let here = [second(), ask()];
-    let there = [first()];
-    let rows = [(HERE, 200, here.as_slice()), (THERE, 180, there.as_slice())];
-    let well = dues(rt.alloc(), &timers, &rows)?;
-    assert!(rt; before && well && owed(&timers, &after));
-    Ok(())
+    goes(
+        rt.alloc(),
+        &[
+            Step::Owes(&TWO),
+            Step::Owed(HERE, Frame::First, true),
+            Step::Pays(HERE, Frame::First),
+            Step::Pays(NOWHERE, Frame::Second),
+            Step::Due(HERE, 200, &[Frame::Second, Frame::Ask]),
+            Step::Due(THERE, 180, &[Frame::First]),
+            Step::Owed(HERE, Frame::First, false),
+            Step::Owed(HERE, Frame::Second, true),
+            Step::Owed(THERE, Frame::First, true),
+            Step::Owed(THERE, Frame::Second, false),
+        ],
+    )
 }
 
 #[test]
 fn a_dropped_domain_owes_nothing(rt: HostRuntime) -> Result<(), Fail> {
-    let mut timers = timers_of_two(rt.alloc())?;
-    timers.drop_domain(HERE);
-    let none: [OwedKey; 0] = [];
-    let one = [first()];
-    let rows = [
-        (HERE, u64::MAX, none.as_slice()),
-        (THERE, u64::MAX, one.as_slice()),
-    ];
-    let dropped = dues(rt.alloc(), &timers, &rows)?;
-    owes(&mut timers, &[(HERE, first(), 300)])?;
-    let anew = dues(rt.alloc(), &timers, &[(HERE, 300, one.as_slice())])?;
-    assert!(rt; dropped && anew);
-    Ok(())
+    goes(
+        rt.alloc(),
+        &[
+            Step::Owes(&TWO),
+            Step::Drops(HERE),
+            Step::Due(HERE, u64::MAX, &[]),
+            Step::Due(THERE, u64::MAX, &[Frame::First]),
+            Step::Owes(&[(HERE, Frame::First, 300)]),
+            Step::Due(HERE, 300, &[Frame::First]),
+        ],
+    )
 }
 
 #[test]
 fn paying_up_to_a_count_leaves_higher_ones(rt: HostRuntime) -> Result<(), Fail> {
-    let mut timers = timers_of_two(rt.alloc())?;
-    owes(&mut timers, &[(HERE, third(), 100)])?;
-    timers.pay_upto(HERE, &second());
-    timers.pay_upto(NOWHERE, &second());
-    let left = [third(), ask()];
-    let well = dues(rt.alloc(), &timers, &[(HERE, 200, left.as_slice())])?;
-    assert!(rt; well && timers.is_owed(THERE, &first()));
-    Ok(())
+    goes(
+        rt.alloc(),
+        &[
+            Step::Owes(&TWO),
+            Step::Owes(&[(HERE, Frame::Third, 100)]),
+            Step::PaysUpto(HERE, Frame::Second),
+            Step::PaysUpto(NOWHERE, Frame::Second),
+            Step::Due(HERE, 200, &[Frame::Third, Frame::Ask]),
+            Step::Owed(THERE, Frame::First, true),
+        ],
+    )
 }
 
 #[test]
 fn a_renewed_frame_is_due_at_its_new_moment_alone(rt: HostRuntime) -> Result<(), Fail> {
-    let mut timers = timers_of_two(rt.alloc())?;
-    owes(&mut timers, &[(HERE, second(), 170)])?;
-    renews(&mut timers, &[(HERE, second(), 300), (NOWHERE, ask(), 100)])?;
-    let early = [ask(), first()];
-    let all = [ask(), first(), second()];
-    let new = [ask()];
-    let rows = [
-        (HERE, 299, early.as_slice()),
-        (HERE, 300, all.as_slice()),
-        (NOWHERE, 100, new.as_slice()),
-    ];
-    let well = dues(rt.alloc(), &timers, &rows)?;
-    assert!(rt; well);
-    Ok(())
+    goes(
+        rt.alloc(),
+        &[
+            Step::Owes(&TWO),
+            Step::Owes(&[(HERE, Frame::Second, 170)]),
+            Step::Renews(HERE, Frame::Second, 300),
+            Step::Renews(NOWHERE, Frame::Ask, 100),
+            Step::Due(HERE, 299, &[Frame::Ask, Frame::First]),
+            Step::Due(HERE, 300, &[Frame::Ask, Frame::First, Frame::Second]),
+            Step::Due(NOWHERE, 100, &[Frame::Ask]),
+        ],
+    )
 }

@@ -1,6 +1,7 @@
+use crate::messages::holds;
 use cast_types::{
-    Clock, Counts, DomainNo, GroupNo, Keyed, Kind, Listed, Proc, Refusal, SiteNo, Stamp, Uid,
-    clock, laws, sorted,
+    Clock, Counts, DomainNo, GroupNo, Keyed, Kind, Listed, NoMemory, Proc, Refusal, SiteNo, Stamp,
+    Uid, clock, laws, sorted,
 };
 use std::alloc::Global;
 use std::test::Fail;
@@ -26,7 +27,6 @@ fn message(group: u16, view: u32, proc: Proc, count: u32) -> Uid {
 fn names_compare_from_left_to_right(rt: HostRuntime) {
     let early = message(1, 9, proc(9, 9), 9);
     let late = message(2, 1, proc(1, 1), 1);
-    laws::names_are_ordered();
     assert!(rt;
         proc(1, 9) < proc(2, 1)
             && proc(1, 1) < proc(1, 2)
@@ -34,6 +34,12 @@ fn names_compare_from_left_to_right(rt: HostRuntime) {
             && DomainNo(1) < DomainNo(2)
             && Kind::Causal != Kind::Atomic
     );
+}
+
+// A law is called like any function, and does nothing when it runs.
+#[test]
+fn laws_can_be_called() {
+    laws::names_are_ordered();
 }
 
 #[test]
@@ -48,107 +54,141 @@ fn refusals_have_their_numbers(rt: HostRuntime) {
 }
 
 // A count of 5 for process 2.1 alone.
-fn counts_of_one(alloc: Global) -> Result<Counts, Fail> {
+fn counts_of_one(alloc: Global) -> Result<Counts, NoMemory> {
     let mut counts = Counts::new(alloc);
     counts.set(proc(2, 1), 5)?;
     Ok(counts)
 }
 
+// Whether counts, and as many in their copy, are those of one process.
+fn are_of_one(counts: Counts) -> Result<bool, NoMemory> {
+    let copied = counts.copy()?;
+    Ok(counts.get(proc(2, 1)) == 5 && counts.get(proc(1, 2)) == 0 && copied.len() == 1)
+}
+
 #[test]
 fn counts_are_kept_by_process(rt: HostRuntime) -> Result<(), Fail> {
-    let none = Counts::new(rt.alloc());
-    let counts = counts_of_one(rt.alloc())?;
-    let copied = counts.copy()?;
-    assert!(rt;
-        none.is_empty()
-            && counts.get(proc(2, 1)) == 5
-            && counts.get(proc(1, 2)) == 0
-            && copied.len() == 1
-    );
+    let well = are_of_one(counts_of_one(rt.alloc())?)?;
+    assert!(rt; well && Counts::new(rt.alloc()).is_empty());
     Ok(())
 }
 
-fn list_of_one(alloc: Global) -> Result<Listed<(Proc, u32)>, Fail> {
-    let mut entries = Vec::new(alloc);
-    entries.push((proc(1, 2), 7))?;
-    Ok(Listed::from_vec(entries))
+fn list_of_one(alloc: Global) -> Result<Listed<(Proc, u32)>, NoMemory> {
+    let mut list = Vec::new(alloc);
+    list.push((proc(1, 2), 7))?;
+    Ok(Listed::from_vec(list))
+}
+
+// Whether a list has two items once an item is put behind its one.
+fn grows_by_an_item(list: &mut Listed<(Proc, u32)>) -> Result<bool, NoMemory> {
+    list.push((proc(3, 1), 1))?;
+    Ok(list.len() == 2)
+}
+
+// Whether the third item is that of a further list, which is put behind two.
+fn grows_by_a_list(
+    list: &mut Listed<(Proc, u32)>,
+    more: Listed<(Proc, u32)>,
+) -> Result<bool, NoMemory> {
+    list.append(more)?;
+    Ok(list.as_slice().get(2) == Some(&(proc(1, 2), 7)))
+}
+
+// Whether one item is left where the others are cut off.
+fn is_cut_to_one(mut list: Listed<(Proc, u32)>) -> bool {
+    list.truncate(1);
+    list.into_vec().len() == 1
+}
+
+// Whether a list grows at its end, and the first item stays.
+fn grows(list: Listed<(Proc, u32)>) -> Result<bool, NoMemory> {
+    let mut copy = list.copy()?;
+    let has_two = grows_by_an_item(&mut copy)?;
+    let has_the_third = grows_by_a_list(&mut copy, list)?;
+    Ok(has_two && has_the_third && is_cut_to_one(copy))
 }
 
 #[test]
 fn a_list_grows_at_its_end(rt: HostRuntime) -> Result<(), Fail> {
-    let list = list_of_one(rt.alloc())?;
-    let mut copy = list.copy()?;
-    copy.push((proc(3, 1), 1))?;
-    let has_two = copy.len() == 2;
-    copy.append(list)?;
-    let has_the_third = copy.as_slice().get(2) == Some(&(proc(1, 2), 7));
-    copy.truncate(1);
-    assert!(rt; has_two && has_the_third && copy.into_vec().len() == 1);
-    Ok(())
+    holds(0, grows(list_of_one(rt.alloc())?)?)
 }
 
-fn set_of(alloc: Global, items: &[u16]) -> Result<Vec<u16>, Fail> {
-    let mut set = Vec::new(alloc);
+// Whether the set of these items stands so.
+fn stands_as(alloc: Global, items: &[u16], set: &[u16]) -> Result<bool, NoMemory> {
+    let mut sorted = Vec::new(alloc);
     for item in items {
-        sorted::insert(&mut set, *item)?;
+        sorted::insert(&mut sorted, *item)?;
     }
-    Ok(set)
+    Ok(sorted.as_slice() == set)
 }
 
 #[test]
 fn sets_stand_in_order(rt: HostRuntime) -> Result<(), Fail> {
-    let sites = set_of(rt.alloc(), &[3, 1, 3, 2])?;
-    assert!(rt; sites.as_slice() == [1u16, 2, 3].as_slice());
-    Ok(())
+    holds(0, stands_as(rt.alloc(), &[3, 1, 3, 2], &[1, 2, 3])?)
 }
 
-fn map_of(alloc: Global, entries: &[(u16, u32)]) -> Result<Keyed<u16, u32>, Fail> {
+fn map_of(alloc: Global, entries: &[(u16, u32)]) -> Result<Keyed<u16, u32>, NoMemory> {
     let mut map = Keyed::new(alloc);
-    for entry in entries {
-        map.put(entry.0, entry.1)?;
+    for (key, value) in entries {
+        map.put(*key, *value)?;
     }
     Ok(map)
 }
 
+fn value_at(map: &Keyed<u16, u32>, key: u16) -> Option<u32> {
+    map.get(&key).copied()
+}
+
+// Whether a map of two keys has the later value of the one that was put twice.
+fn has_the_later(map: Keyed<u16, u32>) -> bool {
+    value_at(&map, 2) == Some(21) && value_at(&map, 3) == None && map.entries().len() == 2
+}
+
 #[test]
 fn maps_stand_in_order(rt: HostRuntime) -> Result<(), Fail> {
-    let names = map_of(rt.alloc(), &[(2, 20), (1, 10), (2, 21)])?;
-    assert!(rt;
-        names.get(&2).copied() == Some(21) && names.get(&3) == None && names.entries().len() == 2
-    );
-    Ok(())
+    holds(
+        0,
+        has_the_later(map_of(rt.alloc(), &[(2, 20), (1, 10), (2, 21)])?),
+    )
 }
 
 // A clock of view 2 for group 7.
-fn clocks_of_one(alloc: Global) -> Result<Vec<(GroupNo, Clock)>, Fail> {
+fn clocks_of_one(alloc: Global) -> Result<Vec<(GroupNo, Clock)>, NoMemory> {
     let mut clocks = Vec::new(alloc);
     let counts = Counts::new(alloc);
     clocks.push((GroupNo(7), Clock { view: 2, counts }))?;
     Ok(clocks)
 }
 
-fn stamp_of_one(alloc: Global) -> Result<Stamp, Fail> {
+// Whether there is one clock, and one in the copy.
+fn are_one(alloc: Global, clocks: Vec<(GroupNo, Clock)>) -> Result<bool, NoMemory> {
+    let copied = clock::copy_clocks(alloc, &clocks)?;
+    Ok(clocks.len() == 1 && copied.len() == 1)
+}
+
+#[test]
+fn clocks_are_copied(rt: HostRuntime) -> Result<(), Fail> {
+    holds(0, are_one(rt.alloc(), clocks_of_one(rt.alloc())?)?)
+}
+
+fn stamp_of_one(alloc: Global) -> Result<Stamp, NoMemory> {
     let mut clocks = Vec::new(alloc);
     let counts = Counts::new(alloc);
     clocks.push((GroupNo(7), Clock { view: 2, counts }))?;
     Ok(Stamp::from_clocks(clocks))
 }
 
-#[test]
-fn clocks_are_copied(rt: HostRuntime) -> Result<(), Fail> {
-    let clocks = clocks_of_one(rt.alloc())?;
-    let copied = clock::copy_clocks(rt.alloc(), &clocks)?;
-    assert!(rt; clocks.len() == 1 && copied.len() == 1);
-    Ok(())
+// Whether a stamp has a clock of one group alone.
+fn is_of_one(stamp: Stamp) -> bool {
+    stamp.get(GroupNo(7)).is_some() && stamp.get(GroupNo(8)).is_none() && stamp.clocks().len() == 1
+}
+
+// The same of its copy.
+fn copy_is_of_one(stamp: Stamp) -> Result<bool, NoMemory> {
+    Ok(is_of_one(stamp.copy()?))
 }
 
 #[test]
 fn stamps_are_found_by_group(rt: HostRuntime) -> Result<(), Fail> {
-    let stamp = stamp_of_one(rt.alloc())?.copy()?;
-    assert!(rt;
-        stamp.get(GroupNo(7)).is_some()
-            && stamp.get(GroupNo(8)).is_none()
-            && stamp.clocks().len() == 1
-    );
-    Ok(())
+    holds(0, copy_is_of_one(stamp_of_one(rt.alloc())?)?)
 }
