@@ -1,6 +1,6 @@
 use crate::messages::holds;
 use cast_message::{Placement, Tail};
-use cast_order::{Orders, laws};
+use cast_order::Orders;
 use cast_types::limits::MAX_POSITION;
 use cast_types::{Counts, GroupNo, NoMemory, Proc, SiteNo};
 use std::alloc::Global;
@@ -350,16 +350,6 @@ fn a_new_view_has_an_empty_order(rt: HostRuntime) -> Result<(), Fail> {
             Step::Known(OTHER, &[21, 22]),
         ],
     )
-}
-
-// A law is called like any function, and does nothing when it runs.
-#[test]
-fn laws_can_be_called() {
-    laws::a_closed_order_stays();
-    laws::order_is_the_rule_in_words();
-    laws::log_means_the_rule();
-    laws::log_keeps_its_meaning();
-    laws::groups_do_not_mix();
 }
 
 // Whether the orders become in turn as the steps say, as far as memory goes.

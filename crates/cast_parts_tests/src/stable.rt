@@ -1,5 +1,5 @@
 use crate::messages::{GROUP, holds};
-use cast_stable::{Acks, Counted, laws};
+use cast_stable::{Acks, Counted};
 use cast_types::{Listed, NoMemory, Proc, SiteNo, Uid};
 use std::alloc::Global;
 use std::test::Fail;
@@ -211,14 +211,6 @@ fn a_message_to_a_view_of_one_site_is_stable_at_once(rt: HostRuntime) -> Result<
         rt.alloc(),
         &[Step::Stable((HERE, 1, 1), true), Step::Upto(0)],
     )
-}
-
-// A law is called like any function, and does nothing when it runs.
-#[test]
-fn laws_can_be_called() {
-    laws::stable_is_greatest();
-    laws::records_mean_the_rule();
-    laws::records_keep_their_meaning();
 }
 
 // Whether a site has received a message exactly if it was not refused memory for it.

@@ -1,7 +1,7 @@
 use crate::messages::holds;
 use cast_types::{
     Clock, Counts, DomainNo, GroupNo, Keyed, Kind, Listed, NoMemory, Proc, Refusal, SiteNo, Stamp,
-    Uid, clock, laws, sorted,
+    Uid, clock, sorted,
 };
 use std::alloc::Global;
 use std::test::Fail;
@@ -34,12 +34,6 @@ fn names_compare_from_left_to_right(rt: HostRuntime) {
             && DomainNo(1) < DomainNo(2)
             && Kind::Causal != Kind::Atomic
     );
-}
-
-// A law is called like any function, and does nothing when it runs.
-#[test]
-fn laws_can_be_called() {
-    laws::names_are_ordered();
 }
 
 #[test]
