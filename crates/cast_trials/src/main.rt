@@ -18,11 +18,7 @@ fn run<R: Clock + Env + Files + Input + Print + AllocGlobal>(rt: &R) -> Result<(
     let words = env::args(rt)?.collect::<Vec<String>>(rt.alloc())?;
     match words.as_slice() {
         [_, job, names @ ..] if job.as_str() == "rows" => {
-            let mut out = io::writer(rt);
-            scripts::replay_all(rt, names, &mut out)?;
-            for name in names.iter().take(1) {
-                scripts::replay_closed(rt, name, &mut out)?;
-            }
+            scripts::replay_all(rt, names, &mut io::writer(rt))?;
             frames::try_all(rt)?;
         }
         [_, job, file, rounds] if job.as_str() == "speed" => speed::measure(rt, file, rounds)?,

@@ -29,16 +29,15 @@ impl Write for Closed {
     }
 }
 
-/// Replays the script in a file where nothing can be written, and prints the status.
-pub fn replay_closed<R: Files + AllocGlobal, O: Write>(
+// Replays the script in a file where nothing can be written, and prints the status.
+fn replay_closed<R: Files + AllocGlobal, O: Write>(
     rt: &R,
     name: &str,
     out: &mut O,
 ) -> io::Result<()> {
     let bytes = fs::read(rt, name)?;
     let status = run_script(rt.alloc(), name, &bytes, &mut Closed, &mut Closed);
-    writeln!(out, "== {name} with nothing written")?;
-    writeln!(out, "status {status}")
+    writeln!(out, "status {status} where nothing can be written")
 }
 
 /// Replays the scripts of these names, and prints what comes of each.
@@ -49,6 +48,7 @@ pub fn replay_all<R: Files + AllocGlobal, O: Write>(
 ) -> io::Result<()> {
     for name in names {
         replay(rt, name.as_str(), out)?;
+        replay_closed(rt, name.as_str(), out)?;
     }
     Ok(())
 }

@@ -4,7 +4,7 @@
 //! Promised: names of each sort have a total order by their numbers from left to right; a refusal and its number name
 //! each other; a `Listed` is seen as the list of its items and a `Keyed` as the list of its entries; a `Counts` holds
 //! at most 64 counts of at least 1, in rising order of their processes; a `Stamp` holds 1 to 32 clocks of views from 1
-//! on, in rising order of their groups.
+//! on, in rising order of their groups; each limit is the number that `laws` gives it.
 //!
 //! The definitions are in `specs/`: `Names`, `Sources`, `Refusals`, `Counts`, `Stamps`, `Sets`, `Laws`, `Places` (one
 //! place of a list changed) and `Repeat` (passes until nothing changes). `proofs/` has the laws on lists that the other
