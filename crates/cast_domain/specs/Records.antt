@@ -68,10 +68,6 @@ number_of d = d.config.domain
 abbrev pub is_halted : Domain → Bool
 is_halted d = d.halted
 
--- how many serials were given
-abbrev pub used_of : Domain → ℕ
-used_of d = d.used
-
 -- a domain of this configuration at this site
 abbrev pub IsFor : SiteNo → DomainConfig → Domain → Type 0
 IsFor site config d = (d.site ≡ site) × (d.config ≡ config)

@@ -1,4 +1,4 @@
-ghost use Rattle.std.specs.Prelude.{◌≡◌, ◌<◌, true, false, IfSome, IfOk, OnOk, OnErr, length, vec_len};
+ghost use Rattle.std.specs.Prelude.{◌≡◌, ◌<◌, true, false, None, [], IfSome, IfOk, OnOk, OnErr, length, vec_len};
 ghost use Rattle.cast_types.specs.Places.{update};
 ghost use Rattle.cast_model.specs.Session.{told};
 
@@ -35,7 +35,7 @@ impl Domain {
     ghost use Rattle.cast_types.specs.Names.{group_cmp};
     ghost use Rattle.cast_message.specs.Rising.{is_rising};
     ghost use Rattle.cast_domain.specs.State.{opening};
-    ghost use Rattle.cast_domain.specs.Records.{number_of, is_halted, used_of, sessions_of, IsFor};
+    ghost use Rattle.cast_domain.specs.Records.{number_of, is_halted, sessions_of, IsFor};
     ghost use Rattle.cast_domain.specs.Shared.{no_part};
     ghost use Rattle.cast_domain.specs.Fits.{Means};
 
@@ -44,7 +44,7 @@ impl Domain {
         ensures number { IfOk result (λ d. number_of d ≡ config.domain) }
         ensures running { IfOk result (λ d. is_halted d ≡ false) }
         ensures placed { IfOk result (λ d. IsFor site config d) }
-        ensures unused { IfOk result (λ d. used_of d ≡ 0) }
+        ensures unused { IfOk result (λ d. sessions_of d ≡ []) }
         ensures begins { IfOk result (λ d. is_rising group_cmp config.groups ≡ true → Means d no_part (opening site config)) }
     {
         let mut groups = Vec::new(alloc);
@@ -94,7 +94,8 @@ impl Domain {
 impl Domain {
     ghost use Rattle.cast_types.specs.Names.{site_eq};
     ghost use Rattle.cast_model.specs.declared.event.Outs.{Outs};
-    ghost use Rattle.cast_domain.specs.Records.{Keeps, answer_to, is_halted, number_of, records_in, records_of, used_after, used_of};
+    ghost use Rattle.cast_model.specs.Events.{domain_of};
+    ghost use Rattle.cast_domain.specs.Records.{Keeps, answer_to, is_halted, number_of, records_in, records_of, used_after};
     ghost use Rattle.cast_domain.specs.Shared.{LeavesOthers, Part, part_of};
     ghost use Rattle.cast_domain.specs.Fits.{IsTyped};
     ghost use Rattle.cast_domain.specs.Stepped.{IsStepped};
@@ -192,8 +193,7 @@ impl Domain {
         event: &Event,
         outs: &mut Outs,
     ) -> Result<Taken, NoMemory>
-        ensures answer { is_halted self.old ≡ false → IfOk result (λ t. t ≡ answer_to (used_of self.old) event.now) }
-        ensures used { is_halted self.old ≡ false → OnOk result (used_of self.new ≡ used_after (used_of self.old) event.now) }
+        ensures unnamed { is_halted self.old ≡ false → domain_of event.now ≡ None → IfOk result (λ t. t ≡ Taken.Nothing) }
         ensures number { number_of self.new ≡ number_of self.old }
         ensures running { is_halted self.old ≡ false → OnOk result (is_halted self.new ≡ false) }
         ensures halts { OnErr result (is_halted self.new ≡ true) }

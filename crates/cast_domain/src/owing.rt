@@ -190,9 +190,8 @@ impl Domain {
         ensures others { LeavesOthers self.now.config.domain shared.old shared.new }
         ensures made { OnOk result (records_in self.now shared.new outs.new ≡ resend_due_in (records_in self.now shared.old outs.old)) }
     {
-        let alloc = *self.groups.allocator();
         let now = self.moment.millis();
-        for key in shared.timers.due(alloc, self.config.domain, now)? {
+        for key in shared.timers.due(self.config.domain, now)? {
             self.resend(key, shared, outs)?;
         }
         Ok(())

@@ -1,3 +1,4 @@
+pub mod Numbers
 pub mod Many
 pub mod Fields
 pub mod Lists

@@ -7,6 +7,7 @@ ghost use Rattle.cast_types.specs.Names.{group_cmp, proc_cmp};
 
 use crate::fault::FrameFault;
 use crate::header::{MAGIC, VERSION};
+use byteorder::{BigEndian, ByteOrder};
 use bytes::Bytes;
 use cast_message::{Body, Change, Kept, Members, Message, Payload, Placement, SiteFrame, Tail};
 use cast_types::limits::{
@@ -48,7 +49,7 @@ pub fn read_byte(low: u8, high: u8, bytes: &[u8]) -> Result<(u8, &[u8]), FrameFa
     }
 }
 
-#[tactic(auto, unfolding(crate::specs::Reading::number_at, crate::specs::Reading::within_range))]
+#[tactic(auto, unfolding(crate::specs::Reading::number_at, crate::specs::Reading::within_range), using(crate::proofs::Numbers::two_bytes))]
 fn read_short(low: u16, high: u16, bytes: &[u8]) -> Result<(u16, &[u8]), FrameFault>
     ensures { GivesField result (number_at w16 low high bytes.now) }
 {
@@ -56,14 +57,14 @@ fn read_short(low: u16, high: u16, bytes: &[u8]) -> Result<(u16, &[u8]), FrameFa
         return Err(FrameFault::Short);
     }
     let (front, rest) = bytes.split_at(2);
-    let number = u16::from_be_bytes([front[0], front[1]]);
+    let number = BigEndian::read_u16(front);
     if number < low || number > high {
         return Err(FrameFault::Range);
     }
     Ok((number, rest))
 }
 
-#[tactic(auto, unfolding(crate::specs::Reading::number_at, crate::specs::Reading::within_range))]
+#[tactic(auto, unfolding(crate::specs::Reading::number_at, crate::specs::Reading::within_range), using(crate::proofs::Numbers::four_bytes))]
 pub fn read_word(low: u32, high: u32, bytes: &[u8]) -> Result<(u32, &[u8]), FrameFault>
     ensures { GivesField result (number_at w32 low high bytes.now) }
 {
@@ -71,7 +72,7 @@ pub fn read_word(low: u32, high: u32, bytes: &[u8]) -> Result<(u32, &[u8]), Fram
         return Err(FrameFault::Short);
     }
     let (front, rest) = bytes.split_at(4);
-    let number = u32::from_be_bytes([front[0], front[1], front[2], front[3]]);
+    let number = BigEndian::read_u32(front);
     if number < low || number > high {
         return Err(FrameFault::Range);
     }

@@ -177,7 +177,8 @@ fn a_65th_count_is_refused(rt: HostRuntime) -> Result<(), Fail> {
         rt.alloc(),
         &[
             Step::Enters(3),
-            Step::Raises(1, 65),
+            Step::Raises(1, 64),
+            Step::Joins((3, 64, 65)),
             Step::Refuses((3, 65, 66), 65),
             Step::Raises(64, 65),
             Step::Count(64, 2),

@@ -88,25 +88,24 @@ fn are(keys: &[OwedKey], frames: &[Frame]) -> bool {
 
 // Whether these frames of a domain are due at a moment, in this order.
 fn is_due(
-    alloc: Global,
     timers: &Timers,
     domain: DomainNo,
     now: u64,
     frames: &[Frame],
 ) -> Result<bool, NoMemory> {
-    let due = timers.due(alloc, domain, now)?;
+    let due = timers.due(domain, now)?;
     Ok(are(due.as_slice(), frames))
 }
 
 // Does a step, and tells whether the timers are as it says.
-fn does(alloc: Global, timers: &mut Timers, step: Step<'_>) -> Result<bool, NoMemory> {
+fn does(timers: &mut Timers, step: Step<'_>) -> Result<bool, NoMemory> {
     match step {
         Step::Owes(rows) => owes(timers, rows)?,
         Step::Renews(domain, frame, due) => timers.renew(domain, key(frame), due)?,
         Step::Pays(domain, frame) => timers.pay(domain, &key(frame)),
         Step::PaysUpto(domain, frame) => timers.pay_upto(domain, &key(frame)),
         Step::Drops(domain) => timers.drop_domain(domain),
-        Step::Due(domain, now, frames) => return is_due(alloc, timers, domain, now, frames),
+        Step::Due(domain, now, frames) => return is_due(timers, domain, now, frames),
         Step::Owed(domain, frame, is_owed) => {
             return Ok(timers.is_owed(domain, &key(frame)) == is_owed);
         }
@@ -118,7 +117,7 @@ fn does(alloc: Global, timers: &mut Timers, step: Step<'_>) -> Result<bool, NoMe
 fn goes(alloc: Global, steps: &[Step<'_>]) -> Result<(), Fail> {
     let mut timers = Timers::new(alloc);
     for (place, step) in steps.iter().enumerate() {
-        let well = does(alloc, &mut timers, *step)?;
+        let well = does(&mut timers, *step)?;
         holds(place, well)?;
     }
     Ok(())

@@ -14,7 +14,7 @@ use Rattle.cast_model.specs.declared.event.Taken.{Taken}
 use Rattle.cast_model.specs.declared.event.Taken.TheVariants.{Nothing, Refused}
 use Rattle.cast_domain.specs.declared.shared.Shared.{Shared}
 use Rattle.cast_model.specs.Events.{domain_of}
-use Rattle.cast_domain.specs.Records.{number_of, is_halted, used_of, IsFor}
+use Rattle.cast_domain.specs.Records.{number_of, is_halted, sessions_of, IsFor}
 use Rattle.cast_domain.specs.Shared.{Part, part_of, no_part, LeavesOthers}
 use Rattle.cast_domain.specs.State.{opening}
 use Rattle.cast_domain.specs.Fits.{Means}
@@ -43,7 +43,7 @@ pub record IsNew (here : SiteNo) (config : DomainConfig) (d : Domain) : Type 0 w
   pub number : number_of d ≡ config.domain
   pub running : is_halted d ≡ false
   pub placed : IsFor here config d
-  pub unused : used_of d ≡ 0
+  pub unused : sessions_of d ≡ []
   pub begins : is_rising group_cmp config.groups ≡ true → Means d no_part (opening here config)
 
 -- what domains are lent for their steps: what they share, and where they add what they send and deliver

@@ -75,7 +75,7 @@ impl Frames {
     }
 
     /// The keys of the frames that are due.
-    pub(crate) fn due(&self, alloc: Global, now: u64) -> Result<Vec<OwedKey>, NoMemory>
+    pub(crate) fn due(&self, now: u64) -> Result<Vec<OwedKey>, NoMemory>
         ensures value { IfOk result (λ keys. keys.items ≡ due_at now self.now) }
         ensures rising { IsTrue (is_rising (due_frames now self.now)) }
     {
@@ -83,7 +83,7 @@ impl Frames {
             .iter()
             .filter(|frame| frame.due <= now)
             .map(|frame| frame.key)
-            .collect(alloc)
+            .collect(*self.owed.allocator())
     }
 }
 

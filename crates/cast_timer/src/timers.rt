@@ -109,13 +109,13 @@ impl Timers {
     /// The keys of the domain's frames that are due at the moment `now`, in milliseconds: those of that moment and of
     /// earlier ones, in order of their moments and then of their keys. They stay owed. `NoMemory`: the list was refused
     /// memory.
-    pub fn due(&self, alloc: Global, domain: DomainNo, now: u64) -> Result<Vec<OwedKey>, NoMemory>
+    pub fn due(&self, domain: DomainNo, now: u64) -> Result<Vec<OwedKey>, NoMemory>
         ensures value { IfOk result (λ keys. keys.items ≡ due_at now (owed_in self.now domain)) }
         ensures rising { IsTrue (is_rising (due_frames now (owed_in self.now domain))) }
     {
         match row_among(&self.rows, domain) {
-            Some(row) => row.frames.due(alloc, now),
-            None => Ok(Vec::new(alloc)),
+            Some(row) => row.frames.due(now),
+            None => Ok(Vec::new(*self.rows.allocator())),
         }
     }
 
