@@ -12,7 +12,7 @@ use Rattle.cast_message.specs.declared.client.Command.{Command}
 use Rattle.cast_message.specs.declared.client.Command.TheVariants.{Request}
 use Rattle.cast_client.specs.Reading.{client_of}
 use Rattle.cast_client.proofs.Stays.{frame_is_there, length_fits, frame_stays, fault_stays}
-use Rattle.cast_session.specs.Known.{IsBeginning}
+use Rattle.cast_device.specs.Writing.{IsBeginning}
 use Rattle.cast_session.specs.Commands.{Heard, nothing, and_then, heard, commands_within, commands_of}
 use Rattle.cast_session.proofs.Fronts.{no_front}
 use Rattle.cast_session.specs.Laws.{CommandsStay, FaultEnds, RequestsThenBad, bad_for}

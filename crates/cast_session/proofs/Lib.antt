@@ -1,6 +1,6 @@
 pub mod Fronts
 pub mod Heard
-pub mod Written
 pub mod Pushes
+pub mod Calls
 pub mod Pumping
 pub mod ReadingPush

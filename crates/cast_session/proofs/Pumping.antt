@@ -16,7 +16,8 @@ use Rattle.cast_session.specs.declared.frames.Turn.{Turn}
 use Rattle.cast_session.specs.declared.frames.Turn.TheVariants as turn
 use Rattle.cast_session.specs.declared.incoming.InEnd.{InEnd}
 use Rattle.cast_session.specs.declared.incoming.InEnd.TheVariants as ends
-use Rattle.cast_session.specs.Known.{IsBeginning, Adds}
+use Rattle.cast_device.specs.Writing.{IsBeginning}
+use Rattle.cast_session.specs.Known.{Adds}
 use Rattle.cast_session.specs.Commands.{Heard, nothing, only_bad, and_then, commands_of}
 use Rattle.cast_session.specs.Turns.{Turned}
 use Rattle.cast_session.specs.Incoming.{Ended, PumpedIn, EndsBad}

@@ -4,8 +4,9 @@ use Rattle.std.specs.Io.KnownBytes.{Appends}
 use Rattle.cast_message.specs.declared.client.ClientFrame.TheVariants as client
 use Rattle.cast_message.specs.declared.client.Push.{Push}
 use Rattle.cast_client.specs.Spelling.{spelled_client}
-use Rattle.cast_session.specs.Outgoing.{WrotePart, spelled_pushes}
-use Rattle.cast_session.proofs.Written.{Wrote, wrote_piece, wrote_piece_part}
+use Rattle.cast_device.specs.Writing.{WrotePart}
+use Rattle.cast_device.proofs.Written.{Wrote, wrote_piece, wrote_piece_part}
+use Rattle.cast_session.specs.Outgoing.{spelled_pushes}
 
 -- the pushes from the i-th on are to be written
 abbrev pub WroteTo : Option (List ℕ) → Option (List ℕ) → List Push → ℕ → Type 0

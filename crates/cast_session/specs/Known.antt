@@ -1,9 +1,5 @@
--- Beginnings of lists, and lists that are known at some types only.
+-- Lists that are known at some types only.
 use Rattle.std.specs.Prelude.{◌≡◌, List, ◌++◌, ⊤, Option, Some, None}
-
--- the list begins with these
-abbrev pub IsBeginning : {X : Type 0} → List X → List X → Type 0
-IsBeginning {X} front list = (rest : List X) × (list ≡ front ++ rest)
 
 -- a list that is known grows by these
 abbrev pub Adds : {X : Type 0} → Option (List X) → Option (List X) → List X → Type 0

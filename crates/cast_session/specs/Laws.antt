@@ -4,7 +4,7 @@ use Rattle.cast_frame.specs.declared.fault.FrameFault.{FrameFault}
 use Rattle.cast_message.specs.declared.client.Request.{Request}
 use Rattle.cast_message.specs.declared.client.Command.{Command}
 use Rattle.cast_message.specs.declared.client.Command.TheVariants as command
-use Rattle.cast_session.specs.Known.{IsBeginning}
+use Rattle.cast_device.specs.Writing.{IsBeginning}
 use Rattle.cast_session.specs.Commands.{commands_of}
 
 -- commands that were heard stay heard when more bytes come

@@ -5,4 +5,3 @@ pub mod Turns
 pub mod Outgoing
 pub mod Pushes
 pub mod Laws
-pub mod Watching

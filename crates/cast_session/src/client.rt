@@ -1,15 +1,15 @@
-ghost use Rattle.std.specs.Prelude.{◌≡◌, Err, IsTrue};
+ghost use Rattle.std.specs.Prelude.{◌≡◌, ◌↔◌, Err, IsTrue};
 ghost use Rattle.cast_message.specs.Fitting.{client_fits};
 ghost use Rattle.cast_client.specs.Spelling.{spelled_client};
+ghost use Rattle.cast_device.specs.Watching.{HasFailed, HasFailedOrLasted, HasFailedOrStalled};
+ghost use Rattle.cast_device.specs.Writing.{Writes};
 ghost use Rattle.cast_session.specs.Known.{Between};
-ghost use Rattle.cast_session.specs.Outgoing.{Writes};
 ghost use Rattle.cast_session.specs.Pushes.{ReadsPush};
-ghost use Rattle.cast_session.specs.Watching.{HasFailed, HasFailedOrLasted};
 
-use crate::frames::{Incoming, TURNS, Turn};
-use crate::outgoing::{OutFault, write_whole};
-use crate::watched::Watched;
+use crate::frames::{Incoming, Turn};
+use crate::outgoing::OutFault;
 use cast_client::encode_client;
+use cast_device::{PATIENCE, Watched, write_whole};
 use cast_frame::FrameFault;
 use cast_message::{ClientFrame, Push};
 use std::alloc::Global;
@@ -23,7 +23,7 @@ pub enum PushFault {
     /// that an allocation was refused.
     #[error("no push: {0}")]
     Frame(FrameFault),
-    /// The reader failed, or 2^32 calls of `read` were made.
+    /// The reader failed, or `PATIENCE` calls of `read` were made.
     #[error("the reader failed")]
     ReadFault,
 }
@@ -33,12 +33,13 @@ pub enum PushFault {
 pub fn read_push<R: Read>(alloc: Global, reader: &mut Watched<R>) -> Result<Option<Push>, PushFault>
     // What stands at the front of the bytes that the reader had, and which bytes it has left.
     ensures read { Between (R.remaining reader.old.device) (R.remaining reader.new.device) (ReadsPush result) }
-    // And the reader's fault comes only where a call failed, or at the last of them.
-    ensures failed { result ≡ Err PushFault.ReadFault → HasFailedOrLasted reader.new }
+    // The reader's fault comes where a call failed, and else only at the last of them.
+    ensures failed { HasFailed reader.new → result ≡ Err PushFault.ReadFault }
+    ensures fault { result ≡ Err PushFault.ReadFault → HasFailedOrLasted reader.new }
 {
     let mut incoming = Incoming::new(alloc);
     reader.begin();
-    for _turn in 0..TURNS {
+    for _turn in 0..PATIENCE {
         match incoming.turn(alloc, reader) {
             Turn::Part => {}
             Turn::Frame(ClientFrame::Push(push)) => return Ok(Some(push)),
@@ -62,9 +63,10 @@ pub fn write_command<W: Write>(
 ) -> Result<(), OutFault>
     requires { IsTrue (client_fits frame.now) }
     ensures written { Writes (W.contents writer.old.device) (W.contents writer.new.device) result (spelled_client frame.now) }
-    ensures failed { result ≡ Err OutFault.WriteFault → HasFailed writer.new }
+    ensures failed { (result ≡ Err OutFault.WriteFault) ↔ HasFailedOrStalled writer.new }
 {
     writer.begin();
     let bytes = encode_client(alloc, frame)?;
-    write_whole(writer, bytes.as_slice())
+    write_whole(writer, bytes.as_slice())?;
+    Ok(())
 }

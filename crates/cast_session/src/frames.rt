@@ -1,16 +1,13 @@
-ghost use Rattle.std.specs.Prelude.{◌≡◌, ◌+◌, ◌^◌, ◌<◌, ◌++◌, ◌↔◌, [], IsTrue, Ok};
+ghost use Rattle.std.specs.Prelude.{◌≡◌, ◌+◌, ◌<◌, ◌++◌, ◌↔◌, ◌⊎◌, [], IsTrue, Ok};
 ghost use Rattle.cast_client.specs.Reading.{client_of};
 ghost use Rattle.cast_client.specs.declared.front.ClientRead.TheVariants.{More};
 
-use crate::watched::Watched;
 use cast_client::{ClientRead, decode_client};
+use cast_device::{PATIENCE, Watched};
 use cast_frame::FrameFault;
 use cast_message::ClientFrame;
 use std::alloc::Global;
 use std::io::{ErrorKind, Read};
-
-/// Calls of `read` before a reader counts as failed.
-pub const TURNS: u64 = 4_294_967_296;
 
 /// Bytes of the length of a frame.
 const LENGTH: usize = 4;
@@ -42,8 +39,8 @@ pub struct Incoming {
 }
 
 impl Incoming {
+    ghost use Rattle.cast_device.specs.Watching.{HasFailed};
     ghost use Rattle.cast_session.specs.Turns.{Added, Turned};
-    ghost use Rattle.cast_session.specs.Watching.{HasFailed};
 
     /// No byte of a frame.
     #[tactic(auto, using(crate::proofs::Fronts::no_front))]
@@ -65,10 +62,10 @@ impl Incoming {
 
     /// One call of `read`, for no more bytes than are wanting.
     pub fn turn<R: Read>(&mut self, alloc: Global, reader: &mut Watched<R>) -> Turn
-        requires { reader.old.calls < 2 ^ 32 }
+        requires { reader.old.calls < PATIENCE }
         ensures turned { Turned (R.remaining reader.old.device) (R.remaining reader.new.device) self.old.bytes.items self.new.bytes.items result }
         ensures calls { reader.new.calls ≡ reader.old.calls + 1 }
-        ensures failed { result ≡ Turn.ReadFault → HasFailed reader.new }
+        ensures failed { HasFailed reader.new ↔ (HasFailed reader.old ⊎ (result ≡ Turn.ReadFault)) }
     {
         let mut chunk = [0; CHUNK];
         let room = &mut chunk[..self.wanting.min(CHUNK)];

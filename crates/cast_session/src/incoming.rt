@@ -1,10 +1,10 @@
 ghost use Rattle.std.specs.Prelude.{◌≡◌};
+ghost use Rattle.cast_device.specs.Watching.{HasFailed, HasFailedOrLasted};
 ghost use Rattle.cast_session.specs.Incoming.{EndsBad, PumpedIn};
-ghost use Rattle.cast_session.specs.Watching.{HasFailedOrLasted};
 
-use crate::frames::{Incoming, TURNS, Turn};
+use crate::frames::{Incoming, Turn};
 use crate::sink::Sink;
-use crate::watched::Watched;
+use cast_device::{PATIENCE, Watched};
 use cast_frame::FrameFault;
 use cast_message::{ClientFrame, Command};
 use std::alloc::Global;
@@ -17,7 +17,7 @@ pub enum InEnd {
     End,
     /// This fault in a frame's place. `Command::Bad` was handed on for it, as the last command.
     Bad(FrameFault),
-    /// The reader failed, or 2^32 calls of `read` were made.
+    /// The reader failed, or `PATIENCE` calls of `read` were made.
     ReadFault,
     /// An allocation was refused, here or by the sink.
     NoMemory,
@@ -29,12 +29,13 @@ pub enum InEnd {
 pub fn pump_in<R: Read, S: Sink>(alloc: Global, reader: &mut Watched<R>, sink: &mut S) -> InEnd
     // Which bytes were read, and which of the commands that they say were handed on.
     ensures pumped { PumpedIn (R.remaining reader.old.device) (R.remaining reader.new.device) (S.taken sink.old) (S.taken sink.new) result }
-    // And the reader's fault comes only where a call failed, or at the last of them.
-    ensures failed { result ≡ InEnd.ReadFault → HasFailedOrLasted reader.new }
+    // The reader's fault comes where a call failed, and else only at the last of them.
+    ensures failed { HasFailed reader.new → result ≡ InEnd.ReadFault }
+    ensures fault { result ≡ InEnd.ReadFault → HasFailedOrLasted reader.new }
 {
     let mut incoming = Incoming::new(alloc);
     reader.begin();
-    for _turn in 0..TURNS {
+    for _turn in 0..PATIENCE {
         match incoming.turn(alloc, reader) {
             Turn::Part => {}
             Turn::Frame(ClientFrame::Request(request)) => {

@@ -5,16 +5,15 @@
 //! ended them; `pump_out` writes the pushes' spellings one after the other; `read_push` gives the push that stands first
 //! and leaves what is behind it; `write_command` writes one spelling. Where a call ends early, its contract says what was
 //! handed on, or that a beginning was written. What is heard does not depend on how the bytes come (`laws`). Readers and
-//! writers are `Watched`: a fault of theirs is answered only where one of their calls failed, or where a reader was called
-//! 2^32 times.
+//! writers are `Watched`: the fault of a writer is answered exactly where one of its calls failed or `PATIENCE` in a row were
+//! interrupted, and that of a reader wherever one of its calls failed, and else only at the last of `PATIENCE` calls.
 //!
 //! In no contract, and tested: `pump_in` reads nothing behind a frame before it has handed the frame on, and no call of a
 //! writer is given bytes of two frames.
 //!
 //! The definitions are in `specs/`: `Commands` says what bytes say, `Incoming`, `Outgoing` and `Pushes` what a pump of
 //! commands, a writer and a reader of pushes did, `Known` has words for lists that are known at some types only, `Turns`
-//! says what one call of `read` came to, `Watching` what is known of a device that failed, and `Laws` what holds of all
-//! bytes.
+//! says what one call of `read` came to, and `Laws` what holds of all bytes.
 #![tactic(auto)]
 
 mod client;
@@ -23,10 +22,9 @@ mod incoming;
 pub mod laws;
 mod outgoing;
 mod sink;
-mod watched;
 
+pub use cast_device::{PATIENCE, Watched};
 pub use client::{PushFault, read_push, write_command};
 pub use incoming::{InEnd, pump_in};
 pub use outgoing::{OutFault, pump_out};
 pub use sink::Sink;
-pub use watched::Watched;

@@ -233,6 +233,26 @@ fn pumped(alloc: Global, bytes: &[u8], step: usize) -> (InEnd, Taken)
     (end, sink)
 }
 
+// The bytes, so many times one after the other.
+fn repeated(alloc: Global, bytes: &[u8], times: usize) -> Result<Vec<u8>, AllocError> {
+    let mut all = Vec::new(alloc);
+    for _ in 0..times {
+        all.extend_from_slice(bytes)?;
+    }
+    Ok(all)
+}
+
+#[test]
+fn five_thousand_bytes_in_as_many_reads(rt: HostRuntime) -> Result<(), Fail> {
+    let bytes = repeated(rt.alloc(), &COMMANDS[..11], 455)?;
+    let mut reader = Pieces::watched(rt.alloc(), &bytes, 1);
+    let mut sink = Taken::new(rt.alloc(), 455);
+    let end = pump_in(rt.alloc(), &mut reader, &mut sink);
+    let all_came = sink.commands.len() == 455 && sink.commands.iter().all(is_join);
+    assert!(rt; end == InEnd::End && all_came && reader.calls() == 5006);
+    Ok(())
+}
+
 // Whether both commands are handed on, in pieces of so many bytes.
 fn hands_both_on(alloc: Global, step: usize) -> bool
     requires { 0 < step }
@@ -361,7 +381,32 @@ fn an_interrupted_write_is_made_again(rt: HostRuntime) {
     let mut writer = writer(rt.alloc(), 3, 1);
     writer.device.interrupts = true;
     let end = pump_out(rt.alloc(), &mut writer, &two_pushes());
-    assert!(rt; end == Ok(()) && writer.device.bytes.as_slice() == PUSHES.as_slice());
+    let all_went = writer.device.bytes.as_slice() == PUSHES.as_slice();
+    assert!(rt; end == Ok(()) && all_went && !writer.has_failed());
+}
+
+// So many times that a session is opened as 1.1.
+fn openings(alloc: Global, count: usize) -> Result<Vec<Push>, AllocError> {
+    let mut pushes = Vec::new(alloc);
+    for _ in 0..count {
+        let proc = Proc {
+            site: SiteNo(1),
+            serial: 1,
+        };
+        pushes.push(Push::Opened(proc))?;
+    }
+    Ok(pushes)
+}
+
+#[test]
+fn five_thousand_bytes_in_as_many_writes(rt: HostRuntime) -> Result<(), Fail> {
+    let pushes = openings(rt.alloc(), 455)?;
+    let bytes = repeated(rt.alloc(), &PUSHES[..11], 455)?;
+    let mut writer = writer(rt.alloc(), 1, NEVER);
+    let end = pump_out(rt.alloc(), &mut writer, &pushes);
+    let all_went = writer.device.bytes.as_slice() == bytes.as_slice();
+    assert!(rt; end == Ok(()) && all_went && writer.device.calls == 5005);
+    Ok(())
 }
 
 // Whether a write fails behind so many bytes.

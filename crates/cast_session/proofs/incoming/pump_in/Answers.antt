@@ -1,4 +1,5 @@
-use Rattle.std.proofs.Common.{ℕ, ◌+◌, ◌∙◌, ap}
+use Rattle.cast_session.specs.declared.frames.Turn.TheVariants as turn
+use Rattle.cast_session.proofs.Calls.{called_again}
 use Rattle.cast_session.proofs.Pumping.{went_on, handed_on, ends_at_end, ends_at_read_fault, ends_at_last_turn, ends_without_memory, ends_at_push, ends_at_fault, refused, granted}
 use Rattle.cast_session.proofs.incoming.pump_in.Goals as goal
 use Rattle.cast_session.proofs.incoming.pump_in.Goals.{in-Part, in-Frame-Request+else-is_err}
@@ -24,12 +25,12 @@ pub loop-turn-preserved : goal.loop-turn-preserved
 loop-turn-preserved g c =
     elim c.match-turn.branch [
       | in-Part w ↦ (
-        w.in-Part.ensures.calls ∙ ap (λ (n : ℕ). n + 1) c.loop-turn.invariant.0,
+        called_again c.loop-turn.invariant.0 turn.Part w.in-Part.ensures.calls w.in-Part.ensures.failed (λ fault. cc),
         rw w.sink-is (went_on c.loop-turn.invariant.1 w.in-Part.ensures.turned),
       )
       | in-Frame-Request+else-is_err w ↦
           let turned = rw w.in-Frame-Request.field-0-is at w.in-Frame-Request.ensures.turned in (
-            w.in-Frame-Request.ensures.calls ∙ ap (λ (n : ℕ). n + 1) c.loop-turn.invariant.0,
+            called_again c.loop-turn.invariant.0 (turn.Frame w.in-Frame-Request.field-0) w.in-Frame-Request.ensures.calls w.in-Frame-Request.ensures.failed (λ fault. cc),
             rw w.sink-is (handed_on c.loop-turn.invariant.1 turned (granted w.take.result w.if-is_err.ensures.value w.take.ensures.ok)),
           )
     ]
