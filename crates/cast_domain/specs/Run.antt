@@ -2,7 +2,6 @@
 use Rattle.std.specs.Prelude.{◌≡◌, ℕ, List, [], ◌∷◌, ◌++◌}
 use Rattle.cast_types.specs.declared.names.SiteNo.{SiteNo}
 use Rattle.cast_message.specs.declared.site.SiteFrame.{SiteFrame}
-use Rattle.cast_message.specs.declared.client.Push.{Push}
 use Rattle.cast_model.specs.declared.config.DomainConfig.{DomainConfig}
 use Rattle.cast_model.specs.declared.event.Event.{Event}
 use Rattle.cast_model.specs.declared.event.Taken.{Taken}
@@ -31,12 +30,6 @@ IsRun s [] (a ∷ answers) sent t = ⊥
 IsRun s (e ∷ events) [] sent t = ⊥
 IsRun s (e ∷ events) (a ∷ answers) sent t =
     (u : State) × (later : List (SiteNo × SiteFrame)) × IsStep s e a u × (sent ≡ u.frames ++ later) × IsRun u events answers later t
-
--- all that was given in a run of a domain alone: the answers, the frames, and for each serial the pushes
-pub record IsAlone (here : SiteNo) (config : DomainConfig) (events : List Event) (answers : List Taken) (sent : List (SiteNo × SiteFrame)) (pushed : ℕ → List Push) : Type 0 where
-  pub end : State
-  pub runs : IsRun (opening here config) events answers sent end
-  pub pushes : (k : ℕ) → pushed k ≡ (end.session k).pushed
 
 -- The same, computed: each event is followed by so many passes
 
