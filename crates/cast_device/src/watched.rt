@@ -1,4 +1,4 @@
-ghost use Rattle.std.specs.Prelude.{◌≡◌, ◌+◌, ◌<◌, ◌↔◌, ◌⊎◌, false, IsTrue};
+ghost use Rattle.std.specs.Prelude.{◌≡◌, ◌+◌, ◌<◌, ◌↔◌, ◌⊎◌, IsTrue};
 ghost use Rattle.std.specs.Io.{ReadsAtMost, WritesAtMost};
 ghost use Rattle.std.specs.Io.KnownBytes.{ReadConsumes, WriteAppends};
 
@@ -21,14 +21,14 @@ pub struct Watched<D> {
 }
 
 impl<D> Watched<D> {
-    ghost use Rattle.cast_device.specs.Watching.{HasFailed, HasFailedOrStalled};
+    ghost use Rattle.cast_device.specs.Watching.{HasFailed, HasFailedOrStalled, calls_of, interruptions_of};
 
     /// A reader or a writer of which no call was made.
     pub fn new(device: D) -> Self
         ensures device { result.device ≡ device }
-        ensures calls { result.calls ≡ 0 }
-        ensures interruptions { result.interruptions ≡ 0 }
-        ensures failed { result.has_failed ≡ false }
+        ensures calls { calls_of result ≡ 0 }
+        ensures interruptions { interruptions_of result ≡ 0 }
+        ensures failed { ¬ HasFailed result }
     {
         Watched {
             device,
@@ -40,14 +40,14 @@ impl<D> Watched<D> {
 
     /// How many calls of `read` were made.
     pub fn calls(&self) -> u64
-        ensures { result ≡ self.now.calls }
+        ensures { result ≡ calls_of self.now }
     {
         self.calls
     }
 
     /// How many calls of `write` in a row were interrupted, up to the last one.
     pub fn interruptions(&self) -> u64
-        ensures { result ≡ self.now.interruptions }
+        ensures { result ≡ interruptions_of self.now }
     {
         self.interruptions
     }
@@ -69,9 +69,9 @@ impl<D> Watched<D> {
     /// Clears the notes.
     pub fn begin(&mut self)
         ensures device { self.new.device ≡ self.old.device }
-        ensures calls { self.new.calls ≡ 0 }
-        ensures interruptions { self.new.interruptions ≡ 0 }
-        ensures failed { self.new.has_failed ≡ false }
+        ensures calls { calls_of self.new ≡ 0 }
+        ensures interruptions { interruptions_of self.new ≡ 0 }
+        ensures failed { ¬ HasFailed self.new }
     {
         self.calls = 0;
         self.interruptions = 0;
@@ -80,15 +80,15 @@ impl<D> Watched<D> {
 }
 
 impl<R: Read> Watched<R> {
-    ghost use Rattle.cast_device.specs.Watching.{HasFailed, ReadFails};
+    ghost use Rattle.cast_device.specs.Watching.{HasFailed, ReadFails, calls_of, interruptions_of};
 
     /// One call of `read`.
     pub fn read(&mut self, room: &mut [u8]) -> io::Result<usize>
-        requires { self.old.calls < PATIENCE }
+        requires { calls_of self.old < PATIENCE }
         ensures bound { ReadsAtMost result room.new }
         ensures bytes { ReadConsumes (R.remaining self.old.device) (R.remaining self.new.device) result room.new }
-        ensures calls { self.new.calls ≡ self.old.calls + 1 }
-        ensures interruptions { self.new.interruptions ≡ self.old.interruptions }
+        ensures calls { calls_of self.new ≡ calls_of self.old + 1 }
+        ensures interruptions { interruptions_of self.new ≡ interruptions_of self.old }
         ensures failed { HasFailed self.new ↔ (HasFailed self.old ⊎ ReadFails result) }
     {
         let answer = self.device.read(room);
@@ -103,16 +103,16 @@ impl<R: Read> Watched<R> {
 }
 
 impl<W: Write> Watched<W> {
-    ghost use Rattle.cast_device.specs.Watching.{HasFailed, IsInterrupted, WriteFails};
+    ghost use Rattle.cast_device.specs.Watching.{HasFailed, IsInterrupted, WriteFails, calls_of, interruptions_of};
 
     // One call of `write`.
     pub(crate) fn write(&mut self, bytes: &[u8]) -> io::Result<usize>
-        requires { self.old.interruptions < PATIENCE }
+        requires { interruptions_of self.old < PATIENCE }
         ensures bound { WritesAtMost result bytes.now }
         ensures bytes { WriteAppends (W.contents self.old.device) (W.contents self.new.device) result bytes.now }
-        ensures calls { self.new.calls ≡ self.old.calls }
-        ensures interrupted { IsInterrupted result → self.new.interruptions ≡ self.old.interruptions + 1 }
-        ensures passed { ¬ IsInterrupted result → self.new.interruptions ≡ 0 }
+        ensures calls { calls_of self.new ≡ calls_of self.old }
+        ensures interrupted { IsInterrupted result → interruptions_of self.new ≡ interruptions_of self.old + 1 }
+        ensures passed { ¬ IsInterrupted result → interruptions_of self.new ≡ 0 }
         ensures failed { HasFailed self.new ↔ (HasFailed self.old ⊎ WriteFails result) }
     {
         let answer = self.device.write(bytes);

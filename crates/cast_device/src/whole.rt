@@ -1,5 +1,5 @@
 ghost use Rattle.std.specs.Prelude.{◌≡◌, ◌↔◌, IsErr};
-ghost use Rattle.cast_device.specs.Watching.{HasFailedOrStalled};
+ghost use Rattle.cast_device.specs.Watching.{HasFailedOrStalled, calls_of};
 ghost use Rattle.cast_device.specs.Writing.{Writes};
 
 use crate::watched::Watched;
@@ -19,7 +19,7 @@ pub fn write_whole<W: Write>(writer: &mut Watched<W>, bytes: &[u8]) -> Result<()
     // The fault comes exactly where the notes tell of one, which they do until they are cleared.
     ensures failed { IsErr result ↔ HasFailedOrStalled writer.new }
     ensures stays { HasFailedOrStalled writer.old → HasFailedOrStalled writer.new }
-    ensures calls { writer.new.calls ≡ writer.old.calls }
+    ensures calls { calls_of writer.new ≡ calls_of writer.old }
 {
     let mut rest = bytes;
     while !writer.has_failed_or_stalled() {

@@ -1,18 +1,18 @@
 -- Calls of a reader of which none failed.
-use Rattle.std.proofs.Common.{◌≡◌, ◌≢◌, ℕ, ◌+◌, ◌⊎◌, ◌↔◌, Bool, true, false, inl, inr, sym, ap, ◌∙◌}
+use Rattle.std.proofs.Common.{◌≡◌, ◌≢◌, ℕ, ◌+◌, ◌⊎◌, ◌↔◌, inl, inr, ap, ◌∙◌}
 use Rattle.cast_device.specs.declared.watched.Watched.{Watched}
-use Rattle.cast_device.specs.Watching.{HasFailed}
+use Rattle.cast_device.specs.Watching.{HasFailed, calls_of}
 use Rattle.cast_session.specs.declared.frames.Turn.{Turn}
 use Rattle.cast_session.specs.declared.frames.Turn.TheVariants.{ReadFault}
 
 -- so many calls were made, and none of them failed
 pub record CalledWell {D : Type 0} (reader : Watched D) (calls : ℕ) : Type 0 where
-  pub made : reader.calls ≡ calls
+  pub made : calls_of reader ≡ calls
   pub well : HasFailed reader → ⊥
 
 module _ {D : Type 0} {old new : Watched D} {calls : ℕ} where
   -- one more, which did not come to a fault of the reader
-  pub called_again : CalledWell old calls → (turn : Turn) → new.calls ≡ old.calls + 1 → HasFailed new ↔ (HasFailed old ⊎ (turn ≡ ReadFault)) → turn ≢ ReadFault → CalledWell new (calls + 1)
+  pub called_again : CalledWell old calls → (turn : Turn) → calls_of new ≡ calls_of old + 1 → HasFailed new ↔ (HasFailed old ⊎ (turn ≡ ReadFault)) → turn ≢ ReadFault → CalledWell new (calls + 1)
   called_again before turn more note other =
       record {
         made = more ∙ ap (λ (n : ℕ). n + 1) before.made;

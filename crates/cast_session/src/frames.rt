@@ -39,7 +39,7 @@ pub struct Incoming {
 }
 
 impl Incoming {
-    ghost use Rattle.cast_device.specs.Watching.{HasFailed};
+    ghost use Rattle.cast_device.specs.Watching.{HasFailed, calls_of};
     ghost use Rattle.cast_session.specs.Turns.{Added, Turned};
 
     /// No byte of a frame.
@@ -62,9 +62,9 @@ impl Incoming {
 
     /// One call of `read`, for no more bytes than are wanting.
     pub fn turn<R: Read>(&mut self, alloc: Global, reader: &mut Watched<R>) -> Turn
-        requires { reader.old.calls < PATIENCE }
+        requires { calls_of reader.old < PATIENCE }
         ensures turned { Turned (R.remaining reader.old.device) (R.remaining reader.new.device) self.old.bytes.items self.new.bytes.items result }
-        ensures calls { reader.new.calls ≡ reader.old.calls + 1 }
+        ensures calls { calls_of reader.new ≡ calls_of reader.old + 1 }
         ensures failed { HasFailed reader.new ↔ (HasFailed reader.old ⊎ (result ≡ Turn.ReadFault)) }
     {
         let mut chunk = [0; CHUNK];
