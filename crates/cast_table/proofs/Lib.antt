@@ -3,6 +3,7 @@ pub mod Turns
 pub mod Applies
 pub mod Parts
 pub mod Runs
+pub mod Later
 pub mod Served
 pub mod Named
 pub mod Ticked

@@ -1,8 +1,6 @@
 -- The part of one domain in lists of events, answers and frames.
-use Rattle.std.proofs.Common.{◌≡◌, ℕ, Bool, true, false, cond, List, [], ◌∷◌, ◌++◌, map, filter, length, Some, None, Result, refl, sym, ap, ◌∙◌, arith}
-use Rattle.std.specs.Prelude.{◌||◌}
+use Rattle.std.proofs.Common.{◌≡◌, ℕ, zero, suc, ◌<◌, ◌≤◌, Bool, true, false, cond, List, [], ◌∷◌, ◌++◌, map, filter, length, Some, None, refl, sym, ap, ◌∙◌, arith}
 use Rattle.std.specs.Option.{option_map_or}
-use Rattle.std.proofs.Math.Bool.{or-false, or_assoc}
 use Rattle.std.proofs.lemmas.Bool.{eqb-true, eq-eqb, false≢true, false_from_ne_true}
 use Rattle.std.proofs.lemmas.List.{map-append}
 use Rattle.std.proofs.lemmas.List.Elements.{filter-append}
@@ -10,12 +8,10 @@ use Rattle.cast_types.specs.declared.names.DomainNo.{DomainNo}
 use Rattle.cast_types.specs.declared.names.SiteNo.{SiteNo}
 use Rattle.cast_message.specs.declared.site.SiteFrame.{SiteFrame}
 use Rattle.cast_model.specs.declared.event.Event.{Event}
-use Rattle.cast_model.specs.declared.event.Taken.{Taken}
 use Rattle.cast_model.specs.Events.{domain_of}
 use Rattle.cast_domain.specs.Fits.{tagged}
-use Rattle.cast_model.specs.declared.log.Fault.{Fault}
 use Rattle.cast_table.specs.Tables.{domain_eq}
-use Rattle.cast_table.specs.Replays.{names, is_own, own, named_answers, some_answer, frames_of}
+use Rattle.cast_table.specs.Replays.{names, is_own, own, named_answers, frames_of, is_own_at}
 
 abbrev pub Sent : Type 0
 Sent = DomainNo × SiteNo × SiteFrame
@@ -60,14 +56,6 @@ named_more d (f ∷ events) (b ∷ answers) e a long =
     ap (λ rest. cond (names d f) (b ∷ rest) rest) (named_more d events answers e a (omega arith))
     ∙ push_chosen (names d f) b (named_answers d events answers) (named_answers d (e ∷ []) (a ∷ []))
 
-pub some_more : (is : Event → Result Taken Fault → Bool) (events : List Event) (answers : List (Result Taken Fault)) (e : Event) (a : Result Taken Fault) → length events ≡ length answers → some_answer is (events ++ e ∷ []) (answers ++ a ∷ []) ≡ (some_answer is events answers || is e a)
-some_more is [] [] e a long = or-false (is e a)
-some_more is [] (b ∷ answers) e a long = absurd (omega arith)
-some_more is (f ∷ events) [] e a long = absurd (omega arith)
-some_more is (f ∷ events) (b ∷ answers) e a long =
-    ap (λ rest. is f b || rest) (some_more is events answers e a (omega arith))
-    ∙ sym (or_assoc (is f b) (some_answer is events answers) (is e a))
-
 -- where the event is the domain's own, and where it is not
 
 pub own_one : (d : DomainNo) (e : Event) → is_own d e ≡ true → own d (e ∷ []) ≡ e ∷ []
@@ -81,6 +69,29 @@ named_one d e a named = ap (λ b. cond b (a ∷ []) []) named
 
 pub named_none : {X : Type 0} (d : DomainNo) (e : Event) (a : X) → names d e ≡ false → named_answers d (e ∷ []) (a ∷ []) ≡ []
 named_none d e a unnamed = ap (λ b. cond b (a ∷ []) []) unnamed
+
+-- places of a domain's own events
+
+pub own_at_within : (d : DomainNo) (events : List Event) (place : ℕ) → is_own_at d events place ≡ true → place < length events
+own_at_within d [] place at = absurd (false≢true at)
+own_at_within d (e ∷ events) zero at = omega arith
+own_at_within d (e ∷ events) (suc place) at = let later = own_at_within d events place at in omega (arith, later)
+
+pub own_at_more : (d : DomainNo) (events more : List Event) (place : ℕ) → is_own_at d events place ≡ true → is_own_at d (events ++ more) place ≡ true
+own_at_more d [] more place at = absurd (false≢true at)
+own_at_more d (e ∷ events) more zero at = at
+own_at_more d (e ∷ events) more (suc place) at = own_at_more d events more place at
+
+pub own_at_last : (d : DomainNo) (events : List Event) (e : Event) → is_own d e ≡ true → is_own_at d (events ++ e ∷ []) (length events) ≡ true
+own_at_last d [] e its = its
+own_at_last d (f ∷ events) e its = own_at_last d events e its
+
+-- answers to later events are none of the first ones
+pub named_front : {X : Type 0} (d : DomainNo) (events : List Event) (answers more : List X) → length events ≤ length answers → named_answers d events (answers ++ more) ≡ named_answers d events answers
+named_front d [] answers more few = refl
+named_front d (e ∷ events) [] more few = absurd (omega arith)
+named_front d (e ∷ events) (a ∷ answers) more few =
+    ap (λ rest. cond (names d e) (a ∷ rest) rest) (named_front d events answers more (omega arith))
 
 -- more frames
 

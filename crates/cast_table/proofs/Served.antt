@@ -1,49 +1,75 @@
 -- What each domain of a table has given so far, beside what a daemon gives that serves it alone.
-use Rattle.std.proofs.Common.{◌≡◌, ◌≢◌, true, false, cond, List, [], ◌∷◌, ◌++◌, map, length, Result, Ok, Err, refl, sym, ap, subst, ◌∙◌, inl, inr}
-use Rattle.std.specs.List.{AllZip}
-use Rattle.std.proofs.lemmas.Bool.{cases_Bool, false≢true, and_parts, or_cases, or_left, or_right, or_parts}
-use Rattle.std.proofs.lemmas.List.{map-append, append-nil}
+use Rattle.std.proofs.Common.{◌≡◌, ◌≢◌, ℕ, zero, suc, ◌+◌, ◌<◌, true, false, cond, List, [], ◌∷◌, ◌++◌, map, take, length, Option, Some, None, is_some, Result, Ok, Err, refl, sym, ap, subst, ◌∙◌, inl, inr, arith}
+use Rattle.std.specs.List.{AllZip, range_with_len}
+use Rattle.std.proofs.lemmas.Bool.{cases_Bool, eq-eqb, false≢true, and_parts, ne_eqb, or_parts}
+use Rattle.std.proofs.lemmas.List.{map-append, append-nil, length-take-le, take-append-le, take_at}
 use Rattle.cast_types.specs.declared.names.DomainNo.{DomainNo}
 use Rattle.cast_types.specs.declared.names.SiteNo.{SiteNo}
 use Rattle.cast_types.specs.Names.{group_cmp}
 use Rattle.cast_message.specs.Rising.{is_rising}
+use Rattle.cast_message.specs.declared.client.Push.{Push}
 use Rattle.cast_message.specs.declared.site.SiteFrame.{SiteFrame}
 use Rattle.cast_model.specs.declared.config.DomainConfig.{DomainConfig}
 use Rattle.cast_domain.specs.declared.domain.Domain.{Domain}
 use Rattle.cast_model.specs.declared.event.Event.{Event}
 use Rattle.cast_model.specs.declared.event.Outs.{Outs}
 use Rattle.cast_model.specs.declared.event.Taken.{Taken}
+use Rattle.cast_model.specs.declared.session.Session.{Session}
 use Rattle.cast_domain.specs.declared.shared.Shared.{Shared}
-use Rattle.cast_domain.specs.Records.{number_of, is_halted}
+use Rattle.cast_domain.specs.Records.{number_of, is_halted, sessions_of}
 use Rattle.cast_domain.specs.Shared.{Part, part_of, no_part, LeavesOthers}
-use Rattle.cast_domain.specs.State.{State, opening}
-use Rattle.cast_domain.specs.Fits.{Means, tagged}
+use Rattle.cast_domain.specs.State.{State, opening, serials}
+use Rattle.cast_domain.specs.Fits.{Means, tagged, session_in}
 use Rattle.cast_domain.specs.Run.{IsRun}
 use Rattle.cast_domain.specs.Stepped.{IsStepOf}
 use Rattle.cast_model.specs.declared.log.Fault.{Fault}
 use Rattle.cast_model.specs.declared.log.Fault.TheVariants.{NoMemory, Halted, NoDomain}
-use Rattle.cast_table.specs.Tables.{domain_eq, IsNew, IsTurn, Lent, part_in}
-use Rattle.cast_table.specs.Replays.{is_configured, have_rising_groups, names, is_own, own, named_answers, some_answer, tells_halted, lets_halt, frames_of}
-use Rattle.cast_table.proofs.Parts.{domain_flipped, own_more, named_more, some_more, own_one, own_none, named_one, named_none, other_unnamed, frames_more, frames_own, frames_other}
+use Rattle.cast_model.specs.declared.log.Given.{Given}
+use Rattle.cast_table.specs.Tables.{domain_eq, IsNew, IsTurn, Lent, part_in, halted_by}
+use Rattle.cast_table.specs.Replays.{Served, IsServed, IsNamedAnswer, is_configured, have_rising_groups, names, is_own, is_own_at, own, until, taken_by, named_answers, frames_of}
+use Rattle.cast_table.proofs.Parts.{domain_flipped, own_more, named_more, own_one, own_none, named_one, named_none, other_unnamed, own_at_within, own_at_more, own_at_last, named_front, frames_more, frames_own, frames_other}
+use Rattle.cast_table.proofs.Places.{IsNumbered, none_some, same_some}
+use Rattle.cast_table.proofs.Later.{IsLater, configs_of, later_same, later_halted, number_halted}
 use Rattle.cast_table.proofs.Runs.{run_more, run_length}
 
--- a run of the domain alone on its own events leads to what the domain stands for
-pub record RunsTo (here : SiteNo) (c : DomainConfig) (events : List Event) (answers : List (Result Taken Fault)) (sent : List (SiteNo × SiteFrame)) (part : Part) (d : Domain) : Type 0 where
-  pub end : State
-  pub taken : List Taken
-  pub answered : named_answers c.domain events answers ≡ map Ok (named_answers c.domain (own c.domain events) taken)
-  pub run : IsRun (opening here c) (own c.domain events) taken sent end
-  pub means : Means d part end
+-- what a domain gave, where these frames were sent
+abbrev pub given_with : List (SiteNo × SiteFrame) → Domain → Given
+given_with sent d =
+    record { domain = number_of d; pushes = map (λ s. s.pushed) (sessions_of d); sent = sent; halted = is_halted d }
 
--- the same with the domain's part of what is shared and sent, unless the domain is halted
-pub record HasRun (here : SiteNo) (events : List Event) (answers : List (Result Taken Fault)) (l : Lent) (c : DomainConfig) (d : Domain) : Type 0 where
-  pub number : number_of d ≡ c.domain
-  pub runs : is_halted d ≡ false → RunsTo here c events answers (frames_of c.domain l.outs.frames) (part_of c.domain l.shared) d
+-- a domain was served so, and where it was not halted, it stands for where its run alone led
+pub record HasServed (here : SiteNo) (events : List Event) (answers : List (Result Taken Fault)) (sent : List (SiteNo × SiteFrame)) (part : Part) (s : Served) (d : Domain) : Type 0 where
+  pub served : IsServed here events answers s (given_with sent d)
+  pub means : s.halt ≡ None → Means d part served.end
 
--- whether it is halted is what the answers say
-pub record ShowsHalt (events : List Event) (answers : List (Result Taken Fault)) (c : DomainConfig) (d : Domain) : Type 0 where
-  pub told : some_answer (tells_halted c.domain) events answers ≡ true → is_halted d ≡ true
-  pub because : is_halted d ≡ true → some_answer (lets_halt c.domain) events answers ≡ true
+-- the same with what is lent
+abbrev pub HasGiven : SiteNo → List Event → List (Result Taken Fault) → Lent → Served → Domain → Type 0
+HasGiven here events answers l s d =
+    HasServed here events answers (frames_of s.config.domain l.outs.frames) (part_of s.config.domain l.shared) s d
+
+not_there : (o : Option ℕ) → is_some o ≡ false → o ≡ None
+not_there None none = refl
+not_there (Some n) none = absurd (false≢true (sym none))
+
+-- What is pushed
+
+-- sessions stand in the order of their serials
+pushed_in_order : (pushed : ℕ → List Push) (sessions : List Session) (a n : ℕ) → length sessions ≡ n → ((i : ℕ) → pushed (a + i) ≡ (session_in sessions (suc i)).pushed) → map (λ (s : Session). s.pushed) sessions ≡ map pushed (range_with_len a n)
+pushed_in_order pushed [] a zero long each = refl
+pushed_in_order pushed [] a (suc n) long each = absurd (omega arith)
+pushed_in_order pushed (s ∷ sessions) a zero long each = absurd (omega arith)
+pushed_in_order pushed (s ∷ sessions) a (suc n) long each =
+    let first : a ≡ a + 0 = omega arith in
+    let here : s.pushed ≡ pushed a = sym (ap pushed first ∙ each 0) in
+    let next : (i : ℕ) → a + 1 + i ≡ a + suc i = λ i. omega arith in
+    let later = pushed_in_order pushed sessions (a + 1) n (omega arith) (λ i. ap pushed (next i) ∙ each (suc i)) in
+    λ j. here j ∷ later j
+
+-- a domain pushed what the history pushed that it stands for
+all_pushed : (d : Domain) (part : Part) (end : State) → Means d part end → map (λ (s : Session). s.pushed) (sessions_of d) ≡ map (λ k. (end.session k).pushed) (serials end)
+all_pushed d part end means =
+    pushed_in_order (λ k. (end.session k).pushed) (sessions_of d) 1 end.used means.fits.given
+    (λ i. let next : 1 + i ≡ suc i = omega arith in ap (λ k. (end.session k).pushed) next ∙ ap (λ (s : Session). s.pushed) (means.fits.sessions (suc i)))
 
 -- what is sent for a domain, and its part of what is shared, stay
 abbrev pub Keeps : DomainNo → Lent → Lent → Type 0
@@ -58,39 +84,32 @@ keeps_both q before between after one two = (two.0 ∙ one.0, two.1 ∙ one.1)
 
 -- Before the first event
 
-new_run : (here : SiteNo) (c : DomainConfig) (d : Domain) (l : Lent) → l.outs.frames ≡ [] → ((q : DomainNo) → part_of q l.shared ≡ no_part) → is_rising group_cmp c.groups ≡ true → IsNew here c d → HasRun here [] [] l c d
-new_run here c d l none unshared rising new =
+new_given : (here : SiteNo) (c : DomainConfig) (d : Domain) (l : Lent) → l.outs.frames ≡ [] → ((q : DomainNo) → part_of q l.shared ≡ no_part) → is_rising group_cmp c.groups ≡ true → IsNew here c d → HasGiven here [] [] l (record { config = c; halt = None }) d
+new_given here c d l none unshared rising new =
+    let means : Means d (part_of c.domain l.shared) (opening here c) =
+    subst (λ p. Means d p (opening here c)) (sym (unshared c.domain)) (new.begins rising) in
     record {
-      number = new.number;
-      runs = λ _.
+      served =
           record {
-            end = opening here c;
+            domain = new.number;
+            shown = new.running;
+            halted = λ place wrong. absurd (none_some place wrong);
             taken = [];
+            end = opening here c;
             answered = refl;
-            run = (ap (frames_of c.domain) none, refl);
-            means = subst (λ p. Means d p (opening here c)) (sym (unshared c.domain)) (new.begins rising);
+            runs = (ap (frames_of c.domain) none, refl);
+            pushes = λ _. all_pushed d (part_of c.domain l.shared) (opening here c) means;
           };
-    }
-
-new_shows : (here : SiteNo) (c : DomainConfig) (d : Domain) → IsNew here c d → ShowsHalt [] [] c d
-new_shows here c d new =
-    record {
-      told = λ wrong. absurd (false≢true wrong);
-      because = λ wrong. absurd (false≢true (sym new.running ∙ wrong));
+      means = λ _. means;
     }
 
 -- What others do
 
-module _ (here : SiteNo) (events : List Event) (answers : List (Result Taken Fault)) (before after : Lent) where
-  -- what is kept of what is lent is all that a run knows of it
-  pub kept_run : (c : DomainConfig) (d : Domain) → Keeps c.domain before after → HasRun here events answers before c d → HasRun here events answers after c d
-  kept_run c d kept so_far =
-      record {
-        number = so_far.number;
-        runs = λ running.
-            subst (λ part. RunsTo here c events answers (frames_of c.domain after.outs.frames) part d) (sym kept.1)
-            (subst (λ sent. RunsTo here c events answers sent (part_of c.domain before.shared) d) (sym kept.0) (so_far.runs running));
-      }
+-- what is kept of what is lent is all that is known of it
+pub kept_given : (here : SiteNo) (events : List Event) (answers : List (Result Taken Fault)) (before after : Lent) (s : Served) (d : Domain) → Keeps s.config.domain before after → HasGiven here events answers before s d → HasGiven here events answers after s d
+kept_given here events answers before after s d kept so_far =
+    subst (λ part. HasServed here events answers (frames_of s.config.domain after.outs.frames) part s d) (sym kept.1)
+    (subst (λ sent. HasServed here events answers sent (part_of s.config.domain before.shared) s d) (sym kept.0) so_far)
 
 -- the parts of others stay
 part_kept : (d q : DomainNo) (old new : Shared) → domain_eq d q ≡ false → LeavesOthers d old new → part_of q new ≡ part_of q old
@@ -101,54 +120,46 @@ part_kept d q old new differ others =
 
 -- One more event, of which the domain does not know
 
-module _ (here : SiteNo) (events : List Event) (answers : List (Result Taken Fault)) (e : Event) (a : Result Taken Fault) (long : length events ≡ length answers) (c : DomainConfig) (d : Domain) (other : is_own c.domain e ≡ false) where
-  pub other_run : (l : Lent) → HasRun here events answers l c d → HasRun here (events ++ e ∷ []) (answers ++ a ∷ []) l c d
-  other_run l so_far =
-      let q : DomainNo = c.domain in
-      let events_same : own q events ≡ own q (events ++ e ∷ []) =
-      sym (own_more q events e ∙ ap (λ more. own q events ++ more) (own_none q e other) ∙ append-nil (own q events)) in
-      let answers_same : named_answers q events answers ≡ named_answers q (events ++ e ∷ []) (answers ++ a ∷ []) =
-      sym (named_more q events answers e a long ∙ ap (λ more. named_answers q events answers ++ more) (named_none q e a (other_unnamed q e other)) ∙ append-nil (named_answers q events answers)) in
+module _ (here : SiteNo) (events : List Event) (answers : List (Result Taken Fault)) (e : Event) (a : Result Taken Fault) (long : length events ≡ length answers) (sent : List (SiteNo × SiteFrame)) (part : Part) (d : Domain) where
+  -- the events before the halt and their answers are the same
+  carried : (s : Served) → taken_by s (events ++ e ∷ []) ≡ taken_by s events → named_answers s.config.domain (until s.halt (events ++ e ∷ [])) (answers ++ a ∷ []) ≡ named_answers s.config.domain (until s.halt events) answers → HasServed here events answers sent part s d → HasServed here (events ++ e ∷ []) (answers ++ a ∷ []) sent part s d
+  carried s events_same answers_same so_far =
+      let was = so_far.served in
       record {
-        number = so_far.number;
-        runs = λ running.
-            let was = so_far.runs running in
+        served =
             record {
-              end = was.end;
+              domain = was.domain;
+              shown = was.shown;
+              halted = λ place at. own_at_more s.config.domain events (e ∷ []) place (was.halted place at);
               taken = was.taken;
-              answered = sym answers_same ∙ was.answered ∙ ap (λ es. map Ok (named_answers q es was.taken)) events_same;
-              run = subst (λ es. IsRun (opening here c) es was.taken (frames_of q l.outs.frames) was.end) events_same was.run;
-              means = was.means;
+              end = was.end;
+              answered = answers_same ∙ was.answered ∙ sym (ap (λ es. map Ok (named_answers s.config.domain es was.taken)) events_same);
+              runs = subst (λ es. IsRun (opening here s.config) es was.taken sent was.end) (sym events_same) was.runs;
+              pushes = was.pushes;
             };
+        means = so_far.means;
       }
 
--- Whether a domain is halted, after one more event
-
-module _ (events : List Event) (answers : List (Result Taken Fault)) (e : Event) (a : Result Taken Fault) (long : length events ≡ length answers) (c : DomainConfig) where
-  pub shows_more : (old new : Domain) → (is_halted old ≡ true → is_halted new ≡ true) → (tells_halted c.domain e a ≡ true → is_halted new ≡ true) → (is_halted old ≡ false → is_halted new ≡ true → lets_halt c.domain e a ≡ true) → ShowsHalt events answers c old → ShowsHalt (events ++ e ∷ []) (answers ++ a ∷ []) c new
-  shows_more old new stays tells lets so_far =
-      let told_more = some_more (tells_halted c.domain) events answers e a long in
-      let because_more = some_more (lets_halt c.domain) events answers e a long in
-      record {
-        told = λ some.
-            elim (or_cases (some_answer (tells_halted c.domain) events answers) (tells_halted c.domain e a) (sym told_more ∙ some)) [
-              | inl before ↦ stays (so_far.told before)
-              | inr now ↦ tells now
-            ];
-        because = λ halted.
-            because_more
-            ∙ elim (cases_Bool (is_halted old)) [
-              | inl was ↦ or_left (some_answer (lets_halt c.domain) events answers) (lets_halt c.domain e a) (so_far.because was)
-              | inr ran ↦ or_right (some_answer (lets_halt c.domain) events answers) (lets_halt c.domain e a) (lets ran halted)
-            ];
-      }
-
-  pub other_shows : (d : Domain) → is_own c.domain e ≡ false → ShowsHalt events answers c d → ShowsHalt (events ++ e ∷ []) (answers ++ a ∷ []) c d
-  other_shows d other so_far =
-      shows_more d d (λ was. was)
-      (λ tells. absurd (false≢true (sym other ∙ (and_parts (is_own c.domain e) _ tells).0)))
-      (λ ran halted. absurd (false≢true (sym ran ∙ halted)))
+  -- behind its halt
+  behind_halt : (c : DomainConfig) (n : ℕ) → HasServed here events answers sent part (record { config = c; halt = Some n }) d → HasServed here (events ++ e ∷ []) (answers ++ a ∷ []) sent part (record { config = c; halt = Some n }) d
+  behind_halt c n so_far =
+      let within : n < length events = own_at_within c.domain events n (so_far.served.halted n refl) in
+      let front : take n (events ++ e ∷ []) ≡ take n events = take-append-le n events (e ∷ []) (omega arith) in
+      let few = length-take-le n events (omega arith) in
+      carried (record { config = c; halt = Some n }) (ap (own c.domain) front)
+      (ap (λ es. named_answers c.domain es (answers ++ a ∷ [])) front ∙ named_front c.domain (take n events) answers (a ∷ []) (omega arith))
       so_far
+
+  -- the event is not the domain's own
+  pub other_event : (c : DomainConfig) (halt : Option ℕ) → is_own c.domain e ≡ false → HasServed here events answers sent part (record { config = c; halt = halt }) d → HasServed here (events ++ e ∷ []) (answers ++ a ∷ []) sent part (record { config = c; halt = halt }) d
+  other_event c None other so_far =
+      carried (record { config = c; halt = None })
+      (own_more c.domain events e ∙ ap (λ more. own c.domain events ++ more) (own_none c.domain e other) ∙ append-nil (own c.domain events))
+      (named_more c.domain events answers e a long
+      ∙ ap (λ more. named_answers c.domain events answers ++ more) (named_none c.domain e a (other_unnamed c.domain e other))
+      ∙ append-nil (named_answers c.domain events answers))
+      so_far
+  other_event c (Some n) other so_far = behind_halt c n so_far
 
 -- A turn of the domain
 
@@ -158,47 +169,41 @@ turn_number (Err NoMemory) e old new before after turn = ap number_of turn.0
 turn_number (Err (Halted d)) e old new before after turn = turn.1.number
 turn_number (Err NoDomain) e old new before after turn = absurd turn
 
-pub turn_stays : (b : Result Taken Fault) (e : Event) (old new : Domain) (before after : Lent) → IsTurn b e old new before after → is_halted old ≡ true → is_halted new ≡ true
-turn_stays (Ok t) e old new before after turn was = turn.halted ∙ was
-turn_stays (Err NoMemory) e old new before after turn was = ap is_halted turn.0 ∙ was
-turn_stays (Err (Halted d)) e old new before after turn was = turn.1.stops
-turn_stays (Err NoDomain) e old new before after turn was = absurd turn
-
-module _ (here : SiteNo) (events : List Event) (answers : List (Result Taken Fault)) (e : Event) (c : DomainConfig) (old new : Domain) (before after : Lent) (so_far : HasRun here events answers before c old) where
+module _ (here : SiteNo) (events : List Event) (answers : List (Result Taken Fault)) (e : Event) (s : Served) (old new : Domain) (before after : Lent) (so_far : HasGiven here events answers before s old) where
   -- the domain's part by the name that it is configured under
-  own_means : (s : State) → Means old (part_of c.domain before.shared) s → Means old (part_in before old) s
-  own_means s means = subst (λ (n : DomainNo). Means old (part_of n before.shared) s) (sym so_far.number) means
+  own_means : (t : State) → Means old (part_of s.config.domain before.shared) t → Means old (part_in before old) t
+  own_means t means = subst (λ (n : DomainNo). Means old (part_of n before.shared) t) (sym so_far.served.domain) means
 
   -- the frames of a step bear the domain's number
-  step_frames : (s : State) (taken : Taken) (step : IsStepOf s e taken new (part_in after old) before.outs after.outs) (q : DomainNo) → number_of new ≡ number_of old → frames_of q after.outs.frames ≡ frames_of q before.outs.frames ++ frames_of q (tagged c.domain step.end.frames)
-  step_frames s taken step q number =
-      let named : step.end.config.domain ≡ c.domain = sym (ap (λ (k : DomainConfig). k.domain) step.means.fits.config) ∙ number ∙ so_far.number in
-      ap (λ (o : Outs). frames_of q o.frames) step.outs
-      ∙ frames_more q before.outs.frames (tagged step.end.config.domain step.end.frames)
-      ∙ ap (λ d. frames_of q before.outs.frames ++ frames_of q (tagged d step.end.frames)) named
+  step_frames : (t : State) (taken : Taken) (step : IsStepOf t e taken new (part_in after old) before.outs after.outs) (r : DomainNo) → number_of new ≡ number_of old → frames_of r after.outs.frames ≡ frames_of r before.outs.frames ++ frames_of r (tagged s.config.domain step.end.frames)
+  step_frames t taken step r number =
+      let named : step.end.config.domain ≡ s.config.domain = sym (ap (λ (k : DomainConfig). k.domain) step.means.fits.config) ∙ number ∙ so_far.served.domain in
+      ap (λ (o : Outs). frames_of r o.frames) step.outs
+      ∙ frames_more r before.outs.frames (tagged step.end.config.domain step.end.frames)
+      ∙ ap (λ d. frames_of r before.outs.frames ++ frames_of r (tagged d step.end.frames)) named
 
   -- what others have stays
-  pub turn_keeps : (b : Result Taken Fault) → IsTurn b e old new before after → (q : DomainNo) → domain_eq c.domain q ≡ false → Keeps q before after
-  turn_keeps (Ok t) turn q other =
-      let differ : domain_eq (number_of old) q ≡ false = ap (λ n. domain_eq n q) so_far.number ∙ other in
+  pub turn_keeps : (b : Result Taken Fault) → IsTurn b e old new before after → (r : DomainNo) → domain_eq s.config.domain r ≡ false → Keeps r before after
+  turn_keeps (Ok t) turn r other =
+      let differ : domain_eq (number_of old) r ≡ false = ap (λ n. domain_eq n r) so_far.served.domain ∙ other in
       elim (cases_Bool (is_halted old)) [
-        | inl was ↦ keeps_same q before after (turn.refuses was).2
+        | inl was ↦ keeps_same r before after (turn.refuses was).2
         | inr ran ↦
-            let run = so_far.runs ran in
-            let step = turn.steps ran run.end (own_means run.end run.means) in (
-              step_frames run.end t step q turn.number
-                  ∙ ap (λ more. frames_of q before.outs.frames ++ more) (frames_other c.domain q step.end.frames other)
-                  ∙ append-nil (frames_of q before.outs.frames),
-              part_kept (number_of old) q before.shared after.shared differ turn.others,
+            let means = so_far.means (not_there s.halt (sym so_far.served.shown ∙ ran)) in
+            let step = turn.steps ran so_far.served.end (own_means so_far.served.end means) in (
+              step_frames so_far.served.end t step r turn.number
+                  ∙ ap (λ more. frames_of r before.outs.frames ++ more) (frames_other s.config.domain r step.end.frames other)
+                  ∙ append-nil (frames_of r before.outs.frames),
+              part_kept (number_of old) r before.shared after.shared differ turn.others,
             )
       ]
-  turn_keeps (Err NoMemory) turn q other = keeps_same q before after turn.1
-  turn_keeps (Err (Halted d)) turn q other =
-      let differ : domain_eq (number_of old) q ≡ false = ap (λ n. domain_eq n q) so_far.number ∙ other in (
-        ap (λ (o : Outs). frames_of q o.frames) turn.1.outs,
-        part_kept (number_of old) q before.shared after.shared differ turn.1.others,
+  turn_keeps (Err NoMemory) turn r other = keeps_same r before after turn.1
+  turn_keeps (Err (Halted d)) turn r other =
+      let differ : domain_eq (number_of old) r ≡ false = ap (λ n. domain_eq n r) so_far.served.domain ∙ other in (
+        ap (λ (o : Outs). frames_of r o.frames) turn.1.outs,
+        part_kept (number_of old) r before.shared after.shared differ turn.1.others,
       )
-  turn_keeps (Err NoDomain) turn q other = absurd turn
+  turn_keeps (Err NoDomain) turn r other = absurd turn
 
 -- the answers so far and the next, to an event that names the domain, and to a tick
 module _ (d : DomainNo) (events : List Event) (answers : List (Result Taken Fault)) (e : Event) (a : Result Taken Fault) (long : length events ≡ length answers) (taken : List Taken) (t : Taken) (alike : length (own d events) ≡ length taken) (its : is_own d e ≡ true) where
@@ -217,65 +222,156 @@ module _ (d : DomainNo) (events : List Event) (answers : List (Result Taken Faul
       ∙ sym (ap (map Ok) (named_more d (own d events) taken e t alike))
       ∙ sym (ap (λ es. map Ok (named_answers d es (taken ++ t ∷ []))) one)
 
-module _ (here : SiteNo) (events : List Event) (answers : List (Result Taken Fault)) (e : Event) (a : Result Taken Fault) (long : length events ≡ length answers) (c : DomainConfig) (old new : Domain) (before after : Lent) (so_far : HasRun here events answers before c old) (its : is_own c.domain e ≡ true) where
-  own_ran : (t : Taken) → (names c.domain e ≡ true → a ≡ Ok t) → IsTurn (Ok t) e old new before after → is_halted new ≡ false → RunsTo here c (events ++ e ∷ []) (answers ++ a ∷ []) (frames_of c.domain after.outs.frames) (part_of c.domain after.shared) new
-  own_ran t answer turn running =
-      let ran : is_halted old ≡ false = sym turn.halted ∙ running in
-      let was = so_far.runs ran in
-      let step = turn.steps ran was.end (own_means here events answers e c old new before after so_far was.end was.means) in
+-- where a domain was halted, after it answered so in its turn
+abbrev pub halt_after : ℕ → Option ℕ → Result Taken Fault → Option ℕ
+halt_after place halt (Ok t) = halt
+halt_after place halt (Err NoMemory) = halt
+halt_after place halt (Err (Halted d)) = Some place
+halt_after place halt (Err NoDomain) = halt
+
+-- all that is known of a domain after its turn
+pub record HasTurned (here : SiteNo) (events : List Event) (answers : List (Result Taken Fault)) (place : ℕ) (after : Lent) (b : Result Taken Fault) (was : Served) (now : Served) (d : Domain) : Type 0 where
+  pub given : HasGiven here events answers after now d
+  pub later : IsLater place was now
+  pub halts : number_halted place now ≡ halted_by b
+  pub says : IsNamedAnswer place now.config.domain now.halt b
+
+module _ (here : SiteNo) (events : List Event) (answers : List (Result Taken Fault)) (e : Event) (a : Result Taken Fault) (long : length events ≡ length answers) (c : DomainConfig) (old new : Domain) (before after : Lent) (its : is_own c.domain e ≡ true) where
+  abbrev running : Served
+  running = record { config = c; halt = None }
+
+  abbrev halted : ℕ → Served
+  halted n = record { config = c; halt = Some n }
+
+  -- the step of a domain that runs
+  steps : (t : Taken) → (names c.domain e ≡ true → a ≡ Ok t) → IsTurn (Ok t) e old new before after → HasGiven here events answers before running old → HasGiven here (events ++ e ∷ []) (answers ++ a ∷ []) after running new
+  steps t answer turn so_far =
+      let was = so_far.served in
+      let step = turn.steps was.shown was.end (own_means here events answers e running old new before after so_far was.end (so_far.means refl)) in
       let frames : frames_of c.domain after.outs.frames ≡ frames_of c.domain before.outs.frames ++ step.end.frames =
-      step_frames here events answers e c old new before after so_far was.end t step c.domain turn.number
+      step_frames here events answers e running old new before after so_far was.end t step c.domain turn.number
       ∙ ap (λ more. frames_of c.domain before.outs.frames ++ more) (frames_own c.domain step.end.frames) in
       let one : own c.domain events ++ e ∷ [] ≡ own c.domain (events ++ e ∷ []) =
       sym (own_more c.domain events e ∙ ap (λ more. own c.domain events ++ more) (own_one c.domain e its)) in
-      let alike = run_length (opening here c) (own c.domain events) was.taken (frames_of c.domain before.outs.frames) was.end was.run in
+      let alike = run_length (opening here c) (own c.domain events) was.taken (frames_of c.domain before.outs.frames) was.end was.runs in
+      let means : Means new (part_of c.domain after.shared) step.end =
+      subst (λ (n : DomainNo). Means new (part_of n after.shared) step.end) was.domain step.means in
       record {
-        end = step.end;
-        taken = was.taken ++ t ∷ [];
-        answered = answered_more c.domain events answers e a long was.taken t alike its answer was.answered;
-        run =
-            subst (λ es. IsRun (opening here c) es (was.taken ++ t ∷ []) (frames_of c.domain after.outs.frames) step.end) one
-            (subst (λ sent. IsRun (opening here c) (own c.domain events ++ e ∷ []) (was.taken ++ t ∷ []) sent step.end) (sym frames)
-            (run_more (opening here c) (own c.domain events) was.taken (frames_of c.domain before.outs.frames) was.end e t step.end was.run step.steps));
-        means = subst (λ (n : DomainNo). Means new (part_of n after.shared) step.end) so_far.number step.means;
+        served =
+            record {
+              domain = turn.number ∙ was.domain;
+              shown = turn.halted ∙ was.shown;
+              halted = λ place wrong. absurd (none_some place wrong);
+              taken = was.taken ++ t ∷ [];
+              end = step.end;
+              answered = answered_more c.domain events answers e a long was.taken t alike its answer was.answered;
+              runs =
+                  subst (λ es. IsRun (opening here c) es (was.taken ++ t ∷ []) (frames_of c.domain after.outs.frames) step.end) one
+                  (subst (λ sent. IsRun (opening here c) (own c.domain events ++ e ∷ []) (was.taken ++ t ∷ []) sent step.end) (sym frames)
+                  (run_more (opening here c) (own c.domain events) was.taken (frames_of c.domain before.outs.frames) was.end e t step.end was.runs step.steps));
+              pushes = λ _. all_pushed new (part_of c.domain after.shared) step.end means;
+            };
+        means = λ _. means;
       }
 
-  pub own_run : (b : Result Taken Fault) → b ≢ Err NoMemory → (names c.domain e ≡ true → a ≡ b) → IsTurn b e old new before after → HasRun here (events ++ e ∷ []) (answers ++ a ∷ []) after c new
-  own_run (Ok t) begun answer turn =
+  -- a domain that runs finds no memory
+  stops : (d : DomainNo) → IsTurn (Err (Halted d)) e old new before after → HasGiven here events answers before running old → HasGiven here (events ++ e ∷ []) (answers ++ a ∷ []) after (halted (length events)) new
+  stops d turn so_far =
+      let was = so_far.served in
+      let front : take (length events) (events ++ e ∷ []) ≡ events = take_at events (e ∷ []) (length events) refl in
+      let frames : frames_of c.domain before.outs.frames ≡ frames_of c.domain after.outs.frames = sym (ap (λ (o : Outs). frames_of c.domain o.frames) turn.1.outs) in
       record {
-        number = turn.number ∙ so_far.number;
-        runs = own_ran t answer turn;
+        served =
+            record {
+              domain = turn.1.number ∙ was.domain;
+              shown = turn.1.stops;
+              halted = λ place at.
+                  subst (λ n. is_own_at c.domain (events ++ e ∷ []) n ≡ true) (same_some (length events) place at) (own_at_last c.domain events e its);
+              taken = was.taken;
+              end = was.end;
+              answered =
+                  ap (λ es. named_answers c.domain es (answers ++ a ∷ [])) front
+                  ∙ named_front c.domain events answers (a ∷ []) (omega arith)
+                  ∙ was.answered
+                  ∙ sym (ap (λ es. map Ok (named_answers c.domain (own c.domain es) was.taken)) front);
+              runs =
+                  subst (λ es. IsRun (opening here c) (own c.domain es) was.taken (frames_of c.domain after.outs.frames) was.end) (sym front)
+                  (subst (λ sent. IsRun (opening here c) (own c.domain events) was.taken sent was.end) frames was.runs);
+              pushes = λ wrong. absurd (none_some (length events) (sym wrong));
+            };
+        means = λ wrong. absurd (none_some (length events) (sym wrong));
       }
-  own_run (Err NoMemory) begun answer turn = absurd (begun refl)
-  own_run (Err (Halted d)) begun answer turn =
+
+  -- a domain that is halted refuses
+  refuses : (n : ℕ) (t : Taken) → IsTurn (Ok t) e old new before after → HasGiven here events answers before (halted n) old → HasGiven here (events ++ e ∷ []) (answers ++ a ∷ []) after (halted n) new
+  refuses n t turn so_far =
+      let left = turn.refuses so_far.served.shown in
+      let more = behind_halt here events answers e a long (frames_of c.domain before.outs.frames) (part_of c.domain before.shared) old c n so_far in
+      subst (λ l. HasGiven here (events ++ e ∷ []) (answers ++ a ∷ []) l (halted n) new) (sym left.2)
+      (subst (HasGiven here (events ++ e ∷ []) (answers ++ a ∷ []) before (halted n)) (sym left.1) more)
+
+  pub own_turn : (halt : Option ℕ) (b : Result Taken Fault) → b ≢ Err NoMemory → (names c.domain e ≡ true → a ≡ b) → IsTurn b e old new before after → HasGiven here events answers before (record { config = c; halt = halt }) old → HasTurned here (events ++ e ∷ []) (answers ++ a ∷ []) (length events) after b (record { config = c; halt = halt }) (record { config = c; halt = halt_after (length events) halt b }) new
+  own_turn None (Ok t) begun answer turn so_far =
       record {
-        number = turn.1.number ∙ so_far.number;
-        runs = λ running. absurd (false≢true (sym running ∙ turn.1.stops));
+        given = steps t answer turn so_far;
+        later = later_same (length events) running;
+        halts = refl;
+        says = tt;
       }
-  own_run (Err NoDomain) begun answer turn = absurd turn
+  own_turn (Some n) (Ok t) begun answer turn so_far =
+      let within : n < length events = own_at_within c.domain events n (so_far.served.halted n refl) in
+      record {
+        given = refuses n t turn so_far;
+        later = later_same (length events) (halted n);
+        halts = ap (λ b. cond b (c.domain ∷ []) []) (ne_eqb n (length events) (λ same. absurd (omega arith)));
+        says = (λ at. absurd (omega arith), λ behind i. Ok ((turn.refuses so_far.served.shown).0 i));
+      }
+  own_turn None (Err (Halted d)) begun answer turn so_far =
+      let number : c.domain ≡ d = sym (turn.0 ∙ so_far.served.domain) in
+      record {
+        given = stops d turn so_far;
+        later = later_halted (length events) c;
+        halts = ap (λ b. cond b (c.domain ∷ []) []) (eq-eqb (length events) (length events) refl) ∙ (λ i. number i ∷ []);
+        says = (λ at i. Err (Halted (sym number i)), λ behind. absurd (omega arith));
+      }
+  own_turn (Some n) (Err (Halted d)) begun answer turn so_far =
+      absurd (false≢true (sym turn.1.ran ∙ so_far.served.shown))
+  own_turn halt (Err NoMemory) begun answer turn so_far = absurd (begun refl)
+  own_turn halt (Err NoDomain) begun answer turn so_far = absurd turn
 
--- All that is known of a domain
+-- All domains
 
-abbrev pub HasServed : SiteNo → List Event → List (Result Taken Fault) → Lent → DomainConfig → Domain → Type 0
-HasServed here events answers l c d = HasRun here events answers l c d × ShowsHalt events answers c d
+-- none was halted yet
+abbrev pub unhalted : List DomainConfig → List Served
+unhalted cs = map (λ c. record { config = c; halt = None }) cs
 
 module _ (here : SiteNo) (l : Lent) (none : l.outs.frames ≡ []) (unshared : (q : DomainNo) → part_of q l.shared ≡ no_part) where
-  pub all_new_served : (cs : List DomainConfig) (ds : List Domain) → have_rising_groups cs ≡ true → AllZip (IsNew here) cs ds → AllZip (HasServed here [] [] l) cs ds
-  all_new_served [] [] rising new = new
-  all_new_served [] (d ∷ ds) rising new = absurd new
-  all_new_served (c ∷ cs) [] rising new = absurd new
-  all_new_served (c ∷ cs) (d ∷ ds) rising new =
+  pub all_new_given : (cs : List DomainConfig) (ds : List Domain) → have_rising_groups cs ≡ true → AllZip (IsNew here) cs ds → AllZip (HasGiven here [] [] l) (unhalted cs) ds
+  all_new_given [] [] rising new = new
+  all_new_given [] (d ∷ ds) rising new = absurd new
+  all_new_given (c ∷ cs) [] rising new = absurd new
+  all_new_given (c ∷ cs) (d ∷ ds) rising new =
       let parts = and_parts (is_rising group_cmp c.groups) (have_rising_groups cs) rising in
-      ((new_run here c d l none unshared parts.0 new.0, new_shows here c d new.0), all_new_served cs ds parts.1 new.1)
+      (new_given here c d l none unshared parts.0 new.0, all_new_given cs ds parts.1 new.1)
 
-module _ (here : SiteNo) (events : List Event) (answers : List (Result Taken Fault)) (before after : Lent) (n : DomainNo) (kept : (q : DomainNo) → domain_eq n q ≡ false → Keeps q before after) where
+pub unhalted_configs : (cs : List DomainConfig) → configs_of (unhalted cs) ≡ cs
+unhalted_configs [] = refl
+unhalted_configs (c ∷ cs) = ap (λ rest. c ∷ rest) (unhalted_configs cs)
+
+module _ (here : SiteNo) (events : List Event) (answers : List (Result Taken Fault)) where
+  pub all_numbered : (l : Lent) (served : List Served) (ds : List Domain) → AllZip (HasGiven here events answers l) served ds → AllZip IsNumbered (configs_of served) ds
+  all_numbered l [] [] so_far = so_far
+  all_numbered l [] (d ∷ ds) so_far = absurd so_far
+  all_numbered l (s ∷ served) [] so_far = absurd so_far
+  all_numbered l (s ∷ served) (d ∷ ds) so_far = (so_far.0.served.domain, all_numbered l served ds so_far.1)
+
   -- every domain but the one of this number
-  pub all_kept : (cs : List DomainConfig) (ds : List Domain) → is_configured n cs ≡ false → AllZip (HasServed here events answers before) cs ds → AllZip (HasServed here events answers after) cs ds
-  all_kept [] [] none so_far = so_far
-  all_kept [] (d ∷ ds) none so_far = absurd so_far
-  all_kept (c ∷ cs) [] none so_far = absurd so_far
-  all_kept (c ∷ cs) (d ∷ ds) none so_far =
-      let parts = or_parts (domain_eq c.domain n) (is_configured n cs) none in (
-        (kept_run here events answers before after c d (kept c.domain (domain_flipped c.domain n parts.0)) so_far.0.0, so_far.0.1),
-        all_kept cs ds parts.1 so_far.1,
+  pub all_kept : (before after : Lent) (n : DomainNo) → ((q : DomainNo) → domain_eq n q ≡ false → Keeps q before after) → (served : List Served) (ds : List Domain) → is_configured n (configs_of served) ≡ false → AllZip (HasGiven here events answers before) served ds → AllZip (HasGiven here events answers after) served ds
+  all_kept before after n kept [] [] none so_far = so_far
+  all_kept before after n kept [] (d ∷ ds) none so_far = absurd so_far
+  all_kept before after n kept (s ∷ served) [] none so_far = absurd so_far
+  all_kept before after n kept (s ∷ served) (d ∷ ds) none so_far =
+      let parts = or_parts (domain_eq s.config.domain n) (is_configured n (configs_of served)) none in (
+        kept_given here events answers before after s d (kept s.config.domain (domain_flipped s.config.domain n parts.0)) so_far.0,
+        all_kept before after n kept served ds parts.1 so_far.1,
       )

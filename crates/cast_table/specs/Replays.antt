@@ -1,26 +1,28 @@
--- What a replay gives: for each domain, what a daemon gives that serves it alone.
-use Rattle.std.specs.Prelude.{◌≡◌, ℕ, zero, suc, Bool, true, false, not, ◌&&◌, ◌||◌, nat_le, if◌then◌else◌, List, [], ◌∷◌, map, filter, slice_get, unwrap_or, Result, Ok, Err, ◌↔◌}
+-- What a replay gives: for each domain, what a daemon gives that serves it alone, up to where want of memory halted it.
+use Rattle.std.specs.Prelude.{◌≡◌, ◌==◌, ℕ, ◌+◌, ◌<◌, Bool, true, false, not, ◌&&◌, if◌then◌else◌, List, [], ◌∷◌, map, filter, take, slice_get, Option, Some, None, is_some, Result, Ok, Err, ◌↔◌}
 use Rattle.std.specs.Option.{option_map_or}
-use Rattle.std.specs.List.{AllZip, list_any, list_all}
+use Rattle.std.specs.List.{AllZip, find, list_any, list_all}
 use Rattle.cast_types.specs.declared.names.DomainNo.{DomainNo}
 use Rattle.cast_types.specs.declared.names.SiteNo.{SiteNo}
+use Rattle.cast_types.specs.declared.refusal.Refusal.TheVariants as refusal
 use Rattle.cast_types.specs.Names.{group_cmp}
 use Rattle.cast_message.specs.Rising.{is_rising}
-use Rattle.cast_message.specs.declared.client.Push.{Push}
 use Rattle.cast_message.specs.declared.site.SiteFrame.{SiteFrame}
 use Rattle.cast_model.specs.declared.config.Config.{Config}
 use Rattle.cast_model.specs.declared.config.DomainConfig.{DomainConfig}
 use Rattle.cast_domain.specs.declared.domain.Domain.{Domain}
 use Rattle.cast_model.specs.declared.event.Event.{Event}
 use Rattle.cast_model.specs.declared.event.Taken.{Taken}
+use Rattle.cast_model.specs.declared.event.Taken.TheVariants.{Nothing, Refused}
 use Rattle.cast_model.specs.Events.{domain_of}
 use Rattle.cast_domain.specs.Records.{number_of, is_halted, sessions_of}
-use Rattle.cast_domain.specs.Run.{IsAlone}
+use Rattle.cast_domain.specs.State.{State, opening, serials}
+use Rattle.cast_domain.specs.Run.{IsRun}
 use Rattle.cast_model.specs.declared.log.Fault.{Fault}
 use Rattle.cast_model.specs.declared.log.Fault.TheVariants.{NoMemory, Halted, NoDomain}
 use Rattle.cast_model.specs.declared.log.Given.{Given}
 use Rattle.cast_model.specs.declared.log.Log.{Log}
-use Rattle.cast_table.specs.Tables.{domain_eq}
+use Rattle.cast_table.specs.Tables.{domain_eq, IsLeastOf}
 
 -- Configurations
 
@@ -66,38 +68,12 @@ named_answers d (e ∷ events) (a ∷ answers) =
 abbrev pub frames_of : DomainNo → List (DomainNo × SiteNo × SiteFrame) → List (SiteNo × SiteFrame)
 frames_of d frames = map (λ f. (f.1, f.2)) (filter (λ f. domain_eq f.0 d) frames)
 
--- an answer says that a domain was halted whose number passes a test
-abbrev pub says_halted : (DomainNo → Bool) → Result Taken Fault → Bool
-says_halted is (Ok taken) = false
-says_halted is (Err NoMemory) = false
-says_halted is (Err (Halted d)) = is d
-says_halted is (Err NoDomain) = false
-
--- of some event the answer passes a test that knows the event
-abbrev pub some_answer : (Event → Result Taken Fault → Bool) → List Event → List (Result Taken Fault) → Bool
-some_answer is [] answers = false
-some_answer is (e ∷ events) [] = false
-some_answer is (e ∷ events) (a ∷ answers) = is e a || some_answer is events answers
-
--- the answer to an event says that a domain was halted: one to an event that names it says so of any, one to a tick of it
-abbrev pub tells_halted : DomainNo → Event → Result Taken Fault → Bool
-tells_halted d event answer = is_own d event && says_halted (λ n. names d event || domain_eq n d) answer
-
--- the answer to a domain's own event lets it be halted: it says so of some domain, one to a tick of none above it
-abbrev pub lets_halt : DomainNo → Event → Result Taken Fault → Bool
-lets_halt d event answer = is_own d event && says_halted (λ n. names d event || nat_le n.0 d.0) answer
-
 -- an answer says that there was no memory to begin with
 abbrev pub lacks_memory : Result Taken Fault → Bool
 lacks_memory (Ok taken) = false
 lacks_memory (Err NoMemory) = true
 lacks_memory (Err (Halted d)) = false
 lacks_memory (Err NoDomain) = false
-
--- all pushes to the session of a serial; serials count from 1
-abbrev pub pushes_at : List (List Push) → ℕ → List Push
-pushes_at pushes zero = []
-pushes_at pushes (suc i) = unwrap_or (slice_get pushes i) []
 
 -- what a domain gave, where these frames were sent for it and for others
 abbrev pub given_of : List (DomainNo × SiteNo × SiteFrame) → Domain → Given
@@ -109,29 +85,103 @@ given_of frames d =
       halted = is_halted d;
     }
 
+-- Where domains were halted
+
+-- a domain as it was served: how it is configured, and the place, from 0 on, of the event at which want of memory halted
+-- it, if one did
+pub record Served : Type 0 where
+  pub config : DomainConfig
+  pub halt : Option ℕ
+
+-- what stands before a place, all where there is none
+abbrev pub until : {X : Type 0} → Option ℕ → List X → List X
+until None xs = xs
+until (Some place) xs = take place xs
+
+-- the event at a place is a domain's own
+abbrev pub is_own_at : DomainNo → List Event → ℕ → Bool
+is_own_at d events place = option_map_or (is_own d) (slice_get events place) false
+
+-- the events that a domain took: its own before its halt
+abbrev pub taken_by : Served → List Event → List Event
+taken_by s events = own s.config.domain (until s.halt events)
+
+-- a domain was halted at the event of a place
+abbrev pub is_halted_at : ℕ → Served → Bool
+is_halted_at place s = option_map_or (λ n. n == place) s.halt false
+
+-- the numbers of the domains that were halted at the event of a place
+abbrev pub halted_at : ℕ → List Served → List DomainNo
+halted_at place served = map (λ s. s.config.domain) (filter (is_halted_at place) served)
+
+-- the domain of a number, as it was served
+abbrev pub served_as : DomainNo → List Served → Option Served
+served_as d served = find (λ s. domain_eq s.config.domain d) served
+
+-- Answers
+
+-- the answer to a tick, by the domains that it halted: the least of them, or that there is nothing to tell
+abbrev pub IsTickAnswer : List DomainNo → Result Taken Fault → Type 0
+IsTickAnswer halted (Ok taken) = (taken ≡ Nothing) × IsLeastOf None halted
+IsTickAnswer halted (Err NoMemory) = ⊥
+IsTickAnswer halted (Err (Halted d)) = IsLeastOf (Some d) halted
+IsTickAnswer halted (Err NoDomain) = ⊥
+
+-- the answer at a place to an event that names a domain, by where that was halted: there it tells so, behind it refuses.
+-- What it is before, the domain says where it is served alone
+abbrev pub IsNamedAnswer : ℕ → DomainNo → Option ℕ → Result Taken Fault → Type 0
+IsNamedAnswer place d None answer = Unit {0}
+IsNamedAnswer place d (Some halt) answer =
+    (place ≡ halt → answer ≡ Err (Halted d)) × (halt < place → answer ≡ Ok (Refused refusal.Halted))
+
+-- the same where the domain was served so, or is none that is configured
+abbrev pub IsAnswerOf : ℕ → Option Served → Result Taken Fault → Type 0
+IsAnswerOf place None answer = answer ≡ Err NoDomain
+IsAnswerOf place (Some s) answer = IsNamedAnswer place s.config.domain s.halt answer
+
+-- the answer at a place to an event that names this domain, or none
+abbrev pub IsAnswerTo : Option DomainNo → List Served → ℕ → Result Taken Fault → Type 0
+IsAnswerTo None served place answer = IsTickAnswer (halted_at place served) answer
+IsAnswerTo (Some d) served place answer = IsAnswerOf place (served_as d served) answer
+
+-- the answer to an event at a place, where domains were served so
+abbrev pub IsAnswer : List Served → ℕ → Event → Result Taken Fault → Type 0
+IsAnswer served place event answer = IsAnswerTo (domain_of event) served place answer
+
+-- each event is answered, where the first stands at a place
+abbrev pub AreAnswersFrom : ℕ → List Served → List Event → List (Result Taken Fault) → Type 0
+AreAnswersFrom place served [] [] = Unit {0}
+AreAnswersFrom place served [] (a ∷ answers) = ⊥
+AreAnswersFrom place served (e ∷ events) [] = ⊥
+AreAnswersFrom place served (e ∷ events) (a ∷ answers) =
+    IsAnswer served place e a × AreAnswersFrom (place + 1) served events answers
+
+-- each event is answered
+abbrev pub AreAnswers : List Served → List Event → List (Result Taken Fault) → Type 0
+AreAnswers served events answers = AreAnswersFrom 0 served events answers
+
 -- Whole replays
 
--- a domain answered, pushed and sent what a daemon does that serves it alone, with its own events and no other; how a
--- tick is answered is not compared
-pub record IsServedAlone (here : SiteNo) (config : DomainConfig) (events : List Event) (answers : List (Result Taken Fault)) (g : Given) : Type 0 where
+-- what is given for a domain that was served so: up to its halt it answered and sent what a daemon does that serves it
+-- alone, with its own events and no other; and where it was not halted, it pushed the same to the sessions that were opened
+pub record IsServed (here : SiteNo) (events : List Event) (answers : List (Result Taken Fault)) (s : Served) (g : Given) : Type 0 where
+  pub domain : g.domain ≡ s.config.domain
+  pub shown : g.halted ≡ is_some s.halt
+  -- none but its own event halts a domain
+  pub halted : (place : ℕ) → s.halt ≡ Some place → is_own_at s.config.domain events place ≡ true
   pub taken : List Taken
-  pub answered : named_answers config.domain events answers ≡ map Ok (named_answers config.domain (own config.domain events) taken)
-  pub alone : IsAlone here config (own config.domain events) taken g.sent (pushes_at g.pushes)
+  pub end : State
+  pub answered : named_answers s.config.domain (until s.halt events) answers ≡ map Ok (named_answers s.config.domain (taken_by s events) taken)
+  pub runs : IsRun (opening here s.config) (taken_by s events) taken g.sent end
+  pub pushes : s.halt ≡ None → g.pushes ≡ map (λ k. (end.session k).pushed) (serials end)
 
--- what is given for a domain: it is shown as halted where an answer tells so, and only where an answer to its own events
--- lets it be, and where it is not, it is served as if alone
-pub record IsServed (here : SiteNo) (events : List Event) (answers : List (Result Taken Fault)) (config : DomainConfig) (g : Given) : Type 0 where
-  pub domain : g.domain ≡ config.domain
-  pub told : some_answer (tells_halted config.domain) events answers ≡ true → g.halted ≡ true
-  pub because : g.halted ≡ true → some_answer (lets_halt config.domain) events answers ≡ true
-  pub alone : g.halted ≡ false → IsServedAlone here config events answers g
-
--- each configured domain is served as if alone, in the order of the configuration
-abbrev pub ServesEachAlone : Config → List Event → Log → Type 0
-ServesEachAlone config events log =
-    are_distinct config.domains ≡ true
-    → have_rising_groups config.domains ≡ true
-    → AllZip (IsServed config.site events log.answers) config.domains log.given
+-- a log is all that comes of the events: each configured domain is served, in the order of the configuration, and each
+-- event is answered by where want of memory halted domains
+pub record IsReplay (config : Config) (events : List Event) (log : Log) : Type 0 where
+  pub served : List Served
+  pub configured : map (λ s. s.config) served ≡ config.domains
+  pub given : AllZip (IsServed config.site events log.answers) served log.given
+  pub answers : AreAnswers served events log.answers
 
 -- an event is answered that it names no domain exactly where it names one that is not configured; a tick never is
 abbrev pub TellsNoDomain : List DomainConfig → Event → Result Taken Fault → Type 0

@@ -1,9 +1,9 @@
-ghost use Rattle.std.specs.Prelude.{◌≡◌, ◌≢◌, ◌<◌, ◌≤◌, ◌+◌, ◌++◌, Err, IfOk, IfSome, None, OnErr, OnOk, length, map, vec_len};
+ghost use Rattle.std.specs.Prelude.{◌≡◌, ◌≢◌, ◌<◌, ◌≤◌, ◌+◌, ◌++◌, Err, IfOk, IfSome, None, OnErr, OnOk, length, map, true, vec_len};
 ghost use Rattle.std.specs.List.{AllZip};
 ghost use Rattle.std.specs.Vec.{vec_capacity};
 ghost use Rattle.cast_model.specs.Events.{domain_of};
 ghost use Rattle.cast_table.specs.Tables.{AreTurns, IsApplied, IsAppliedAt, IsLeastOf, IsNew, IsTicked, IsTurn, IsUnchanged, NotesHalts, NotesOne, SharesNothing, answer_in_turn, domains_of, halted_by, lending, lent, lower, place_named, stopped};
-ghost use Rattle.cast_table.specs.Replays.{AnswersNoDomain, ServesEachAlone, frames_of, given_of, lacks_memory};
+ghost use Rattle.cast_table.specs.Replays.{AnswersNoDomain, IsReplay, are_distinct, frames_of, given_of, have_rising_groups, lacks_memory};
 
 use cast_domain::{Domain, Session, Shared};
 use cast_message::{Push, SiteFrame};
@@ -190,12 +190,12 @@ fn lower(least: Option<DomainNo>, number: DomainNo) -> DomainNo
     }
 }
 
-/// Applies events one after another to a daemon that was just started. Each domain that want of memory does not halt
-/// answers, pushes and sends what it does where it is served alone, with no other event. `NoMemory` where an event finds
-/// no memory to begin with, or the log has no room.
+/// Applies events one after another to a daemon that was just started. Until want of memory halts it, each domain answers
+/// and sends what it does where it is served alone, with no other event, and where nothing halts it, it pushes the same.
+/// `NoMemory` where an event finds no memory to begin with, or the log has no room.
 pub fn replay(alloc: Global, config: Config, events: &[Event]) -> Result<Log, NoMemory>
     ensures all { IfOk result (λ log. length log.answers ≡ length events.now) }
-    ensures alone { IfOk result (λ log. ServesEachAlone config events.now log) }
+    ensures replayed { IfOk result (λ log. are_distinct config.domains ≡ true → have_rising_groups config.domains ≡ true → IsReplay config events.now log) }
     ensures no_domain { IfOk result (λ log. AnswersNoDomain config events.now log) }
 {
     let mut table = Table::new(alloc, config)?;

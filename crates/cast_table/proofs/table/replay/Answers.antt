@@ -6,7 +6,7 @@ use Rattle.cast_model.specs.declared.log.Fault.TheVariants.{NoMemory}
 use Rattle.cast_table.specs.Replays.{lacks_memory}
 use Rattle.cast_table.specs.Tables.{lent}
 use Rattle.cast_table.proofs.SoFars.{SoFar, so_far_none, so_far_more}
-use Rattle.cast_table.proofs.Replayed.{served_alone, answered_all}
+use Rattle.cast_table.proofs.Replayed.{replayed, answered_all}
 use Rattle.cast_table.proofs.table.replay.Goals as goal
 
 pub loop-event-init : goal.loop-event-init
@@ -34,9 +34,9 @@ returns-clause-all c =
     let so_far = rw (take_all c.loop-event.event-index c.args.events.now c.loop-event-test.false) at c.loop-event.invariant in
     answered_all c.args.config c.args.events.now c.loop-event.answers (lent c.loop-event.table c.loop-event.outs) c.loop-event.table.domains.items so_far
 
-pub returns-clause-alone : goal.returns-clause-alone
-returns-clause-alone c =
+pub returns-clause-replayed : goal.returns-clause-replayed
+returns-clause-replayed c =
     let so_far = rw (take_all c.loop-event.event-index c.args.events.now c.loop-event-test.false) at c.loop-event.invariant in
-    served_alone c.args.config c.args.events.now (record { answers = c.loop-event.answers; given = c.in_ok-given.given }) (lent c.loop-event.table c.loop-event.outs) c.loop-event.table.domains.items
+    replayed c.args.config c.args.events.now (record { answers = c.loop-event.answers; given = c.in_ok-given.given }) (lent c.loop-event.table c.loop-event.outs) c.loop-event.table.domains.items
     (rw c.as_slice.ensures at c.in_ok-given.ensures)
     so_far
