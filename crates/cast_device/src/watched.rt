@@ -105,7 +105,7 @@ impl<R: Read> Watched<R> {
 impl<W: Write> Watched<W> {
     ghost use Rattle.cast_device.specs.Watching.{HasFailed, IsInterrupted, WriteFails, calls_of, interruptions_of};
 
-    // One call of `write`.
+    // One call of `write`. An interruption is counted, and any other call ends the count.
     pub(crate) fn write(&mut self, bytes: &[u8]) -> io::Result<usize>
         requires { interruptions_of self.old < PATIENCE }
         ensures bound { WritesAtMost result bytes.now }

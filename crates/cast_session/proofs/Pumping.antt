@@ -12,11 +12,11 @@ use Rattle.cast_message.specs.declared.client.Request.{Request as Asked}
 use Rattle.cast_message.specs.declared.client.Command.{Command}
 use Rattle.cast_message.specs.declared.client.Command.TheVariants.{Request, Bad}
 use Rattle.cast_client.specs.Reading.{client_of}
+use Rattle.cast_device.specs.Writing.{IsBeginning}
 use Rattle.cast_session.specs.declared.frames.Turn.{Turn}
 use Rattle.cast_session.specs.declared.frames.Turn.TheVariants as turn
 use Rattle.cast_session.specs.declared.incoming.InEnd.{InEnd}
 use Rattle.cast_session.specs.declared.incoming.InEnd.TheVariants as ends
-use Rattle.cast_device.specs.Writing.{IsBeginning}
 use Rattle.cast_session.specs.Known.{Adds}
 use Rattle.cast_session.specs.Commands.{Heard, nothing, only_bad, and_then, commands_of}
 use Rattle.cast_session.specs.Turns.{Turned}

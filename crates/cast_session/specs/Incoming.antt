@@ -5,9 +5,9 @@ use Rattle.cast_frame.specs.declared.fault.FrameFault.{FrameFault}
 use Rattle.cast_frame.specs.declared.fault.FrameFault.TheVariants.{NoMemory}
 use Rattle.cast_message.specs.declared.client.Command.{Command}
 use Rattle.cast_message.specs.declared.client.Command.TheVariants.{Bad}
+use Rattle.cast_device.specs.Writing.{IsBeginning}
 use Rattle.cast_session.specs.declared.incoming.InEnd.{InEnd}
 use Rattle.cast_session.specs.declared.incoming.InEnd.TheVariants as ends
-use Rattle.cast_device.specs.Writing.{IsBeginning}
 use Rattle.cast_session.specs.Known.{Adds}
 use Rattle.cast_session.specs.Commands.{Heard, commands_of}
 

@@ -11,9 +11,10 @@
 //! In no contract, and tested: `pump_in` reads nothing behind a frame before it has handed the frame on, and no call of a
 //! writer is given bytes of two frames.
 //!
-//! The definitions are in `specs/`: `Commands` says what bytes say, `Incoming`, `Outgoing` and `Pushes` what a pump of
-//! commands, a writer and a reader of pushes did, `Known` has words for lists that are known at some types only, `Turns`
-//! says what one call of `read` came to, and `Laws` what holds of all bytes.
+//! The definitions are in `specs/`: `Commands` says what bytes say, `Incoming` and `Pushes` what a pump of commands and a
+//! reader of pushes did, `Outgoing` what pushes are in bytes, `Known` has words for lists that are known at some types only,
+//! `Turns` says what one call of `read` came to, and `Laws` what holds of all bytes. What is noted of a device and what was
+//! written is said in `cast_device`.
 #![tactic(auto)]
 
 mod client;
