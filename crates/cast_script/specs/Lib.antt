@@ -1,1 +1,3 @@
 pub mod Scripts
+pub mod Readings
+pub mod Laws

@@ -1,7 +1,7 @@
 -- What a script may say of a daemon.
-use Rattle.std.specs.Prelude.{◌≡◌, ◌≢◌, ◌≤◌, ◌⊎◌, ℕ, Bool, true, false, not, ◌&&◌, ◌==◌, nat_lt, filter, List, [], ◌∷◌, ◌++◌, length, map, codes, IsTrue, Ok}
+use Rattle.std.specs.Prelude.{◌≡◌, ◌≢◌, ◌<◌, ◌≤◌, ◌^◌, ◌⊎◌, ℕ, Bool, true, false, not, ◌&&◌, ◌==◌, nat_lt, filter, List, [], ◌∷◌, ◌++◌, length, map, codes, IsTrue, Ok}
 use Rattle.std.specs.Borrow.{Bor}
-use Rattle.std.specs.List.{AllZip, Contains, slice_split}
+use Rattle.std.specs.List.{AllByRecursion, AllZip, Contains, slice_split}
 use Rattle.std.specs.Fmt.{decimal}
 use Rattle.hex.specs.Hex.{decode_of}
 use Rattle.cast_types.specs.declared.names.DomainNo.{DomainNo}
@@ -10,13 +10,13 @@ use Rattle.cast_message.specs.declared.client.CastKind.TheVariants as kind
 use Rattle.cast_message.specs.declared.client.Request.{Request}
 use Rattle.cast_message.specs.declared.client.Request.TheVariants as request
 use Rattle.cast_frame.specs.Spelling.{spelled_site}
+use Rattle.cast_frame.specs.Spelled.{IsSpelled}
 use Rattle.cast_message.specs.declared.client.Command.TheVariants as command
 use Rattle.cast_model.specs.declared.event.Event.{Event}
 use Rattle.cast_model.specs.declared.event.Event.TheVariants as event
 use Rattle.cast_types.specs.declared.names.SiteNo.{SiteNo}
 use Rattle.cast_types.specs.declared.names.GroupNo.{GroupNo}
 use Rattle.cast_script.specs.declared.script.Script.{Script}
-use Rattle.cast_script.specs.declared.script.Line.{Line}
 use Rattle.cast_script.specs.declared.script.Head.{Head}
 use Rattle.cast_script.specs.declared.script.Head.TheVariants.{Site, Domain, Open, Join, Leave, Cast, Abcast, Bad, Frame, Tick}
 use Rattle.cast_model.specs.declared.config.DomainConfig.{DomainConfig}
@@ -40,6 +40,19 @@ groups_rise groups = rises_from (λ g. g.0) 0 groups
 abbrev pub IsBetween : ℕ → ℕ → ℕ → Type 0
 IsBetween least most n = (least ≤ n) × (n ≤ most)
 
+abbrev pub IsDomain : DomainNo → Type 0
+IsDomain d = IsBetween 1 255 d.0
+
+abbrev pub IsSite : SiteNo → Type 0
+IsSite s = IsBetween 1 65535 s.0
+
+abbrev pub IsGroup : GroupNo → Type 0
+IsGroup g = IsBetween 1 65535 g.0
+
+-- the serial of a session or the tag of a request
+abbrev pub IsNumber : ℕ → Type 0
+IsNumber n = n < 2 ^ 32
+
 -- quotas within their limits
 pub record AreWithinLimits (q : Quotas) : Type 0 where
   pub sessions : IsBetween 1 64 q.sessions
@@ -49,12 +62,14 @@ pub record AreWithinLimits (q : Quotas) : Type 0 where
 
 -- a domain within its limits, at this site
 pub record IsDomainAt (own : SiteNo) (d : DomainConfig) : Type 0 where
-  pub numbered : IsBetween 1 255 d.domain.0
+  pub numbered : IsDomain d.domain
   pub few_sites : length d.sites ≤ 16
+  pub are_sites : AllByRecursion IsSite d.sites
   pub rising : IsTrue (sites_rise d.sites)
   pub has_home : Contains d.sites d.home
   pub has_own : Contains d.sites own
   pub few_groups : IsBetween 1 32 (length d.groups)
+  pub are_groups : AllByRecursion IsGroup d.groups
   pub rising_groups : IsTrue (groups_rise d.groups)
   pub within : AreWithinLimits d.quotas
 
@@ -101,7 +116,7 @@ head_text Tick = codes "tick"
 
 -- the words of a line spell a site
 abbrev pub SpellsSite : List (List ℕ) → SiteNo → Type 0
-SpellsSite ws s = ws ≡ codes "site" ∷ decimal s.0 ∷ []
+SpellsSite ws s = (ws ≡ codes "site" ∷ decimal s.0 ∷ []) × IsSite s
 
 -- the words that name a domain and its home
 abbrev pub place_texts : DomainNo → SiteNo → List (List ℕ)
@@ -121,22 +136,30 @@ abbrev pub quota_texts : Quotas → List (List ℕ)
 quota_texts q =
     codes "quotas" ∷ decimal q.sessions ∷ decimal q.held ∷ decimal q.outbox ∷ decimal q.resend ∷ []
 
--- the words of a line spell a domain
-abbrev pub SpellsDomain : List (List ℕ) → DomainConfig → Type 0
-SpellsDomain ws d =
+-- the words of a line spell a domain within its limits, at this site
+abbrev pub SpellsDomain : SiteNo → List (List ℕ) → DomainConfig → Type 0
+SpellsDomain own ws d =
     (lists : List (List ℕ))
     × (ws ≡ codes "domain" ∷ (place_texts d.domain d.home ++ (lists ++ quota_texts d.quotas)))
     × SpellsLists lists d.sites d.groups
+    × IsDomainAt own d
 
 -- the words of a line spell the one domain of a daemon
-abbrev pub SpellsOnlyDomain : List (List ℕ) → List DomainConfig → Type 0
-SpellsOnlyDomain ws [] = ⊥
-SpellsOnlyDomain ws (d ∷ []) = SpellsDomain ws d
-SpellsOnlyDomain ws (d ∷ e ∷ ds) = ⊥
+abbrev pub SpellsOnlyDomain : SiteNo → List (List ℕ) → List DomainConfig → Type 0
+SpellsOnlyDomain own ws [] = ⊥
+SpellsOnlyDomain own ws (d ∷ []) = SpellsDomain own ws d
+SpellsOnlyDomain own ws (d ∷ e ∷ ds) = ⊥
 
 -- the words of each request behind the first
 abbrev pub request_texts : DomainNo → ℕ → ℕ → GroupNo → List (List ℕ)
 request_texts d serial tag group = decimal d.0 ∷ decimal serial ∷ decimal tag ∷ decimal group.0 ∷ []
+
+-- the numbers of a request are in their ranges
+pub record AreNumbers (d : DomainNo) (k t : ℕ) (g : GroupNo) : Type 0 where
+  pub domain : IsDomain d
+  pub serial : IsNumber k
+  pub tag : IsNumber t
+  pub group : IsGroup g
 
 -- the first word of a cast
 abbrev pub cast_text : CastKind → List ℕ
@@ -145,21 +168,25 @@ cast_text kind.Atomic = codes "abcast"
 
 -- the words of a line spell a request of a session
 abbrev pub SpellsRequest : DomainNo → ℕ → List (List ℕ) → Request → Type 0
-SpellsRequest d serial ws (request.Join tag group) = ws ≡ codes "join" ∷ request_texts d serial tag group
-SpellsRequest d serial ws (request.Leave tag group) = ws ≡ codes "leave" ∷ request_texts d serial tag group
+SpellsRequest d serial ws (request.Join tag group) =
+    (ws ≡ codes "join" ∷ request_texts d serial tag group) × AreNumbers d serial tag group
+SpellsRequest d serial ws (request.Leave tag group) =
+    (ws ≡ codes "leave" ∷ request_texts d serial tag group) × AreNumbers d serial tag group
 SpellsRequest d serial ws (request.Cast tag group how payload) =
     (hex : List ℕ)
     × (ws ≡ cast_text how ∷ (request_texts d serial tag group ++ hex ∷ []))
+    × AreNumbers d serial tag group
     × SpellsBytes hex payload
 
 -- the words of a line spell an event
 abbrev pub SpellsEvent : List (List ℕ) → Event → Type 0
-SpellsEvent ws (event.Open d) = ws ≡ codes "open" ∷ decimal d.0 ∷ []
+SpellsEvent ws (event.Open d) = (ws ≡ codes "open" ∷ decimal d.0 ∷ []) × IsDomain d
 SpellsEvent ws (event.Command d serial (command.Request r)) = SpellsRequest d serial ws r
-SpellsEvent ws (event.Command d serial command.Bad) = ws ≡ codes "bad" ∷ decimal d.0 ∷ decimal serial ∷ []
+SpellsEvent ws (event.Command d serial command.Bad) =
+    (ws ≡ codes "bad" ∷ decimal d.0 ∷ decimal serial ∷ []) × IsDomain d × IsNumber serial
 SpellsEvent ws (event.Frame d s f) =
-    (hex : List ℕ) × (ws ≡ codes "frame" ∷ hex ∷ []) × SpellsBytes hex (spelled_site d s f)
-SpellsEvent ws (event.Tick now) = ws ≡ codes "tick" ∷ decimal now ∷ []
+    (hex : List ℕ) × (ws ≡ codes "frame" ∷ hex ∷ []) × SpellsBytes hex (spelled_site d s f) × IsSpelled d s f
+SpellsEvent ws (event.Tick now) = (ws ≡ codes "tick" ∷ decimal now ∷ []) × (now < 2 ^ 64)
 
 -- a line that is neither empty nor a comment
 abbrev pub is_used : List ℕ → Bool
@@ -170,15 +197,11 @@ is_used (c ∷ cs) = not (c == 35)
 abbrev pub used_lines_of : List ℕ → List (List ℕ)
 used_lines_of text = filter is_used (parted 10 text)
 
--- the texts of lines
-abbrev pub line_texts : List Line → List (List ℕ)
-line_texts lines = map (λ l. l.text.now) lines
-
 -- these lines spell a script: one for its site, one for its domain, and one for each event
 abbrev pub SpellsScript : List (List ℕ) → Script → Type 0
 SpellsScript [] s = ⊥
 SpellsScript (first ∷ []) s = ⊥
 SpellsScript (first ∷ second ∷ lines) s =
     SpellsSite (words_of first) s.config.site
-    × SpellsOnlyDomain (words_of second) s.config.domains
+    × SpellsOnlyDomain s.config.site (words_of second) s.config.domains
     × AllZip (λ line event. SpellsEvent (words_of line) event) lines s.events

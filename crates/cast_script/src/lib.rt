@@ -1,10 +1,13 @@
 //! Scripts, which say how a daemon is configured and what happens to it.
 //!
-//! Promised: a script that is accepted spells what it is read as, within the limits (`parse`).
+//! Promised: a text is read as the one script that its lines spell within the limits; where they spell none, it is refused
+//! for the first fault of the first line that has one (`parse`, `laws`).
 //!
-//! The definitions are in `specs/Scripts.antt`.
+//! The definitions are in `specs/`: `Scripts` (what spells what), `Readings` (what a text is read as, from left to right)
+//! and `Laws` (that the two agree).
 #![tactic(auto)]
 
+pub mod laws;
 pub mod script;
 pub mod words;
 

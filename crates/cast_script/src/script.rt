@@ -1,8 +1,8 @@
-ghost use Rattle.std.specs.Prelude.{◌≡◌, ◌≢◌, ◌≤◌, ◌∷◌, [], IfOk, IfErr, IsTrue, codes, filter, length};
-ghost use Rattle.std.specs.List.{AllZip, Contains};
-ghost use Rattle.cast_script.specs.Scripts.{AreWithinLimits, HasOneDomain, IsBetween, IsDomainAt, SpellsDomain, SpellsEvent, SpellsGroups, SpellsLists, SpellsScript, SpellsSite, SpellsSites, cast_text, head_text, is_used as is_used_text, line_texts, parted, place_texts, quota_texts, request_texts, groups_rise as are_rising_groups, sites_rise as are_rising_sites, texts, used_lines_of, words_of};
-ghost use Rattle.cast_script.specs.declared.script.Head.{Head};
-ghost use Rattle.cast_script.specs.declared.words.Reason.TheVariants.{UnknownWord};
+ghost use Rattle.std.specs.Prelude.{◌≡◌, IfOk, filter, map};
+ghost use Rattle.cast_script.specs.Scripts.{HasOneDomain, is_used as is_used_text, parted, texts, words_of};
+ghost use Rattle.cast_script.specs.Readings.{Gives, GivesAt, bad_words, cast_words, domain_at, domain_line, domain_on, domain_words, each, end_after, event_at, event_line, fault_at, frame_words, groups_of, head_of, join_words, leave_words, list_words, numbered_line, open_words, place_words, quota_words, request_parts, requested, script_of, site_at, site_line, site_on, site_words, sites_of, tick_words, used_of};
+ghost use Rattle.cast_script.specs.declared.words.Reason.TheVariants.{Order};
+ghost use Rattle.cast_script.specs.declared.script.ScriptFault.TheVariants.{At, NoMemory};
 
 use crate::words::{
     LineFault, Reason, bytes_word, domain_word, fixed_word, group_list, group_word, groups_rise,
@@ -36,12 +36,16 @@ pub enum ScriptFault {
 }
 
 impl From<AllocError> for ScriptFault {
+    ghost from_gives = { λ _ fault. fault ≡ NoMemory };
+
     fn from(_error: AllocError) -> ScriptFault {
         ScriptFault::NoMemory
     }
 }
 
 impl<T: Drop> From<AllocFailed<T>> for ScriptFault {
+    ghost from_gives = { λ _ fault. fault ≡ NoMemory };
+
     fn from(_error: AllocFailed<T>) -> ScriptFault {
         ScriptFault::NoMemory
     }
@@ -55,7 +59,9 @@ struct Line<'a> {
 }
 
 impl Line<'_> {
-    fn fault(&self, fault: LineFault) -> ScriptFault {
+    fn fault(&self, fault: LineFault) -> ScriptFault
+        ensures { result ≡ fault_at self.now.number fault }
+    {
         match fault {
             LineFault::Refused(reason) => ScriptFault::At {
                 line: self.number,
@@ -93,7 +99,7 @@ struct RequestParts {
 impl RequestParts {
     // The event that is a request with these parts.
     fn event(self, request: Request) -> Event
-        ensures { result ≡ Event.Command self.domain self.serial (Command.Request request) }
+        ensures { result ≡ requested self request }
     {
         Event::Command {
             domain: self.domain,
@@ -104,8 +110,13 @@ impl RequestParts {
 }
 
 /// Reads a script: one `site` line, one `domain` line, then the events.
+///
+/// The fault is the first of the first line that has one: its first word, its place, the count of its words, and then its
+/// words from left to right. `NoMemory` comes where an allocation was refused, and says nothing of the text.
 pub fn parse(alloc: Global, text: &str) -> Result<Script, ScriptFault>
-    ensures spelled { IfOk result (SpellsScript (used_lines_of text.now)) }
+    // Which script, or the line of the first fault with the reason.
+    ensures exact { GivesAt result (script_of text.now) }
+    // The daemon has one domain, within its limits.
     ensures valid { IfOk result (λ s. HasOneDomain s.config) }
 {
     let lines = lines_of(alloc, text)?;
@@ -114,18 +125,31 @@ pub fn parse(alloc: Global, text: &str) -> Result<Script, ScriptFault>
 }
 
 // Reads a script from its used lines. The last number is that of the line behind them all.
+#[tactic(auto, unfolding(crate::specs::Readings::site_on))]
 fn parse_lines(alloc: Global, lines: &[Line<'_>], end: usize) -> Result<Script, ScriptFault>
-    ensures spelled { IfOk result (SpellsScript (line_texts lines.now)) }
-    ensures valid { IfOk result (λ s. HasOneDomain s.config) }
+    ensures { GivesAt result (site_on end (map numbered_line lines.now)) }
 {
-    let missing = ScriptFault::At {
-        line: end,
-        reason: Reason::Order,
+    let [line, lines @ ..] = lines else {
+        return Err(missing(end));
     };
-    let (first, lines) = lines.split_first().ok_or(missing)?;
-    let site = site_line(alloc, first.text).map_err(|fault| first.fault(fault))?;
-    let (second, lines) = lines.split_first().ok_or(missing)?;
-    let domain = domain_line(alloc, second.text, site).map_err(|fault| second.fault(fault))?;
+    let site = site_at(alloc, line)?;
+    parse_domain(alloc, lines, site, end)
+}
+
+// Reads a script of this site from the used lines behind its first.
+#[tactic(auto, unfolding(crate::specs::Readings::domain_on))]
+fn parse_domain(
+    alloc: Global,
+    lines: &[Line<'_>],
+    site: SiteNo,
+    end: usize,
+) -> Result<Script, ScriptFault>
+    ensures { GivesAt result (domain_on site end (map numbered_line lines.now)) }
+{
+    let [line, lines @ ..] = lines else {
+        return Err(missing(end));
+    };
+    let domain = domain_at(alloc, line, site)?;
     let mut domains = Listed::new(alloc);
     domains.push(domain)?;
     let config = Config { site, domains };
@@ -133,16 +157,56 @@ fn parse_lines(alloc: Global, lines: &[Line<'_>], end: usize) -> Result<Script, 
     Ok(Script { config, events })
 }
 
+// The lines end too early.
+fn missing(end: usize) -> ScriptFault
+    ensures { result ≡ At end Order }
+{
+    ScriptFault::At {
+        line: end,
+        reason: Reason::Order,
+    }
+}
+
+// The site of a line.
+#[tactic(auto, using(crate::proofs::Lines::fault_gives), unfolding(crate::specs::Readings::site_at))]
+fn site_at(alloc: Global, line: &Line<'_>) -> Result<SiteNo, ScriptFault>
+    ensures { GivesAt result (site_at (numbered_line line.now)) }
+{
+    match site_line(alloc, line.text) {
+        Ok(site) => Ok(site),
+        Err(fault) => Err(line.fault(fault)),
+    }
+}
+
+// The domain of a line, at this site.
+#[tactic(auto, using(crate::proofs::Lines::fault_gives), unfolding(crate::specs::Readings::domain_at))]
+fn domain_at(alloc: Global, line: &Line<'_>, own: SiteNo) -> Result<DomainConfig, ScriptFault>
+    ensures { GivesAt result (domain_at own (numbered_line line.now)) }
+{
+    match domain_line(alloc, line.text, own) {
+        Ok(domain) => Ok(domain),
+        Err(fault) => Err(line.fault(fault)),
+    }
+}
+
+// The event of a line.
+#[tactic(auto, using(crate::proofs::Lines::fault_gives), unfolding(crate::specs::Readings::event_at))]
+fn event_at(alloc: Global, line: &Line<'_>) -> Result<Event, ScriptFault>
+    ensures { GivesAt result (event_at (numbered_line line.now)) }
+{
+    match event_line(alloc, line.text) {
+        Ok(event) => Ok(event),
+        Err(fault) => Err(line.fault(fault)),
+    }
+}
+
 // The event of each line.
 fn event_lines(alloc: Global, lines: &[Line<'_>]) -> Result<Listed<Event>, ScriptFault>
-    ensures { IfOk result (λ events. AllZip (λ line event. SpellsEvent (words_of line) event) (line_texts lines.now) events) }
+    ensures { GivesAt result (each event_at (map numbered_line lines.now)) }
 {
     let mut events = Listed::new(alloc);
     for line in lines {
-        match event_line(alloc, line.text) {
-            Ok(event) => events.push(event)?,
-            Err(fault) => return Err(line.fault(fault)),
-        }
+        events.push(event_at(alloc, line)?)?;
     }
     Ok(events)
 }
@@ -155,16 +219,18 @@ fn lines_of(alloc: Global, text: &str) -> Result<Vec<&str>, NoMemory>
 }
 
 // The number of the line behind the last.
-fn end_of(lines: &[&str]) -> usize {
+fn end_of(lines: &[&str]) -> usize
+    ensures { result ≡ end_after 1 (texts lines.now) }
+{
     match lines.last() {
         Some(last) if last.is_empty() => lines.len(),
-        _ => lines.len().saturating_add(1),
+        _ => lines.len() + 1,
     }
 }
 
 // The lines that are neither empty nor comments.
 fn used_lines<'a>(alloc: Global, lines: &[&'a str]) -> Result<Vec<Line<'a>>, NoMemory>
-    ensures { IfOk result (λ used. line_texts used.items ≡ filter is_used_text (texts lines.now)) }
+    ensures { IfOk result (λ used. map numbered_line used.items ≡ used_of (texts lines.now)) }
 {
     let mut used = Vec::new(alloc);
     for (index, text) in lines.iter().enumerate() {
@@ -197,8 +263,7 @@ fn words_of(alloc: Global, line: &str) -> Result<Vec<&str>, NoMemory>
 
 // What a line is about, by its first word.
 fn head_of(word: &str) -> Result<Head, Reason>
-    ensures value { IfOk result (λ head. word.now ≡ head_text head) }
-    ensures fault { IfErr result (λ e. (e ≡ UnknownWord) × ((head : Head) → word.now ≢ head_text head)) }
+    ensures { result ≡ head_of word.now }
 {
     match word {
         "site" => Ok(Head::Site),
@@ -216,8 +281,9 @@ fn head_of(word: &str) -> Result<Head, Reason>
 }
 
 // `site N`
+#[tactic(auto, unfolding(crate::specs::Readings::site_line, crate::specs::Readings::behind_first, crate::specs::Readings::site_behind))]
 fn site_line(alloc: Global, line: &str) -> Result<SiteNo, LineFault>
-    ensures { IfOk result (SpellsSite (words_of line.now)) }
+    ensures { Gives result (site_line line.now) }
 {
     let words = words_of(alloc, line)?;
     let (first, words) = words.split_first().ok_or(Reason::UnknownWord)?;
@@ -228,8 +294,9 @@ fn site_line(alloc: Global, line: &str) -> Result<SiteNo, LineFault>
 }
 
 // `site N`, from the second word on
+#[tactic(auto, unfolding(crate::specs::Readings::site_words))]
 fn site(words: &[&str]) -> Result<SiteNo, Reason>
-    ensures { IfOk result (λ site. SpellsSite (codes "site" ∷ texts words.now) site) }
+    ensures { result ≡ site_words (texts words.now) }
 {
     let [site] = words else {
         return Err(Reason::WrongCount);
@@ -238,27 +305,26 @@ fn site(words: &[&str]) -> Result<SiteNo, Reason>
 }
 
 // `domain D home S sites S,.. groups G,.. quotas SESSIONS HELD OUTBOX RESEND`
+#[tactic(auto, unfolding(crate::specs::Readings::domain_line, crate::specs::Readings::behind_first, crate::specs::Readings::domain_behind))]
 fn domain_line(alloc: Global, line: &str, own: SiteNo) -> Result<DomainConfig, LineFault>
-    ensures spelled { IfOk result (SpellsDomain (words_of line.now)) }
-    ensures valid { IfOk result (IsDomainAt own) }
+    ensures { Gives result (domain_line own line.now) }
 {
     let words = words_of(alloc, line)?;
     let (first, words) = words.split_first().ok_or(Reason::UnknownWord)?;
-    if head_of(first)? != Head::Domain {
-        return Err(LineFault::Refused(Reason::Order));
+    match head_of(first)? {
+        Head::Domain => domain_words(alloc, words, own),
+        _ => Err(LineFault::Refused(Reason::Order)),
     }
-    if words.len() != 12 {
-        return Err(LineFault::Refused(Reason::WrongCount));
-    }
-    domain_words(alloc, words, own)
 }
 
 // The words of a `domain` line from the second on.
+#[tactic(auto, unfolding(crate::specs::Readings::domain_words, crate::specs::Readings::domain_parts))]
 fn domain_words(alloc: Global, words: &[&str], own: SiteNo) -> Result<DomainConfig, LineFault>
-    requires { length words.now ≡ 12 }
-    ensures spelled { IfOk result (SpellsDomain (codes "domain" ∷ texts words.now)) }
-    ensures valid { IfOk result (IsDomainAt own) }
+    ensures { Gives result (domain_words own (texts words.now)) }
 {
+    if words.len() != 12 {
+        return Err(LineFault::Refused(Reason::WrongCount));
+    }
     let (domain, home) = place_words(&words[..3])?;
     let (sites, groups) = list_words(alloc, &words[3..7], home, own)?;
     let quotas = quota_words(&words[7..])?;
@@ -272,9 +338,9 @@ fn domain_words(alloc: Global, words: &[&str], own: SiteNo) -> Result<DomainConf
 }
 
 // `D home S`
+#[tactic(auto, unfolding(crate::specs::Readings::place_words))]
 fn place_words(words: &[&str]) -> Result<(DomainNo, SiteNo), Reason>
-    ensures spelled { IfOk result (λ r. texts words.now ≡ place_texts r.0 r.1) }
-    ensures numbered { IfOk result (λ r. IsBetween 1 255 r.0.0) }
+    ensures { result ≡ place_words (texts words.now) }
 {
     let [domain, home_is, home] = words else {
         return Err(Reason::WrongCount);
@@ -285,19 +351,14 @@ fn place_words(words: &[&str]) -> Result<(DomainNo, SiteNo), Reason>
 }
 
 // `sites S,.. groups G,..`
+#[tactic(auto, unfolding(crate::specs::Readings::list_words))]
 fn list_words(
     alloc: Global,
     words: &[&str],
     home: SiteNo,
     own: SiteNo,
 ) -> Result<(Listed<SiteNo>, Listed<GroupNo>), LineFault>
-    ensures spelled { IfOk result (λ r. SpellsLists (texts words.now) r.0 r.1) }
-    ensures few { IfOk result (λ r. length r.0 ≤ 16) }
-    ensures rising { IfOk result (λ r. IsTrue (are_rising_sites r.0)) }
-    ensures home { IfOk result (λ r. Contains r.0 home) }
-    ensures own { IfOk result (λ r. Contains r.0 own) }
-    ensures few_groups { IfOk result (λ r. IsBetween 1 32 (length r.1)) }
-    ensures rising_groups { IfOk result (λ r. IsTrue (are_rising_groups r.1)) }
+    ensures { Gives result (list_words home own (texts words.now)) }
 {
     let [sites_are, sites, groups_are, groups] = words else {
         return Err(LineFault::Refused(Reason::WrongCount));
@@ -309,17 +370,14 @@ fn list_words(
 }
 
 // The sites of a domain: 1 to 16, rising, with its home and the own site among them.
+#[tactic(auto, unfolding(crate::specs::Readings::sites_of, crate::specs::Readings::checked_sites))]
 fn sites_word(
     alloc: Global,
     word: &str,
     home: SiteNo,
     own: SiteNo,
 ) -> Result<Listed<SiteNo>, LineFault>
-    ensures spelled { IfOk result (SpellsSites word.now) }
-    ensures few { IfOk result (λ sites. length sites ≤ 16) }
-    ensures rising { IfOk result (λ sites. IsTrue (are_rising_sites sites)) }
-    ensures home { IfOk result (λ sites. Contains sites home) }
-    ensures own { IfOk result (λ sites. Contains sites own) }
+    ensures { Gives result (sites_of home own word.now) }
 {
     let sites = site_list(alloc, word)?;
     if sites.len() > MAX_SITES {
@@ -333,10 +391,9 @@ fn sites_word(
 }
 
 // The groups of a domain: 1 to 32, rising.
+#[tactic(auto, unfolding(crate::specs::Readings::groups_of, crate::specs::Readings::checked_groups))]
 fn groups_word(alloc: Global, word: &str) -> Result<Listed<GroupNo>, LineFault>
-    ensures spelled { IfOk result (SpellsGroups word.now) }
-    ensures few { IfOk result (λ groups. IsBetween 1 32 (length groups)) }
-    ensures rising { IfOk result (λ groups. IsTrue (are_rising_groups groups)) }
+    ensures { Gives result (groups_of word.now) }
 {
     let groups = group_list(alloc, word)?;
     if groups.is_empty() || groups.len() > MAX_GROUPS {
@@ -350,9 +407,9 @@ fn groups_word(alloc: Global, word: &str) -> Result<Listed<GroupNo>, LineFault>
 }
 
 // `quotas SESSIONS HELD OUTBOX RESEND`
+#[tactic(auto, unfolding(crate::specs::Readings::quota_words))]
 fn quota_words(words: &[&str]) -> Result<Quotas, Reason>
-    ensures spelled { IfOk result (λ quotas. texts words.now ≡ quota_texts quotas) }
-    ensures valid { IfOk result AreWithinLimits }
+    ensures { result ≡ quota_words (texts words.now) }
 {
     let [quotas_are, sessions, held, outbox, resend] = words else {
         return Err(Reason::WrongCount);
@@ -367,8 +424,9 @@ fn quota_words(words: &[&str]) -> Result<Quotas, Reason>
 }
 
 // One of the lines after the `domain` line.
+#[tactic(auto, unfolding(crate::specs::Readings::event_line, crate::specs::Readings::behind_first, crate::specs::Readings::event_behind))]
 fn event_line(alloc: Global, line: &str) -> Result<Event, LineFault>
-    ensures { IfOk result (SpellsEvent (words_of line.now)) }
+    ensures { Gives result (event_line line.now) }
 {
     let words = words_of(alloc, line)?;
     let (first, words) = words.split_first().ok_or(Reason::UnknownWord)?;
@@ -386,8 +444,9 @@ fn event_line(alloc: Global, line: &str) -> Result<Event, LineFault>
 }
 
 // `open D`, from the second word on
+#[tactic(auto, unfolding(crate::specs::Readings::open_words))]
 fn open(words: &[&str]) -> Result<Event, Reason>
-    ensures { IfOk result (SpellsEvent (codes "open" ∷ texts words.now)) }
+    ensures { result ≡ open_words (texts words.now) }
 {
     let [domain] = words else {
         return Err(Reason::WrongCount);
@@ -396,10 +455,14 @@ fn open(words: &[&str]) -> Result<Event, Reason>
 }
 
 // `join D K TAG G`, from the second word on
+#[tactic(auto, unfolding(crate::specs::Readings::join_words))]
 fn join(words: &[&str]) -> Result<Event, Reason>
-    ensures { IfOk result (SpellsEvent (codes "join" ∷ texts words.now)) }
+    ensures { result ≡ join_words (texts words.now) }
 {
-    let parts = request_words(words)?;
+    let [domain, serial, tag, group] = words else {
+        return Err(Reason::WrongCount);
+    };
+    let parts = request_parts(domain, serial, tag, group)?;
     Ok(parts.event(Request::Join {
         tag: parts.tag,
         group: parts.group,
@@ -407,10 +470,14 @@ fn join(words: &[&str]) -> Result<Event, Reason>
 }
 
 // `leave D K TAG G`, from the second word on
+#[tactic(auto, unfolding(crate::specs::Readings::leave_words))]
 fn leave(words: &[&str]) -> Result<Event, Reason>
-    ensures { IfOk result (SpellsEvent (codes "leave" ∷ texts words.now)) }
+    ensures { result ≡ leave_words (texts words.now) }
 {
-    let parts = request_words(words)?;
+    let [domain, serial, tag, group] = words else {
+        return Err(Reason::WrongCount);
+    };
+    let parts = request_parts(domain, serial, tag, group)?;
     Ok(parts.event(Request::Leave {
         tag: parts.tag,
         group: parts.group,
@@ -418,13 +485,14 @@ fn leave(words: &[&str]) -> Result<Event, Reason>
 }
 
 // `cast D K TAG G HEX` or `abcast D K TAG G HEX`, from the second word on
+#[tactic(auto, unfolding(crate::specs::Readings::cast_words))]
 fn cast(alloc: Global, words: &[&str], kind: CastKind) -> Result<Event, LineFault>
-    ensures { IfOk result (SpellsEvent (cast_text kind ∷ texts words.now)) }
+    ensures { Gives result (cast_words kind (texts words.now)) }
 {
-    let [front @ .., payload] = words else {
+    let [domain, serial, tag, group, payload] = words else {
         return Err(LineFault::Refused(Reason::WrongCount));
     };
-    let parts = request_words(front)?;
+    let parts = request_parts(domain, serial, tag, group)?;
     Ok(parts.event(Request::Cast {
         tag: parts.tag,
         group: parts.group,
@@ -434,12 +502,10 @@ fn cast(alloc: Global, words: &[&str], kind: CastKind) -> Result<Event, LineFaul
 }
 
 // `D K TAG G`
-fn request_words(words: &[&str]) -> Result<RequestParts, Reason>
-    ensures { IfOk result (λ parts. texts words.now ≡ request_texts parts.domain parts.serial parts.tag parts.group) }
+#[tactic(auto, unfolding(crate::specs::Readings::request_parts))]
+fn request_parts(domain: &str, serial: &str, tag: &str, group: &str) -> Result<RequestParts, Reason>
+    ensures { result ≡ request_parts domain.now serial.now tag.now group.now }
 {
-    let [domain, serial, tag, group] = words else {
-        return Err(Reason::WrongCount);
-    };
     Ok(RequestParts {
         domain: domain_word(domain)?,
         serial: number(serial)?,
@@ -449,8 +515,9 @@ fn request_words(words: &[&str]) -> Result<RequestParts, Reason>
 }
 
 // `bad D K`, from the second word on
+#[tactic(auto, unfolding(crate::specs::Readings::bad_words))]
 fn bad(words: &[&str]) -> Result<Event, Reason>
-    ensures { IfOk result (SpellsEvent (codes "bad" ∷ texts words.now)) }
+    ensures { result ≡ bad_words (texts words.now) }
 {
     let [domain, serial] = words else {
         return Err(Reason::WrongCount);
@@ -463,8 +530,9 @@ fn bad(words: &[&str]) -> Result<Event, Reason>
 }
 
 // `frame HEX`, from the second word on
+#[tactic(auto, unfolding(crate::specs::Readings::frame_words))]
 fn frame_event(alloc: Global, words: &[&str]) -> Result<Event, LineFault>
-    ensures { IfOk result (SpellsEvent (codes "frame" ∷ texts words.now)) }
+    ensures { Gives result (frame_words (texts words.now)) }
 {
     let [frame] = words else {
         return Err(LineFault::Refused(Reason::WrongCount));
@@ -478,8 +546,9 @@ fn frame_event(alloc: Global, words: &[&str]) -> Result<Event, LineFault>
 }
 
 // `tick N`, from the second word on
+#[tactic(auto, unfolding(crate::specs::Readings::tick_words))]
 fn tick(words: &[&str]) -> Result<Event, Reason>
-    ensures { IfOk result (SpellsEvent (codes "tick" ∷ texts words.now)) }
+    ensures { result ≡ tick_words (texts words.now) }
 {
     let [moment] = words else {
         return Err(Reason::WrongCount);

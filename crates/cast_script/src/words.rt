@@ -1,7 +1,6 @@
-ghost use Rattle.std.specs.Prelude.{◌≡◌, ◌≢◌, ◌<◌, ◌≤◌, ◌^◌, ◌↔◌, ◌⊎◌, ℕ, IfOk, IfErr, IsTrue, false, length, slice_index};
-ghost use Rattle.std.specs.Fmt.{decimal};
-ghost use Rattle.cast_script.specs.Scripts.{IsBetween, SpellsBytes, SpellsGroups, SpellsSites, groups_rise as are_rising_groups, parted, sites_rise as are_rising_sites, texts};
-ghost use Rattle.cast_script.specs.declared.words.Reason.TheVariants.{BadHex, BadNumber, UnknownWord};
+ghost use Rattle.std.specs.Prelude.{◌≡◌, ◌≢◌, ◌≤◌, ◌<◌, ◌⊎◌, IfOk, IsTrue, false, length, slice_index};
+ghost use Rattle.cast_script.specs.Scripts.{groups_rise as are_rising_groups, parted, sites_rise as are_rising_sites, texts};
+ghost use Rattle.cast_script.specs.Readings.{GivesAs, bytes_of, domain_of, each, fixed_of, group_of, number_of, number_within, site_of};
 ghost use Rattle.cast_script.specs.declared.words.LineFault.TheVariants.{Refused, NoMemory};
 
 use cast_types::{DomainNo, GroupNo, SiteNo};
@@ -75,8 +74,7 @@ fn is_plain(text: &[u8]) -> bool
 
 /// A number: decimal digits with no sign and no leading zero.
 pub fn long_number(word: &str) -> Result<u64, Reason>
-    ensures value { IfOk result (λ n. word.now ≡ decimal n) }
-    ensures fault { IfErr result (λ e. (e ≡ BadNumber) × ((n : ℕ) → n < 2 ^ 64 → word.now ≢ decimal n)) }
+    ensures { result ≡ number_of word.now }
 {
     if !is_plain(word.as_bytes()) {
         return Err(Reason::BadNumber);
@@ -88,9 +86,9 @@ pub fn long_number(word: &str) -> Result<u64, Reason>
 }
 
 /// A number below 2^32.
+#[tactic(auto, unfolding(crate::specs::Readings::number_within, crate::specs::Readings::within))]
 pub fn number(word: &str) -> Result<u32, Reason>
-    ensures value { IfOk result (λ n. word.now ≡ decimal n) }
-    ensures fault { IfErr result (λ e. (e ≡ BadNumber) × ((n : ℕ) → n < 2 ^ 32 → word.now ≢ decimal n)) }
+    ensures { result ≡ number_within 0 4294967295 word.now }
 {
     match u32::try_from(long_number(word)?) {
         Ok(value) => Ok(value),
@@ -100,8 +98,7 @@ pub fn number(word: &str) -> Result<u32, Reason>
 
 /// A number within limits.
 pub fn number_between(word: &str, least: u32, most: u32) -> Result<u32, Reason>
-    ensures value { IfOk result (λ n. (word.now ≡ decimal n) × IsBetween least most n) }
-    ensures fault { IfErr result (λ e. (e ≡ BadNumber) × ((n : ℕ) → n < 2 ^ 32 → IsBetween least most n → word.now ≢ decimal n)) }
+    ensures { result ≡ number_within least most word.now }
 {
     let value = number(word)?;
     if least <= value && value <= most {
@@ -112,25 +109,25 @@ pub fn number_between(word: &str, least: u32, most: u32) -> Result<u32, Reason>
 }
 
 /// The number of a domain.
+#[tactic(auto, unfolding(crate::specs::Readings::domain_of))]
 pub fn domain_word(word: &str) -> Result<DomainNo, Reason>
-    ensures value { IfOk result (λ d. (word.now ≡ decimal d.0) × IsBetween 1 255 d.0) }
-    ensures fault { IfErr result (λ e. e ≡ BadNumber) }
+    ensures { result ≡ domain_of word.now }
 {
     Ok(DomainNo(number_between(word, 1, 255)? as u8))
 }
 
 /// The number of a site.
+#[tactic(auto, unfolding(crate::specs::Readings::site_of))]
 pub fn site_word(word: &str) -> Result<SiteNo, Reason>
-    ensures value { IfOk result (λ d. (word.now ≡ decimal d.0) × (1 ≤ d.0)) }
-    ensures fault { IfErr result (λ e. e ≡ BadNumber) }
+    ensures { result ≡ site_of word.now }
 {
     Ok(SiteNo(number_between(word, 1, 65_535)? as u16))
 }
 
 /// The number of a group.
+#[tactic(auto, unfolding(crate::specs::Readings::group_of))]
 pub fn group_word(word: &str) -> Result<GroupNo, Reason>
-    ensures value { IfOk result (λ d. (word.now ≡ decimal d.0) × (1 ≤ d.0)) }
-    ensures fault { IfErr result (λ e. e ≡ BadNumber) }
+    ensures { result ≡ group_of word.now }
 {
     Ok(GroupNo(number_between(word, 1, 65_535)? as u16))
 }
@@ -144,7 +141,7 @@ fn pieces_of(alloc: Global, word: &str) -> Result<Vec<&str>, AllocError>
 
 /// Numbers of sites, parted by commas.
 pub fn site_list(alloc: Global, word: &str) -> Result<Vec<SiteNo>, LineFault>
-    ensures { IfOk result (λ sites. SpellsSites word.now sites.items) }
+    ensures { GivesAs (λ sites. sites.items) result (each site_of (parted 44 word.now)) }
 {
     let pieces = pieces_of(alloc, word)?;
     let mut sites = Vec::new(alloc);
@@ -156,7 +153,7 @@ pub fn site_list(alloc: Global, word: &str) -> Result<Vec<SiteNo>, LineFault>
 
 /// Numbers of groups, parted by commas.
 pub fn group_list(alloc: Global, word: &str) -> Result<Vec<GroupNo>, LineFault>
-    ensures { IfOk result (λ groups. SpellsGroups word.now groups.items) }
+    ensures { GivesAs (λ groups. groups.items) result (each group_of (parted 44 word.now)) }
 {
     let pieces = pieces_of(alloc, word)?;
     let mut groups = Vec::new(alloc);
@@ -195,9 +192,9 @@ pub fn groups_rise(groups: &[GroupNo]) -> bool
 }
 
 /// A word that has to stand at its place.
+#[tactic(auto, unfolding(crate::specs::Readings::fixed_of))]
 pub fn fixed_word(word: &str, fixed: &str) -> Result<(), Reason>
-    ensures ok { IfOk result (λ _. word.now ≡ fixed.now) }
-    ensures fault { IfErr result (λ e. (e ≡ UnknownWord) × (word.now ≢ fixed.now)) }
+    ensures { result ≡ fixed_of fixed.now word.now }
 {
     if word == fixed {
         Ok(())
@@ -207,9 +204,9 @@ pub fn fixed_word(word: &str, fixed: &str) -> Result<(), Reason>
 }
 
 /// Bytes as an even number of hexadecimal digits of either case, or `-` where there are none.
+#[tactic(auto, unfolding(crate::specs::Readings::bytes_of))]
 pub fn bytes_word(alloc: Global, word: &str) -> Result<Vec<u8>, LineFault>
-    ensures value { IfOk result (λ bytes. SpellsBytes word.now bytes.items) }
-    ensures fault { IfErr result (λ e. (e ≡ NoMemory) ⊎ (e ≡ Refused BadHex)) }
+    ensures { GivesAs (λ bytes. bytes.items) result (bytes_of word.now) }
 {
     if word == "-" {
         return Ok(Vec::new(alloc));

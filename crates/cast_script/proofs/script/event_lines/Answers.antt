@@ -1,7 +1,20 @@
-use Rattle.cast_script.proofs.Spelled.{events_more}
+use Rattle.std.proofs.Common.{map}
+use Rattle.std.proofs.lemmas.Result.{err_from_is_err_and}
+use Rattle.cast_script.specs.Readings.{each, event_at, numbered_line}
+use Rattle.cast_script.proofs.Each.{ends, goes_on, is_done}
+use Rattle.cast_script.proofs.Lines.{fault_ends}
 use Rattle.cast_script.proofs.script.event_lines.Goals as goal
+
+pub returns-in_err-event_at : goal.returns-in_err-event_at
+returns-in_err-event_at c =
+    let p = err_from_is_err_and c.from_residual.result c.from_residual.ensures.1 in
+    let all = each event_at (map numbered_line c.args.lines.now) in
+    rw (p.1, p.2) (fault_ends c.in_err-event_at.field-0.0 _ all (λ e read. ends numbered_line event_at c.loop-line.events c.args.lines.now c.loop-line.line-index _ e all c.loop-line-test.true read c.loop-line.invariant) c.in_err-event_at.ensures)
 
 pub loop-line-preserved : goal.loop-line-preserved
 loop-line-preserved c =
-    rw c.in_ok-push-in-Ok.ensures.ok
-    (events_more c.args.lines.now c.loop-line.line-index c.loop-line.events _ c.in-Ok.event c.loop-line-test.true c.loop-line.invariant c.in-Ok.ensures)
+    rw c.in_ok-push.ensures.ok (goes_on numbered_line event_at c.loop-line.events c.args.lines.now c.loop-line.line-index _ c.in_ok-event_at.field-0 (each event_at (map numbered_line c.args.lines.now)) c.loop-line-test.true c.in_ok-event_at.ensures c.loop-line.invariant)
+
+pub returns : goal.returns
+returns c =
+    is_done numbered_line event_at c.loop-line.events c.args.lines.now c.loop-line.line-index (each event_at (map numbered_line c.args.lines.now)) c.loop-line-test.false c.loop-line.invariant

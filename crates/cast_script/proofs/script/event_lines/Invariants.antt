@@ -1,8 +1,9 @@
-use Rattle.std.proofs.Common.{take}
-use Rattle.std.specs.List.{AllZip}
-use Rattle.cast_script.specs.Scripts.{SpellsEvent, line_texts, words_of}
+use Rattle.std.proofs.Common.{◌≡◌, drop, map}
+use Rattle.cast_script.specs.Readings.{each, event_at, numbered_line}
+use Rattle.cast_script.proofs.Each.{with_front}
 use Rattle.cast_script.proofs.script.event_lines.Given as goal
 
+-- what was read, and what is still read
 abbrev pub invariant-loop-line : goal.invariant-loop-line
 invariant-loop-line l =
-    AllZip (λ line event. SpellsEvent (words_of line) event) (line_texts (take l.line-index l.lines)) l.events
+    with_front l.events (each event_at (map numbered_line (drop l.line-index l.lines))) ≡ each event_at (map numbered_line l.lines)
