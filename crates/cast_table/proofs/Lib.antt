@@ -4,6 +4,7 @@ pub mod Applies
 pub mod Parts
 pub mod Runs
 pub mod Later
+pub mod Ordered
 pub mod Served
 pub mod Named
 pub mod Ticked

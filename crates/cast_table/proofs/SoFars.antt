@@ -15,13 +15,17 @@ use Rattle.cast_model.specs.Events.{domain_of}
 use Rattle.cast_domain.specs.Shared.{part_of, no_part}
 use Rattle.cast_model.specs.declared.log.Fault.{Fault}
 use Rattle.cast_model.specs.declared.log.Fault.TheVariants.{NoMemory, Halted, NoDomain}
-use Rattle.cast_table.specs.Tables.{domain_eq, IsNew, IsTurn, IsAppliedAt, IsAppliedTo, IsApplied, IsTicked, AreTurns, Lent, place_named, stopped}
+use Rattle.cast_table.specs.Tables.{domain_eq, by_number, IsNew, IsTurn, IsAppliedAt, IsAppliedTo, IsApplied, IsTicked, AreTurns, Lent, place_named, stopped}
 use Rattle.cast_table.specs.Replays.{Served, is_configured, are_distinct, have_rising_groups, finds_domain, served_as, IsTickAnswer, IsAnswerOf, IsAnswerTo, IsAnswer, AreAnswers, TellsNoDomain}
 use Rattle.cast_table.proofs.Places.{IsNumbered, named_there, configured_at, none_configured, numbered_set, zip_at}
 use Rattle.cast_table.proofs.Later.{IsLater, configs_of, all_same, later_configs, answers_stay, answers_more, none_served}
 use Rattle.cast_table.proofs.Served.{HasGiven, unhalted, unhalted_configs, all_new_given, keeps_same, turn_keeps, turn_number}
 use Rattle.cast_table.proofs.Named.{all_other_given, turn_given}
 use Rattle.cast_table.proofs.Ticked.{turns_given, turns_numbered}
+
+-- with the domains in order of number, as a table has them
+abbrev pub ordered : Config → Config
+ordered config = record config { domains = by_number config.domains }
 
 -- how the domains of these configurations were served
 pub record AreServed (config : Config) (events : List Event) (answers : List (Result Taken Fault)) (l : Lent) (ds : List Domain) : Type 0 where

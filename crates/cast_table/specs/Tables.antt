@@ -1,6 +1,7 @@
 -- What one event does to a table of domains.
-use Rattle.std.specs.Prelude.{◌≡◌, ◌==◌, nat_le, if◌then◌else◌, ℕ, Bool, true, false, List, [], ◌∷◌, ◌++◌, Option, Some, None, Result, Ok, Err, slice_get, slice_set}
-use Rattle.std.specs.List.{list_any, list_all, position_from}
+use Rattle.std.specs.Prelude.{◌≡◌, ◌==◌, nat_le, nat_lt, if◌then◌else◌, ℕ, Bool, true, false, List, [], ◌∷◌, ◌++◌, length, Option, Some, None, unwrap_or, Result, Ok, Err, slice_get, slice_set}
+use Rattle.std.specs.Option.{option_to_list}
+use Rattle.std.specs.List.{find, list_any, list_all, position_from}
 use Rattle.cast_types.specs.declared.names.DomainNo.{DomainNo}
 use Rattle.cast_types.specs.declared.names.SiteNo.{SiteNo}
 use Rattle.cast_types.specs.declared.refusal.Refusal.TheVariants as refusal
@@ -29,6 +30,39 @@ domain_eq d e = d.0 == e.0
 -- the domains of a table, in order
 abbrev pub domains_of : Table → List Domain
 domains_of table = table.domains.items
+
+-- In order of number
+
+-- a domain with others that stand behind it in the configuration: before the first whose number is not below its own
+abbrev pub put_in : DomainConfig → List DomainConfig → List DomainConfig
+put_in c [] = c ∷ []
+put_in c (x ∷ configs) = if nat_le c.domain.0 x.domain.0 then c ∷ x ∷ configs else x ∷ put_in c configs
+
+-- domains by their numbers; those of one number stay in their order
+abbrev pub by_number : List DomainConfig → List DomainConfig
+by_number [] = []
+by_number (c ∷ configs) = put_in c (by_number configs)
+
+-- where the first domain stands whose number is above
+abbrev pub place_above : DomainNo → List Domain → Option ℕ
+place_above n domains = position_from (λ d. nat_lt n.0 (number_of d).0) 0 domains
+
+-- where a domain of a number is put in: before that one, or behind all
+abbrev pub place_for : DomainNo → List Domain → ℕ
+place_for n domains = unwrap_or (place_above n domains) (length domains)
+
+-- the domains without the first of a number
+abbrev pub without : DomainNo → List Domain → List Domain
+without n [] = []
+without n (d ∷ domains) = if domain_eq (number_of d) n then domains else d ∷ without n domains
+
+-- for each of these configurations the first domain of its number that is left
+abbrev pub picked : List DomainConfig → List Domain → List Domain
+picked [] domains = []
+picked (c ∷ configs) domains =
+    option_to_list (find (λ d. domain_eq (number_of d) c.domain) domains) ++ picked configs (without c.domain domains)
+
+-- Domains, and what they are lent
 
 -- where the first domain of a number stands
 abbrev pub place_named : DomainNo → List Domain → Option ℕ

@@ -1,18 +1,19 @@
 ghost use Rattle.std.specs.Prelude.{◌≡◌, ◌≢◌, ◌<◌, ◌≤◌, ◌+◌, ◌++◌, Err, IfOk, IfSome, None, OnErr, OnOk, length, map, true, vec_len};
-ghost use Rattle.std.specs.List.{AllZip};
+ghost use Rattle.std.specs.List.{AllZip, find, insert};
 ghost use Rattle.std.specs.Vec.{vec_capacity};
+ghost use Rattle.cast_domain.specs.Records.{number_of};
 ghost use Rattle.cast_model.specs.Events.{domain_of};
-ghost use Rattle.cast_table.specs.Tables.{AreTurns, IsApplied, IsAppliedAt, IsLeastOf, IsNew, IsTicked, IsTurn, IsUnchanged, NotesHalts, NotesOne, SharesNothing, answer_in_turn, domains_of, halted_by, lending, lent, lower, place_named, stopped};
+ghost use Rattle.cast_table.specs.Tables.{AreTurns, IsApplied, IsAppliedAt, IsLeastOf, IsNew, IsTicked, IsTurn, IsUnchanged, NotesHalts, NotesOne, SharesNothing, answer_in_turn, by_number, domain_eq, domains_of, halted_by, lending, lent, lower, picked, place_above, place_for, place_named, stopped, without};
 ghost use Rattle.cast_table.specs.Replays.{AnswersNoDomain, IsReplay, are_distinct, frames_of, given_of, have_rising_groups, lacks_memory};
 
 use cast_domain::{Domain, Session, Shared};
 use cast_message::{Push, SiteFrame};
-use cast_model::{Config, Event, Fault, Given, Log, Outs, Taken};
+use cast_model::{Config, DomainConfig, Event, Fault, Given, Log, Outs, Taken};
 use cast_types::{DomainNo, Listed, NoMemory, SiteNo};
 use std::alloc::{AllocError, Global};
 use std::mem;
 
-/// The domains of a daemon, in the order of its configuration, and what they share.
+/// The domains of a daemon, in the order of their numbers, and what they share.
 #[derive(Drop)]
 pub struct Table {
     domains: Vec<Domain>,
@@ -21,24 +22,24 @@ pub struct Table {
 
 impl Table {
     /// Domains before their first event.
-    pub fn new(alloc: Global, config: Config) -> Result<Self, NoMemory>
-        ensures domains { IfOk result (λ table. AllZip (IsNew config.site) config.domains (domains_of table)) }
+    pub fn new(alloc: Global, config: &Config) -> Result<Self, NoMemory>
+        ensures domains { IfOk result (λ table. AllZip (IsNew config.now.site) (by_number config.now.domains) (domains_of table)) }
         ensures unshared { IfOk result SharesNothing }
     {
-        let Config { site, domains } = config;
-        let mut tenants = Vec::new(alloc);
-        for domain in domains.into_vec() {
-            tenants.push(Domain::new(alloc, site, domain)?)?;
+        let mut domains = Vec::new(alloc);
+        for domain in config.domains.as_slice() {
+            let tenant = Domain::new(alloc, config.site, copied(domain)?)?;
+            put_in(&mut domains, tenant)?;
         }
         Ok(Table {
-            domains: tenants,
+            domains,
             shared: Shared::new(alloc),
         })
     }
 
-    /// Makes the step of the domain that the event names, or, at a tick, of every domain in turn: one that is halted is
-    /// left as it is, and where one finds no memory the others go on. What is sent and delivered, and each domain that is
-    /// halted, is added to `outs`.
+    /// Makes the step of the domain that the event names, or, at a tick, of every domain in order of number: one that is
+    /// halted is left as it is, and where one finds no memory the others go on. What is sent and delivered, and each
+    /// domain that is halted, is added to `outs`.
     pub fn apply(&mut self, event: &Event, outs: &mut Outs) -> Result<Taken, Fault>
         ensures applied { IsApplied result event.now (domains_of self.old) (domains_of self.new) (lent self.old outs.old) (lent self.new outs.new) }
         ensures unchanged { IsUnchanged result self.old self.new outs.old outs.new }
@@ -98,6 +99,36 @@ impl Table {
             None => Ok(Taken::Nothing),
         }
     }
+}
+
+// A copy of a domain's configuration.
+fn copied(config: &DomainConfig) -> Result<DomainConfig, NoMemory>
+    ensures { IfOk result (λ copy. copy ≡ config.now) }
+{
+    Ok(DomainConfig {
+        domain: config.domain,
+        home: config.home,
+        sites: config.sites.copy()?,
+        groups: config.groups.copy()?,
+        quotas: config.quotas,
+    })
+}
+
+// Puts a domain before the first whose number is above its own.
+fn put_in(domains: &mut Vec<Domain>, domain: Domain) -> Result<(), NoMemory>
+    ensures { OnOk result (domains.new.items ≡ insert domains.old.items (place_for (number_of domain) domains.old.items) domain) }
+{
+    let place = place_above(domains, domain.number()).unwrap_or(domains.len());
+    domains.insert(place, domain)?;
+    Ok(())
+}
+
+// Where the first domain stands whose number is above.
+fn place_above(domains: &[Domain], number: DomainNo) -> Option<usize>
+    ensures above { result ≡ place_above number domains.now }
+    ensures within { IfSome result (λ i. i < length domains.now) }
+{
+    domains.iter().position(|domain| number < domain.number())
 }
 
 // Where the first domain of a number stands.
@@ -198,7 +229,7 @@ pub fn replay(alloc: Global, config: Config, events: &[Event]) -> Result<Log, No
     ensures replayed { IfOk result (λ log. are_distinct config.domains ≡ true → have_rising_groups config.domains ≡ true → IsReplay config events.now log) }
     ensures no_domain { IfOk result (λ log. AnswersNoDomain config events.now log) }
 {
-    let mut table = Table::new(alloc, config)?;
+    let mut table = Table::new(alloc, &config)?;
     let mut outs = Outs::new(alloc);
     let mut answers = Listed::new(alloc);
     for event in events {
@@ -208,7 +239,7 @@ pub fn replay(alloc: Global, config: Config, events: &[Event]) -> Result<Log, No
         }
         answers.push(answer)?;
     }
-    let given = given_by_all(alloc, table, outs.frames.as_slice())?;
+    let given = given_by_all(alloc, &config, table, outs.frames.as_slice())?;
     Ok(Log { answers, given })
 }
 
@@ -219,19 +250,32 @@ fn lacks_memory(answer: &Result<Taken, Fault>) -> bool
     matches!(answer, Err(Fault::NoMemory))
 }
 
-// What each domain gave, in order, where these frames were sent.
+// What each domain gave, in the order of the configuration, where these frames were sent.
 fn given_by_all(
     alloc: Global,
+    config: &Config,
     table: Table,
     frames: &[(DomainNo, SiteNo, SiteFrame)],
 ) -> Result<Listed<Given>, NoMemory>
-    ensures { IfOk result (λ given. given ≡ map (given_of frames.now) (domains_of table)) }
+    ensures { IfOk result (λ given. given ≡ map (given_of frames.now) (picked config.now.domains (domains_of table))) }
 {
+    let mut domains = table.domains;
     let mut given = Listed::new(alloc);
-    for domain in table.domains {
-        given.push(given_by(alloc, domain, frames)?)?;
+    for config in config.domains.as_slice() {
+        if let Some(domain) = take_of(&mut domains, config.domain) {
+            given.push(given_by(alloc, domain, frames)?)?;
+        }
     }
     Ok(given)
+}
+
+// Takes out the first domain of a number.
+fn take_of(domains: &mut Vec<Domain>, number: DomainNo) -> Option<Domain>
+    ensures first { result ≡ find (λ d. domain_eq (number_of d) number) domains.old.items }
+    ensures others { domains.new.items ≡ without number domains.old.items }
+{
+    let place = place_of(domains, number)?;
+    Some(domains.remove(place))
 }
 
 // The frames that were sent for a domain.

@@ -1,7 +1,10 @@
-use Rattle.std.proofs.Common.{◌≡◌, map}
+use Rattle.std.proofs.Common.{◌≡◌, ◌++◌, map, drop}
 use Rattle.cast_table.specs.Replays.{given_of}
+use Rattle.cast_table.specs.Tables.{picked}
 use Rattle.cast_table.proofs.table.given_by_all.Given as goal
 
--- what the domains so far gave
-abbrev pub invariant-loop-domain : goal.invariant-loop-domain
-invariant-loop-domain l = l.given ≡ map (given_of l.frames) l.yielded
+-- what was given, and what the domains that are left are to give
+abbrev pub invariant-loop-config : goal.invariant-loop-config
+invariant-loop-config l =
+    l.given ++ map (given_of l.frames) (picked (drop l.config-index l.config-items) l.domains.items)
+    ≡ map (given_of l.frames) (picked l.config-items l.fn.table.domains.items)

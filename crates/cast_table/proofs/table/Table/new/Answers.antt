@@ -1,15 +1,37 @@
-use Rattle.cast_types.proofs.Zips.{zip_push}
-use Rattle.cast_table.specs.Tables.{IsNew}
+use Rattle.std.proofs.Common.{◌≡◌, ◌++◌, ◌∷◌, [], ◌+◌, take, sym, ap, subst, ◌∙◌}
+use Rattle.std.specs.List.{AllZip, insert}
+use Rattle.std.proofs.lemmas.List.{take_more, take_all}
+use Rattle.cast_types.specs.declared.names.DomainNo.{DomainNo}
+use Rattle.cast_model.specs.declared.config.DomainConfig.{DomainConfig}
+use Rattle.cast_table.specs.Tables.{IsNew, by_number, place_for}
+use Rattle.cast_table.proofs.Ordered.{put_more}
 use Rattle.cast_table.proofs.table.Table.new.Goals as goal
 
 pub loop-domain-preserved : goal.loop-domain-preserved
 loop-domain-preserved c =
-    rw c.in_ok-push.ensures.items
-    (zip_push (IsNew c.args.config.site) c.loop-domain.yielded c.loop-domain.tenants.items c.in-Some.domain c.in_ok-new.field-0 c.loop-domain.invariant
-    (record {
-      number = c.in_ok-new.ensures.number;
-      running = c.in_ok-new.ensures.running;
-      placed = c.in_ok-new.ensures.placed;
-      unused = c.in_ok-new.ensures.unused;
-      begins = c.in_ok-new.ensures.begins;
-    }))
+    let i = c.loop-domain.domain-index in
+    let items = c.as_slice-domain-items.result.now in
+    let domains = c.loop-domain.domains.items in
+    let config = c.in_ok-copied.field-0 in
+    let domain = c.in_ok-tenant.tenant in
+    let is_new : IsNew c.args.config.now.site config domain =
+    record {
+      number = c.in_ok-tenant.ensures.number;
+      running = c.in_ok-tenant.ensures.running;
+      placed = c.in_ok-tenant.ensures.placed;
+      unused = c.in_ok-tenant.ensures.unused;
+      begins = c.in_ok-tenant.ensures.begins;
+    } in
+    let more = put_more (IsNew c.args.config.now.site) (λ k d new. new.number) config domain is_new (take i items) domains c.loop-domain.invariant in
+    let one : take i items ++ config ∷ [] ≡ take (i + 1) items =
+    ap (λ (k : DomainConfig). take i items ++ k ∷ []) (c.in_ok-copied.ensures ∙ c.domain-item.is) ∙ sym (take_more items i c.domain-item.result c.loop-domain-test.true) in
+    let put : c.put_in.new.domains.items ≡ insert domains (place_for config.domain domains) domain =
+    c.in_ok-put_in.ensures ∙ ap (λ (n : DomainNo). insert domains (place_for n domains) domain) is_new.number in
+    subst (λ xs. AllZip (IsNew c.args.config.now.site) (by_number xs) c.put_in.new.domains.items) one
+    (subst (AllZip (IsNew c.args.config.now.site) (by_number (take i items ++ config ∷ []))) (sym put) more)
+
+pub returns-clause-domains : goal.returns-clause-domains
+returns-clause-domains c =
+    subst (λ xs. AllZip (IsNew c.args.config.now.site) (by_number xs) c.loop-domain.domains.items)
+    (take_all c.loop-domain.domain-index c.as_slice-domain-items.result.now c.loop-domain-test.false ∙ c.as_slice-domain-items.ensures)
+    c.loop-domain.invariant
