@@ -1,6 +1,6 @@
 -- A configuration of one domain whose groups rise needs no premise.
 use Rattle.std.proofs.Common.{◌≡◌, ℕ, ◌≤◌, true, ltb, List, [], ◌∷◌, refl, sym, ap, ◌∙◌, arith}
-use Rattle.std.specs.List.{AllZip, list_all}
+use Rattle.std.specs.List.{list_all}
 use Rattle.std.specs.Ordering.{nat_cmp, is_lt}
 use Rattle.std.specs.Cmp.{nat_cmp_is}
 use Rattle.std.specs.declared.cmp.Ordering.TheVariants.{Less}
@@ -9,10 +9,8 @@ use Rattle.cast_types.specs.declared.names.GroupNo.{GroupNo}
 use Rattle.cast_types.specs.Names.{group_cmp}
 use Rattle.cast_message.specs.Rising.{is_rising}
 use Rattle.cast_model.specs.declared.config.Config.{Config}
-use Rattle.cast_model.specs.declared.event.Event.{Event}
-use Rattle.cast_model.specs.declared.log.Log.{Log}
 use Rattle.cast_script.specs.Scripts.{HasOneDomain, rises_from}
-use Rattle.cast_table.specs.Replays.{IsServed, ServesEachAlone, are_distinct, have_rising_groups}
+use Rattle.cast_table.specs.Replays.{are_distinct, have_rising_groups}
 
 less : (m n : ℕ) → ltb m n ≡ true → is_lt (nat_cmp m n) ≡ true
 less m n below = ap is_lt (sym (nat_cmp_is m n Less (ltb-true m n below)))
@@ -40,8 +38,10 @@ rising_groups n (g ∷ groups) rises =
     and_from (list_all (λ h. is_lt (group_cmp g h)) groups) (is_rising group_cmp groups)
     (above g.0 groups parts.1) (rising_groups g.0 groups parts.1)
 
-pub one_alone : (c : Config) (events : List Event) (log : Log) → HasOneDomain c → ServesEachAlone c events log → AllZip (IsServed c.site events log.answers) c.domains log.given
-one_alone c events log (d, is, valid) serves =
-    let distinct : are_distinct c.domains ≡ true = ap are_distinct is in
-    let rising : have_rising_groups c.domains ≡ true = ap have_rising_groups is ∙ and_from (is_rising group_cmp d.groups) true (rising_groups 0 d.groups valid.rising_groups) refl in
-    serves distinct rising
+pub one_distinct : (c : Config) → HasOneDomain c → are_distinct c.domains ≡ true
+one_distinct c (d, is, valid) = ap are_distinct is
+
+pub one_rising : (c : Config) → HasOneDomain c → have_rising_groups c.domains ≡ true
+one_rising c (d, is, valid) =
+    ap have_rising_groups is
+    ∙ and_from (is_rising group_cmp d.groups) true (rising_groups 0 d.groups valid.rising_groups) refl

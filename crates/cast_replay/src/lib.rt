@@ -1,11 +1,13 @@
-//! The replay of a script: from the bytes of its file to the text of its log and the status of the program.
+//! The replay of a script: from the bytes of its file to the text of its log, what the program writes and its status.
 //!
-//! Promised: what is printed for a script is the text of a log in which its domain, unless want of memory halted it,
-//! answers, pushes and sends what a daemon that serves it alone does (`printed_log`, `run_script`).
+//! Promised: what is printed for a script is the text of a log that a daemon gives, in which each domain is the solo
+//! daemon, and what is not printed is refused for the first line that is at fault (`printed_log`). The program writes this
+//! text, or what is wrong, and ends with the status for it (`run_script`).
 //!
-//! The definition is in `specs/Shown.antt`.
+//! The definitions are in `specs/`: `Shown` says which text shows what comes of a script, and `Ends` how the replay of a
+//! file ends.
 #![tactic(auto)]
 
-pub mod run;
+mod run;
 
-pub use run::{RunFault, no_memory, printed_log, run_script, unreadable};
+pub use run::{RunFault, complain, no_memory, printed_log, run_script};

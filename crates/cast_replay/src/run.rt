@@ -1,9 +1,13 @@
-ghost use Rattle.std.specs.Prelude.{◌≡◌, ◌≢◌, ◌≤◌, ◌↔◌, IfOk};
-ghost use Rattle.std.specs.String.{string_bytes};
-ghost use Rattle.cast_replay.specs.Shown.{Shows};
+ghost use Rattle.std.specs.Prelude.{◌≡◌, ◌≢◌, ◌⊎◌, ℕ, List, [], IfOk, IfErr, Err};
 ghost use Rattle.std.specs.Str.{IsUtf8};
-ghost use Rattle.cast_replay.specs.declared.run.RunFault.TheVariants.{NotText, Script, NoMemory};
+ghost use Rattle.std.specs.String.{string_bytes};
+ghost use Rattle.std.specs.declared.result.Result.{Result};
+ghost use Rattle.cast_device.specs.Watching.{HasFailedOrStalled};
+ghost use Rattle.cast_script.specs.declared.script.ScriptFault.{ScriptFault};
+ghost use Rattle.cast_replay.specs.Ends.{Ends, EndsAs, IsTold, fault_text, faulted, status_of, errors_of, output_of};
+ghost use Rattle.cast_replay.specs.declared.run.RunFault.TheVariants.{NoMemory, Unreadable};
 
+use cast_device::{Watched, write_whole};
 use cast_print::print;
 use cast_script::{Reason, ScriptFault, parse};
 use cast_table::replay;
@@ -12,16 +16,16 @@ use std::alloc::{AllocError, Global};
 use std::io::Write;
 use thiserror::Error;
 
-/// Why a script cannot be run.
+/// Why a file has no log.
 #[derive(Clone, Copy, Debug, PartialEq, Eq, Error)]
 pub enum RunFault {
-    /// Its bytes are not UTF-8.
-    #[error("not UTF-8")]
-    NotText,
+    /// It cannot be read, or is not UTF-8.
+    #[error("cannot read")]
+    Unreadable,
     /// The first line that cannot be used, counted from 1, and why.
     #[error("line {0}: {1}")]
-    Script(usize, Reason),
-    /// Memory ran out, which says nothing of the script.
+    BadLine(usize, Reason),
+    /// Memory ran out, which says nothing of the file.
     #[error("no memory")]
     NoMemory,
 }
@@ -35,81 +39,130 @@ impl From<AllocError> for RunFault {
 }
 
 impl From<ScriptFault> for RunFault {
-    ghost from_gives = { λ _ fault. fault ≢ NotText };
+    ghost from_gives = { λ fault end. end ≡ faulted fault };
 
     fn from(fault: ScriptFault) -> RunFault {
         match fault {
-            ScriptFault::At { line, reason } => RunFault::Script(line, reason),
+            ScriptFault::At { line, reason } => RunFault::BadLine(line, reason),
             ScriptFault::NoMemory => RunFault::NoMemory,
         }
     }
 }
 
-/// Says that a file cannot be read, or is no text, and answers the status for it.
-pub fn unreadable<E: Write>(name: &str, err: &mut E) -> u8
-    ensures { result ≡ 3 }
-{
-    let _ = writeln!(err, "castd: cannot read {name}");
-    3
+impl RunFault {
+    // The status of the program.
+    fn status(self) -> u8
+        ensures { result ≡ status_of (Err self) }
+    {
+        match self {
+            RunFault::Unreadable => 3,
+            RunFault::BadLine(_, _) => 4,
+            RunFault::NoMemory => 5,
+        }
+    }
+
+    // What is said of it, where the file has this name.
+    fn text(self, alloc: Global, name: &str) -> Result<String, NoMemory>
+        ensures { IfOk result (λ text. string_bytes text ≡ fault_text name.now self) }
+    {
+        let mut text = String::new(alloc);
+        match self {
+            RunFault::Unreadable => writeln!(text, "castd: cannot read {name}")?,
+            RunFault::BadLine(line, reason) => {
+                let why = reason.text();
+                writeln!(text, "castd: line {line}: {why}")?;
+            }
+            RunFault::NoMemory => text.push_str(OUT_OF_MEMORY)?,
+        }
+        Ok(text)
+    }
 }
 
-/// Says that memory ran out, and answers the status for it.
-pub fn no_memory<E: Write>(err: &mut E) -> u8
-    ensures { result ≡ 5 }
+// What is said where memory ran out.
+const OUT_OF_MEMORY: &str = "castd: no memory\n";
+
+// Writes a text. A write that fails is passed over.
+fn tell<W: Write>(writer: &mut Watched<W>, text: &str)
+    ensures { IsTold (W.contents writer.old.device) (W.contents writer.new.device) text.now (HasFailedOrStalled writer.new) }
 {
-    let _ = err.write_all(b"castd: no memory\n");
-    5
+    let _ = write_whole(writer, text.as_bytes());
 }
 
-// Says what is wrong with a line, and answers the status for it.
-fn bad_line<E: Write>(line: usize, reason: Reason, err: &mut E) -> u8
-    ensures { result ≡ 4 }
+/// Says that memory ran out, and answers the status of the program for it.
+pub fn no_memory<E: Write>(err: &mut Watched<E>) -> u8
+    ensures status { result ≡ status_of (Err NoMemory) }
+    ensures told { IsTold (E.contents err.old.device) (E.contents err.new.device) (fault_text [] NoMemory) (HasFailedOrStalled err.new) }
 {
-    let _ = writeln!(err, "castd: line {line}: {reason}");
-    4
+    tell(err, OUT_OF_MEMORY);
+    RunFault::NoMemory.status()
 }
 
-/// Replays the script in a file's bytes and writes its log, or why it cannot, and answers the status of the program.
-/// A write that fails is passed over.
+/// Says why the file of this name has no log, and answers the status of the program for it. Where there is no memory to
+/// say it, that is said in its place.
+pub fn complain<E: Write>(
+    alloc: Global,
+    name: &str,
+    fault: RunFault,
+    err: &mut Watched<E>,
+) -> u8
+    ensures {
+        (told : RunFault) × ((told ≡ fault) ⊎ (told ≡ NoMemory)) × (result ≡ status_of (Err told))
+        × IsTold (E.contents err.old.device) (E.contents err.new.device) (fault_text name.now told) (HasFailedOrStalled err.new)
+    }
+{
+    match fault.text(alloc, name) {
+        Ok(text) => {
+            tell(err, text.as_str());
+            fault.status()
+        }
+        Err(_) => no_memory(err),
+    }
+}
+
+/// Replays the script in a file's bytes and writes its log, or why it has none, and answers the status of the program.
+/// A write that fails is passed over. What was noted of earlier calls of the writers is cleared.
 pub fn run_script<O: Write, E: Write>(
     alloc: Global,
     name: &str,
     bytes: &[u8],
-    out: &mut O,
-    err: &mut E,
+    out: &mut Watched<O>,
+    err: &mut Watched<E>,
 ) -> u8
-    ensures done { result ≡ 0 → err.new ≡ err.old }
-    ensures failed { result ≢ 0 → out.new ≡ out.old }
-    ensures status { result ≢ 0 → (3 ≤ result) × (result ≤ 5) }
-    ensures text { result ≡ 3 ↔ ¬ (IsUtf8 bytes.now) }
+    // The log, the status and the errors are those of one end.
+    ensures ended {
+        (end : Result (List ℕ) RunFault) × Ends bytes.now end × (result ≡ status_of end)
+        × IsTold (O.contents out.old.device) (O.contents out.new.device) (output_of end) (HasFailedOrStalled out.new)
+        × IsTold (E.contents err.old.device) (E.contents err.new.device) (errors_of name.now end) (HasFailedOrStalled err.new)
+    }
+    // And no writer is called that has nothing to write.
+    ensures done { result ≡ 0 → err.new.device ≡ err.old.device }
+    ensures failed { result ≢ 0 → out.new.device ≡ out.old.device }
 {
+    out.begin();
+    err.begin();
     match printed_log(alloc, bytes) {
         Ok(text) => {
-            let _ = out.write_all(text.as_bytes());
+            tell(out, text.as_str());
             0
         }
-        Err(RunFault::NotText) => unreadable(name, err),
-        Err(RunFault::Script(line, reason)) => bad_line(line, reason, err),
-        Err(RunFault::NoMemory) => no_memory(err),
+        Err(fault) => complain(alloc, name, fault, err),
     }
 }
 
 // The bytes as a text.
 fn text_of(bytes: &[u8]) -> Result<&str, RunFault>
-    ensures text { (result ≡ Err NotText) ↔ ¬ (IsUtf8 bytes.now) }
-    ensures same { IfOk result (λ text. text.now ≡ bytes.now) }
+    ensures text { IfOk result (λ text. (text.now ≡ bytes.now) × IsUtf8 bytes.now) }
+    ensures fault { IfErr result (λ fault. (fault ≡ Unreadable) × ¬ (IsUtf8 bytes.now)) }
 {
     match str::from_utf8(bytes) {
         Ok(text) => Ok(text),
-        Err(_) => Err(RunFault::NotText),
+        Err(_) => Err(RunFault::Unreadable),
     }
 }
 
-/// The printed log of the script in a file's bytes, in which each domain is served as if alone. `NotText` exactly where the
-/// bytes are not UTF-8.
+/// The printed log of the script in a file's bytes, in which each domain is served as if alone, or why there is none.
 pub fn printed_log(alloc: Global, bytes: &[u8]) -> Result<String, RunFault>
-    ensures text { (result ≡ Err NotText) ↔ ¬ (IsUtf8 bytes.now) }
-    ensures shown { IfOk result (λ text. Shows bytes.now (string_bytes text)) }
+    ensures ends { EndsAs string_bytes bytes.now result }
 {
     let text = text_of(bytes)?;
     let script = parse(alloc, text)?;

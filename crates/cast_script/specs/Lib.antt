@@ -1,3 +1,4 @@
 pub mod Scripts
 pub mod Readings
 pub mod Laws
+pub mod Reasons

@@ -1,6 +1,7 @@
 ghost use Rattle.std.specs.Prelude.{◌≡◌, ◌≢◌, ◌≤◌, ◌<◌, ◌⊎◌, IfOk, IsTrue, false, length, slice_index};
 ghost use Rattle.cast_script.specs.Scripts.{groups_rise as are_rising_groups, parted, sites_rise as are_rising_sites, texts};
 ghost use Rattle.cast_script.specs.Readings.{GivesAs, bytes_of, domain_of, each, fixed_of, group_of, number_of, number_within, site_of};
+ghost use Rattle.cast_script.specs.Reasons.{reason_text};
 ghost use Rattle.cast_script.specs.declared.words.LineFault.TheVariants.{Refused, NoMemory};
 
 use cast_types::{DomainNo, GroupNo, SiteNo};
@@ -9,25 +10,36 @@ use thiserror::Error;
 
 /// Why a line of a script is refused.
 #[derive(Clone, Copy, Debug, PartialEq, Eq, Error)]
+#[error("{}", self.text())]
 pub enum Reason {
     /// The first word, or a fixed word of a `domain` line.
-    #[error("unknown word")]
     UnknownWord,
     /// The line has more or fewer words than its first word asks for.
-    #[error("wrong count")]
     WrongCount,
     /// A word is no number, or a number or how many there are of them is out of its range.
-    #[error("bad number")]
     BadNumber,
     /// A word is not an even number of hexadecimal digits, nor `-`.
-    #[error("bad hex")]
     BadHex,
     /// The bytes are no frame.
-    #[error("bad frame")]
     BadFrame,
     /// The line is in the wrong place, or a list does not rise or lacks a site that it must have.
-    #[error("order")]
     Order,
+}
+
+impl Reason {
+    /// What is said of it.
+    pub fn text(self) -> &'static str
+        ensures { result.now ≡ reason_text self }
+    {
+        match self {
+            Reason::UnknownWord => "unknown word",
+            Reason::WrongCount => "wrong count",
+            Reason::BadNumber => "bad number",
+            Reason::BadHex => "bad hex",
+            Reason::BadFrame => "bad frame",
+            Reason::Order => "order",
+        }
+    }
 }
 
 /// Why a line cannot be used.

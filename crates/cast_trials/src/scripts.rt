@@ -1,5 +1,6 @@
 //! The worked examples of the whole program.
 
+use cast_device::Watched;
 use cast_replay::run_script;
 use std::io::Write;
 use std::rt::Files;
@@ -8,10 +9,12 @@ use std::{fs, io};
 // Replays the script in a file, and prints its name, what comes of it, and the status.
 fn replay<R: Files + AllocGlobal, O: Write>(rt: &R, name: &str, out: &mut O) -> io::Result<()> {
     let bytes = fs::read(rt, name)?;
-    let mut told = Vec::new(rt.alloc());
+    let mut log = Watched::new(Vec::new(rt.alloc()));
+    let mut told = Watched::new(Vec::new(rt.alloc()));
     writeln!(out, "== {name}")?;
-    let status = run_script(rt.alloc(), name, &bytes, out, &mut told);
-    out.write_all(&told)?;
+    let status = run_script(rt.alloc(), name, &bytes, &mut log, &mut told);
+    out.write_all(&log.device)?;
+    out.write_all(&told.device)?;
     writeln!(out, "status {status}")
 }
 
@@ -36,7 +39,9 @@ fn replay_closed<R: Files + AllocGlobal, O: Write>(
     out: &mut O,
 ) -> io::Result<()> {
     let bytes = fs::read(rt, name)?;
-    let status = run_script(rt.alloc(), name, &bytes, &mut Closed, &mut Closed);
+    let mut log = Watched::new(Closed);
+    let mut told = Watched::new(Closed);
+    let status = run_script(rt.alloc(), name, &bytes, &mut log, &mut told);
     writeln!(out, "status {status} where nothing can be written")
 }
 

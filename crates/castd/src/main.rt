@@ -4,7 +4,8 @@
 //! This is the command line alone. What is promised of the printed text stands in the crate `cast_replay`.
 #![tactic(auto)]
 
-use cast_replay::{no_memory, run_script, unreadable};
+use cast_device::Watched;
+use cast_replay::{RunFault, complain, no_memory, run_script};
 use clap::error::ErrorKind;
 use clap::{Arg, ArgAction, ArgMatches, Command};
 use std::alloc::Global;
@@ -49,7 +50,11 @@ fn file_of<'a>(matches: &ArgMatches<'a>) -> Option<&'a str> {
 }
 
 // Says what is wrong with the command line, or prints the help that it asks for.
-fn usage<R: Print + Eprint, E: Write>(rt: &R, error: &clap::Error, err: &mut E) -> u8 {
+fn usage<R: Print + Eprint, E: Write>(
+    rt: &R,
+    error: &clap::Error,
+    err: &mut Watched<E>,
+) -> u8 {
     if error.kind() == ErrorKind::OutOfMemory {
         return no_memory(err);
     }
@@ -61,13 +66,13 @@ fn usage<R: Print + Eprint, E: Write>(rt: &R, error: &clap::Error, err: &mut E) 
 fn replay_file<R: Files + AllocGlobal, O: Write, E: Write>(
     rt: &R,
     name: &str,
-    out: &mut O,
-    err: &mut E,
+    out: &mut Watched<O>,
+    err: &mut Watched<E>,
 ) -> u8 {
     match fs::read(rt, name) {
         Ok(bytes) => run_script(rt.alloc(), name, &bytes, out, err),
         Err(error) if error.kind() == io::ErrorKind::OutOfMemory => no_memory(err),
-        Err(_) => unreadable(name, err),
+        Err(_) => complain(rt.alloc(), name, RunFault::Unreadable, err),
     }
 }
 
@@ -75,8 +80,8 @@ fn replay_file<R: Files + AllocGlobal, O: Write, E: Write>(
 fn run_words<R: Files + Print + Eprint + AllocGlobal, O: Write, E: Write>(
     rt: &R,
     words: &[String],
-    out: &mut O,
-    err: &mut E,
+    out: &mut Watched<O>,
+    err: &mut Watched<E>,
 ) -> u8 {
     let matches = match matches_of(rt.alloc(), words) {
         Ok(matches) => matches,
@@ -96,19 +101,61 @@ fn arguments<R: Env + AllocGlobal>(rt: &R) -> io::Result<Vec<String>> {
 // Does what the command line asks for, and answers the status of the program.
 fn run_program<R: Env + Files + Print + Eprint + AllocGlobal, O: Write, E: Write>(
     rt: &R,
-    out: &mut O,
-    err: &mut E,
+    out: &mut Watched<O>,
+    err: &mut Watched<E>,
 ) -> u8 {
     match arguments(rt) {
         Ok(words) => run_words(rt, &words, out, err),
         Err(error) if error.kind() == io::ErrorKind::OutOfMemory => no_memory(err),
         Err(_) => {
-            let _ = writeln!(err, "error: the arguments cannot be read");
+            let _ = writeln!(err.device, "error: the arguments cannot be read");
             USAGE
         }
     }
 }
 
 fn main(rt: HostRuntime) -> ExitCode {
-    ExitCode::from(run_program(&rt, &mut rt.stdout(), &mut rt.stderr()))
+    let mut out = Watched::new(rt.stdout());
+    let mut err = Watched::new(rt.stderr());
+    ExitCode::from(run_program(&rt, &mut out, &mut err))
+}
+
+#[cfg(test)]
+mod tests {
+    use super::*;
+    use std::test::Fail;
+
+    // Words behind the program's name, the status for them, and what is said of an error.
+    const ENDS: [(&[&str], u8, &str); 8] = [
+        (&[], 2, ""),
+        (&["serve"], 2, ""),
+        (&["replay"], 2, ""),
+        (&["replay", "a", "b"], 2, ""),
+        (&["--help"], 0, ""),
+        (&["--version"], 0, ""),
+        (&["replay", "--help"], 0, ""),
+        (&["replay", "missing"], 3, "castd: cannot read missing\n"),
+    ];
+
+    // Whether these words end with this status, and this is said of an error.
+    fn ends(rt: &HostRuntime, words: &[&str], status: u8, said: &str) -> Result<bool, Fail> {
+        let mut all = Vec::new(rt.alloc());
+        all.push(String::from_str(rt.alloc(), "castd")?)?;
+        for word in words {
+            all.push(String::from_str(rt.alloc(), word)?)?;
+        }
+        let mut out = Watched::new(Vec::new(rt.alloc()));
+        let mut err = Watched::new(Vec::new(rt.alloc()));
+        let ended = run_words(rt, &all, &mut out, &mut err);
+        Ok(ended == status && err.device.as_slice() == said.as_bytes())
+    }
+
+    #[test]
+    fn statuses(rt: HostRuntime) -> Result<(), Fail> {
+        for (words, status, said) in ENDS {
+            let well = ends(&rt, words, status, said)?;
+            assert!(rt; well);
+        }
+        Ok(())
+    }
 }

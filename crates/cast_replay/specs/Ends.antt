@@ -1,0 +1,58 @@
+-- How the replay of a file ends, and what the program says of it.
+use Rattle.std.specs.Prelude.{◌≡◌, ◌⊎◌, ℕ, List, [], ◌++◌, codes, Option, Result, Ok, Err}
+use Rattle.std.specs.Io.KnownBytes.{Appends}
+use Rattle.std.specs.Fmt.{decimal}
+use Rattle.std.specs.Str.{IsUtf8}
+use Rattle.cast_script.specs.Readings.{script_of}
+use Rattle.cast_device.specs.Writing.{WrotePart}
+use Rattle.cast_script.specs.declared.script.ScriptFault.{ScriptFault}
+use Rattle.cast_script.specs.declared.script.ScriptFault.TheVariants as script
+use Rattle.cast_script.specs.Reasons.{reason_text}
+use Rattle.cast_print.specs.Texts.{line_feed}
+use Rattle.cast_replay.specs.declared.run.RunFault.{RunFault}
+use Rattle.cast_replay.specs.declared.run.RunFault.TheVariants.{Unreadable, BadLine, NoMemory}
+use Rattle.cast_replay.specs.Shown.{Shows}
+
+-- in the text of its log, or in why it has none, which says nothing of the bytes where memory ran out
+abbrev pub Ends : List ℕ → Result (List ℕ) RunFault → Type 0
+Ends bytes (Ok text) = IsUtf8 bytes × Shows bytes text
+Ends bytes (Err Unreadable) = ¬ (IsUtf8 bytes)
+Ends bytes (Err (BadLine line reason)) = IsUtf8 bytes × (script_of bytes ≡ Err (line, reason))
+Ends bytes (Err NoMemory) = Unit {0}
+
+-- the same of a text, seen by view
+abbrev pub EndsAs : {T : Type 0} → (T → List ℕ) → List ℕ → Result T RunFault → Type 0
+EndsAs view bytes (Ok text) = Ends bytes (Ok (view text))
+EndsAs view bytes (Err fault) = Ends bytes (Err fault)
+
+-- a script's fault is the file's
+abbrev pub faulted : ScriptFault → RunFault
+faulted (script.At line reason) = BadLine line reason
+faulted script.NoMemory = NoMemory
+
+-- the status of the program
+abbrev pub status_of : Result (List ℕ) RunFault → ℕ
+status_of (Ok text) = 0
+status_of (Err Unreadable) = 3
+status_of (Err (BadLine line reason)) = 4
+status_of (Err NoMemory) = 5
+
+-- what it prints
+abbrev pub output_of : Result (List ℕ) RunFault → List ℕ
+output_of (Ok text) = text
+output_of (Err fault) = []
+
+-- what it says of a fault of the file of this name
+abbrev pub fault_text : List ℕ → RunFault → List ℕ
+fault_text name Unreadable = codes "castd: cannot read " ++ (name ++ line_feed)
+fault_text name (BadLine line reason) = codes "castd: line " ++ (decimal line ++ (codes ": " ++ (reason_text reason ++ line_feed)))
+fault_text name NoMemory = codes "castd: no memory" ++ line_feed
+
+-- what stands among its errors
+abbrev pub errors_of : List ℕ → Result (List ℕ) RunFault → List ℕ
+errors_of name (Ok text) = []
+errors_of name (Err fault) = fault_text name fault
+
+-- a writer was told these bytes: it has all of them more, or a beginning of them where its calls failed
+abbrev pub IsTold : Option (List ℕ) → Option (List ℕ) → List ℕ → Type 0 → Type 0
+IsTold old new bytes Failed = Appends old new bytes ⊎ (WrotePart old new bytes × Failed)
