@@ -87,12 +87,7 @@ fn are(keys: &[OwedKey], frames: &[Frame]) -> bool {
 }
 
 // Whether these frames of a domain are due at a moment, in this order.
-fn is_due(
-    timers: &Timers,
-    domain: DomainNo,
-    now: u64,
-    frames: &[Frame],
-) -> Result<bool, NoMemory> {
+fn is_due(timers: &Timers, domain: DomainNo, now: u64, frames: &[Frame]) -> Result<bool, NoMemory> {
     let due = timers.due(domain, now)?;
     Ok(are(due.as_slice(), frames))
 }

@@ -99,16 +99,9 @@ pub fn no_memory<E: Write>(err: &mut Watched<E>) -> u8
 
 /// Says why the file of this name has no log, and answers the status of the program for it. Where there is no memory to
 /// say it, that is said in its place.
-pub fn complain<E: Write>(
-    alloc: Global,
-    name: &str,
-    fault: RunFault,
-    err: &mut Watched<E>,
-) -> u8
-    ensures {
-        (told : RunFault) × ((told ≡ fault) ⊎ (told ≡ NoMemory)) × (result ≡ status_of (Err told))
-        × IsTold (E.contents err.old.device) (E.contents err.new.device) (fault_text name.now told) (HasFailedOrStalled err.new)
-    }
+pub fn complain<E: Write>(alloc: Global, name: &str, fault: RunFault, err: &mut Watched<E>) -> u8
+    ensures { (told : RunFault) × ((told ≡ fault) ⊎ (told ≡ NoMemory)) × (result ≡ status_of (Err told))
+        × IsTold (E.contents err.old.device) (E.contents err.new.device) (fault_text name.now told) (HasFailedOrStalled err.new) }
 {
     match fault.text(alloc, name) {
         Ok(text) => {
@@ -129,11 +122,9 @@ pub fn run_script<O: Write, E: Write>(
     err: &mut Watched<E>,
 ) -> u8
     // The log, the status and the errors are those of one end.
-    ensures ended {
-        (end : Result (List ℕ) RunFault) × Ends bytes.now end × (result ≡ status_of end)
+    ensures ended { (end : Result (List ℕ) RunFault) × Ends bytes.now end × (result ≡ status_of end)
         × IsTold (O.contents out.old.device) (O.contents out.new.device) (output_of end) (HasFailedOrStalled out.new)
-        × IsTold (E.contents err.old.device) (E.contents err.new.device) (errors_of name.now end) (HasFailedOrStalled err.new)
-    }
+        × IsTold (E.contents err.old.device) (E.contents err.new.device) (errors_of name.now end) (HasFailedOrStalled err.new) }
     // And no writer is called that has nothing to write.
     ensures done { result ≡ 0 → err.new.device ≡ err.old.device }
     ensures failed { result ≢ 0 → out.new.device ≡ out.old.device }

@@ -50,11 +50,7 @@ fn file_of<'a>(matches: &ArgMatches<'a>) -> Option<&'a str> {
 }
 
 // Says what is wrong with the command line, or prints the help that it asks for.
-fn usage<R: Print + Eprint, E: Write>(
-    rt: &R,
-    error: &clap::Error,
-    err: &mut Watched<E>,
-) -> u8 {
+fn usage<R: Print + Eprint, E: Write>(rt: &R, error: &clap::Error, err: &mut Watched<E>) -> u8 {
     if error.kind() == ErrorKind::OutOfMemory {
         return no_memory(err);
     }
