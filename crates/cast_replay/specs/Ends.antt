@@ -13,12 +13,12 @@ use Rattle.cast_replay.specs.declared.run.RunFault.{RunFault}
 use Rattle.cast_replay.specs.declared.run.RunFault.TheVariants.{Unreadable, BadLine, NoMemory}
 use Rattle.cast_replay.specs.Shown.{Shows}
 
--- in the text of its log, or in why it has none, which says nothing of the bytes where memory ran out
+-- in the text of its log, or in why it has none. Where memory ran out the bytes are a text, of which nothing more is said
 abbrev pub Ends : List ℕ → Result (List ℕ) RunFault → Type 0
 Ends bytes (Ok text) = IsUtf8 bytes × Shows bytes text
 Ends bytes (Err Unreadable) = ¬ (IsUtf8 bytes)
 Ends bytes (Err (BadLine line reason)) = IsUtf8 bytes × (script_of bytes ≡ Err (line, reason))
-Ends bytes (Err NoMemory) = Unit {0}
+Ends bytes (Err NoMemory) = IsUtf8 bytes
 
 -- the same of a text, seen by view
 abbrev pub EndsAs : {T : Type 0} → (T → List ℕ) → List ℕ → Result T RunFault → Type 0
@@ -48,11 +48,12 @@ fault_text name Unreadable = codes "castd: cannot read " ++ (name ++ line_feed)
 fault_text name (BadLine line reason) = codes "castd: line " ++ (decimal line ++ (codes ": " ++ (reason_text reason ++ line_feed)))
 fault_text name NoMemory = codes "castd: no memory" ++ line_feed
 
--- what stands among its errors
-abbrev pub errors_of : List ℕ → Result (List ℕ) RunFault → List ℕ
-errors_of name (Ok text) = []
-errors_of name (Err fault) = fault_text name fault
-
 -- a writer was told these bytes: it has all of them more, or a beginning of them where its calls failed
 abbrev pub IsTold : Option (List ℕ) → Option (List ℕ) → List ℕ → Type 0 → Type 0
 IsTold old new bytes Failed = Appends old new bytes ⊎ (WrotePart old new bytes × Failed)
+
+-- the writer of errors was told of an end: nothing of a log, and of a fault what is said of it, or that memory ran out where
+-- there was none to say it
+abbrev pub IsToldOf : Option (List ℕ) → Option (List ℕ) → List ℕ → Result (List ℕ) RunFault → Type 0 → Type 0
+IsToldOf old new name (Ok text) Failed = IsTold old new [] Failed
+IsToldOf old new name (Err fault) Failed = IsTold old new (fault_text name fault) Failed ⊎ IsTold old new (fault_text name NoMemory) Failed

@@ -1,10 +1,10 @@
-ghost use Rattle.std.specs.Prelude.{◌≡◌, ◌≢◌, ◌⊎◌, ℕ, List, [], IfOk, IfErr, Err};
+ghost use Rattle.std.specs.Prelude.{◌≡◌, ◌≢◌, ℕ, List, [], IfOk, IfErr, Err};
 ghost use Rattle.std.specs.Str.{IsUtf8};
 ghost use Rattle.std.specs.String.{string_bytes};
 ghost use Rattle.std.specs.declared.result.Result.{Result};
 ghost use Rattle.cast_device.specs.Watching.{HasFailedOrStalled};
 ghost use Rattle.cast_script.specs.declared.script.ScriptFault.{ScriptFault};
-ghost use Rattle.cast_replay.specs.Ends.{Ends, EndsAs, IsTold, fault_text, faulted, status_of, errors_of, output_of};
+ghost use Rattle.cast_replay.specs.Ends.{Ends, EndsAs, IsTold, IsToldOf, fault_text, faulted, output_of, status_of};
 ghost use Rattle.cast_replay.specs.declared.run.RunFault.TheVariants.{NoMemory, Unreadable};
 
 use cast_device::{Watched, write_whole};
@@ -98,17 +98,20 @@ pub fn no_memory<E: Write>(err: &mut Watched<E>) -> u8
 }
 
 /// Says why the file of this name has no log, and answers the status of the program for it. Where there is no memory to
-/// say it, that is said in its place.
+/// say it, that is said in its place, and the status stays.
 pub fn complain<E: Write>(alloc: Global, name: &str, fault: RunFault, err: &mut Watched<E>) -> u8
-    ensures { (told : RunFault) × ((told ≡ fault) ⊎ (told ≡ NoMemory)) × (result ≡ status_of (Err told))
-        × IsTold (E.contents err.old.device) (E.contents err.new.device) (fault_text name.now told) (HasFailedOrStalled err.new) }
+    ensures status { result ≡ status_of (Err fault) }
+    ensures told { IsToldOf (E.contents err.old.device) (E.contents err.new.device) name.now (Err fault) (HasFailedOrStalled err.new) }
 {
     match fault.text(alloc, name) {
         Ok(text) => {
             tell(err, text.as_str());
             fault.status()
         }
-        Err(_) => no_memory(err),
+        Err(_) => {
+            tell(err, OUT_OF_MEMORY);
+            fault.status()
+        }
     }
 }
 
@@ -124,7 +127,7 @@ pub fn run_script<O: Write, E: Write>(
     // The log, the status and the errors are those of one end.
     ensures ended { (end : Result (List ℕ) RunFault) × Ends bytes.now end × (result ≡ status_of end)
         × IsTold (O.contents out.old.device) (O.contents out.new.device) (output_of end) (HasFailedOrStalled out.new)
-        × IsTold (E.contents err.old.device) (E.contents err.new.device) (errors_of name.now end) (HasFailedOrStalled err.new) }
+        × IsToldOf (E.contents err.old.device) (E.contents err.new.device) name.now end (HasFailedOrStalled err.new) }
     // And no writer is called that has nothing to write.
     ensures done { result ≡ 0 → err.new.device ≡ err.old.device }
     ensures failed { result ≢ 0 → out.new.device ≡ out.old.device }

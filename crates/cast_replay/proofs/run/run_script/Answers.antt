@@ -1,9 +1,7 @@
-use Rattle.std.proofs.Common.{◌≡◌, Ok, Err, refl, sym, subst, inl, inr}
+use Rattle.std.proofs.Common.{Ok, Err, refl, subst}
 use Rattle.std.specs.String.{string_bytes}
 use Rattle.cast_device.specs.Watching.{HasFailedOrStalled}
-use Rattle.cast_replay.specs.Ends.{Ends, IsTold, errors_of}
-use Rattle.cast_replay.specs.declared.run.RunFault.{RunFault}
-use Rattle.cast_replay.specs.declared.run.RunFault.TheVariants.{NoMemory}
+use Rattle.cast_replay.specs.Ends.{IsTold, IsToldOf}
 use Rattle.cast_replay.proofs.Told.{told_nothing}
 use Rattle.cast_replay.proofs.run.run_script.Goals as goal
 
@@ -18,17 +16,11 @@ returns-in-Ok-clause-ended g c = (
 )
 
 pub returns-in-Err-clause-ended : goal.returns-in-Err-clause-ended
-returns-in-Err-clause-ended g c =
-    let told : RunFault = c.complain.ensures.0 in
-    let ends : Ends c.args.bytes.now (Err told) =
-    elim c.complain.ensures.1 [
-      | inl same ↦ subst (λ fault. Ends c.args.bytes.now (Err fault)) (sym same) c.in-Err.ensures.ends
-      | inr none ↦ subst (λ fault. Ends c.args.bytes.now (Err fault)) (sym none) tt
-    ] in (
-      Err told,
-      ends,
-      c.complain.ensures.2,
-      told_nothing g.O.Write.contents c.args.out.now.device c.begin.new.self.device (HasFailedOrStalled c.begin.new.self) c.begin.ensures.device,
-      subst (λ d. IsTold (g.E.Write.contents d) (g.E.Write.contents c.complain.new.err.device) (errors_of c.args.name.now (Err told)) (HasFailedOrStalled c.complain.new.err)) c.begin-2.ensures.device
-          c.complain.ensures.3,
-    )
+returns-in-Err-clause-ended g c = (
+  Err c.in-Err.fault,
+  c.in-Err.ensures.ends,
+  c.complain.ensures.status,
+  told_nothing g.O.Write.contents c.args.out.now.device c.begin.new.self.device (HasFailedOrStalled c.begin.new.self) c.begin.ensures.device,
+  subst (λ d. IsToldOf (g.E.Write.contents d) (g.E.Write.contents c.complain.new.err.device) c.args.name.now (Err c.in-Err.fault) (HasFailedOrStalled c.complain.new.err)) c.begin-2.ensures.device
+      c.complain.ensures.told,
+)
