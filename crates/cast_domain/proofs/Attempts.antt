@@ -15,8 +15,8 @@ use Rattle.cast_order.specs.Log.{log_of, next_places}
 use Rattle.cast_delay.specs.Ready.{is_member, is_outside}
 use Rattle.cast_delay.specs.declared.row.Fact.TheVariants as fact
 use Rattle.cast_domain.specs.Records.{Records}
-use Rattle.cast_domain.specs.Effects.{may_raise}
-use Rattle.cast_domain.specs.Step.{body_of}
+use Rattle.cast_history.specs.Effects.{may_raise}
+use Rattle.cast_history.specs.Step.{body_of}
 use Rattle.cast_domain.specs.Calls.{Attempt, awaits_own_in, has_room_in, has_order_room_in, let_go_in, send_places_in, set_order_by_in, record_at, standing_of, time_of, local_in, tell_in, request_in, join_at, cast_at, send_message_in, next_message_in}
 
 -- what a join does that is not refused

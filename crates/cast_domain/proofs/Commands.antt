@@ -45,15 +45,16 @@ use Rattle.cast_model.specs.Group.{has_view, with_request}
 use Rattle.cast_model.specs.Home.{is_empty}
 use Rattle.cast_message.specs.declared.client.Command.{Command}
 use Rattle.cast_message.specs.declared.client.Command.TheVariants as command
-use Rattle.cast_domain.specs.State.{State, local, is_group, set_process, set_group, set_standing, others_of, may_receive, gate_of}
-use Rattle.cast_domain.specs.Order.{awaits_own}
-use Rattle.cast_domain.specs.Owing.{ask_key, message_key, sent_for, owing}
-use Rattle.cast_domain.specs.Effects.{asking, requesting, pushing, receiving, sending_to, next_message, may_raise, sending}
-use Rattle.cast_domain.specs.Step.{first_refusal, join_tests, cast_tests, joining, attempting, body_of, requested, commanded}
-use Rattle.cast_domain.specs.Records.{Records, was_given}
+use Rattle.cast_history.specs.State.{State, local, is_group, set_process, set_group, set_standing, others_of, may_receive, gate_of, was_given}
+use Rattle.cast_history.specs.Order.{awaits_own}
+use Rattle.cast_history.specs.Owing.{ask_key, message_key, sent_for, owing}
+use Rattle.cast_history.specs.Effects.{asking, requesting, pushing, receiving, sending_to, next_message, may_raise, sending}
+use Rattle.cast_history.specs.Step.{first_refusal, join_tests, cast_tests, joining, attempting, body_of, requested, commanded}
+use Rattle.cast_domain.specs.Records.{Records}
 use Rattle.cast_domain.specs.Calls.{has_room_in, place_in, record_at, standing_of, time_of, send_for_in, owe_in, push_in, tell_in, ask_home_in, request_in, Attempt, join_at, join_in, learn_in, receive_in, send_data_in, send_message_in, next_message_in, is_own_in, awaits_own_in, cast_at, cast_in, reply_in, requested_in, command_in}
-use Rattle.cast_domain.specs.Fits.{process_named, LogFits, Fits, IsSpent, AreKept, IsLawful}
-use Rattle.cast_domain.proofs.Lawful.{lawful_standing}
+use Rattle.cast_history.specs.Lawful.{IsSpent, AreKept, IsLawful}
+use Rattle.cast_domain.specs.Fits.{process_named, LogFits, Fits}
+use Rattle.cast_history.proofs.Lawful.{lawful_standing}
 use Rattle.cast_domain.proofs.Owings.{fits_send_for, fits_owe}
 use Rattle.cast_domain.proofs.Standing.{and_none, fits_if, record_there, place_some, place_none, standing_there, time_there, fits_push, fits_here, fits_standing, fits_time, process_here, fits_receive_with}
 use Rattle.cast_domain.proofs.Logs.{logs_receive}

@@ -28,11 +28,12 @@ use Rattle.cast_domain.specs.declared.record.GroupRecord.{GroupRecord}
 use Rattle.cast_model.specs.declared.session.Session.{Session}
 use Rattle.cast_model.specs.Session.{is_open, pushed_to, told}
 use Rattle.cast_model.specs.Group.{with_view, is_taken_in}
-use Rattle.cast_domain.specs.State.{State, local, serials, is_group, set_session, set_process, set_group, set_standing}
-use Rattle.cast_domain.specs.Effects.{pushing, enters, in_view, push_view, completing}
-use Rattle.cast_domain.specs.Records.{Records, was_given}
+use Rattle.cast_history.specs.State.{State, local, serials, is_group, set_session, set_process, set_group, set_standing, was_given}
+use Rattle.cast_history.specs.Effects.{pushing, enters, in_view, push_view, completing}
+use Rattle.cast_domain.specs.Records.{Records}
 use Rattle.cast_domain.specs.Calls.{record_at, standing_of, send_in, push_in, tell_in, enter_in, take_in, view_in, complete_in}
-use Rattle.cast_domain.specs.Fits.{Fits, IsLawful}
+use Rattle.cast_history.specs.Lawful.{IsLawful}
+use Rattle.cast_domain.specs.Fits.{Fits}
 use Rattle.cast_domain.proofs.Standing.{and_none, fits_told, fits_if, record_there, standing_there, time_there, fits_send, fits_push, fits_view, still_in}
 
 -- Small truths of tests

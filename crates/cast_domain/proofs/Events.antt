@@ -9,11 +9,12 @@ use Rattle.cast_model.specs.declared.event.Event.TheVariants as event
 use Rattle.cast_message.specs.declared.client.Command.{Command}
 use Rattle.cast_message.specs.declared.client.Command.TheVariants as command
 use Rattle.cast_model.specs.declared.event.Taken.TheVariants as taken
-use Rattle.cast_domain.specs.State.{State}
-use Rattle.cast_domain.specs.Step.{commanded, opened, Effect, acted}
-use Rattle.cast_domain.specs.Records.{Records, was_given, answer_to}
+use Rattle.cast_history.specs.State.{State, was_given}
+use Rattle.cast_history.specs.Step.{commanded, opened, Effect, acted}
+use Rattle.cast_domain.specs.Records.{Records, answer_to}
 use Rattle.cast_domain.specs.Calls.{requested_in, command_in, open_in, act_in}
-use Rattle.cast_domain.specs.Fits.{Fits, IsLawful, IsTyped}
+use Rattle.cast_history.specs.Lawful.{IsLawful, IsTyped}
+use Rattle.cast_domain.specs.Fits.{Fits}
 use Rattle.cast_domain.proofs.Standing.{fits_open}
 use Rattle.cast_domain.proofs.Commands.{fits_commanded}
 use Rattle.cast_domain.proofs.Framing.{fits_framed}

@@ -34,16 +34,17 @@ use Rattle.cast_model.specs.declared.group.Group.{Group}
 use Rattle.cast_model.specs.declared.group.Verdict.TheVariants.{Again, Completes, Ignored}
 use Rattle.cast_model.specs.Group.{first_asking, members_of, has_view, is_current, with_answer, verdict_of}
 use Rattle.cast_model.specs.Home.{applied_of, after_request, after_installed}
-use Rattle.cast_domain.specs.State.{State, local, is_home, is_site, is_group, set_group, set_home, emitted, is_received, may_take, others_of, upto, is_stable, counts_itself}
-use Rattle.cast_domain.specs.Owing.{ask_key, message_key, owing, paying}
-use Rattle.cast_domain.specs.Effects.{asking, receiving, completing}
-use Rattle.cast_domain.specs.Step.{is_used, acknowledging, data_used, on_data, is_used_ack, with_ack, tell_stable, tell_more, on_ack, paying_acks, on_stable, is_from_home, on_ask, on_asked, on_install, on_installed, group_of, on_frame, framed}
+use Rattle.cast_history.specs.State.{State, local, is_home, is_site, is_group, set_group, set_home, emitted, is_received, may_take, others_of, upto, is_stable, counts_itself}
+use Rattle.cast_history.specs.Owing.{ask_key, message_key, owing, paying}
+use Rattle.cast_history.specs.Effects.{asking, receiving, completing}
+use Rattle.cast_history.specs.Step.{is_used, acknowledging, data_used, on_data, is_used_ack, with_ack, tell_stable, tell_more, on_ack, paying_acks, on_stable, is_from_home, on_ask, on_asked, on_install, on_installed, group_of, on_frame, framed}
 use Rattle.cast_domain.specs.Shared.{part_paying_upto}
 use Rattle.cast_domain.specs.Records.{Records}
 use Rattle.cast_domain.specs.Calls.{may_take_in, is_home_in, place_in, record_at, send_in, owe_in, pay_in, ask_home_in, receive_in, is_used_in, acknowledge_in, use_data_in, data_in, with_ack_in, is_used_ack_in, tell_stable_in, tell_more_in, ack_in, stable_in, asked_of_home_in, answered_in, complete_in, install_in, installed_in, frame_at, frame_in}
-use Rattle.cast_domain.specs.Fits.{Fits, IsLawful, IsTypedFrame}
+use Rattle.cast_history.specs.Lawful.{IsLawful, IsTypedFrame}
+use Rattle.cast_domain.specs.Fits.{Fits}
 use Rattle.cast_domain.proofs.Standing.{and_none, orders_same, fits_if, record_there, place_some, place_none, fits_send, fits_here, fits_home, fits_receive}
-use Rattle.cast_domain.proofs.Lawful.{same_owed, lawful_same}
+use Rattle.cast_history.proofs.Lawful.{same_owed, lawful_same}
 use Rattle.cast_domain.proofs.Logs.{logs_ack}
 use Rattle.cast_domain.proofs.Owings.{fits_owed, fits_owe, fits_pay}
 use Rattle.cast_domain.proofs.Ordering.{order_room_there}

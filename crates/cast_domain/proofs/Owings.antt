@@ -19,8 +19,8 @@ use Rattle.cast_timer.specs.declared.key.OwedKind.TheVariants.{Ask, Data, Prepar
 use Rattle.cast_timer.specs.Owed.{is_owed, with_owed, paid, renewed, key_eq, due_at}
 use Rattle.cast_domain.specs.declared.record.GroupRecord.{GroupRecord}
 use Rattle.cast_model.specs.Group.{first_asking}
-use Rattle.cast_domain.specs.State.{State, emitted, message_of}
-use Rattle.cast_domain.specs.Owing.{id_in, ask_frame, frame_of_kind, frame_for, sent_for, next_due, owing, paying, resending, at_moment, resending_due, ticked}
+use Rattle.cast_history.specs.State.{State, emitted, message_of}
+use Rattle.cast_history.specs.Owing.{id_in, ask_frame, frame_of_kind, frame_for, sent_for, next_due, owing, paying, resending, at_moment, resending_due, ticked}
 use Rattle.cast_domain.specs.Shared.{Part}
 use Rattle.cast_domain.specs.Records.{Records}
 use Rattle.cast_domain.specs.Calls.{place_in, send_in, message_in, frame_of_kind_in, frame_for_in, send_for_in, next_due_in, owe_in, pay_in, resend_in, resend_due_in, tick_in}

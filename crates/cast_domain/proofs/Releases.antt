@@ -25,11 +25,12 @@ use Rattle.cast_delay.proofs.Queues.{forget_fits, awaited_by}
 use Rattle.cast_stable.proofs.Meanings.{stable_meant}
 use Rattle.cast_domain.specs.declared.record.GroupRecord.{GroupRecord}
 use Rattle.cast_model.specs.Group.{has_view, is_current}
-use Rattle.cast_domain.specs.State.{State, local, others_of, is_free, local_members, let_go, gate_of}
+use Rattle.cast_history.specs.State.{State, local, others_of, is_free, local_members, let_go, gate_of}
 use Rattle.cast_domain.specs.Records.{Records}
 use Rattle.cast_domain.specs.Calls.{place_in, record_at, is_current_in, is_free_in, release_in, let_go_in}
-use Rattle.cast_domain.specs.Fits.{process_named, Fits, IsLawful}
-use Rattle.cast_domain.proofs.Totals.{In}
+use Rattle.cast_history.specs.Lawful.{IsLawful}
+use Rattle.cast_domain.specs.Fits.{process_named, Fits}
+use Rattle.cast_history.proofs.Totals.{In}
 use Rattle.cast_domain.proofs.Standing.{orders_same, record_there, place_some, place_none, process_here}
 
 -- Rows and serials

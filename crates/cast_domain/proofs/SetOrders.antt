@@ -28,15 +28,16 @@ use Rattle.cast_order.specs.Log.{Log, log_of, change_log, assigned, next_places}
 use Rattle.cast_domain.specs.declared.record.GroupRecord.{GroupRecord}
 use Rattle.cast_model.specs.Group.{holder_of, is_process, holder_at}
 use Rattle.cast_model.specs.Home.{is_empty}
-use Rattle.cast_domain.specs.State.{State, local, set_process, may_order, let_go}
-use Rattle.cast_domain.specs.Order.{order_of, holds, unlisted, has_place, is_of_view}
-use Rattle.cast_domain.specs.Effects.{may_raise, next_message, sending}
-use Rattle.cast_domain.specs.Rest.{may_set_order, set_order_by, set_order, set_orders}
-use Rattle.cast_domain.specs.Records.{Records, was_given}
+use Rattle.cast_history.specs.State.{State, local, set_process, may_order, let_go, was_given}
+use Rattle.cast_history.specs.Order.{order_of, holds, unlisted, has_place, is_of_view}
+use Rattle.cast_history.specs.Effects.{may_raise, next_message, sending}
+use Rattle.cast_history.specs.Rest.{may_set_order, set_order_by, set_order, set_orders}
+use Rattle.cast_domain.specs.Records.{Records}
 use Rattle.cast_domain.specs.Calls.{standing_of, time_of, has_order_room_in, log_in, learn_in, settled_in, tell_in, send_message_in, let_go_in, set_order_by_in, set_order_in, set_orders_in}
-use Rattle.cast_domain.specs.Fits.{record_for, Fits, IsLawful}
-use Rattle.cast_domain.proofs.Alikes.{alike_sending}
-use Rattle.cast_domain.proofs.LawfulSteps.{lawful_order_sent, lawful_set_order}
+use Rattle.cast_history.specs.Lawful.{IsLawful}
+use Rattle.cast_domain.specs.Fits.{record_for, Fits}
+use Rattle.cast_history.proofs.Alikes.{alike_sending}
+use Rattle.cast_history.proofs.LawfulSteps.{lawful_order_sent, lawful_set_order}
 use Rattle.cast_domain.proofs.LogSteps.{logs_place}
 use Rattle.cast_domain.proofs.Ordering.{order_room_there, settled_there, settled_of_holder, places_there}
 use Rattle.cast_domain.proofs.Standing.{record_there, process_here, standing_there, time_there, fits_time}

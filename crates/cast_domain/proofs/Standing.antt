@@ -45,16 +45,17 @@ use Rattle.cast_model.specs.declared.group.Group.{Group}
 use Rattle.cast_model.specs.declared.home.Home.{Home}
 use Rattle.cast_model.specs.Session.{no_session, first_session, is_open, pushed_to, told}
 use Rattle.cast_model.specs.Group.{no_group, members_of, other_sites, with_view}
-use Rattle.cast_domain.specs.State.{State, opening, no_process, local, is_group, gate_of, others_of, set_session, set_process, set_group, set_home, set_standing, emitted}
-use Rattle.cast_domain.specs.Effects.{pushing, receiving}
-use Rattle.cast_domain.specs.Step.{opened}
-use Rattle.cast_domain.specs.Run.{before_event}
+use Rattle.cast_history.specs.State.{State, opening, no_process, local, is_group, gate_of, others_of, set_session, set_process, set_group, set_home, set_standing, emitted, was_given}
+use Rattle.cast_history.specs.Effects.{pushing, receiving}
+use Rattle.cast_history.specs.Step.{opened}
+use Rattle.cast_history.specs.Run.{before_event}
 use Rattle.cast_domain.specs.Shared.{no_part}
-use Rattle.cast_domain.specs.Records.{Records, was_given}
+use Rattle.cast_domain.specs.Records.{Records}
 use Rattle.cast_domain.specs.Calls.{place_among, local_in, place_in, no_record, record_at, standing_of, time_of, send_in, push_in, tell_in, open_in, learn_in, receive_in, view_in}
-use Rattle.cast_domain.specs.Fits.{process_named, record_for, session_in, LogFits, Fits, IsLawful}
+use Rattle.cast_history.specs.Lawful.{IsLawful}
+use Rattle.cast_domain.specs.Fits.{process_named, record_for, session_in, LogFits, Fits}
 use Rattle.cast_domain.proofs.Logs.{log_alike, settled_same, logs_receive, logs_view}
-use Rattle.cast_domain.proofs.Spots.{length_update, update_own, update_other, push_last, push_other, update_mapped}
+use Rattle.cast_history.proofs.Spots.{length_update, update_own, update_other, push_last, push_other, update_mapped}
 use Rattle.cast_types.proofs.Bools.{same_bools}
 
 -- nothing is left of two tests where the second fails

@@ -19,19 +19,20 @@ use Rattle.cast_order.specs.Order.{ids_to_list, place_after}
 use Rattle.cast_order.specs.Log.{log_of}
 use Rattle.cast_domain.specs.declared.record.GroupRecord.{GroupRecord}
 use Rattle.cast_model.specs.Group.{holder_at}
-use Rattle.cast_domain.specs.State.{State, local, serials, is_home, let_go}
-use Rattle.cast_domain.specs.Order.{order_of, unlisted, is_ready_for}
-use Rattle.cast_domain.specs.Effects.{sending, next_message}
-use Rattle.cast_domain.specs.Rest.{deliver_first, deliver_all, settle, may_set_order, set_order_by, set_order, set_orders, decide, lead_all, pass}
-use Rattle.cast_domain.specs.Endings.{total, one_if, left, rank, ranks, undelivered, is_to_come, to_list_by, to_list_in, to_list, to_do}
+use Rattle.cast_history.specs.State.{State, local, serials, is_home, let_go}
+use Rattle.cast_history.specs.Order.{order_of, unlisted, is_ready_for}
+use Rattle.cast_history.specs.Effects.{sending, next_message}
+use Rattle.cast_history.specs.Rest.{deliver_first, deliver_all, settle, may_set_order, set_order_by, set_order, set_orders, decide, lead_all, pass}
+use Rattle.cast_history.specs.Endings.{total, one_if, left, rank, ranks, undelivered, is_to_come, to_list_by, to_list_in, to_list, to_do}
 use Rattle.cast_domain.specs.Records.{Records}
 use Rattle.cast_domain.specs.Calls.{settle_in, set_orders_in, pass_in}
-use Rattle.cast_domain.specs.Fits.{record_for, process_named, Fits, IsLawful}
-use Rattle.cast_domain.proofs.Alikes.{alike_sending}
-use Rattle.cast_domain.proofs.Settles.{delivering_one, delivers}
-use Rattle.cast_domain.proofs.Rests.{moves_pass}
-use Rattle.cast_domain.proofs.Totals.{total_same}
-use Rattle.cast_domain.proofs.LawfulSteps.{lawful_settle, lawful_set_orders, same_decide}
+use Rattle.cast_history.specs.Lawful.{IsLawful}
+use Rattle.cast_domain.specs.Fits.{record_for, process_named, Fits}
+use Rattle.cast_history.proofs.Alikes.{alike_sending}
+use Rattle.cast_history.proofs.Settles.{delivering_one, delivers}
+use Rattle.cast_history.proofs.Rests.{moves_pass}
+use Rattle.cast_history.proofs.Totals.{total_same}
+use Rattle.cast_history.proofs.LawfulSteps.{lawful_settle, lawful_set_orders, same_decide}
 use Rattle.cast_domain.proofs.Standing.{process_here}
 use Rattle.cast_domain.proofs.Ordering.{waiting_there}
 use Rattle.cast_domain.proofs.Turns.{fits_settle, fits_lead}

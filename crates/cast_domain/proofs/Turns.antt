@@ -33,21 +33,22 @@ use Rattle.cast_model.specs.declared.home.Home.{Home}
 use Rattle.cast_model.specs.Session.{is_open, pushed_to}
 use Rattle.cast_model.specs.Group.{sites_of}
 use Rattle.cast_model.specs.Home.{may_decide, decided}
-use Rattle.cast_domain.specs.State.{State, local, is_group, gate_of, is_home, is_free, set_session, set_home}
-use Rattle.cast_domain.specs.Order.{is_of_view, holds, turn_of, is_ready_for}
-use Rattle.cast_domain.specs.Effects.{pushing, told_of, with_delivery, delivering}
-use Rattle.cast_domain.specs.Rest.{deliver_first, deliver_all, settle, send_install, install_frame, decide, lead_all}
-use Rattle.cast_domain.specs.Endings.{left}
-use Rattle.cast_domain.specs.Records.{Records, was_given}
+use Rattle.cast_history.specs.State.{State, local, is_group, gate_of, is_home, is_free, set_session, set_home, was_given}
+use Rattle.cast_history.specs.Order.{is_of_view, holds, turn_of, is_ready_for}
+use Rattle.cast_history.specs.Effects.{pushing, told_of, with_delivery, delivering}
+use Rattle.cast_history.specs.Rest.{deliver_first, deliver_all, settle, send_install, install_frame, decide, lead_all}
+use Rattle.cast_history.specs.Endings.{left}
+use Rattle.cast_domain.specs.Records.{Records}
 use Rattle.cast_domain.specs.Calls.{push_in, let_go_in, is_home_in, holds_in, turns_in, note_delivery_in, push_delivery_in, deliver_message_in, deliver_in, deliver_first_in, deliver_all_in, settle_at, settle_in, send_install_in, decide_in, lead_in}
-use Rattle.cast_domain.specs.Fits.{process_named, record_for, Fits, IsSpent, AreKept, IsLawful}
-use Rattle.cast_domain.proofs.Settles.{delivering_one, delivers, ready_causally, ready_new, delivered_first, delivered_none, turns_are_enough}
+use Rattle.cast_history.specs.Lawful.{IsSpent, AreKept, IsLawful}
+use Rattle.cast_domain.specs.Fits.{process_named, record_for, Fits}
+use Rattle.cast_history.proofs.Settles.{delivering_one, delivers, ready_causally, ready_new, delivered_first, delivered_none, turns_are_enough}
 use Rattle.cast_domain.proofs.LogSteps.{noting, logs_deliver}
 use Rattle.cast_domain.proofs.Ordering.{holds_there, turns_there}
-use Rattle.cast_domain.proofs.Totals.{left_found, left_le}
-use Rattle.cast_domain.proofs.Spots.{found_passes}
-use Rattle.cast_domain.proofs.Lawful.{lawful_delivering}
-use Rattle.cast_domain.proofs.LawfulSteps.{lawful_first, lawful_deliver_all, lawful_decide}
+use Rattle.cast_history.proofs.Totals.{left_found, left_le}
+use Rattle.cast_history.proofs.Spots.{found_passes}
+use Rattle.cast_history.proofs.Lawful.{lawful_delivering}
+use Rattle.cast_history.proofs.LawfulSteps.{lawful_first, lawful_deliver_all, lawful_decide}
 use Rattle.cast_domain.proofs.Releases.{fits_let_go}
 use Rattle.cast_delay.proofs.Finds.{found_in}
 use Rattle.cast_types.proofs.Iterates.{iterate_still}

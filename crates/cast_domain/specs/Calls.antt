@@ -37,10 +37,9 @@ use Rattle.cast_message.specs.Sequence.{Sequence}
 use Rattle.cast_delay.specs.Ready.{is_member, is_outside}
 use Rattle.cast_delay.specs.declared.turn.Turn.{Turn}
 use Rattle.cast_delay.specs.declared.turn.Turn.TheVariants.{Holding, Following}
-use Rattle.cast_delay.specs.Rows.{standing_in}
+use Rattle.cast_delay.specs.Rows.{standing_in, told_row}
 use Rattle.cast_delay.specs.declared.row.Fact.{Fact}
 use Rattle.cast_delay.specs.declared.row.Fact.TheVariants as fact
-use Rattle.cast_delay.specs.Rows.{told_row}
 use Rattle.cast_delay.specs.Queue.{Queue, new_row, row_of, change_row, next_key, after_delivery, is_awaited, delivered_in, passed_in}
 use Rattle.cast_order.specs.Log.{Log, log_of, change_log, but_log, learnt, next_in, passed, told, next_places, assigned, has_room_in as has_room_in_log}
 use Rattle.cast_stable.specs.Ledger.{others_in, is_received_in, has_acked_in, upto_in, is_stable_in, told_ledger, received_ledger, acked_ledger, learnt_ledger}
@@ -60,12 +59,12 @@ use Rattle.cast_model.specs.Group.{no_group, members_of, holder_of, is_process, 
 use Rattle.cast_model.specs.declared.home.Home.{Home}
 use Rattle.cast_model.specs.Home.{first_home, is_empty, applied_of, after_request, after_installed, may_decide, decided}
 use Rattle.cast_domain.specs.Shared.{part_with, part_without, part_owing, part_renewing, part_paying, part_paying_upto}
-use Rattle.cast_domain.specs.Owing.{ask_key, message_key, id_in, ask_frame}
-use Rattle.cast_domain.specs.Effects.{told_of, may_raise}
-use Rattle.cast_domain.specs.Rest.{install_frame}
-use Rattle.cast_domain.specs.State.{counts_itself}
-use Rattle.cast_domain.specs.Step.{body_of, group_of}
-use Rattle.cast_domain.specs.Records.{Records, was_given}
+use Rattle.cast_history.specs.Owing.{ask_key, message_key, id_in, ask_frame}
+use Rattle.cast_history.specs.Effects.{told_of, may_raise}
+use Rattle.cast_history.specs.Rest.{install_frame}
+use Rattle.cast_history.specs.State.{counts_itself, was_given}
+use Rattle.cast_history.specs.Step.{body_of, group_of}
+use Rattle.cast_domain.specs.Records.{Records}
 
 -- Names
 

@@ -1,13 +1,5 @@
-pub mod State
-pub mod Order
-pub mod Owing
-pub mod Effects
-pub mod Rest
-pub mod Step
-pub mod Run
 pub mod Shared
 pub mod Records
 pub mod Calls
 pub mod Fits
 pub mod Stepped
-pub mod Endings

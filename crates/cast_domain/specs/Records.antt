@@ -1,5 +1,5 @@
 -- A domain's records as contracts see them: lists and what the queue keeps.
-use Rattle.std.specs.Prelude.{◌≡◌, ℕ, ◌+◌, Bool, ◌&&◌, ◌==◌, nat_lt, nat_le, if◌then◌else◌, List}
+use Rattle.std.specs.Prelude.{◌≡◌, ℕ, ◌+◌, Bool, ◌==◌, if◌then◌else◌, List}
 use Rattle.cast_types.specs.declared.names.DomainNo.{DomainNo}
 use Rattle.cast_types.specs.declared.names.SiteNo.{SiteNo}
 use Rattle.cast_types.specs.declared.names.Proc.{Proc}
@@ -78,10 +78,6 @@ pub record Keeps (old : Domain) (new : Domain) : Type 0 where
   pub site : new.site ≡ old.site
   pub config : new.config ≡ old.config
   pub halted : new.halted ≡ old.halted
-
--- a serial that was given
-abbrev pub was_given : ℕ → ℕ → Bool
-was_given used k = nat_lt 0 k && nat_le k used
 
 -- what a domain that is not halted answers, by how many serials were given
 abbrev pub answer_to : ℕ → Event → Taken

@@ -4,13 +4,14 @@ use Rattle.cast_domain.specs.declared.domain.Domain.{Domain}
 use Rattle.cast_model.specs.declared.event.Event.{Event}
 use Rattle.cast_model.specs.declared.event.Outs.{Outs}
 use Rattle.cast_model.specs.declared.event.Taken.{Taken}
-use Rattle.cast_domain.specs.State.{State}
-use Rattle.cast_domain.specs.Run.{IsStep}
-use Rattle.cast_domain.specs.Rest.{RestsAt}
+use Rattle.cast_history.specs.State.{State}
+use Rattle.cast_history.specs.Run.{IsStep}
+use Rattle.cast_history.specs.Rest.{RestsAt}
 use Rattle.cast_domain.specs.Shared.{Part}
 use Rattle.cast_model.specs.Outs.{outs_then}
 use Rattle.cast_domain.specs.Records.{Records}
-use Rattle.cast_domain.specs.Fits.{Fits, IsLawful, Means, tagged}
+use Rattle.cast_history.specs.Lawful.{IsLawful}
+use Rattle.cast_domain.specs.Fits.{Fits, Means, tagged}
 
 -- whatever lawful history the old records stand for, the new ones stand for the one in which it comes to rest
 abbrev pub IsRested : Records → Records → Type 0

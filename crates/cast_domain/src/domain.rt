@@ -34,7 +34,7 @@ pub struct Domain {
 impl Domain {
     ghost use Rattle.cast_types.specs.Names.{group_cmp};
     ghost use Rattle.cast_message.specs.Rising.{is_rising};
-    ghost use Rattle.cast_domain.specs.State.{opening};
+    ghost use Rattle.cast_history.specs.State.{opening};
     ghost use Rattle.cast_domain.specs.Records.{number_of, is_halted, sessions_of, IsFor};
     ghost use Rattle.cast_domain.specs.Shared.{no_part};
     ghost use Rattle.cast_domain.specs.Fits.{Means};
@@ -97,7 +97,7 @@ impl Domain {
     ghost use Rattle.cast_model.specs.Events.{domain_of};
     ghost use Rattle.cast_domain.specs.Records.{Keeps, answer_to, is_halted, number_of, records_in, records_of, used_after};
     ghost use Rattle.cast_domain.specs.Shared.{LeavesOthers, Part, part_of};
-    ghost use Rattle.cast_domain.specs.Fits.{IsTyped};
+    ghost use Rattle.cast_history.specs.Lawful.{IsTyped};
     ghost use Rattle.cast_domain.specs.Stepped.{IsStepped};
     ghost use Rattle.cast_domain.specs.Calls.{act_in, is_home_in, has_room_in, local_in, place_among, push_in, record_at, send_in, tell_in};
 

@@ -4,9 +4,9 @@ ghost use Rattle.cast_types.specs.Names.{group_eq, proc_eq, uid_eq};
 ghost use Rattle.cast_types.specs.Sets.{is_among};
 ghost use Rattle.cast_message.specs.declared.site.Change.TheVariants as asked_change;
 ghost use Rattle.cast_message.specs.declared.site.SiteFrame.TheVariants as asked_frame;
-ghost use Rattle.cast_domain.specs.Step.{group_of};
-ghost use Rattle.cast_domain.specs.Fits.{IsTypedFrame};
-ghost use Rattle.cast_domain.specs.State.{counts_itself};
+ghost use Rattle.cast_history.specs.Step.{group_of};
+ghost use Rattle.cast_history.specs.Lawful.{IsTypedFrame};
+ghost use Rattle.cast_history.specs.State.{counts_itself};
 
 use crate::domain::Domain;
 use crate::owing::ask_key;

@@ -6,17 +6,14 @@
 //! safe and returns. Want of memory inside a step adds nothing and halts the domain, which then answers each event with
 //! `Refused(Halted)`.
 //!
-//! The values that a domain is made of, as sessions and groups, are those of `cast_model`, with their definitions. Those
-//! of a domain are in `specs/`: `State` has the whole history of a domain and what of it is kept and stable, `Order`
-//! the order of a view and when a message is ready, `Owing` the frames that it owes and ticks, `Effects`, `Rest` and
-//! `Step` say what events do to it, and `Run` what a domain that is served alone answers, pushes and sends. `Records` is
-//! what the code keeps, with its part of what domains share (`Shared`), `Calls` what its calls do to that, exactly, and
-//! `Fits` when records stand for a history; `Stepped` is what the contract of a step says.
+//! The history is that of `cast_history`, with its definitions, and the values that a domain is made of, as sessions and
+//! groups, are those of `cast_model`. The definitions here are in `specs/`: `Records` is what the code keeps, with its
+//! part of what domains share (`Shared`), `Calls` what its calls do to that, exactly, and `Fits` when records stand for a
+//! history; `Stepped` is what the contract of a step says.
 #![tactic(auto)]
 
 mod domain;
 mod frames;
-pub mod laws;
 mod order;
 mod owing;
 mod record;

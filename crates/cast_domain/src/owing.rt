@@ -4,7 +4,7 @@ ghost use Rattle.std.specs.List.{find};
 ghost use Rattle.cast_types.specs.Names.{uid_eq};
 ghost use Rattle.cast_message.specs.declared.site.SiteFrame.TheVariants as frame;
 ghost use Rattle.cast_model.specs.Group.{first_asking};
-ghost use Rattle.cast_domain.specs.Owing.{ask_frame, ask_key, id_in, message_key};
+ghost use Rattle.cast_history.specs.Owing.{ask_frame, ask_key, id_in, message_key};
 
 use crate::domain::Domain;
 use crate::shared::Shared;

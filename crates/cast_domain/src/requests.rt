@@ -1,6 +1,6 @@
 ghost use Rattle.std.specs.Prelude.{◌≡◌, ◌<◌, ◌≤◌, ◌+◌, ◌==◌, if◌then◌else◌, IfOk, OnOk, Some, None, length, vec_len};
 ghost use Rattle.std.specs.List.{fold};
-ghost use Rattle.cast_domain.specs.Step.{body_of};
+ghost use Rattle.cast_history.specs.Step.{body_of};
 ghost use Rattle.cast_domain.specs.Calls.{record_at};
 
 use crate::domain::Domain;
@@ -21,9 +21,10 @@ use std::alloc::AllocError;
 impl Domain {
     ghost use Rattle.cast_clock.specs.Times.{bumped, view_of};
     ghost use Rattle.cast_model.specs.declared.event.Outs.{Outs};
-    ghost use Rattle.cast_domain.specs.Records.{Keeps, records_in, records_of, was_given};
+    ghost use Rattle.cast_history.specs.State.{was_given};
+    ghost use Rattle.cast_domain.specs.Records.{Keeps, records_in, records_of};
     ghost use Rattle.cast_domain.specs.Shared.{LeavesOthers, Part};
-    ghost use Rattle.cast_domain.specs.Effects.{may_raise};
+    ghost use Rattle.cast_history.specs.Effects.{may_raise};
     ghost use Rattle.cast_domain.specs.Calls.{ask_home_in, cast_at, cast_in, command_in, join_at, join_in, open_in, receive_in, request_in, requested_in, send_data_in, send_message_in, time_of};
 
     // A program connects.

@@ -1,7 +1,7 @@
 ghost use Rattle.std.specs.Prelude.{◌≡◌, ◌<◌, false, IfOk, OnOk, vec_len};
 ghost use Rattle.std.specs.List.{fold};
 ghost use Rattle.std.specs.Option.{option_map_or};
-ghost use Rattle.cast_domain.specs.Effects.{told_of};
+ghost use Rattle.cast_history.specs.Effects.{told_of};
 
 use crate::domain::Domain;
 use crate::record::decide_at;
@@ -13,7 +13,7 @@ use cast_types::{Counts, Key, NoMemory, Proc, SiteNo, Uid};
 use std::alloc::AllocError;
 
 impl Domain {
-    ghost use Rattle.cast_domain.specs.Rest.{install_frame};
+    ghost use Rattle.cast_history.specs.Rest.{install_frame};
     ghost use Rattle.cast_domain.specs.Records.{Keeps, records_in, records_of};
     ghost use Rattle.cast_domain.specs.Shared.{LeavesOthers, Part};
     ghost use Rattle.cast_domain.specs.Stepped.{IsRested};

@@ -5,8 +5,8 @@ use Rattle.cast_types.specs.declared.names.SiteNo.{SiteNo}
 use Rattle.cast_message.specs.declared.site.SiteFrame.{SiteFrame}
 use Rattle.cast_model.specs.declared.event.Event.{Event}
 use Rattle.cast_model.specs.declared.event.Taken.{Taken}
-use Rattle.cast_domain.specs.State.{State}
-use Rattle.cast_domain.specs.Run.{IsRun, IsStep}
+use Rattle.cast_history.specs.State.{State}
+use Rattle.cast_history.specs.Run.{IsRun, IsStep}
 
 pub run_more : (s : State) (events : List Event) (answers : List Taken) (sent : List (SiteNo × SiteFrame)) (t : State) (e : Event) (a : Taken) (u : State) → IsRun s events answers sent t → IsStep t e a u → IsRun s (events ++ e ∷ []) (answers ++ a ∷ []) (sent ++ u.frames) u
 run_more s [] [] sent t e a u run step =

@@ -18,9 +18,9 @@ use Rattle.cast_model.specs.declared.session.Session.{Session}
 use Rattle.cast_domain.specs.declared.shared.Shared.{Shared}
 use Rattle.cast_domain.specs.Records.{number_of, is_halted, sessions_of}
 use Rattle.cast_domain.specs.Shared.{Part, part_of, no_part, LeavesOthers}
-use Rattle.cast_domain.specs.State.{State, opening, serials}
+use Rattle.cast_history.specs.State.{State, opening, serials}
 use Rattle.cast_domain.specs.Fits.{Means, tagged, session_in}
-use Rattle.cast_domain.specs.Run.{IsRun}
+use Rattle.cast_history.specs.Run.{IsRun}
 use Rattle.cast_domain.specs.Stepped.{IsStepOf}
 use Rattle.cast_model.specs.declared.log.Fault.{Fault}
 use Rattle.cast_model.specs.declared.log.Fault.TheVariants.{NoMemory, Halted, NoDomain}

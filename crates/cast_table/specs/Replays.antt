@@ -16,8 +16,8 @@ use Rattle.cast_model.specs.declared.event.Taken.{Taken}
 use Rattle.cast_model.specs.declared.event.Taken.TheVariants.{Nothing, Refused}
 use Rattle.cast_model.specs.Events.{domain_of}
 use Rattle.cast_domain.specs.Records.{number_of, is_halted, sessions_of}
-use Rattle.cast_domain.specs.State.{State, opening, serials}
-use Rattle.cast_domain.specs.Run.{IsRun}
+use Rattle.cast_history.specs.State.{State, opening, serials}
+use Rattle.cast_history.specs.Run.{IsRun}
 use Rattle.cast_model.specs.declared.log.Fault.{Fault}
 use Rattle.cast_model.specs.declared.log.Fault.TheVariants.{NoMemory, Halted, NoDomain}
 use Rattle.cast_model.specs.declared.log.Given.{Given}

@@ -17,7 +17,7 @@ use Rattle.cast_domain.specs.declared.shared.Shared.{Shared}
 use Rattle.cast_model.specs.Events.{domain_of}
 use Rattle.cast_domain.specs.Records.{number_of, is_halted, sessions_of, IsFor}
 use Rattle.cast_domain.specs.Shared.{Part, part_of, no_part, LeavesOthers}
-use Rattle.cast_domain.specs.State.{opening}
+use Rattle.cast_history.specs.State.{opening}
 use Rattle.cast_domain.specs.Fits.{Means}
 use Rattle.cast_domain.specs.Stepped.{IsStepped}
 use Rattle.cast_model.specs.declared.log.Fault.{Fault}

@@ -4,7 +4,7 @@ use Rattle.std.proofs.lemmas.Result.{on_ok_weaker}
 use Rattle.cast_message.specs.declared.site.SiteFrame.TheVariants as frame
 use Rattle.cast_stable.specs.Ledger.{is_stable_in}
 use Rattle.cast_timer.specs.declared.key.OwedKind.TheVariants as kinds
-use Rattle.cast_domain.specs.Owing.{message_key}
+use Rattle.cast_history.specs.Owing.{message_key}
 use Rattle.cast_domain.specs.Records.{records_in}
 use Rattle.cast_domain.specs.Calls.{owe_in, send_in}
 use Rattle.cast_domain.proofs.domain.Domain.acknowledge.Goals as goal

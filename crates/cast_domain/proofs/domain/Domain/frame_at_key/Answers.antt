@@ -2,7 +2,7 @@ use Rattle.std.proofs.Common.{◌∙◌, sym, ap}
 use Rattle.std.specs.Option.{option_map}
 use Rattle.std.proofs.lemmas.Result.{IfOk-weaker}
 use Rattle.cast_message.specs.declared.site.SiteFrame.TheVariants as frame
-use Rattle.cast_domain.specs.Owing.{id_in}
+use Rattle.cast_history.specs.Owing.{id_in}
 use Rattle.cast_domain.specs.Records.{records_in}
 use Rattle.cast_domain.specs.Calls.{frame_of_kind_in, message_in}
 use Rattle.cast_domain.proofs.domain.Domain.frame_at_key.Goals as goal

@@ -1,6 +1,7 @@
-use Rattle.cast_domain.specs.State.{State}
-use Rattle.cast_domain.specs.Rest.{pass}
-use Rattle.cast_domain.specs.Fits.{Fits, IsLawful}
+use Rattle.cast_history.specs.State.{State}
+use Rattle.cast_history.specs.Rest.{pass}
+use Rattle.cast_history.specs.Lawful.{IsLawful}
+use Rattle.cast_domain.specs.Fits.{Fits}
 use Rattle.cast_domain.specs.Records.{Keeps, records_in}
 use Rattle.cast_domain.specs.Shared.{LeavesOthers}
 use Rattle.cast_types.proofs.Iterates.{Led}

@@ -1,16 +1,17 @@
 use Rattle.std.proofs.Common.{◌≡◌, ◌++◌, ◌∙◌, sym, ap, subst}
 use Rattle.cast_model.specs.declared.config.DomainConfig.{DomainConfig}
-use Rattle.cast_domain.specs.Run.{before_event}
-use Rattle.cast_domain.specs.Step.{acted}
-use Rattle.cast_domain.specs.State.{let_go}
+use Rattle.cast_history.specs.Run.{before_event}
+use Rattle.cast_history.specs.Step.{acted}
+use Rattle.cast_history.specs.State.{let_go}
 use Rattle.cast_domain.specs.Shared.{part_of}
 use Rattle.cast_model.specs.Outs.{no_outs, outs_then}
 use Rattle.cast_domain.specs.Records.{records_in, records_of}
 use Rattle.cast_domain.specs.Stepped.{step_outs}
 use Rattle.cast_domain.specs.Calls.{act_in}
-use Rattle.cast_domain.specs.Fits.{Fits, IsLawful}
-use Rattle.cast_domain.proofs.Lawful.{lawful_before, lawful_let_go}
-use Rattle.cast_domain.proofs.LawfulSteps.{lawful_acted, lawful_rests}
+use Rattle.cast_history.specs.Lawful.{IsLawful}
+use Rattle.cast_domain.specs.Fits.{Fits}
+use Rattle.cast_history.proofs.Lawful.{lawful_before, lawful_let_go}
+use Rattle.cast_history.proofs.LawfulSteps.{lawful_acted, lawful_rests}
 use Rattle.cast_domain.proofs.Events.{fits_acted, answer_acted}
 use Rattle.cast_domain.proofs.Passes.{fits_between}
 use Rattle.cast_domain.proofs.Releases.{unborn, fits_let_go}

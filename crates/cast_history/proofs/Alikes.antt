@@ -1,0 +1,115 @@
+-- What leaves a state alike.
+use Rattle.std.proofs.Common.{◌≡◌, ℕ, Bool, true, false, List, [], ◌∷◌, ◌++◌, Option, Some, None, refl, ap, ◌∙◌}
+use Rattle.std.specs.Prelude.{◌==◌, if◌then◌else◌}
+use Rattle.std.specs.List.{fold}
+use Rattle.std.proofs.lemmas.Bool.{eqb-true}
+use Rattle.cast_types.specs.declared.names.SiteNo.{SiteNo}
+use Rattle.cast_types.specs.declared.names.GroupNo.{GroupNo}
+use Rattle.cast_types.specs.declared.names.Uid.{Uid}
+use Rattle.cast_types.specs.Sets.{set_at}
+use Rattle.cast_message.specs.declared.message.Body.{Body}
+use Rattle.cast_message.specs.declared.message.Message.{Message}
+use Rattle.cast_message.specs.declared.site.SiteFrame.{SiteFrame}
+use Rattle.cast_message.specs.declared.client.Push.{Push}
+use Rattle.cast_stable.specs.Stable.{has_acked}
+use Rattle.cast_timer.specs.declared.key.OwedKey.{OwedKey}
+use Rattle.cast_timer.specs.declared.key.OwedKind.TheVariants as kinds
+use Rattle.cast_timer.specs.Owed.{is_owed, with_owed}
+use Rattle.cast_delay.specs.Ready.{Process}
+use Rattle.cast_model.specs.declared.session.Session.{Session}
+use Rattle.cast_model.specs.Session.{is_open, pushed_to}
+use Rattle.cast_history.specs.State.{State, set_session, set_process, emitted, others_of, let_go}
+use Rattle.cast_history.specs.Owing.{message_key, frame_for, sent_for, owing, next_due}
+use Rattle.cast_history.specs.Effects.{pushing, receiving, sending_to, next_message, sending}
+
+-- alike but for sessions, standings, times, and what is kept, stable, owed and sent
+pub record Alike (s : State) (t : State) : Type 0 where
+  pub here : t.here ≡ s.here
+  pub config : t.config ≡ s.config
+  pub used : t.used ≡ s.used
+  pub group : t.group ≡ s.group
+  pub home : t.home ≡ s.home
+  pub got : t.got ≡ s.got
+  pub abcasts : t.abcasts ≡ s.abcasts
+  pub delivered : (j : ℕ) → (t.process j).delivered ≡ (s.process j).delivered
+
+pub alike_self : (s : State) → Alike s s
+alike_self s = record { here = refl; config = refl; used = refl; group = refl; home = refl; got = refl; abcasts = refl; delivered = λ j. refl }
+
+pub alike_then : (s t u : State) → Alike s t → Alike t u → Alike s u
+alike_then s t u a b = record {
+  here = b.here ∙ a.here;
+  config = b.config ∙ a.config;
+  used = b.used ∙ a.used;
+  group = b.group ∙ a.group;
+  home = b.home ∙ a.home;
+  got = b.got ∙ a.got;
+  abcasts = b.abcasts ∙ a.abcasts;
+  delivered = λ j. b.delivered j ∙ a.delivered j;
+}
+
+pub alike_if : (s x y : State) (b : Bool) → Alike s x → Alike s y → Alike s (if b then x else y)
+alike_if s x y true p q = p
+alike_if s x y false p q = q
+
+pub alike_fold : {X : Type 0} (f : State → X → State) → ((s : State) (x : X) → Alike s (f s x)) → (xs : List X) (s : State) → Alike s (fold f s xs)
+alike_fold f h [] s = alike_self s
+alike_fold f h (x ∷ xs) s = alike_then s (f s x) (fold f (f s x) xs) (h s x) (alike_fold f h xs (f s x))
+
+pub alike_session : (s : State) (k : ℕ) (v : Session) → Alike s (set_session s k v)
+alike_session s k v = record { here = refl; config = refl; used = refl; group = refl; home = refl; got = refl; abcasts = refl; delivered = λ j. refl }
+
+pub alike_emitted : (s : State) (to : SiteNo) (f : SiteFrame) → Alike s (emitted s to f)
+alike_emitted s to f = record { here = refl; config = refl; used = refl; group = refl; home = refl; got = refl; abcasts = refl; delivered = λ j. refl }
+
+pub alike_pushing : (s : State) (k : ℕ) (p : Push) → Alike s (pushing s k p)
+alike_pushing s k p = alike_if s (set_session s k (pushed_to (s.session k) p)) s (is_open (s.session k)) (alike_session s k (pushed_to (s.session k) p)) (alike_self s)
+
+pub alike_let_go : (s : State) → Alike s (let_go s)
+alike_let_go s = record { here = refl; config = refl; used = refl; group = refl; home = refl; got = refl; abcasts = refl; delivered = λ j. refl }
+
+-- Messages that are sent
+
+-- the process at one place, as far as it delivered
+alike_time : (s : State) (k : ℕ) (p : Process) → p.delivered ≡ (s.process k).delivered → (j : ℕ) → (set_at (λ a b. a == b) s.process k p j).delivered ≡ (s.process j).delivered
+alike_time s k p same j =
+    elim (k == j) as (λ b. k == j ≡ b → (if b then p else s.process j).delivered ≡ (s.process j).delivered) [
+      | true ↦ λ at. same ∙ ap (λ i. (s.process i).delivered) (eqb-true k j at)
+      | false ↦ λ at. refl
+    ] refl
+
+alike_process : (s : State) (k : ℕ) (p : Process) → p.delivered ≡ (s.process k).delivered → Alike s (set_process s k p)
+alike_process s k p same = record { here = refl; config = refl; used = refl; group = refl; home = refl; got = refl; abcasts = refl; delivered = alike_time s k p same }
+
+alike_sent_for : (s : State) (key : OwedKey) → Alike s (sent_for s key)
+alike_sent_for s key = of_frame (frame_for s key)
+  where
+    of_frame : (o : Option SiteFrame) → Alike s (elim o [ Some f ↦ emitted s key.site f | None ↦ s ])
+    of_frame (Some f) = alike_emitted s key.site f
+    of_frame None = alike_self s
+
+alike_owing : (s : State) (key : OwedKey) → Alike s (owing s key)
+alike_owing s key =
+    let t : State = sent_for s key in
+    let u : State = record t { owed = with_owed s.owed key (next_due s) } in
+    alike_if s s u (is_owed s.owed key) (alike_self s)
+    (alike_then s t u (alike_sent_for s key) (record { here = refl; config = refl; used = refl; group = refl; home = refl; got = refl; abcasts = refl; delivered = λ j. refl }))
+
+alike_sending_to : (u : Uid) (s : State) (to : SiteNo) → Alike s (sending_to u s to)
+alike_sending_to u s to =
+    alike_if s (sent_for s (message_key kinds.Data u to)) (owing s (message_key kinds.Data u to)) (has_acked s.acks u to)
+    (alike_sent_for s (message_key kinds.Data u to)) (alike_owing s (message_key kinds.Data u to))
+
+-- what is received alike leaves alike
+alike_receiving : (s t : State) (m : Message) → Alike s t → Alike (receiving s m) (receiving t m)
+alike_receiving s t m a = record { here = a.here; config = a.config; used = a.used; group = a.group; home = a.home; got = ap (λ got. got ++ m ∷ []) a.got; abcasts = a.abcasts; delivered = a.delivered }
+
+-- a message that is sent is received here
+pub alike_sending : (s : State) (g : GroupNo) (k : ℕ) (content : Body) → Alike (receiving s (next_message s g k content)) (sending s g k content)
+alike_sending s g k content =
+    let m : Message = next_message s g k content in
+    let t : State = set_process s k (record (s.process k) { time = m.times }) in
+    let u : State = receiving t m in
+    alike_then (receiving s m) u (fold (sending_to m.id) u (others_of s g))
+    (alike_receiving s t m (alike_process s k (record (s.process k) { time = m.times }) refl))
+    (alike_fold (sending_to m.id) (alike_sending_to m.id) (others_of s g) u)

@@ -1,0 +1,77 @@
+-- Frames and commands that no rule uses change nothing and are answered with no frame or push.
+use Rattle.std.specs.Prelude.{◌≡◌, ℕ, [], ◌∷◌, List, refl}
+use Rattle.cast_types.specs.declared.names.GroupNo.{GroupNo}
+use Rattle.cast_types.specs.declared.refusal.Refusal.TheVariants.{NotOpen}
+use Rattle.cast_message.specs.declared.site.SiteFrame.TheVariants as frame
+use Rattle.cast_message.specs.declared.client.Request.TheVariants.{Leave}
+use Rattle.cast_message.specs.declared.client.Command.TheVariants as command
+use Rattle.cast_model.specs.declared.event.Event.{Event}
+use Rattle.cast_model.specs.declared.event.Taken.TheVariants as taken
+use Rattle.cast_history.specs.State.{State}
+use Rattle.cast_history.specs.Step.{commanded}
+use Rattle.cast_history.specs.Run.{Ran}
+use Rattle.cast_history.proofs.Words.{group, uid, alone, asks_leave, sends_bad, comes, in_second_view, then_run, pushed_after, p21}
+
+-- the frames whose rules are not there yet
+frames : List Event
+frames =
+    comes 9 (frame.Prepare (group 1) 2)
+    ∷ comes 2 (frame.Flushed (group 1) 2 [] (record { start = 0; ids = [] }) []) ∷ comes 2 (frame.Want (uid 1 2 p21 1))
+    ∷ comes 9 (frame.Forward (alone 1 2 p21 1)) ∷ comes 2 (frame.Out (group 1) 3) ∷ []
+
+unused : Ran
+unused = then_run in_second_view frames
+
+unused_pushes : pushed_after 3 unused ≡ []
+unfolding unused frames
+unused_pushes = refl
+
+unused_sent : unused.sent ≡ []
+unfolding unused frames
+unused_sent = refl
+
+-- the commands whose rules are not there yet, and bytes that are no frame: they leave each state as it is
+leave_changes_nothing : (s : State) (k tag : ℕ) (g : GroupNo) → commanded s k (command.Request (Leave tag g)) ≡ s
+leave_changes_nothing s k tag g = refl
+
+bad_changes_nothing : (s : State) (k : ℕ) → commanded s k command.Bad ≡ s
+bad_changes_nothing s k = refl
+
+-- and are not replied to
+commands : ℕ → List Event
+commands k = asks_leave k 8 1 ∷ sends_bad k ∷ []
+
+unserved : Ran
+unserved = then_run in_second_view (commands 1)
+
+unserved_answers : unserved.answers ≡ taken.Nothing ∷ taken.Nothing ∷ []
+unfolding unserved commands
+unserved_answers = refl
+
+unserved_state : unserved.state.got ≡ []
+unfolding unserved commands
+unserved_state = refl
+
+unserved_pushes : pushed_after 3 unserved ≡ []
+unfolding unserved commands
+unserved_pushes = refl
+
+unserved_sent : unserved.sent ≡ []
+unfolding unserved commands
+unserved_sent = refl
+
+-- of a serial that was never given they are refused
+unopened : Ran
+unopened = then_run in_second_view (commands 2)
+
+unopened_answers : unopened.answers ≡ taken.Refused NotOpen ∷ taken.Refused NotOpen ∷ []
+unfolding unopened commands
+unopened_answers = refl
+
+unopened_pushes : pushed_after 3 unopened ≡ []
+unfolding unopened commands
+unopened_pushes = refl
+
+unopened_sent : unopened.sent ≡ []
+unfolding unopened commands
+unopened_sent = refl

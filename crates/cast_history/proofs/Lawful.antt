@@ -1,0 +1,605 @@
+-- What holds of each history that events lead to is kept by each effect.
+use Rattle.std.proofs.Common.{◌≡◌, ℕ, zero, suc, ◌+◌, ◌<◌, ◌≤◌, Bool, true, false, cond, not, Less, Equal, Greater, List, [], ◌∷◌, ◌++◌, Contains, Option, Some, None, refl, sym, ap, subst, ◌∙◌, inl, inr, arith}
+use Rattle.std.specs.Prelude.{◌&&◌, ◌⊎◌, ◌==◌, nat_lt, nat_le, if◌then◌else◌, filter}
+use Rattle.std.specs.List.{fold, list_any, list_all, range_with_len}
+use Rattle.std.specs.Ordering.{nat_cmp, MatchOrdering}
+use Rattle.std.specs.FinMap.Entries.{is_sorted}
+use Rattle.std.proofs.lemmas.Bool.{cases_Bool, cases_eq, not-false, and_parts, or_cases, or_left, or_right, false≢true, eqb-true, ltb-true, leb-true}
+use Rattle.std.proofs.lemmas.List.Folds.{list_any-append}
+use Rattle.std.proofs.lemmas.Cmp.{ranked}
+use Rattle.std.proofs.lemmas.List.Elements.{Contains-push_cases}
+use Rattle.cast_types.specs.declared.names.SiteNo.{SiteNo}
+use Rattle.cast_types.specs.declared.names.GroupNo.{GroupNo}
+use Rattle.cast_types.specs.declared.names.Proc.{Proc}
+use Rattle.cast_types.specs.declared.names.Uid.{Uid}
+use Rattle.cast_types.specs.declared.names.Standing.{Standing}
+use Rattle.cast_types.specs.declared.names.Standing.TheVariants.{Outside, Joining, Member}
+use Rattle.cast_types.specs.declared.clock.Clock.{Clock}
+use Rattle.cast_types.specs.Names.{site_eq, group_eq, group_cmp, proc_eq, uid_eq, is_atomic}
+use Rattle.cast_types.specs.Sets.{set_at, at_order, is_among}
+use Rattle.cast_types.specs.Stamps.{ClockList}
+use Rattle.cast_types.proofs.Orders.{same_site, site_itself, same_group, group_itself, same_uid, uid_itself}
+use Rattle.cast_clock.specs.Times.{clock_of, view_of, join_clocks, join_counts, join, has_room, bumped, entering}
+use Rattle.cast_clock.proofs.Joins.{clock_of-join}
+use Rattle.cast_clock.proofs.Raised.{bump_leaves_views, enter_begins, enter_leaves}
+use Rattle.cast_message.specs.declared.message.Body.{Body}
+use Rattle.cast_message.specs.declared.message.Message.{Message}
+use Rattle.cast_message.specs.Bodies.{kind_of}
+use Rattle.cast_message.specs.declared.site.Change.{Change}
+use Rattle.cast_message.specs.declared.site.SiteFrame.{SiteFrame}
+use Rattle.cast_message.specs.declared.site.SiteFrame.TheVariants as frame
+use Rattle.cast_message.specs.declared.client.Push.{Push}
+use Rattle.cast_message.specs.declared.client.Push.TheVariants as push
+use Rattle.cast_message.specs.Membership.{Membership}
+use Rattle.cast_message.specs.Rising.{is_rising}
+use Rattle.cast_stable.specs.Stable.{has_acked}
+use Rattle.cast_timer.specs.declared.key.Owed.{Owed}
+use Rattle.cast_timer.specs.declared.key.OwedKey.{OwedKey}
+use Rattle.cast_timer.specs.declared.key.OwedKind.TheVariants as kinds
+use Rattle.cast_timer.specs.Owed.{is_owed, with_owed}
+use Rattle.cast_delay.specs.Ready.{Process, Gate, is_member, is_outside, has_delivered, past_in, group_allows, is_causally_ready}
+use Rattle.cast_delay.proofs.Delivers.{only_member}
+use Rattle.cast_delay.proofs.Means.{among_holds}
+use Rattle.cast_model.specs.declared.session.Session.{Session}
+use Rattle.cast_model.specs.Session.{is_open, pushed_to}
+use Rattle.cast_model.specs.declared.group.Group.{Group}
+use Rattle.cast_model.specs.Group.{no_group, has_view, is_at, is_current, with_request, with_view, is_taken_in}
+use Rattle.cast_model.specs.declared.home.Home.{Home}
+use Rattle.cast_model.specs.Home.{is_empty}
+use Rattle.cast_model.specs.declared.config.DomainConfig.{DomainConfig}
+use Rattle.cast_history.specs.State.{State, opening, local, serials, is_group, set_session, set_process, set_group, set_home, set_standing, emitted, others_of, gate_of, local_members, is_stable, is_free, let_go, was_given}
+use Rattle.cast_history.specs.Order.{is_ready_for}
+use Rattle.cast_history.specs.Owing.{ask_key, message_key, frame_for, sent_for, next_due, owing}
+use Rattle.cast_history.specs.Effects.{asking, requesting, pushing, receiving, sending_to, next_message, sending_message, sending, told_of, with_delivery, delivering, enters, in_view, all_in_view, push_view, completing}
+use Rattle.cast_history.specs.Run.{before_event}
+use Rattle.cast_history.specs.Lawful.{IsSpent, AreKept, IsTraced, IsLawful}
+
+-- One process in one group
+
+-- what is lawful of a process with this standing and this view in its time, in a group that is configured or not
+pub record Placed (listed : Bool) (standing : Standing) (view : ℕ) (group : Group) : Type 0 where
+  pub known : is_outside standing ≡ false → listed ≡ true
+  pub current : is_member standing ≡ true → view ≡ group.number
+  pub viewed : is_member standing ≡ true → has_view group ≡ true
+
+abbrev pub PlacedIn : State → Process → GroupNo → Type 0
+PlacedIn s p g = Placed (is_group s g) (p.standing g) (view_of p.time g) (s.group g)
+
+pub placed_of : (s : State) → IsLawful s → (k : ℕ) (g : GroupNo) → PlacedIn s (s.process k) g
+placed_of s l k g = record { known = l.known k g; current = l.current k g; viewed = l.viewed k g }
+
+-- a state with the configuration of a lawful one is lawful if each process is lawful in each group, and messages are in order
+pub lawful_from : (s t : State) → IsLawful s → t.config ≡ s.config → ((k : ℕ) (g : GroupNo) → PlacedIn t (t.process k) g) → ((m : Message) → Contains t.got m → is_sorted group_cmp m.times ≡ true) → AreKept (IsSpent t) t.got t.kept → ((g : GroupNo) → has_view (t.group g) ≡ true → is_group t g ≡ true) → IsTraced t → IsLawful t
+lawful_from s t l config placed stamped spent listed traced = record {
+  rising = subst (λ c. is_rising group_cmp c.groups ≡ true) (sym config) l.rising;
+  known = λ k g. (placed k g).known;
+  current = λ k g. (placed k g).current;
+  viewed = λ k g. (placed k g).viewed;
+  stamped = stamped;
+  spent = spent;
+  listed = listed;
+  traced = traced;
+}
+
+-- What is traced
+
+-- what was received and noted is of views that are reached still, where the same was noted and delivered lists grow
+pub traced_on : (s t : State) → t.got ≡ s.got → ((k : ℕ) → t.abcasts k ≡ s.abcasts k) → ((g : GroupNo) → (s.group g).number ≤ (t.group g).number) → ((k : ℕ) (u : Uid) → has_delivered (s.process k) u ≡ true → has_delivered (t.process k) u ≡ true) → IsTraced s → IsTraced t
+traced_on s t got noted number more l = record {
+  reached = λ m at. let before = l.reached m (subst (λ ms. Contains ms m) got at) in let up = number m.id.group in omega (arith, before, up);
+  delivered = λ k u is. more k u (l.delivered k u (sym (ap (λ ids. is_among uid_eq u ids) (noted k)) ∙ is));
+  seen = λ k u is. let before = l.seen k u (sym (ap (λ ids. is_among uid_eq u ids) (noted k)) ∙ is) in let up = number u.group in omega (arith, before, up);
+}
+
+-- What is kept
+
+-- what is spent in one sense is spent in another
+pub kept_map : (P Q : Message → Type 0) → ((m : Message) → P m → Q m) → (got kept : List Message) → AreKept P got kept → AreKept Q got kept
+kept_map P Q f [] kept all = all
+kept_map P Q f (m ∷ got) kept (inl (rest, is, more)) = inl (rest, is, kept_map P Q f got rest more)
+kept_map P Q f (m ∷ got) kept (inr (spent, more)) = inr (f m spent, kept_map P Q f got kept more)
+
+-- a message that comes is kept
+pub kept_push : (P : Message → Type 0) (got kept : List Message) (x : Message) → AreKept P got kept → AreKept P (got ++ x ∷ []) (kept ++ x ∷ [])
+kept_push P [] kept x none = inl ([], ap (λ ms. ms ++ x ∷ []) none, refl)
+kept_push P (m ∷ got) kept x (inl (rest, is, more)) = inl (rest ++ x ∷ [], ap (λ ms. ms ++ x ∷ []) is, kept_push P got rest x more)
+kept_push P (m ∷ got) kept x (inr (spent, more)) = inr (spent, kept_push P got kept x more)
+
+-- what fails a test is let go, if it is spent
+pub kept_filter : (P : Message → Type 0) (test : Message → Bool) → ((m : Message) → test m ≡ false → P m) → (got kept : List Message) → AreKept P got kept → AreKept P got (filter test kept)
+kept_filter P test gone [] kept none = ap (filter test) none
+kept_filter P test gone (m ∷ got) kept (inl (rest, is, more)) =
+    subst (λ ms. AreKept P (m ∷ got) (filter test ms)) (sym is)
+    (elim (test m) as (λ b. test m ≡ b → AreKept P (m ∷ got) (cond b (m ∷ filter test rest) (filter test rest))) [
+      | true ↦ λ _. inl (filter test rest, refl, kept_filter P test gone got rest more)
+      | false ↦ λ fails. inr (gone m fails, kept_filter P test gone got rest more)
+    ] refl)
+kept_filter P test gone (m ∷ got) kept (inr (spent, more)) = inr (spent, kept_filter P test gone got kept more)
+
+-- what is spent is spent still where groups stay, members stay out, and delivered lists grow
+pub spent_on : (s t : State) → t.used ≡ s.used → ((g : GroupNo) → (t.group g).number ≡ (s.group g).number) → ((k : ℕ) (g : GroupNo) → is_member ((t.process k).standing g) ≡ true → is_member ((s.process k).standing g) ≡ true) → ((k : ℕ) (u : Uid) → has_delivered (s.process k) u ≡ true → has_delivered (t.process k) u ≡ true) → (m : Message) → IsSpent s m → IsSpent t m
+spent_on s t used number member more m spent = record {
+  reached = subst (λ n. m.id.view ≤ n) (sym (number m.id.group)) spent.reached;
+  delivered = λ k given is here. more k m.id (spent.delivered k (ap (λ n. was_given n k) (sym used) ∙ given) (member k m.id.group is) (here ∙ number m.id.group));
+}
+
+-- serials that were given and pass one test pass another
+range_all : (p test : ℕ → Bool) (a n : ℕ) → list_all test (filter p (range_with_len a n)) ≡ true → (k : ℕ) → a ≤ k → k < a + n → p k ≡ true → test k ≡ true
+range_all p test a zero all k low high is = absurd (omega (arith, low, high))
+range_all p test a (suc n) all k low high is =
+    elim (p a) as (λ b. p a ≡ b → list_all test (cond b (a ∷ filter p (range_with_len (a + 1) n)) (filter p (range_with_len (a + 1) n))) ≡ true → test k ≡ true) [
+      | true ↦ λ _ h. let parts = and_parts (test a) (list_all test (filter p (range_with_len (a + 1) n))) h in
+          elim (cases_eq a k) [
+            | inl same ↦ subst (λ x. test x ≡ true) same parts.0
+            | inr other ↦ range_all p test (a + 1) n parts.1 k (omega (arith, low, other)) (omega (arith, high)) is
+          ]
+      | false ↦ λ out h.
+          elim (cases_eq a k) [
+            | inl same ↦ absurd (false≢true (sym out ∙ ap p same ∙ is))
+            | inr other ↦ range_all p test (a + 1) n h k (omega (arith, low, other)) (omega (arith, high)) is
+          ]
+    ] refl all
+
+-- a free message is spent
+pub free_spent : (s : State) (m : Message) → is_free s m.id ≡ true → IsSpent s m
+free_spent s m free =
+    let a = and_parts (is_current (s.group m.id.group) m.id.view) _ free in
+    let now = and_parts (has_view (s.group m.id.group)) ((s.group m.id.group).number == m.id.view) a.0 in
+    let same : (s.group m.id.group).number ≡ m.id.view = eqb-true (s.group m.id.group).number m.id.view now.1 in
+    let all = (and_parts (is_stable s m.id) (list_all (λ k. has_delivered (s.process k) m.id) (local_members s m.id.group)) a.1).1 in
+    record {
+      reached = omega (arith, same);
+      delivered = λ k given is _.
+          let in_range = and_parts (nat_lt 0 k) (nat_le k s.used) given in
+          let low = ltb-true 0 k in_range.0 in
+          let high = leb-true k s.used in_range.1 in
+          range_all (λ j. is_member ((s.process j).standing m.id.group)) (λ j. has_delivered (s.process j) m.id) 1 s.used all k (omega (arith, low)) (omega (arith, high)) is;
+    }
+
+-- What changes nothing of this
+
+-- alike in all that is lawful or not
+pub record SameLaw (s : State) (t : State) : Type 0 where
+  pub config : t.config ≡ s.config
+  pub used : t.used ≡ s.used
+  pub got : t.got ≡ s.got
+  pub kept : t.kept ≡ s.kept
+  pub delivered : (k : ℕ) → (t.process k).delivered ≡ (s.process k).delivered
+  pub abcasts : (k : ℕ) → t.abcasts k ≡ s.abcasts k
+  pub standing : (k : ℕ) (g : GroupNo) → (t.process k).standing g ≡ (s.process k).standing g
+  pub view_in : (k : ℕ) (g : GroupNo) → view_of (t.process k).time g ≡ view_of (s.process k).time g
+  pub number : (g : GroupNo) → (t.group g).number ≡ (s.group g).number
+  pub view : (g : GroupNo) → (t.group g).view ≡ (s.group g).view
+
+seen_view : (a b : Group) → a.view ≡ b.view → has_view a ≡ has_view b
+seen_view a b e = ap (λ v. has_view (record no_group { view = v })) e
+
+pub lawful_same : (s t : State) → SameLaw s t → IsLawful s → IsLawful t
+lawful_same s t a l = lawful_from s t l a.config
+    (λ k g. record {
+      known = λ h. ap (λ c. is_among group_eq g c.groups) a.config ∙ l.known k g (sym (ap is_outside (a.standing k g)) ∙ h);
+      current = λ h. a.view_in k g ∙ l.current k g (sym (ap is_member (a.standing k g)) ∙ h) ∙ sym (a.number g);
+      viewed = λ h. seen_view (t.group g) (s.group g) (a.view g) ∙ l.viewed k g (sym (ap is_member (a.standing k g)) ∙ h);
+    })
+    (λ m at. l.stamped m (subst (λ got. Contains got m) a.got at))
+    (subst (λ got. AreKept (IsSpent t) got t.kept) (sym a.got)
+    (subst (AreKept (IsSpent t) s.got) (sym a.kept)
+    (kept_map (IsSpent s) (IsSpent t)
+    (spent_on s t a.used a.number (λ k g is. ap is_member (sym (a.standing k g)) ∙ is) (λ k u is. ap (λ ids. is_among uid_eq u ids) (a.delivered k) ∙ is))
+    s.got s.kept l.spent)))
+    (λ g seen. ap (λ c. is_among group_eq g c.groups) a.config ∙ l.listed g (sym (seen_view (t.group g) (s.group g) (a.view g)) ∙ seen))
+    (traced_on s t a.got a.abcasts (λ g. let same = a.number g in omega (arith, same)) (λ k u is. ap (λ ids. is_among uid_eq u ids) (a.delivered k) ∙ is) l.traced)
+
+pub same_self : (s : State) → SameLaw s s
+same_self s = record { config = refl; used = refl; got = refl; kept = refl; delivered = λ k. refl; abcasts = λ k. refl; standing = λ k g. refl; view_in = λ k g. refl; number = λ g. refl; view = λ g. refl }
+
+pub same_then : (s t u : State) → SameLaw s t → SameLaw t u → SameLaw s u
+same_then s t u a b = record {
+  config = b.config ∙ a.config;
+  used = b.used ∙ a.used;
+  got = b.got ∙ a.got;
+  kept = b.kept ∙ a.kept;
+  delivered = λ k. b.delivered k ∙ a.delivered k;
+  abcasts = λ k. b.abcasts k ∙ a.abcasts k;
+  standing = λ k g. b.standing k g ∙ a.standing k g;
+  view_in = λ k g. b.view_in k g ∙ a.view_in k g;
+  number = λ g. b.number g ∙ a.number g;
+  view = λ g. b.view g ∙ a.view g;
+}
+
+pub same_if : (s x y : State) (b : Bool) → SameLaw s x → SameLaw s y → SameLaw s (if b then x else y)
+same_if s x y true p q = p
+same_if s x y false p q = q
+
+pub same_fold : {X : Type 0} (f : State → X → State) → ((s : State) (x : X) → SameLaw s (f s x)) → (xs : List X) (s : State) → SameLaw s (fold f s xs)
+same_fold f h [] s = same_self s
+same_fold f h (x ∷ xs) s = same_then s (f s x) (fold f (f s x) xs) (h s x) (same_fold f h xs (f s x))
+
+pub same_session : (s : State) (k : ℕ) (v : Session) → SameLaw s (set_session s k v)
+same_session s k v = record { config = refl; used = refl; got = refl; kept = refl; delivered = λ k. refl; abcasts = λ k. refl; standing = λ k g. refl; view_in = λ k g. refl; number = λ g. refl; view = λ g. refl }
+
+pub same_home : (s : State) (g : GroupNo) (v : Home) → SameLaw s (set_home s g v)
+same_home s g v = record { config = refl; used = refl; got = refl; kept = refl; delivered = λ k. refl; abcasts = λ k. refl; standing = λ k g. refl; view_in = λ k g. refl; number = λ g. refl; view = λ g. refl }
+
+pub same_emitted : (s : State) (to : SiteNo) (f : SiteFrame) → SameLaw s (emitted s to f)
+same_emitted s to f = record { config = refl; used = refl; got = refl; kept = refl; delivered = λ k. refl; abcasts = λ k. refl; standing = λ k g. refl; view_in = λ k g. refl; number = λ g. refl; view = λ g. refl }
+
+pub same_pushing : (s : State) (k : ℕ) (p : Push) → SameLaw s (pushing s k p)
+same_pushing s k p = same_if s (set_session s k (pushed_to (s.session k) p)) s (is_open (s.session k)) (same_session s k (pushed_to (s.session k) p)) (same_self s)
+
+-- a group that keeps its number and its view
+pub same_group_set : (s : State) (g : GroupNo) (v : Group) → v.number ≡ (s.group g).number → v.view ≡ (s.group g).view → SameLaw s (set_group s g v)
+same_group_set s g v number view = record {
+  config = refl;
+  used = refl;
+  got = refl;
+  kept = refl;
+  delivered = λ k. refl;
+  abcasts = λ k. refl;
+  standing = λ k h. refl;
+  view_in = λ k h. refl;
+  number = λ h. elim (group_eq g h) as (λ b. group_eq g h ≡ b → (if b then v else s.group h).number ≡ (s.group h).number) [
+    | true ↦ λ is. subst (λ x. v.number ≡ (s.group x).number) (same_group g h is) number
+    | false ↦ λ is. refl
+  ] refl;
+  view = λ h. elim (group_eq g h) as (λ b. group_eq g h ≡ b → (if b then v else s.group h).view ≡ (s.group h).view) [
+    | true ↦ λ is. subst (λ x. v.view ≡ (s.group x).view) (same_group g h is) view
+    | false ↦ λ is. refl
+  ] refl;
+}
+
+pub same_owed : (s : State) (owed : List Owed) → SameLaw s (record s { owed = owed })
+same_owed s owed = record { config = refl; used = refl; got = refl; kept = refl; delivered = λ k. refl; abcasts = λ k. refl; standing = λ k g. refl; view_in = λ k g. refl; number = λ g. refl; view = λ g. refl }
+
+pub same_sent_for : (s : State) (key : OwedKey) → SameLaw s (sent_for s key)
+same_sent_for s key = elim (frame_for s key) as (λ o. SameLaw s (elim o [ Some f ↦ emitted s key.site f | None ↦ s ])) [
+  | Some f ↦ same_emitted s key.site f
+  | None ↦ same_self s
+]
+
+pub same_owing : (s : State) (key : OwedKey) → SameLaw s (owing s key)
+same_owing s key =
+    let sent : State = sent_for s key in
+    same_if s s (record sent { owed = with_owed s.owed key (next_due s) }) (is_owed s.owed key) (same_self s)
+    (same_then s sent (record sent { owed = with_owed s.owed key (next_due s) }) (same_sent_for s key) (same_owed sent (with_owed s.owed key (next_due s))))
+
+pub same_asking : (s : State) (g : GroupNo) → SameLaw s (asking s g)
+same_asking s g = same_if s s (owing s (ask_key g s.config.home)) (is_empty (s.group g).requests) (same_self s) (same_owing s (ask_key g s.config.home))
+
+pub same_requesting : (s : State) (g : GroupNo) (what : Change) (p : Proc) → SameLaw s (requesting s g what p)
+same_requesting s g what p =
+    let next : State = set_group s g (with_request (s.group g) what p) in
+    let a : SameLaw s next = same_group_set s g (with_request (s.group g) what p) refl refl in
+    same_if s (asking next g) next (is_empty (s.group g).requests) (same_then s next (asking next g) a (same_asking next g)) a
+
+pub lawful_pushing : (s : State) (k : ℕ) (p : Push) → IsLawful s → IsLawful (pushing s k p)
+lawful_pushing s k p l = lawful_same s (pushing s k p) (same_pushing s k p) l
+
+pub lawful_emitted : (s : State) (to : SiteNo) (f : SiteFrame) → IsLawful s → IsLawful (emitted s to f)
+lawful_emitted s to f l = lawful_same s (emitted s to f) (same_emitted s to f) l
+
+pub lawful_requesting : (s : State) (g : GroupNo) (what : Change) (p : Proc) → IsLawful s → IsLawful (requesting s g what p)
+lawful_requesting s g what p l = lawful_same s (requesting s g what p) (same_requesting s g what p) l
+
+-- Combinations
+
+pub lawful_if : (x y : State) (b : Bool) → (b ≡ true → IsLawful x) → (b ≡ false → IsLawful y) → IsLawful (if b then x else y)
+lawful_if x y true p q = p refl
+lawful_if x y false p q = q refl
+
+pub lawful_fold : {X : Type 0} (f : State → X → State) → ((s : State) (x : X) → IsLawful s → IsLawful (f s x)) → (xs : List X) (s : State) → IsLawful s → IsLawful (fold f s xs)
+lawful_fold f h [] s l = l
+lawful_fold f h (x ∷ xs) s l = lawful_fold f h xs (f s x) (h s x l)
+
+-- The first state, and the beginning of an event
+
+pub lawful_opening : (here : SiteNo) (config : DomainConfig) → is_rising group_cmp config.groups ≡ true → IsLawful (opening here config)
+lawful_opening here config rising = record {
+  rising = rising;
+  known = λ k g h. absurd (false≢true (sym h));
+  current = λ k g h. absurd (false≢true h);
+  viewed = λ k g h. absurd (false≢true h);
+  stamped = λ m at. let inside = at.1 in absurd (omega arith);
+  spent = refl;
+  listed = λ g seen. absurd (false≢true seen);
+  traced = record { reached = λ m at. let inside = at.1 in absurd (omega arith); delivered = λ k u is. absurd (false≢true is); seen = λ k u is. absurd (false≢true is) };
+}
+
+pub lawful_before : (s : State) → IsLawful s → IsLawful (before_event s)
+lawful_before s l = record {
+  rising = l.rising;
+  known = l.known;
+  current = l.current;
+  viewed = l.viewed;
+  stamped = l.stamped;
+  spent = kept_map (IsSpent s) (IsSpent (before_event s)) (λ m h. record { reached = h.reached; delivered = h.delivered }) s.got s.kept l.spent;
+  listed = l.listed;
+  traced = record { reached = l.traced.reached; delivered = l.traced.delivered; seen = l.traced.seen };
+}
+
+pub lawful_after : (s : State) → IsLawful (before_event s) → IsLawful s
+lawful_after s l = record {
+  rising = l.rising;
+  known = l.known;
+  current = l.current;
+  viewed = l.viewed;
+  stamped = l.stamped;
+  spent = kept_map (IsSpent (before_event s)) (IsSpent s) (λ m h. record { reached = h.reached; delivered = h.delivered }) s.got s.kept l.spent;
+  listed = l.listed;
+  traced = record { reached = l.traced.reached; delivered = l.traced.delivered; seen = l.traced.seen };
+}
+
+-- One process
+
+-- one process changes, becomes a member of no group, and delivered what it delivered
+pub lawful_process : (s : State) (k : ℕ) (v : Process) → IsLawful s → ((g : GroupNo) → PlacedIn s v g) → ((g : GroupNo) → is_member (v.standing g) ≡ true → is_member ((s.process k).standing g) ≡ true) → ((u : Uid) → has_delivered (s.process k) u ≡ true → has_delivered v u ≡ true) → IsLawful (set_process s k v)
+lawful_process s k v l placed member more = lawful_from s (set_process s k v) l refl
+    (λ j g. elim (k == j) as (λ b. PlacedIn s (if b then v else s.process j) g) [ true ↦ placed g | false ↦ placed_of s l j g ])
+    l.stamped
+    (kept_map (IsSpent s) (IsSpent (set_process s k v)) (spent_on s (set_process s k v) refl (λ g. refl) members grown) s.got s.kept l.spent)
+    l.listed
+    (traced_on s (set_process s k v) refl (λ j. refl) (λ g. omega arith) grown l.traced)
+  where
+    members : (j : ℕ) (g : GroupNo) → is_member ((if k == j then v else s.process j).standing g) ≡ true → is_member ((s.process j).standing g) ≡ true
+    members j g = elim (k == j) as (λ b. k == j ≡ b → is_member ((if b then v else s.process j).standing g) ≡ true → is_member ((s.process j).standing g) ≡ true) [
+      | true ↦ λ same is. ap (λ i. is_member ((s.process i).standing g)) (sym (eqb-true k j same)) ∙ member g is
+      | false ↦ λ _ is. is
+    ] refl
+
+    grown : (j : ℕ) (u : Uid) → has_delivered (s.process j) u ≡ true → has_delivered (if k == j then v else s.process j) u ≡ true
+    grown j u = elim (k == j) as (λ b. k == j ≡ b → has_delivered (s.process j) u ≡ true → has_delivered (if b then v else s.process j) u ≡ true) [
+      | true ↦ λ same is. more u (ap (λ i. has_delivered (s.process i) u) (eqb-true k j same) ∙ is)
+      | false ↦ λ _ is. is
+    ] refl
+
+-- a process begins to join a configured group
+pub lawful_standing : (s : State) (k : ℕ) (g : GroupNo) (request heard : ℕ) → IsLawful s → is_group s g ≡ true → IsLawful (set_standing s k g (Joining request heard))
+lawful_standing s k g request heard l listed = lawful_process s k (record (s.process k) { standing = set_at group_eq (s.process k).standing g (Joining request heard) }) l
+    (λ h. elim (group_eq g h) as (λ b. group_eq g h ≡ b → Placed (is_group s h) (if b then Joining request heard else (s.process k).standing h) (view_of (s.process k).time h) (s.group h)) [
+      | true ↦ λ is. record {
+        known = λ _. subst (λ x. is_group s x ≡ true) (same_group g h is) listed;
+        current = λ no_member. absurd (false≢true no_member);
+        viewed = λ no_member. absurd (false≢true no_member);
+      }
+      | false ↦ λ _. placed_of s l k h
+    ] refl)
+    (λ h. elim (group_eq g h) as (λ b. is_member (if b then Joining request heard else (s.process k).standing h) ≡ true → is_member ((s.process k).standing h) ≡ true) [
+      | true ↦ λ no_member. absurd (false≢true no_member)
+      | false ↦ λ is. is
+    ])
+    (λ u is. is)
+
+-- Messages
+
+pub lawful_receiving : (s : State) (m : Message) → IsLawful s → is_sorted group_cmp m.times ≡ true → m.id.view ≤ (s.group m.id.group).number → IsLawful (receiving s m)
+lawful_receiving s m l sorted reached = lawful_from s (receiving s m) l refl (placed_of s l)
+    (λ x at. elim (Contains-push_cases s.got m x at) [
+      | inl before ↦ l.stamped x before
+      | inr last ↦ subst (λ y. is_sorted group_cmp y.times ≡ true) last sorted
+    ])
+    (kept_push (IsSpent (receiving s m)) s.got s.kept m (kept_map (IsSpent s) (IsSpent (receiving s m)) (λ x h. record { reached = h.reached; delivered = h.delivered }) s.got s.kept l.spent))
+    l.listed
+    (record {
+      reached = λ x at. elim (Contains-push_cases s.got m x at) [
+        | inl before ↦ l.traced.reached x before
+        | inr last ↦ subst (λ y. y.id.view ≤ (s.group y.id.group).number) last reached
+      ];
+      delivered = l.traced.delivered;
+      seen = l.traced.seen;
+    })
+
+-- what is free is let go
+pub lawful_let_go : (s : State) → IsLawful s → IsLawful (let_go s)
+lawful_let_go s l = lawful_from s (let_go s) l refl (placed_of s l) l.stamped
+    (kept_map (IsSpent s) (IsSpent (let_go s)) (λ x h. record { reached = h.reached; delivered = h.delivered }) s.got (let_go s).kept
+    (kept_filter (IsSpent s) (λ m. not (is_free s m.id)) (λ m fails. free_spent s m (not-false (is_free s m.id) fails)) s.got s.kept l.spent))
+    l.listed
+    (record { reached = l.traced.reached; delivered = l.traced.delivered; seen = l.traced.seen })
+
+pub same_sending_to : (u : Uid) (s : State) (to : SiteNo) → SameLaw s (sending_to u s to)
+same_sending_to u s to = same_if s (sent_for s (message_key kinds.Data u to)) (owing s (message_key kinds.Data u to)) (has_acked s.acks u to) (same_sent_for s (message_key kinds.Data u to)) (same_owing s (message_key kinds.Data u to))
+
+-- a process sends a message whose time has the views of its own
+pub lawful_sending_message : (s : State) (k : ℕ) (m : Message) → IsLawful s → ((g : GroupNo) → view_of m.times g ≡ view_of (s.process k).time g) → is_sorted group_cmp m.times ≡ true → m.id.view ≤ (s.group m.id.group).number → IsLawful (sending_message s k m)
+lawful_sending_message s k m l views sorted reached =
+    let now : State = set_process s k (record (s.process k) { time = m.times }) in
+    let same : IsLawful now = lawful_process s k (record (s.process k) { time = m.times }) l
+    (λ g. record { known = l.known k g; current = λ h. views g ∙ l.current k g h; viewed = l.viewed k g }) (λ g is. is) (λ u is. is) in
+    lawful_fold (sending_to m.id) (λ t to. lawful_same t (sending_to m.id t to) (same_sending_to m.id t to)) (others_of s m.id.group) (receiving now m) (lawful_receiving now m same sorted reached)
+
+pub lawful_sending : (s : State) (g : GroupNo) (k : ℕ) (content : Body) → IsLawful s → is_sorted group_cmp (bumped (s.process k).time g (local s k)) ≡ true → IsLawful (sending s g k content)
+lawful_sending s g k content l sorted = lawful_sending_message s k (next_message s g k content) l (λ h. bump_leaves_views (s.process k).time g h (local s k)) sorted (omega arith)
+
+-- the join with a time whose view is not later has the view
+joined_view : (a b : Clock) → b.view ≤ a.view → (join_clocks a b).view ≡ a.view
+joined_view a b older =
+    elim (nat_cmp a.view b.view) as (λ o. MatchOrdering o (a.view < b.view) (a.view ≡ b.view) (b.view < a.view) → (at_order o b (record { view = a.view; counts = join_counts a.counts b.counts }) a).view ≡ a.view) [
+      | Less ↦ λ later. absurd (omega arith)
+      | Equal ↦ λ _. refl
+      | Greater ↦ λ _. refl
+    ] (ranked a.view b.view (nat_cmp a.view b.view) refl)
+
+join_view : (s t : ClockList) (g : GroupNo) → is_sorted group_cmp t ≡ true → view_of t g ≤ view_of s g → view_of (join s t) g ≡ view_of s g
+join_view s t g sorted older = ap (λ (c : Clock). c.view) (clock_of-join s t g sorted) ∙ joined_view (clock_of s g) (clock_of t g) older
+
+-- a member's group allows no message of a later view
+allowed_view : (x : Standing) (p : Process) (gate : Gate) (m : Message) (g : GroupNo) → is_member x ≡ true → group_allows x p gate m g ≡ true → view_of m.times g ≤ gate.number
+allowed_view Outside p gate m g member allows = absurd (false≢true member)
+allowed_view (Joining request heard) p gate m g member allows = absurd (false≢true member)
+allowed_view Member p gate m g member allows =
+    elim (or_cases (nat_lt (view_of m.times g) gate.number) ((view_of m.times g == gate.number) && list_all (has_delivered p) (past_in m g)) allows) [
+      | inl older ↦ let less = ltb-true (view_of m.times g) gate.number older in omega arith
+      | inr here ↦ let same = eqb-true (view_of m.times g) gate.number (and_parts (view_of m.times g == gate.number) (list_all (has_delivered p) (past_in m g)) here).0 in omega arith
+    ]
+
+-- each configured group allows what is ready
+ready_allows : (s : State) (k : ℕ) (m : Message) → is_ready_for s k m ≡ true → list_all (λ h. group_allows ((s.process k).standing h) (s.process k) (gate_of s h) m h) s.config.groups ≡ true
+ready_allows s k m ready =
+    let a = and_parts (is_causally_ready s.config.groups (gate_of s) (s.process k) m) _ ready in
+    let b = and_parts (is_member ((s.process k).standing m.id.group)) _ a.0 in
+    let c = and_parts (m.id.view == (gate_of s m.id.group).number) _ b.1 in
+    let d = and_parts _ _ c.1 in
+    (and_parts (list_all (λ h. group_allows ((s.process k).standing h) (s.process k) (gate_of s h) m h) s.config.groups) (has_room (join (s.process k).time m.times)) d.1).0
+
+-- a member that takes what is ready stays in its view
+delivered_view : (s : State) (k : ℕ) (m : Message) → IsLawful s → Contains s.got m → is_ready_for s k m ≡ true → (g : GroupNo) → is_member ((s.process k).standing g) ≡ true → view_of (join (s.process k).time m.times) g ≡ (s.group g).number
+delivered_view s k m l at ready g member =
+    let p : Process = s.process k in
+    let inside : is_outside (p.standing g) ≡ false = ap is_outside (only_member (p.standing g) member) in
+    let allows = among_holds (λ h. group_allows (p.standing h) p (gate_of s h) m h) s.config.groups g (ready_allows s k m ready) (l.known k g inside) in
+    let most : view_of m.times g ≤ (s.group g).number = allowed_view (p.standing g) p (gate_of s g) m g member allows in
+    let own : view_of p.time g ≡ (s.group g).number = l.current k g member in
+    join_view p.time m.times g (l.stamped m at) (subst (λ n. view_of m.times g ≤ n) (sym own) most) ∙ own
+
+-- what a program is told changes nothing of this
+lawful_told : (s : State) (k : ℕ) (m : Message) (o : Option Push) → IsLawful (with_delivery s k m) → IsLawful (elim o [ Some p ↦ pushing (with_delivery s k m) k p | None ↦ with_delivery s k m ])
+lawful_told s k m (Some p) l = lawful_pushing (with_delivery s k m) k p l
+lawful_told s k m None l = l
+
+-- an ABCAST that is delivered is noted
+traced_delivery : (s : State) (k : ℕ) (m : Message) → IsLawful s → IsLawful (set_process s k (record (s.process k) { time = join (s.process k).time m.times; delivered = (s.process k).delivered ++ m.id ∷ [] })) → Contains s.got m → IsTraced (with_delivery s k m)
+traced_delivery s k m l taken at = record {
+  reached = l.traced.reached;
+  delivered = λ j u is. elim (noted (is_atomic (kind_of m.body)) j u is) [ inl before ↦ taken.traced.delivered j u before | inr last ↦ now_delivered j u last.0 last.1 ];
+  seen = λ j u is. elim (noted (is_atomic (kind_of m.body)) j u is) [ inl before ↦ l.traced.seen j u before | inr last ↦ subst (λ x. x.view ≤ (s.group x.group).number) (sym last.1) (l.traced.reached m at) ];
+}
+  where
+    only_one : (u : Uid) → is_among uid_eq u (m.id ∷ []) ≡ true → uid_eq u m.id ≡ true
+    only_one u is = elim (or_cases (uid_eq u m.id) false is) [ inl this ↦ this | inr none ↦ absurd (false≢true none) ]
+
+    -- what is noted was noted, or is the message
+    pushed : (j : ℕ) (u : Uid) (b : Bool) → k == j ≡ b → is_among uid_eq u (if b then s.abcasts k ++ m.id ∷ [] else s.abcasts j) ≡ true → (is_among uid_eq u (s.abcasts j) ≡ true) ⊎ ((k == j ≡ true) × (u ≡ m.id))
+    pushed j u false other is = inl is
+    pushed j u true same is =
+        elim (or_cases (is_among uid_eq u (s.abcasts k)) (is_among uid_eq u (m.id ∷ [])) (sym (list_any-append (uid_eq u) (s.abcasts k) (m.id ∷ [])) ∙ is)) [
+          | inl before ↦ inl (ap (λ i. is_among uid_eq u (s.abcasts i)) (sym (eqb-true k j same)) ∙ before)
+          | inr last ↦ inr (same, same_uid u m.id (only_one u last))
+        ]
+
+    noted : (b : Bool) (j : ℕ) (u : Uid) → is_among uid_eq u ((if b then set_at (λ x y. x == y) s.abcasts k (s.abcasts k ++ m.id ∷ []) else s.abcasts) j) ≡ true → (is_among uid_eq u (s.abcasts j) ≡ true) ⊎ ((k == j ≡ true) × (u ≡ m.id))
+    noted false j u is = inl is
+    noted true j u is = pushed j u (k == j) refl is
+
+    now_delivered : (j : ℕ) (u : Uid) → k == j ≡ true → u ≡ m.id → has_delivered ((with_delivery s k m).process j) u ≡ true
+    now_delivered j u same is =
+        let v : Process = record (s.process k) { time = join (s.process k).time m.times; delivered = (s.process k).delivered ++ m.id ∷ [] } in
+        ap (λ b. has_delivered (if b then v else s.process j) u) same
+        ∙ list_any-append (uid_eq u) (s.process k).delivered (m.id ∷ [])
+        ∙ or_right (is_among uid_eq u (s.process k).delivered) (is_among uid_eq u (m.id ∷ [])) (or_left (uid_eq u m.id) false (ap (uid_eq u) (sym is) ∙ uid_itself u))
+
+pub lawful_delivering : (s : State) (k : ℕ) (m : Message) → IsLawful s → Contains s.got m → is_ready_for s k m ≡ true → IsLawful (delivering s k m)
+lawful_delivering s k m l at ready =
+    let p : Process = s.process k in
+    let v : Process = record p { time = join p.time m.times; delivered = p.delivered ++ m.id ∷ [] } in
+    let set : State = set_process s k v in
+    let now : State = with_delivery s k m in
+    let taken : IsLawful set = lawful_process s k v l (λ g. record { known = l.known k g; current = delivered_view s k m l at ready g; viewed = l.viewed k g }) (λ g is. is) (λ u is. list_any-append (uid_eq u) p.delivered (m.id ∷ []) ∙ or_left _ _ is) in
+    lawful_told s k m (told_of m.id m.body)
+    (lawful_from set now taken refl (placed_of set taken) taken.stamped
+    (kept_map (IsSpent set) (IsSpent now) (λ x h. record { reached = h.reached; delivered = h.delivered }) s.got s.kept taken.spent)
+    taken.listed
+    (traced_delivery s k m l taken at))
+
+-- Views
+
+-- a view that names a process of this site is kept here
+named_here : (here : SiteNo) (k : ℕ) (procs : List Proc) → is_among proc_eq (record { site = here; serial = k }) procs ≡ true → list_any (is_at here) procs ≡ true
+named_here here k [] named = absurd (false≢true named)
+named_here here k (p ∷ procs) named =
+    elim (or_cases (site_eq here p.site && (k == p.serial)) (is_among proc_eq (record { site = here; serial = k }) procs) named) [
+      | inl first ↦ or_left (is_at here p) (list_any (is_at here) procs) (subst (λ x. site_eq x here ≡ true) (same_site here p.site (and_parts (site_eq here p.site) (k == p.serial) first).0) (site_itself here))
+      | inr later ↦ or_right (is_at here p) (list_any (is_at here) procs) (named_here here k procs later)
+    ]
+
+seen_here : (here : SiteNo) (n : ℕ) (members : Membership) (group : Group) → list_any (is_at here) members.list ≡ true → has_view (with_view here n members group) ≡ true
+seen_here here n members group at = ap (λ b. has_view (record no_group { view = if b then Some members else None })) at
+
+-- a process that is in the new view of a group
+placed_new : (s : State) (g : GroupNo) (n : ℕ) (members : Membership) (k : ℕ) → IsLawful s → is_group s g ≡ true → is_among proc_eq (local s k) members.list ≡ true → (h : GroupNo) → PlacedIn (set_group s g (with_view s.here n members (s.group g))) (in_view g n (s.process k)) h
+placed_new s g n members k l listed named h =
+    let t = (s.process k).time in
+    elim (group_eq g h) as (λ b. group_eq g h ≡ b → Placed (is_group s h) (if b then Member else (s.process k).standing h) (view_of (entering t g n) h) (if b then with_view s.here n members (s.group g) else s.group h)) [
+      | true ↦ λ is. let same : g ≡ h = same_group g h is in record {
+        known = λ _. subst (λ x. is_group s x ≡ true) same listed;
+        current = λ _. subst (λ x. view_of (entering t g n) x ≡ n) same (ap (λ (c : Clock). c.view) (enter_begins t g n));
+        viewed = λ _. seen_here s.here n members (s.group g) (named_here s.here k members.list named);
+      }
+      | false ↦ λ other. record {
+        known = l.known k h;
+        current = λ member. ap (λ (c : Clock). c.view) (enter_leaves t g h n (λ e. false≢true (sym other ∙ subst (λ x. group_eq g x ≡ true) (sym e) (group_itself g)))) ∙ l.current k h member;
+        viewed = l.viewed k h;
+      }
+    ] refl
+
+-- one that is not: it is no member of a group without a view
+placed_old : (s : State) (g : GroupNo) (n : ℕ) (members : Membership) (k : ℕ) → IsLawful s → has_view (s.group g) ≡ false → (h : GroupNo) → PlacedIn (set_group s g (with_view s.here n members (s.group g))) (s.process k) h
+placed_old s g n members k l none h =
+    elim (group_eq g h) as (λ b. group_eq g h ≡ b → Placed (is_group s h) ((s.process k).standing h) (view_of (s.process k).time h) (if b then with_view s.here n members (s.group g) else s.group h)) [
+      | true ↦ λ is.
+          let no_view : has_view (s.group h) ≡ false = subst (λ x. has_view (s.group x) ≡ false) (same_group g h is) none in record {
+            known = l.known k h;
+            current = λ member. absurd (false≢true (sym no_view ∙ l.viewed k h member));
+            viewed = λ member. absurd (false≢true (sym no_view ∙ l.viewed k h member));
+          }
+      | false ↦ λ _. placed_of s l k h
+    ] refl
+
+pub lawful_all_in_view : (s : State) (g : GroupNo) (n : ℕ) (members : Membership) (request : ℕ) → IsLawful s → is_group s g ≡ true → has_view (s.group g) ≡ false → (s.group g).number < n → IsLawful (all_in_view (set_group s g (with_view s.here n members (s.group g))) g n members request)
+lawful_all_in_view s g n members request l listed none later =
+    let now : State = set_group s g (with_view s.here n members (s.group g)) in
+    lawful_from s (all_in_view now g n members request) l refl
+    (λ k h. elim (enters now g members request k) as (λ b. enters now g members request k ≡ b → PlacedIn now (if b then in_view g n (s.process k) else s.process k) h) [
+      | true ↦ λ in_it. placed_new s g n members k l listed (and_parts (is_taken_in request ((s.process k).standing g)) (is_among proc_eq (local s k) members.list) in_it).1 h
+      | false ↦ λ _. placed_old s g n members k l none h
+    ] refl)
+    l.stamped
+    (kept_map (IsSpent s) (IsSpent (all_in_view now g n members request)) spent_now s.got s.kept l.spent)
+    (λ h. elim (group_eq g h) as (λ b. group_eq g h ≡ b → has_view (if b then with_view s.here n members (s.group g) else s.group h) ≡ true → is_group s h ≡ true) [
+      | true ↦ λ is _. subst (λ x. is_group s x ≡ true) (same_group g h is) listed
+      | false ↦ λ _ seen. l.listed h seen
+    ] refl)
+    (traced_on s (all_in_view now g n members request) refl (λ k. refl) risen
+    (λ k u is. elim (enters now g members request k) as (λ b. has_delivered (if b then in_view g n (s.process k) else s.process k) u ≡ true) [ true ↦ is | false ↦ is ])
+    l.traced)
+  where
+    risen : (h : GroupNo) → (s.group h).number ≤ ((set_group s g (with_view s.here n members (s.group g))).group h).number
+    risen h = elim (group_eq g h) as (λ b. group_eq g h ≡ b → (s.group h).number ≤ (if b then with_view s.here n members (s.group g) else s.group h).number) [
+      | true ↦ λ is. subst (λ x. (s.group x).number ≤ n) (same_group g h is) (omega (arith, later))
+      | false ↦ λ _. omega arith
+    ] refl
+
+    -- the group's view is another now, and in the other groups each process is what it was
+    spent_now : (m : Message) → IsSpent s m → IsSpent (all_in_view (set_group s g (with_view s.here n members (s.group g))) g n members request) m
+    spent_now m spent =
+        let w : Group = with_view s.here n members (s.group g) in
+        elim (cases_Bool (group_eq g m.id.group)) [
+          | inl same ↦
+              let number : (if group_eq g m.id.group then w else s.group m.id.group).number ≡ n = ap (λ b. (if b then w else s.group m.id.group).number) same in
+              let before : m.id.view ≤ (s.group g).number = subst (λ h. m.id.view ≤ (s.group h).number) (sym (same_group g m.id.group same)) spent.reached in
+              record {
+                reached = omega (arith, before, number, later);
+                delivered = λ k given is here. absurd (omega (arith, before, here, number, later));
+              }
+          | inr other ↦
+              let number : (if group_eq g m.id.group then w else s.group m.id.group).number ≡ (s.group m.id.group).number = ap (λ b. (if b then w else s.group m.id.group).number) other in
+              record {
+                reached = subst (λ x. m.id.view ≤ x) (sym number) spent.reached;
+                delivered = λ k given is here. still_delivered other spent k given is (here ∙ number);
+              }
+        ]
+      where
+        still_delivered : group_eq g m.id.group ≡ false → IsSpent s m → (k : ℕ) → was_given s.used k ≡ true → is_member (((all_in_view (set_group s g (with_view s.here n members (s.group g))) g n members request).process k).standing m.id.group) ≡ true → m.id.view ≡ (s.group m.id.group).number → has_delivered ((all_in_view (set_group s g (with_view s.here n members (s.group g))) g n members request).process k) m.id ≡ true
+        still_delivered other spent k given =
+            elim (enters (set_group s g (with_view s.here n members (s.group g))) g members request k) as (λ b. is_member ((if b then in_view g n (s.process k) else s.process k).standing m.id.group) ≡ true → m.id.view ≡ (s.group m.id.group).number → has_delivered (if b then in_view g n (s.process k) else s.process k) m.id ≡ true) [
+              | true ↦ λ is here. spent.delivered k given (ap (λ c. is_member (if c then Member else (s.process k).standing m.id.group)) (sym other) ∙ is) here
+              | false ↦ λ is here. spent.delivered k given is here
+            ]
+
+pub lawful_completing : (s : State) (g : GroupNo) (n : ℕ) (members : Membership) (request : ℕ) → IsLawful s → is_group s g ≡ true → has_view (s.group g) ≡ false → (s.group g).number < n → IsLawful (completing s g n members request)
+lawful_completing s g n members request l listed none later =
+    let now : State = set_group s g (with_view s.here n members (s.group g)) in
+    let all : State = all_in_view now g n members request in
+    let told : State = fold (push_view g n members) all (filter (enters s g members request) (serials s)) in
+    lawful_emitted told s.config.home (frame.Installed g n)
+    (lawful_fold (push_view g n members) (λ t k. lawful_pushing t k (push.View g n members)) (filter (enters s g members request) (serials s)) all
+    (lawful_all_in_view s g n members request l listed none later))

@@ -1,0 +1,363 @@
+-- What holds of each history that events lead to is kept by each event, and until the state rests.
+use Rattle.std.proofs.Common.{◌≡◌, ℕ, ◌+◌, ◌<◌, ◌≤◌, zero, suc, Bool, true, false, not, List, [], ◌∷◌, ◌++◌, length, Some, None, refl, sym, ap, subst, ◌∙◌, inl, inr, arith}
+use Rattle.std.specs.Prelude.{◌&&◌, ◌==◌, nat_lt, nat_le, if◌then◌else◌}
+use Rattle.std.specs.List.{fold, find}
+use Rattle.std.specs.FinMap.Entries.{is_sorted}
+use Rattle.std.proofs.lemmas.Bool.{cases_eq, eqb-true, false≢true, and_parts, and_from, not-false, leb-true, le-leb}
+use Rattle.std.proofs.lemmas.Bool.Decides.{nat_tests}
+use Rattle.cast_types.specs.declared.names.SiteNo.{SiteNo}
+use Rattle.cast_types.specs.declared.names.GroupNo.{GroupNo}
+use Rattle.cast_types.specs.declared.names.Proc.{Proc}
+use Rattle.cast_types.specs.declared.names.Uid.{Uid}
+use Rattle.cast_types.specs.declared.names.Standing.TheVariants.{Joining}
+use Rattle.cast_types.specs.declared.refusal.Refusal.{Refusal}
+use Rattle.cast_types.specs.declared.refusal.Refusal.TheVariants.{NotOpen, TooManySessions}
+use Rattle.cast_types.specs.declared.limits.TheConstants.{MAX_NUMBER}
+use Rattle.cast_types.specs.Names.{site_eq, group_cmp}
+use Rattle.cast_types.specs.Repeat.{iterate}
+use Rattle.cast_types.specs.Stamps.{ClockList, is_stamp}
+use Rattle.cast_clock.specs.Times.{view_of, count_in, bumped, has_room}
+use Rattle.cast_message.specs.declared.message.Body.{Body}
+use Rattle.cast_message.specs.declared.message.Body.TheVariants as body
+use Rattle.cast_message.specs.declared.message.Message.{Message}
+use Rattle.cast_message.specs.declared.site.Change.{Change}
+use Rattle.cast_message.specs.declared.site.Change.TheVariants as change
+use Rattle.cast_message.specs.declared.site.SiteFrame.{SiteFrame}
+use Rattle.cast_message.specs.declared.site.SiteFrame.TheVariants as frame
+use Rattle.cast_message.specs.declared.client.CastKind.{CastKind}
+use Rattle.cast_message.specs.declared.client.Request.{Request}
+use Rattle.cast_message.specs.declared.client.Request.TheVariants.{Join, Leave, Cast}
+use Rattle.cast_message.specs.declared.client.Push.TheVariants as push
+use Rattle.cast_message.specs.Membership.{Membership}
+use Rattle.cast_stable.specs.Stable.{Acked}
+use Rattle.cast_timer.specs.declared.key.Owed.{Owed}
+use Rattle.cast_timer.specs.declared.key.OwedKey.{OwedKey}
+use Rattle.cast_timer.specs.declared.key.OwedKind.TheVariants as kinds
+use Rattle.cast_timer.specs.Owed.{due_at}
+use Rattle.cast_delay.specs.Ready.{is_member}
+use Rattle.cast_order.specs.Order.{ids_to_list, place_after}
+use Rattle.cast_delay.proofs.Finds.{found_in}
+use Rattle.cast_model.specs.Session.{is_open}
+use Rattle.cast_model.specs.declared.group.Group.{Group}
+use Rattle.cast_model.specs.declared.group.Verdict.TheVariants.{Again, Completes, Ignored}
+use Rattle.cast_model.specs.Group.{holder_at, first_asking, members_of, has_view, is_current, with_answer, verdict_of, sites_of}
+use Rattle.cast_model.specs.declared.home.Home.{Home}
+use Rattle.cast_model.specs.Home.{is_empty, applied_of, after_request, after_installed, may_decide, decided}
+use Rattle.cast_message.specs.declared.client.Command.{Command}
+use Rattle.cast_message.specs.declared.client.Command.TheVariants as command
+use Rattle.cast_model.specs.declared.event.Event.{Event}
+use Rattle.cast_model.specs.declared.event.Event.TheVariants as event
+use Rattle.cast_model.specs.declared.event.Taken.TheVariants as taken
+use Rattle.cast_history.specs.State.{State, local, serials, is_home, is_site, is_group, is_received, is_well_formed, may_order, may_take, others_of, upto, is_stable, let_go, set_group, set_home, set_standing, emitted, was_given}
+use Rattle.cast_history.specs.Order.{order_of, unlisted, has_place, is_ready_for}
+use Rattle.cast_history.specs.Owing.{ask_key, message_key, sent_for, owing, paying, resending, at_moment, ticked}
+use Rattle.cast_history.specs.Effects.{may_raise, asking, pushing, receiving, sending, delivering, completing}
+use Rattle.cast_history.specs.Step.{acknowledging, data_used, is_used_ack, with_ack, tell_stable, tell_more, on_ack, paying_acks, on_stable, first_refusal, join_tests, cast_tests, joining, attempting, body_of, requested, commanded, is_used, on_data, is_from_home, on_ask, on_asked, on_install, on_installed, group_of, on_frame, framed, opened, Effect, acted}
+use Rattle.cast_history.specs.Rest.{deliver_first, deliver_all, settle, may_set_order, set_order_by, set_order, set_orders, install_frame, send_install, decide, lead_all, pass, RestsAt}
+use Rattle.cast_history.specs.Lawful.{IsSpent, IsLawful, IsTypedFrame, IsTyped}
+use Rattle.cast_history.proofs.Spots.{found_passes}
+use Rattle.cast_history.proofs.Lawful.{SameLaw, same_self, same_then, same_if, same_fold, same_home, same_emitted, same_group_set, same_owed, same_sent_for, same_owing, same_asking, kept_map, lawful_same, lawful_pushing, lawful_emitted, lawful_requesting, lawful_if, lawful_fold, lawful_standing, lawful_receiving, lawful_let_go, lawful_sending, lawful_delivering, lawful_completing}
+
+-- a stamp is in order
+stamp_sorted : (t : ClockList) → is_stamp t ≡ true → is_sorted group_cmp t ≡ true
+stamp_sorted t stamp = (and_parts (is_sorted group_cmp t) _ stamp).0
+
+-- and so is a time that may be raised, once it is
+raised_sorted : (t : ClockList) (g : GroupNo) (p : Proc) → may_raise t g p ≡ true → is_sorted group_cmp (bumped t g p) ≡ true
+raised_sorted t g p may =
+    let room = and_parts (nat_lt (count_in t g p) MAX_NUMBER) (has_room (bumped t g p) && is_stamp (bumped t g p)) may in
+    stamp_sorted (bumped t g p) (and_parts (has_room (bumped t g p)) (is_stamp (bumped t g p)) room.1).1
+
+-- Commands
+
+-- each test lets pass
+abbrev Passed : List (Bool × Refusal) → Type 0
+Passed [] = Unit {0}
+Passed (t ∷ tests) = (t.0 ≡ false) × Passed tests
+
+-- where nothing is refused, each test lets pass
+each_passes : (tests : List (Bool × Refusal)) → first_refusal tests ≡ None → Passed tests
+each_passes [] none = tt
+each_passes (t ∷ tests) none =
+    elim t.0 as (λ b. (if b then Some t.1 else first_refusal tests) ≡ None → (b ≡ false) × Passed tests) [
+      | true ↦ λ some. cc
+      | false ↦ λ rest. (refl, each_passes tests rest)
+    ] none
+
+pub lawful_joining : (s : State) (k : ℕ) (g : GroupNo) → IsLawful s → first_refusal (join_tests s k g) ≡ None → IsLawful (joining s k g)
+lawful_joining s k g l none =
+    let now : State = set_standing s k g (Joining ((s.group g).asked + 1) (view_of (s.process k).time g)) in
+    let listed : is_group s g ≡ true = not-false (is_group s g) (each_passes (join_tests s k g) none).0 in
+    lawful_requesting now g change.Join (local s k) (lawful_standing s k g ((s.group g).asked + 1) (view_of (s.process k).time g) l listed)
+
+pub lawful_casting : (s : State) (k : ℕ) (g : GroupNo) (cast : CastKind) (payload : List ℕ) → IsLawful s → first_refusal (cast_tests s k g payload) ≡ None → IsLawful (sending s g k (body_of cast payload))
+lawful_casting s k g cast payload l none =
+    let raises = not-false (may_raise (s.process k).time g (local s k)) (each_passes (cast_tests s k g payload) none).1.1.1.1.1.0 in
+    lawful_sending s g k (body_of cast payload) l (raised_sorted (s.process k).time g (local s k) raises)
+
+pub lawful_attempting : (s : State) (k tag : ℕ) (tests : List (Bool × Refusal)) (effect : State) → IsLawful s → (first_refusal tests ≡ None → IsLawful effect) → IsLawful (attempting s k tag tests effect)
+lawful_attempting s k tag tests effect l lawful =
+    elim (first_refusal tests) as (λ o. first_refusal tests ≡ o → IsLawful (elim o [ Some refusal ↦ pushing s k (push.Reply tag (Some refusal)) | None ↦ pushing effect k (push.Reply tag None) ])) [
+      | Some refusal ↦ λ _. lawful_pushing s k (push.Reply tag (Some refusal)) l
+      | None ↦ λ none. lawful_pushing effect k (push.Reply tag None) (lawful none)
+    ] refl
+
+pub lawful_requested : (s : State) (k : ℕ) (r : Request) → IsLawful s → IsLawful (requested s k r)
+lawful_requested s k (Join tag g) l = lawful_attempting s k tag (join_tests s k g) (joining s k g) l (lawful_joining s k g l)
+lawful_requested s k (Leave tag g) l = l
+lawful_requested s k (Cast tag g cast payload) l = lawful_attempting s k tag (cast_tests s k g payload) (sending s g k (body_of cast payload)) l (lawful_casting s k g cast payload l)
+
+pub lawful_commanded : (s : State) (k : ℕ) (c : Command) → IsLawful s → IsLawful (commanded s k c)
+lawful_commanded s k (command.Request r) l = lawful_requested s k r l
+lawful_commanded s k command.Bad l = l
+
+-- Frames
+
+pub same_acknowledging : (s : State) (to : SiteNo) (u : Uid) → SameLaw s (acknowledging s to u)
+same_acknowledging s to u = same_if s (emitted s to (frame.Ack u)) (owing s (message_key kinds.Ack u to)) (is_stable s u) (same_emitted s to (frame.Ack u)) (same_owing s (message_key kinds.Ack u to))
+
+-- what is used is of the view that its group has reached
+used_reached : (s : State) (from : SiteNo) (m : Message) → is_used s from m ≡ true → m.id.view ≤ (s.group m.id.group).number
+used_reached s from m used =
+    let here = m.id.view == (s.group m.id.group).number in
+    let formed = is_well_formed s (members_of (s.group m.id.group)) m in
+    let a = and_parts (site_eq m.id.proc.site from) (not (site_eq from s.here) && (here && formed)) used in
+    let b = and_parts (not (site_eq from s.here)) (here && formed) a.1 in
+    let same = eqb-true m.id.view (s.group m.id.group).number (and_parts here formed b.1).0 in
+    omega (arith, same)
+
+pub lawful_on_data : (s : State) (from : SiteNo) (m : Message) → IsLawful s → is_stamp m.times ≡ true → IsLawful (on_data s from m)
+lawful_on_data s from m l stamp =
+    let now : State = receiving s m in
+    let taken : State = acknowledging now from m.id in
+    lawful_if (data_used s from m) s (is_used s from m)
+    (λ used. lawful_if (emitted s from (frame.Ack m.id)) (if may_take s m.body then taken else s) (is_received s m.id)
+    (λ _. lawful_emitted s from (frame.Ack m.id) l)
+    (λ _. lawful_if taken s (may_take s m.body)
+    (λ _. lawful_same now taken (same_acknowledging now from m.id) (lawful_receiving s m l (stamp_sorted m.times stamp) (used_reached s from m used)))
+    (λ _. l)))
+    (λ _. l)
+
+-- what is acknowledged, told and owed is no matter
+same_known : (s : State) (acks : List Acked) (told : List Uid) (owed : List Owed) → SameLaw s (record s { acks = acks; told = told; owed = owed })
+same_known s acks told owed = record { config = refl; used = refl; got = refl; kept = refl; delivered = λ k. refl; abcasts = λ k. refl; standing = λ k g. refl; view_in = λ k g. refl; number = λ g. refl; view = λ g. refl }
+
+pub same_on_ack : (s : State) (from : SiteNo) (u : Uid) → SameLaw s (on_ack s from u)
+same_on_ack s from u =
+    let after : State = with_ack s from u in
+    let known : SameLaw s after = same_known s after.acks s.told after.owed in
+    let again : State = tell_stable u (upto s u) after from in
+    let more : State = fold (tell_stable u (upto after u)) after (others_of after u.group) in
+    same_if s (if nat_le u.count (upto s u) then again else tell_more u (upto s u) after) s (is_used_ack s from u)
+    (same_if s again (tell_more u (upto s u) after) (nat_le u.count (upto s u))
+    (same_then s after again known (same_emitted after from (frame.Stable (record u { count = upto s u }))))
+    (same_if s more after (nat_lt (upto s u) (upto after u))
+    (same_then s after more known (same_fold (tell_stable u (upto after u)) (λ t to. same_emitted t to (frame.Stable (record u { count = upto after u }))) (others_of after u.group) after))
+    known))
+    (same_self s)
+
+pub same_on_stable : (s : State) (from : SiteNo) (u : Uid) → SameLaw s (on_stable s from u)
+same_on_stable s from u =
+    let after : State = record (paying_acks s u) { told = s.told ++ u ∷ [] } in
+    same_if s after s (is_current (s.group u.group) u.view && site_eq u.proc.site from) (same_known s s.acks after.told after.owed) (same_self s)
+
+pub same_on_ask : (s : State) (from : SiteNo) (g : GroupNo) (number : ℕ) (what : Change) (p : Proc) → SameLaw s (on_ask s from g number what p)
+same_on_ask s from g number change.Join p =
+    let h : Home = s.home g in
+    let applied : State = set_home s g (after_request h from number p) in
+    let answer : SiteFrame = frame.Asked g number false in
+    let again : State = if nat_le number (applied_of h from) then emitted s from answer else s in
+    let next : State = if number == applied_of h from + 1 then emitted applied from answer else again in
+    same_if s s next (not (is_home s)) (same_self s)
+    (same_if s (emitted applied from answer) again (number == applied_of h from + 1)
+    (same_then s applied (emitted applied from answer) (same_home s g (after_request h from number p)) (same_emitted applied from answer))
+    (same_if s (emitted s from answer) s (nat_le number (applied_of h from)) (same_emitted s from answer) (same_self s)))
+same_on_ask s from g number change.Leave p = same_self s
+
+pub same_on_asked : (s : State) (from : SiteNo) (g : GroupNo) (number : ℕ) (full : Bool) → SameLaw s (on_asked s from g number full)
+same_on_asked s from g number true = same_self s
+same_on_asked s from g number false =
+    let paid : State = paying s (ask_key g s.config.home) in
+    let now : State = set_group paid g (with_answer (s.group g)) in
+    let answered : SameLaw s now = same_then s paid now (same_owed s paid.owed) (same_group_set paid g (with_answer (s.group g)) refl refl) in
+    elim (first_asking (s.group g).requests) as (λ o. SameLaw s (elim o [ Some a ↦ (if is_from_home s from && (a.number == number) then asking now g else s) | None ↦ s ])) [
+      | Some a ↦ same_if s (asking now g) s (is_from_home s from && (a.number == number)) (same_then s now (asking now g) answered (same_asking now g)) (same_self s)
+      | None ↦ same_self s
+    ]
+
+-- a view is completed where the group has none, and its number is a later one
+completes_unseen : (group : Group) (n : ℕ) → verdict_of group n ≡ Completes → (nat_le n group.number ≡ false) × (has_view group ≡ false)
+completes_unseen group n is = completes (nat_le n group.number) (has_view group) is
+  where
+    completes : (known seen : Bool) → (if known then Again else if seen then Ignored else Completes) ≡ Completes → (known ≡ false) × (seen ≡ false)
+    completes true seen e = cc
+    completes false true e = cc
+    completes false false e = (refl, refl)
+
+later_number : (m n : ℕ) → nat_le n m ≡ false → m < n
+later_number m n not_below = grind (arith, nat_tests)
+
+pub lawful_on_install : (s : State) (from : SiteNo) (g : GroupNo) (n : ℕ) (members : Membership) (request : ℕ) → IsLawful s → is_group s g ≡ true → IsLawful (on_install s from g n members request)
+lawful_on_install s from g n members request l listed =
+    let again : State = emitted s s.config.home (frame.Installed g n) in
+    lawful_if (elim (verdict_of (s.group g) n) [ Again ↦ again | Completes ↦ completing s g n members request | Ignored ↦ s ]) s (is_from_home s from)
+    (λ _. elim (verdict_of (s.group g) n) as (λ v. verdict_of (s.group g) n ≡ v → IsLawful (elim v [ Again ↦ again | Completes ↦ completing s g n members request | Ignored ↦ s ])) [
+      | Again ↦ λ _. lawful_emitted s s.config.home (frame.Installed g n) l
+      | Completes ↦ λ is. let unseen = completes_unseen (s.group g) n is in lawful_completing s g n members request l listed unseen.1 (later_number (s.group g).number n unseen.0)
+      | Ignored ↦ λ _. l
+    ] refl)
+    (λ _. l)
+
+pub same_on_installed : (s : State) (from : SiteNo) (g : GroupNo) (n : ℕ) → SameLaw s (on_installed s from g n)
+same_on_installed s from g n = same_if s (set_home s g (after_installed (s.home g) from n)) s (is_home s) (same_home s g (after_installed (s.home g) from n)) (same_self s)
+
+pub lawful_on_frame : (s : State) (from : SiteNo) (f : SiteFrame) → IsLawful s → is_group s (group_of f) ≡ true → IsTypedFrame f → IsLawful (on_frame s from f)
+lawful_on_frame s from (frame.Data m) l listed typed = lawful_on_data s from m l typed
+lawful_on_frame s from (frame.Ack u) l listed typed = lawful_same s (on_ack s from u) (same_on_ack s from u) l
+lawful_on_frame s from (frame.Stable u) l listed typed = lawful_same s (on_stable s from u) (same_on_stable s from u) l
+lawful_on_frame s from (frame.Ask g number what p) l listed typed = lawful_same s (on_ask s from g number what p) (same_on_ask s from g number what p) l
+lawful_on_frame s from (frame.Asked g number full) l listed typed = lawful_same s (on_asked s from g number full) (same_on_asked s from g number full) l
+lawful_on_frame s from (frame.Prepare g view) l listed typed = l
+lawful_on_frame s from (frame.Flushed g view counts tail kept) l listed typed = l
+lawful_on_frame s from (frame.Want u) l listed typed = l
+lawful_on_frame s from (frame.Forward m) l listed typed = l
+lawful_on_frame s from (frame.Install g view members request cut tail) l listed typed = lawful_on_install s from g view members request l listed
+lawful_on_frame s from (frame.Installed g view) l listed typed = lawful_same s (on_installed s from g view) (same_on_installed s from g view) l
+lawful_on_frame s from (frame.Out g view) l listed typed = l
+
+pub lawful_framed : (s : State) (from : SiteNo) (f : SiteFrame) → IsLawful s → IsTypedFrame f → IsLawful (framed s from f)
+lawful_framed s from f l typed =
+    lawful_if (on_frame s from f) s (is_site s from && is_group s (group_of f))
+    (λ ours. lawful_on_frame s from f l (and_parts (is_site s from) (is_group s (group_of f)) ours).1 typed)
+    (λ _. l)
+
+-- Events
+
+-- the process of a new serial is not yet a member of any group
+abbrev pub IsUnborn : State → Type 0
+IsUnborn s = (g : GroupNo) → is_member ((s.process (s.used + 1)).standing g) ≡ false
+
+pub lawful_opened : (s : State) → IsLawful s → IsUnborn s → IsLawful (opened s)
+lawful_opened s l unborn = record {
+  rising = l.rising;
+  known = l.known;
+  current = l.current;
+  viewed = l.viewed;
+  stamped = l.stamped;
+  spent = kept_map (IsSpent s) (IsSpent (opened s)) (λ m h. record {
+    reached = h.reached;
+    delivered = λ k given is here. elim (cases_eq (s.used + 1) k) [
+      | inl same ↦ absurd (false≢true (sym (unborn m.id.group) ∙ ap (λ j. is_member ((s.process j).standing m.id.group)) same ∙ is))
+      | inr other ↦ h.delivered k (given_less s.used k other given) is here
+    ];
+  }) s.got s.kept l.spent;
+  listed = l.listed;
+  traced = record { reached = l.traced.reached; delivered = l.traced.delivered; seen = l.traced.seen };
+}
+  where
+    given_less : (used k : ℕ) → (used + 1 ≡ k → ⊥) → was_given (used + 1) k ≡ true → was_given used k ≡ true
+    given_less used k other given =
+        let parts = and_parts (nat_lt 0 k) (nat_le k (used + 1)) given in
+        and_from (nat_lt 0 k) (nat_le k used) parts.0 (le-leb k used (omega (arith, leb-true k (used + 1) parts.1, other)))
+
+-- Ticks
+
+pub same_resending : (s : State) (key : OwedKey) → SameLaw s (resending s key)
+same_resending s key =
+    let sent : State = sent_for s key in
+    same_then s sent (resending s key) (same_sent_for s key) (same_owed sent (resending s key).owed)
+
+pub same_ticked : (s : State) (t : ℕ) → SameLaw s (ticked s t)
+same_ticked s t =
+    let now : State = at_moment s t in
+    same_then s now (ticked s t)
+    (record { config = refl; used = refl; got = refl; kept = refl; delivered = λ k. refl; abcasts = λ k. refl; standing = λ k g. refl; view_in = λ k g. refl; number = λ g. refl; view = λ g. refl })
+    (same_fold resending same_resending (due_at now.moment now.owed) now)
+
+pub lawful_acted : (s : State) (e : Event) → IsLawful s → IsUnborn s → IsTyped e → IsLawful (acted s e).0
+lawful_acted s (event.Open d) l unborn typed =
+    elim (s.used == MAX_NUMBER) as (λ b. IsLawful (if◌then◌else◌ {A = Effect} b (s, taken.Refused TooManySessions) (opened s, taken.Opened (s.used + 1))).0) [
+      | true ↦ l
+      | false ↦ lawful_opened s l unborn
+    ]
+lawful_acted s (event.Command d k c) l unborn typed =
+    elim (is_open (s.session k)) as (λ b. IsLawful (if◌then◌else◌ {A = Effect} b (commanded s k c, taken.Nothing) (s, taken.Refused NotOpen)).0) [
+      | true ↦ lawful_commanded s k c l
+      | false ↦ l
+    ]
+lawful_acted s (event.Frame d from f) l unborn typed = lawful_framed s from f l typed
+lawful_acted s (event.Tick t) l unborn typed = lawful_same s (ticked s t) (same_ticked s t) l
+
+-- Deliveries
+
+pub lawful_first : (s : State) (k : ℕ) → IsLawful s → IsLawful (deliver_first k s)
+lawful_first s k l =
+    elim (find (is_ready_for s k) s.got) as (λ o. find (is_ready_for s k) s.got ≡ o → IsLawful (elim o [ Some m ↦ let_go (delivering s k m) | None ↦ s ])) [
+      | Some m ↦ λ is. lawful_let_go (delivering s k m) (lawful_delivering s k m l (found_in (is_ready_for s k) s.got m is) (found_passes (is_ready_for s k) s.got m is))
+      | None ↦ λ _. l
+    ] refl
+
+pub lawful_iterate : (n : ℕ) (f : State → State) → ((s : State) → IsLawful s → IsLawful (f s)) → (s : State) → IsLawful s → IsLawful (iterate n f s)
+lawful_iterate zero f h s l = l
+lawful_iterate (suc n) f h s l = lawful_iterate n f h (f s) (h s l)
+
+pub lawful_deliver_all : (s : State) (k : ℕ) → IsLawful s → IsLawful (deliver_all s k)
+lawful_deliver_all s k l = lawful_iterate (length s.got) (deliver_first k) (λ t. lawful_first t k) s l
+
+pub lawful_settle : (s : State) → IsLawful s → IsLawful (settle s)
+lawful_settle s l = lawful_fold deliver_all lawful_deliver_all (serials s) s l
+
+-- Set-order messages
+
+-- the holder may raise its time as it sends a set-order message
+pub lawful_order_sent : (s : State) (g : GroupNo) (k : ℕ) (content : Body) → IsLawful s → may_set_order s g k ≡ true → IsLawful (sending s g k content)
+lawful_order_sent s g k content l may =
+    let raises = may_raise (s.process k).time g (local s k) in
+    let place = has_place (order_of s g) in
+    let some = not (is_empty (unlisted s g k)) in
+    let a = and_parts (is_member ((s.process k).standing g)) (may_order s && (some && (place && raises))) may in
+    let b = and_parts (may_order s) (some && (place && raises)) a.1 in
+    let c = and_parts some (place && raises) b.1 in
+    lawful_sending s g k content l (raised_sorted (s.process k).time g (local s k) (and_parts place raises c.1).1)
+
+pub lawful_set_order_by : (s : State) (g : GroupNo) (k : ℕ) → IsLawful s → IsLawful (set_order_by s g k)
+lawful_set_order_by s g k l =
+    let content : Body = body.Order (record { first = place_after (order_of s g); ids = ids_to_list (unlisted s g k) }) in
+    lawful_if (let_go (sending s g k content)) s (may_set_order s g k)
+    (λ may. lawful_let_go (sending s g k content) (lawful_order_sent s g k content l may))
+    (λ _. l)
+
+pub lawful_set_order : (s : State) (g : GroupNo) → IsLawful s → IsLawful (set_order s g)
+lawful_set_order s g l =
+    elim (holder_at s.here (s.group g)) as (λ o. IsLawful (elim o [ Some p ↦ set_order_by s g p.serial | None ↦ s ])) [
+      | Some p ↦ lawful_set_order_by s g p.serial l
+      | None ↦ l
+    ]
+
+pub lawful_set_orders : (s : State) → IsLawful s → IsLawful (set_orders s)
+lawful_set_orders s l = lawful_fold set_order lawful_set_order s.config.groups s l
+
+-- The home
+
+pub same_decide : (s : State) (g : GroupNo) → SameLaw s (decide s g)
+same_decide s g =
+    let h : Home = decided (s.home g) in
+    let now : State = set_home s g h in
+    let sent : State = fold (send_install g h) now (sites_of (s.home g).joins) in
+    same_if s sent s (may_decide (s.home g))
+    (same_then s now sent (same_home s g h) (same_fold (send_install g h) (λ t to. same_emitted t to (install_frame g h to)) (sites_of (s.home g).joins) now))
+    (same_self s)
+
+pub lawful_decide : (s : State) (g : GroupNo) → IsLawful s → IsLawful (decide s g)
+lawful_decide s g l = lawful_same s (decide s g) (same_decide s g) l
+
+pub lawful_lead_all : (s : State) → IsLawful s → IsLawful (lead_all s)
+lawful_lead_all s l = lawful_if (fold decide s s.config.groups) s (is_home s) (λ _. lawful_fold decide lawful_decide s.config.groups s l) (λ _. l)
+
+-- The whole
+
+pub lawful_pass : (s : State) → IsLawful s → IsLawful (pass s)
+lawful_pass s l = lawful_lead_all (set_orders (settle s)) (lawful_set_orders (settle s) (lawful_settle s l))
+
+pub lawful_rests : (s t : State) → IsLawful s → RestsAt s t → IsLawful t
+lawful_rests s t l rests = subst IsLawful rests.1 (lawful_iterate rests.0 pass lawful_pass s l)

@@ -1,0 +1,15 @@
+pub mod Words
+pub mod FirstCast
+pub mod Waiting
+pub mod Overlapping
+pub mod Ignored
+pub mod Keeping
+pub mod Placing
+pub mod Totals
+pub mod Listings
+pub mod Alikes
+pub mod Settles
+pub mod Rests
+pub mod Spots
+pub mod Lawful
+pub mod LawfulSteps

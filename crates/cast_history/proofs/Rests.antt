@@ -1,0 +1,252 @@
+-- Each pass that changes something lowers what is to be done, so the rest ends.
+use Rattle.std.proofs.Common.{◌≡◌, ℕ, ◌+◌, ◌*◌, ◌<◌, ◌≤◌, ◌⊎◌, zero, suc, Bool, true, false, not, List, [], ◌∷◌, ◌++◌, length, Some, None, refl, sym, ap, subst, ◌∙◌, inl, inr, arith}
+use Rattle.std.specs.Prelude.{◌==◌, if◌then◌else◌}
+use Rattle.std.specs.List.{fold, find, range_with_len}
+use Rattle.std.proofs.Math.Nat.{mul-le-mul_left, mul-suc}
+use Rattle.std.proofs.lemmas.Bool.{and_parts, eqb-true, eq-eqb}
+use Rattle.std.proofs.lemmas.Bool.Decides.{nat_tests}
+use Rattle.std.proofs.lemmas.List.FromFn.{length-range_with_len}
+use Rattle.cast_types.specs.declared.names.GroupNo.{GroupNo}
+use Rattle.cast_types.specs.declared.names.Proc.{Proc}
+use Rattle.cast_types.specs.declared.names.Uid.{Uid}
+use Rattle.cast_types.specs.Names.{group_eq}
+use Rattle.cast_types.specs.Repeat.{iterate}
+use Rattle.cast_types.specs.Sets.{set_at}
+use Rattle.cast_types.proofs.Iterates.{iterate_still}
+use Rattle.cast_types.proofs.Orders.{same_group, group_itself}
+use Rattle.cast_message.specs.declared.message.Message.{Message}
+use Rattle.cast_delay.specs.Ready.{is_member}
+use Rattle.cast_model.specs.declared.home.Home.{Home}
+use Rattle.cast_model.specs.Phase.{is_idle}
+use Rattle.cast_model.specs.Group.{holder_at, sites_of}
+use Rattle.cast_model.specs.Home.{is_empty, may_decide, decided}
+use Rattle.cast_history.specs.State.{State, serials, is_home, may_order, let_go, set_home}
+use Rattle.cast_history.specs.Order.{unlisted, is_ready_for}
+use Rattle.cast_history.specs.Effects.{receiving, sending_message, with_delivery}
+use Rattle.cast_history.specs.Rest.{deliver_first, deliver_all, settle, may_set_order, set_order_by, set_order, set_orders, send_install, install_frame, decide, lead_all, pass, RestsAt}
+use Rattle.cast_history.specs.Endings.{total, one_if, left, rank, ranks, undelivered, to_list_in, to_list, to_do, Moves, PassMoves, EachComesToRest, RestIsOne}
+use Rattle.cast_history.proofs.Alikes.{Alike, alike_then, alike_fold, alike_emitted, alike_let_go, alike_sending}
+use Rattle.cast_history.proofs.Totals.{In, total_le, total_lt, total_more, left_push, left_found, left_more}
+use Rattle.cast_history.proofs.Settles.{delivering_one, alike_delivering, delivered_at, ready_new, delivered_first, delivered_none, iterate_twice}
+use Rattle.cast_history.proofs.Listings.{order_message, to_list_delivered, to_list_received, to_list_ordered}
+
+-- what is to be done is seen in what stays alike
+pub to_do_alike : (s t : State) → Alike s t → to_do t ≡ to_do s
+to_do_alike s t a = λ i. to_do (record s {
+  here = a.here i;
+  config = a.config i;
+  used = a.used i;
+  group = a.group i;
+  home = a.home i;
+  got = a.got i;
+  abcasts = a.abcasts i;
+  process = λ j. record (s.process j) { delivered = a.delivered j i };
+})
+
+moves_self : (s : State) → Moves s s
+moves_self s = record { config = refl; used = refl; way = inl refl }
+
+way_then : (s t u : State) → (t ≡ s) ⊎ (to_do t < to_do s) → (u ≡ t) ⊎ (to_do u < to_do t) → (u ≡ s) ⊎ (to_do u < to_do s)
+way_then s t u (inl a) (inl b) = inl (b ∙ a)
+way_then s t u (inl a) (inr b) = inr (subst (λ x. to_do u < to_do x) a b)
+way_then s t u (inr a) (inl b) = inr (subst (λ x. to_do x < to_do s) (sym b) a)
+way_then s t u (inr a) (inr b) = inr (omega arith)
+
+moves_then : (s t u : State) → Moves s t → Moves t u → Moves s u
+moves_then s t u a b = record { config = b.config ∙ a.config; used = b.used ∙ a.used; way = way_then s t u a.way b.way }
+
+moves_if : (s x y : State) (b : Bool) → (b ≡ true → Moves s x) → Moves s y → Moves s (if b then x else y)
+moves_if s x y true p q = p refl
+moves_if s x y false p q = q
+
+-- over a list, each of whose items moves from any state with these serials and this configuration
+moves_fold : {X : Type 0} (o : State) (f : State → X → State) (xs : List X) → ((x : X) → In x xs → (s : State) → s.used ≡ o.used → s.config ≡ o.config → Moves s (f s x)) → (s : State) → s.used ≡ o.used → s.config ≡ o.config → Moves s (fold f s xs)
+moves_fold o f [] h s u c = moves_self s
+moves_fold o f (x ∷ xs) h s u c =
+    let a : Moves s (f s x) = h x (inl refl) s u c in
+    moves_then s (f s x) (fold f (f s x) xs) a (moves_fold o f xs (λ y at. h y (inr at)) (f s x) (a.used ∙ u) (a.config ∙ c))
+
+-- what the delivered lists come to
+abbrev lists_after : State → ℕ → Message → ℕ → List Uid
+lists_after s k m j = if k == j then (s.process k).delivered ++ m.id ∷ [] else (s.process j).delivered
+
+fewer_each : (s : State) (k : ℕ) (m : Message) (j : ℕ) → left (lists_after s k m j) s.got ≤ left (s.process j).delivered s.got
+fewer_each s k m j =
+    elim (k == j) as (λ b. k == j ≡ b → left (if b then (s.process k).delivered ++ m.id ∷ [] else (s.process j).delivered) s.got ≤ left (s.process j).delivered s.got) [
+      | true ↦ λ at. subst (λ i. left ((s.process k).delivered ++ m.id ∷ []) s.got ≤ left (s.process i).delivered s.got) (eqb-true k j at) (left_push m.id (s.process k).delivered s.got)
+      | false ↦ λ at. omega arith
+    ] refl
+
+undelivered_after : (s : State) (k : ℕ) (m : Message) → undelivered (with_delivery s k m) ≡ total (λ j. left (lists_after s k m j) s.got) (serials s)
+undelivered_after s k m = λ i. total (λ j. left (delivered_at s k m j i) s.got) (serials s)
+
+undelivered_less : (s : State) (k : ℕ) (m : Message) → In k (serials s) → find (is_ready_for s k) s.got ≡ Some m → undelivered (with_delivery s k m) < undelivered s
+undelivered_less s k m at found =
+    let here : lists_after s k m k ≡ (s.process k).delivered ++ m.id ∷ [] = ap (λ b. if b then (s.process k).delivered ++ m.id ∷ [] else (s.process k).delivered) (eq-eqb k k refl) in
+    let less : left ((s.process k).delivered ++ m.id ∷ []) s.got < left (s.process k).delivered s.got = left_found (is_ready_for s k) (s.process k).delivered s.got m (ready_new s k) found in
+    subst (λ n. n < undelivered s) (sym (undelivered_after s k m))
+    (total_lt (λ j. left (lists_after s k m j) s.got) (λ j. left (s.process j).delivered s.got) (serials s) k (fewer_each s k m) at
+    (subst (λ ids. left ids s.got < left (s.process k).delivered s.got) (sym here) less))
+
+-- less of the first is less, where no other is more
+less_by_first : (a b c d x y : ℕ) → a < b → d * x ≤ d * y → a + c + d * x < b + c + d * y
+less_by_first a b c d x y less le = omega arith
+
+to_do_delivers : (s : State) (k : ℕ) (m : Message) → In k (serials s) → find (is_ready_for s k) s.got ≡ Some m → to_do (with_delivery s k m) < to_do s
+to_do_delivers s k m at found =
+    less_by_first (undelivered (with_delivery s k m)) (undelivered s) (ranks s) (s.used + 1) (to_list (with_delivery s k m)) (to_list s)
+    (undelivered_less s k m at found)
+    (mul-le-mul_left (s.used + 1) (total_le (to_list_in (with_delivery s k m)) (to_list_in s) s.config.groups (to_list_delivered s k m found)))
+
+-- one delivery
+moves_first : (s : State) (k : ℕ) → In k (serials s) → Moves s (deliver_first k s)
+moves_first s k at =
+    elim (find (is_ready_for s k) s.got) as (λ o. find (is_ready_for s k) s.got ≡ o → Moves s (deliver_first k s)) [
+      | None ↦ λ e. subst (Moves s) (sym (delivered_none s k e)) (moves_self s)
+      | Some m ↦ λ e.
+          let a : Alike (with_delivery s k m) (delivering_one s k m) = alike_delivering s k m in
+          subst (Moves s) (sym (delivered_first s k m e))
+          (record { config = a.config; used = a.used; way = inr (subst (λ n. n < to_do s) (sym (to_do_alike (with_delivery s k m) (delivering_one s k m) a)) (to_do_delivers s k m at e)) })
+    ] refl
+
+moves_iterate : (n : ℕ) (k : ℕ) (s : State) → In k (serials s) → Moves s (iterate n (deliver_first k) s)
+moves_iterate zero k s at = moves_self s
+moves_iterate (suc n) k s at =
+    let a : Moves s (deliver_first k s) = moves_first s k at in
+    moves_then s (deliver_first k s) (iterate n (deliver_first k) (deliver_first k s)) a
+    (moves_iterate n k (deliver_first k s) (subst (λ u. In k (range_with_len 1 u)) (sym a.used) at))
+
+moves_settle : (s : State) → Moves s (settle s)
+moves_settle s = moves_fold s deliver_all (serials s)
+    (λ k at t u c. moves_iterate (length t.got) k t (subst (λ n. In k (range_with_len 1 n)) (sym u) at)) s refl refl
+
+-- Set-order messages
+
+-- one more message is one more for each process at the most
+undelivered_more : (s : State) (m : Message) → undelivered (receiving s m) ≤ undelivered s + s.used
+undelivered_more s m =
+    let more = total_more (λ k. left (s.process k).delivered (s.got ++ m ∷ [])) (λ k. left (s.process k).delivered s.got) (serials s) (λ k. left_more (s.process k).delivered m s.got) in
+    omega (arith, more, length-range_with_len 1 s.used)
+
+-- less of the last is less, where the first is not much more
+less_by_last : (a b c u x y : ℕ) → a ≤ b + u → x < y → a + c + (u + 1) * x < b + c + (u + 1) * y
+less_by_last a b c u x y le less =
+    let times : (u + 1) * suc x ≤ (u + 1) * y = mul-le-mul_left (u + 1) (omega arith) in
+    omega (arith, times, mul-suc (u + 1) x)
+
+to_do_orders : (s : State) (g : GroupNo) (p : Proc) → In g s.config.groups → holder_at s.here (s.group g) ≡ Some p → not (is_empty (unlisted s g p.serial)) ≡ true → to_do (receiving s (order_message s g p.serial)) < to_do s
+to_do_orders s g p at holder some =
+    let m : Message = order_message s g p.serial in
+    less_by_last (undelivered (receiving s m)) (undelivered s) (ranks s) s.used (to_list (receiving s m)) (to_list s)
+    (undelivered_more s m)
+    (total_lt (to_list_in (receiving s m)) (to_list_in s) s.config.groups g (to_list_received s m refl) at (to_list_ordered s g p holder some))
+
+-- there is something to list where a set-order message may be sent
+has_unlisted : (s : State) (g : GroupNo) (k : ℕ) → may_set_order s g k ≡ true → not (is_empty (unlisted s g k)) ≡ true
+has_unlisted s g k may =
+    let a = and_parts (is_member ((s.process k).standing g)) _ may in
+    let b = and_parts (may_order s) _ a.1 in
+    (and_parts (not (is_empty (unlisted s g k))) _ b.1).0
+
+moves_set_order_by : (s : State) (g : GroupNo) (p : Proc) → In g s.config.groups → holder_at s.here (s.group g) ≡ Some p → Moves s (set_order_by s g p.serial)
+moves_set_order_by s g p at holder =
+    let m : Message = order_message s g p.serial in
+    let t : State = sending_message s p.serial m in
+    let a : Alike (receiving s m) (let_go t) = alike_then (receiving s m) t (let_go t) (alike_sending s g p.serial m.body) (alike_let_go t) in
+    moves_if s (let_go t) s (may_set_order s g p.serial)
+    (λ may. record { config = a.config; used = a.used; way = inr (subst (λ n. n < to_do s) (sym (to_do_alike (receiving s m) (let_go t) a)) (to_do_orders s g p at holder (has_unlisted s g p.serial may))) })
+    (moves_self s)
+
+moves_set_order : (s : State) (g : GroupNo) → In g s.config.groups → Moves s (set_order s g)
+moves_set_order s g at =
+    elim (holder_at s.here (s.group g)) as (λ o. holder_at s.here (s.group g) ≡ o → Moves s (elim o [ Some p ↦ set_order_by s g p.serial | None ↦ s ])) [
+      | None ↦ λ _. moves_self s
+      | Some p ↦ λ holder. moves_set_order_by s g p at holder
+    ] refl
+
+moves_set_orders : (s : State) → Moves s (set_orders s)
+moves_set_orders s = moves_fold s set_order s.config.groups (λ g at t u c. moves_set_order t g (subst (λ x. In g x.groups) (sym c) at)) s refl refl
+
+-- The home
+
+weaker : (a b : ℕ) → a < b → a ≤ b
+weaker a b h = omega arith
+
+at_group_le : (t : GroupNo → Home) (g : GroupNo) (v : Home) → rank v ≤ rank (t g) → (h : GroupNo) → rank (set_at group_eq t g v h) ≤ rank (t h)
+at_group_le t g v le h =
+    elim (group_eq g h) as (λ b. group_eq g h ≡ b → rank (if b then v else t h) ≤ rank (t h)) [
+      | true ↦ λ at. subst (λ i. rank v ≤ rank (t i)) (same_group g h at) le
+      | false ↦ λ at. omega arith
+    ] refl
+
+at_group_lt : (t : GroupNo → Home) (g : GroupNo) (v : Home) → rank v < rank (t g) → rank (set_at group_eq t g v g) < rank (t g)
+at_group_lt t g v lt = subst (λ b. rank (if b then v else t g) < rank (t g)) (sym (group_itself g)) lt
+
+-- the home moves on
+home_less : (s : State) (g : GroupNo) (h : Home) → In g s.config.groups → rank h < rank (s.home g) → to_do (set_home s g h) < to_do s
+home_less s g h at less =
+    plus_less (undelivered s) (ranks (set_home s g h)) (ranks s) ((s.used + 1) * to_list s)
+    (total_lt (λ i. rank (set_at group_eq s.home g h i)) (λ i. rank (s.home i)) s.config.groups g
+    (at_group_le s.home g h (weaker _ _ less)) at
+    (at_group_lt s.home g h less))
+  where
+    plus_less : (a x y b : ℕ) → x < y → a + x + b < a + y + b
+    plus_less a x y b h = omega arith
+
+-- a decided view has a number
+numbered : (n : ℕ) → one_if (n + 1 == 0) ≡ 0
+numbered n = grind (arith, nat_tests)
+
+decided_less : (h : Home) → may_decide h ≡ true → rank (decided h) < rank h
+decided_less h e =
+    let a = and_parts (is_idle h.phase) _ e in
+    let b = and_parts (h.number == 0) _ a.1 in
+    let was : ◌≡◌ {A = ℕ} (rank h) 1 = ap one_if b.0 in
+    let is : ◌≡◌ {A = ℕ} (rank (decided h)) 0 = numbered h.number in
+    omega arith
+
+moves_decide : (s : State) (g : GroupNo) → In g s.config.groups → Moves s (decide s g)
+moves_decide s g at =
+    let t : State = set_home s g (decided (s.home g)) in
+    let u : State = fold (send_install g (decided (s.home g))) t (sites_of (s.home g).joins) in
+    let a : Alike t u = alike_fold (send_install g (decided (s.home g))) (λ x to. alike_emitted x to (install_frame g (decided (s.home g)) to)) (sites_of (s.home g).joins) t in
+    moves_if s u s (may_decide (s.home g))
+    (λ e. record { config = a.config; used = a.used; way = inr (subst (λ n. n < to_do s) (sym (to_do_alike t u a)) (home_less s g (decided (s.home g)) at (decided_less (s.home g) e))) })
+    (moves_self s)
+
+moves_lead_all : (s : State) → Moves s (lead_all s)
+moves_lead_all s =
+    moves_if s (fold decide s s.config.groups) s (is_home s)
+    (λ _. moves_fold s decide s.config.groups (λ g at t u c. moves_decide t g (subst (λ x. In g x.groups) (sym c) at)) s refl refl)
+    (moves_self s)
+
+pub moves_pass : PassMoves
+moves_pass s =
+    moves_then s (settle s) (pass s) (moves_settle s)
+    (moves_then (settle s) (set_orders (settle s)) (pass s) (moves_set_orders (settle s)) (moves_lead_all (set_orders (settle s))))
+
+-- The end
+
+abbrev Rests : State → Type 0
+Rests s = (t : State) × RestsAt s t
+
+one_more : (s : State) → Rests (pass s) → Rests s
+one_more s r = (r.0, (suc r.1.0, r.1.1, r.1.2))
+
+rests_below : (n : ℕ) (s : State) → to_do s < n → Rests s
+rests_below zero s lt = absurd (omega arith)
+rests_below (suc n) s lt = elim (moves_pass s).way [
+  | inl e ↦ (s, (zero, refl, e))
+  | inr f ↦ one_more s (rests_below n (pass s) (omega arith))
+]
+
+pub comes_to_rest : EachComesToRest
+comes_to_rest s = rests_below (to_do s + 1) s (omega arith)
+
+pub rests_at_one : RestIsOne
+rests_at_one s t u a b =
+    sym (iterate_still b.0 pass t a.2)
+    ∙ ap (iterate b.0 pass) (sym a.1)
+    ∙ iterate_twice b.0 a.0 pass s
+    ∙ ap (iterate a.0 pass) b.1
+    ∙ iterate_still a.0 pass u b.2

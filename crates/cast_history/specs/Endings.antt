@@ -1,0 +1,86 @@
+-- The rest after an event comes to an end: what each change of a pass lowers, and the laws that follow.
+use Rattle.std.specs.Prelude.{◌≡◌, ℕ, ◌+◌, ◌*◌, ◌<◌, ◌⊎◌, Bool, not, ◌&&◌, ◌==◌, if◌then◌else◌, List, [], ◌∷◌, length, filter, Some, None}
+use Rattle.std.specs.List.{list_any, find}
+use Rattle.cast_types.specs.declared.names.GroupNo.{GroupNo}
+use Rattle.cast_types.specs.declared.names.Uid.{Uid}
+use Rattle.cast_types.specs.Names.{uid_eq, is_atomic}
+use Rattle.cast_types.specs.Repeat.{iterate}
+use Rattle.cast_message.specs.declared.message.Message.{Message}
+use Rattle.cast_message.specs.Bodies.{kind_of}
+use Rattle.cast_delay.specs.Ready.{has_delivered}
+use Rattle.cast_model.specs.declared.home.Home.{Home}
+use Rattle.cast_model.specs.Group.{holder_at}
+use Rattle.cast_history.specs.State.{State, serials}
+use Rattle.cast_history.specs.Order.{is_of_view, unlisted, is_ready_for}
+use Rattle.cast_history.specs.Rest.{deliver_first, deliver_all, pass, RestsAt}
+
+-- the sum over a list
+abbrev pub total : {A : Type 0} → (A → ℕ) → List A → ℕ
+total f [] = 0
+total f (x ∷ xs) = f x + total f xs
+
+abbrev pub one_if : Bool → ℕ
+one_if b = if b then 1 else 0
+
+-- how many messages are not among these
+abbrev pub left : List Uid → List Message → ℕ
+left ids [] = 0
+left ids (m ∷ got) = one_if (not (list_any (uid_eq m.id) ids)) + left ids got
+
+-- how many pairs of a process and a message that it has not delivered there are
+abbrev pub undelivered : State → ℕ
+undelivered s = total (λ k. left (s.process k).delivered s.got) (serials s)
+
+-- the decision that a group's home can still come to
+abbrev pub rank : Home → ℕ
+rank h = one_if (h.number == 0)
+
+abbrev pub ranks : State → ℕ
+ranks s = total (λ g. rank (s.home g)) s.config.groups
+
+-- an ABCAST of a group's view that a process of this site has not delivered
+abbrev pub is_to_come : State → GroupNo → ℕ → Message → Bool
+is_to_come s g k m = is_of_view s g m.id && (is_atomic (kind_of m.body) && not (has_delivered (s.process k) m.id))
+
+-- how many ABCASTs a process of this site has still to list, delivered or not
+abbrev pub to_list_by : State → GroupNo → ℕ → ℕ
+to_list_by s g k = length (unlisted s g k) + length (filter (is_to_come s g k) s.got)
+
+-- how many the holder has, where it is a process of this site
+abbrev pub to_list_in : State → GroupNo → ℕ
+to_list_in s g = elim (holder_at s.here (s.group g)) [ Some p ↦ to_list_by s g p.serial | None ↦ 0 ]
+
+abbrev pub to_list : State → ℕ
+to_list s = total (to_list_in s) s.config.groups
+
+-- what is to be done at the most: a set-order message lists an ABCAST, and is one more message for each process
+abbrev pub to_do : State → ℕ
+to_do s = undelivered s + ranks s + (s.used + 1) * to_list s
+
+-- a move of a pass changes nothing, or lowers what is to be done
+pub record Moves (s : State) (t : State) : Type 0 where
+  pub config : t.config ≡ s.config
+  pub used : t.used ≡ s.used
+  pub way : (t ≡ s) ⊎ (to_do t < to_do s)
+
+-- a pass changes nothing, or lowers what is to be done
+abbrev pub PassMoves : Type 0
+PassMoves = (s : State) → Moves s (pass s)
+
+-- each state comes to rest
+abbrev pub EachComesToRest : Type 0
+EachComesToRest = (s : State) → (t : State) × RestsAt s t
+
+-- and at one state alone
+abbrev pub RestIsOne : Type 0
+RestIsOne = (s t u : State) → RestsAt s t → RestsAt s u → t ≡ u
+
+-- nothing is ready for a process that has delivered all that it can
+abbrev pub SettlesOne : Type 0
+SettlesOne = (s : State) (k : ℕ) → find (is_ready_for (deliver_all s k) k) (deliver_all s k).got ≡ None
+
+-- however many turns were taken: where nothing is ready, that was all
+abbrev pub TurnsAreEnough : Type 0
+TurnsAreEnough =
+    (s : State) (k : ℕ) (n : ℕ) →
+    find (is_ready_for (iterate n (deliver_first k) s) k) (iterate n (deliver_first k) s).got ≡ None → iterate n (deliver_first k) s ≡ deliver_all s k

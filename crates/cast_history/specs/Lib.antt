@@ -1,0 +1,9 @@
+pub mod State
+pub mod Order
+pub mod Owing
+pub mod Effects
+pub mod Rest
+pub mod Step
+pub mod Run
+pub mod Lawful
+pub mod Endings

@@ -1,0 +1,187 @@
+-- The state of one domain at one site, with its whole history, and what its parts say together.
+use Rattle.std.specs.Prelude.{ℕ, ◌*◌, Bool, not, ◌&&◌, ◌==◌, nat_lt, nat_le, if◌then◌else◌, List, [], ◌∷◌, ◌++◌, length, filter, Option}
+use Rattle.std.specs.List.{find, list_any, list_all, range_with_len}
+use Rattle.cast_types.specs.declared.names.SiteNo.{SiteNo}
+use Rattle.cast_types.specs.declared.names.GroupNo.{GroupNo}
+use Rattle.cast_types.specs.declared.names.Proc.{Proc}
+use Rattle.cast_types.specs.declared.names.Uid.{Uid}
+use Rattle.cast_types.specs.declared.names.Standing.{Standing}
+use Rattle.cast_types.specs.declared.names.Standing.TheVariants.{Outside}
+use Rattle.cast_types.specs.Names.{site_eq, group_eq, proc_eq, uid_eq, is_order}
+use Rattle.cast_types.specs.Sets.{is_among, set_at}
+use Rattle.cast_clock.specs.Times.{no_time, clock_of, count_in}
+use Rattle.cast_message.specs.declared.message.Message.{Message}
+use Rattle.cast_message.specs.Bodies.{kind_of}
+use Rattle.cast_message.specs.declared.message.Body.{Body}
+use Rattle.cast_message.specs.declared.site.SiteFrame.{SiteFrame}
+use Rattle.cast_stable.specs.Stable.{Acked, stable_upto, is_known_stable}
+use Rattle.cast_timer.specs.declared.key.Owed.{Owed}
+use Rattle.cast_delay.specs.Ready.{Process, Gate, is_member, has_delivered}
+use Rattle.cast_model.specs.declared.session.Session.{Session}
+use Rattle.cast_model.specs.Session.{no_session}
+use Rattle.cast_model.specs.declared.group.Group.{Group}
+use Rattle.cast_model.specs.Group.{no_group, members_of, other_sites, is_current}
+use Rattle.cast_model.specs.declared.home.Home.{Home}
+use Rattle.cast_model.specs.Home.{first_home}
+use Rattle.cast_model.specs.declared.config.DomainConfig.{DomainConfig}
+
+pub record State : Type 0 where
+  pub here : SiteNo
+  pub config : DomainConfig
+  -- in milliseconds; it never goes back
+  pub moment : ℕ
+  -- serials are used from 1 on, and never again
+  pub used : ℕ
+  pub session : ℕ → Session
+  pub process : ℕ → Process
+  -- the ABCASTs that each process ever delivered, in order
+  pub abcasts : ℕ → List Uid
+  pub group : GroupNo → Group
+  pub home : GroupNo → Home
+  -- every message ever received, in order, and those of them that were not let go
+  pub got : List Message
+  pub kept : List Message
+  -- which site acknowledged which message of a local process, and what other sites told to be stable
+  pub acks : List Acked
+  pub told : List Uid
+  -- the frames that are sent again until they are answered
+  pub owed : List Owed
+  -- of the event at hand: the frames sent, and the deliveries
+  pub frames : List (SiteNo × SiteFrame)
+  pub deliveries : List (Proc × Uid)
+
+abbrev pub no_process : Process
+no_process = record { time = no_time; standing = λ g. Outside; delivered = [] }
+
+-- a domain before its first event
+abbrev pub opening : SiteNo → DomainConfig → State
+opening here config =
+    record {
+      here = here;
+      config = config;
+      moment = 0;
+      used = 0;
+      session = λ k. no_session;
+      process = λ k. no_process;
+      abcasts = λ k. [];
+      group = λ g. no_group;
+      home = λ g. first_home;
+      got = [];
+      kept = [];
+      acks = [];
+      told = [];
+      owed = [];
+      frames = [];
+      deliveries = [];
+    }
+
+-- Names
+
+abbrev pub local : State → ℕ → Proc
+local s k = record { site = s.here; serial = k }
+
+abbrev pub serials : State → List ℕ
+serials s = range_with_len 1 s.used
+
+-- a serial that was given
+abbrev pub was_given : ℕ → ℕ → Bool
+was_given used k = nat_lt 0 k && nat_le k used
+
+abbrev pub is_home : State → Bool
+is_home s = site_eq s.here s.config.home
+
+abbrev pub is_site : State → SiteNo → Bool
+is_site s t = is_among site_eq t s.config.sites
+
+abbrev pub is_group : State → GroupNo → Bool
+is_group s g = is_among group_eq g s.config.groups
+
+-- Changes at one place
+
+abbrev pub set_session : State → ℕ → Session → State
+set_session s k v = record s { session = set_at (λ a b. a == b) s.session k v }
+
+abbrev pub set_process : State → ℕ → Process → State
+set_process s k v = record s { process = set_at (λ a b. a == b) s.process k v }
+
+abbrev pub set_group : State → GroupNo → Group → State
+set_group s g v = record s { group = set_at group_eq s.group g v }
+
+abbrev pub set_home : State → GroupNo → Home → State
+set_home s g v = record s { home = set_at group_eq s.home g v }
+
+abbrev pub set_standing : State → ℕ → GroupNo → Standing → State
+set_standing s k g v =
+    set_process s k (record (s.process k) { standing = set_at group_eq (s.process k).standing g v })
+
+abbrev pub emitted : State → SiteNo → SiteFrame → State
+emitted s to f = record s { frames = s.frames ++ (to, f) ∷ [] }
+
+-- Messages
+
+abbrev pub is_received : State → Uid → Bool
+is_received s u = list_any (λ m. uid_eq m.id u) s.got
+
+-- how many messages are kept, over all groups
+abbrev pub held : State → ℕ
+held s = length s.kept
+
+-- a cast, or a cast from another site, may be received beside those that are kept
+abbrev pub may_receive : State → Bool
+may_receive s = nat_lt (held s) s.config.quotas.held
+
+-- a set-order message may be sent or received beside them, and a holder may deliver an ABCAST: there is room for these
+-- where casts find none
+abbrev pub may_order : State → Bool
+may_order s = nat_lt (held s) (2 * s.config.quotas.held)
+
+-- a message of this body may be received from another site
+abbrev pub may_take : State → Body → Bool
+may_take s b = if is_order (kind_of b) then may_order s else may_receive s
+
+-- the kept message of an id
+abbrev pub message_of : State → Uid → Option Message
+message_of s u = find (λ m. uid_eq m.id u) s.kept
+
+abbrev pub others_of : State → GroupNo → List SiteNo
+others_of s g = other_sites s.here (members_of (s.group g))
+
+-- Stability
+
+-- how many messages of a local process are stable
+abbrev pub upto : State → Uid → ℕ
+upto s u = stable_upto s.acks (others_of s u.group) u.group u.view u.proc
+
+-- known to be stable
+abbrev pub is_stable : State → Uid → Bool
+is_stable s u = is_known_stable s.here (others_of s u.group) s.acks s.told u
+
+-- the serials of the local members of a group
+abbrev pub local_members : State → GroupNo → List ℕ
+local_members s g = filter (λ k. is_member ((s.process k).standing g)) (serials s)
+
+-- a message of the current view that is stable, and that each local member has delivered
+abbrev pub is_free : State → Uid → Bool
+is_free s u =
+    is_current (s.group u.group) u.view
+    && (is_stable s u && list_all (λ k. has_delivered (s.process k) u) (local_members s u.group))
+
+-- free messages are let go
+abbrev pub let_go : State → State
+let_go s = record s { kept = filter (λ m. not (is_free s m.id)) s.kept }
+
+-- Readiness
+
+abbrev pub gate_of : State → GroupNo → Gate
+gate_of s g = record { number = (s.group g).number }
+
+-- the message's own time has its view and its count, from 1 on
+abbrev pub counts_itself : Message → Bool
+counts_itself m =
+    ((clock_of m.times m.id.group).view == m.id.view)
+    && (nat_lt 0 m.id.count && (count_in m.times m.id.group m.id.proc == m.id.count))
+
+-- well formed: all its groups are configured, its process is one of these, and its own time counts it
+abbrev pub is_well_formed : State → List Proc → Message → Bool
+is_well_formed s members m =
+    is_group s m.id.group && (list_all (λ c. is_group s c.0) m.times && (is_among proc_eq m.id.proc members && counts_itself m))
