@@ -20,6 +20,7 @@ use Rattle.cast_model.specs.declared.session.Session.{Session}
 use Rattle.cast_model.specs.Session.{no_session, is_open}
 use Rattle.cast_model.specs.Group.{holder_at}
 use Rattle.cast_model.specs.Home.{is_empty}
+use Rattle.cast_history.specs.Lawful.{IsLawful}
 use Rattle.cast_history.specs.State.{State, no_process, local, serials, gate_of, others_of, upto, was_given}
 use Rattle.cast_history.specs.Order.{facts_in, abcasts_delivered, lists_of}
 use Rattle.cast_history.specs.Run.{before_event}

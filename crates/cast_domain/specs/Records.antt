@@ -11,6 +11,7 @@ use Rattle.cast_delay.specs.Queue.{Queue}
 use Rattle.cast_stable.specs.Ledger.{Ledger}
 use Rattle.cast_order.specs.Log.{Log}
 use Rattle.cast_model.specs.declared.config.DomainConfig.{DomainConfig}
+use Rattle.cast_history.specs.State.{was_given}
 use Rattle.cast_domain.specs.declared.domain.Domain.{Domain}
 use Rattle.cast_domain.specs.declared.record.GroupRecord.{GroupRecord}
 use Rattle.cast_model.specs.declared.session.Session.{Session}
