@@ -1,0 +1,63 @@
+-- All that unfolds when a script's text is computed.
+
+unfoldable pub everything : Unit {0}
+unfolding
+    Rattle.cast_order.specs.Order.known_order Rattle.cast_frame.specs.Reading.within_range
+    Rattle.cast_frame.specs.Reading.byte_at Rattle.cast_frame.specs.Reading.number_at
+    Rattle.cast_frame.specs.Reading.bytes_at Rattle.cast_frame.specs.Reading.many Rattle.cast_frame.specs.Reading.above
+    Rattle.cast_frame.specs.Reading.domain_at Rattle.cast_frame.specs.Reading.site_at
+    Rattle.cast_frame.specs.Reading.group_at Rattle.cast_frame.specs.Reading.count_at Rattle.cast_frame.specs.Reading.proc_at
+    Rattle.cast_frame.specs.Reading.entry_at Rattle.cast_frame.specs.Reading.uid_at
+    Rattle.cast_frame.specs.Reading.proc_above Rattle.cast_frame.specs.Reading.entry_above
+    Rattle.cast_frame.specs.Reading.counts_at Rattle.cast_frame.specs.Reading.group_above
+    Rattle.cast_frame.specs.Reading.clock_above Rattle.cast_frame.specs.Reading.times_at
+    Rattle.cast_frame.specs.Reading.payload_at Rattle.cast_frame.specs.Reading.id_at
+    Rattle.cast_frame.specs.Reading.sequence_at Rattle.cast_frame.specs.Reading.kind_at
+    Rattle.cast_frame.specs.Reading.causal_at Rattle.cast_frame.specs.Reading.atomic_at
+    Rattle.cast_frame.specs.Reading.order_at Rattle.cast_frame.specs.Reading.body_at
+    Rattle.cast_frame.specs.Reading.message_at Rattle.cast_frame.specs.Reading.holder_at
+    Rattle.cast_frame.specs.Reading.members_at Rattle.cast_frame.specs.Reading.tail_at
+    Rattle.cast_frame.specs.Reading.id_above Rattle.cast_frame.specs.Reading.mark_at
+    Rattle.cast_frame.specs.Reading.marked_above Rattle.cast_frame.specs.Reading.kept_at
+    Rattle.cast_frame.specs.Reading.full_of Rattle.cast_frame.specs.Reading.data_at Rattle.cast_frame.specs.Reading.ack_at
+    Rattle.cast_frame.specs.Reading.stable_at Rattle.cast_frame.specs.Reading.ask_at Rattle.cast_frame.specs.Reading.asked_at
+    Rattle.cast_frame.specs.Reading.prepare_at Rattle.cast_frame.specs.Reading.flushed_at
+    Rattle.cast_frame.specs.Reading.want_at Rattle.cast_frame.specs.Reading.forward_at
+    Rattle.cast_frame.specs.Reading.install_at Rattle.cast_frame.specs.Reading.installed_at
+    Rattle.cast_frame.specs.Reading.out_at Rattle.cast_frame.specs.Reading.type_of Rattle.cast_frame.specs.Reading.type_at
+    Rattle.cast_frame.specs.Reading.fields_at Rattle.cast_frame.specs.Reading.magic_at
+    Rattle.cast_frame.specs.Reading.version_at Rattle.cast_frame.specs.Reading.frame_at
+    Rattle.cast_frame.specs.Reading.site_frame_of Rattle.cast_frame.specs.Spelling.byte
+    Rattle.cast_frame.specs.Spelling.short Rattle.cast_frame.specs.Spelling.word
+    Rattle.cast_frame.specs.Spelling.spelled_proc Rattle.cast_frame.specs.Spelling.spelled_entry
+    Rattle.cast_frame.specs.Spelling.spelled_uid Rattle.cast_frame.specs.Spelling.spelled_counts
+    Rattle.cast_frame.specs.Spelling.spelled_clock Rattle.cast_frame.specs.Spelling.spelled_times
+    Rattle.cast_frame.specs.Spelling.spelled_payload Rattle.cast_frame.specs.Spelling.spelled_sequence
+    Rattle.cast_frame.specs.Spelling.spelled_body Rattle.cast_frame.specs.Spelling.spelled_message
+    Rattle.cast_frame.specs.Spelling.spelled_holder Rattle.cast_frame.specs.Spelling.spelled_members
+    Rattle.cast_frame.specs.Spelling.spelled_tail Rattle.cast_frame.specs.Spelling.spelled_marked
+    Rattle.cast_frame.specs.Spelling.spelled_kept Rattle.cast_frame.specs.Spelling.spelled_fields
+    Rattle.cast_frame.specs.Spelling.spelled_site Rattle.cast_script.specs.Readings.each
+    Rattle.cast_script.specs.Readings.spelled_number Rattle.cast_script.specs.Readings.number_of
+    Rattle.cast_script.specs.Readings.within Rattle.cast_script.specs.Readings.number_within
+    Rattle.cast_script.specs.Readings.domain_of Rattle.cast_script.specs.Readings.site_of
+    Rattle.cast_script.specs.Readings.group_of Rattle.cast_script.specs.Readings.checked_sites
+    Rattle.cast_script.specs.Readings.sites_of Rattle.cast_script.specs.Readings.checked_groups
+    Rattle.cast_script.specs.Readings.groups_of Rattle.cast_script.specs.Readings.fixed_of
+    Rattle.cast_script.specs.Readings.bytes_of Rattle.cast_script.specs.Readings.head_of
+    Rattle.cast_script.specs.Readings.behind_first Rattle.cast_script.specs.Readings.site_words
+    Rattle.cast_script.specs.Readings.site_behind Rattle.cast_script.specs.Readings.site_line
+    Rattle.cast_script.specs.Readings.place_words Rattle.cast_script.specs.Readings.list_words
+    Rattle.cast_script.specs.Readings.quota_words Rattle.cast_script.specs.Readings.domain_parts
+    Rattle.cast_script.specs.Readings.domain_words Rattle.cast_script.specs.Readings.domain_behind
+    Rattle.cast_script.specs.Readings.domain_line Rattle.cast_script.specs.Readings.request_parts
+    Rattle.cast_script.specs.Readings.open_words Rattle.cast_script.specs.Readings.join_words
+    Rattle.cast_script.specs.Readings.leave_words Rattle.cast_script.specs.Readings.cast_words
+    Rattle.cast_script.specs.Readings.bad_words Rattle.cast_script.specs.Readings.frame_words
+    Rattle.cast_script.specs.Readings.tick_words Rattle.cast_script.specs.Readings.event_behind
+    Rattle.cast_script.specs.Readings.event_line Rattle.cast_script.specs.Readings.site_at
+    Rattle.cast_script.specs.Readings.domain_at Rattle.cast_script.specs.Readings.event_at
+    Rattle.cast_script.specs.Readings.domain_on Rattle.cast_script.specs.Readings.site_on
+    Rattle.cast_script.specs.Readings.script_of Rattle.std.specs.Fmt.digits Rattle.hex.specs.Hex.encode_with
+    Rattle.hex.specs.Hex.decode_pairs
+everything = tt

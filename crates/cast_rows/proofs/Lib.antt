@@ -1,0 +1,10 @@
+pub mod Everything
+pub mod Refusals
+pub mod Frames
+pub mod Room
+pub mod Ordering
+pub mod Stability
+pub mod Ticks
+pub mod Requests
+pub mod Homes
+pub mod Scripts
