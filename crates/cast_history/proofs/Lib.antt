@@ -5,6 +5,7 @@ pub mod Overlapping
 pub mod Ignored
 pub mod Keeping
 pub mod Placing
+pub mod Delivering
 pub mod Totals
 pub mod Listings
 pub mod Alikes
