@@ -1,4 +1,6 @@
-use cast_types::{DomainNo, GroupNo, Listed, SiteNo};
+ghost use Rattle.std.specs.Prelude.{◌≡◌, IfOk};
+
+use cast_types::{DomainNo, GroupNo, Listed, NoMemory, SiteNo};
 
 /// What a domain may use of its daemon.
 #[derive(Clone, Copy, Debug, PartialEq, Eq)]
@@ -24,6 +26,21 @@ pub struct DomainConfig {
     /// 1 to 32, rising.
     pub groups: Listed<GroupNo>,
     pub quotas: Quotas,
+}
+
+impl DomainConfig {
+    /// The same configuration once more.
+    pub fn copy(&self) -> Result<Self, NoMemory>
+        ensures { IfOk result (λ copy. copy ≡ self.now) }
+    {
+        Ok(DomainConfig {
+            domain: self.domain,
+            home: self.home,
+            sites: self.sites.copy()?,
+            groups: self.groups.copy()?,
+            quotas: self.quotas,
+        })
+    }
 }
 
 /// A daemon as it is configured: its own site, and its domains in the order of their file.

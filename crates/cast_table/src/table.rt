@@ -8,7 +8,7 @@ ghost use Rattle.cast_table.specs.Replays.{AnswersNoDomain, IsReplay, are_distin
 
 use cast_domain::{Domain, Session, Shared};
 use cast_message::{Push, SiteFrame};
-use cast_model::{Config, DomainConfig, Event, Fault, Given, Log, Outs, Taken};
+use cast_model::{Config, Event, Fault, Given, Log, Outs, Taken};
 use cast_types::{DomainNo, Listed, NoMemory, SiteNo};
 use std::alloc::{AllocError, Global};
 use std::mem;
@@ -28,7 +28,7 @@ impl Table {
     {
         let mut domains = Vec::new(alloc);
         for domain in config.domains.as_slice() {
-            let tenant = Domain::new(alloc, config.site, copied(domain)?)?;
+            let tenant = Domain::new(alloc, config.site, domain.copy()?)?;
             put_in(&mut domains, tenant)?;
         }
         Ok(Table {
@@ -99,19 +99,6 @@ impl Table {
             None => Ok(Taken::Nothing),
         }
     }
-}
-
-// A copy of a domain's configuration.
-fn copied(config: &DomainConfig) -> Result<DomainConfig, NoMemory>
-    ensures { IfOk result (λ copy. copy ≡ config.now) }
-{
-    Ok(DomainConfig {
-        domain: config.domain,
-        home: config.home,
-        sites: config.sites.copy()?,
-        groups: config.groups.copy()?,
-        quotas: config.quotas,
-    })
 }
 
 // Puts a domain before the first whose number is above its own.

@@ -12,7 +12,7 @@ loop-domain-preserved c =
     let i = c.loop-domain.domain-index in
     let items = c.as_slice-domain-items.result.now in
     let domains = c.loop-domain.domains.items in
-    let config = c.in_ok-copied.field-0 in
+    let config = c.in_ok-copy.field-0 in
     let domain = c.in_ok-tenant.tenant in
     let is_new : IsNew c.args.config.now.site config domain =
     record {
@@ -24,7 +24,7 @@ loop-domain-preserved c =
     } in
     let more = put_more (IsNew c.args.config.now.site) (λ k d new. new.number) config domain is_new (take i items) domains c.loop-domain.invariant in
     let one : take i items ++ config ∷ [] ≡ take (i + 1) items =
-    ap (λ (k : DomainConfig). take i items ++ k ∷ []) (c.in_ok-copied.ensures ∙ c.domain-item.is) ∙ sym (take_more items i c.domain-item.result c.loop-domain-test.true) in
+    ap (λ (k : DomainConfig). take i items ++ k ∷ []) (c.in_ok-copy.ensures ∙ c.domain-item.is) ∙ sym (take_more items i c.domain-item.result c.loop-domain-test.true) in
     let put : c.put_in.new.domains.items ≡ insert domains (place_for config.domain domains) domain =
     c.in_ok-put_in.ensures ∙ ap (λ (n : DomainNo). insert domains (place_for n domains) domain) is_new.number in
     subst (λ xs. AllZip (IsNew c.args.config.now.site) (by_number xs) c.put_in.new.domains.items) one
