@@ -10,7 +10,7 @@ use Rattle.cast_message.specs.declared.message.Message.{Message}
 use Rattle.cast_message.specs.declared.site.Change.TheVariants as change
 use Rattle.cast_message.specs.Keeping.{KeptList}
 use Rattle.cast_message.specs.Stretch.{Stretch}
-use Rattle.cast_view.specs.declared.report.Report.{Report}
+use Rattle.cast_flush.specs.declared.report.Report.{Report}
 use Rattle.cast_view.specs.declared.phase.Phase.TheVariants.{Installing}
 use Rattle.cast_view.specs.Home.{Home, first_home, answer_to, after_ask, after_suspicion, after_start, after_reply, after_body, wants_in, after_decision, after_installed}
 

@@ -1,8 +1,3 @@
-pub mod Each
-pub mod Gathered
-pub mod Cuts
-pub mod Lacking
-pub mod Ends
 pub mod Risings
 pub mod Among
 pub mod Rooms

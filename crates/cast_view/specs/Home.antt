@@ -11,13 +11,13 @@ use Rattle.cast_message.specs.declared.message.Message.{Message}
 use Rattle.cast_message.specs.declared.site.Change.{Change}
 use Rattle.cast_message.specs.declared.site.Change.TheVariants as change
 use Rattle.cast_message.specs.Membership.{Membership}
-use Rattle.cast_view.specs.declared.report.Report.{Report}
+use Rattle.cast_flush.specs.declared.report.Report.{Report}
 use Rattle.cast_view.specs.declared.phase.Answer.{Answer}
 use Rattle.cast_view.specs.declared.phase.Decision.{Decision}
 use Rattle.cast_view.specs.declared.phase.Phase.{Phase}
 use Rattle.cast_view.specs.declared.phase.Phase.TheVariants.{Idle, Gathering, Installing}
-use Rattle.cast_view.specs.Reports.{has_report, is_complete, cut_from, wanting, wants_of}
-use Rattle.cast_view.specs.Decisions.{order_from}
+use Rattle.cast_flush.specs.Reports.{has_report, is_complete, cut_from, wanting, wants_of}
+use Rattle.cast_flush.specs.Decisions.{order_from}
 
 pub record Home : Type 0 where
   -- the number of the last decided view, and its members

@@ -1,4 +1,2 @@
-pub mod Reports
-pub mod Decisions
 pub mod Home
 pub mod Laws

@@ -2,16 +2,14 @@ ghost use Rattle.std.specs.Prelude.{◌≡◌, ◌≤◌, false, IfOk, OnOk, IsT
 ghost use Rattle.cast_types.specs.Names.{Entry, proc_cmp, proc_eq, site_cmp, site_eq};
 ghost use Rattle.cast_types.specs.Sets.{with_item, with_items, without, apart_from};
 ghost use Rattle.cast_message.specs.Membership.{is_held};
-ghost use Rattle.cast_view.specs.Reports.{cut_from, wanting};
-ghost use Rattle.cast_view.specs.Decisions.{order_from};
+ghost use Rattle.cast_flush.specs.Reports.{cut_from, wanting};
+ghost use Rattle.cast_flush.specs.Decisions.{order_from};
 ghost use Rattle.cast_view.specs.Home.{sites_of, least_of};
 
-use crate::decisions::order_from;
 use crate::phase::{Answer, Decision, Phase, installing, is_among};
 use crate::procs::{Procs, is_listed};
-use crate::report::Report;
-use crate::reports::{cut_from, is_complete, wanting, wants_of};
 use crate::sets::insert_site;
+use cast_flush::{Report, cut_from, is_complete, order_from, wanting, wants_of};
 use cast_message::{Change, Members, Message};
 use cast_types::limits::{MAX_MEMBERS, MAX_NUMBER};
 use cast_types::{GroupNo, Keyed, Listed, NoMemory, Proc, SiteNo};

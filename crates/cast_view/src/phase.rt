@@ -4,8 +4,7 @@ ghost use Rattle.cast_types.specs.Sets.{is_among, without};
 ghost use Rattle.std.specs.FinMap.Entries.{put};
 ghost use Rattle.cast_view.specs.Home.{is_idle, installing, phase_without, awaits_report, phase_with_report, phase_with_body, awaits_installed};
 
-use crate::report::Report;
-use crate::reports::has_report;
+use cast_flush::{Report, has_report};
 use cast_message::{Message, Tail};
 use cast_types::{Counts, Listed, NoMemory, SiteNo, sorted};
 

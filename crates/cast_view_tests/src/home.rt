@@ -1,7 +1,8 @@
 use bytes::Bytes;
+use cast_flush::Report;
 use cast_message::{Body, Change, Kept, Message, Payload, Tail};
 use cast_types::{Clock, Counts, GroupNo, Proc, SiteNo, Stamp, Uid};
-use cast_view::{HomeSide, Phase, Report};
+use cast_view::{HomeSide, Phase};
 use std::alloc::Global;
 use std::test::Fail;
 

@@ -1,5 +1,5 @@
 use Rattle.cast_types.specs.Names.{site_cmp}
-use Rattle.cast_view.proofs.Gathered.{added_next}
+use Rattle.cast_flush.proofs.Gathered.{added_next}
 use Rattle.cast_view.proofs.home.sites_and.Goals as goal
 
 -- one more site is added before the rest

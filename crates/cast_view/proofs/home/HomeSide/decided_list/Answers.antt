@@ -4,7 +4,7 @@ use Rattle.cast_types.specs.Names.{proc_cmp}
 use Rattle.cast_types.specs.Sets.{with_items}
 use Rattle.cast_view.specs.Home.{decided_list, stays, is_suspected, is_sound}
 use Rattle.cast_view.proofs.Rooms.{few_decided}
-use Rattle.cast_view.proofs.Gathered.{kept_next, passed_next}
+use Rattle.cast_flush.proofs.Gathered.{kept_next, passed_next}
 use Rattle.cast_view.proofs.home.HomeSide.decided_list.Goals as goal
 use Rattle.cast_view.proofs.home.HomeSide.decided_list.Goals.{then-stays+in_ok-insert, else-stays}
 

@@ -1,8 +1,8 @@
 use Rattle.std.proofs.Common.{◌≡◌, List, ap, ◌∙◌}
 use Rattle.cast_types.specs.declared.names.Proc.{Proc}
 use Rattle.cast_types.specs.Counts.{CountList}
-use Rattle.cast_view.specs.Reports.{cut_from}
-use Rattle.cast_view.specs.Decisions.{order_from}
+use Rattle.cast_flush.specs.Reports.{cut_from}
+use Rattle.cast_flush.specs.Decisions.{order_from}
 use Rattle.cast_view.specs.Home.{Home}
 use Rattle.cast_view.proofs.home.HomeSide.decision.Goals as goal
 

@@ -1,6 +1,6 @@
 use Rattle.std.proofs.Common.{◌≡◌, ℕ, true, sym, ap, ◌∙◌}
 use Rattle.std.specs.Prelude.{◌==◌}
-use Rattle.cast_view.specs.Reports.{is_complete, wanting, cut_from}
+use Rattle.cast_flush.specs.Reports.{is_complete, wanting, cut_from}
 use Rattle.cast_view.specs.Home.{Home}
 use Rattle.cast_view.proofs.Flushes.{decides_when_empty}
 use Rattle.cast_view.proofs.home.HomeSide.may_decide.Goals as goal

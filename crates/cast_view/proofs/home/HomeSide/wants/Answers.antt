@@ -3,7 +3,7 @@ use Rattle.std.specs.List.{filter_map}
 use Rattle.std.proofs.lemmas.Result.{IfOk-weaker}
 use Rattle.cast_types.specs.declared.names.SiteNo.{SiteNo}
 use Rattle.cast_types.specs.Names.{Entry}
-use Rattle.cast_view.specs.Reports.{is_complete, wanting, want_of, cut_from}
+use Rattle.cast_flush.specs.Reports.{is_complete, wanting, want_of, cut_from}
 use Rattle.cast_view.specs.Home.{Home, wants_in}
 use Rattle.cast_view.proofs.Flushes.{wants_when_complete}
 use Rattle.cast_view.proofs.home.HomeSide.wants.Goals as goal

@@ -1,7 +1,7 @@
 use Rattle.std.proofs.Common.{◌≡◌, Bool, true, not, ◌&&◌, sym, ap, ◌∙◌}
 use Rattle.cast_types.specs.Names.{site_eq}
 use Rattle.cast_types.specs.Sets.{is_among}
-use Rattle.cast_view.specs.Reports.{Reports, has_report}
+use Rattle.cast_flush.specs.Reports.{Reports, has_report}
 use Rattle.cast_view.specs.Home.{awaits_report}
 use Rattle.cast_view.proofs.phase.Phase.awaits_report.Goals as goal
 

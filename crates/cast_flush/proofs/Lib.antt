@@ -1,0 +1,5 @@
+pub mod Each
+pub mod Gathered
+pub mod Cuts
+pub mod Lacking
+pub mod Ends
