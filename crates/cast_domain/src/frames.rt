@@ -1,6 +1,7 @@
-ghost use Rattle.std.specs.Prelude.{◌≡◌, ◌<◌, false, IfOk, OnOk, vec_len};
+ghost use Rattle.std.specs.Prelude.{◌≡◌, ◌<◌, true, false, IfOk, OnOk, vec_len};
 ghost use Rattle.std.specs.List.{fold, list_all, list_any};
 ghost use Rattle.cast_types.specs.Names.{group_eq, proc_eq, uid_eq};
+ghost use Rattle.cast_types.specs.Counts.{is_counts};
 ghost use Rattle.cast_types.specs.Sets.{is_among};
 ghost use Rattle.cast_message.specs.declared.site.Change.TheVariants as asked_change;
 ghost use Rattle.cast_message.specs.declared.site.SiteFrame.TheVariants as asked_frame;
@@ -20,13 +21,22 @@ use cast_model::home::{is_among, other_sites};
 use cast_model::{Outs, Verdict};
 use cast_types::{Clock, GroupNo, NoMemory, Proc, SiteNo, Standing, Uid};
 
+// What the types of a time's clocks promise of their counts, for the proofs: nothing is done.
+fn promised_by_counts(clocks: &[(GroupNo, Clock)])
+    ensures { list_all (λ c. is_counts c.1.counts) clocks.now ≡ true }
+{
+    for clock in clocks {
+        clock.1.counts.entries();
+    }
+}
+
 // What the types of a frame's parts promise, for the proofs: nothing is done.
 pub(crate) fn promised_by_types(frame: &SiteFrame)
     ensures { IsTypedFrame frame.now }
 {
     match frame {
         SiteFrame::Data(message) => {
-            message.times.clocks();
+            promised_by_counts(message.times.clocks());
         }
         SiteFrame::Install { members, .. } => {
             members.list();

@@ -212,7 +212,7 @@ pub same_on_installed : (s : State) (from : SiteNo) (g : GroupNo) (n : ℕ) → 
 same_on_installed s from g n = same_if s (set_home s g (after_installed (s.home g) from n)) s (is_home s) (same_home s g (after_installed (s.home g) from n)) (same_self s)
 
 pub lawful_on_frame : (s : State) (from : SiteNo) (f : SiteFrame) → IsLawful s → is_group s (group_of f) ≡ true → IsTypedFrame f → IsLawful (on_frame s from f)
-lawful_on_frame s from (frame.Data m) l listed typed = lawful_on_data s from m l typed
+lawful_on_frame s from (frame.Data m) l listed typed = lawful_on_data s from m l typed.0
 lawful_on_frame s from (frame.Ack u) l listed typed = lawful_same s (on_ack s from u) (same_on_ack s from u) l
 lawful_on_frame s from (frame.Stable u) l listed typed = lawful_same s (on_stable s from u) (same_on_stable s from u) l
 lawful_on_frame s from (frame.Ask g number what p) l listed typed = lawful_same s (on_ask s from g number what p) (same_on_ask s from g number what p) l

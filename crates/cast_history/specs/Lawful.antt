@@ -1,10 +1,12 @@
 -- What holds of each history that events lead to.
 use Rattle.std.specs.Prelude.{◌≡◌, ℕ, ◌≤◌, ◌⊎◌, true, false, List, [], ◌∷◌, Contains}
+use Rattle.std.specs.List.{list_all}
 use Rattle.std.specs.FinMap.Entries.{is_sorted}
 use Rattle.cast_types.specs.declared.names.GroupNo.{GroupNo}
 use Rattle.cast_types.specs.declared.names.Uid.{Uid}
 use Rattle.cast_types.specs.Names.{group_cmp, uid_eq}
 use Rattle.cast_types.specs.Sets.{is_among}
+use Rattle.cast_types.specs.Counts.{is_counts}
 use Rattle.cast_types.specs.Stamps.{is_stamp}
 use Rattle.cast_clock.specs.Times.{view_of}
 use Rattle.cast_message.specs.declared.message.Message.{Message}
@@ -51,7 +53,7 @@ pub record IsLawful (s : State) : Type 0 where
 
 -- what the types of a frame's parts say
 abbrev pub IsTypedFrame : SiteFrame → Type 0
-IsTypedFrame (frame.Data m) = is_stamp m.times ≡ true
+IsTypedFrame (frame.Data m) = (is_stamp m.times ≡ true) × (list_all (λ c. is_counts c.1.counts) m.times ≡ true)
 IsTypedFrame (frame.Ack u) = Unit {0}
 IsTypedFrame (frame.Stable u) = Unit {0}
 IsTypedFrame (frame.Ask g number what p) = Unit {0}
