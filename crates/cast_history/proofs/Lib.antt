@@ -14,3 +14,6 @@ pub mod Rests
 pub mod Spots
 pub mod Lawful
 pub mod LawfulSteps
+pub mod Counting
+pub mod Raising
+pub mod RaisingSteps

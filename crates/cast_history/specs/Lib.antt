@@ -7,3 +7,4 @@ pub mod Step
 pub mod Run
 pub mod Lawful
 pub mod Endings
+pub mod Raising

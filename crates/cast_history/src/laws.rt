@@ -1,4 +1,5 @@
 ghost use Rattle.cast_history.specs.Endings.{EachComesToRest, PassMoves, RestIsOne, SettlesOne, TurnsAreEnough};
+ghost use Rattle.cast_history.specs.Raising.{CountsCanBeRaised, CountsCanBeRaisedWithin, MembersAreCounted, RunsArePassed};
 
 /// After each event, from whatever state, the rest ends, and in one state alone: a pass that changes something lowers
 /// the number of what is to be done.
@@ -13,4 +14,13 @@ pub fn rest_ends()
 pub fn deliveries_end()
     ensures settled { SettlesOne }
     ensures turns { TurnsAreEnough }
+{}
+
+/// A member's count can always be raised, unless it is the last one: after each run, and in each state that a run passes.
+/// For a member counts messages of members alone, and a view has no more of these than a time has room for.
+pub fn counts_can_be_raised()
+    ensures raised { CountsCanBeRaised }
+    ensures within { CountsCanBeRaisedWithin }
+    ensures counted { MembersAreCounted }
+    ensures passed { RunsArePassed }
 {}

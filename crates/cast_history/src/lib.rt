@@ -5,14 +5,15 @@
 //! Nothing here runs but in the mind: records and code stand for a history, and say so in their own crates.
 //!
 //! Promised: from each state an event leads to rest, in one state alone, and a process delivers all that it can
-//! (`laws::rest_ends`, `laws::deliveries_end`).
+//! (`laws::rest_ends`, `laws::deliveries_end`); and a member's count can be raised unless it is the last one
+//! (`laws::counts_can_be_raised`).
 //!
 //! The definitions are in `specs/`: `State` has what a domain knows and what of it is kept and stable, `Order` the order
 //! of a view and when a message is ready, `Owing` the frames that it owes and ticks, `Effects`, `Rest` and `Step` say
 //! what events do, and `Run` what a domain that is served alone answers, pushes and sends. `Lawful` is what holds of each
-//! history that events lead to, and `Endings` what its rest promises. The values that they speak of are those of
-//! `cast_model`, and of the parts only the definitions are named. Worked examples are computed in `proofs/`: `FirstCast`,
-//! `Waiting`, `Overlapping`, `Ignored`, `Keeping` and `Placing`.
+//! history that events lead to, `Endings` what its rest promises, and `Raising` that a member counts members alone. The
+//! values that they speak of are those of `cast_model`, and of the parts only the definitions are named. Worked examples
+//! are computed in `proofs/`: `FirstCast`, `Waiting`, `Overlapping`, `Ignored`, `Keeping` and `Placing`.
 #![tactic(auto)]
 
 pub mod laws;

@@ -1,0 +1,270 @@
+-- A history counts members alone in each state that it passes.
+use Rattle.std.proofs.Common.{◌≡◌, ℕ, ◌+◌, ◌≤◌, zero, suc, Bool, true, false, not, List, [], ◌∷◌, length, Some, None, refl, sym, subst, arith}
+use Rattle.std.specs.Prelude.{◌&&◌, ◌==◌, nat_lt, nat_le, if◌then◌else◌}
+use Rattle.std.specs.List.{fold, find, list_all, AllByRecursion}
+use Rattle.std.specs.FinMap.Entries.{is_sorted}
+use Rattle.std.proofs.lemmas.Bool.{eqb-true, and_parts, and_from, not-false}
+use Rattle.cast_types.specs.declared.names.SiteNo.{SiteNo}
+use Rattle.cast_types.specs.declared.names.GroupNo.{GroupNo}
+use Rattle.cast_types.specs.declared.names.Standing.TheVariants.{Joining}
+use Rattle.cast_types.specs.declared.refusal.Refusal.{Refusal}
+use Rattle.cast_types.specs.declared.refusal.Refusal.TheVariants.{NotOpen, TooManySessions}
+use Rattle.cast_types.specs.declared.limits.TheConstants.{MAX_NUMBER, MAX_GROUPS}
+use Rattle.cast_types.specs.Names.{site_eq, group_cmp, proc_eq}
+use Rattle.cast_types.specs.Sets.{is_among}
+use Rattle.cast_types.specs.Repeat.{iterate}
+use Rattle.cast_types.specs.Counts.{is_counts}
+use Rattle.cast_clock.specs.Times.{view_of}
+use Rattle.cast_message.specs.declared.message.Body.{Body}
+use Rattle.cast_message.specs.declared.message.Body.TheVariants as body
+use Rattle.cast_message.specs.declared.message.Message.{Message}
+use Rattle.cast_message.specs.declared.site.Change.TheVariants as change
+use Rattle.cast_message.specs.declared.site.SiteFrame.{SiteFrame}
+use Rattle.cast_message.specs.declared.site.SiteFrame.TheVariants as frame
+use Rattle.cast_message.specs.declared.client.Request.{Request}
+use Rattle.cast_message.specs.declared.client.Request.TheVariants.{Join, Leave, Cast}
+use Rattle.cast_message.specs.declared.client.Push.TheVariants as push
+use Rattle.cast_message.specs.Membership.{Membership, is_members}
+use Rattle.cast_message.specs.Rising.{is_rising}
+use Rattle.cast_delay.specs.Ready.{is_member}
+use Rattle.cast_delay.proofs.Finds.{found_in}
+use Rattle.cast_order.specs.Order.{ids_to_list, place_after}
+use Rattle.cast_model.specs.declared.config.DomainConfig.{DomainConfig}
+use Rattle.cast_model.specs.declared.group.Verdict.TheVariants.{Again, Completes, Ignored}
+use Rattle.cast_model.specs.Group.{holder_at, members_of, verdict_of}
+use Rattle.cast_model.specs.Session.{is_open}
+use Rattle.cast_message.specs.declared.client.Command.{Command}
+use Rattle.cast_message.specs.declared.client.Command.TheVariants as command
+use Rattle.cast_model.specs.declared.event.Event.{Event}
+use Rattle.cast_model.specs.declared.event.Event.TheVariants as event
+use Rattle.cast_model.specs.declared.event.Taken.{Taken}
+use Rattle.cast_model.specs.declared.event.Taken.TheVariants as taken
+use Rattle.cast_history.specs.State.{State, opening, local, serials, is_home, is_site, is_group, is_received, is_well_formed, counts_itself, may_take, let_go, set_standing, emitted, was_given}
+use Rattle.cast_history.specs.Order.{order_of, unlisted, is_ready_for}
+use Rattle.cast_history.specs.Effects.{pushing, receiving, sending, delivering, completing}
+use Rattle.cast_history.specs.Owing.{ticked}
+use Rattle.cast_history.specs.Step.{acknowledging, data_used, first_refusal, join_tests, cast_tests, joining, attempting, body_of, requested, commanded, is_used, on_data, is_from_home, on_ack, on_stable, on_ask, on_asked, on_install, on_installed, group_of, on_frame, framed, opened, Effect, acted}
+use Rattle.cast_history.specs.Rest.{deliver_first, deliver_all, settle, may_set_order, set_order_by, set_order, set_orders, decide, lead_all, pass}
+use Rattle.cast_history.specs.Run.{before_event, after_event, IsRun}
+use Rattle.cast_history.specs.Lawful.{IsLawful, IsTypedFrame, IsTyped}
+use Rattle.cast_history.specs.Raising.{IsTimeOf, IsFromMember, CountsMembers, IsPassed, opens, begins, acts, lets_go, delivers, orders, decides, CountsCanBeRaised, CountsCanBeRaisedWithin, MembersAreCounted, RunsArePassed}
+use Rattle.cast_history.proofs.Spots.{found_passes}
+use Rattle.cast_history.proofs.Lawful.{same_emitted, same_pushing, same_requesting, lawful_opening, lawful_before, lawful_let_go}
+use Rattle.cast_history.proofs.LawfulSteps.{each_passes, same_acknowledging, same_on_ack, same_on_stable, same_on_ask, same_on_asked, same_on_installed, same_ticked, same_decide, completes_unseen, later_number, lawful_acted, lawful_first, lawful_set_order, lawful_decide}
+use Rattle.cast_history.proofs.Counting.{is_clock_of, all_both}
+use Rattle.cast_history.proofs.Raising.{counts_same, counts_let_go, counts_before, counts_opening, counts_standing, counts_receiving, counts_sending, counts_delivering, counts_completing, counts_opened, next_unborn, can_raise}
+
+counts_if : (x y : State) (b : Bool) → (b ≡ true → CountsMembers x) → (b ≡ false → CountsMembers y) → CountsMembers (if b then x else y)
+counts_if x y true p q = p refl
+counts_if x y false p q = q refl
+
+-- Commands
+
+counts_attempting : (s : State) (k tag : ℕ) (tests : List (Bool × Refusal)) (effect : State) → CountsMembers s → (first_refusal tests ≡ None → CountsMembers effect) → CountsMembers (attempting s k tag tests effect)
+counts_attempting s k tag tests effect c counts =
+    elim (first_refusal tests) as (λ o. first_refusal tests ≡ o → CountsMembers (elim o [ Some refusal ↦ pushing s k (push.Reply tag (Some refusal)) | None ↦ pushing effect k (push.Reply tag None) ])) [
+      | Some refusal ↦ λ _. counts_same s (pushing s k (push.Reply tag (Some refusal))) (same_pushing s k (push.Reply tag (Some refusal))) c
+      | None ↦ λ none. counts_same effect (pushing effect k (push.Reply tag None)) (same_pushing effect k (push.Reply tag None)) (counts none)
+    ] refl
+
+counts_joining : (s : State) (k : ℕ) (g : GroupNo) → CountsMembers s → was_given s.used k ≡ true → CountsMembers (joining s k g)
+counts_joining s k g c given =
+    let request : ℕ = (s.group g).asked + 1 in
+    let heard : ℕ = view_of (s.process k).time g in
+    let now : State = set_standing s k g (Joining request heard) in
+    counts_same now (joining s k g) (same_requesting now g change.Join (local s k)) (counts_standing s k g request heard c given)
+
+counts_requested : (s : State) (k : ℕ) (r : Request) → IsLawful s → CountsMembers s → was_given s.used k ≡ true → CountsMembers (requested s k r)
+counts_requested s k (Join tag g) l c given = counts_attempting s k tag (join_tests s k g) (joining s k g) c (λ _. counts_joining s k g c given)
+counts_requested s k (Leave tag g) l c given = c
+counts_requested s k (Cast tag g cast payload) l c given =
+    counts_attempting s k tag (cast_tests s k g payload) (sending s g k (body_of cast payload)) c
+    (λ none. counts_sending s g k (body_of cast payload) l c (not-false (is_member ((s.process k).standing g)) (each_passes (cast_tests s k g payload) none).1.1.0))
+
+counts_commanded : (s : State) (k : ℕ) (x : Command) → IsLawful s → CountsMembers s → was_given s.used k ≡ true → CountsMembers (commanded s k x)
+counts_commanded s k (command.Request r) l c given = counts_requested s k r l c given
+counts_commanded s k command.Bad l c given = c
+
+-- Frames
+
+-- what is used is of configured groups, and from a member of the group's view
+used_time : (s : State) (from : SiteNo) (m : Message) → is_used s from m ≡ true → IsTypedFrame (frame.Data m) → IsTimeOf s.config.groups m.times
+used_time s from m used typed =
+    let here = m.id.view == (s.group m.id.group).number in
+    let formed = is_well_formed s (members_of (s.group m.id.group)) m in
+    let a = and_parts (site_eq m.id.proc.site from) (not (site_eq from s.here) && (here && formed)) used in
+    let b = and_parts (not (site_eq from s.here)) (here && formed) a.1 in
+    let f = and_parts here formed b.1 in
+    let g = and_parts (is_group s m.id.group) _ f.1 in
+    let known = (and_parts (list_all (λ e. is_group s e.0) m.times) (is_among proc_eq m.id.proc (members_of (s.group m.id.group)) && counts_itself m) g.1).0 in
+    let x = and_parts (is_sorted group_cmp m.times) _ typed.0 in
+    let y = and_parts (nat_lt 0 (length m.times)) _ x.1 in
+    let seen = (and_parts (nat_le (length m.times) 32) (list_all (λ e. nat_lt 0 e.1.view) m.times) y.1).1 in
+    record { valid = and_from (is_sorted group_cmp m.times) (list_all (λ e. is_counts e.1.counts) m.times) x.0 typed.1; named = all_both (λ e. is_group s e.0) (λ e. nat_lt 0 e.1.view) (λ e. is_clock_of s.config.groups e.0 e.1) (λ e p q. and_from (is_group s e.0) (nat_lt 0 e.1.view) p q) m.times known seen }
+
+used_from : (s : State) (from : SiteNo) (m : Message) → is_used s from m ≡ true → IsFromMember (s.group m.id.group) m.id
+used_from s from m used =
+    let here = m.id.view == (s.group m.id.group).number in
+    let formed = is_well_formed s (members_of (s.group m.id.group)) m in
+    let a = and_parts (site_eq m.id.proc.site from) (not (site_eq from s.here) && (here && formed)) used in
+    let b = and_parts (not (site_eq from s.here)) (here && formed) a.1 in
+    let f = and_parts here formed b.1 in
+    let g = and_parts (is_group s m.id.group) _ f.1 in
+    let h = and_parts (list_all (λ e. is_group s e.0) m.times) (is_among proc_eq m.id.proc (members_of (s.group m.id.group)) && counts_itself m) g.1 in
+    let same = eqb-true m.id.view (s.group m.id.group).number f.0 in
+    record { reached = omega (arith, same); member = λ _. (and_parts (is_among proc_eq m.id.proc (members_of (s.group m.id.group))) (counts_itself m) h.1).0 }
+
+counts_on_data : (s : State) (from : SiteNo) (m : Message) → CountsMembers s → IsTypedFrame (frame.Data m) → CountsMembers (on_data s from m)
+counts_on_data s from m c typed =
+    let now : State = receiving s m in
+    let after : State = acknowledging now from m.id in
+    counts_if (data_used s from m) s (is_used s from m)
+    (λ used. counts_if (emitted s from (frame.Ack m.id)) (if may_take s m.body then after else s) (is_received s m.id)
+    (λ _. counts_same s (emitted s from (frame.Ack m.id)) (same_emitted s from (frame.Ack m.id)) c)
+    (λ _. counts_if after s (may_take s m.body)
+    (λ _. counts_same now after (same_acknowledging now from m.id) (counts_receiving s m c (used_time s from m used typed) (used_from s from m used)))
+    (λ _. c)))
+    (λ _. c)
+
+counts_on_install : (s : State) (from : SiteNo) (g : GroupNo) (n : ℕ) (members : Membership) (request : ℕ) → IsLawful s → CountsMembers s → is_group s g ≡ true → is_members members ≡ true → CountsMembers (on_install s from g n members request)
+counts_on_install s from g n members request l c listed typed =
+    let again : State = emitted s s.config.home (frame.Installed g n) in
+    counts_if (elim (verdict_of (s.group g) n) [ Again ↦ again | Completes ↦ completing s g n members request | Ignored ↦ s ]) s (is_from_home s from)
+    (λ _. elim (verdict_of (s.group g) n) as (λ v. verdict_of (s.group g) n ≡ v → CountsMembers (elim v [ Again ↦ again | Completes ↦ completing s g n members request | Ignored ↦ s ])) [
+      | Again ↦ λ _. counts_same s again (same_emitted s s.config.home (frame.Installed g n)) c
+      | Completes ↦ λ is. let unseen = completes_unseen (s.group g) n is in counts_completing s g n members request l c listed typed unseen.1 (later_number (s.group g).number n unseen.0)
+      | Ignored ↦ λ _. c
+    ] refl)
+    (λ _. c)
+
+counts_on_frame : (s : State) (from : SiteNo) (f : SiteFrame) → IsLawful s → CountsMembers s → is_group s (group_of f) ≡ true → IsTypedFrame f → CountsMembers (on_frame s from f)
+counts_on_frame s from (frame.Data m) l c listed typed = counts_on_data s from m c typed
+counts_on_frame s from (frame.Ack u) l c listed typed = counts_same s (on_ack s from u) (same_on_ack s from u) c
+counts_on_frame s from (frame.Stable u) l c listed typed = counts_same s (on_stable s from u) (same_on_stable s from u) c
+counts_on_frame s from (frame.Ask g number what p) l c listed typed = counts_same s (on_ask s from g number what p) (same_on_ask s from g number what p) c
+counts_on_frame s from (frame.Asked g number full) l c listed typed = counts_same s (on_asked s from g number full) (same_on_asked s from g number full) c
+counts_on_frame s from (frame.Prepare g view) l c listed typed = c
+counts_on_frame s from (frame.Flushed g view counts tail kept) l c listed typed = c
+counts_on_frame s from (frame.Want u) l c listed typed = c
+counts_on_frame s from (frame.Forward m) l c listed typed = c
+counts_on_frame s from (frame.Install g view members request cut tail) l c listed typed = counts_on_install s from g view members request l c listed typed
+counts_on_frame s from (frame.Installed g view) l c listed typed = counts_same s (on_installed s from g view) (same_on_installed s from g view) c
+counts_on_frame s from (frame.Out g view) l c listed typed = c
+
+counts_framed : (s : State) (from : SiteNo) (f : SiteFrame) → IsLawful s → CountsMembers s → IsTypedFrame f → CountsMembers (framed s from f)
+counts_framed s from f l c typed =
+    counts_if (on_frame s from f) s (is_site s from && is_group s (group_of f))
+    (λ ours. counts_on_frame s from f l c (and_parts (is_site s from) (is_group s (group_of f)) ours).1 typed)
+    (λ _. c)
+
+-- Events
+
+pub counts_acted : (s : State) (e : Event) → IsLawful s → CountsMembers s → IsTyped e → CountsMembers (acted s e).0
+counts_acted s (event.Open d) l c typed =
+    elim (s.used == MAX_NUMBER) as (λ b. CountsMembers (if◌then◌else◌ {A = Effect} b (s, taken.Refused TooManySessions) (opened s, taken.Opened (s.used + 1))).0) [
+      | true ↦ c
+      | false ↦ counts_opened s c
+    ]
+counts_acted s (event.Command d k x) l c typed =
+    elim (is_open (s.session k)) as (λ b. is_open (s.session k) ≡ b → CountsMembers (if◌then◌else◌ {A = Effect} b (commanded s k x, taken.Nothing) (s, taken.Refused NotOpen)).0) [
+      | true ↦ λ is. counts_commanded s k x l c (c.opened k is)
+      | false ↦ λ _. c
+    ] refl
+counts_acted s (event.Frame d from f) l c typed = counts_framed s from f l c typed
+counts_acted s (event.Tick t) l c typed = counts_same s (ticked s t) (same_ticked s t) c
+
+-- Until the state rests
+
+pub counts_first : (s : State) (k : ℕ) → IsLawful s → CountsMembers s → CountsMembers (deliver_first k s)
+counts_first s k l c =
+    elim (find (is_ready_for s k) s.got) as (λ o. find (is_ready_for s k) s.got ≡ o → CountsMembers (elim o [ Some m ↦ let_go (delivering s k m) | None ↦ s ])) [
+      | Some m ↦ λ is. counts_let_go (delivering s k m) (counts_delivering s k m l c (found_in (is_ready_for s k) s.got m is) (found_passes (is_ready_for s k) s.got m is))
+      | None ↦ λ _. c
+    ] refl
+
+counts_set_order_by : (s : State) (g : GroupNo) (k : ℕ) → IsLawful s → CountsMembers s → CountsMembers (set_order_by s g k)
+counts_set_order_by s g k l c =
+    let content : Body = body.Order (record { first = place_after (order_of s g); ids = ids_to_list (unlisted s g k) }) in
+    counts_if (let_go (sending s g k content)) s (may_set_order s g k)
+    (λ may. counts_let_go (sending s g k content) (counts_sending s g k content l c (and_parts (is_member ((s.process k).standing g)) _ may).0))
+    (λ _. c)
+
+pub counts_set_order : (s : State) (g : GroupNo) → IsLawful s → CountsMembers s → CountsMembers (set_order s g)
+counts_set_order s g l c =
+    elim (holder_at s.here (s.group g)) as (λ o. CountsMembers (elim o [ Some p ↦ set_order_by s g p.serial | None ↦ s ])) [
+      | Some p ↦ counts_set_order_by s g p.serial l c
+      | None ↦ c
+    ]
+
+pub counts_decide : (s : State) (g : GroupNo) → CountsMembers s → CountsMembers (decide s g)
+counts_decide s g c = counts_same s (decide s g) (same_decide s g) c
+
+-- All states that a history passes
+
+pub passed_counts : (here : SiteNo) (config : DomainConfig) → is_rising group_cmp config.groups ≡ true → length config.groups ≤ MAX_GROUPS → (s : State) → IsPassed here config s → IsLawful s × CountsMembers s
+passed_counts here config rising few s opens = (lawful_opening here config rising, counts_opening here config few)
+passed_counts here config rising few s (begins t p) =
+    let h = passed_counts here config rising few t p in
+    (lawful_before t h.0, counts_before t h.1)
+passed_counts here config rising few s (acts t e typed p) =
+    let h = passed_counts here config rising few t p in
+    (lawful_acted t e h.0 (next_unborn t h.1) typed, counts_acted t e h.0 h.1 typed)
+passed_counts here config rising few s (lets_go t p) =
+    let h = passed_counts here config rising few t p in
+    (lawful_let_go t h.0, counts_let_go t h.1)
+passed_counts here config rising few s (delivers t k p) =
+    let h = passed_counts here config rising few t p in
+    (lawful_first t k h.0, counts_first t k h.0 h.1)
+passed_counts here config rising few s (orders t g p) =
+    let h = passed_counts here config rising few t p in
+    (lawful_set_order t g h.0, counts_set_order t g h.0 h.1)
+passed_counts here config rising few s (decides t g p) =
+    let h = passed_counts here config rising few t p in
+    (lawful_decide t g h.0, counts_decide t g h.1)
+
+module _ (here : SiteNo) (config : DomainConfig) where
+  abbrev Passed : State → Type 0
+  Passed s = IsPassed here config s
+
+  passed_fold : {X : Type 0} (f : State → X → State) → ((s : State) (x : X) → Passed s → Passed (f s x)) → (xs : List X) (s : State) → Passed s → Passed (fold f s xs)
+  passed_fold f h [] s p = p
+  passed_fold f h (x ∷ xs) s p = passed_fold f h xs (f s x) (h s x p)
+
+  passed_iterate : (n : ℕ) (f : State → State) → ((s : State) → Passed s → Passed (f s)) → (s : State) → Passed s → Passed (iterate n f s)
+  passed_iterate zero f h s p = p
+  passed_iterate (suc n) f h s p = passed_iterate n f h (f s) (h s p)
+
+  passed_settle : (s : State) → Passed s → Passed (settle s)
+  passed_settle s p = passed_fold deliver_all (λ t k q. passed_iterate (length t.got) (deliver_first k) (λ u r. delivers u k r) t q) (serials s) s p
+
+  passed_lead_all : (s : State) → Passed s → Passed (lead_all s)
+  passed_lead_all s p = elim (is_home s) as (λ b. Passed (if b then fold decide s s.config.groups else s)) [
+    | true ↦ passed_fold decide (λ t g q. decides t g q) s.config.groups s p
+    | false ↦ p
+  ]
+
+  passed_pass : (s : State) → Passed s → Passed (pass s)
+  passed_pass s p =
+      let settled : State = settle s in
+      passed_lead_all (set_orders settled) (passed_fold set_order (λ t g q. orders t g q) settled.config.groups settled (passed_settle s p))
+
+  pub passed_run : (events : List Event) (answers : List Taken) (sent : List (SiteNo × SiteFrame)) (s t : State) → AllByRecursion IsTyped events → Passed s → IsRun s events answers sent t → Passed t
+  passed_run [] [] sent s t typed p run = subst Passed (sym run.1) p
+  passed_run [] (a ∷ answers) sent s t typed p run = absurd run
+  passed_run (e ∷ events) [] sent s t typed p run = absurd run
+  passed_run (e ∷ events) (a ∷ answers) sent s t typed p (u, later, step, made, run) =
+      let acted_on : State = before_event s in
+      let after : Passed (after_event s e) = lets_go (acted acted_on e).0 (acts acted_on e typed.0 (begins s p)) in
+      passed_run events answers later u t typed.1 (subst Passed step.rests.1 (passed_iterate step.rests.0 pass passed_pass (after_event s e) after)) run
+
+pub members_counted : MembersAreCounted
+members_counted here config s rising few p = passed_counts here config rising few s p
+
+pub raised_within : CountsCanBeRaisedWithin
+raised_within here config s rising few p = let h = passed_counts here config rising few s p in can_raise s h.0 h.1
+
+pub runs_passed : RunsArePassed
+runs_passed here config events answers sent s typed run = passed_run here config events answers sent (opening here config) s typed opens run
+
+pub raised_after : CountsCanBeRaised
+raised_after here config events answers sent s rising few typed run = raised_within here config s rising few (runs_passed here config events answers sent s typed run)
