@@ -1,9 +1,9 @@
 -- What a frame changes of a domain's records it changes of their history.
-use Rattle.std.proofs.Common.{◌≡◌, ℕ, ◌+◌, ◌<◌, Bool, true, false, not, ◌&&◌, ◌||◌, List, [], ◌∷◌, ◌++◌, map, Some, None, refl, sym, ap, subst, ◌∙◌, inl, inr, arith}
+use Rattle.std.proofs.Common.{◌≡◌, ℕ, ◌+◌, ◌<◌, Bool, true, false, not, ◌&&◌, ◌||◌, List, [], ◌∷◌, map, Some, None, refl, sym, ap, subst, ◌∙◌, inl, inr, arith}
 use Rattle.std.specs.Prelude.{◌==◌, nat_lt, nat_le, if◌then◌else◌, slice_get}
-use Rattle.std.specs.List.{fold, list_any, list_all}
+use Rattle.std.specs.List.{list_any, list_all}
 use Rattle.std.specs.Option.{option_map_or}
-use Rattle.std.proofs.lemmas.Bool.{cases_Bool, false≢true, not-true, and_parts, eqb-true, ltb-true}
+use Rattle.std.proofs.lemmas.Bool.{cases_Bool, not-true, and_parts, eqb-true, ltb-true}
 use Rattle.std.proofs.lemmas.Bool.Decides.{nat_tests}
 use Rattle.cast_types.specs.declared.names.SiteNo.{SiteNo}
 use Rattle.cast_types.specs.declared.names.GroupNo.{GroupNo}
@@ -24,29 +24,29 @@ use Rattle.cast_message.specs.Bodies.{kind_of}
 use Rattle.cast_message.specs.Membership.{Membership, is_members}
 use Rattle.cast_timer.specs.declared.key.OwedKey.{OwedKey}
 use Rattle.cast_timer.specs.declared.key.OwedKind.TheVariants as kinds
-use Rattle.cast_timer.specs.Owed.{paid as paid_by, is_upto}
-use Rattle.cast_stable.specs.Ledger.{others_in, is_received_in, upto_in, is_stable_in, learnt_ledger}
-use Rattle.cast_stable.proofs.Meanings.{stable_meant, upto_meant, ack_fits, learn_fits}
+use Rattle.cast_stable.specs.Ledger.{is_received_in, is_stable_in}
+use Rattle.cast_stable.proofs.Meanings.{stable_meant}
 use Rattle.cast_delay.specs.Fits.{IsSound}
-use Rattle.cast_order.specs.Log.{log_of}
 use Rattle.cast_domain.specs.declared.record.GroupRecord.{GroupRecord}
 use Rattle.cast_model.specs.declared.group.Group.{Group}
 use Rattle.cast_model.specs.declared.group.Verdict.TheVariants.{Again, Completes, Ignored}
-use Rattle.cast_model.specs.Group.{first_asking, members_of, has_view, is_current, with_answer, verdict_of}
+use Rattle.cast_model.specs.Group.{first_asking, members_of, has_view, with_answer, verdict_of}
 use Rattle.cast_model.specs.Home.{applied_of, after_request, after_installed}
-use Rattle.cast_history.specs.State.{State, local, is_home, is_site, is_group, set_group, set_home, emitted, is_received, may_take, others_of, upto, is_stable, counts_itself}
+use Rattle.cast_history.specs.State.{State, local, is_home, is_site, is_group, set_group, set_home, emitted, is_received, may_take, others_of, is_stable, counts_itself}
 use Rattle.cast_history.specs.Owing.{ask_key, message_key, owing, paying}
 use Rattle.cast_history.specs.Effects.{asking, receiving, completing}
-use Rattle.cast_history.specs.Step.{is_used, acknowledging, data_used, on_data, is_used_ack, with_ack, tell_stable, tell_more, on_ack, paying_acks, on_stable, is_from_home, on_ask, on_asked, on_install, on_installed, group_of, on_frame, framed}
-use Rattle.cast_domain.specs.Shared.{part_paying_upto}
+use Rattle.cast_history.specs.Step.{is_used, acknowledging, data_used, on_data, is_from_home, on_ask, on_asked, on_install, on_installed, group_of, on_frame, framed}
+use Rattle.cast_history.specs.History.{history}
+use Rattle.cast_history.specs.Rules.Stability.{on_ack, on_stable}
+use Rattle.cast_history.proofs.Rules.Stability.{ack_follows, stable_follows}
 use Rattle.cast_domain.specs.Records.{Records}
-use Rattle.cast_domain.specs.Calls.{may_take_in, is_home_in, place_in, record_at, send_in, owe_in, pay_in, ask_home_in, receive_in, is_used_in, acknowledge_in, use_data_in, data_in, with_ack_in, is_used_ack_in, tell_stable_in, tell_more_in, ack_in, stable_in, asked_of_home_in, answered_in, complete_in, install_in, installed_in, frame_at, frame_in}
+use Rattle.cast_domain.specs.Calls.{may_take_in, is_home_in, place_in, record_at, send_in, owe_in, pay_in, ask_home_in, receive_in, is_used_in, acknowledge_in, use_data_in, data_in, asked_of_home_in, answered_in, complete_in, install_in, installed_in, frame_at, frame_in, records}
 use Rattle.cast_history.specs.Lawful.{IsLawful, IsTypedFrame}
 use Rattle.cast_domain.specs.Fits.{Fits}
-use Rattle.cast_domain.proofs.Standing.{and_none, orders_same, fits_if, record_there, place_some, place_none, fits_send, fits_here, fits_home, fits_receive}
+use Rattle.cast_domain.proofs.Standing.{and_none, fits_if, record_there, place_some, place_none, fits_send, fits_here, fits_home, fits_receive}
 use Rattle.cast_history.proofs.Lawful.{same_owed, lawful_same}
-use Rattle.cast_domain.proofs.Logs.{logs_ack}
-use Rattle.cast_domain.proofs.Owings.{fits_owed, fits_owe, fits_pay}
+use Rattle.cast_domain.proofs.Following.{IsAt, records_follow}
+use Rattle.cast_domain.proofs.Owings.{fits_owe, fits_pay}
 use Rattle.cast_domain.proofs.Ordering.{order_room_there}
 use Rattle.cast_domain.proofs.Commands.{fits_ask_home, room_there}
 use Rattle.cast_domain.proofs.Entering.{fits_complete}
@@ -140,104 +140,13 @@ fits_data r s f i from m at listed =
 
 -- Stability
 
--- an acknowledgement is kept, and its message is owed to that site no more
-fits_with_ack : (r : Records) (s : State) → Fits r s → (from : SiteNo) (u : Uid) → 0 < u.count → Fits (with_ack_in r from u) (with_ack s from u)
-fits_with_ack r s f from u counted =
-    let paid : Fits (pay_in r (message_key kinds.Data u from)) (paying s (message_key kinds.Data u from)) = fits_pay r s f (message_key kinds.Data u from) in
-    record {
-      site = paid.site;
-      config = paid.config;
-      used = paid.used;
-      given = paid.given;
-      sessions = paid.sessions;
-      all_open = paid.all_open;
-      groups = paid.groups;
-      moment = paid.moment;
-      kept = paid.kept;
-      fresh = paid.fresh;
-      received = f.received;
-      owed = paid.owed;
-      delay = paid.delay;
-      admitted = paid.admitted;
-      rows = paid.rows;
-      acks = ack_fits s.here (others_of s) (map (λ m. m.id) s.got) s.acks s.told r.acks f.acks from u;
-      orders = λ h. logs_ack s from u h (log_of r.orders h) (f.orders h);
-      frames = paid.frames;
-      delivered = paid.delivered;
-    }
-
--- sites are told how many messages of a process are stable
-fits_tells : (u : Uid) (n : ℕ) (sites : List SiteNo) (r : Records) (s : State) → Fits r s → Fits (fold (tell_stable_in u n) r sites) (fold (tell_stable u n) s sites)
-fits_tells u n [] r s f = f
-fits_tells u n (to ∷ sites) r s f = fits_tells u n sites (tell_stable_in u n r to) (tell_stable u n s to) (fits_send r s f to (frame.Stable (record u { count = n })))
-
--- how many are stable, where the view has another site
-upto_there : (r : Records) (s : State) → Fits r s → (u : Uid) → (to : SiteNo) → is_among site_eq to (others_of s u.group) ≡ true → upto_in r.acks u ≡ upto s u
-upto_there r s f u to other =
-    upto_meant s.here (others_of s) (map (λ m. m.id) s.got) s.acks s.told r.acks f.acks u
-    (λ none. false≢true (ap (is_among site_eq to) (sym none) ∙ other))
-
-fits_tell_more : (r : Records) (s : State) → Fits r s → (u : Uid) (before after : ℕ) (to : SiteNo) → is_among site_eq to (others_of s u.group) ≡ true → before ≡ after → Fits (tell_more_in u before r) (tell_more u after s)
-fits_tell_more r s f u before after to other same =
-    let n = upto_there r s f u to other in
-    let told : Fits (fold (tell_stable_in u (upto_in r.acks u)) r (others_in r.acks u.group)) (fold (tell_stable u (upto s u)) s (others_of s u.group)) =
-    subst (λ x. Fits x (fold (tell_stable u (upto s u)) s (others_of s u.group))) (λ j. fold (tell_stable_in u (sym n j)) r (sym (f.acks.views u.group) j))
-    (fits_tells u (upto s u) (others_of s u.group) r s f) in
-    fits_if (nat_lt before (upto_in r.acks u)) (nat_lt after (upto s u)) (fold (tell_stable_in u (upto_in r.acks u)) r (others_in r.acks u.group)) r (fold (tell_stable u (upto s u)) s (others_of s u.group)) s
-    (λ j. nat_lt (same j) (n j))
-    (λ _. told)
-    (λ _. f)
-
 -- a site acknowledges a message
-pub fits_ack : (r : Records) (s : State) → Fits r s → (i : ℕ) (from : SiteNo) (u : Uid) → slice_get s.config.groups i ≡ Some u.group → Fits (ack_in r i from u) (on_ack s from u)
-fits_ack r s f i from u at =
-    let there = record_there r s f i u.group at in
-    let same : is_used_ack_in r i from u ≡ is_used_ack s from u = (λ j.
-    is_current (there j).here u.view && (nat_lt 0 u.count && (site_eq u.proc.site (f.site j) && is_among site_eq from (f.acks.views u.group j)))) in
-    fits_if (is_used_ack_in r i from u) (is_used_ack s from u) _ r _ s same
-    (λ used.
-    let a = and_parts (is_current (s.group u.group) u.view) _ (sym same ∙ used) in
-    let b = and_parts (nat_lt 0 u.count) _ a.1 in
-    let c = and_parts (site_eq u.proc.site s.here) (is_among site_eq from (others_of s u.group)) b.1 in
-    let known = fits_with_ack r s f from u (ltb-true 0 u.count b.0) in
-    let n = upto_there r s f u from c.1 in
-    fits_if (nat_le u.count (upto_in r.acks u)) (nat_le u.count (upto s u)) (tell_stable_in u (upto_in r.acks u) (with_ack_in r from u) from) (tell_more_in u (upto_in r.acks u) (with_ack_in r from u)) (tell_stable u (upto s u) (with_ack s from u) from) (tell_more u (upto s u) (with_ack s from u))
-    (ap (nat_le u.count) n)
-    (λ _. subst (λ k. Fits (tell_stable_in u k (with_ack_in r from u) from) (tell_stable u (upto s u) (with_ack s from u) from)) (sym n)
-    (fits_send (with_ack_in r from u) (with_ack s from u) known from (frame.Stable (record u { count = upto s u }))))
-    (λ _. fits_tell_more (with_ack_in r from u) (with_ack s from u) known u (upto_in r.acks u) (upto s u) from c.1 n))
-    (λ _. f)
+fits_ack : (r : Records) (s : State) → Fits r s → (i : ℕ) (from : SiteNo) (u : Uid) → IsAt s i u.group → Fits (on_ack records r i from u) (on_ack history s u.group from u)
+fits_ack r s f i from u at = ack_follows records history Fits IsAt records_follow r s f i u.group at from u
 
 -- a process's site tells what is stable
-pub fits_stable : (r : Records) (s : State) → Fits r s → (i : ℕ) (from : SiteNo) (u : Uid) → slice_get s.config.groups i ≡ Some u.group → Fits (stable_in r i from u) (on_stable s from u)
-fits_stable r s f i from u at =
-    let there = record_there r s f i u.group at in
-    let key : OwedKey = message_key kinds.Ack u u.proc.site in
-    let paid = fits_owed r s f (paid_by (is_upto key) r.part.owed) (paid_by (is_upto key) s.owed) (ap (paid_by (is_upto key)) f.owed) in
-    fits_if (is_current (record_at r.groups i).here u.view && site_eq u.proc.site from) (is_current (s.group u.group) u.view && site_eq u.proc.site from) (record r { part = part_paying_upto r.part key; acks = learnt_ledger r.acks u }) r (record (paying_acks s u) { told = s.told ++ u ∷ [] }) s
-    (λ j. is_current (there j).here u.view && site_eq u.proc.site from)
-    (λ _. record {
-      site = paid.site;
-      config = paid.config;
-      used = paid.used;
-      given = paid.given;
-      sessions = paid.sessions;
-      all_open = paid.all_open;
-      groups = paid.groups;
-      moment = paid.moment;
-      kept = paid.kept;
-      fresh = paid.fresh;
-      received = f.received;
-      owed = paid.owed;
-      delay = paid.delay;
-      admitted = paid.admitted;
-      rows = paid.rows;
-      acks = learn_fits s.here (others_of s) (map (λ m. m.id) s.got) s.acks s.told r.acks f.acks u;
-      orders = orders_same s (record (paying_acks s u) { told = s.told ++ u ∷ [] }) r.orders refl refl refl refl refl refl f.orders;
-      frames = paid.frames;
-      delivered = paid.delivered;
-    })
-    (λ _. f)
+fits_stable : (r : Records) (s : State) → Fits r s → (i : ℕ) (from : SiteNo) (u : Uid) → IsAt s i u.group → Fits (on_stable records r i from u) (on_stable history s u.group from u)
+fits_stable r s f i from u at = stable_follows records history Fits IsAt records_follow r s f i u.group at from u
 
 -- Requests
 

@@ -14,6 +14,7 @@ pub mod Turns
 pub mod SetOrders
 pub mod Standstill
 pub mod Entering
+pub mod Following
 pub mod Framing
 pub mod Events
 pub mod Passes

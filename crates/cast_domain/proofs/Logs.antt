@@ -34,10 +34,9 @@ use Rattle.cast_order.proofs.Logs.{log_of_change, log_of_forget}
 use Rattle.cast_model.specs.declared.group.Group.{Group}
 use Rattle.cast_model.specs.Group.{no_group, holder_at, members_of, other_sites, with_view}
 use Rattle.cast_model.specs.Home.{is_empty}
-use Rattle.cast_history.specs.State.{State, local, others_of, set_group}
+use Rattle.cast_history.specs.State.{State, local, others_of, noting_ack, set_group}
 use Rattle.cast_history.specs.Order.{told_by, ids_told, is_of_view, facts_in}
 use Rattle.cast_history.specs.Effects.{receiving}
-use Rattle.cast_history.specs.Step.{with_ack}
 use Rattle.cast_domain.specs.Calls.{learn_in}
 use Rattle.cast_history.specs.Lawful.{IsTraced}
 use Rattle.cast_domain.specs.Fits.{process_named, told_here, lists_here, settled_of, settled_here, LogFits}
@@ -270,13 +269,13 @@ upto_grows acks x others g v p some =
       | inr least ↦ omega (arith, least)
     ]
 
-pub logs_ack : (s : State) (from : SiteNo) (u : Uid) (h : GroupNo) (l : Log) → LogFits s h l → LogFits (with_ack s from u) h l
-logs_ack s from u h l f = log_alike s (with_ack s from u) h l refl refl refl refl (λ k. refl) (grows (holder_at s.here (s.group h))) (λ p v is. is) f
+pub logs_ack : (s : State) (from : SiteNo) (u : Uid) (h : GroupNo) (l : Log) → LogFits s h l → LogFits (noting_ack s from u) h l
+logs_ack s from u h l f = log_alike s (noting_ack s from u) h l refl refl refl refl (λ k. refl) (grows (holder_at s.here (s.group h))) (λ p v is. is) f
   where
     grown : (others : List SiteNo) (p : Proc) → (if is_empty others then MAX_NUMBER else stable_upto s.acks others h (s.group h).number p) ≤ (if is_empty others then MAX_NUMBER else stable_upto (s.acks ++ (from, u) ∷ []) others h (s.group h).number p)
     grown [] p = omega arith
     grown (x ∷ others) p = upto_grows s.acks (from, u) (x ∷ others) h (s.group h).number p (λ none. cc)
 
-    grows : (o : Option Proc) → option_map_or (settled_of s h) o 0 ≤ option_map_or (settled_of (with_ack s from u) h) o 0
+    grows : (o : Option Proc) → option_map_or (settled_of s h) o 0 ≤ option_map_or (settled_of (noting_ack s from u) h) o 0
     grows None = omega arith
     grows (Some p) = grown (others_of s h) p

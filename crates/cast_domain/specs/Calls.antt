@@ -59,6 +59,8 @@ use Rattle.cast_model.specs.Group.{no_group, members_of, holder_of, is_process, 
 use Rattle.cast_model.specs.declared.home.Home.{Home}
 use Rattle.cast_model.specs.Home.{first_home, is_empty, applied_of, after_request, after_installed, may_decide, decided}
 use Rattle.cast_domain.specs.Shared.{part_with, part_without, part_owing, part_renewing, part_paying, part_paying_upto}
+use Rattle.cast_history.specs.Rules.Interface.{Site}
+use Rattle.cast_history.specs.Rules.Stability.{on_ack, on_stable}
 use Rattle.cast_history.specs.Owing.{ask_key, message_key, id_in, ask_frame}
 use Rattle.cast_history.specs.Effects.{told_of, may_raise}
 use Rattle.cast_history.specs.Rest.{install_frame}
@@ -150,6 +152,9 @@ owe_in r key =
 abbrev pub pay_in : Records → OwedKey → Records
 pay_in r key = record r { part = part_paying r.part key }
 
+abbrev pub pay_upto_in : Records → OwedKey → Records
+pay_upto_in r key = record r { part = part_paying_upto r.part key }
+
 abbrev pub resend_in : Records → OwedKey → Records
 resend_in r key = record (send_for_in r key) { part = part_renewing r.part key (next_due_in r) }
 
@@ -158,6 +163,29 @@ resend_due_in r = fold resend_in r (due_at r.moment r.part.owed)
 
 abbrev pub tick_in : Records → ℕ → Records
 tick_in r t = resend_due_in (record r { moment = max r.moment (min t MAX_MOMENT) })
+
+-- What is acknowledged and stable
+
+abbrev pub note_ack_in : Records → SiteNo → Uid → Records
+note_ack_in r from u = record r { acks = acked_ledger r.acks from u }
+
+abbrev pub note_stable_in : Records → Uid → Records
+note_stable_in r u = record r { acks = learnt_ledger r.acks u }
+
+-- The records as the rules see them: a group stands at a place
+
+abbrev pub records : Site Records ℕ
+records = record {
+  here = λ r. r.site;
+  group = λ r i. (record_at r.groups i).here;
+  others = λ r g. others_in r.acks g;
+  stable_upto = λ r u. upto_in r.acks u;
+  send = send_in;
+  pay = pay_in;
+  pay_upto = pay_upto_in;
+  note_ack = note_ack_in;
+  note_stable = note_stable_in;
+}
 
 -- Messages that are let go
 
@@ -309,35 +337,6 @@ use_data_in r from m =
 abbrev pub data_in : Records → ℕ → SiteNo → Message → Records
 data_in r i from m = if is_used_in r i from m then use_data_in r from m else r
 
-abbrev pub is_used_ack_in : Records → ℕ → SiteNo → Uid → Bool
-is_used_ack_in r i from u =
-    is_current (record_at r.groups i).here u.view
-    && (nat_lt 0 u.count && (site_eq u.proc.site r.site && is_among site_eq from (others_in r.acks u.group)))
-
-abbrev pub with_ack_in : Records → SiteNo → Uid → Records
-with_ack_in r from u = record (pay_in r (message_key kinds.Data u from)) { acks = acked_ledger r.acks from u }
-
-abbrev pub tell_stable_in : Uid → ℕ → Records → SiteNo → Records
-tell_stable_in u n r to = send_in r to (frame.Stable (record u { count = n }))
-
-abbrev pub tell_more_in : Uid → ℕ → Records → Records
-tell_more_in u before r =
-    if nat_lt before (upto_in r.acks u) then fold (tell_stable_in u (upto_in r.acks u)) r (others_in r.acks u.group) else r
-
-abbrev pub ack_in : Records → ℕ → SiteNo → Uid → Records
-ack_in r i from u =
-    if is_used_ack_in r i from u
-    then (if nat_le u.count (upto_in r.acks u)
-    then tell_stable_in u (upto_in r.acks u) (with_ack_in r from u) from
-    else tell_more_in u (upto_in r.acks u) (with_ack_in r from u))
-    else r
-
-abbrev pub stable_in : Records → ℕ → SiteNo → Uid → Records
-stable_in r i from u =
-    if is_current (record_at r.groups i).here u.view && site_eq u.proc.site from
-    then record r { part = part_paying_upto r.part (message_key kinds.Ack u u.proc.site); acks = learnt_ledger r.acks u }
-    else r
-
 abbrev pub asked_frame_at : Records → ℕ → ℕ → SiteFrame
 asked_frame_at r i number = frame.Asked (record_at r.groups i).name number false
 
@@ -406,8 +405,8 @@ installed_in r i from n =
 
 abbrev pub frame_at : Records → SiteNo → SiteFrame → ℕ → Records
 frame_at r from (frame.Data m) i = data_in r i from m
-frame_at r from (frame.Ack u) i = ack_in r i from u
-frame_at r from (frame.Stable u) i = stable_in r i from u
+frame_at r from (frame.Ack u) i = on_ack records r i from u
+frame_at r from (frame.Stable u) i = on_stable records r i from u
 frame_at r from (frame.Ask g number what p) i = asked_of_home_in r i from number what p
 frame_at r from (frame.Asked g number full) i = answered_in r i from number full
 frame_at r from (frame.Prepare g view) i = r

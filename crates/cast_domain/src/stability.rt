@@ -13,9 +13,10 @@ use cast_types::{Key, NoMemory, SiteNo, Uid};
 impl Domain {
     ghost use Rattle.cast_model.specs.declared.event.Outs.{Outs};
     ghost use Rattle.cast_model.specs.Outs.{no_outs};
+    ghost use Rattle.cast_history.specs.Rules.Stability.{is_used_ack, on_ack, on_stable, tell_more, tell_stable, with_ack};
     ghost use Rattle.cast_domain.specs.Records.{Keeps, records_in, records_of};
     ghost use Rattle.cast_domain.specs.Shared.{LeavesOthers, Part, no_part};
-    ghost use Rattle.cast_domain.specs.Calls.{ack_in, acknowledge_in, is_current_in, is_free_in, is_used_ack_in, let_go_in, release_in, stable_in, tell_more_in, tell_stable_in, with_ack_in};
+    ghost use Rattle.cast_domain.specs.Calls.{acknowledge_in, is_current_in, is_free_in, let_go_in, records, release_in};
 
     // Acknowledges a received message: its site is owed that until it tells that the message is stable.
     pub(crate) fn acknowledge(
@@ -47,7 +48,7 @@ impl Domain {
         requires { place < vec_len self.old.groups }
         ensures same { Keeps self.old self.new }
         ensures others { LeavesOthers self.old.config.domain shared.old shared.new }
-        ensures made { OnOk result (records_in self.new shared.new outs.new ≡ ack_in (records_in self.old shared.old outs.old) place from id) }
+        ensures made { OnOk result (records_in self.new shared.new outs.new ≡ on_ack records (records_in self.old shared.old outs.old) place from id) }
     {
         if !self.is_used_ack(place, from, id) {
             return Ok(());
@@ -63,7 +64,7 @@ impl Domain {
     // Whether an acknowledgement is of a message of the current view of a local process, and from another site of it.
     fn is_used_ack(&self, place: usize, from: SiteNo, id: Uid) -> bool
         requires { place < vec_len self.now.groups }
-        ensures { (o : Outs) (part : Part) → result ≡ is_used_ack_in (records_of self.now part o) place from id }
+        ensures { (o : Outs) (part : Part) → result ≡ is_used_ack records (records_of self.now part o) place from id }
     {
         self.record(place).here.is_current(id.view)
             && 0 < id.count
@@ -75,7 +76,7 @@ impl Domain {
     fn take_ack(&mut self, from: SiteNo, id: Uid, shared: &mut Shared) -> Result<(), NoMemory>
         ensures same { Keeps self.old self.new }
         ensures others { LeavesOthers self.old.config.domain shared.old shared.new }
-        ensures made { OnOk result ((o : Outs) → records_in self.new shared.new o ≡ with_ack_in (records_in self.old shared.old o) from id) }
+        ensures made { OnOk result ((o : Outs) → records_in self.new shared.new o ≡ with_ack records (records_in self.old shared.old o) from id) }
     {
         self.pay(&message_key(OwedKind::Data, id, from), shared);
         self.acks.ack(from, id)?;
@@ -84,14 +85,14 @@ impl Domain {
 
     // Tells a site that the first messages of a process, so many, are stable.
     fn tell_stable(&self, id: Uid, count: u32, to: SiteNo, outs: &mut Outs) -> Result<(), NoMemory>
-        ensures { OnOk result ((part : Part) → records_of self.now part outs.new ≡ tell_stable_in id count (records_of self.now part outs.old) to) }
+        ensures { OnOk result ((part : Part) → records_of self.now part outs.new ≡ tell_stable records id count (records_of self.now part outs.old) to) }
     {
         self.send(outs, to, SiteFrame::Stable(Uid { count, ..id }))
     }
 
     // Tells all other sites of the view, where more messages are stable than before.
     fn tell_more(&self, id: Uid, before: u32, outs: &mut Outs) -> Result<(), NoMemory>
-        ensures { OnOk result ((part : Part) → records_of self.now part outs.new ≡ tell_more_in id before (records_of self.now part outs.old)) }
+        ensures { OnOk result ((part : Part) → records_of self.now part outs.new ≡ tell_more records id before (records_of self.now part outs.old)) }
     {
         let upto = self.acks.stable_upto(id);
         if before < upto {
@@ -108,7 +109,7 @@ impl Domain {
         sites: &[SiteNo],
         outs: &mut Outs,
     ) -> Result<(), NoMemory>
-        ensures { OnOk result ((part : Part) → records_of self.now part outs.new ≡ fold (tell_stable_in id count) (records_of self.now part outs.old) sites.now) }
+        ensures { OnOk result ((part : Part) → records_of self.now part outs.new ≡ fold (tell_stable records id count) (records_of self.now part outs.old) sites.now) }
     {
         for site in sites {
             self.tell_stable(id, count, *site, outs)?;
@@ -127,7 +128,7 @@ impl Domain {
         requires { place < vec_len self.old.groups }
         ensures same { Keeps self.old self.new }
         ensures others { LeavesOthers self.old.config.domain shared.old shared.new }
-        ensures made { OnOk result ((o : Outs) → records_in self.new shared.new o ≡ stable_in (records_in self.old shared.old o) place from id) }
+        ensures made { OnOk result ((o : Outs) → records_in self.new shared.new o ≡ on_stable records (records_in self.old shared.old o) place from id) }
     {
         if self.record(place).here.is_current(id.view) && id.proc.site == from {
             let key = message_key(OwedKind::Ack, id, from);

@@ -1,5 +1,5 @@
 -- What holds of each history that events lead to is kept by each event, and until the state rests.
-use Rattle.std.proofs.Common.{◌≡◌, ℕ, ◌+◌, ◌<◌, ◌≤◌, zero, suc, Bool, true, false, not, List, [], ◌∷◌, ◌++◌, length, Some, None, refl, sym, ap, subst, ◌∙◌, inl, inr, arith}
+use Rattle.std.proofs.Common.{◌≡◌, ℕ, ◌+◌, ◌<◌, ◌≤◌, zero, suc, Bool, true, false, not, List, [], ◌∷◌, length, Some, None, refl, sym, ap, subst, ◌∙◌, inl, inr, arith}
 use Rattle.std.specs.Prelude.{◌&&◌, ◌==◌, nat_lt, nat_le, if◌then◌else◌}
 use Rattle.std.specs.List.{fold, find}
 use Rattle.std.specs.FinMap.Entries.{is_sorted}
@@ -30,7 +30,6 @@ use Rattle.cast_message.specs.declared.client.Request.TheVariants.{Join, Leave, 
 use Rattle.cast_message.specs.declared.client.Push.TheVariants as push
 use Rattle.cast_message.specs.Membership.{Membership}
 use Rattle.cast_stable.specs.Stable.{Acked}
-use Rattle.cast_timer.specs.declared.key.Owed.{Owed}
 use Rattle.cast_timer.specs.declared.key.OwedKey.{OwedKey}
 use Rattle.cast_timer.specs.declared.key.OwedKind.TheVariants as kinds
 use Rattle.cast_timer.specs.Owed.{due_at}
@@ -40,7 +39,7 @@ use Rattle.cast_delay.proofs.Finds.{found_in}
 use Rattle.cast_model.specs.Session.{is_open}
 use Rattle.cast_model.specs.declared.group.Group.{Group}
 use Rattle.cast_model.specs.declared.group.Verdict.TheVariants.{Again, Completes, Ignored}
-use Rattle.cast_model.specs.Group.{holder_at, first_asking, members_of, has_view, is_current, with_answer, verdict_of, sites_of}
+use Rattle.cast_model.specs.Group.{holder_at, first_asking, members_of, has_view, with_answer, verdict_of, sites_of}
 use Rattle.cast_model.specs.declared.home.Home.{Home}
 use Rattle.cast_model.specs.Home.{is_empty, applied_of, after_request, after_installed, may_decide, decided}
 use Rattle.cast_message.specs.declared.client.Command.{Command}
@@ -48,14 +47,17 @@ use Rattle.cast_message.specs.declared.client.Command.TheVariants as command
 use Rattle.cast_model.specs.declared.event.Event.{Event}
 use Rattle.cast_model.specs.declared.event.Event.TheVariants as event
 use Rattle.cast_model.specs.declared.event.Taken.TheVariants as taken
-use Rattle.cast_history.specs.State.{State, local, serials, is_home, is_site, is_group, is_received, is_well_formed, may_order, may_take, others_of, upto, is_stable, let_go, set_group, set_home, set_standing, emitted, was_given}
+use Rattle.cast_history.specs.State.{State, local, serials, is_home, is_site, is_group, is_received, is_well_formed, may_order, may_take, is_stable, let_go, set_group, set_home, set_standing, emitted, noting_ack, noting_stable, was_given}
 use Rattle.cast_history.specs.Order.{order_of, unlisted, has_place, is_ready_for}
-use Rattle.cast_history.specs.Owing.{ask_key, message_key, sent_for, owing, paying, resending, at_moment, ticked}
+use Rattle.cast_history.specs.Owing.{ask_key, message_key, sent_for, owing, paying, paying_upto, resending, at_moment, ticked}
 use Rattle.cast_history.specs.Effects.{may_raise, asking, pushing, receiving, sending, delivering, completing}
-use Rattle.cast_history.specs.Step.{acknowledging, data_used, is_used_ack, with_ack, tell_stable, tell_more, on_ack, paying_acks, on_stable, first_refusal, join_tests, cast_tests, joining, attempting, body_of, requested, commanded, is_used, on_data, is_from_home, on_ask, on_asked, on_install, on_installed, group_of, on_frame, framed, opened, Effect, acted}
+use Rattle.cast_history.specs.Step.{acknowledging, data_used, first_refusal, join_tests, cast_tests, joining, attempting, body_of, requested, commanded, is_used, on_data, is_from_home, on_ask, on_asked, on_install, on_installed, group_of, on_frame, framed, opened, Effect, acted}
 use Rattle.cast_history.specs.Rest.{deliver_first, deliver_all, settle, may_set_order, set_order_by, set_order, set_orders, install_frame, send_install, decide, lead_all, pass, RestsAt}
 use Rattle.cast_history.specs.Lawful.{IsSpent, IsLawful, IsTypedFrame, IsTyped}
 use Rattle.cast_history.proofs.Spots.{found_passes}
+use Rattle.cast_history.specs.History.{history}
+use Rattle.cast_history.proofs.Rules.Follows.{Keeps}
+use Rattle.cast_history.proofs.Rules.Stability.{ack_keeps, stable_keeps}
 use Rattle.cast_history.proofs.Lawful.{SameLaw, same_self, same_then, same_if, same_fold, same_home, same_emitted, same_group_set, same_owed, same_sent_for, same_owing, same_asking, kept_map, lawful_same, lawful_pushing, lawful_emitted, lawful_requesting, lawful_if, lawful_fold, lawful_standing, lawful_receiving, lawful_let_go, lawful_sending, lawful_delivering, lawful_completing}
 
 -- a stamp is in order
@@ -138,28 +140,19 @@ lawful_on_data s from m l stamp =
     (λ _. l)))
     (λ _. l)
 
--- what is acknowledged, told and owed is no matter
-same_known : (s : State) (acks : List Acked) (told : List Uid) (owed : List Owed) → SameLaw s (record s { acks = acks; told = told; owed = owed })
-same_known s acks told owed = record { config = refl; used = refl; got = refl; kept = refl; delivered = λ k. refl; abcasts = λ k. refl; standing = λ k g. refl; view_in = λ k g. refl; number = λ g. refl; view = λ g. refl }
+-- what is acknowledged and told is no matter
+same_known : (s : State) (acks : List Acked) (told : List Uid) → SameLaw s (record s { acks = acks; told = told })
+same_known s acks told = record { config = refl; used = refl; got = refl; kept = refl; delivered = λ k. refl; abcasts = λ k. refl; standing = λ k g. refl; view_in = λ k g. refl; number = λ g. refl; view = λ g. refl }
 
-pub same_on_ack : (s : State) (from : SiteNo) (u : Uid) → SameLaw s (on_ack s from u)
-same_on_ack s from u =
-    let after : State = with_ack s from u in
-    let known : SameLaw s after = same_known s after.acks s.told after.owed in
-    let again : State = tell_stable u (upto s u) after from in
-    let more : State = fold (tell_stable u (upto after u)) after (others_of after u.group) in
-    same_if s (if nat_le u.count (upto s u) then again else tell_more u (upto s u) after) s (is_used_ack s from u)
-    (same_if s again (tell_more u (upto s u) after) (nat_le u.count (upto s u))
-    (same_then s after again known (same_emitted after from (frame.Stable (record u { count = upto s u }))))
-    (same_if s more after (nat_lt (upto s u) (upto after u))
-    (same_then s after more known (same_fold (tell_stable u (upto after u)) (λ t to. same_emitted t to (frame.Stable (record u { count = upto after u }))) (others_of after u.group) after))
-    known))
-    (same_self s)
-
-pub same_on_stable : (s : State) (from : SiteNo) (u : Uid) → SameLaw s (on_stable s from u)
-same_on_stable s from u =
-    let after : State = record (paying_acks s u) { told = s.told ++ u ∷ [] } in
-    same_if s after s (is_current (s.group u.group) u.view && site_eq u.proc.site from) (same_known s s.acks after.told after.owed) (same_self s)
+-- each move of the rules leaves a history lawful
+moves_lawful : Keeps history IsLawful
+moves_lawful = record {
+  send = λ s l to f. lawful_emitted s to f l;
+  pay = λ s l key. lawful_same s (paying s key) (same_owed s (paying s key).owed) l;
+  pay_upto = λ s l key. lawful_same s (paying_upto s key) (same_owed s (paying_upto s key).owed) l;
+  note_ack = λ s l from u. lawful_same s (noting_ack s from u) (same_known s (noting_ack s from u).acks s.told) l;
+  note_stable = λ s l u. lawful_same s (noting_stable s u) (same_known s s.acks (noting_stable s u).told) l;
+}
 
 pub same_on_ask : (s : State) (from : SiteNo) (g : GroupNo) (number : ℕ) (what : Change) (p : Proc) → SameLaw s (on_ask s from g number what p)
 same_on_ask s from g number change.Join p =
@@ -213,8 +206,8 @@ same_on_installed s from g n = same_if s (set_home s g (after_installed (s.home 
 
 pub lawful_on_frame : (s : State) (from : SiteNo) (f : SiteFrame) → IsLawful s → is_group s (group_of f) ≡ true → IsTypedFrame f → IsLawful (on_frame s from f)
 lawful_on_frame s from (frame.Data m) l listed typed = lawful_on_data s from m l typed.0
-lawful_on_frame s from (frame.Ack u) l listed typed = lawful_same s (on_ack s from u) (same_on_ack s from u) l
-lawful_on_frame s from (frame.Stable u) l listed typed = lawful_same s (on_stable s from u) (same_on_stable s from u) l
+lawful_on_frame s from (frame.Ack u) l listed typed = ack_keeps history IsLawful moves_lawful s l u.group from u
+lawful_on_frame s from (frame.Stable u) l listed typed = stable_keeps history IsLawful moves_lawful s l u.group from u
 lawful_on_frame s from (frame.Ask g number what p) l listed typed = lawful_same s (on_ask s from g number what p) (same_on_ask s from g number what p) l
 lawful_on_frame s from (frame.Asked g number full) l listed typed = lawful_same s (on_asked s from g number full) (same_on_asked s from g number full) l
 lawful_on_frame s from (frame.Prepare g view) l listed typed = l

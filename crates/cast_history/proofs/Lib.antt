@@ -12,6 +12,7 @@ pub mod Alikes
 pub mod Settles
 pub mod Rests
 pub mod Spots
+pub mod Rules
 pub mod Lawful
 pub mod LawfulSteps
 pub mod Counting

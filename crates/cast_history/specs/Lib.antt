@@ -1,7 +1,9 @@
 pub mod State
 pub mod Order
+pub mod Rules
 pub mod Owing
 pub mod Effects
+pub mod History
 pub mod Rest
 pub mod Step
 pub mod Run

@@ -2,38 +2,18 @@
 use Rattle.std.specs.Prelude.{ℕ, ◌+◌, min, max, if◌then◌else◌, Option, Some, None}
 use Rattle.std.specs.List.{fold}
 use Rattle.std.specs.Option.{option_map}
-use Rattle.cast_types.specs.declared.names.SiteNo.{SiteNo}
 use Rattle.cast_types.specs.declared.names.GroupNo.{GroupNo}
-use Rattle.cast_types.specs.declared.names.Proc.{Proc}
-use Rattle.cast_types.specs.declared.names.Uid.{Uid}
 use Rattle.cast_types.specs.declared.limits.TheConstants.{MAX_MOMENT}
 use Rattle.cast_message.specs.declared.site.SiteFrame.{SiteFrame}
 use Rattle.cast_message.specs.declared.site.SiteFrame.TheVariants as frame
 use Rattle.cast_timer.specs.declared.key.OwedKey.{OwedKey}
 use Rattle.cast_timer.specs.declared.key.OwedKind.{OwedKind}
 use Rattle.cast_timer.specs.declared.key.OwedKind.TheVariants.{Ask, Data, Prepare, Want, Install, Ack}
-use Rattle.cast_timer.specs.declared.key.Side.TheVariants.{Site}
-use Rattle.cast_timer.specs.Owed.{is_owed, with_owed, paid, renewed, key_eq, due_at}
+use Rattle.cast_timer.specs.Owed.{is_owed, with_owed, paid, is_upto, renewed, key_eq, due_at}
 use Rattle.cast_model.specs.declared.group.Asking.{Asking}
 use Rattle.cast_model.specs.Group.{first_asking}
 use Rattle.cast_history.specs.State.{State, is_group, emitted, message_of}
-
--- Keys
-
-abbrev pub nobody : Proc
-nobody = record { site = record { 0 = 0 }; serial = 0 }
-
--- the first request of a group is owed to the home
-abbrev pub ask_key : GroupNo → SiteNo → OwedKey
-ask_key g home = record { kind = Ask; group = g; proc = nobody; count = 0; site = home; side = Site }
-
--- a frame of this kind about a message is owed to a site
-abbrev pub message_key : OwedKind → Uid → SiteNo → OwedKey
-message_key kind u to = record { kind = kind; group = u.group; proc = u.proc; count = u.count; site = to; side = Site }
-
--- the message that a key is about, in a view of its group
-abbrev pub id_in : ℕ → OwedKey → Uid
-id_in view key = record { group = key.group; view = view; proc = key.proc; count = key.count }
+pub use Rattle.cast_history.specs.Rules.Keys.{ask_key, message_key, id_in}
 
 -- Frames
 
@@ -69,6 +49,10 @@ owing s key =
 -- owes a frame no more
 abbrev pub paying : State → OwedKey → State
 paying s key = record s { owed = paid (key_eq key) s.owed }
+
+-- nor those about the process's messages before that
+abbrev pub paying_upto : State → OwedKey → State
+paying_upto s key = record s { owed = paid (is_upto key) s.owed }
 
 -- Ticks
 

@@ -156,6 +156,14 @@ upto s u = stable_upto s.acks (others_of s u.group) u.group u.view u.proc
 abbrev pub is_stable : State → Uid → Bool
 is_stable s u = is_known_stable s.here (others_of s u.group) s.acks s.told u
 
+-- a site acknowledged a message of a local process
+abbrev pub noting_ack : State → SiteNo → Uid → State
+noting_ack s from u = record s { acks = s.acks ++ (from, u) ∷ [] }
+
+-- another site told that its process's messages up to one are stable
+abbrev pub noting_stable : State → Uid → State
+noting_stable s u = record s { told = s.told ++ u ∷ [] }
+
 -- the serials of the local members of a group
 abbrev pub local_members : State → GroupNo → List ℕ
 local_members s g = filter (λ k. is_member ((s.process k).standing g)) (serials s)

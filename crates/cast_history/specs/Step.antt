@@ -1,6 +1,5 @@
 -- What each event does before the state comes to rest, and what it is answered.
-use Rattle.std.specs.Prelude.{ℕ, ◌+◌, Bool, true, false, not, ◌&&◌, ◌==◌, nat_lt, nat_le, if◌then◌else◌, List, [], ◌∷◌, ◌++◌, length, Option, Some, None}
-use Rattle.std.specs.List.{fold}
+use Rattle.std.specs.Prelude.{ℕ, ◌+◌, Bool, true, false, not, ◌&&◌, ◌==◌, nat_lt, nat_le, if◌then◌else◌, List, [], ◌∷◌, length, Option, Some, None}
 use Rattle.cast_types.specs.declared.names.SiteNo.{SiteNo}
 use Rattle.cast_types.specs.declared.names.GroupNo.{GroupNo}
 use Rattle.cast_types.specs.declared.names.Proc.{Proc}
@@ -10,7 +9,6 @@ use Rattle.cast_types.specs.declared.refusal.Refusal.{Refusal}
 use Rattle.cast_types.specs.declared.refusal.Refusal.TheVariants.{NotOpen, TooManySessions, NoGroup, NotMember, AlreadyMember, OwnAbcast, HeldFull, TooLong}
 use Rattle.cast_types.specs.declared.limits.TheConstants.{MAX_NUMBER, MAX_PAYLOAD}
 use Rattle.cast_types.specs.Names.{site_eq}
-use Rattle.cast_types.specs.Sets.{is_among}
 use Rattle.cast_clock.specs.Times.{view_of}
 use Rattle.cast_message.specs.declared.message.Body.{Body}
 use Rattle.cast_message.specs.declared.message.Body.TheVariants as body
@@ -26,11 +24,10 @@ use Rattle.cast_message.specs.declared.client.Request.TheVariants.{Join, Leave, 
 use Rattle.cast_message.specs.declared.client.Push.TheVariants as push
 use Rattle.cast_message.specs.Membership.{Membership}
 use Rattle.cast_timer.specs.declared.key.OwedKind.TheVariants as kinds
-use Rattle.cast_timer.specs.Owed.{paid, is_upto}
 use Rattle.cast_delay.specs.Ready.{is_member, is_outside}
 use Rattle.cast_model.specs.Session.{first_session, is_open}
 use Rattle.cast_model.specs.declared.group.Verdict.TheVariants.{Again, Completes, Ignored}
-use Rattle.cast_model.specs.Group.{first_asking, members_of, is_current, with_answer, verdict_of}
+use Rattle.cast_model.specs.Group.{first_asking, members_of, with_answer, verdict_of}
 use Rattle.cast_model.specs.declared.home.Home.{Home}
 use Rattle.cast_model.specs.Home.{applied_of, after_request, after_installed}
 use Rattle.cast_message.specs.declared.client.Command.{Command}
@@ -39,9 +36,11 @@ use Rattle.cast_model.specs.declared.event.Event.{Event}
 use Rattle.cast_model.specs.declared.event.Event.TheVariants as event
 use Rattle.cast_model.specs.declared.event.Taken.{Taken}
 use Rattle.cast_model.specs.declared.event.Taken.TheVariants as taken
-use Rattle.cast_history.specs.State.{State, local, is_home, is_site, is_group, set_session, set_group, set_home, set_standing, emitted, is_received, may_receive, may_take, others_of, upto, is_stable, is_well_formed}
+use Rattle.cast_history.specs.State.{State, local, is_home, is_site, is_group, set_session, set_group, set_home, set_standing, emitted, is_received, may_receive, may_take, is_stable, is_well_formed}
 use Rattle.cast_history.specs.Order.{awaits_own}
 use Rattle.cast_history.specs.Owing.{ask_key, message_key, owing, paying, ticked}
+use Rattle.cast_history.specs.Rules.Stability.{on_ack, on_stable}
+use Rattle.cast_history.specs.History.{history}
 use Rattle.cast_history.specs.Effects.{may_raise, asking, requesting, pushing, receiving, sending, completing}
 
 -- Commands
@@ -117,47 +116,6 @@ data_used s from m =
 abbrev pub on_data : State → SiteNo → Message → State
 on_data s from m = if is_used s from m then data_used s from m else s
 
--- Stability
-
--- of a message of the current view of a local process, from another site of that view
-abbrev pub is_used_ack : State → SiteNo → Uid → Bool
-is_used_ack s from u =
-    is_current (s.group u.group) u.view
-    && (nat_lt 0 u.count && (site_eq u.proc.site s.here && is_among site_eq from (others_of s u.group)))
-
--- a site has a message, and it is owed to that site no more
-abbrev pub with_ack : State → SiteNo → Uid → State
-with_ack s from u = record (paying s (message_key kinds.Data u from)) { acks = s.acks ++ (from, u) ∷ [] }
-
--- a site is told that the first n messages of a process are stable
-abbrev pub tell_stable : Uid → ℕ → State → SiteNo → State
-tell_stable u n s to = emitted s to (frame.Stable (record u { count = n }))
-
--- all other sites are told where more messages are stable than before
-abbrev pub tell_more : Uid → ℕ → State → State
-tell_more u before s =
-    if nat_lt before (upto s u) then fold (tell_stable u (upto s u)) s (others_of s u.group) else s
-
--- an acknowledgement is kept; one of a message that was stable before shows that the site was not told
-abbrev pub on_ack : State → SiteNo → Uid → State
-on_ack s from u =
-    if is_used_ack s from u
-    then (if nat_le u.count (upto s u)
-    then tell_stable u (upto s u) (with_ack s from u) from
-    else tell_more u (upto s u) (with_ack s from u))
-    else s
-
--- acknowledgements of a process's messages up to one are owed to its site no more
-abbrev pub paying_acks : State → Uid → State
-paying_acks s u = record s { owed = paid (is_upto (message_key kinds.Ack u u.proc.site)) s.owed }
-
--- the process's own site tells that its messages up to one are stable
-abbrev pub on_stable : State → SiteNo → Uid → State
-on_stable s from u =
-    if is_current (s.group u.group) u.view && site_eq u.proc.site from
-    then record (paying_acks s u) { told = s.told ++ u ∷ [] }
-    else s
-
 -- Requests
 
 abbrev pub is_from_home : State → SiteNo → Bool
@@ -219,8 +177,8 @@ group_of (frame.Out g view) = g
 -- a frame that no rule uses is ignored
 abbrev pub on_frame : State → SiteNo → SiteFrame → State
 on_frame s from (frame.Data m) = on_data s from m
-on_frame s from (frame.Ack u) = on_ack s from u
-on_frame s from (frame.Stable u) = on_stable s from u
+on_frame s from (frame.Ack u) = on_ack history s u.group from u
+on_frame s from (frame.Stable u) = on_stable history s u.group from u
 on_frame s from (frame.Ask g number what p) = on_ask s from g number what p
 on_frame s from (frame.Asked g number full) = on_asked s from g number full
 on_frame s from (frame.Prepare g view) = s

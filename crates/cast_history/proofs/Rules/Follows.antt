@@ -1,0 +1,69 @@
+-- When what a rule leads to at one site stands for what it leads to at another: where each question has the same answer at both, and each
+-- move leads to states that stand for each other. So what is to be shown of two sites is one fact for each question and each move.
+use Rattle.std.proofs.Common.{◌≡◌, Bool, true, false, List, [], ◌∷◌, refl, sym, ap}
+use Rattle.std.specs.Prelude.{if◌then◌else◌}
+use Rattle.std.specs.List.{fold}
+use Rattle.std.proofs.lemmas.Bool.{false≢true}
+use Rattle.cast_types.specs.declared.names.SiteNo.{SiteNo}
+use Rattle.cast_types.specs.declared.names.GroupNo.{GroupNo}
+use Rattle.cast_types.specs.declared.names.Uid.{Uid}
+use Rattle.cast_message.specs.declared.site.SiteFrame.{SiteFrame}
+use Rattle.cast_timer.specs.declared.key.OwedKey.{OwedKey}
+use Rattle.cast_history.specs.Rules.Interface.{Site}
+
+-- fits r s: r stands for s; stands s h k: what stands at h in the one is the group at k in s
+pub record Follows {R S H K : Type 0} (a : Site R H) (b : Site S K) (fits : R → S → Type 0) (stands : S → H → K → Type 0) : Type 0 where
+  pub here : (r : R) (s : S) → fits r s → a.here r ≡ b.here s
+  pub group : (r : R) (s : S) → fits r s → (h : H) (k : K) → stands s h k → a.group r h ≡ b.group s k
+  pub others : (r : R) (s : S) → fits r s → (g : GroupNo) → a.others r g ≡ b.others s g
+  pub stable_upto : (r : R) (s : S) → fits r s → (u : Uid) → (b.others s u.group ≡ [] → ⊥) → a.stable_upto r u ≡ b.stable_upto s u
+  pub send : (r : R) (s : S) → fits r s → (to : SiteNo) (f : SiteFrame) → fits (a.send r to f) (b.send s to f)
+  pub pay : (r : R) (s : S) → fits r s → (key : OwedKey) → fits (a.pay r key) (b.pay s key)
+  pub pay_upto : (r : R) (s : S) → fits r s → (key : OwedKey) → fits (a.pay_upto r key) (b.pay_upto s key)
+  pub note_ack : (r : R) (s : S) → fits r s → (from : SiteNo) (u : Uid) → fits (a.note_ack r from u) (b.note_ack s from u)
+  pub note_stable : (r : R) (s : S) → fits r s → (u : Uid) → fits (a.note_stable r u) (b.note_stable s u)
+
+-- What rules are made of
+
+module _ {R S : Type 0} (fits : R → S → Type 0) where
+  -- the same choice on both sides
+  pub choose : (c e : Bool) (x y : R) (u v : S) → c ≡ e → (e ≡ true → fits x u) → (e ≡ false → fits y v) → fits (if c then x else y) (if e then u else v)
+  choose true true x y u v same then_fits else_fits = then_fits refl
+  choose true false x y u v same then_fits else_fits = absurd (false≢true (sym same))
+  choose false true x y u v same then_fits else_fits = absurd (false≢true same)
+  choose false false x y u v same then_fits else_fits = else_fits refl
+
+  -- the same for each item in turn
+  pub each : {X : Type 0} (f : R → X → R) (g : S → X → S) → ((r : R) (s : S) (x : X) → fits r s → fits (f r x) (g s x)) → (xs : List X) (r : R) (s : S) → fits r s → fits (fold f r xs) (fold g s xs)
+  each f g step [] r s h = h
+  each f g step (x ∷ xs) r s h = each f g step xs (f r x) (g s x) (step r s x h)
+
+-- What holds of each state
+
+-- each move leaves what holds
+pub record Keeps {S H : Type 0} (d : Site S H) (holds : S → Type 0) : Type 0 where
+  pub send : (s : S) → holds s → (to : SiteNo) (f : SiteFrame) → holds (d.send s to f)
+  pub pay : (s : S) → holds s → (key : OwedKey) → holds (d.pay s key)
+  pub pay_upto : (s : S) → holds s → (key : OwedKey) → holds (d.pay_upto s key)
+  pub note_ack : (s : S) → holds s → (from : SiteNo) (u : Uid) → holds (d.note_ack s from u)
+  pub note_stable : (s : S) → holds s → (u : Uid) → holds (d.note_stable s u)
+
+-- a site follows itself in the same state, and what its moves keep holds of that
+abbrev pub AlsoHolds : {S : Type 0} → (S → Type 0) → S → S → Type 0
+AlsoHolds holds r s = (r ≡ s) × holds s
+
+abbrev pub SamePlace : {S H : Type 0} → S → H → H → Type 0
+SamePlace s h k = h ≡ k
+
+pub follows_itself : {S H : Type 0} (d : Site S H) (holds : S → Type 0) → Keeps d holds → Follows d d (AlsoHolds holds) SamePlace
+follows_itself d holds keeps = record {
+  here = λ r s f. ap d.here f.0;
+  group = λ r s f h k at. λ i. d.group (f.0 i) (at i);
+  others = λ r s f g. λ i. d.others (f.0 i) g;
+  stable_upto = λ r s f u some. λ i. d.stable_upto (f.0 i) u;
+  send = λ r s f to x. (λ i. d.send (f.0 i) to x, keeps.send s f.1 to x);
+  pay = λ r s f key. (λ i. d.pay (f.0 i) key, keeps.pay s f.1 key);
+  pay_upto = λ r s f key. (λ i. d.pay_upto (f.0 i) key, keeps.pay_upto s f.1 key);
+  note_ack = λ r s f from u. (λ i. d.note_ack (f.0 i) from u, keeps.note_ack s f.1 from u);
+  note_stable = λ r s f u. (λ i. d.note_stable (f.0 i) u, keeps.note_stable s f.1 u);
+}

@@ -1,0 +1,34 @@
+-- A domain at its site, as the rules see it: what they ask of it, and what they do to it. A rule is written once, over this, and holds
+-- of whatever gives it: of the history of a domain, and of the records that stand for a history.
+use Rattle.std.specs.Prelude.{ℕ, List}
+use Rattle.cast_types.specs.declared.names.SiteNo.{SiteNo}
+use Rattle.cast_types.specs.declared.names.GroupNo.{GroupNo}
+use Rattle.cast_types.specs.declared.names.Uid.{Uid}
+use Rattle.cast_message.specs.declared.site.SiteFrame.{SiteFrame}
+use Rattle.cast_timer.specs.declared.key.OwedKey.{OwedKey}
+use Rattle.cast_model.specs.declared.group.Group.{Group}
+
+-- an S is what is known of the domain, and an H says where a group stands in it
+pub record Site (S H : Type 0) : Type 0 where
+  -- Questions
+
+  -- the site's number
+  pub here : S → SiteNo
+  -- a group: its view, and the requests of its processes here
+  pub group : S → H → Group
+  -- the other sites of a group's view
+  pub others : S → GroupNo → List SiteNo
+  -- how many messages of a local process are stable, in a view that has another site
+  pub stable_upto : S → Uid → ℕ
+  -- Moves
+
+  -- a frame is sent to a site
+  pub send : S → SiteNo → SiteFrame → S
+  -- a frame is owed no more
+  pub pay : S → OwedKey → S
+  -- nor are those about the process's messages before that
+  pub pay_upto : S → OwedKey → S
+  -- it is noted that a site acknowledged a message
+  pub note_ack : S → SiteNo → Uid → S
+  -- it is noted that a process's messages up to one are stable
+  pub note_stable : S → Uid → S

@@ -1,0 +1,25 @@
+-- The names of frames that are owed.
+use Rattle.std.specs.Prelude.{ℕ}
+use Rattle.cast_types.specs.declared.names.SiteNo.{SiteNo}
+use Rattle.cast_types.specs.declared.names.GroupNo.{GroupNo}
+use Rattle.cast_types.specs.declared.names.Proc.{Proc}
+use Rattle.cast_types.specs.declared.names.Uid.{Uid}
+use Rattle.cast_timer.specs.declared.key.OwedKey.{OwedKey}
+use Rattle.cast_timer.specs.declared.key.OwedKind.{OwedKind}
+use Rattle.cast_timer.specs.declared.key.OwedKind.TheVariants.{Ask}
+use Rattle.cast_timer.specs.declared.key.Side.TheVariants.{Site}
+
+abbrev pub nobody : Proc
+nobody = record { site = record { 0 = 0 }; serial = 0 }
+
+-- the first request of a group is owed to the home
+abbrev pub ask_key : GroupNo → SiteNo → OwedKey
+ask_key g home = record { kind = Ask; group = g; proc = nobody; count = 0; site = home; side = Site }
+
+-- a frame of this kind about a message is owed to a site
+abbrev pub message_key : OwedKind → Uid → SiteNo → OwedKey
+message_key kind u to = record { kind = kind; group = u.group; proc = u.proc; count = u.count; site = to; side = Site }
+
+-- the message that a key is about, in a view of its group
+abbrev pub id_in : ℕ → OwedKey → Uid
+id_in view key = record { group = key.group; view = view; proc = key.proc; count = key.count }
