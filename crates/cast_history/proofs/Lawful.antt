@@ -160,51 +160,52 @@ free_spent s m free =
 
 -- alike in all that is lawful or not
 pub record SameLaw (s : State) (t : State) : Type 0 where
+  pub here : t.here ≡ s.here
   pub config : t.config ≡ s.config
   pub used : t.used ≡ s.used
+  pub process : (k : ℕ) → t.process k ≡ s.process k
   pub got : t.got ≡ s.got
   pub kept : t.kept ≡ s.kept
-  pub delivered : (k : ℕ) → (t.process k).delivered ≡ (s.process k).delivered
   pub abcasts : (k : ℕ) → t.abcasts k ≡ s.abcasts k
-  pub standing : (k : ℕ) (g : GroupNo) → (t.process k).standing g ≡ (s.process k).standing g
-  pub view_in : (k : ℕ) (g : GroupNo) → view_of (t.process k).time g ≡ view_of (s.process k).time g
   pub number : (g : GroupNo) → (t.group g).number ≡ (s.group g).number
   pub view : (g : GroupNo) → (t.group g).view ≡ (s.group g).view
+  -- no session opens
+  pub opens : (k : ℕ) → is_open (t.session k) ≡ true → is_open (s.session k) ≡ true
 
-seen_view : (a b : Group) → a.view ≡ b.view → has_view a ≡ has_view b
+pub seen_view : (a b : Group) → a.view ≡ b.view → has_view a ≡ has_view b
 seen_view a b e = ap (λ v. has_view (record no_group { view = v })) e
 
 pub lawful_same : (s t : State) → SameLaw s t → IsLawful s → IsLawful t
 lawful_same s t a l = lawful_from s t l a.config
     (λ k g. record {
-      known = λ h. ap (λ c. is_among group_eq g c.groups) a.config ∙ l.known k g (sym (ap is_outside (a.standing k g)) ∙ h);
-      current = λ h. a.view_in k g ∙ l.current k g (sym (ap is_member (a.standing k g)) ∙ h) ∙ sym (a.number g);
-      viewed = λ h. seen_view (t.group g) (s.group g) (a.view g) ∙ l.viewed k g (sym (ap is_member (a.standing k g)) ∙ h);
+      known = λ h. ap (λ c. is_among group_eq g c.groups) a.config ∙ l.known k g (sym (ap (λ (p : Process). is_outside (p.standing g)) (a.process k)) ∙ h);
+      current = λ h. ap (λ (p : Process). view_of p.time g) (a.process k) ∙ l.current k g (sym (ap (λ (p : Process). is_member (p.standing g)) (a.process k)) ∙ h) ∙ sym (a.number g);
+      viewed = λ h. seen_view (t.group g) (s.group g) (a.view g) ∙ l.viewed k g (sym (ap (λ (p : Process). is_member (p.standing g)) (a.process k)) ∙ h);
     })
     (λ m at. l.stamped m (subst (λ got. Contains got m) a.got at))
     (subst (λ got. AreKept (IsSpent t) got t.kept) (sym a.got)
     (subst (AreKept (IsSpent t) s.got) (sym a.kept)
     (kept_map (IsSpent s) (IsSpent t)
-    (spent_on s t a.used a.number (λ k g is. ap is_member (sym (a.standing k g)) ∙ is) (λ k u is. ap (λ ids. is_among uid_eq u ids) (a.delivered k) ∙ is))
+    (spent_on s t a.used a.number (λ k g is. ap (λ (p : Process). is_member (p.standing g)) (sym (a.process k)) ∙ is) (λ k u is. ap (λ p. has_delivered p u) (a.process k) ∙ is))
     s.got s.kept l.spent)))
     (λ g seen. ap (λ c. is_among group_eq g c.groups) a.config ∙ l.listed g (sym (seen_view (t.group g) (s.group g) (a.view g)) ∙ seen))
-    (traced_on s t a.got a.abcasts (λ g. let same = a.number g in omega (arith, same)) (λ k u is. ap (λ ids. is_among uid_eq u ids) (a.delivered k) ∙ is) l.traced)
+    (traced_on s t a.got a.abcasts (λ g. let same = a.number g in omega (arith, same)) (λ k u is. ap (λ p. has_delivered p u) (a.process k) ∙ is) l.traced)
 
 pub same_self : (s : State) → SameLaw s s
-same_self s = record { config = refl; used = refl; got = refl; kept = refl; delivered = λ k. refl; abcasts = λ k. refl; standing = λ k g. refl; view_in = λ k g. refl; number = λ g. refl; view = λ g. refl }
+same_self s = record { here = refl; config = refl; used = refl; process = λ k. refl; got = refl; kept = refl; abcasts = λ k. refl; number = λ g. refl; view = λ g. refl; opens = λ k is. is }
 
 pub same_then : (s t u : State) → SameLaw s t → SameLaw t u → SameLaw s u
 same_then s t u a b = record {
+  here = b.here ∙ a.here;
   config = b.config ∙ a.config;
   used = b.used ∙ a.used;
+  process = λ k. b.process k ∙ a.process k;
   got = b.got ∙ a.got;
   kept = b.kept ∙ a.kept;
-  delivered = λ k. b.delivered k ∙ a.delivered k;
   abcasts = λ k. b.abcasts k ∙ a.abcasts k;
-  standing = λ k g. b.standing k g ∙ a.standing k g;
-  view_in = λ k g. b.view_in k g ∙ a.view_in k g;
   number = λ g. b.number g ∙ a.number g;
   view = λ g. b.view g ∙ a.view g;
+  opens = λ k is. a.opens k (b.opens k is);
 }
 
 pub same_if : (s x y : State) (b : Bool) → SameLaw s x → SameLaw s y → SameLaw s (if b then x else y)
@@ -215,29 +216,43 @@ pub same_fold : {X : Type 0} (f : State → X → State) → ((s : State) (x : X
 same_fold f h [] s = same_self s
 same_fold f h (x ∷ xs) s = same_then s (f s x) (fold f (f s x) xs) (h s x) (same_fold f h xs (f s x))
 
-pub same_session : (s : State) (k : ℕ) (v : Session) → SameLaw s (set_session s k v)
-same_session s k v = record { config = refl; used = refl; got = refl; kept = refl; delivered = λ k. refl; abcasts = λ k. refl; standing = λ k g. refl; view_in = λ k g. refl; number = λ g. refl; view = λ g. refl }
+pub same_session : (s : State) (k : ℕ) (v : Session) → (is_open v ≡ true → is_open (s.session k) ≡ true) → SameLaw s (set_session s k v)
+same_session s k v opens = record {
+  here = refl;
+  config = refl;
+  used = refl;
+  process = λ j. refl;
+  got = refl;
+  kept = refl;
+  abcasts = λ j. refl;
+  number = λ g. refl;
+  view = λ g. refl;
+  opens = λ j. elim (k == j) as (λ b. k == j ≡ b → is_open (if b then v else s.session j) ≡ true → is_open (s.session j) ≡ true) [
+    | true ↦ λ same is. ap (λ i. is_open (s.session i)) (sym (eqb-true k j same)) ∙ opens is
+    | false ↦ λ _ is. is
+  ] refl;
+}
 
 pub same_home : (s : State) (g : GroupNo) (v : Home) → SameLaw s (set_home s g v)
-same_home s g v = record { config = refl; used = refl; got = refl; kept = refl; delivered = λ k. refl; abcasts = λ k. refl; standing = λ k g. refl; view_in = λ k g. refl; number = λ g. refl; view = λ g. refl }
+same_home s g v = record { here = refl; config = refl; used = refl; process = λ k. refl; got = refl; kept = refl; abcasts = λ k. refl; number = λ g. refl; view = λ g. refl; opens = λ k is. is }
 
 pub same_emitted : (s : State) (to : SiteNo) (f : SiteFrame) → SameLaw s (emitted s to f)
-same_emitted s to f = record { config = refl; used = refl; got = refl; kept = refl; delivered = λ k. refl; abcasts = λ k. refl; standing = λ k g. refl; view_in = λ k g. refl; number = λ g. refl; view = λ g. refl }
+same_emitted s to f = record { here = refl; config = refl; used = refl; process = λ k. refl; got = refl; kept = refl; abcasts = λ k. refl; number = λ g. refl; view = λ g. refl; opens = λ k is. is }
 
 pub same_pushing : (s : State) (k : ℕ) (p : Push) → SameLaw s (pushing s k p)
-same_pushing s k p = same_if s (set_session s k (pushed_to (s.session k) p)) s (is_open (s.session k)) (same_session s k (pushed_to (s.session k) p)) (same_self s)
+same_pushing s k p = same_if s (set_session s k (pushed_to (s.session k) p)) s (is_open (s.session k)) (same_session s k (pushed_to (s.session k) p) (λ is. is)) (same_self s)
 
 -- a group that keeps its number and its view
 pub same_group_set : (s : State) (g : GroupNo) (v : Group) → v.number ≡ (s.group g).number → v.view ≡ (s.group g).view → SameLaw s (set_group s g v)
 same_group_set s g v number view = record {
+  here = refl;
   config = refl;
   used = refl;
+  process = λ k. refl;
   got = refl;
   kept = refl;
-  delivered = λ k. refl;
   abcasts = λ k. refl;
-  standing = λ k h. refl;
-  view_in = λ k h. refl;
+  opens = λ k is. is;
   number = λ h. elim (group_eq g h) as (λ b. group_eq g h ≡ b → (if b then v else s.group h).number ≡ (s.group h).number) [
     | true ↦ λ is. subst (λ x. v.number ≡ (s.group x).number) (same_group g h is) number
     | false ↦ λ is. refl
@@ -249,7 +264,7 @@ same_group_set s g v number view = record {
 }
 
 pub same_owed : (s : State) (owed : List Owed) → SameLaw s (record s { owed = owed })
-same_owed s owed = record { config = refl; used = refl; got = refl; kept = refl; delivered = λ k. refl; abcasts = λ k. refl; standing = λ k g. refl; view_in = λ k g. refl; number = λ g. refl; view = λ g. refl }
+same_owed s owed = record { here = refl; config = refl; used = refl; process = λ k. refl; got = refl; kept = refl; abcasts = λ k. refl; number = λ g. refl; view = λ g. refl; opens = λ k is. is }
 
 pub same_sent_for : (s : State) (key : OwedKey) → SameLaw s (sent_for s key)
 same_sent_for s key = elim (frame_for s key) as (λ o. SameLaw s (elim o [ Some f ↦ emitted s key.site f | None ↦ s ])) [
@@ -423,7 +438,7 @@ join_view : (s t : ClockList) (g : GroupNo) → is_sorted group_cmp t ≡ true �
 join_view s t g sorted older = ap (λ (c : Clock). c.view) (clock_of-join s t g sorted) ∙ joined_view (clock_of s g) (clock_of t g) older
 
 -- a member's group allows no message of a later view
-allowed_view : (x : Standing) (p : Process) (gate : Gate) (m : Message) (g : GroupNo) → is_member x ≡ true → group_allows x p gate m g ≡ true → view_of m.times g ≤ gate.number
+pub allowed_view : (x : Standing) (p : Process) (gate : Gate) (m : Message) (g : GroupNo) → is_member x ≡ true → group_allows x p gate m g ≡ true → view_of m.times g ≤ gate.number
 allowed_view Outside p gate m g member allows = absurd (false≢true member)
 allowed_view (Joining request heard) p gate m g member allows = absurd (false≢true member)
 allowed_view Member p gate m g member allows =
@@ -433,7 +448,7 @@ allowed_view Member p gate m g member allows =
     ]
 
 -- each configured group allows what is ready
-ready_allows : (s : State) (k : ℕ) (m : Message) → is_ready_for s k m ≡ true → list_all (λ h. group_allows ((s.process k).standing h) (s.process k) (gate_of s h) m h) s.config.groups ≡ true
+pub ready_allows : (s : State) (k : ℕ) (m : Message) → is_ready_for s k m ≡ true → list_all (λ h. group_allows ((s.process k).standing h) (s.process k) (gate_of s h) m h) s.config.groups ≡ true
 ready_allows s k m ready =
     let a = and_parts (is_causally_ready s.config.groups (gate_of s) (s.process k) m) _ ready in
     let b = and_parts (is_member ((s.process k).standing m.id.group)) _ a.0 in
@@ -503,7 +518,7 @@ lawful_delivering s k m l at ready =
 -- Views
 
 -- a view that names a process of this site is kept here
-named_here : (here : SiteNo) (k : ℕ) (procs : List Proc) → is_among proc_eq (record { site = here; serial = k }) procs ≡ true → list_any (is_at here) procs ≡ true
+pub named_here : (here : SiteNo) (k : ℕ) (procs : List Proc) → is_among proc_eq (record { site = here; serial = k }) procs ≡ true → list_any (is_at here) procs ≡ true
 named_here here k [] named = absurd (false≢true named)
 named_here here k (p ∷ procs) named =
     elim (or_cases (site_eq here p.site && (k == p.serial)) (is_among proc_eq (record { site = here; serial = k }) procs) named) [

@@ -73,12 +73,12 @@ raised_sorted t g p may =
 -- Commands
 
 -- each test lets pass
-abbrev Passed : List (Bool × Refusal) → Type 0
+abbrev pub Passed : List (Bool × Refusal) → Type 0
 Passed [] = Unit {0}
 Passed (t ∷ tests) = (t.0 ≡ false) × Passed tests
 
 -- where nothing is refused, each test lets pass
-each_passes : (tests : List (Bool × Refusal)) → first_refusal tests ≡ None → Passed tests
+pub each_passes : (tests : List (Bool × Refusal)) → first_refusal tests ≡ None → Passed tests
 each_passes [] none = tt
 each_passes (t ∷ tests) none =
     elim t.0 as (λ b. (if b then Some t.1 else first_refusal tests) ≡ None → (b ≡ false) × Passed tests) [
@@ -141,8 +141,8 @@ lawful_on_data s from m l stamp =
     (λ _. l)
 
 -- what is acknowledged and told is no matter
-same_known : (s : State) (acks : List Acked) (told : List Uid) → SameLaw s (record s { acks = acks; told = told })
-same_known s acks told = record { config = refl; used = refl; got = refl; kept = refl; delivered = λ k. refl; abcasts = λ k. refl; standing = λ k g. refl; view_in = λ k g. refl; number = λ g. refl; view = λ g. refl }
+pub same_known : (s : State) (acks : List Acked) (told : List Uid) → SameLaw s (record s { acks = acks; told = told })
+same_known s acks told = record { here = refl; config = refl; used = refl; process = λ k. refl; got = refl; kept = refl; abcasts = λ k. refl; number = λ g. refl; view = λ g. refl; opens = λ k is. is }
 
 -- each move of the rules leaves a history lawful
 moves_lawful : Keeps history IsLawful
@@ -179,7 +179,7 @@ same_on_asked s from g number false =
     ]
 
 -- a view is completed where the group has none, and its number is a later one
-completes_unseen : (group : Group) (n : ℕ) → verdict_of group n ≡ Completes → (nat_le n group.number ≡ false) × (has_view group ≡ false)
+pub completes_unseen : (group : Group) (n : ℕ) → verdict_of group n ≡ Completes → (nat_le n group.number ≡ false) × (has_view group ≡ false)
 completes_unseen group n is = completes (nat_le n group.number) (has_view group) is
   where
     completes : (known seen : Bool) → (if known then Again else if seen then Ignored else Completes) ≡ Completes → (known ≡ false) × (seen ≡ false)
@@ -187,7 +187,7 @@ completes_unseen group n is = completes (nat_le n group.number) (has_view group)
     completes false true e = cc
     completes false false e = (refl, refl)
 
-later_number : (m n : ℕ) → nat_le n m ≡ false → m < n
+pub later_number : (m n : ℕ) → nat_le n m ≡ false → m < n
 later_number m n not_below = grind (arith, nat_tests)
 
 pub lawful_on_install : (s : State) (from : SiteNo) (g : GroupNo) (n : ℕ) (members : Membership) (request : ℕ) → IsLawful s → is_group s g ≡ true → IsLawful (on_install s from g n members request)
@@ -264,7 +264,7 @@ pub same_ticked : (s : State) (t : ℕ) → SameLaw s (ticked s t)
 same_ticked s t =
     let now : State = at_moment s t in
     same_then s now (ticked s t)
-    (record { config = refl; used = refl; got = refl; kept = refl; delivered = λ k. refl; abcasts = λ k. refl; standing = λ k g. refl; view_in = λ k g. refl; number = λ g. refl; view = λ g. refl })
+    (record { here = refl; config = refl; used = refl; process = λ k. refl; got = refl; kept = refl; abcasts = λ k. refl; number = λ g. refl; view = λ g. refl; opens = λ k is. is })
     (same_fold resending same_resending (due_at now.moment now.owed) now)
 
 pub lawful_acted : (s : State) (e : Event) → IsLawful s → IsUnborn s → IsTyped e → IsLawful (acted s e).0
