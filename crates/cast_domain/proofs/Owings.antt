@@ -21,6 +21,7 @@ use Rattle.cast_domain.specs.declared.record.GroupRecord.{GroupRecord}
 use Rattle.cast_model.specs.Group.{first_asking}
 use Rattle.cast_history.specs.State.{State, emitted, message_of}
 use Rattle.cast_history.specs.Owing.{id_in, ask_frame, frame_of_kind, frame_for, sent_for, next_due, owing, paying, resending, at_moment, resending_due, ticked}
+use Rattle.cast_history.proofs.Rules.Follows.{each}
 use Rattle.cast_domain.specs.Shared.{Part}
 use Rattle.cast_domain.specs.Records.{Records}
 use Rattle.cast_domain.specs.Calls.{place_in, send_in, message_in, frame_of_kind_in, frame_for_in, send_for_in, next_due_in, owe_in, pay_in, resend_in, resend_due_in, tick_in}
@@ -126,13 +127,10 @@ fits_owe r s fits key =
 fits_resend : (r : Records) (s : State) → Fits r s → (key : OwedKey) → Fits (resend_in r key) (resending s key)
 fits_resend r s fits key = sent_owed r s fits key (renewed r.part.owed key (next_due_in r)) (renewed s.owed key (next_due s)) (λ i. renewed (fits.owed i) key (due_same r s fits i))
 
-fits_resends : (keys : List OwedKey) (r : Records) (s : State) → Fits r s → Fits (fold resend_in r keys) (fold resending s keys)
-fits_resends [] r s fits = fits
-fits_resends (key ∷ keys) r s fits = fits_resends keys (resend_in r key) (resending s key) (fits_resend r s fits key)
-
 fits_due : (r : Records) (s : State) → Fits r s → Fits (resend_due_in r) (resending_due s)
 fits_due r s fits =
-    subst (λ keys. Fits (fold resend_in r keys) (resending_due s)) (λ i. due_at (sym fits.moment i) (sym fits.owed i)) (fits_resends (due_at s.moment s.owed) r s fits)
+    subst (λ keys. Fits (fold resend_in r keys) (resending_due s)) (λ i. due_at (sym fits.moment i) (sym fits.owed i))
+    (each Fits resend_in resending (λ x t key f. fits_resend x t f key) (due_at s.moment s.owed) r s fits)
 
 fits_moment : (r : Records) (s : State) → Fits r s → (t : ℕ) → Fits (record r { moment = max r.moment (min t MAX_MOMENT) }) (at_moment s t)
 fits_moment r s fits t = record {

@@ -55,6 +55,7 @@ use Rattle.cast_domain.specs.Calls.{place_among, local_in, place_in, no_record, 
 use Rattle.cast_history.specs.Lawful.{IsLawful}
 use Rattle.cast_domain.specs.Fits.{process_named, record_for, session_in, LogFits, Fits}
 use Rattle.cast_domain.proofs.Logs.{log_alike, settled_same, logs_receive, logs_view}
+use Rattle.cast_history.proofs.Rules.Follows.{choose}
 use Rattle.cast_history.proofs.Spots.{length_update, update_own, update_other, push_last, push_other, update_mapped}
 use Rattle.cast_types.proofs.Bools.{same_bools}
 
@@ -67,10 +68,7 @@ and_none false = refl
 
 -- the same choice on both sides
 pub fits_if : (a b : Bool) (x y : Records) (u v : State) → a ≡ b → (a ≡ true → Fits x u) → (a ≡ false → Fits y v) → Fits (if a then x else y) (if b then u else v)
-fits_if true true x y u v same then_fits else_fits = then_fits refl
-fits_if true false x y u v same then_fits else_fits = absurd (false≢true (sym same))
-fits_if false true x y u v same then_fits else_fits = absurd (false≢true same)
-fits_if false false x y u v same then_fits else_fits = else_fits refl
+fits_if a b x y u v same then_fits else_fits = choose Fits a b x y u v same (λ is. then_fits (same ∙ is)) (λ is. else_fits (same ∙ is))
 
 -- The order of views
 

@@ -56,7 +56,7 @@ use Rattle.cast_history.specs.Rest.{deliver_first, deliver_all, settle, may_set_
 use Rattle.cast_history.specs.Lawful.{IsSpent, IsLawful, IsTypedFrame, IsTyped}
 use Rattle.cast_history.proofs.Spots.{found_passes}
 use Rattle.cast_history.specs.History.{history}
-use Rattle.cast_history.proofs.Rules.Follows.{Keeps}
+use Rattle.cast_history.proofs.Rules.Follows.{IsInvariant}
 use Rattle.cast_history.proofs.Rules.Stability.{ack_keeps, stable_keeps}
 use Rattle.cast_history.proofs.Lawful.{SameLaw, same_self, same_then, same_if, same_fold, same_home, same_emitted, same_group_set, same_owed, same_sent_for, same_owing, same_asking, kept_map, lawful_same, lawful_pushing, lawful_emitted, lawful_requesting, lawful_if, lawful_fold, lawful_standing, lawful_receiving, lawful_let_go, lawful_sending, lawful_delivering, lawful_completing}
 
@@ -144,8 +144,8 @@ lawful_on_data s from m l stamp =
 pub same_known : (s : State) (acks : List Acked) (told : List Uid) → SameLaw s (record s { acks = acks; told = told })
 same_known s acks told = record { here = refl; config = refl; used = refl; process = λ k. refl; got = refl; kept = refl; abcasts = λ k. refl; number = λ g. refl; view = λ g. refl; opens = λ k is. is }
 
--- each move of the rules leaves a history lawful
-moves_lawful : Keeps history IsLawful
+-- a history stays lawful at each move of the rules
+moves_lawful : IsInvariant history IsLawful
 moves_lawful = record {
   send = λ s l to f. lawful_emitted s to f l;
   pay = λ s l key. lawful_same s (paying s key) (same_owed s (paying s key).owed) l;

@@ -50,7 +50,7 @@ owing s key =
 abbrev pub paying : State → OwedKey → State
 paying s key = record s { owed = paid (key_eq key) s.owed }
 
--- nor those about the process's messages before that
+-- owes a frame about a message no more, nor those of its kind about the process's messages before that
 abbrev pub paying_upto : State → OwedKey → State
 paying_upto s key = record s { owed = paid (is_upto key) s.owed }
 

@@ -40,22 +40,22 @@ module _ {R S : Type 0} (fits : R → S → Type 0) where
 
 -- What holds of each state
 
--- each move leaves what holds
-pub record Keeps {S H : Type 0} (d : Site S H) (holds : S → Type 0) : Type 0 where
+-- what holds of a state holds after each move
+pub record IsInvariant {S H : Type 0} (d : Site S H) (holds : S → Type 0) : Type 0 where
   pub send : (s : S) → holds s → (to : SiteNo) (f : SiteFrame) → holds (d.send s to f)
   pub pay : (s : S) → holds s → (key : OwedKey) → holds (d.pay s key)
   pub pay_upto : (s : S) → holds s → (key : OwedKey) → holds (d.pay_upto s key)
   pub note_ack : (s : S) → holds s → (from : SiteNo) (u : Uid) → holds (d.note_ack s from u)
   pub note_stable : (s : S) → holds s → (u : Uid) → holds (d.note_stable s u)
 
--- a site follows itself in the same state, and what its moves keep holds of that
+-- a site follows itself, in the same state, of which an invariant holds
 abbrev pub AlsoHolds : {S : Type 0} → (S → Type 0) → S → S → Type 0
 AlsoHolds holds r s = (r ≡ s) × holds s
 
 abbrev pub SamePlace : {S H : Type 0} → S → H → H → Type 0
 SamePlace s h k = h ≡ k
 
-pub follows_itself : {S H : Type 0} (d : Site S H) (holds : S → Type 0) → Keeps d holds → Follows d d (AlsoHolds holds) SamePlace
+pub follows_itself : {S H : Type 0} (d : Site S H) (holds : S → Type 0) → IsInvariant d holds → Follows d d (AlsoHolds holds) SamePlace
 follows_itself d holds keeps = record {
   here = λ r s f. ap d.here f.0;
   group = λ r s f h k at. λ i. d.group (f.0 i) (at i);

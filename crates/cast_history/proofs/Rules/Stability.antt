@@ -13,7 +13,7 @@ use Rattle.cast_model.specs.Group.{is_current}
 use Rattle.cast_history.specs.Rules.Keys.{message_key}
 use Rattle.cast_history.specs.Rules.Interface.{Site}
 use Rattle.cast_history.specs.Rules.Stability.{is_used_ack, with_ack, tell_stable, tell_more, on_ack, on_stable}
-use Rattle.cast_history.proofs.Rules.Follows.{Follows, choose, each, Keeps, AlsoHolds, SamePlace, follows_itself}
+use Rattle.cast_history.proofs.Rules.Follows.{Follows, choose, each, IsInvariant, AlsoHolds, SamePlace, follows_itself}
 
 module _ {R S H K : Type 0} (a : Site R H) (b : Site S K) (fits : R → S → Type 0) (stands : S → H → K → Type 0) (follows : Follows a b fits stands) where
   -- a choice that changes nothing
@@ -71,8 +71,8 @@ module _ {R S H K : Type 0} (a : Site R H) (b : Site S K) (fits : R → S → Ty
       (λ _. follows.note_stable (a.pay_upto r key) (b.pay_upto s key) (follows.pay_upto r s f key) u)
       (λ _. f)
 
--- what each move leaves, these rules leave
-module _ {S H : Type 0} (d : Site S H) (holds : S → Type 0) (keeps : Keeps d holds) where
+-- an invariant of the moves holds after each of these rules
+module _ {S H : Type 0} (d : Site S H) (holds : S → Type 0) (keeps : IsInvariant d holds) where
   pub ack_keeps : (s : S) → holds s → (h : H) (from : SiteNo) (u : Uid) → holds (on_ack d s h from u)
   ack_keeps s l h from u = (ack_follows d d (AlsoHolds holds) SamePlace (follows_itself d holds keeps) s s (refl, l) h h refl from u).1
 

@@ -8,10 +8,8 @@ use Rattle.cast_message.specs.declared.site.SiteFrame.{SiteFrame}
 use Rattle.cast_timer.specs.declared.key.OwedKey.{OwedKey}
 use Rattle.cast_model.specs.declared.group.Group.{Group}
 
--- an S is what is known of the domain, and an H says where a group stands in it
+-- an S is what is known of the domain, and an H says where a group stands in it; first comes what a rule asks, and from `send` on what it does
 pub record Site (S H : Type 0) : Type 0 where
-  -- Questions
-
   -- the site's number
   pub here : S → SiteNo
   -- a group: its view, and the requests of its processes here
@@ -20,13 +18,11 @@ pub record Site (S H : Type 0) : Type 0 where
   pub others : S → GroupNo → List SiteNo
   -- how many messages of a local process are stable, in a view that has another site
   pub stable_upto : S → Uid → ℕ
-  -- Moves
-
   -- a frame is sent to a site
   pub send : S → SiteNo → SiteFrame → S
   -- a frame is owed no more
   pub pay : S → OwedKey → S
-  -- nor are those about the process's messages before that
+  -- a frame about a message, and those of its kind about the process's messages before that, are owed no more
   pub pay_upto : S → OwedKey → S
   -- it is noted that a site acknowledged a message
   pub note_ack : S → SiteNo → Uid → S
