@@ -138,11 +138,13 @@ fn goes(alloc: Global, steps: &[Step]) -> Result<(), Fail> {
 }
 
 #[test]
-fn joins_the_counts_of_one_view(rt: HostRuntime) -> Result<(), Fail> {
+fn times_of_a_group_are_joined(rt: HostRuntime) -> Result<(), Fail> {
     goes(
         rt.alloc(),
         &[
+            Step::HasStamp(false),
             Step::Enters(3),
+            Step::HasStamp(true),
             Step::Raises(1, 3),
             Step::Raises(1, 2),
             Step::Order((3, 2, 4), (false, false)),
@@ -151,17 +153,6 @@ fn joins_the_counts_of_one_view(rt: HostRuntime) -> Result<(), Fail> {
             Step::Count(2, 1),
             Step::Count(3, 1),
             Step::Count(4, 0),
-        ],
-    )
-}
-
-#[test]
-fn a_later_view_outranks_counts(rt: HostRuntime) -> Result<(), Fail> {
-    goes(
-        rt.alloc(),
-        &[
-            Step::Enters(3),
-            Step::Raises(1, 3),
             Step::Order((4, 2, 3), (true, false)),
             Step::Joins((4, 2, 3)),
             Step::View(4),
@@ -182,20 +173,6 @@ fn a_65th_count_is_refused(rt: HostRuntime) -> Result<(), Fail> {
             Step::Refuses((3, 65, 66), 65),
             Step::Raises(64, 65),
             Step::Count(64, 2),
-        ],
-    )
-}
-
-#[test]
-fn an_empty_time_has_no_stamp(rt: HostRuntime) -> Result<(), Fail> {
-    goes(
-        rt.alloc(),
-        &[
-            Step::HasStamp(false),
-            Step::Enters(0),
-            Step::HasStamp(false),
-            Step::Enters(1),
-            Step::HasStamp(true),
         ],
     )
 }

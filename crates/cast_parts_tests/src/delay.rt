@@ -38,8 +38,6 @@ enum Step {
     Waits(Proc),
     // Whether the message under a key is the next one, in a turn of the group.
     InTurn(Turn, usize, bool),
-    // The message that is the next one in two turns of the group, which come after one of another group.
-    InTurns(Turn, Turn, Option<Key>),
     // What a process is in the group.
     Stands(Proc, Standing),
     // Whether the sender's message of a count is awaited.
@@ -95,11 +93,6 @@ fn count_of_the_sender(queue: &Delay) -> u32 {
     }
 }
 
-fn next_in_turns(queue: &Delay, earlier: Turn, later: Turn) -> Option<Key> {
-    let first = (GroupNo(2), Turn::Holding(false));
-    next(queue, MEMBER, &[first, (GROUP, earlier), (GROUP, later)])
-}
-
 fn passed(queue: &Delay, process: Proc, view: u32) -> usize {
     queue.passed(process, GROUP, view, &[(SENDER, 1), (SENDER, 2)])
 }
@@ -112,7 +105,6 @@ fn shows(queue: &Delay, step: Step) -> bool {
         Step::InTurn(turn, key, comes) => {
             (next(queue, MEMBER, &[(GROUP, turn)]) == Some(Key(key))) == comes
         }
-        Step::InTurns(earlier, later, key) => next_in_turns(queue, earlier, later) == key,
         Step::Stands(process, standing) => queue.standing(process, GROUP) == standing,
         Step::Awaits(count, awaits) => queue.is_awaited(id_of(count)) == awaits,
         Step::Has(process, count, has) => queue.has_delivered(process, id_of(count)) == has,
@@ -158,11 +150,21 @@ fn two_messages_in_the_wrong_order(rt: HostRuntime) -> Result<(), Fail> {
         &[
             Step::Comes(0, 2),
             Step::Waits(MEMBER),
+            Step::Awaits(1, true),
             Step::Comes(1, 1),
             Step::Takes(1),
+            Step::Awaits(1, false),
+            Step::Has(MEMBER, 1, true),
+            Step::Has(MEMBER, 2, false),
+            Step::Passed(MEMBER, 1, 1),
             Step::Takes(0),
             Step::Waits(MEMBER),
             Step::Counts(2),
+            Step::Passed(MEMBER, 1, 2),
+            Step::Comes(2, 3),
+            Step::Next(2),
+            Step::Forgets(2),
+            Step::Waits(MEMBER),
         ],
     )
 }
@@ -185,62 +187,7 @@ fn a_joining_process_takes_nothing_of_the_group(rt: HostRuntime) -> Result<(), F
 }
 
 #[test]
-fn a_message_is_awaited_until_it_is_delivered(rt: HostRuntime) -> Result<(), Fail> {
-    goes(
-        rt.alloc(),
-        &[
-            Step::Comes(3, 1),
-            Step::Awaits(1, true),
-            Step::Takes(3),
-            Step::Awaits(1, false),
-            Step::Awaits(2, true),
-        ],
-    )
-}
-
-#[test]
-fn a_message_that_is_let_go_is_not_offered(rt: HostRuntime) -> Result<(), Fail> {
-    goes(
-        rt.alloc(),
-        &[
-            Step::Comes(3, 1),
-            Step::Forgets(2),
-            Step::Next(3),
-            Step::Forgets(3),
-            Step::Waits(MEMBER),
-        ],
-    )
-}
-
-#[test]
 fn an_abcast_waits_for_its_turn(rt: HostRuntime) -> Result<(), Fail> {
-    goes(
-        rt.alloc(),
-        &[
-            Step::ComesAtomic(5, 1),
-            Step::Waits(MEMBER),
-            Step::InTurn(Turn::Following(Some((SENDER, 2))), 5, false),
-            Step::InTurn(Turn::Following(Some((SENDER, 1))), 5, true),
-            Step::InTurn(Turn::Holding(false), 5, false),
-            Step::InTurn(Turn::Holding(true), 5, true),
-        ],
-    )
-}
-
-#[test]
-fn the_first_turn_of_a_group_counts(rt: HostRuntime) -> Result<(), Fail> {
-    goes(
-        rt.alloc(),
-        &[
-            Step::ComesAtomic(5, 1),
-            Step::InTurns(Turn::Holding(true), Turn::Holding(false), Some(Key(5))),
-            Step::InTurns(Turn::Holding(false), Turn::Holding(true), None),
-        ],
-    )
-}
-
-#[test]
-fn an_abcast_waits_also_for_what_happened_before_it(rt: HostRuntime) -> Result<(), Fail> {
     goes(
         rt.alloc(),
         &[
@@ -248,39 +195,11 @@ fn an_abcast_waits_also_for_what_happened_before_it(rt: HostRuntime) -> Result<(
             Step::InTurn(Turn::Holding(true), 0, false),
             Step::Comes(1, 1),
             Step::Takes(1),
+            Step::Waits(MEMBER),
+            Step::InTurn(Turn::Following(Some((SENDER, 1))), 0, false),
+            Step::InTurn(Turn::Following(Some((SENDER, 2))), 0, true),
+            Step::InTurn(Turn::Holding(false), 0, false),
             Step::InTurn(Turn::Holding(true), 0, true),
-        ],
-    )
-}
-
-#[test]
-fn how_far_a_process_has_delivered(rt: HostRuntime) -> Result<(), Fail> {
-    goes(
-        rt.alloc(),
-        &[
-            Step::Comes(0, 1),
-            Step::Passed(MEMBER, 1, 0),
-            Step::Takes(0),
-            Step::Has(MEMBER, 1, true),
-            Step::Has(MEMBER, 2, false),
-            Step::Has(SENDER, 1, false),
-            Step::Passed(MEMBER, 1, 1),
-            Step::Passed(MEMBER, 2, 0),
-            Step::Passed(SENDER, 1, 0),
-        ],
-    )
-}
-
-#[test]
-fn a_process_has_delivered_the_whole_list(rt: HostRuntime) -> Result<(), Fail> {
-    goes(
-        rt.alloc(),
-        &[
-            Step::Comes(0, 1),
-            Step::Comes(1, 2),
-            Step::Takes(0),
-            Step::Takes(1),
-            Step::Passed(MEMBER, 1, 2),
         ],
     )
 }

@@ -8,8 +8,6 @@ use std::test::Fail;
 
 const GROUP: GroupNo = GroupNo(1);
 
-const OTHER: GroupNo = GroupNo(2);
-
 const HERE: Proc = Proc {
     site: SiteNo(1),
     serial: 1,
@@ -224,38 +222,14 @@ fn the_order_is_known_up_to_a_gap(rt: HostRuntime) -> Result<(), Fail> {
             Step::Known(GROUP, &[]),
             Step::Learns(GROUP, (1, 11, 12)),
             Step::Known(GROUP, &[11, 12]),
+            Step::Learns(GROUP, (1, 16, 17)),
             Step::Learns(GROUP, (3, 13, 19)),
             Step::Known(GROUP, &[11, 12, 13, 14, 15]),
-        ],
-    )
-}
-
-#[test]
-fn the_first_id_of_a_place_counts(rt: HostRuntime) -> Result<(), Fail> {
-    goes(
-        rt.alloc(),
-        &[
-            Step::Learns(GROUP, (1, 11, 12)),
-            Step::Learns(GROUP, (1, 16, 17)),
-            Step::Known(GROUP, &[11, 12]),
-            Step::Known(OTHER, &[]),
-        ],
-    )
-}
-
-#[test]
-fn a_process_goes_on_from_its_place(rt: HostRuntime) -> Result<(), Fail> {
-    goes(
-        rt.alloc(),
-        &[
-            Step::Learns(GROUP, (1, 11, 12)),
             Step::Passes(1),
-            Step::Next(HERE, &[12]),
-            Step::Passes(9),
-            Step::Next(HERE, &[]),
-            Step::Learns(GROUP, (3, 13, 14)),
-            Step::Next(HERE, &[13, 14]),
-            Step::Next(NEXT, &[11, 12, 13, 14]),
+            Step::Next(HERE, &[12, 13, 14, 15]),
+            Step::Next(NEXT, &[11, 12, 13, 14, 15]),
+            Step::Forgets,
+            Step::Known(GROUP, &[]),
         ],
     )
 }
@@ -280,39 +254,15 @@ fn the_holder_waits_for_its_messages_to_be_stable(rt: HostRuntime) -> Result<(),
     goes(
         rt.alloc(),
         &[
-            Step::Tells(1, 512),
+            Step::Learns(GROUP, (1, 11, 12)),
+            Step::Tells(101, 612),
+            Step::LongTail(1, (512, 12, 611)),
             Step::HasRoom(GROUP, 0, true),
-            Step::Tells(512, 513),
+            Step::Tells(612, 613),
             Step::HasRoom(GROUP, 0, false),
             Step::Sends(7, 0),
             Step::HasRoom(GROUP, 6, false),
             Step::HasRoom(GROUP, 7, true),
-            Step::HasRoom(OTHER, 0, true),
-        ],
-    )
-}
-
-#[test]
-fn nothing_is_told_at_first(rt: HostRuntime) -> Result<(), Fail> {
-    goes(
-        rt.alloc(),
-        &[
-            Step::Waits(false),
-            Step::Next(HERE, &[]),
-            Step::Assigns(0),
-            Step::Tail(0, &[]),
-        ],
-    )
-}
-
-#[test]
-fn the_tail_has_the_last_ids(rt: HostRuntime) -> Result<(), Fail> {
-    goes(
-        rt.alloc(),
-        &[
-            Step::Learns(GROUP, (1, 11, 12)),
-            Step::Tells(101, 612),
-            Step::LongTail(1, (512, 12, 611)),
         ],
     )
 }
@@ -332,22 +282,6 @@ fn a_closed_order_stays(rt: HostRuntime) -> Result<(), Fail> {
             Step::Waits(false),
             Step::Learns(GROUP, (5, 12, 10)),
             Step::Known(GROUP, &[11, 14, 13, 15]),
-        ],
-    )
-}
-
-#[test]
-fn a_new_view_has_an_empty_order(rt: HostRuntime) -> Result<(), Fail> {
-    goes(
-        rt.alloc(),
-        &[
-            Step::Learns(GROUP, (1, 11, 12)),
-            Step::Learns(OTHER, (1, 21, 22)),
-            Step::Tells(101, 102),
-            Step::Forgets,
-            Step::Known(GROUP, &[]),
-            Step::Waits(false),
-            Step::Known(OTHER, &[21, 22]),
         ],
     )
 }

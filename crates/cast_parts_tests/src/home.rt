@@ -72,24 +72,6 @@ const FIRST_ONE: Held = Held { had: 1, kept: 1 };
 // None was had, and the second is kept.
 const SECOND_ONE: Held = Held { had: 0, kept: 2 };
 
-// The first process is the only member.
-const ALONE: [Row; 4] = [
-    Row::Ask(FIRST, 1, Change::Join, Some(false)),
-    Row::Start(true),
-    Row::Decide(true),
-    Row::Installed(SiteNo(1), 1, true),
-];
-
-// It is, and asked to leave; the flush awaits a report.
-const LEAVING: [Row; 6] = [
-    Row::Ask(FIRST, 1, Change::Join, Some(false)),
-    Row::Start(true),
-    Row::Decide(true),
-    Row::Installed(SiteNo(1), 1, true),
-    Row::Ask(FIRST, 2, Change::Leave, Some(false)),
-    Row::Start(true),
-];
-
 // A home of three sites whose third is suspected. The first two have reported: the second has had a message of the third
 // that the first lacks.
 const REPORTED: [Row; 12] = [
@@ -264,10 +246,9 @@ fn message(alloc: Global) -> Result<Message, Fail> {
 }
 
 #[test]
-fn the_first_view_needs_no_flush(rt: HostRuntime) -> Result<(), Fail> {
+fn a_request_is_answered_again(rt: HostRuntime) -> Result<(), Fail> {
     let well = holds(
         rt.alloc(),
-        &[],
         &[
             Row::Start(false),
             Row::Ask(FIRST, 1, Change::Join, Some(false)),
@@ -279,16 +260,6 @@ fn the_first_view_needs_no_flush(rt: HostRuntime) -> Result<(), Fail> {
             Row::Installed(SiteNo(1), 1, true),
             Row::Idle,
         ],
-    )?;
-    assert!(rt; well);
-    Ok(())
-}
-
-#[test]
-fn a_request_is_answered_again(rt: HostRuntime) -> Result<(), Fail> {
-    let well = holds(
-        rt.alloc(),
-        &ALONE,
         &[
             Row::Ask(FIRST, 3, Change::Leave, None),
             Row::Ask(FIRST, 2, Change::Leave, Some(false)),
@@ -318,64 +289,17 @@ fn a_full_group_refuses_a_join(rt: HostRuntime) -> Result<(), Fail> {
 }
 
 #[test]
-fn a_process_joins_again_during_its_leave(rt: HostRuntime) -> Result<(), Fail> {
-    let well = holds(
-        rt.alloc(),
-        &LEAVING,
-        &[
-            Row::Ask(FIRST, 3, Change::Join, Some(false)),
-            Row::Decide(false),
-            Row::Reply(SiteNo(1), 1, FIRST_ONE, true),
-            Row::Decide(true),
-            Row::Number(2),
-            Row::Members(1, FIRST),
-            Row::Last(SiteNo(1), 3, false),
-        ],
-    )?;
-    assert!(rt; well);
-    Ok(())
-}
-
-#[test]
-fn the_first_report_of_the_view_counts(rt: HostRuntime) -> Result<(), Fail> {
-    let well = holds(
-        rt.alloc(),
-        &LEAVING,
-        &[
-            Row::Reply(SiteNo(1), 2, FIRST_ONE, false),
-            Row::Reply(SiteNo(3), 1, FIRST_ONE, false),
-            Row::Reply(SiteNo(1), 1, FIRST_ONE, true),
-            Row::Reply(SiteNo(1), 1, FIRST_ONE, false),
-        ],
-    )?;
-    assert!(rt; well);
-    Ok(())
-}
-
-#[test]
 fn what_some_site_lacks_is_wanted(rt: HostRuntime) -> Result<(), Fail> {
     let well = holds(
         rt.alloc(),
         &REPORTED,
         &[
+            Row::Reply(SiteNo(2), 1, FIRST_ONE, false),
             Row::Wants(Some((SiteNo(2), (THIRD, 1)))),
             Row::Decide(false),
             Row::Body,
             Row::Bodies(1),
             Row::Wants(None),
-        ],
-    )?;
-    assert!(rt; well);
-    Ok(())
-}
-
-#[test]
-fn a_suspected_site_is_not_awaited(rt: HostRuntime) -> Result<(), Fail> {
-    let well = holds(
-        rt.alloc(),
-        &REPORTED,
-        &[
-            Row::Body,
             Row::Decide(true),
             Row::Members(2, FIRST),
             Row::Waiting(2),
