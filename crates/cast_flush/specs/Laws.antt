@@ -1,5 +1,5 @@
 -- What the reports of a flush decide, in words.
-use Rattle.std.specs.Prelude.{◌≡◌, ◌↔◌, ℕ, ◌≤◌, true, false, not, ◌&&◌, ◌||◌, nat_le, List, length, slice_get, ◌⊎◌, Some}
+use Rattle.std.specs.Prelude.{◌≡◌, ◌↔◌, ℕ, ◌≤◌, true, false, not, ◌&&◌, nat_le, List, length, slice_get, ◌⊎◌, Some}
 use Rattle.std.specs.List.{list_any, list_all}
 use Rattle.std.specs.Option.{option_map}
 use Rattle.cast_types.specs.declared.limits.TheConstants.{MAX_TAIL}
