@@ -50,7 +50,7 @@ use Rattle.cast_history.specs.Lawful.{IsLawful, IsTypedFrame, IsTyped}
 use Rattle.cast_history.specs.History.{history}
 use Rattle.cast_history.specs.Raising.{IsTimeOf, IsFromMember, CountsMembers, IsPassed, opens, begins, acts, lets_go, delivers, orders, decides, CountsCanBeRaised, CountsCanBeRaisedWithin, MembersAreCounted, RunsArePassed}
 use Rattle.cast_history.proofs.Spots.{found_passes}
-use Rattle.cast_history.proofs.Rules.Follows.{Keeps}
+use Rattle.cast_history.proofs.Rules.Follows.{IsInvariant}
 use Rattle.cast_history.proofs.Rules.Stability.{ack_keeps, stable_keeps}
 use Rattle.cast_history.proofs.Lawful.{same_emitted, same_owed, same_pushing, same_requesting, lawful_opening, lawful_before, lawful_let_go}
 use Rattle.cast_history.proofs.LawfulSteps.{each_passes, same_acknowledging, same_known, same_on_ask, same_on_asked, same_on_installed, same_ticked, same_decide, completes_unseen, later_number, lawful_acted, lawful_first, lawful_set_order, lawful_decide}
@@ -141,7 +141,7 @@ counts_on_install s from g n members request l c listed typed =
     (λ _. c)
 
 -- each move of the rules leaves it so that members alone are counted
-moves_counted : Keeps history CountsMembers
+moves_counted : IsInvariant history CountsMembers
 moves_counted = record {
   send = λ s c to f. counts_same s (emitted s to f) (same_emitted s to f) c;
   pay = λ s c key. counts_same s (paying s key) (same_owed s (paying s key).owed) c;
