@@ -6,5 +6,6 @@
 //! the rules is noticed, also where code and definition agree.
 //!
 //! `specs/Printed` says what a text prints by the definitions of `cast_script`, `cast_history` and `cast_print`; the theorems are in
-//! `proofs/`: `Refusals`, `Room`, `Stability`, `Ticks` and `Requests`. The same scripts are trials of the program in `cast_trials`.
+//! `proofs/`: `Refusals`, `Frames`, `Room`, `Ordering`, `Stability`, `Ticks`, `Requests`, `Homes` and `Scripts`. The same scripts are
+//! trials of the program in `cast_trials`.
 #![tactic(auto)]
