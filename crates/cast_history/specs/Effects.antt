@@ -68,7 +68,7 @@ next_message s g k content =
     }
 
 -- a process's count in a group may be raised: it is not the last one, and the raised time has room and a spelling,
--- as it always has where only members of the view are counted
+-- as a member's always has (`laws::counts_can_be_raised`)
 abbrev pub may_raise : ClockList → GroupNo → Proc → Bool
 may_raise t g p = nat_lt (count_in t g p) MAX_NUMBER && (has_room (bumped t g p) && is_stamp (bumped t g p))
 
