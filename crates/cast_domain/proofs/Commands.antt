@@ -47,15 +47,17 @@ use Rattle.cast_message.specs.declared.client.Command.{Command}
 use Rattle.cast_message.specs.declared.client.Command.TheVariants as command
 use Rattle.cast_history.specs.State.{State, local, is_group, set_process, set_group, set_standing, others_of, may_receive, gate_of, was_given}
 use Rattle.cast_history.specs.Order.{awaits_own}
-use Rattle.cast_history.specs.Owing.{ask_key, message_key, sent_for, owing}
+use Rattle.cast_history.specs.Rules.Keys.{ask_key, message_key}
+use Rattle.cast_history.specs.Rules.Owing.{send_for, owe}
+use Rattle.cast_history.specs.History.{history}
 use Rattle.cast_history.specs.Effects.{asking, requesting, pushing, receiving, sending_to, next_message, may_raise, sending}
 use Rattle.cast_history.specs.Step.{first_refusal, join_tests, cast_tests, joining, attempting, body_of, requested, commanded}
 use Rattle.cast_domain.specs.Records.{Records}
-use Rattle.cast_domain.specs.Calls.{has_room_in, place_in, record_at, standing_of, time_of, send_for_in, owe_in, push_in, tell_in, ask_home_in, request_in, Attempt, join_at, join_in, learn_in, receive_in, send_data_in, send_message_in, next_message_in, is_own_in, awaits_own_in, cast_at, cast_in, reply_in, requested_in, command_in}
+use Rattle.cast_domain.specs.Calls.{has_room_in, place_in, record_at, standing_of, time_of, push_in, tell_in, ask_home_in, request_in, Attempt, records, join_at, join_in, learn_in, receive_in, send_data_in, send_message_in, next_message_in, is_own_in, awaits_own_in, cast_at, cast_in, reply_in, requested_in, command_in}
 use Rattle.cast_history.specs.Lawful.{IsSpent, AreKept, IsLawful}
 use Rattle.cast_domain.specs.Fits.{process_named, LogFits, Fits}
 use Rattle.cast_history.proofs.Lawful.{lawful_standing}
-use Rattle.cast_domain.proofs.Owings.{fits_send_for, fits_owe}
+use Rattle.cast_domain.proofs.Following.{fits_send_for, fits_owe}
 use Rattle.cast_domain.proofs.Standing.{and_none, fits_if, record_there, place_some, place_none, standing_there, time_there, fits_push, fits_here, fits_standing, fits_time, process_here, fits_receive_with}
 use Rattle.cast_domain.proofs.Logs.{logs_receive}
 use Rattle.cast_domain.proofs.Releases.{current_same}
@@ -77,10 +79,10 @@ as_written P r s f h =
 pub fits_ask_home : (r : Records) (s : State) → Fits r s → (i : ℕ) (g : GroupNo) → slice_get s.config.groups i ≡ Some g → Fits (ask_home_in r i) (asking s g)
 fits_ask_home r s f i g at =
     let there = record_there r s f i g at in
-    fits_if (is_empty (record_at r.groups i).here.requests) (is_empty (s.group g).requests) r (owe_in r (ask_key (record_at r.groups i).name r.config.home)) s (owing s (ask_key g s.config.home))
+    fits_if (is_empty (record_at r.groups i).here.requests) (is_empty (s.group g).requests) r (owe records r (ask_key (record_at r.groups i).name r.config.home)) s (owe history s (ask_key g s.config.home))
     (ap (λ (x : GroupRecord). is_empty x.here.requests) there)
     (λ _. f)
-    (λ _. subst (λ key. Fits (owe_in r key) (owing s (ask_key g s.config.home))) (λ j. ask_key (sym there j).name (sym f.config j).home) (fits_owe r s f (ask_key g s.config.home)))
+    (λ _. subst (λ key. Fits (owe records r key) (owe history s (ask_key g s.config.home))) (λ j. ask_key (sym there j).name (sym f.config j).home) (fits_owe r s f (ask_key g s.config.home)))
 
 -- a request is queued
 fits_request : (r : Records) (s : State) → Fits r s → IsLawful s → (i : ℕ) (g : GroupNo) → slice_get s.config.groups i ≡ Some g → (what : Change) (p : Proc) → Fits (request_in r i what p) (requesting s g what p)
@@ -226,7 +228,7 @@ awaits_own_there r s f l k given =
 -- a message is sent to a site, and owed to it unless that has acknowledged it
 fits_sending : (u : Uid) → 0 < u.count → (r : Records) (s : State) → Fits r s → (to : SiteNo) → Fits (send_data_in u r to) (sending_to u s to)
 fits_sending u counted r s f to =
-    fits_if (has_acked_in r.acks to u) (has_acked s.acks u to) (send_for_in r (message_key kinds.Data u to)) (owe_in r (message_key kinds.Data u to)) (sent_for s (message_key kinds.Data u to)) (owing s (message_key kinds.Data u to))
+    fits_if (has_acked_in r.acks to u) (has_acked s.acks u to) (send_for records r (message_key kinds.Data u to)) (owe records r (message_key kinds.Data u to)) (send_for history s (message_key kinds.Data u to)) (owe history s (message_key kinds.Data u to))
     (f.acks.acked to u counted)
     (λ _. fits_send_for r s f (message_key kinds.Data u to))
     (λ _. fits_owe r s f (message_key kinds.Data u to))

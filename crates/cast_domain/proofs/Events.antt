@@ -18,7 +18,7 @@ use Rattle.cast_domain.specs.Fits.{Fits}
 use Rattle.cast_domain.proofs.Standing.{fits_open}
 use Rattle.cast_domain.proofs.Commands.{fits_commanded}
 use Rattle.cast_domain.proofs.Framing.{fits_framed}
-use Rattle.cast_domain.proofs.Owings.{fits_tick}
+use Rattle.cast_domain.proofs.Following.{fits_tick}
 
 -- a command of a serial that was not given changes nothing
 fits_unasked : (r : Records) (s : State) → Fits r s → (k : ℕ) → was_given s.used k ≡ false → (c : Command) → Fits (command_in r k c) s

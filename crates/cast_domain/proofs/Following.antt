@@ -1,34 +1,48 @@
 -- The records follow the history: each question of a rule has the same answer, and each of its moves keeps what the records stand for.
-use Rattle.std.proofs.Common.{◌≡◌, ℕ, List, map, Some, refl, ap}
-use Rattle.std.specs.Prelude.{slice_get}
+use Rattle.std.proofs.Common.{◌≡◌, ℕ, List, map, Some, None, refl, sym, ap, subst, ◌∙◌}
+use Rattle.std.specs.Prelude.{if◌then◌else◌, slice_get}
 use Rattle.cast_types.specs.declared.names.SiteNo.{SiteNo}
 use Rattle.cast_types.specs.declared.names.GroupNo.{GroupNo}
 use Rattle.cast_types.specs.declared.names.Uid.{Uid}
 use Rattle.cast_timer.specs.declared.key.OwedKey.{OwedKey}
-use Rattle.cast_timer.specs.Owed.{paid, is_upto}
+use Rattle.cast_timer.specs.Owed.{is_owed, due_at}
 use Rattle.cast_stable.specs.Stable.{Acked}
 use Rattle.cast_stable.specs.Ledger.{Ledger, acked_ledger, learnt_ledger}
 use Rattle.cast_stable.specs.Fits.{Fits as AcksFits}
 use Rattle.cast_stable.proofs.Meanings.{upto_meant, ack_fits, learn_fits}
 use Rattle.cast_order.specs.Log.{log_of}
-use Rattle.cast_history.specs.State.{State, others_of, noting_ack, noting_stable}
-use Rattle.cast_history.specs.Owing.{paying_upto}
+use Rattle.cast_history.specs.State.{State, is_group, others_of, noting_ack, noting_stable}
 use Rattle.cast_history.specs.History.{history}
-use Rattle.cast_history.proofs.Rules.Follows.{Follows}
+use Rattle.cast_history.specs.Rules.Owing.{send_for, owe, tick}
+use Rattle.cast_history.specs.Rules.Stability.{on_ack, on_stable}
+use Rattle.cast_history.proofs.Rules.Follows.{AtBoth, Follows}
+use Rattle.cast_history.proofs.Rules.Owing.{send_for_follows, owe_follows, tick_follows}
+use Rattle.cast_history.proofs.Rules.Stability.{ack_follows, stable_follows}
 use Rattle.cast_domain.specs.declared.record.GroupRecord.{GroupRecord}
 use Rattle.cast_domain.specs.Records.{Records}
-use Rattle.cast_domain.specs.Calls.{pay_upto_in, note_ack_in, note_stable_in, records}
+use Rattle.cast_domain.specs.Calls.{place_in, note_ack_in, note_stable_in, records}
 use Rattle.cast_domain.specs.Fits.{LogFits, Fits}
 use Rattle.cast_domain.proofs.Logs.{logs_ack}
-use Rattle.cast_domain.proofs.Standing.{orders_same, record_there, fits_send}
-use Rattle.cast_domain.proofs.Owings.{fits_owed, fits_pay}
+use Rattle.cast_domain.proofs.Standing.{orders_same, record_there, place_some, place_none, fits_send}
+use Rattle.cast_domain.proofs.Owings.{message_same, fits_note_owed, fits_note_resent, fits_pay, fits_pay_upto, fits_moment}
 
--- the group stands at this place
-abbrev pub IsAt : State → ℕ → GroupNo → Type 0
-IsAt s i g = slice_get s.config.groups i ≡ Some g
+-- the group at a place of these
+abbrev pub IsAt : List GroupNo → ℕ → GroupNo → Type 0
+IsAt groups i g = slice_get groups i ≡ Some g
 
-fits_pay_upto : (r : Records) (s : State) → Fits r s → (key : OwedKey) → Fits (pay_upto_in r key) (paying_upto s key)
-fits_pay_upto r s f key = fits_owed r s f (paid (is_upto key) r.part.owed) (paid (is_upto key) s.owed) (ap (paid (is_upto key)) f.owed)
+-- the records stand for a history of a domain of these groups
+abbrev pub FitsIn : List GroupNo → Records → State → Type 0
+FitsIn groups r s = Fits r s × (s.config.groups ≡ groups)
+
+-- a group stands at a place, or is none of the domain's
+place_both : (groups : List GroupNo) (r : Records) (s : State) → FitsIn groups r s → (g : GroupNo) → AtBoth (IsAt groups) (place_in r g) (if is_group s g then Some g else None)
+place_both groups r s f g =
+    elim (place_in r g) as (λ o. place_in r g ≡ o → AtBoth (IsAt groups) o (if is_group s g then Some g else None)) [
+      | Some i ↦ λ is.
+          let at = place_some r s f.0 g i is in
+          subst (λ b. AtBoth (IsAt groups) (Some i) (if b then Some g else None)) (sym at.1) (sym (ap (λ l. slice_get l i) f.1) ∙ at.0)
+      | None ↦ λ is. subst (λ b. AtBoth (IsAt groups) None (if b then Some g else None)) (sym (place_none r s f.0 g is)) tt
+    ] refl
 
 -- what was acknowledged and told is noted on both sides
 fits_noted : (r : Records) (s : State) → Fits r s → (acks : List Acked) (told : List Uid) (ledger : Ledger) → AcksFits s.here (others_of s) (map (λ m. m.id) s.got) acks told ledger → ((g : GroupNo) → LogFits (record s { acks = acks; told = told }) g (log_of r.orders g)) → Fits (record r { acks = ledger }) (record s { acks = acks; told = told })
@@ -66,15 +80,43 @@ fits_note_stable r s f u =
     (learn_fits s.here (others_of s) (map (λ m. m.id) s.got) s.acks s.told r.acks f.acks u)
     (orders_same s (noting_stable s u) r.orders refl refl refl refl refl refl f.orders)
 
-pub records_follow : Follows records history Fits IsAt
-records_follow = record {
-  here = λ r s f. f.site;
-  group = λ r s f i g at. ap (λ (x : GroupRecord). x.here) (record_there r s f i g at);
-  others = λ r s f. f.acks.views;
-  stable_upto = λ r s f. upto_meant s.here (others_of s) (map (λ m. m.id) s.got) s.acks s.told r.acks f.acks;
-  send = fits_send;
-  pay = fits_pay;
-  pay_upto = fits_pay_upto;
-  note_ack = fits_note_ack;
-  note_stable = fits_note_stable;
+pub records_follow : (groups : List GroupNo) → Follows records history (FitsIn groups) (IsAt groups)
+records_follow groups = record {
+  here = λ r s f. f.0.site;
+  place = place_both groups;
+  group = λ r s f i g at. ap (λ (x : GroupRecord). x.here) (record_there r s f.0 i g (ap (λ l. slice_get l i) f.1 ∙ at));
+  others = λ r s f. f.0.acks.views;
+  stable_upto = λ r s f. upto_meant s.here (others_of s) (map (λ m. m.id) s.got) s.acks s.told r.acks f.0.acks;
+  message = λ r s f. message_same r s f.0;
+  is_owed = λ r s f key. ap (λ o. is_owed o key) f.0.owed;
+  due = λ r s f. λ i. due_at (f.0.moment i) (f.0.owed i);
+  send = λ r s f to x. (fits_send r s f.0 to x, f.1);
+  note_owed = λ r s f key. (fits_note_owed r s f.0 key, f.1);
+  note_resent = λ r s f key. (fits_note_resent r s f.0 key, f.1);
+  pay = λ r s f key. (fits_pay r s f.0 key, f.1);
+  pay_upto = λ r s f key. (fits_pay_upto r s f.0 key, f.1);
+  note_moment = λ r s f t. (fits_moment r s f.0 t, f.1);
+  note_ack = λ r s f from u. (fits_note_ack r s f.0 from u, f.1);
+  note_stable = λ r s f u. (fits_note_stable r s f.0 u, f.1);
 }
+
+-- So by each rule the records go on standing for the history
+
+module _ (r : Records) (s : State) (f : Fits r s) where
+  abbrev groups : List GroupNo
+  groups = s.config.groups
+
+  pub fits_send_for : (key : OwedKey) → Fits (send_for records r key) (send_for history s key)
+  fits_send_for key = (send_for_follows records history (FitsIn groups) (IsAt groups) (records_follow groups) r s (f, refl) key).0
+
+  pub fits_owe : (key : OwedKey) → Fits (owe records r key) (owe history s key)
+  fits_owe key = (owe_follows records history (FitsIn groups) (IsAt groups) (records_follow groups) r s (f, refl) key).0
+
+  pub fits_tick : (t : ℕ) → Fits (tick records r t) (tick history s t)
+  fits_tick t = (tick_follows records history (FitsIn groups) (IsAt groups) (records_follow groups) r s (f, refl) t).0
+
+  pub fits_ack : (i : ℕ) (from : SiteNo) (u : Uid) → IsAt groups i u.group → Fits (on_ack records r i from u) (on_ack history s u.group from u)
+  fits_ack i from u at = (ack_follows records history (FitsIn groups) (IsAt groups) (records_follow groups) r s (f, refl) i u.group at from u).0
+
+  pub fits_stable : (i : ℕ) (from : SiteNo) (u : Uid) → IsAt groups i u.group → Fits (on_stable records r i from u) (on_stable history s u.group from u)
+  fits_stable i from u at = (stable_follows records history (FitsIn groups) (IsAt groups) (records_follow groups) r s (f, refl) i u.group at from u).0

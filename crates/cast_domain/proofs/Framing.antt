@@ -33,20 +33,20 @@ use Rattle.cast_model.specs.declared.group.Verdict.TheVariants.{Again, Completes
 use Rattle.cast_model.specs.Group.{first_asking, members_of, has_view, with_answer, verdict_of}
 use Rattle.cast_model.specs.Home.{applied_of, after_request, after_installed}
 use Rattle.cast_history.specs.State.{State, local, is_home, is_site, is_group, set_group, set_home, emitted, is_received, may_take, others_of, is_stable, counts_itself}
-use Rattle.cast_history.specs.Owing.{ask_key, message_key, owing, paying}
+use Rattle.cast_history.specs.Owing.{paying}
+use Rattle.cast_history.specs.Rules.Keys.{ask_key, message_key}
+use Rattle.cast_history.specs.Rules.Owing.{owe}
 use Rattle.cast_history.specs.Effects.{asking, receiving, completing}
 use Rattle.cast_history.specs.Step.{is_used, acknowledging, data_used, on_data, is_from_home, on_ask, on_asked, on_install, on_installed, group_of, on_frame, framed}
 use Rattle.cast_history.specs.History.{history}
-use Rattle.cast_history.specs.Rules.Stability.{on_ack, on_stable}
-use Rattle.cast_history.proofs.Rules.Stability.{ack_follows, stable_follows}
 use Rattle.cast_domain.specs.Records.{Records}
-use Rattle.cast_domain.specs.Calls.{may_take_in, is_home_in, place_in, record_at, send_in, owe_in, pay_in, ask_home_in, receive_in, is_used_in, acknowledge_in, use_data_in, data_in, asked_of_home_in, answered_in, complete_in, install_in, installed_in, frame_at, frame_in, records}
+use Rattle.cast_domain.specs.Calls.{may_take_in, is_home_in, place_in, record_at, send_in, pay_in, ask_home_in, receive_in, is_used_in, acknowledge_in, use_data_in, data_in, asked_of_home_in, answered_in, complete_in, install_in, installed_in, frame_at, frame_in, records}
 use Rattle.cast_history.specs.Lawful.{IsLawful, IsTypedFrame}
 use Rattle.cast_domain.specs.Fits.{Fits}
 use Rattle.cast_domain.proofs.Standing.{and_none, fits_if, record_there, place_some, place_none, fits_send, fits_here, fits_home, fits_receive}
 use Rattle.cast_history.proofs.Lawful.{same_owed, lawful_same}
-use Rattle.cast_domain.proofs.Following.{IsAt, records_follow}
-use Rattle.cast_domain.proofs.Owings.{fits_owe, fits_pay}
+use Rattle.cast_domain.proofs.Owings.{fits_pay}
+use Rattle.cast_domain.proofs.Following.{fits_owe, fits_ack, fits_stable}
 use Rattle.cast_domain.proofs.Ordering.{order_room_there}
 use Rattle.cast_domain.proofs.Commands.{fits_ask_home, room_there}
 use Rattle.cast_domain.proofs.Entering.{fits_complete}
@@ -96,7 +96,7 @@ none_ours s m foreign k = ap (λ b. is_order (kind_of m.body) && (b && (m.id.pro
 -- the acknowledgement is sent, and owed unless the message is known to be stable
 fits_acknowledge : (r : Records) (s : State) → Fits r s → (to : SiteNo) (u : Uid) → 0 < u.count → Fits (acknowledge_in r to u) (acknowledging s to u)
 fits_acknowledge r s f to u counted =
-    fits_if (is_stable_in r.acks u) (is_stable s u) (send_in r to (frame.Ack u)) (owe_in r (message_key kinds.Ack u to)) (emitted s to (frame.Ack u)) (owing s (message_key kinds.Ack u to))
+    fits_if (is_stable_in r.acks u) (is_stable s u) (send_in r to (frame.Ack u)) (owe records r (message_key kinds.Ack u to)) (emitted s to (frame.Ack u)) (owe history s (message_key kinds.Ack u to))
     (stable_meant s.here (others_of s) (map (λ m. m.id) s.got) s.acks s.told r.acks f.acks u counted)
     (λ _. fits_send r s f to (frame.Ack u))
     (λ _. fits_owe r s f (message_key kinds.Ack u to))
@@ -137,16 +137,6 @@ fits_data r s f i from m at listed =
     fits_if (is_used_in r i from m) (is_used s from m) (use_data_in r from m) r (data_used s from m) s same
     (λ used. fits_use_data r s f from m (what_is_used s from m (sym same ∙ used)))
     (λ _. f)
-
--- Stability
-
--- a site acknowledges a message
-fits_ack : (r : Records) (s : State) → Fits r s → (i : ℕ) (from : SiteNo) (u : Uid) → IsAt s i u.group → Fits (on_ack records r i from u) (on_ack history s u.group from u)
-fits_ack r s f i from u at = ack_follows records history Fits IsAt records_follow r s f i u.group at from u
-
--- a process's site tells what is stable
-fits_stable : (r : Records) (s : State) → Fits r s → (i : ℕ) (from : SiteNo) (u : Uid) → IsAt s i u.group → Fits (on_stable records r i from u) (on_stable history s u.group from u)
-fits_stable r s f i from u at = stable_follows records history Fits IsAt records_follow r s f i u.group at from u
 
 -- Requests
 

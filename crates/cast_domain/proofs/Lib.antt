@@ -8,13 +8,13 @@ pub mod Shares
 pub mod Standing
 pub mod Ordering
 pub mod Owings
+pub mod Following
 pub mod Releases
 pub mod Commands
 pub mod Turns
 pub mod SetOrders
 pub mod Standstill
 pub mod Entering
-pub mod Following
 pub mod Framing
 pub mod Events
 pub mod Passes

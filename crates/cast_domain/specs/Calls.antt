@@ -1,7 +1,7 @@
 -- What the calls of a domain do to its records, exactly.
 use Rattle.std.specs.Prelude.{ℕ, ◌+◌, ◌-◌, ◌*◌, min, max, Bool, true, false, not, ◌&&◌, ◌==◌, nat_lt, nat_le, if◌then◌else◌, List, [], ◌∷◌, ◌++◌, length, map, filter, get_or, slice_get, Option, Some, None}
 use Rattle.std.specs.List.{fold, find, list_any, list_all, range_with_len}
-use Rattle.std.specs.Option.{option_map, option_map_or, option_and_then}
+use Rattle.std.specs.Option.{option_map, option_map_or}
 use Rattle.std.specs.FinMap.Entries.{put}
 use Rattle.cast_types.specs.declared.names.SiteNo.{SiteNo}
 use Rattle.cast_types.specs.declared.names.GroupNo.{GroupNo}
@@ -44,7 +44,6 @@ use Rattle.cast_delay.specs.Queue.{Queue, new_row, row_of, change_row, next_key,
 use Rattle.cast_order.specs.Log.{Log, log_of, change_log, but_log, learnt, next_in, passed, told, next_places, assigned, has_room_in as has_room_in_log}
 use Rattle.cast_stable.specs.Ledger.{others_in, is_received_in, has_acked_in, upto_in, is_stable_in, told_ledger, received_ledger, acked_ledger, learnt_ledger}
 use Rattle.cast_timer.specs.declared.key.OwedKey.{OwedKey}
-use Rattle.cast_timer.specs.declared.key.OwedKind.{OwedKind}
 use Rattle.cast_timer.specs.declared.key.OwedKind.TheVariants as kinds
 use Rattle.cast_timer.specs.Owed.{is_owed, due_at}
 use Rattle.cast_message.specs.Receipts.{key_eq, message_under}
@@ -61,7 +60,8 @@ use Rattle.cast_model.specs.Home.{first_home, is_empty, applied_of, after_reques
 use Rattle.cast_domain.specs.Shared.{part_with, part_without, part_owing, part_renewing, part_paying, part_paying_upto}
 use Rattle.cast_history.specs.Rules.Interface.{Site}
 use Rattle.cast_history.specs.Rules.Stability.{on_ack, on_stable}
-use Rattle.cast_history.specs.Owing.{ask_key, message_key, id_in, ask_frame}
+use Rattle.cast_history.specs.Rules.Keys.{ask_key, message_key}
+use Rattle.cast_history.specs.Rules.Owing.{send_for, owe, tick}
 use Rattle.cast_history.specs.Effects.{told_of, may_raise}
 use Rattle.cast_history.specs.Rest.{install_frame}
 use Rattle.cast_history.specs.State.{counts_itself, was_given}
@@ -126,28 +126,14 @@ may_take_in r b = if is_order (kind_of b) then has_order_room_in r else has_room
 abbrev pub message_in : Records → Uid → Option Message
 message_in r u = option_map (λ x. x.message) (find (λ x. uid_eq x.message.id u) r.part.kept)
 
--- the frame that a key of the group at a place stands for
-abbrev pub frame_of_kind_in : Records → OwedKey → ℕ → OwedKind → Option SiteFrame
-frame_of_kind_in r key i kinds.Ask = option_map (ask_frame key.group) (first_asking (record_at r.groups i).here.requests)
-frame_of_kind_in r key i kinds.Data = option_map frame.Data (message_in r (id_in (record_at r.groups i).here.number key))
-frame_of_kind_in r key i kinds.Prepare = None
-frame_of_kind_in r key i kinds.Want = None
-frame_of_kind_in r key i kinds.Install = None
-frame_of_kind_in r key i kinds.Ack = Some (frame.Ack (id_in (record_at r.groups i).here.number key))
-
-abbrev pub frame_for_in : Records → OwedKey → Option SiteFrame
-frame_for_in r key = option_and_then (λ i. frame_of_kind_in r key i key.kind) (place_in r key.group)
-
-abbrev pub send_for_in : Records → OwedKey → Records
-send_for_in r key = option_map_or (send_in r key.site) (frame_for_in r key) r
-
 abbrev pub next_due_in : Records → ℕ
 next_due_in r = r.moment + r.config.quotas.resend
 
-abbrev pub owe_in : Records → OwedKey → Records
-owe_in r key =
-    if is_owed r.part.owed key then r
-    else record (send_for_in r key) { part = part_owing r.part key (next_due_in r) }
+abbrev pub note_owed_in : Records → OwedKey → Records
+note_owed_in r key = record r { part = part_owing r.part key (next_due_in r) }
+
+abbrev pub note_resent_in : Records → OwedKey → Records
+note_resent_in r key = record r { part = part_renewing r.part key (next_due_in r) }
 
 abbrev pub pay_in : Records → OwedKey → Records
 pay_in r key = record r { part = part_paying r.part key }
@@ -155,14 +141,8 @@ pay_in r key = record r { part = part_paying r.part key }
 abbrev pub pay_upto_in : Records → OwedKey → Records
 pay_upto_in r key = record r { part = part_paying_upto r.part key }
 
-abbrev pub resend_in : Records → OwedKey → Records
-resend_in r key = record (send_for_in r key) { part = part_renewing r.part key (next_due_in r) }
-
-abbrev pub resend_due_in : Records → Records
-resend_due_in r = fold resend_in r (due_at r.moment r.part.owed)
-
-abbrev pub tick_in : Records → ℕ → Records
-tick_in r t = resend_due_in (record r { moment = max r.moment (min t MAX_MOMENT) })
+abbrev pub note_moment_in : Records → ℕ → Records
+note_moment_in r t = record r { moment = max r.moment (min t MAX_MOMENT) }
 
 -- What is acknowledged and stable
 
@@ -177,12 +157,19 @@ note_stable_in r u = record r { acks = learnt_ledger r.acks u }
 abbrev pub records : Site Records ℕ
 records = record {
   here = λ r. r.site;
+  place = place_in;
   group = λ r i. (record_at r.groups i).here;
   others = λ r g. others_in r.acks g;
   stable_upto = λ r u. upto_in r.acks u;
+  message = message_in;
+  is_owed = λ r key. is_owed r.part.owed key;
+  due = λ r. due_at r.moment r.part.owed;
   send = send_in;
+  note_owed = note_owed_in;
+  note_resent = note_resent_in;
   pay = pay_in;
   pay_upto = pay_upto_in;
+  note_moment = note_moment_in;
   note_ack = note_ack_in;
   note_stable = note_stable_in;
 }
@@ -223,7 +210,7 @@ open_in r =
 abbrev pub ask_home_in : Records → ℕ → Records
 ask_home_in r i =
     if is_empty (record_at r.groups i).here.requests then r
-    else owe_in r (ask_key (record_at r.groups i).name r.config.home)
+    else owe records r (ask_key (record_at r.groups i).name r.config.home)
 
 abbrev pub request_in : Records → ℕ → Change → Proc → Records
 request_in r i what p =
@@ -263,7 +250,7 @@ receive_in r m =
 -- an own message is sent to a site, and owed to it until it has acknowledged it, as it may have done before
 abbrev pub send_data_in : Uid → Records → SiteNo → Records
 send_data_in u r to =
-    if has_acked_in r.acks to u then send_for_in r (message_key kinds.Data u to) else owe_in r (message_key kinds.Data u to)
+    if has_acked_in r.acks to u then send_for records r (message_key kinds.Data u to) else owe records r (message_key kinds.Data u to)
 
 abbrev pub send_message_in : Records → Message → Records
 send_message_in r m = fold (send_data_in m.id) (receive_in r m) (others_in r.acks m.id.group)
@@ -327,7 +314,7 @@ is_used_in r i from m =
 
 -- the acknowledgement of a message is owed to its site, until that has told that the message is stable
 abbrev pub acknowledge_in : Records → SiteNo → Uid → Records
-acknowledge_in r to u = if is_stable_in r.acks u then send_in r to (frame.Ack u) else owe_in r (message_key kinds.Ack u to)
+acknowledge_in r to u = if is_stable_in r.acks u then send_in r to (frame.Ack u) else owe records r (message_key kinds.Ack u to)
 
 abbrev pub use_data_in : Records → SiteNo → Message → Records
 use_data_in r from m =
@@ -429,7 +416,7 @@ abbrev pub act_in : Records → Event → Records
 act_in r (event.Open d) = if r.used == MAX_NUMBER then r else open_in r
 act_in r (event.Command d k c) = command_in r k c
 act_in r (event.Frame d from f) = frame_in r from f
-act_in r (event.Tick t) = tick_in r t
+act_in r (event.Tick t) = tick records r t
 
 -- The order of a view
 

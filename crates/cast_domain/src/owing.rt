@@ -4,7 +4,8 @@ ghost use Rattle.std.specs.List.{find};
 ghost use Rattle.cast_types.specs.Names.{uid_eq};
 ghost use Rattle.cast_message.specs.declared.site.SiteFrame.TheVariants as frame;
 ghost use Rattle.cast_model.specs.Group.{first_asking};
-ghost use Rattle.cast_history.specs.Owing.{ask_frame, ask_key, id_in, message_key};
+ghost use Rattle.cast_history.specs.Rules.Keys.{ask_key, id_in, message_key};
+ghost use Rattle.cast_history.specs.Rules.Owing.{ask_frame, frame_for, frame_of_kind, owe, resend, resend_due, send_for, tick};
 
 use crate::domain::Domain;
 use crate::shared::Shared;
@@ -68,7 +69,7 @@ impl Domain {
     ghost use Rattle.cast_model.specs.declared.event.Outs.{Outs};
     ghost use Rattle.cast_domain.specs.Records.{Keeps, records_in};
     ghost use Rattle.cast_domain.specs.Shared.{LeavesOthers};
-    ghost use Rattle.cast_domain.specs.Calls.{frame_for_in, frame_of_kind_in, message_in, owe_in, pay_in, resend_due_in, record_at, resend_in, send_for_in, tick_in};
+    ghost use Rattle.cast_domain.specs.Calls.{message_in, pay_in, record_at, records};
 
     // Sends a frame, and owes it from then on, unless it is owed already.
     pub(crate) fn owe(
@@ -78,7 +79,7 @@ impl Domain {
         outs: &mut Outs,
     ) -> Result<(), NoMemory>
         ensures others { LeavesOthers self.now.config.domain shared.old shared.new }
-        ensures made { OnOk result (records_in self.now shared.new outs.new ≡ owe_in (records_in self.now shared.old outs.old) key) }
+        ensures made { OnOk result (records_in self.now shared.new outs.new ≡ owe records (records_in self.now shared.old outs.old) key) }
     {
         if shared.timers.is_owed(self.config.domain, &key) {
             return Ok(());
@@ -110,7 +111,7 @@ impl Domain {
         shared: &Shared,
         outs: &mut Outs,
     ) -> Result<(), NoMemory>
-        ensures { OnOk result (records_in self.now shared.now outs.new ≡ send_for_in (records_in self.now shared.now outs.old) key.now) }
+        ensures { OnOk result (records_in self.now shared.now outs.new ≡ send_for records (records_in self.now shared.now outs.old) key.now) }
     {
         match self.frame_for(key, shared)? {
             Some(frame) => self.send(outs, key.site, frame),
@@ -120,7 +121,7 @@ impl Domain {
 
     // The frame that a key of a configured group stands for.
     fn frame_for(&self, key: &OwedKey, shared: &Shared) -> Result<Option<SiteFrame>, NoMemory>
-        ensures { IfOk result (λ f. (o : Outs) → f ≡ frame_for_in (records_in self.now shared.now o) key.now) }
+        ensures { IfOk result (λ f. (o : Outs) → f ≡ frame_for records (records_in self.now shared.now o) key.now) }
     {
         match self.place_of(key.group) {
             Some(place) => self.frame_at_key(place, key, shared),
@@ -136,7 +137,7 @@ impl Domain {
         shared: &Shared,
     ) -> Result<Option<SiteFrame>, NoMemory>
         requires { place < vec_len self.now.groups }
-        ensures { IfOk result (λ f. (o : Outs) → f ≡ frame_of_kind_in (records_in self.now shared.now o) key.now place key.now.kind) }
+        ensures { IfOk result (λ f. (o : Outs) → f ≡ frame_of_kind records (records_in self.now shared.now o) place key.now key.now.kind) }
     {
         match key.kind {
             OwedKind::Ask => Ok(self.ask_frame(place, key.group)),
@@ -179,7 +180,7 @@ impl Domain {
     ) -> Result<(), NoMemory>
         ensures same { Keeps self.old self.new }
         ensures others { LeavesOthers self.old.config.domain shared.old shared.new }
-        ensures made { OnOk result (records_in self.new shared.new outs.new ≡ tick_in (records_in self.old shared.old outs.old) millis) }
+        ensures made { OnOk result (records_in self.new shared.new outs.new ≡ tick records (records_in self.old shared.old outs.old) millis) }
     {
         self.moment.reach(millis);
         self.resend_due(shared, outs)
@@ -188,7 +189,7 @@ impl Domain {
     // Sends all frames that are due again, in their order.
     fn resend_due(&self, shared: &mut Shared, outs: &mut Outs) -> Result<(), NoMemory>
         ensures others { LeavesOthers self.now.config.domain shared.old shared.new }
-        ensures made { OnOk result (records_in self.now shared.new outs.new ≡ resend_due_in (records_in self.now shared.old outs.old)) }
+        ensures made { OnOk result (records_in self.now shared.new outs.new ≡ resend_due records (records_in self.now shared.old outs.old)) }
     {
         let now = self.moment.millis();
         for key in shared.timers.due(self.config.domain, now)? {
@@ -200,7 +201,7 @@ impl Domain {
     // Sends a frame that is due again.
     fn resend(&self, key: OwedKey, shared: &mut Shared, outs: &mut Outs) -> Result<(), NoMemory>
         ensures others { LeavesOthers self.now.config.domain shared.old shared.new }
-        ensures made { OnOk result (records_in self.now shared.new outs.new ≡ resend_in (records_in self.now shared.old outs.old) key) }
+        ensures made { OnOk result (records_in self.now shared.new outs.new ≡ resend records (records_in self.now shared.old outs.old) key) }
     {
         self.send_for(&key, shared, outs)?;
         shared.renew(self.config.domain, key, self.next_due())?;

@@ -11,15 +11,19 @@ use Rattle.cast_message.specs.declared.message.Body.{Body}
 use Rattle.cast_message.specs.declared.message.Message.{Message}
 use Rattle.cast_message.specs.declared.site.SiteFrame.{SiteFrame}
 use Rattle.cast_message.specs.declared.client.Push.{Push}
-use Rattle.cast_stable.specs.Stable.{has_acked}
-use Rattle.cast_timer.specs.declared.key.OwedKey.{OwedKey}
+use Rattle.cast_stable.specs.Stable.{Acked, has_acked}
+use Rattle.cast_timer.specs.declared.key.Owed.{Owed}
 use Rattle.cast_timer.specs.declared.key.OwedKind.TheVariants as kinds
-use Rattle.cast_timer.specs.Owed.{is_owed, with_owed}
 use Rattle.cast_delay.specs.Ready.{Process}
 use Rattle.cast_model.specs.declared.session.Session.{Session}
 use Rattle.cast_model.specs.Session.{is_open, pushed_to}
-use Rattle.cast_history.specs.State.{State, set_session, set_process, emitted, others_of, let_go}
-use Rattle.cast_history.specs.Owing.{message_key, frame_for, sent_for, owing, next_due}
+use Rattle.cast_history.specs.State.{State, set_session, set_process, emitted, others_of, noting_ack, noting_stable, let_go}
+use Rattle.cast_history.specs.Owing.{noting_owed, noting_resent, paying, paying_upto, at_moment}
+use Rattle.cast_history.specs.Rules.Keys.{message_key}
+use Rattle.cast_history.specs.Rules.Owing.{send_for, owe}
+use Rattle.cast_history.specs.History.{history}
+use Rattle.cast_history.proofs.Rules.Follows.{IsInvariant}
+use Rattle.cast_history.proofs.Rules.Owing.{send_for_keeps, owe_keeps}
 use Rattle.cast_history.specs.Effects.{pushing, receiving, sending_to, next_message, sending}
 
 -- alike but for sessions, standings, times, and what is kept, stable, owed and sent
@@ -81,24 +85,29 @@ alike_time s k p same j =
 alike_process : (s : State) (k : ℕ) (p : Process) → p.delivered ≡ (s.process k).delivered → Alike s (set_process s k p)
 alike_process s k p same = record { here = refl; config = refl; used = refl; group = refl; home = refl; got = refl; abcasts = refl; delivered = alike_time s k p same }
 
-alike_sent_for : (s : State) (key : OwedKey) → Alike s (sent_for s key)
-alike_sent_for s key = of_frame (frame_for s key)
-  where
-    of_frame : (o : Option SiteFrame) → Alike s (elim o [ Some f ↦ emitted s key.site f | None ↦ s ])
-    of_frame (Some f) = alike_emitted s key.site f
-    of_frame None = alike_self s
+alike_owed : (s : State) (owed : List Owed) → Alike s (record s { owed = owed })
+alike_owed s owed = record { here = refl; config = refl; used = refl; group = refl; home = refl; got = refl; abcasts = refl; delivered = λ j. refl }
 
-alike_owing : (s : State) (key : OwedKey) → Alike s (owing s key)
-alike_owing s key =
-    let t : State = sent_for s key in
-    let u : State = record t { owed = with_owed s.owed key (next_due s) } in
-    alike_if s s u (is_owed s.owed key) (alike_self s)
-    (alike_then s t u (alike_sent_for s key) (record { here = refl; config = refl; used = refl; group = refl; home = refl; got = refl; abcasts = refl; delivered = λ j. refl }))
+alike_known : (s : State) (acks : List Acked) (told : List Uid) (moment : ℕ) → Alike s (record s { acks = acks; told = told; moment = moment })
+alike_known s acks told moment = record { here = refl; config = refl; used = refl; group = refl; home = refl; got = refl; abcasts = refl; delivered = λ j. refl }
+
+moves_alike : (s : State) → IsInvariant history (Alike s)
+moves_alike s = record {
+  send = λ t a to f. alike_then s t (emitted t to f) a (alike_emitted t to f);
+  note_owed = λ t a key. alike_then s t (noting_owed t key) a (alike_owed t (noting_owed t key).owed);
+  note_resent = λ t a key. alike_then s t (noting_resent t key) a (alike_owed t (noting_resent t key).owed);
+  pay = λ t a key. alike_then s t (paying t key) a (alike_owed t (paying t key).owed);
+  pay_upto = λ t a key. alike_then s t (paying_upto t key) a (alike_owed t (paying_upto t key).owed);
+  note_moment = λ t a n. alike_then s t (at_moment t n) a (alike_known t t.acks t.told (at_moment t n).moment);
+  note_ack = λ t a from u. alike_then s t (noting_ack t from u) a (alike_known t (noting_ack t from u).acks t.told t.moment);
+  note_stable = λ t a u. alike_then s t (noting_stable t u) a (alike_known t t.acks (noting_stable t u).told t.moment);
+}
 
 alike_sending_to : (u : Uid) (s : State) (to : SiteNo) → Alike s (sending_to u s to)
 alike_sending_to u s to =
-    alike_if s (sent_for s (message_key kinds.Data u to)) (owing s (message_key kinds.Data u to)) (has_acked s.acks u to)
-    (alike_sent_for s (message_key kinds.Data u to)) (alike_owing s (message_key kinds.Data u to))
+    alike_if s (send_for history s (message_key kinds.Data u to)) (owe history s (message_key kinds.Data u to)) (has_acked s.acks u to)
+    (send_for_keeps history (Alike s) (moves_alike s) s (alike_self s) (message_key kinds.Data u to))
+    (owe_keeps history (Alike s) (moves_alike s) s (alike_self s) (message_key kinds.Data u to))
 
 -- what is received alike leaves alike
 alike_receiving : (s t : State) (m : Message) → Alike s t → Alike (receiving s m) (receiving t m)

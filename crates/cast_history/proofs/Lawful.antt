@@ -32,11 +32,10 @@ use Rattle.cast_message.specs.declared.client.Push.{Push}
 use Rattle.cast_message.specs.declared.client.Push.TheVariants as push
 use Rattle.cast_message.specs.Membership.{Membership}
 use Rattle.cast_message.specs.Rising.{is_rising}
-use Rattle.cast_stable.specs.Stable.{has_acked}
+use Rattle.cast_stable.specs.Stable.{Acked, has_acked}
 use Rattle.cast_timer.specs.declared.key.Owed.{Owed}
 use Rattle.cast_timer.specs.declared.key.OwedKey.{OwedKey}
 use Rattle.cast_timer.specs.declared.key.OwedKind.TheVariants as kinds
-use Rattle.cast_timer.specs.Owed.{is_owed, with_owed}
 use Rattle.cast_delay.specs.Ready.{Process, Gate, is_member, is_outside, has_delivered, past_in, group_allows, is_causally_ready}
 use Rattle.cast_delay.proofs.Delivers.{only_member}
 use Rattle.cast_delay.proofs.Means.{among_holds}
@@ -47,9 +46,14 @@ use Rattle.cast_model.specs.Group.{no_group, has_view, is_at, is_current, with_r
 use Rattle.cast_model.specs.declared.home.Home.{Home}
 use Rattle.cast_model.specs.Home.{is_empty}
 use Rattle.cast_model.specs.declared.config.DomainConfig.{DomainConfig}
-use Rattle.cast_history.specs.State.{State, opening, local, serials, is_group, set_session, set_process, set_group, set_home, set_standing, emitted, others_of, gate_of, local_members, is_stable, is_free, let_go, was_given}
+use Rattle.cast_history.specs.State.{State, opening, local, serials, is_group, set_session, set_process, set_group, set_home, set_standing, emitted, others_of, noting_ack, noting_stable, gate_of, local_members, is_stable, is_free, let_go, was_given}
 use Rattle.cast_history.specs.Order.{is_ready_for}
-use Rattle.cast_history.specs.Owing.{ask_key, message_key, frame_for, sent_for, next_due, owing}
+use Rattle.cast_history.specs.Owing.{noting_owed, noting_resent, paying, paying_upto, at_moment}
+use Rattle.cast_history.specs.Rules.Keys.{ask_key, message_key}
+use Rattle.cast_history.specs.Rules.Owing.{send_for, owe}
+use Rattle.cast_history.specs.History.{history}
+use Rattle.cast_history.proofs.Rules.Follows.{IsInvariant}
+use Rattle.cast_history.proofs.Rules.Owing.{send_for_keeps, owe_keeps}
 use Rattle.cast_history.specs.Effects.{asking, requesting, pushing, receiving, sending_to, next_message, sending_message, sending, told_of, with_delivery, delivering, enters, in_view, all_in_view, push_view, completing}
 use Rattle.cast_history.specs.Run.{before_event}
 use Rattle.cast_history.specs.Lawful.{IsSpent, AreKept, IsTraced, IsLawful}
@@ -266,20 +270,47 @@ same_group_set s g v number view = record {
 pub same_owed : (s : State) (owed : List Owed) → SameLaw s (record s { owed = owed })
 same_owed s owed = record { here = refl; config = refl; used = refl; process = λ k. refl; got = refl; kept = refl; abcasts = λ k. refl; number = λ g. refl; view = λ g. refl; opens = λ k is. is }
 
-pub same_sent_for : (s : State) (key : OwedKey) → SameLaw s (sent_for s key)
-same_sent_for s key = elim (frame_for s key) as (λ o. SameLaw s (elim o [ Some f ↦ emitted s key.site f | None ↦ s ])) [
-  | Some f ↦ same_emitted s key.site f
-  | None ↦ same_self s
-]
+-- what is acknowledged and told is no matter
+same_known : (s : State) (acks : List Acked) (told : List Uid) → SameLaw s (record s { acks = acks; told = told })
+same_known s acks told = record { here = refl; config = refl; used = refl; process = λ k. refl; got = refl; kept = refl; abcasts = λ k. refl; number = λ g. refl; view = λ g. refl; opens = λ k is. is }
 
-pub same_owing : (s : State) (key : OwedKey) → SameLaw s (owing s key)
-same_owing s key =
-    let sent : State = sent_for s key in
-    same_if s s (record sent { owed = with_owed s.owed key (next_due s) }) (is_owed s.owed key) (same_self s)
-    (same_then s sent (record sent { owed = with_owed s.owed key (next_due s) }) (same_sent_for s key) (same_owed sent (with_owed s.owed key (next_due s))))
+same_moment : (s : State) (moment : ℕ) → SameLaw s (record s { moment = moment })
+same_moment s moment = record { here = refl; config = refl; used = refl; process = λ k. refl; got = refl; kept = refl; abcasts = λ k. refl; number = λ g. refl; view = λ g. refl; opens = λ k is. is }
+
+-- the moves of the rules change nothing that a lawful history is about
+pub moves_same : (s : State) → IsInvariant history (SameLaw s)
+moves_same s = record {
+  send = λ t a to f. same_then s t (emitted t to f) a (same_emitted t to f);
+  note_owed = λ t a key. same_then s t (noting_owed t key) a (same_owed t (noting_owed t key).owed);
+  note_resent = λ t a key. same_then s t (noting_resent t key) a (same_owed t (noting_resent t key).owed);
+  pay = λ t a key. same_then s t (paying t key) a (same_owed t (paying t key).owed);
+  pay_upto = λ t a key. same_then s t (paying_upto t key) a (same_owed t (paying_upto t key).owed);
+  note_moment = λ t a n. same_then s t (at_moment t n) a (same_moment t (at_moment t n).moment);
+  note_ack = λ t a from u. same_then s t (noting_ack t from u) a (same_known t (noting_ack t from u).acks t.told);
+  note_stable = λ t a u. same_then s t (noting_stable t u) a (same_known t t.acks (noting_stable t u).told);
+}
+
+-- so what holds of a history by what a lawful one is about alone holds after each of them
+pub invariant_by_same : (holds : State → Type 0) → ((s t : State) → SameLaw s t → holds s → holds t) → IsInvariant history holds
+invariant_by_same holds by_same = record {
+  send = λ s h to f. by_same s (emitted s to f) ((moves_same s).send s (same_self s) to f) h;
+  note_owed = λ s h key. by_same s (noting_owed s key) ((moves_same s).note_owed s (same_self s) key) h;
+  note_resent = λ s h key. by_same s (noting_resent s key) ((moves_same s).note_resent s (same_self s) key) h;
+  pay = λ s h key. by_same s (paying s key) ((moves_same s).pay s (same_self s) key) h;
+  pay_upto = λ s h key. by_same s (paying_upto s key) ((moves_same s).pay_upto s (same_self s) key) h;
+  note_moment = λ s h n. by_same s (at_moment s n) ((moves_same s).note_moment s (same_self s) n) h;
+  note_ack = λ s h from u. by_same s (noting_ack s from u) ((moves_same s).note_ack s (same_self s) from u) h;
+  note_stable = λ s h u. by_same s (noting_stable s u) ((moves_same s).note_stable s (same_self s) u) h;
+}
+
+pub same_send_for : (s : State) (key : OwedKey) → SameLaw s (send_for history s key)
+same_send_for s key = send_for_keeps history (SameLaw s) (moves_same s) s (same_self s) key
+
+pub same_owe : (s : State) (key : OwedKey) → SameLaw s (owe history s key)
+same_owe s key = owe_keeps history (SameLaw s) (moves_same s) s (same_self s) key
 
 pub same_asking : (s : State) (g : GroupNo) → SameLaw s (asking s g)
-same_asking s g = same_if s s (owing s (ask_key g s.config.home)) (is_empty (s.group g).requests) (same_self s) (same_owing s (ask_key g s.config.home))
+same_asking s g = same_if s s (owe history s (ask_key g s.config.home)) (is_empty (s.group g).requests) (same_self s) (same_owe s (ask_key g s.config.home))
 
 pub same_requesting : (s : State) (g : GroupNo) (what : Change) (p : Proc) → SameLaw s (requesting s g what p)
 same_requesting s g what p =
@@ -412,7 +443,7 @@ lawful_let_go s l = lawful_from s (let_go s) l refl (placed_of s l) l.stamped
     (record { reached = l.traced.reached; delivered = l.traced.delivered; seen = l.traced.seen })
 
 pub same_sending_to : (u : Uid) (s : State) (to : SiteNo) → SameLaw s (sending_to u s to)
-same_sending_to u s to = same_if s (sent_for s (message_key kinds.Data u to)) (owing s (message_key kinds.Data u to)) (has_acked s.acks u to) (same_sent_for s (message_key kinds.Data u to)) (same_owing s (message_key kinds.Data u to))
+same_sending_to u s to = same_if s (send_for history s (message_key kinds.Data u to)) (owe history s (message_key kinds.Data u to)) (has_acked s.acks u to) (same_send_for s (message_key kinds.Data u to)) (same_owe s (message_key kinds.Data u to))
 
 -- a process sends a message whose time has the views of its own
 pub lawful_sending_message : (s : State) (k : ℕ) (m : Message) → IsLawful s → ((g : GroupNo) → view_of m.times g ≡ view_of (s.process k).time g) → is_sorted group_cmp m.times ≡ true → m.id.view ≤ (s.group m.id.group).number → IsLawful (sending_message s k m)

@@ -29,10 +29,7 @@ use Rattle.cast_message.specs.declared.client.Request.{Request}
 use Rattle.cast_message.specs.declared.client.Request.TheVariants.{Join, Leave, Cast}
 use Rattle.cast_message.specs.declared.client.Push.TheVariants as push
 use Rattle.cast_message.specs.Membership.{Membership}
-use Rattle.cast_stable.specs.Stable.{Acked}
-use Rattle.cast_timer.specs.declared.key.OwedKey.{OwedKey}
 use Rattle.cast_timer.specs.declared.key.OwedKind.TheVariants as kinds
-use Rattle.cast_timer.specs.Owed.{due_at}
 use Rattle.cast_delay.specs.Ready.{is_member}
 use Rattle.cast_order.specs.Order.{ids_to_list, place_after}
 use Rattle.cast_delay.proofs.Finds.{found_in}
@@ -47,9 +44,12 @@ use Rattle.cast_message.specs.declared.client.Command.TheVariants as command
 use Rattle.cast_model.specs.declared.event.Event.{Event}
 use Rattle.cast_model.specs.declared.event.Event.TheVariants as event
 use Rattle.cast_model.specs.declared.event.Taken.TheVariants as taken
-use Rattle.cast_history.specs.State.{State, local, serials, is_home, is_site, is_group, is_received, is_well_formed, may_order, may_take, is_stable, let_go, set_group, set_home, set_standing, emitted, noting_ack, noting_stable, was_given}
+use Rattle.cast_history.specs.State.{State, local, serials, is_home, is_site, is_group, is_received, is_well_formed, may_order, may_take, is_stable, let_go, set_group, set_home, set_standing, emitted, was_given}
 use Rattle.cast_history.specs.Order.{order_of, unlisted, has_place, is_ready_for}
-use Rattle.cast_history.specs.Owing.{ask_key, message_key, sent_for, owing, paying, paying_upto, resending, at_moment, ticked}
+use Rattle.cast_history.specs.Owing.{paying}
+use Rattle.cast_history.specs.Rules.Keys.{ask_key, message_key}
+use Rattle.cast_history.specs.Rules.Owing.{owe, tick}
+use Rattle.cast_history.proofs.Rules.Owing.{tick_keeps}
 use Rattle.cast_history.specs.Effects.{may_raise, asking, pushing, receiving, sending, delivering, completing}
 use Rattle.cast_history.specs.Step.{acknowledging, data_used, first_refusal, join_tests, cast_tests, joining, attempting, body_of, requested, commanded, is_used, on_data, is_from_home, on_ask, on_asked, on_install, on_installed, group_of, on_frame, framed, opened, Effect, acted}
 use Rattle.cast_history.specs.Rest.{deliver_first, deliver_all, settle, may_set_order, set_order_by, set_order, set_orders, install_frame, send_install, decide, lead_all, pass, RestsAt}
@@ -58,7 +58,7 @@ use Rattle.cast_history.proofs.Spots.{found_passes}
 use Rattle.cast_history.specs.History.{history}
 use Rattle.cast_history.proofs.Rules.Follows.{IsInvariant}
 use Rattle.cast_history.proofs.Rules.Stability.{ack_keeps, stable_keeps}
-use Rattle.cast_history.proofs.Lawful.{SameLaw, same_self, same_then, same_if, same_fold, same_home, same_emitted, same_group_set, same_owed, same_sent_for, same_owing, same_asking, kept_map, lawful_same, lawful_pushing, lawful_emitted, lawful_requesting, lawful_if, lawful_fold, lawful_standing, lawful_receiving, lawful_let_go, lawful_sending, lawful_delivering, lawful_completing}
+use Rattle.cast_history.proofs.Lawful.{SameLaw, same_self, same_then, same_if, same_fold, same_home, same_emitted, same_group_set, same_owed, moves_same, invariant_by_same, same_owe, same_asking, kept_map, lawful_same, lawful_pushing, lawful_emitted, lawful_requesting, lawful_if, lawful_fold, lawful_standing, lawful_receiving, lawful_let_go, lawful_sending, lawful_delivering, lawful_completing}
 
 -- a stamp is in order
 stamp_sorted : (t : ClockList) → is_stamp t ≡ true → is_sorted group_cmp t ≡ true
@@ -116,7 +116,7 @@ lawful_commanded s k command.Bad l = l
 -- Frames
 
 pub same_acknowledging : (s : State) (to : SiteNo) (u : Uid) → SameLaw s (acknowledging s to u)
-same_acknowledging s to u = same_if s (emitted s to (frame.Ack u)) (owing s (message_key kinds.Ack u to)) (is_stable s u) (same_emitted s to (frame.Ack u)) (same_owing s (message_key kinds.Ack u to))
+same_acknowledging s to u = same_if s (emitted s to (frame.Ack u)) (owe history s (message_key kinds.Ack u to)) (is_stable s u) (same_emitted s to (frame.Ack u)) (same_owe s (message_key kinds.Ack u to))
 
 -- what is used is of the view that its group has reached
 used_reached : (s : State) (from : SiteNo) (m : Message) → is_used s from m ≡ true → m.id.view ≤ (s.group m.id.group).number
@@ -140,19 +140,9 @@ lawful_on_data s from m l stamp =
     (λ _. l)))
     (λ _. l)
 
--- what is acknowledged and told is no matter
-pub same_known : (s : State) (acks : List Acked) (told : List Uid) → SameLaw s (record s { acks = acks; told = told })
-same_known s acks told = record { here = refl; config = refl; used = refl; process = λ k. refl; got = refl; kept = refl; abcasts = λ k. refl; number = λ g. refl; view = λ g. refl; opens = λ k is. is }
-
 -- a history stays lawful at each move of the rules
-moves_lawful : IsInvariant history IsLawful
-moves_lawful = record {
-  send = λ s l to f. lawful_emitted s to f l;
-  pay = λ s l key. lawful_same s (paying s key) (same_owed s (paying s key).owed) l;
-  pay_upto = λ s l key. lawful_same s (paying_upto s key) (same_owed s (paying_upto s key).owed) l;
-  note_ack = λ s l from u. lawful_same s (noting_ack s from u) (same_known s (noting_ack s from u).acks s.told) l;
-  note_stable = λ s l u. lawful_same s (noting_stable s u) (same_known s s.acks (noting_stable s u).told) l;
-}
+pub moves_lawful : IsInvariant history IsLawful
+moves_lawful = invariant_by_same IsLawful lawful_same
 
 pub same_on_ask : (s : State) (from : SiteNo) (g : GroupNo) (number : ℕ) (what : Change) (p : Proc) → SameLaw s (on_ask s from g number what p)
 same_on_ask s from g number change.Join p =
@@ -255,17 +245,8 @@ lawful_opened s l unborn = record {
 
 -- Ticks
 
-pub same_resending : (s : State) (key : OwedKey) → SameLaw s (resending s key)
-same_resending s key =
-    let sent : State = sent_for s key in
-    same_then s sent (resending s key) (same_sent_for s key) (same_owed sent (resending s key).owed)
-
-pub same_ticked : (s : State) (t : ℕ) → SameLaw s (ticked s t)
-same_ticked s t =
-    let now : State = at_moment s t in
-    same_then s now (ticked s t)
-    (record { here = refl; config = refl; used = refl; process = λ k. refl; got = refl; kept = refl; abcasts = λ k. refl; number = λ g. refl; view = λ g. refl; opens = λ k is. is })
-    (same_fold resending same_resending (due_at now.moment now.owed) now)
+pub same_tick : (s : State) (t : ℕ) → SameLaw s (tick history s t)
+same_tick s t = tick_keeps history (SameLaw s) (moves_same s) s (same_self s) t
 
 pub lawful_acted : (s : State) (e : Event) → IsLawful s → IsUnborn s → IsTyped e → IsLawful (acted s e).0
 lawful_acted s (event.Open d) l unborn typed =
@@ -279,7 +260,7 @@ lawful_acted s (event.Command d k c) l unborn typed =
       | false ↦ l
     ]
 lawful_acted s (event.Frame d from f) l unborn typed = lawful_framed s from f l typed
-lawful_acted s (event.Tick t) l unborn typed = lawful_same s (ticked s t) (same_ticked s t) l
+lawful_acted s (event.Tick t) l unborn typed = lawful_same s (tick history s t) (same_tick s t) l
 
 -- Deliveries
 

@@ -8,11 +8,11 @@ pub mod Placing
 pub mod Delivering
 pub mod Totals
 pub mod Listings
+pub mod Rules
 pub mod Alikes
 pub mod Settles
 pub mod Rests
 pub mod Spots
-pub mod Rules
 pub mod Lawful
 pub mod LawfulSteps
 pub mod Counting

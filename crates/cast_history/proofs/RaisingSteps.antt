@@ -39,10 +39,10 @@ use Rattle.cast_model.specs.declared.event.Event.{Event}
 use Rattle.cast_model.specs.declared.event.Event.TheVariants as event
 use Rattle.cast_model.specs.declared.event.Taken.{Taken}
 use Rattle.cast_model.specs.declared.event.Taken.TheVariants as taken
-use Rattle.cast_history.specs.State.{State, opening, local, serials, is_home, is_site, is_group, is_received, is_well_formed, counts_itself, may_take, let_go, set_standing, emitted, noting_ack, noting_stable, was_given}
+use Rattle.cast_history.specs.State.{State, opening, local, serials, is_home, is_site, is_group, is_received, is_well_formed, counts_itself, may_take, let_go, set_standing, emitted, was_given}
 use Rattle.cast_history.specs.Order.{order_of, unlisted, is_ready_for}
 use Rattle.cast_history.specs.Effects.{pushing, receiving, sending, delivering, completing}
-use Rattle.cast_history.specs.Owing.{paying, paying_upto, ticked}
+use Rattle.cast_history.specs.Rules.Owing.{tick}
 use Rattle.cast_history.specs.Step.{acknowledging, data_used, first_refusal, join_tests, cast_tests, joining, attempting, body_of, requested, commanded, is_used, on_data, is_from_home, on_ask, on_asked, on_install, on_installed, group_of, on_frame, framed, opened, Effect, acted}
 use Rattle.cast_history.specs.Rest.{deliver_first, deliver_all, settle, may_set_order, set_order_by, set_order, set_orders, decide, lead_all, pass}
 use Rattle.cast_history.specs.Run.{before_event, after_event, IsRun}
@@ -52,8 +52,8 @@ use Rattle.cast_history.specs.Raising.{IsTimeOf, IsFromMember, CountsMembers, Is
 use Rattle.cast_history.proofs.Spots.{found_passes}
 use Rattle.cast_history.proofs.Rules.Follows.{IsInvariant}
 use Rattle.cast_history.proofs.Rules.Stability.{ack_keeps, stable_keeps}
-use Rattle.cast_history.proofs.Lawful.{same_emitted, same_owed, same_pushing, same_requesting, lawful_opening, lawful_before, lawful_let_go}
-use Rattle.cast_history.proofs.LawfulSteps.{each_passes, same_acknowledging, same_known, same_on_ask, same_on_asked, same_on_installed, same_ticked, same_decide, completes_unseen, later_number, lawful_acted, lawful_first, lawful_set_order, lawful_decide}
+use Rattle.cast_history.proofs.Lawful.{same_emitted, invariant_by_same, same_pushing, same_requesting, lawful_opening, lawful_before, lawful_let_go}
+use Rattle.cast_history.proofs.LawfulSteps.{each_passes, same_acknowledging, same_on_ask, same_on_asked, same_on_installed, same_tick, same_decide, completes_unseen, later_number, lawful_acted, lawful_first, lawful_set_order, lawful_decide}
 use Rattle.cast_history.proofs.Counting.{is_clock_of, all_both}
 use Rattle.cast_history.proofs.Raising.{counts_same, counts_let_go, counts_before, counts_opening, counts_standing, counts_receiving, counts_sending, counts_delivering, counts_completing, counts_opened, next_unborn, can_raise}
 
@@ -142,13 +142,7 @@ counts_on_install s from g n members request l c listed typed =
 
 -- each move of the rules leaves it so that members alone are counted
 moves_counted : IsInvariant history CountsMembers
-moves_counted = record {
-  send = λ s c to f. counts_same s (emitted s to f) (same_emitted s to f) c;
-  pay = λ s c key. counts_same s (paying s key) (same_owed s (paying s key).owed) c;
-  pay_upto = λ s c key. counts_same s (paying_upto s key) (same_owed s (paying_upto s key).owed) c;
-  note_ack = λ s c from u. counts_same s (noting_ack s from u) (same_known s (noting_ack s from u).acks s.told) c;
-  note_stable = λ s c u. counts_same s (noting_stable s u) (same_known s s.acks (noting_stable s u).told) c;
-}
+moves_counted = invariant_by_same CountsMembers counts_same
 
 counts_on_frame : (s : State) (from : SiteNo) (f : SiteFrame) → IsLawful s → CountsMembers s → is_group s (group_of f) ≡ true → IsTypedFrame f → CountsMembers (on_frame s from f)
 counts_on_frame s from (frame.Data m) l c listed typed = counts_on_data s from m c typed
@@ -184,7 +178,7 @@ counts_acted s (event.Command d k x) l c typed =
       | false ↦ λ _. c
     ] refl
 counts_acted s (event.Frame d from f) l c typed = counts_framed s from f l c typed
-counts_acted s (event.Tick t) l c typed = counts_same s (ticked s t) (same_ticked s t) c
+counts_acted s (event.Tick t) l c typed = counts_same s (tick history s t) (same_tick s t) c
 
 -- Until the state rests
 

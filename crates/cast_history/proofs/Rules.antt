@@ -1,2 +1,3 @@
 pub mod Follows
+pub mod Owing
 pub mod Stability

@@ -28,13 +28,15 @@ use Rattle.cast_model.specs.Session.{is_open, pushed_to}
 use Rattle.cast_model.specs.Group.{with_request, with_view, is_taken_in}
 use Rattle.cast_model.specs.Home.{is_empty}
 use Rattle.cast_history.specs.State.{State, local, serials, set_session, set_process, set_group, emitted, others_of}
-use Rattle.cast_history.specs.Owing.{ask_key, message_key, sent_for, owing}
+use Rattle.cast_history.specs.Rules.Keys.{ask_key, message_key}
+use Rattle.cast_history.specs.Rules.Owing.{send_for, owe}
+use Rattle.cast_history.specs.History.{history}
 
 -- Requests
 
 -- the first request, where there is one, is owed to the home
 abbrev pub asking : State → GroupNo → State
-asking s g = if is_empty (s.group g).requests then s else owing s (ask_key g s.config.home)
+asking s g = if is_empty (s.group g).requests then s else owe history s (ask_key g s.config.home)
 
 -- one more request; it is asked at once where it is the first
 abbrev pub requesting : State → GroupNo → Change → Proc → State
@@ -55,7 +57,7 @@ receiving s m = record s { got = s.got ++ m ∷ []; kept = s.kept ++ m ∷ [] }
 -- a message is sent to a site, and owed to it until it has acknowledged it, as it may have done before
 abbrev pub sending_to : Uid → State → SiteNo → State
 sending_to u s to =
-    if has_acked s.acks u to then sent_for s (message_key kinds.Data u to) else owing s (message_key kinds.Data u to)
+    if has_acked s.acks u to then send_for history s (message_key kinds.Data u to) else owe history s (message_key kinds.Data u to)
 
 -- a member's next message of a group
 abbrev pub next_message : State → GroupNo → ℕ → Body → Message

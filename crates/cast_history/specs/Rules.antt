@@ -1,3 +1,4 @@
 pub mod Keys
 pub mod Interface
+pub mod Owing
 pub mod Stability

@@ -38,7 +38,9 @@ use Rattle.cast_model.specs.declared.event.Taken.{Taken}
 use Rattle.cast_model.specs.declared.event.Taken.TheVariants as taken
 use Rattle.cast_history.specs.State.{State, local, is_home, is_site, is_group, set_session, set_group, set_home, set_standing, emitted, is_received, may_receive, may_take, is_stable, is_well_formed}
 use Rattle.cast_history.specs.Order.{awaits_own}
-use Rattle.cast_history.specs.Owing.{ask_key, message_key, owing, paying, ticked}
+use Rattle.cast_history.specs.Owing.{paying}
+use Rattle.cast_history.specs.Rules.Keys.{ask_key, message_key}
+use Rattle.cast_history.specs.Rules.Owing.{owe, tick}
 use Rattle.cast_history.specs.Rules.Stability.{on_ack, on_stable}
 use Rattle.cast_history.specs.History.{history}
 use Rattle.cast_history.specs.Effects.{may_raise, asking, requesting, pushing, receiving, sending, completing}
@@ -105,7 +107,7 @@ is_used s from m =
 
 -- the acknowledgement is owed to the message's site, until that has told that the message is stable
 abbrev pub acknowledging : State → SiteNo → Uid → State
-acknowledging s to u = if is_stable s u then emitted s to (frame.Ack u) else owing s (message_key kinds.Ack u to)
+acknowledging s to u = if is_stable s u then emitted s to (frame.Ack u) else owe history s (message_key kinds.Ack u to)
 
 -- a message is received once, if there is room for it; what was received is acknowledged again
 abbrev pub data_used : State → SiteNo → Message → State
@@ -211,4 +213,4 @@ acted s (event.Open d) =
     if s.used == MAX_NUMBER then (s, taken.Refused TooManySessions) else (opened s, taken.Opened (s.used + 1))
 acted s (event.Command d k c) = if is_open (s.session k) then (commanded s k c, taken.Nothing) else (s, taken.Refused NotOpen)
 acted s (event.Frame d from f) = (framed s from f, taken.Nothing)
-acted s (event.Tick t) = (ticked s t, taken.Nothing)
+acted s (event.Tick t) = (tick history s t, taken.Nothing)

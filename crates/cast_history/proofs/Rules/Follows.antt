@@ -1,8 +1,9 @@
 -- When what a rule leads to at one site stands for what it leads to at another: where each question has the same answer at both, and each
 -- move leads to states that stand for each other. So what is to be shown of two sites is one fact for each question and each move.
-use Rattle.std.proofs.Common.{◌≡◌, Bool, true, false, List, [], ◌∷◌, refl, sym, ap}
-use Rattle.std.specs.Prelude.{if◌then◌else◌}
+use Rattle.std.proofs.Common.{◌≡◌, ℕ, Bool, true, false, List, [], ◌∷◌, Option, Some, None, refl, sym, ap, subst}
+use Rattle.std.specs.Prelude.{⊤, if◌then◌else◌}
 use Rattle.std.specs.List.{fold}
+use Rattle.std.specs.Option.{option_map_or}
 use Rattle.std.proofs.lemmas.Bool.{false≢true}
 use Rattle.cast_types.specs.declared.names.SiteNo.{SiteNo}
 use Rattle.cast_types.specs.declared.names.GroupNo.{GroupNo}
@@ -11,15 +12,29 @@ use Rattle.cast_message.specs.declared.site.SiteFrame.{SiteFrame}
 use Rattle.cast_timer.specs.declared.key.OwedKey.{OwedKey}
 use Rattle.cast_history.specs.Rules.Interface.{Site}
 
--- fits r s: r stands for s; stands s h k: what stands at h in the one is the group at k in s
-pub record Follows {R S H K : Type 0} (a : Site R H) (b : Site S K) (fits : R → S → Type 0) (stands : S → H → K → Type 0) : Type 0 where
+-- something stands at both places, or there is none
+abbrev pub AtBoth : {H K : Type 0} → (H → K → Type 0) → Option H → Option K → Type 0
+AtBoth stands (Some h) (Some k) = stands h k
+AtBoth stands (Some h) None = ⊥
+AtBoth stands None (Some k) = ⊥
+AtBoth stands None None = ⊤
+
+-- fits r s: r stands for s; stands h k: what is at h in the one is the group at k in the other
+pub record Follows {R S H K : Type 0} (a : Site R H) (b : Site S K) (fits : R → S → Type 0) (stands : H → K → Type 0) : Type 0 where
   pub here : (r : R) (s : S) → fits r s → a.here r ≡ b.here s
-  pub group : (r : R) (s : S) → fits r s → (h : H) (k : K) → stands s h k → a.group r h ≡ b.group s k
+  pub place : (r : R) (s : S) → fits r s → (g : GroupNo) → AtBoth stands (a.place r g) (b.place s g)
+  pub group : (r : R) (s : S) → fits r s → (h : H) (k : K) → stands h k → a.group r h ≡ b.group s k
   pub others : (r : R) (s : S) → fits r s → (g : GroupNo) → a.others r g ≡ b.others s g
   pub stable_upto : (r : R) (s : S) → fits r s → (u : Uid) → (b.others s u.group ≡ [] → ⊥) → a.stable_upto r u ≡ b.stable_upto s u
+  pub message : (r : R) (s : S) → fits r s → (u : Uid) → a.message r u ≡ b.message s u
+  pub is_owed : (r : R) (s : S) → fits r s → (key : OwedKey) → a.is_owed r key ≡ b.is_owed s key
+  pub due : (r : R) (s : S) → fits r s → a.due r ≡ b.due s
   pub send : (r : R) (s : S) → fits r s → (to : SiteNo) (f : SiteFrame) → fits (a.send r to f) (b.send s to f)
+  pub note_owed : (r : R) (s : S) → fits r s → (key : OwedKey) → fits (a.note_owed r key) (b.note_owed s key)
+  pub note_resent : (r : R) (s : S) → fits r s → (key : OwedKey) → fits (a.note_resent r key) (b.note_resent s key)
   pub pay : (r : R) (s : S) → fits r s → (key : OwedKey) → fits (a.pay r key) (b.pay s key)
   pub pay_upto : (r : R) (s : S) → fits r s → (key : OwedKey) → fits (a.pay_upto r key) (b.pay_upto s key)
+  pub note_moment : (r : R) (s : S) → fits r s → (t : ℕ) → fits (a.note_moment r t) (b.note_moment s t)
   pub note_ack : (r : R) (s : S) → fits r s → (from : SiteNo) (u : Uid) → fits (a.note_ack r from u) (b.note_ack s from u)
   pub note_stable : (r : R) (s : S) → fits r s → (u : Uid) → fits (a.note_stable r u) (b.note_stable s u)
 
@@ -38,13 +53,23 @@ module _ {R S : Type 0} (fits : R → S → Type 0) where
   each f g step [] r s h = h
   each f g step (x ∷ xs) r s h = each f g step xs (f r x) (g s x) (step r s x h)
 
+  -- the same of what stands at a place, where there is one
+  pub at_place : {H K : Type 0} (stands : H → K → Type 0) (f : H → R) (g : K → S) → ((h : H) (k : K) → stands h k → fits (f h) (g k)) → (o : Option H) (p : Option K) → AtBoth stands o p → (r : R) (s : S) → fits r s → fits (option_map_or f o r) (option_map_or g p s)
+  at_place stands f g there (Some h) (Some k) at r s none = there h k at
+  at_place stands f g there (Some h) None at r s none = absurd at
+  at_place stands f g there None (Some k) at r s none = absurd at
+  at_place stands f g there None None at r s none = none
+
 -- What holds of each state
 
 -- what holds of a state holds after each move
 pub record IsInvariant {S H : Type 0} (d : Site S H) (holds : S → Type 0) : Type 0 where
   pub send : (s : S) → holds s → (to : SiteNo) (f : SiteFrame) → holds (d.send s to f)
+  pub note_owed : (s : S) → holds s → (key : OwedKey) → holds (d.note_owed s key)
+  pub note_resent : (s : S) → holds s → (key : OwedKey) → holds (d.note_resent s key)
   pub pay : (s : S) → holds s → (key : OwedKey) → holds (d.pay s key)
   pub pay_upto : (s : S) → holds s → (key : OwedKey) → holds (d.pay_upto s key)
+  pub note_moment : (s : S) → holds s → (t : ℕ) → holds (d.note_moment s t)
   pub note_ack : (s : S) → holds s → (from : SiteNo) (u : Uid) → holds (d.note_ack s from u)
   pub note_stable : (s : S) → holds s → (u : Uid) → holds (d.note_stable s u)
 
@@ -52,18 +77,29 @@ pub record IsInvariant {S H : Type 0} (d : Site S H) (holds : S → Type 0) : Ty
 abbrev pub AlsoHolds : {S : Type 0} → (S → Type 0) → S → S → Type 0
 AlsoHolds holds r s = (r ≡ s) × holds s
 
-abbrev pub SamePlace : {S H : Type 0} → S → H → H → Type 0
-SamePlace s h k = h ≡ k
+abbrev pub SamePlace : {H : Type 0} → H → H → Type 0
+SamePlace h k = h ≡ k
+
+at_itself : {H : Type 0} (o p : Option H) → o ≡ p → AtBoth SamePlace o p
+at_itself (Some h) p same = subst (AtBoth SamePlace (Some h)) same refl
+at_itself None p same = subst (AtBoth SamePlace None) same tt
 
 pub follows_itself : {S H : Type 0} (d : Site S H) (holds : S → Type 0) → IsInvariant d holds → Follows d d (AlsoHolds holds) SamePlace
 follows_itself d holds keeps = record {
   here = λ r s f. ap d.here f.0;
+  place = λ r s f g. at_itself (d.place r g) (d.place s g) (λ i. d.place (f.0 i) g);
   group = λ r s f h k at. λ i. d.group (f.0 i) (at i);
   others = λ r s f g. λ i. d.others (f.0 i) g;
   stable_upto = λ r s f u some. λ i. d.stable_upto (f.0 i) u;
+  message = λ r s f u. λ i. d.message (f.0 i) u;
+  is_owed = λ r s f key. λ i. d.is_owed (f.0 i) key;
+  due = λ r s f. ap d.due f.0;
   send = λ r s f to x. (λ i. d.send (f.0 i) to x, keeps.send s f.1 to x);
+  note_owed = λ r s f key. (λ i. d.note_owed (f.0 i) key, keeps.note_owed s f.1 key);
+  note_resent = λ r s f key. (λ i. d.note_resent (f.0 i) key, keeps.note_resent s f.1 key);
   pay = λ r s f key. (λ i. d.pay (f.0 i) key, keeps.pay s f.1 key);
   pay_upto = λ r s f key. (λ i. d.pay_upto (f.0 i) key, keeps.pay_upto s f.1 key);
+  note_moment = λ r s f t. (λ i. d.note_moment (f.0 i) t, keeps.note_moment s f.1 t);
   note_ack = λ r s f from u. (λ i. d.note_ack (f.0 i) from u, keeps.note_ack s f.1 from u);
   note_stable = λ r s f u. (λ i. d.note_stable (f.0 i) u, keeps.note_stable s f.1 u);
 }

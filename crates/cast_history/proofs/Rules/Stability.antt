@@ -15,7 +15,7 @@ use Rattle.cast_history.specs.Rules.Interface.{Site}
 use Rattle.cast_history.specs.Rules.Stability.{is_used_ack, with_ack, tell_stable, tell_more, on_ack, on_stable}
 use Rattle.cast_history.proofs.Rules.Follows.{Follows, choose, each, IsInvariant, AlsoHolds, SamePlace, follows_itself}
 
-module _ {R S H K : Type 0} (a : Site R H) (b : Site S K) (fits : R → S → Type 0) (stands : S → H → K → Type 0) (follows : Follows a b fits stands) where
+module _ {R S H K : Type 0} (a : Site R H) (b : Site S K) (fits : R → S → Type 0) (stands : H → K → Type 0) (follows : Follows a b fits stands) where
   -- a choice that changes nothing
   stays : (c e : Bool) (r : R) (s : S) → fits r s → fits (if c then r else r) (if e then s else s)
   stays true true r s f = f
@@ -43,7 +43,7 @@ module _ {R S H K : Type 0} (a : Site R H) (b : Site S K) (fits : R → S → Ty
   tell_more_follows r s f u before after same =
       tell_where_more r s f u before after (a.stable_upto r u) (b.stable_upto s u) (a.others r u.group) (b.others s u.group) same (follows.others r s f u.group) (follows.stable_upto r s f u)
 
-  pub ack_follows : (r : R) (s : S) → fits r s → (h : H) (k : K) → stands s h k → (from : SiteNo) (u : Uid) → fits (on_ack a r h from u) (on_ack b s k from u)
+  pub ack_follows : (r : R) (s : S) → fits r s → (h : H) (k : K) → stands h k → (from : SiteNo) (u : Uid) → fits (on_ack a r h from u) (on_ack b s k from u)
   ack_follows r s f h k at from u =
       let same : is_used_ack a r h from u ≡ is_used_ack b s k from u = (λ j.
       is_current (follows.group r s f h k at j) u.view
@@ -63,7 +63,7 @@ module _ {R S H K : Type 0} (a : Site R H) (b : Site S K) (fits : R → S → Ty
       (λ _. tell_more_follows (with_ack a r from u) (with_ack b s from u) known u (a.stable_upto r u) (b.stable_upto s u) n))
       (λ _. f)
 
-  pub stable_follows : (r : R) (s : S) → fits r s → (h : H) (k : K) → stands s h k → (from : SiteNo) (u : Uid) → fits (on_stable a r h from u) (on_stable b s k from u)
+  pub stable_follows : (r : R) (s : S) → fits r s → (h : H) (k : K) → stands h k → (from : SiteNo) (u : Uid) → fits (on_stable a r h from u) (on_stable b s k from u)
   stable_follows r s f h k at from u =
       let key = message_key kinds.Ack u u.proc.site in
       choose fits (is_current (a.group r h) u.view && site_eq u.proc.site from) (is_current (b.group s k) u.view && site_eq u.proc.site from) (a.note_stable (a.pay_upto r key) u) r (b.note_stable (b.pay_upto s key) u) s

@@ -1,9 +1,10 @@
 -- A domain at its site, as the rules see it: what they ask of it, and what they do to it. A rule is written once, over this, and holds
 -- of whatever gives it: of the history of a domain, and of the records that stand for a history.
-use Rattle.std.specs.Prelude.{ℕ, List}
+use Rattle.std.specs.Prelude.{ℕ, Bool, List, Option}
 use Rattle.cast_types.specs.declared.names.SiteNo.{SiteNo}
 use Rattle.cast_types.specs.declared.names.GroupNo.{GroupNo}
 use Rattle.cast_types.specs.declared.names.Uid.{Uid}
+use Rattle.cast_message.specs.declared.message.Message.{Message}
 use Rattle.cast_message.specs.declared.site.SiteFrame.{SiteFrame}
 use Rattle.cast_timer.specs.declared.key.OwedKey.{OwedKey}
 use Rattle.cast_model.specs.declared.group.Group.{Group}
@@ -12,18 +13,32 @@ use Rattle.cast_model.specs.declared.group.Group.{Group}
 pub record Site (S H : Type 0) : Type 0 where
   -- the site's number
   pub here : S → SiteNo
+  -- where a group of the domain's configuration stands
+  pub place : S → GroupNo → Option H
   -- a group: its view, and the requests of its processes here
   pub group : S → H → Group
   -- the other sites of a group's view
   pub others : S → GroupNo → List SiteNo
   -- how many messages of a local process are stable, in a view that has another site
   pub stable_upto : S → Uid → ℕ
+  -- the kept message of an id
+  pub message : S → Uid → Option Message
+  -- a frame is owed
+  pub is_owed : S → OwedKey → Bool
+  -- the frames that are due to be sent again, in their order
+  pub due : S → List OwedKey
   -- a frame is sent to a site
   pub send : S → SiteNo → SiteFrame → S
+  -- a frame that is sent now is owed from now on, and is due again once the time to resend has passed
+  pub note_owed : S → OwedKey → S
+  -- a frame that is owed was sent again now, and is due again after as long a time
+  pub note_resent : S → OwedKey → S
   -- a frame is owed no more
   pub pay : S → OwedKey → S
   -- a frame about a message, and those of its kind about the process's messages before that, are owed no more
   pub pay_upto : S → OwedKey → S
+  -- the moment is at least this one, and at most the last one
+  pub note_moment : S → ℕ → S
   -- it is noted that a site acknowledged a message
   pub note_ack : S → SiteNo → Uid → S
   -- it is noted that a process's messages up to one are stable

@@ -4,9 +4,10 @@ use Rattle.std.proofs.lemmas.Result.{on_ok_weaker}
 use Rattle.cast_message.specs.declared.site.SiteFrame.TheVariants as frame
 use Rattle.cast_stable.specs.Ledger.{is_stable_in}
 use Rattle.cast_timer.specs.declared.key.OwedKind.TheVariants as kinds
-use Rattle.cast_history.specs.Owing.{message_key}
+use Rattle.cast_history.specs.Rules.Keys.{message_key}
+use Rattle.cast_history.specs.Rules.Owing.{owe}
 use Rattle.cast_domain.specs.Records.{records_in}
-use Rattle.cast_domain.specs.Calls.{owe_in, send_in}
+use Rattle.cast_domain.specs.Calls.{records, send_in}
 use Rattle.cast_domain.proofs.domain.Domain.acknowledge.Goals as goal
 
 pub returns-then-is_stable-clause-made : goal.returns-then-is_stable-clause-made
@@ -16,5 +17,5 @@ returns-then-is_stable-clause-made c =
     let to = c.args.to in
     let stable : is_stable_in r.acks u ≡ true = sym c.is_stable.ensures.value ∙ c.if-is_stable.true in
     on_ok_weaker c.send.result
-    (λ sent. sent r.part ∙ sym (ap (λ b. if b then send_in r to (frame.Ack u) else owe_in r (message_key kinds.Ack u to)) stable))
+    (λ sent. sent r.part ∙ sym (ap (λ b. if b then send_in r to (frame.Ack u) else owe records r (message_key kinds.Ack u to)) stable))
     c.send.ensures

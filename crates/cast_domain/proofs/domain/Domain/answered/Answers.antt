@@ -5,7 +5,7 @@ use Rattle.cast_types.specs.Names.{site_eq}
 use Rattle.cast_types.specs.Places.{update}
 use Rattle.cast_model.specs.declared.group.Asking.{Asking}
 use Rattle.cast_model.specs.Group.{first_asking, with_answer}
-use Rattle.cast_history.specs.Owing.{ask_key}
+use Rattle.cast_history.specs.Rules.Keys.{ask_key}
 use Rattle.cast_domain.specs.Records.{Records, records_in}
 use Rattle.cast_domain.specs.Calls.{answered_in, ask_home_in, pay_in, record_at}
 use Rattle.cast_domain.proofs.domain.Domain.answered.Goals as goal

@@ -2,9 +2,10 @@ use Rattle.std.proofs.Common.{◌∙◌, sym, ap}
 use Rattle.std.specs.Option.{option_map}
 use Rattle.std.proofs.lemmas.Result.{IfOk-weaker}
 use Rattle.cast_message.specs.declared.site.SiteFrame.TheVariants as frame
-use Rattle.cast_history.specs.Owing.{id_in}
+use Rattle.cast_history.specs.Rules.Keys.{id_in}
+use Rattle.cast_history.specs.Rules.Owing.{frame_of_kind}
 use Rattle.cast_domain.specs.Records.{records_in}
-use Rattle.cast_domain.specs.Calls.{frame_of_kind_in, message_in}
+use Rattle.cast_domain.specs.Calls.{message_in, records}
 use Rattle.cast_domain.proofs.domain.Domain.frame_at_key.Goals as goal
 
 pub returns-in-Data : goal.returns-in-Data
@@ -15,4 +16,4 @@ returns-in-Data c =
     let r = records_in c.args.self.now c.args.shared.now o in
     made o
     ∙ ap (λ u. option_map frame.Data (message_in r u)) about
-    ∙ ap (frame_of_kind_in r key c.args.place) (sym c.in-Data.is)) c.data_frame.ensures
+    ∙ ap (frame_of_kind records r c.args.place key) (sym c.in-Data.is)) c.data_frame.ensures

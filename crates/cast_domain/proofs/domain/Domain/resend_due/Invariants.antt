@@ -1,7 +1,8 @@
 use Rattle.std.proofs.Common.{◌≡◌}
 use Rattle.std.specs.List.{fold}
 use Rattle.cast_domain.specs.Shared.{LeavesOthers}
-use Rattle.cast_domain.specs.Calls.{resend_due_in, resend_in}
+use Rattle.cast_history.specs.Rules.Owing.{resend_due, resend}
+use Rattle.cast_domain.specs.Calls.{records}
 use Rattle.cast_domain.specs.Records.{records_in}
 use Rattle.cast_domain.proofs.domain.Domain.resend_due.Given as goal
 
@@ -9,5 +10,5 @@ use Rattle.cast_domain.proofs.domain.Domain.resend_due.Given as goal
 abbrev pub invariant-loop-key : goal.invariant-loop-key
 invariant-loop-key l = record {
   others : LeavesOthers l.self.config.domain l.fn.shared l.shared;
-  left : fold resend_in (records_in l.self l.shared l.outs) l.key-iterator.rest.items ≡ resend_due_in (records_in l.self l.fn.shared l.fn.outs);
+  left : fold (resend records) (records_in l.self l.shared l.outs) l.key-iterator.rest.items ≡ resend_due records (records_in l.self l.fn.shared l.fn.outs);
 }
