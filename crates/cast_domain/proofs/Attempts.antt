@@ -14,15 +14,17 @@ use Rattle.cast_message.specs.Sequence.{Sequence}
 use Rattle.cast_order.specs.Log.{log_of, next_places}
 use Rattle.cast_delay.specs.Ready.{is_member, is_outside}
 use Rattle.cast_delay.specs.declared.row.Fact.TheVariants as fact
+use Rattle.cast_history.specs.Rules.Requests.{request}
+use Rattle.cast_history.specs.Rules.Room.{may_order, may_receive}
 use Rattle.cast_domain.specs.Records.{Records}
 use Rattle.cast_history.specs.Effects.{may_raise}
 use Rattle.cast_history.specs.Step.{body_of}
-use Rattle.cast_domain.specs.Calls.{Attempt, awaits_own_in, has_room_in, has_order_room_in, let_go_in, send_places_in, set_order_by_in, record_at, standing_of, time_of, local_in, tell_in, request_in, join_at, cast_at, send_message_in, next_message_in}
+use Rattle.cast_domain.specs.Calls.{Attempt, awaits_own_in, records, let_go_in, send_places_in, set_order_by_in, record_at, standing_of, time_of, local_in, tell_in, join_at, cast_at, send_message_in, next_message_in}
 
 -- what a join does that is not refused
 abbrev pub joined : Records → ℕ → GroupNo → ℕ → Records
 joined r k g i =
-    request_in
+    request records
     (tell_in r (local_in r k) (fact.Standing g (Joining ((record_at r.groups i).here.asked + 1) (view_of (time_of r.delay (local_in r k)) g))))
     i change.Join (local_in r k)
 
@@ -39,21 +41,21 @@ sent r k g cast payload i =
     (next_message_in r (local_in r k) g i (body_of cast payload))
 
 -- what is left of a cast past the tests of payload and membership
-cast_owning : (r : Records) (k : ℕ) (g : GroupNo) (cast : CastKind) (payload : List ℕ) (i : ℕ) → nat_lt MAX_PAYLOAD (length payload) ≡ false → is_member (standing_of r.delay (local_in r k) g) ≡ true → cast_at r k g cast payload i ≡ (if awaits_own_in r (local_in r k) then (r, Some OwnAbcast) else if not (has_room_in r) then (r, Some HeldFull) else if not (may_raise (time_of r.delay (local_in r k)) g (local_in r k)) then (r, Some HeldFull) else (sent r k g cast payload i, None))
+cast_owning : (r : Records) (k : ℕ) (g : GroupNo) (cast : CastKind) (payload : List ℕ) (i : ℕ) → nat_lt MAX_PAYLOAD (length payload) ≡ false → is_member (standing_of r.delay (local_in r k) g) ≡ true → cast_at r k g cast payload i ≡ (if awaits_own_in r (local_in r k) then (r, Some OwnAbcast) else if not (may_receive records r) then (r, Some HeldFull) else if not (may_raise (time_of r.delay (local_in r k)) g (local_in r k)) then (r, Some HeldFull) else (sent r k g cast payload i, None))
 cast_owning r k g cast payload i short member =
-    let last : Attempt = if awaits_own_in r (local_in r k) then (r, Some OwnAbcast) else if not (has_room_in r) then (r, Some HeldFull) else if not (may_raise (time_of r.delay (local_in r k)) g (local_in r k)) then (r, Some HeldFull) else (sent r k g cast payload i, None) in
+    let last : Attempt = if awaits_own_in r (local_in r k) then (r, Some OwnAbcast) else if not (may_receive records r) then (r, Some HeldFull) else if not (may_raise (time_of r.delay (local_in r k)) g (local_in r k)) then (r, Some HeldFull) else (sent r k g cast payload i, None) in
     ap (λ b. if b then (r, Some TooLong) else if not (is_member (standing_of r.delay (local_in r k) g)) then (r, Some NotMember) else last) short
     ∙ ap (λ b. if not b then (r, Some NotMember) else last) member
 
 -- what is left of a cast past the tests that are not of room
-cast_past : (r : Records) (k : ℕ) (g : GroupNo) (cast : CastKind) (payload : List ℕ) (i : ℕ) → nat_lt MAX_PAYLOAD (length payload) ≡ false → is_member (standing_of r.delay (local_in r k) g) ≡ true → awaits_own_in r (local_in r k) ≡ false → cast_at r k g cast payload i ≡ (if not (has_room_in r) then (r, Some HeldFull) else if not (may_raise (time_of r.delay (local_in r k)) g (local_in r k)) then (r, Some HeldFull) else (sent r k g cast payload i, None))
+cast_past : (r : Records) (k : ℕ) (g : GroupNo) (cast : CastKind) (payload : List ℕ) (i : ℕ) → nat_lt MAX_PAYLOAD (length payload) ≡ false → is_member (standing_of r.delay (local_in r k) g) ≡ true → awaits_own_in r (local_in r k) ≡ false → cast_at r k g cast payload i ≡ (if not (may_receive records r) then (r, Some HeldFull) else if not (may_raise (time_of r.delay (local_in r k)) g (local_in r k)) then (r, Some HeldFull) else (sent r k g cast payload i, None))
 cast_past r k g cast payload i short member own =
-    let last : Attempt = if not (has_room_in r) then (r, Some HeldFull) else if not (may_raise (time_of r.delay (local_in r k)) g (local_in r k)) then (r, Some HeldFull) else (sent r k g cast payload i, None) in
+    let last : Attempt = if not (may_receive records r) then (r, Some HeldFull) else if not (may_raise (time_of r.delay (local_in r k)) g (local_in r k)) then (r, Some HeldFull) else (sent r k g cast payload i, None) in
     cast_owning r k g cast payload i short member
     ∙ ap (λ b. if b then (r, Some OwnAbcast) else last) own
 
 -- a cast that passes all tests is sent
-pub cast_made : (r : Records) (k : ℕ) (g : GroupNo) (cast : CastKind) (payload : List ℕ) (i : ℕ) → nat_lt MAX_PAYLOAD (length payload) ≡ false → is_member (standing_of r.delay (local_in r k) g) ≡ true → awaits_own_in r (local_in r k) ≡ false → has_room_in r ≡ true → may_raise (time_of r.delay (local_in r k)) g (local_in r k) ≡ true → cast_at r k g cast payload i ≡ (sent r k g cast payload i, None)
+pub cast_made : (r : Records) (k : ℕ) (g : GroupNo) (cast : CastKind) (payload : List ℕ) (i : ℕ) → nat_lt MAX_PAYLOAD (length payload) ≡ false → is_member (standing_of r.delay (local_in r k) g) ≡ true → awaits_own_in r (local_in r k) ≡ false → may_receive records r ≡ true → may_raise (time_of r.delay (local_in r k)) g (local_in r k) ≡ true → cast_at r k g cast payload i ≡ (sent r k g cast payload i, None)
 cast_made r k g cast payload i short member own room may =
     let raised : Attempt = if not (may_raise (time_of r.delay (local_in r k)) g (local_in r k)) then (r, Some HeldFull) else (sent r k g cast payload i, None) in
     cast_past r k g cast payload i short member own
@@ -63,19 +65,19 @@ cast_made r k g cast payload i short member own room may =
 -- a cast of a process that awaits an ABCAST of its own is refused
 pub cast_owned : (r : Records) (k : ℕ) (g : GroupNo) (cast : CastKind) (payload : List ℕ) (i : ℕ) → nat_lt MAX_PAYLOAD (length payload) ≡ false → is_member (standing_of r.delay (local_in r k) g) ≡ true → awaits_own_in r (local_in r k) ≡ true → cast_at r k g cast payload i ≡ (r, Some OwnAbcast)
 cast_owned r k g cast payload i short member own =
-    let last : Attempt = if not (has_room_in r) then (r, Some HeldFull) else if not (may_raise (time_of r.delay (local_in r k)) g (local_in r k)) then (r, Some HeldFull) else (sent r k g cast payload i, None) in
+    let last : Attempt = if not (may_receive records r) then (r, Some HeldFull) else if not (may_raise (time_of r.delay (local_in r k)) g (local_in r k)) then (r, Some HeldFull) else (sent r k g cast payload i, None) in
     cast_owning r k g cast payload i short member
     ∙ ap (λ b. if b then (r, Some OwnAbcast) else last) own
 
 -- and so is a cast beside too many messages
-pub cast_full : (r : Records) (k : ℕ) (g : GroupNo) (cast : CastKind) (payload : List ℕ) (i : ℕ) → nat_lt MAX_PAYLOAD (length payload) ≡ false → is_member (standing_of r.delay (local_in r k) g) ≡ true → awaits_own_in r (local_in r k) ≡ false → has_room_in r ≡ false → cast_at r k g cast payload i ≡ (r, Some HeldFull)
+pub cast_full : (r : Records) (k : ℕ) (g : GroupNo) (cast : CastKind) (payload : List ℕ) (i : ℕ) → nat_lt MAX_PAYLOAD (length payload) ≡ false → is_member (standing_of r.delay (local_in r k) g) ≡ true → awaits_own_in r (local_in r k) ≡ false → may_receive records r ≡ false → cast_at r k g cast payload i ≡ (r, Some HeldFull)
 cast_full r k g cast payload i short member own full =
     let raised : Attempt = if not (may_raise (time_of r.delay (local_in r k)) g (local_in r k)) then (r, Some HeldFull) else (sent r k g cast payload i, None) in
     cast_past r k g cast payload i short member own
     ∙ ap (λ b. if not b then (r, Some HeldFull) else raised) full
 
 -- and one of a process whose count cannot be raised
-pub cast_unraised : (r : Records) (k : ℕ) (g : GroupNo) (cast : CastKind) (payload : List ℕ) (i : ℕ) → nat_lt MAX_PAYLOAD (length payload) ≡ false → is_member (standing_of r.delay (local_in r k) g) ≡ true → awaits_own_in r (local_in r k) ≡ false → has_room_in r ≡ true → may_raise (time_of r.delay (local_in r k)) g (local_in r k) ≡ false → cast_at r k g cast payload i ≡ (r, Some HeldFull)
+pub cast_unraised : (r : Records) (k : ℕ) (g : GroupNo) (cast : CastKind) (payload : List ℕ) (i : ℕ) → nat_lt MAX_PAYLOAD (length payload) ≡ false → is_member (standing_of r.delay (local_in r k) g) ≡ true → awaits_own_in r (local_in r k) ≡ false → may_receive records r ≡ true → may_raise (time_of r.delay (local_in r k)) g (local_in r k) ≡ false → cast_at r k g cast payload i ≡ (r, Some HeldFull)
 cast_unraised r k g cast payload i short member own room may =
     let raised : Attempt = if not (may_raise (time_of r.delay (local_in r k)) g (local_in r k)) then (r, Some HeldFull) else (sent r k g cast payload i, None) in
     cast_past r k g cast payload i short member own
@@ -83,14 +85,14 @@ cast_unraised r k g cast payload i short member own room may =
     ∙ ap (λ b. if not b then (r, Some HeldFull) else (sent r k g cast payload i, None)) may
 
 -- what the holder's set-order message does that is sent
-pub places_made : (r : Records) (i : ℕ) (p : Proc) (q : Sequence) → (is_member (standing_of r.delay p (record_at r.groups i).name) && has_order_room_in r) ≡ true → next_places (log_of r.orders (record_at r.groups i).name) ≡ Some q → may_raise (time_of r.delay p) (record_at r.groups i).name p ≡ true → set_order_by_in r i p ≡ let_go_in (send_places_in r i p q)
+pub places_made : (r : Records) (i : ℕ) (p : Proc) (q : Sequence) → (is_member (standing_of r.delay p (record_at r.groups i).name) && may_order records r) ≡ true → next_places (log_of r.orders (record_at r.groups i).name) ≡ Some q → may_raise (time_of r.delay p) (record_at r.groups i).name p ≡ true → set_order_by_in r i p ≡ let_go_in (send_places_in r i p q)
 places_made r i p q may next raised =
     let g : GroupNo = (record_at r.groups i).name in
     ap (λ b. if b then option_map_or (λ places. if may_raise (time_of r.delay p) g p then let_go_in (send_places_in r i p places) else r) (next_places (log_of r.orders g)) r else r) may
     ∙ ap (λ o. option_map_or (λ places. if may_raise (time_of r.delay p) g p then let_go_in (send_places_in r i p places) else r) o r) next
     ∙ ap (λ b. if b then let_go_in (send_places_in r i p q) else r) raised
 
-pub places_none : (r : Records) (i : ℕ) (p : Proc) → (is_member (standing_of r.delay p (record_at r.groups i).name) && has_order_room_in r) ≡ false → set_order_by_in r i p ≡ r
+pub places_none : (r : Records) (i : ℕ) (p : Proc) → (is_member (standing_of r.delay p (record_at r.groups i).name) && may_order records r) ≡ false → set_order_by_in r i p ≡ r
 places_none r i p may =
     let g : GroupNo = (record_at r.groups i).name in
     ap (λ b. if b then option_map_or (λ places. if may_raise (time_of r.delay p) g p then let_go_in (send_places_in r i p places) else r) (next_places (log_of r.orders g)) r else r) may

@@ -15,13 +15,11 @@ use Rattle.cast_types.specs.declared.refusal.Refusal.{Refusal}
 use Rattle.cast_types.specs.declared.refusal.Refusal.TheVariants.{NoGroup, NotMember, AlreadyMember, OwnAbcast, HeldFull, TooLong}
 use Rattle.cast_types.specs.declared.limits.TheConstants.{MAX_NUMBER, MAX_PAYLOAD}
 use Rattle.cast_types.specs.Names.{is_atomic, is_order, proc_eq}
-use Rattle.cast_types.specs.Places.{update}
 use Rattle.cast_types.specs.Stamps.{ClockList}
 use Rattle.cast_clock.specs.Times.{view_of, count_in, bumped}
 use Rattle.cast_clock.proofs.Raised.{bump_raises, bump_leaves_views}
 use Rattle.cast_message.specs.declared.message.Body.{Body}
 use Rattle.cast_message.specs.declared.message.Message.{Message}
-use Rattle.cast_message.specs.declared.site.Change.{Change}
 use Rattle.cast_message.specs.declared.site.Change.TheVariants as change
 use Rattle.cast_message.specs.declared.client.CastKind.{CastKind}
 use Rattle.cast_message.specs.declared.client.CastKind.TheVariants as kind
@@ -40,25 +38,28 @@ use Rattle.cast_delay.specs.declared.row.Fact.TheVariants as fact
 use Rattle.cast_delay.specs.Fits.{IsSound}
 use Rattle.cast_delay.proofs.Queues.{delivered_rules}
 use Rattle.cast_order.specs.Log.{Log, log_of}
+use Rattle.cast_history.specs.Rules.Requests.{request}
+use Rattle.cast_history.specs.Rules.Room.{may_receive}
 use Rattle.cast_domain.specs.declared.record.GroupRecord.{GroupRecord}
-use Rattle.cast_model.specs.Group.{has_view, with_request}
-use Rattle.cast_model.specs.Home.{is_empty}
+use Rattle.cast_model.specs.Group.{has_view}
 use Rattle.cast_message.specs.declared.client.Command.{Command}
 use Rattle.cast_message.specs.declared.client.Command.TheVariants as command
-use Rattle.cast_history.specs.State.{State, local, is_group, set_process, set_group, set_standing, others_of, may_receive, gate_of, was_given}
+use Rattle.cast_history.specs.State.{State, local, is_group, set_process, set_standing, others_of, gate_of, was_given, pushing, receiving}
+use Rattle.cast_history.specs.Rules.Room.{may_receive}
 use Rattle.cast_history.specs.Order.{awaits_own}
-use Rattle.cast_history.specs.Rules.Keys.{ask_key, message_key}
+use Rattle.cast_history.specs.Rules.Keys.{message_key}
 use Rattle.cast_history.specs.Rules.Owing.{send_for, owe}
 use Rattle.cast_history.specs.History.{history}
-use Rattle.cast_history.specs.Effects.{asking, requesting, pushing, receiving, sending_to, next_message, may_raise, sending}
+use Rattle.cast_history.specs.Effects.{sending_to, next_message, may_raise, sending}
 use Rattle.cast_history.specs.Step.{first_refusal, join_tests, cast_tests, joining, attempting, body_of, requested, commanded}
 use Rattle.cast_domain.specs.Records.{Records}
-use Rattle.cast_domain.specs.Calls.{has_room_in, place_in, record_at, standing_of, time_of, push_in, tell_in, ask_home_in, request_in, Attempt, records, join_at, join_in, learn_in, receive_in, send_data_in, send_message_in, next_message_in, is_own_in, awaits_own_in, cast_at, cast_in, reply_in, requested_in, command_in}
+use Rattle.cast_domain.specs.Calls.{place_in, record_at, standing_of, time_of, push_in, tell_in, Attempt, records, join_at, join_in, learn_in, receive_in, send_data_in, send_message_in, next_message_in, is_own_in, awaits_own_in, cast_at, cast_in, reply_in, requested_in, command_in}
 use Rattle.cast_history.specs.Lawful.{IsSpent, AreKept, IsLawful}
 use Rattle.cast_domain.specs.Fits.{process_named, LogFits, Fits}
 use Rattle.cast_history.proofs.Lawful.{lawful_standing}
+use Rattle.cast_domain.proofs.Framing.{fits_request}
 use Rattle.cast_domain.proofs.Following.{fits_send_for, fits_owe}
-use Rattle.cast_domain.proofs.Standing.{and_none, fits_if, record_there, place_some, place_none, standing_there, time_there, fits_push, fits_here, fits_standing, fits_time, process_here, fits_receive_with}
+use Rattle.cast_domain.proofs.Standing.{and_none, fits_if, record_there, place_some, place_none, standing_there, time_there, fits_push, fits_standing, fits_time, process_here, fits_receive_with}
 use Rattle.cast_domain.proofs.Logs.{logs_receive}
 use Rattle.cast_domain.proofs.Releases.{current_same}
 use Rattle.cast_types.proofs.Bools.{same_bools}
@@ -72,28 +73,6 @@ as_written : (P : Records → Type 0) (r : Records) (s : State) → Fits r s →
 as_written P r s f h =
     let same : r ≡ written r s = (λ i. record r { site = f.site i; config = f.config i; used = f.used i }) in
     subst P (sym same) (h (subst (λ x. Fits x s) same f))
-
--- Requests of a group
-
--- the home is owed the first request
-pub fits_ask_home : (r : Records) (s : State) → Fits r s → (i : ℕ) (g : GroupNo) → slice_get s.config.groups i ≡ Some g → Fits (ask_home_in r i) (asking s g)
-fits_ask_home r s f i g at =
-    let there = record_there r s f i g at in
-    fits_if (is_empty (record_at r.groups i).here.requests) (is_empty (s.group g).requests) r (owe records r (ask_key (record_at r.groups i).name r.config.home)) s (owe history s (ask_key g s.config.home))
-    (ap (λ (x : GroupRecord). is_empty x.here.requests) there)
-    (λ _. f)
-    (λ _. subst (λ key. Fits (owe records r key) (owe history s (ask_key g s.config.home))) (λ j. ask_key (sym there j).name (sym f.config j).home) (fits_owe r s f (ask_key g s.config.home)))
-
--- a request is queued
-fits_request : (r : Records) (s : State) → Fits r s → IsLawful s → (i : ℕ) (g : GroupNo) → slice_get s.config.groups i ≡ Some g → (what : Change) (p : Proc) → Fits (request_in r i what p) (requesting s g what p)
-fits_request r s f l i g at what p =
-    let next : Records = record r { groups = update r.groups i (λ x. record x { here = with_request x.here what p }) } in
-    let t : State = set_group s g (with_request (s.group g) what p) in
-    let now : Fits next t = fits_here r s f l i g at (λ x. with_request x what p) refl refl in
-    fits_if (is_empty (record_at r.groups i).here.requests) (is_empty (s.group g).requests) (ask_home_in next i) next (asking t g) t
-    (ap (λ (x : GroupRecord). is_empty x.here.requests) (record_there r s f i g at))
-    (λ _. fits_ask_home next t now i g at)
-    (λ _. now)
 
 -- Calls that may be refused
 
@@ -146,9 +125,9 @@ fits_join r s f l k given g =
         let heard : ClockList = (s.process k).time in
         let v : Standing = Joining ((s.group g).asked + 1) (view_of heard g) in
         let told : Joining ((record_at x.groups i).here.asked + 1) (view_of (time_of x.delay p) g) ≡ v = (λ j. Joining (asked j + 1) (view_of (time_there x s w k j) g)) in
-        let next : Records = request_in (tell_in x p (fact.Standing g (Joining ((record_at x.groups i).here.asked + 1) (view_of (time_of x.delay p) g)))) i change.Join p in
+        let next : Records = request records (tell_in x p (fact.Standing g (Joining ((record_at x.groups i).here.asked + 1) (view_of (time_of x.delay p) g)))) i change.Join p in
         let joins : Fits next (joining s k g) =
-        subst (λ y. Fits (request_in (tell_in x p (fact.Standing g y)) i change.Join p) (joining s k g)) (sym told)
+        subst (λ y. Fits (request records (tell_in x p (fact.Standing g y)) i change.Join p) (joining s k g)) (sym told)
         (fits_request (tell_in x p (fact.Standing g v)) (set_standing s k g v) (fits_standing x s w k given g v (λ _. listed)) (lawful_standing s k g ((s.group g).asked + 1) (view_of heard g) l listed) i g at change.Join p) in
         tested x s (not (is_outside (standing_of x.delay p g))) (not (is_outside ((s.process k).standing g))) AlreadyMember
         (if◌then◌else◌ {A = Attempt} ((record_at x.groups i).here.asked == MAX_NUMBER) (x, Some HeldFull) (next, None)) _ (joining s k g)
@@ -160,7 +139,7 @@ fits_join r s f l k given g =
 -- Casts
 
 -- there is room for one more message, or there is none, on both sides
-pub room_there : (r : Records) (s : State) → Fits r s → has_room_in r ≡ may_receive s
+pub room_there : (r : Records) (s : State) → Fits r s → may_receive records r ≡ may_receive history s
 room_there r s f = (λ j. nat_lt ((sym (length-map r.part.kept (λ (x : Received). x.message)) ∙ ap length f.kept) j) (f.config j).quotas.held)
 
 -- Own ABCASTs
@@ -287,14 +266,14 @@ fits_cast r s f l k given g cast payload =
     as_written (λ x. Attempts (cast_in x k g cast payload) s (cast_tests s k g payload) (sending s g k (body_of cast payload))) r s f
     (λ w. at_place (written r s) s w g (cast_at (written r s) k g cast payload) _ (sending s g k (body_of cast payload)) (placed w))
   where
-    placed : Fits (written r s) s → (i : ℕ) → slice_get s.config.groups i ≡ Some g → is_group s g ≡ true → Attempts (cast_at (written r s) k g cast payload i) s ((nat_lt MAX_PAYLOAD (length payload), TooLong) ∷ (not (is_member ((s.process k).standing g)), NotMember) ∷ (awaits_own s k, OwnAbcast) ∷ (not (may_receive s), HeldFull) ∷ (not (may_raise (s.process k).time g (local s k)), HeldFull) ∷ []) (sending s g k (body_of cast payload))
+    placed : Fits (written r s) s → (i : ℕ) → slice_get s.config.groups i ≡ Some g → is_group s g ≡ true → Attempts (cast_at (written r s) k g cast payload i) s ((nat_lt MAX_PAYLOAD (length payload), TooLong) ∷ (not (is_member ((s.process k).standing g)), NotMember) ∷ (awaits_own s k, OwnAbcast) ∷ (not (may_receive history s), HeldFull) ∷ (not (may_raise (s.process k).time g (local s k)), HeldFull) ∷ []) (sending s g k (body_of cast payload))
     placed w i at listed =
         let x : Records = written r s in
         let p : Proc = local s k in
         let t : State = sending s g k (body_of cast payload) in
         let next : Records = send_message_in (tell_in x p (fact.Time (bumped (time_of x.delay p) g p))) (next_message_in x p g i (body_of cast payload)) in
         let raised : Attempt = if◌then◌else◌ {A = Attempt} (not (may_raise (time_of x.delay p) g p)) (x, Some HeldFull) (next, None) in
-        let last : Attempt = if◌then◌else◌ {A = Attempt} (not (has_room_in x)) (x, Some HeldFull) raised in
+        let last : Attempt = if◌then◌else◌ {A = Attempt} (not (may_receive records x)) (x, Some HeldFull) raised in
         let owned : Attempt = if◌then◌else◌ {A = Attempt} (awaits_own_in x p) (x, Some OwnAbcast) last in
         tested x s (nat_lt MAX_PAYLOAD (length payload)) (nat_lt MAX_PAYLOAD (length payload)) TooLong
         (if◌then◌else◌ {A = Attempt} (not (is_member (standing_of x.delay p g))) (x, Some NotMember) owned) _ t refl w
@@ -302,7 +281,7 @@ fits_cast r s f l k given g cast payload =
         (ap (λ y. not (is_member y)) (standing_there x s w k g)) w
         (λ member. tested x s (awaits_own_in x p) (awaits_own s k) OwnAbcast last _ t
         (awaits_own_there x s w l k given) w
-        (λ _. tested x s (not (has_room_in x)) (not (may_receive s)) HeldFull raised _ t
+        (λ _. tested x s (not (may_receive records x)) (not (may_receive history s)) HeldFull raised _ t
         (ap not (room_there x s w)) w
         (λ _. tested x s (not (may_raise (time_of x.delay p) g p)) (not (may_raise (s.process k).time g p)) HeldFull (next, None) [] t
         (ap (λ y. not (may_raise y g p)) (time_there x s w k)) w

@@ -14,7 +14,6 @@ use Rattle.cast_types.specs.Names.{site_eq, group_eq, proc_eq, proc_cmp}
 use Rattle.cast_types.specs.Sets.{is_among, set_at}
 use Rattle.cast_types.proofs.Orders.{proc_total, same_site, same_proc, site_itself, proc_itself}
 use Rattle.cast_clock.specs.Times.{entering}
-use Rattle.cast_message.specs.declared.site.SiteFrame.TheVariants as frame
 use Rattle.cast_message.specs.declared.client.Push.{Push}
 use Rattle.cast_message.specs.declared.client.Push.TheVariants as push
 use Rattle.cast_message.specs.Membership.{Membership, is_members}
@@ -28,13 +27,13 @@ use Rattle.cast_domain.specs.declared.record.GroupRecord.{GroupRecord}
 use Rattle.cast_model.specs.declared.session.Session.{Session}
 use Rattle.cast_model.specs.Session.{is_open, pushed_to, told}
 use Rattle.cast_model.specs.Group.{with_view, is_taken_in}
-use Rattle.cast_history.specs.State.{State, local, serials, is_group, set_session, set_process, set_group, set_standing, was_given}
-use Rattle.cast_history.specs.Effects.{pushing, enters, in_view, push_view, completing}
+use Rattle.cast_history.specs.State.{State, local, serials, is_group, set_session, set_process, set_group, set_standing, was_given, pushing}
+use Rattle.cast_history.specs.Entering.{enters, in_view, push_view, completing}
 use Rattle.cast_domain.specs.Records.{Records}
-use Rattle.cast_domain.specs.Calls.{record_at, standing_of, send_in, push_in, tell_in, enter_in, take_in, view_in, complete_in}
+use Rattle.cast_domain.specs.Calls.{record_at, standing_of, push_in, tell_in, enter_in, take_in, view_in, complete_in}
 use Rattle.cast_history.specs.Lawful.{IsLawful}
 use Rattle.cast_domain.specs.Fits.{Fits}
-use Rattle.cast_domain.proofs.Standing.{and_none, fits_told, fits_if, record_there, standing_there, time_there, fits_send, fits_push, fits_view, still_in}
+use Rattle.cast_domain.proofs.Standing.{and_none, fits_told, fits_if, record_there, standing_there, time_there, fits_push, fits_view, still_in}
 
 -- Small truths of tests
 
@@ -300,7 +299,7 @@ module _ (g : GroupNo) (n : ℕ) (members : Membership) (request : ℕ) (t : Sta
       (λ k later. or_from (e k) (taken k && proc_eq (local t k) p) (fresh k (or_right (proc_eq (local t k) p) (is_among proc_eq (local t k) ps) later)) (ap (λ b. taken k && b) (apart k later) ∙ and_none (taken k))))
 
 -- a view is complete
-pub fits_complete : (r : Records) (s : State) → Fits r s → IsLawful s → (i : ℕ) (g : GroupNo) → slice_get s.config.groups i ≡ Some g → is_group s g ≡ true → (n : ℕ) (members : Membership) (request : ℕ) → is_members members ≡ true → (s.group g).number < n → Fits (send_in (complete_in r i n members request) s.config.home (frame.Installed g n)) (completing s g n members request)
+pub fits_complete : (r : Records) (s : State) → Fits r s → IsLawful s → (i : ℕ) (g : GroupNo) → slice_get s.config.groups i ≡ Some g → is_group s g ≡ true → (n : ℕ) (members : Membership) (request : ℕ) → is_members members ≡ true → (s.group g).number < n → Fits (complete_in r i n members request) (completing s g n members request)
 fits_complete r s f l i g at listed n members request typed newer =
     let now : State = set_group s g (with_view s.here n members (s.group g)) in
     let first : Records = view_in r i n members in
@@ -309,5 +308,4 @@ fits_complete r s f l i g at listed n members request typed newer =
     let all = fits_take_all g n members request now members.list first (λ k. false) f0 listed rising (λ k _. refl) in
     let one_by_one = subst (λ x. Fits (fold (take_in g n members request) first members.list) x) (sym (at_once g n members request now (enters s g members request) f0.all_open)) all in
     let name : (record_at r.groups i).name ≡ g = ap (λ (x : GroupRecord). x.name) (record_there r s f i g at) in
-    subst (λ h. Fits (send_in (fold (take_in h n members request) first members.list) s.config.home (frame.Installed g n)) (completing s g n members request)) (sym name)
-    (fits_send (fold (take_in g n members request) first members.list) _ one_by_one s.config.home (frame.Installed g n))
+    subst (λ h. Fits (fold (take_in h n members request) first members.list) (completing s g n members request)) (sym name) one_by_one

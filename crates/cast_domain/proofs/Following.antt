@@ -83,6 +83,7 @@ fits_note_stable r s f u =
 pub records_follow : (groups : List GroupNo) → Follows records history (FitsIn groups) (IsAt groups)
 records_follow groups = record {
   here = λ r s f. f.0.site;
+  config = λ r s f. f.0.config;
   place = place_both groups;
   group = λ r s f i g at. ap (λ (x : GroupRecord). x.here) (record_there r s f.0 i g (ap (λ l. slice_get l i) f.1 ∙ at));
   others = λ r s f. f.0.acks.views;

@@ -9,12 +9,12 @@ pub mod Standing
 pub mod Ordering
 pub mod Owings
 pub mod Following
+pub mod Entering
+pub mod Framing
 pub mod Releases
 pub mod Commands
 pub mod Turns
 pub mod SetOrders
 pub mod Standstill
-pub mod Entering
-pub mod Framing
 pub mod Events
 pub mod Passes

@@ -34,9 +34,8 @@ use Rattle.cast_order.proofs.Logs.{log_of_change, log_of_forget}
 use Rattle.cast_model.specs.declared.group.Group.{Group}
 use Rattle.cast_model.specs.Group.{no_group, holder_at, members_of, other_sites, with_view}
 use Rattle.cast_model.specs.Home.{is_empty}
-use Rattle.cast_history.specs.State.{State, local, others_of, noting_ack, set_group}
+use Rattle.cast_history.specs.State.{State, local, others_of, noting_ack, set_group, receiving}
 use Rattle.cast_history.specs.Order.{told_by, ids_told, is_of_view, facts_in}
-use Rattle.cast_history.specs.Effects.{receiving}
 use Rattle.cast_domain.specs.Calls.{learn_in}
 use Rattle.cast_history.specs.Lawful.{IsTraced}
 use Rattle.cast_domain.specs.Fits.{process_named, told_here, lists_here, settled_of, settled_here, LogFits}

@@ -26,20 +26,23 @@ use Rattle.cast_delay.proofs.Queues.{passed_next}
 use Rattle.cast_order.specs.Order.{listed_ids, still_to_list, ids_to_list, place_after}
 use Rattle.cast_order.specs.Log.{Log, log_of, next_in, next_places, unsettled_in, has_room_in}
 use Rattle.cast_order.proofs.Meanings.{next_rules as order_next_rules, unsettled_rules, assign_rules}
+use Rattle.cast_history.specs.Rules.Room.{may_order}
+use Rattle.cast_history.specs.History.{history}
 use Rattle.cast_domain.specs.declared.record.GroupRecord.{GroupRecord}
 use Rattle.cast_model.specs.Group.{holder_of, is_process}
 use Rattle.cast_model.specs.Home.{is_empty}
-use Rattle.cast_history.specs.State.{State, local, is_group, others_of, may_order}
+use Rattle.cast_history.specs.State.{State, local, is_group, others_of}
+use Rattle.cast_history.specs.Rules.Room.{may_order}
 use Rattle.cast_history.specs.Order.{facts_in, order_of, holds, lists_of, abcasts_delivered, unlisted, unsettled, has_place, has_room_for_order, turn_of}
 use Rattle.cast_domain.specs.Records.{Records}
-use Rattle.cast_domain.specs.Calls.{place_in, record_at, has_order_room_in, holds_in, settled_in, turn_at, turns_in}
+use Rattle.cast_domain.specs.Calls.{place_in, record_at, records, holds_in, settled_in, turn_at, turns_in}
 use Rattle.cast_domain.specs.Fits.{record_for, told_here, lists_here, settled_of, settled_here, process_named, Fits, LogFits}
 use Rattle.cast_domain.proofs.Logs.{has_passed}
 use Rattle.cast_domain.proofs.LogSteps.{holder_is}
 use Rattle.cast_domain.proofs.Standing.{record_there, place_some, place_none, process_here}
 
 -- room for set-order messages
-pub order_room_there : (r : Records) (s : State) → Fits r s → has_order_room_in r ≡ may_order s
+pub order_room_there : (r : Records) (s : State) → Fits r s → may_order records r ≡ may_order history s
 order_room_there r s f = (λ j. nat_lt ((sym (length-map r.part.kept (λ (x : Received). x.message)) ∙ ap length f.kept) j) (2 * (f.config j).quotas.held))
 
 -- who holds the order of a configured group
@@ -106,12 +109,12 @@ pub waiting_there : (s : State) (g : GroupNo) (k : ℕ) (l : Log) → LogFits s 
 waiting_there s g k l f here = f.fits.waiting ∙ (λ i. still_to_list (told_of_holder s g k here i) (listed_ids (lists_of_holder s g k here i)))
 
 -- room for one more ABCAST at the holder
-room_there : (r : Records) (s : State) → Fits r s → (g : GroupNo) (k : ℕ) → holds s g k ≡ true → (has_order_room_in r && has_room_in (settled_in r g (s.group g).number (local s k)) (log_of r.orders g)) ≡ has_room_for_order s g k
+room_there : (r : Records) (s : State) → Fits r s → (g : GroupNo) (k : ℕ) → holds s g k ≡ true → (may_order records r && has_room_in (settled_in r g (s.group g).number (local s k)) (log_of r.orders g)) ≡ has_room_for_order s g k
 room_there r s f g k here =
     let l : Log = log_of r.orders g in
     let fits = f.orders g in
     let total : length l.known + length l.waiting ≡ length (order_of s g ++ unlisted s g k) = (λ i. length (fits.fits.known i) + length (waiting_there s g k l fits here i)) ∙ sym (length-append (order_of s g) (unlisted s g k)) in
-    ap (λ n. has_order_room_in r && has_room_in n l) (settled_there r s f g (local s k))
+    ap (λ n. may_order records r && has_room_in n l) (settled_there r s f g (local s k))
     ∙ (λ i. order_room_there r s f i && (nat_lt (unsettled_there s g k l fits here i) MAX_UNSETTLED && nat_lt (total i) MAX_POSITION))
 
 -- the next id that a process has not delivered
@@ -129,11 +132,11 @@ pub turn_there : (r : Records) (s : State) → Fits r s → (g : GroupNo) (k : �
 turn_there r s f g k =
     elim (cases_Bool (holds s g k)) [
       | inl here ↦
-          ap (λ b. if b then Holding (has_order_room_in r && has_room_in (settled_in r g (s.group g).number (local s k)) (log_of r.orders g)) else following) here
+          ap (λ b. if b then Holding (may_order records r && has_room_in (settled_in r g (s.group g).number (local s k)) (log_of r.orders g)) else following) here
           ∙ ap Holding (room_there r s f g k here)
           ∙ sym (ap (λ b. if b then Holding (has_room_for_order s g k) else Following (find (λ e. not (has_delivered (s.process k) (named g (s.group g).number e))) (order_of s g))) here)
       | inr away ↦
-          ap (λ b. if b then Holding (has_order_room_in r && has_room_in (settled_in r g (s.group g).number (local s k)) (log_of r.orders g)) else following) away
+          ap (λ b. if b then Holding (may_order records r && has_room_in (settled_in r g (s.group g).number (local s k)) (log_of r.orders g)) else following) away
           ∙ ap Following (next_there r s f g k)
           ∙ sym (ap (λ b. if b then Holding (has_room_for_order s g k) else Following (find (λ e. not (has_delivered (s.process k) (named g (s.group g).number e))) (order_of s g))) away)
     ]

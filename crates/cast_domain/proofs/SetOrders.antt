@@ -25,15 +25,18 @@ use Rattle.cast_delay.specs.Rows.{standing_in}
 use Rattle.cast_delay.specs.Queue.{new_row, row_of}
 use Rattle.cast_order.specs.Order.{ids_to_list, place_after}
 use Rattle.cast_order.specs.Log.{Log, log_of, change_log, assigned, next_places}
+use Rattle.cast_history.specs.Rules.Room.{may_order}
+use Rattle.cast_history.specs.History.{history}
 use Rattle.cast_domain.specs.declared.record.GroupRecord.{GroupRecord}
 use Rattle.cast_model.specs.Group.{holder_of, is_process, holder_at}
 use Rattle.cast_model.specs.Home.{is_empty}
-use Rattle.cast_history.specs.State.{State, local, set_process, may_order, let_go, was_given}
+use Rattle.cast_history.specs.State.{State, local, set_process, let_go, was_given}
+use Rattle.cast_history.specs.Rules.Room.{may_order}
 use Rattle.cast_history.specs.Order.{order_of, holds, unlisted, has_place, is_of_view}
 use Rattle.cast_history.specs.Effects.{may_raise, next_message, sending}
 use Rattle.cast_history.specs.Rest.{may_set_order, set_order_by, set_order, set_orders}
 use Rattle.cast_domain.specs.Records.{Records}
-use Rattle.cast_domain.specs.Calls.{standing_of, time_of, has_order_room_in, log_in, learn_in, settled_in, tell_in, send_message_in, let_go_in, set_order_by_in, set_order_in, set_orders_in}
+use Rattle.cast_domain.specs.Calls.{standing_of, time_of, records, log_in, learn_in, settled_in, tell_in, send_message_in, let_go_in, set_order_by_in, set_order_in, set_orders_in}
 use Rattle.cast_history.specs.Lawful.{IsLawful}
 use Rattle.cast_domain.specs.Fits.{record_for, Fits}
 use Rattle.cast_history.proofs.Alikes.{alike_sending}
@@ -146,7 +149,7 @@ choose true true true true true x q r s t f go = go refl refl refl refl refl
 -- over a record of the group that is at hand
 abbrev set_at_hand : Records → Proc → GroupRecord → Records
 set_at_hand r p x =
-    if is_member (standing_of r.delay p x.name) && has_order_room_in r
+    if is_member (standing_of r.delay p x.name) && may_order records r
     then option_map_or (λ places. if may_raise (time_of r.delay p) x.name p then let_go_in (sent_at r p x places) else r) (next_places (log_in r x.name)) r
     else r
 
@@ -163,7 +166,7 @@ fits_set_order_by r s f l i g at k here =
     member = is_member ((s.process k).standing g)
 
     room : Bool
-    room = may_order s
+    room = may_order history s
 
     some : Bool
     some = not (is_empty (unlisted s g k))

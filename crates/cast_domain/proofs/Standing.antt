@@ -45,8 +45,7 @@ use Rattle.cast_model.specs.declared.group.Group.{Group}
 use Rattle.cast_model.specs.declared.home.Home.{Home}
 use Rattle.cast_model.specs.Session.{no_session, first_session, is_open, pushed_to, told}
 use Rattle.cast_model.specs.Group.{no_group, members_of, other_sites, with_view}
-use Rattle.cast_history.specs.State.{State, opening, no_process, local, is_group, gate_of, others_of, set_session, set_process, set_group, set_home, set_standing, emitted, was_given}
-use Rattle.cast_history.specs.Effects.{pushing, receiving}
+use Rattle.cast_history.specs.State.{State, opening, no_process, local, is_group, gate_of, others_of, set_session, set_process, set_group, set_home, set_standing, emitted, was_given, pushing, receiving}
 use Rattle.cast_history.specs.Step.{opened}
 use Rattle.cast_history.specs.Run.{before_event}
 use Rattle.cast_domain.specs.Shared.{no_part}

@@ -17,9 +17,11 @@ use Rattle.cast_delay.specs.Ready.{has_delivered}
 use Rattle.cast_delay.specs.Fits.{RowFits, row_for}
 use Rattle.cast_order.specs.Order.{ids_to_list, place_after}
 use Rattle.cast_order.specs.Log.{log_of}
+use Rattle.cast_history.specs.History.{history}
 use Rattle.cast_domain.specs.declared.record.GroupRecord.{GroupRecord}
 use Rattle.cast_model.specs.Group.{holder_at}
-use Rattle.cast_history.specs.State.{State, local, serials, is_home, let_go}
+use Rattle.cast_history.specs.State.{State, local, serials, let_go}
+use Rattle.cast_history.specs.Rules.Requests.{is_home}
 use Rattle.cast_history.specs.Order.{order_of, unlisted, is_ready_for}
 use Rattle.cast_history.specs.Effects.{sending, next_message}
 use Rattle.cast_history.specs.Rest.{deliver_first, deliver_all, settle, may_set_order, set_order_by, set_order, set_orders, decide, lead_all, pass}
@@ -98,7 +100,7 @@ got_decides [] s = refl
 got_decides (g ∷ gs) s = got_decides gs (decide s g) ∙ (same_decide s g).got
 
 got_lead : (s : State) → (lead_all s).got ≡ s.got
-got_lead s = elim (is_home s) as (λ b. (if b then fold decide s s.config.groups else s).got ≡ s.got) [ true ↦ got_decides s.config.groups s | false ↦ refl ]
+got_lead s = elim (is_home history s) as (λ b. (if b then fold decide s s.config.groups else s).got ≡ s.got) [ true ↦ got_decides s.config.groups s | false ↦ refl ]
 
 got_pass : (s : State) → GoesOn s.got (pass s).got
 got_pass s =

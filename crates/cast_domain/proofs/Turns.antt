@@ -28,18 +28,21 @@ use Rattle.cast_delay.specs.Fits.{FirstReady, HasTurns, Fits as QueueFits, deliv
 use Rattle.cast_delay.proofs.Delivers.{only_member}
 use Rattle.cast_delay.proofs.Queues.{delivery_fits, next_rules, passed_delivered}
 use Rattle.cast_order.specs.Log.{Log, log_of, change_log, next_in, told, passed}
+use Rattle.cast_history.specs.Rules.Requests.{is_home}
+use Rattle.cast_history.specs.History.{history}
 use Rattle.cast_domain.specs.declared.record.GroupRecord.{GroupRecord}
 use Rattle.cast_model.specs.declared.home.Home.{Home}
 use Rattle.cast_model.specs.Session.{is_open, pushed_to}
 use Rattle.cast_model.specs.Group.{sites_of}
 use Rattle.cast_model.specs.Home.{may_decide, decided}
-use Rattle.cast_history.specs.State.{State, local, is_group, gate_of, is_home, is_free, set_session, set_home, was_given}
+use Rattle.cast_history.specs.State.{State, local, is_group, gate_of, is_free, set_session, set_home, was_given, pushing}
+use Rattle.cast_history.specs.Rules.Requests.{is_home}
 use Rattle.cast_history.specs.Order.{is_of_view, holds, turn_of, is_ready_for}
-use Rattle.cast_history.specs.Effects.{pushing, told_of, with_delivery, delivering}
+use Rattle.cast_history.specs.Effects.{told_of, with_delivery, delivering}
 use Rattle.cast_history.specs.Rest.{deliver_first, deliver_all, settle, send_install, install_frame, decide, lead_all}
 use Rattle.cast_history.specs.Endings.{left}
 use Rattle.cast_domain.specs.Records.{Records}
-use Rattle.cast_domain.specs.Calls.{push_in, let_go_in, is_home_in, holds_in, turns_in, note_delivery_in, push_delivery_in, deliver_message_in, deliver_in, deliver_first_in, deliver_all_in, settle_at, settle_in, send_install_in, decide_in, lead_in}
+use Rattle.cast_domain.specs.Calls.{push_in, let_go_in, records, holds_in, turns_in, note_delivery_in, push_delivery_in, deliver_message_in, deliver_in, deliver_first_in, deliver_all_in, settle_at, settle_in, send_install_in, decide_in, lead_in}
 use Rattle.cast_history.specs.Lawful.{IsSpent, AreKept, IsLawful}
 use Rattle.cast_domain.specs.Fits.{process_named, record_for, Fits}
 use Rattle.cast_history.proofs.Settles.{delivering_one, delivers, ready_causally, ready_new, delivered_first, delivered_none, turns_are_enough}
@@ -381,7 +384,7 @@ fits_decisions (g ∷ gs) a r s fits lawful there =
 -- the home decides for each group
 pub fits_lead : (r : Records) (s : State) → Fits r s → IsLawful s → Fits (lead_in r) (lead_all s)
 fits_lead r s fits lawful =
-    fits_if (is_home_in r) (is_home s) (fold decide_in r (range_with_len 0 (length r.groups))) r (fold decide s s.config.groups) s
+    fits_if (is_home records r) (is_home history s) (fold decide_in r (range_with_len 0 (length r.groups))) r (fold decide s s.config.groups) s
     (λ i. site_eq (fits.site i) (fits.config i).home)
     (λ _. subst (λ n. Fits (fold decide_in r (range_with_len 0 n)) (fold decide s s.config.groups))
     (sym (ap length fits.groups ∙ length-map s.config.groups (record_for s)))

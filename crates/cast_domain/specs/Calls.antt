@@ -1,6 +1,6 @@
 -- What the calls of a domain do to its records, exactly.
-use Rattle.std.specs.Prelude.{ℕ, ◌+◌, ◌-◌, ◌*◌, min, max, Bool, true, false, not, ◌&&◌, ◌==◌, nat_lt, nat_le, if◌then◌else◌, List, [], ◌∷◌, ◌++◌, length, map, filter, get_or, slice_get, Option, Some, None}
-use Rattle.std.specs.List.{fold, find, list_any, list_all, range_with_len}
+use Rattle.std.specs.Prelude.{ℕ, ◌+◌, ◌-◌, min, max, Bool, false, not, ◌&&◌, ◌==◌, nat_lt, if◌then◌else◌, List, [], ◌∷◌, ◌++◌, length, map, filter, get_or, slice_get, Option, Some, None}
+use Rattle.std.specs.List.{fold, find, list_any, range_with_len}
 use Rattle.std.specs.Option.{option_map, option_map_or}
 use Rattle.std.specs.FinMap.Entries.{put}
 use Rattle.cast_types.specs.declared.names.SiteNo.{SiteNo}
@@ -13,8 +13,7 @@ use Rattle.cast_types.specs.declared.names.Standing.TheVariants.{Outside, Joinin
 use Rattle.cast_types.specs.declared.refusal.Refusal.{Refusal}
 use Rattle.cast_types.specs.declared.refusal.Refusal.TheVariants.{NoGroup, NotMember, AlreadyMember, OwnAbcast, HeldFull, TooLong}
 use Rattle.cast_types.specs.declared.limits.TheConstants.{MAX_NUMBER, MAX_PAYLOAD, MAX_MOMENT}
-use Rattle.cast_types.specs.Names.{site_eq, group_eq, group_cmp, proc_eq, uid_eq, is_atomic, is_order, named, entry_of}
-use Rattle.cast_types.specs.Sets.{is_among}
+use Rattle.cast_types.specs.Names.{site_eq, group_eq, group_cmp, proc_eq, uid_eq, is_atomic, named, entry_of}
 use Rattle.cast_types.specs.Places.{update}
 use Rattle.cast_types.specs.Repeat.{iterate}
 use Rattle.cast_types.specs.Stamps.{ClockList}
@@ -25,7 +24,6 @@ use Rattle.cast_message.specs.declared.message.Message.{Message}
 use Rattle.cast_message.specs.declared.site.Change.{Change}
 use Rattle.cast_message.specs.declared.site.Change.TheVariants as change
 use Rattle.cast_message.specs.declared.site.SiteFrame.{SiteFrame}
-use Rattle.cast_message.specs.declared.site.SiteFrame.TheVariants as frame
 use Rattle.cast_message.specs.declared.client.CastKind.{CastKind}
 use Rattle.cast_message.specs.declared.client.Request.{Request}
 use Rattle.cast_message.specs.declared.client.Request.TheVariants.{Join, Leave, Cast}
@@ -52,29 +50,27 @@ use Rattle.cast_message.specs.declared.client.Command.{Command}
 use Rattle.cast_message.specs.declared.client.Command.TheVariants as command
 use Rattle.cast_model.specs.declared.event.Event.{Event}
 use Rattle.cast_model.specs.declared.event.Event.TheVariants as event
-use Rattle.cast_model.specs.declared.group.Verdict.TheVariants.{Again, Completes, Ignored}
 use Rattle.cast_model.specs.Session.{first_session, told as told_session}
-use Rattle.cast_model.specs.Group.{no_group, members_of, holder_of, is_process, holder_at, other_sites, is_current, sites_of, first_asking, with_request, with_answer, with_view, verdict_of, is_taken_in}
+use Rattle.cast_model.specs.Group.{no_group, members_of, holder_of, is_process, holder_at, other_sites, is_current, sites_of, with_request, with_answer, with_view, is_taken_in}
 use Rattle.cast_model.specs.declared.home.Home.{Home}
-use Rattle.cast_model.specs.Home.{first_home, is_empty, applied_of, after_request, after_installed, may_decide, decided}
+use Rattle.cast_model.specs.Home.{first_home, is_empty, after_request, after_installed, may_decide, decided}
 use Rattle.cast_domain.specs.Shared.{part_with, part_without, part_owing, part_renewing, part_paying, part_paying_upto}
 use Rattle.cast_history.specs.Rules.Interface.{Site}
-use Rattle.cast_history.specs.Rules.Stability.{on_ack, on_stable}
-use Rattle.cast_history.specs.Rules.Keys.{ask_key, message_key}
+use Rattle.cast_history.specs.Rules.Keys.{message_key}
+use Rattle.cast_history.specs.Rules.Room.{may_receive, may_order}
 use Rattle.cast_history.specs.Rules.Owing.{send_for, owe, tick}
+use Rattle.cast_history.specs.Rules.Requests.{is_home, request}
+use Rattle.cast_history.specs.Rules.Frames.{framed}
 use Rattle.cast_history.specs.Effects.{told_of, may_raise}
 use Rattle.cast_history.specs.Rest.{install_frame}
-use Rattle.cast_history.specs.State.{counts_itself, was_given}
-use Rattle.cast_history.specs.Step.{body_of, group_of}
+use Rattle.cast_history.specs.State.{was_given}
+use Rattle.cast_history.specs.Step.{body_of}
 use Rattle.cast_domain.specs.Records.{Records}
 
 -- Names
 
 abbrev pub local_in : Records → ℕ → Proc
 local_in r k = record { site = r.site; serial = k }
-
-abbrev pub is_home_in : Records → Bool
-is_home_in r = site_eq r.site r.config.home
 
 -- where a group stands
 abbrev pub place_among : GroupNo → List GroupRecord → Option ℕ
@@ -99,10 +95,6 @@ time_of q p = option_map_or (λ row. row.time) (row_of q.rows p) no_time
 
 -- Changes of one part
 
--- one more message may be received beside those that are kept
-abbrev pub has_room_in : Records → Bool
-has_room_in r = nat_lt (length r.part.kept) r.config.quotas.held
-
 abbrev pub send_in : Records → SiteNo → SiteFrame → Records
 send_in r to f = record r { frames = r.frames ++ (r.config.domain, to, f) ∷ [] }
 
@@ -111,14 +103,6 @@ push_in r k p = if was_given (length r.sessions) k then record r { sessions = up
 
 abbrev pub tell_in : Records → Proc → Fact → Records
 tell_in r p f = record r { delay = record r.delay { rows = change_row p (told_row f) r.delay.rows } }
-
--- room for a set-order message, and for one more ABCAST at a holder
-abbrev pub has_order_room_in : Records → Bool
-has_order_room_in r = nat_lt (length r.part.kept) (2 * r.config.quotas.held)
-
--- a message of this body may be received from another site
-abbrev pub may_take_in : Records → Body → Bool
-may_take_in r b = if is_order (kind_of b) then has_order_room_in r else has_room_in r
 
 -- Owed frames
 
@@ -152,14 +136,80 @@ note_ack_in r from u = record r { acks = acked_ledger r.acks from u }
 abbrev pub note_stable_in : Records → Uid → Records
 note_stable_in r u = record r { acks = learnt_ledger r.acks u }
 
+-- Messages
+
+-- the logs once a message of a group is received
+abbrev pub learn_in : List Log → GroupNo → Body → List Log
+learn_in orders g (body.Causal payload) = orders
+learn_in orders g (body.Atomic payload) = orders
+learn_in orders g (body.Order s) = change_log g (learnt s) orders
+
+abbrev pub receive_in : Records → Message → Records
+receive_in r m =
+    record r {
+      part = part_with r.part m;
+      delay = record r.delay { offered = r.delay.offered ++ record { key = record { 0 = r.part.next }; id = m.id; times = m.times; atomic = is_atomic (kind_of m.body) } ∷ [] };
+      acks = received_ledger r.acks m.id;
+      orders = learn_in r.orders m.id.group m.body;
+    }
+
+-- Requests, and what the home keeps
+
+abbrev pub note_request_in : Records → ℕ → Change → Proc → Records
+note_request_in r i what p = record r { groups = update r.groups i (λ x. record x { here = with_request x.here what p }) }
+
+abbrev pub note_answer_in : Records → ℕ → Records
+note_answer_in r i = record r { groups = update r.groups i (λ x. record x { here = with_answer x.here }) }
+
+abbrev pub note_applied_in : Records → ℕ → SiteNo → ℕ → Proc → Records
+note_applied_in r i from number p = record r { groups = update r.groups i (λ x. record x { home = after_request x.home from number p }) }
+
+abbrev pub note_installed_in : Records → ℕ → SiteNo → ℕ → Records
+note_installed_in r i from n = record r { groups = update r.groups i (λ x. record x { home = after_installed x.home from n }) }
+
+-- Views
+
+-- a process enters a view, and is told
+abbrev pub enter_in : GroupNo → ℕ → Membership → Records → Proc → Records
+enter_in g n members r p =
+    push_in
+    (tell_in
+    (tell_in r p (fact.Time (entering (time_of r.delay p) g n)))
+    p (fact.Standing g Member))
+    p.serial (push.View g n members)
+
+-- a process that a view names, where it is here and is taken in
+abbrev pub take_in : GroupNo → ℕ → Membership → ℕ → Records → Proc → Records
+take_in g n members request r p =
+    if site_eq p.site r.site && is_taken_in request (standing_of r.delay p g) then enter_in g n members r p else r
+
+abbrev pub view_in : Records → ℕ → ℕ → Membership → Records
+view_in r i n members =
+    record r {
+      groups = update r.groups i (λ x. record x { here = with_view r.site n members x.here });
+      delay = record r.delay { numbers = put group_cmp (record_at r.groups i).name n r.delay.numbers };
+      acks = told_ledger r.acks (record_at r.groups i).name (other_sites r.site (members_of (with_view r.site n members (record_at r.groups i).here)));
+      orders = but_log (record_at r.groups i).name r.orders;
+    }
+
+abbrev pub complete_in : Records → ℕ → ℕ → Membership → ℕ → Records
+complete_in r i n members request =
+    fold (take_in (record_at r.groups i).name n members request) (view_in r i n members) members.list
+
 -- The records as the rules see them: a group stands at a place
 
 abbrev pub records : Site Records ℕ
 records = record {
   here = λ r. r.site;
+  config = λ r. r.config;
   place = place_in;
+  name = λ r i. (record_at r.groups i).name;
   group = λ r i. (record_at r.groups i).here;
+  home = λ r i. (record_at r.groups i).home;
   others = λ r g. others_in r.acks g;
+  held = λ r. length r.part.kept;
+  is_received = λ r u. is_received_in r.acks u;
+  is_stable = λ r u. is_stable_in r.acks u;
   stable_upto = λ r u. upto_in r.acks u;
   message = message_in;
   is_owed = λ r key. is_owed r.part.owed key;
@@ -172,6 +222,12 @@ records = record {
   note_moment = note_moment_in;
   note_ack = note_ack_in;
   note_stable = note_stable_in;
+  receive = receive_in;
+  note_request = note_request_in;
+  note_answer = note_answer_in;
+  note_applied = note_applied_in;
+  note_installed = note_installed_in;
+  enter_view = complete_in;
 }
 
 -- Messages that are let go
@@ -206,17 +262,6 @@ open_in r =
 
 -- Requests
 
--- the first request of the group at a place, where there is one, is owed to the home
-abbrev pub ask_home_in : Records → ℕ → Records
-ask_home_in r i =
-    if is_empty (record_at r.groups i).here.requests then r
-    else owe records r (ask_key (record_at r.groups i).name r.config.home)
-
-abbrev pub request_in : Records → ℕ → Change → Proc → Records
-request_in r i what p =
-    let next : Records = record r { groups = update r.groups i (λ x. record x { here = with_request x.here what p }) } in
-    if is_empty (record_at r.groups i).here.requests then ask_home_in next i else next
-
 -- a call that may be refused leaves records and a refusal
 abbrev pub Attempt : Type 0
 Attempt = Records × Option Refusal
@@ -227,25 +272,10 @@ join_at r k g i =
     let asked : ℕ = (record_at r.groups i).here.asked in
     if not (is_outside (standing_of r.delay p g)) then (r, Some AlreadyMember)
     else if asked == MAX_NUMBER then (r, Some HeldFull)
-    else (request_in (tell_in r p (fact.Standing g (Joining (asked + 1) (view_of (time_of r.delay p) g)))) i change.Join p, None)
+    else (request records (tell_in r p (fact.Standing g (Joining (asked + 1) (view_of (time_of r.delay p) g)))) i change.Join p, None)
 
 abbrev pub join_in : Records → ℕ → GroupNo → Attempt
 join_in r k g = option_map_or (join_at r k g) (place_in r g) (r, Some NoGroup)
-
--- the logs once a message of a group is received
-abbrev pub learn_in : List Log → GroupNo → Body → List Log
-learn_in orders g (body.Causal payload) = orders
-learn_in orders g (body.Atomic payload) = orders
-learn_in orders g (body.Order s) = change_log g (learnt s) orders
-
-abbrev pub receive_in : Records → Message → Records
-receive_in r m =
-    record r {
-      part = part_with r.part m;
-      delay = record r.delay { offered = r.delay.offered ++ record { key = record { 0 = r.part.next }; id = m.id; times = m.times; atomic = is_atomic (kind_of m.body) } ∷ [] };
-      acks = received_ledger r.acks m.id;
-      orders = learn_in r.orders m.id.group m.body;
-    }
 
 -- an own message is sent to a site, and owed to it until it has acknowledged it, as it may have done before
 abbrev pub send_data_in : Uid → Records → SiteNo → Records
@@ -279,7 +309,7 @@ cast_at r k g cast payload i =
     if nat_lt MAX_PAYLOAD (length payload) then (r, Some TooLong)
     else if not (is_member (standing_of r.delay p g)) then (r, Some NotMember)
     else if awaits_own_in r p then (r, Some OwnAbcast)
-    else if not (has_room_in r) then (r, Some HeldFull)
+    else if not (may_receive records r) then (r, Some HeldFull)
     else if not (may_raise (time_of r.delay p) g p) then (r, Some HeldFull)
     else (send_message_in (tell_in r p (fact.Time (bumped (time_of r.delay p) g p))) (next_message_in r p g i (body_of cast payload)), None)
 
@@ -298,124 +328,12 @@ abbrev pub command_in : Records → ℕ → Command → Records
 command_in r k (command.Request q) = if was_given r.used k then requested_in r k q else r
 command_in r k command.Bad = r
 
--- Frames
-
-abbrev pub knows_groups_in : Records → Message → Bool
-knows_groups_in r m = list_all (λ c. is_among group_eq c.0 r.config.groups) m.times
-
-abbrev pub is_well_formed_in : Records → ℕ → Message → Bool
-is_well_formed_in r i m =
-    knows_groups_in r m && (is_among proc_eq m.id.proc (members_of (record_at r.groups i).here) && counts_itself m)
-
-abbrev pub is_used_in : Records → ℕ → SiteNo → Message → Bool
-is_used_in r i from m =
-    site_eq m.id.proc.site from && (not (site_eq from r.site) && ((m.id.view == (record_at r.groups i).here.number)
-    && is_well_formed_in r i m))
-
--- the acknowledgement of a message is owed to its site, until that has told that the message is stable
-abbrev pub acknowledge_in : Records → SiteNo → Uid → Records
-acknowledge_in r to u = if is_stable_in r.acks u then send_in r to (frame.Ack u) else owe records r (message_key kinds.Ack u to)
-
-abbrev pub use_data_in : Records → SiteNo → Message → Records
-use_data_in r from m =
-    if is_received_in r.acks m.id then send_in r from (frame.Ack m.id)
-    else if may_take_in r m.body then acknowledge_in (receive_in r m) from m.id else r
-
-abbrev pub data_in : Records → ℕ → SiteNo → Message → Records
-data_in r i from m = if is_used_in r i from m then use_data_in r from m else r
-
-abbrev pub asked_frame_at : Records → ℕ → ℕ → SiteFrame
-asked_frame_at r i number = frame.Asked (record_at r.groups i).name number false
-
-abbrev pub asked_of_home_in : Records → ℕ → SiteNo → ℕ → Change → Proc → Records
-asked_of_home_in r i from number change.Join p =
-    let applied : ℕ = applied_of (record_at r.groups i).home from in
-    if not (is_home_in r) then r
-    else if number == applied + 1
-    then send_in (record r { groups = update r.groups i (λ x. record x { home = after_request x.home from number p }) }) from (asked_frame_at r i number)
-    else if nat_le number applied then send_in r from (asked_frame_at r i number) else r
-asked_of_home_in r i from number change.Leave p = r
-
-abbrev pub answered_in : Records → ℕ → SiteNo → ℕ → Bool → Records
-answered_in r i from number true = r
-answered_in r i from number false =
-    elim (first_asking (record_at r.groups i).here.requests) [
-      | Some a ↦
-          (if site_eq from r.config.home && (a.number == number)
-          then ask_home_in (record (pay_in r (ask_key (record_at r.groups i).name r.config.home)) { groups = update r.groups i (λ x. record x { here = with_answer x.here }) }) i
-          else r)
-      | None ↦ r
-    ]
-
--- a process enters a view, and is told
-abbrev pub enter_in : GroupNo → ℕ → Membership → Records → Proc → Records
-enter_in g n members r p =
-    push_in
-    (tell_in
-    (tell_in r p (fact.Time (entering (time_of r.delay p) g n)))
-    p (fact.Standing g Member))
-    p.serial (push.View g n members)
-
--- a process that a view names, where it is here and is taken in
-abbrev pub take_in : GroupNo → ℕ → Membership → ℕ → Records → Proc → Records
-take_in g n members request r p =
-    if site_eq p.site r.site && is_taken_in request (standing_of r.delay p g) then enter_in g n members r p else r
-
-abbrev pub view_in : Records → ℕ → ℕ → Membership → Records
-view_in r i n members =
-    record r {
-      groups = update r.groups i (λ x. record x { here = with_view r.site n members x.here });
-      delay = record r.delay { numbers = put group_cmp (record_at r.groups i).name n r.delay.numbers };
-      acks = told_ledger r.acks (record_at r.groups i).name (other_sites r.site (members_of (with_view r.site n members (record_at r.groups i).here)));
-      orders = but_log (record_at r.groups i).name r.orders;
-    }
-
-abbrev pub complete_in : Records → ℕ → ℕ → Membership → ℕ → Records
-complete_in r i n members request =
-    fold (take_in (record_at r.groups i).name n members request) (view_in r i n members) members.list
-
-abbrev pub install_in : Records → ℕ → SiteNo → ℕ → Membership → ℕ → Records
-install_in r i from n members request =
-    if site_eq from r.config.home
-    then elim (verdict_of (record_at r.groups i).here n) [
-      | Again ↦ send_in r from (frame.Installed (record_at r.groups i).name n)
-      | Completes ↦ send_in (complete_in r i n members request) from (frame.Installed (record_at r.groups i).name n)
-      | Ignored ↦ r
-    ]
-    else r
-
-abbrev pub installed_in : Records → ℕ → SiteNo → ℕ → Records
-installed_in r i from n =
-    if is_home_in r
-    then record r { groups = update r.groups i (λ x. record x { home = after_installed x.home from n }) }
-    else r
-
-abbrev pub frame_at : Records → SiteNo → SiteFrame → ℕ → Records
-frame_at r from (frame.Data m) i = data_in r i from m
-frame_at r from (frame.Ack u) i = on_ack records r i from u
-frame_at r from (frame.Stable u) i = on_stable records r i from u
-frame_at r from (frame.Ask g number what p) i = asked_of_home_in r i from number what p
-frame_at r from (frame.Asked g number full) i = answered_in r i from number full
-frame_at r from (frame.Prepare g view) i = r
-frame_at r from (frame.Flushed g view counts tail kept) i = r
-frame_at r from (frame.Want u) i = r
-frame_at r from (frame.Forward m) i = r
-frame_at r from (frame.Install g view members request cut tail) i = install_in r i from view members request
-frame_at r from (frame.Installed g view) i = installed_in r i from view
-frame_at r from (frame.Out g view) i = r
-
-abbrev pub frame_in : Records → SiteNo → SiteFrame → Records
-frame_in r from f =
-    if is_among site_eq from r.config.sites
-    then option_map_or (frame_at r from f) (place_in r (group_of f)) r
-    else r
-
 -- Events
 
 abbrev pub act_in : Records → Event → Records
 act_in r (event.Open d) = if r.used == MAX_NUMBER then r else open_in r
 act_in r (event.Command d k c) = command_in r k c
-act_in r (event.Frame d from f) = frame_in r from f
+act_in r (event.Frame d from f) = framed records r from f
 act_in r (event.Tick t) = tick records r t
 
 -- The order of a view
@@ -435,7 +353,7 @@ settled_in r g view p = if is_empty (others_in r.acks g) then MAX_NUMBER else up
 abbrev pub turn_at : Records → Proc → GroupRecord → Turn
 turn_at r p x =
     if is_process p (holder_of x.here)
-    then Holding (has_order_room_in r && has_room_in_log (settled_in r x.name x.here.number p) (log_in r x.name))
+    then Holding (may_order records r && has_room_in_log (settled_in r x.name x.here.number p) (log_in r x.name))
     else Following (slice_get (next_in (log_in r x.name) p) (passed_in r.delay p x.name x.here.number (next_in (log_in r x.name) p)))
 
 abbrev pub turns_in : Records → Proc → List (GroupNo × Turn)
@@ -465,7 +383,7 @@ send_places_in r i p places =
 abbrev pub set_order_by_in : Records → ℕ → Proc → Records
 set_order_by_in r i p =
     let g : GroupNo = (record_at r.groups i).name in
-    if is_member (standing_of r.delay p g) && has_order_room_in r
+    if is_member (standing_of r.delay p g) && may_order records r
     then option_map_or (λ places. if may_raise (time_of r.delay p) g p then let_go_in (send_places_in r i p places) else r) (next_places (log_in r g)) r
     else r
 
@@ -522,7 +440,7 @@ decide_in r i =
     else r
 
 abbrev pub lead_in : Records → Records
-lead_in r = if is_home_in r then fold decide_in r (range_with_len 0 (length r.groups)) else r
+lead_in r = if is_home records r then fold decide_in r (range_with_len 0 (length r.groups)) else r
 
 abbrev pub pass_in : Records → Records
 pass_in r = lead_in (set_orders_in (settle_in r))

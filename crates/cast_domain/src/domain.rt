@@ -1,6 +1,7 @@
 ghost use Rattle.std.specs.Prelude.{◌≡◌, ◌<◌, true, false, None, [], IfSome, IfOk, OnOk, OnErr, length, vec_len};
 ghost use Rattle.cast_types.specs.Places.{update};
 ghost use Rattle.cast_model.specs.Session.{told};
+ghost use Rattle.cast_history.specs.Rules.Room.{may_receive};
 
 use crate::frames::promised_by_types;
 use crate::record::{GroupRecord, place_among};
@@ -99,7 +100,7 @@ impl Domain {
     ghost use Rattle.cast_domain.specs.Shared.{LeavesOthers, Part, part_of};
     ghost use Rattle.cast_history.specs.Lawful.{IsTyped};
     ghost use Rattle.cast_domain.specs.Stepped.{IsStepped};
-    ghost use Rattle.cast_domain.specs.Calls.{act_in, is_home_in, has_room_in, local_in, place_among, push_in, record_at, send_in, tell_in};
+    ghost use Rattle.cast_domain.specs.Calls.{act_in, records, place_among, push_in, record_at, send_in, tell_in};
 
     /// The process of a session.
     pub(crate) fn process(&self, serial: u32) -> Proc
@@ -179,7 +180,7 @@ impl Domain {
 
     // Whether one more message may be received beside those that are kept.
     pub(crate) fn has_room(&self, shared: &Shared) -> bool
-        ensures { (o : Outs) → result ≡ has_room_in (records_in self.now shared.now o) }
+        ensures { (o : Outs) → result ≡ may_receive records (records_in self.now shared.now o) }
     {
         self.held(shared) < self.config.quotas.held as usize
     }

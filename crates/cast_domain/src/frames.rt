@@ -1,13 +1,15 @@
 ghost use Rattle.std.specs.Prelude.{◌≡◌, ◌<◌, true, false, IfOk, OnOk, vec_len};
-ghost use Rattle.std.specs.List.{fold, list_all, list_any};
-ghost use Rattle.cast_types.specs.Names.{group_eq, proc_eq, uid_eq};
+ghost use Rattle.std.specs.List.{fold, list_all};
+ghost use Rattle.cast_types.specs.Names.{group_eq, proc_eq};
 ghost use Rattle.cast_types.specs.Counts.{is_counts};
 ghost use Rattle.cast_types.specs.Sets.{is_among};
 ghost use Rattle.cast_message.specs.declared.site.Change.TheVariants as asked_change;
 ghost use Rattle.cast_message.specs.declared.site.SiteFrame.TheVariants as asked_frame;
-ghost use Rattle.cast_history.specs.Step.{group_of};
 ghost use Rattle.cast_history.specs.Lawful.{IsTypedFrame};
-ghost use Rattle.cast_history.specs.State.{counts_itself};
+ghost use Rattle.cast_history.specs.Rules.Data.{counts_itself, is_used, is_well_formed, on_data, use_data};
+ghost use Rattle.cast_history.specs.Rules.Frames.{framed, group_of, on_frame};
+ghost use Rattle.cast_history.specs.Rules.Requests.{on_ask, on_asked};
+ghost use Rattle.cast_history.specs.Rules.Views.{on_install, on_installed};
 
 use crate::domain::Domain;
 use crate::owing::ask_key;
@@ -76,7 +78,7 @@ impl Domain {
     ghost use Rattle.cast_model.specs.Group.{is_taken_in};
     ghost use Rattle.cast_domain.specs.Records.{Keeps, records_in, records_of};
     ghost use Rattle.cast_domain.specs.Shared.{LeavesOthers, Part};
-    ghost use Rattle.cast_domain.specs.Calls.{answered_in, asked_of_home_in, complete_in, data_in, enter_in, frame_at, frame_in, install_in, installed_in, is_used_in, is_well_formed_in, send_in, standing_of, take_in, time_of, use_data_in, view_in};
+    ghost use Rattle.cast_domain.specs.Calls.{records, complete_in, enter_in, send_in, standing_of, take_in, time_of, view_in};
     ghost use Rattle.cast_clock.specs.Times.{entering};
 
     // A frame comes from a site. One from a site or for a group that is not configured is ignored.
@@ -89,7 +91,7 @@ impl Domain {
     ) -> Result<(), NoMemory>
         ensures same { Keeps self.old self.new }
         ensures others { LeavesOthers self.old.config.domain shared.old shared.new }
-        ensures made { OnOk result (records_in self.new shared.new outs.new ≡ frame_in (records_in self.old shared.old outs.old) from frame.now) }
+        ensures made { OnOk result (records_in self.new shared.new outs.new ≡ framed records (records_in self.old shared.old outs.old) from frame.now) }
     {
         if !is_among(from, self.config.sites.as_slice()) {
             return Ok(());
@@ -112,7 +114,7 @@ impl Domain {
         requires { place < vec_len self.old.groups }
         ensures same { Keeps self.old self.new }
         ensures others { LeavesOthers self.old.config.domain shared.old shared.new }
-        ensures made { OnOk result (records_in self.new shared.new outs.new ≡ frame_at (records_in self.old shared.old outs.old) from frame.now place) }
+        ensures made { OnOk result (records_in self.new shared.new outs.new ≡ on_frame records (records_in self.old shared.old outs.old) place from frame.now) }
     {
         match frame {
             SiteFrame::Data(message) => self.data(place, from, message, shared, outs),
@@ -154,7 +156,7 @@ impl Domain {
         requires { place < vec_len self.old.groups }
         ensures same { Keeps self.old self.new }
         ensures others { LeavesOthers self.old.config.domain shared.old shared.new }
-        ensures made { OnOk result (records_in self.new shared.new outs.new ≡ data_in (records_in self.old shared.old outs.old) place from message.now) }
+        ensures made { OnOk result (records_in self.new shared.new outs.new ≡ on_data records (records_in self.old shared.old outs.old) place from message.now) }
     {
         if self.is_used(place, from, message) {
             self.use_data(from, message, shared, outs)?;
@@ -165,7 +167,7 @@ impl Domain {
     // Whether a message is of the site's view and comes from the process's own site, which is another.
     fn is_used(&self, place: usize, from: SiteNo, message: &Message) -> bool
         requires { place < vec_len self.now.groups }
-        ensures { (o : Outs) (part : Part) → result ≡ is_used_in (records_of self.now part o) place from message.now }
+        ensures { (o : Outs) (part : Part) → result ≡ is_used records (records_of self.now part o) place from message.now }
     {
         message.id.proc.site == from
             && !(from == self.site)
@@ -183,7 +185,7 @@ impl Domain {
     ) -> Result<(), NoMemory>
         ensures same { Keeps self.old self.new }
         ensures others { LeavesOthers self.old.config.domain shared.old shared.new }
-        ensures made { OnOk result (records_in self.new shared.new outs.new ≡ use_data_in (records_in self.old shared.old outs.old) from message.now) }
+        ensures made { OnOk result (records_in self.new shared.new outs.new ≡ use_data records (records_in self.old shared.old outs.old) from message.now) }
     {
         if self.acks.is_received(message.id) {
             self.send(outs, from, SiteFrame::Ack(message.id))?;
@@ -201,7 +203,7 @@ impl Domain {
     // counts it.
     fn is_well_formed(&self, place: usize, message: &Message) -> bool
         requires { place < vec_len self.now.groups }
-        ensures { (o : Outs) (part : Part) → result ≡ is_well_formed_in (records_of self.now part o) place message.now }
+        ensures { (o : Outs) (part : Part) → result ≡ is_well_formed records (records_of self.now part o) place message.now }
     {
         self.knows_groups(message)
             && is_member(message.id.proc, self.record(place).here.members())
@@ -227,7 +229,7 @@ impl Domain {
     ) -> Result<(), NoMemory>
         requires { place < vec_len self.old.groups }
         ensures same { Keeps self.old self.new }
-        ensures made { OnOk result ((part : Part) → records_of self.new part outs.new ≡ asked_of_home_in (records_of self.old part outs.old) place from number change process) }
+        ensures made { OnOk result ((part : Part) → records_of self.new part outs.new ≡ on_ask records (records_of self.old part outs.old) place from number change process) }
     {
         match change {
             Change::Join => self.join_asked_of_home(place, from, number, process, outs),
@@ -246,7 +248,7 @@ impl Domain {
     ) -> Result<(), NoMemory>
         requires { place < vec_len self.old.groups }
         ensures same { Keeps self.old self.new }
-        ensures made { OnOk result ((part : Part) → records_of self.new part outs.new ≡ asked_of_home_in (records_of self.old part outs.old) place from number asked_change.Join process) }
+        ensures made { OnOk result ((part : Part) → records_of self.new part outs.new ≡ on_ask records (records_of self.old part outs.old) place from number asked_change.Join process) }
     {
         if !self.is_home() {
             return Ok(());
@@ -294,7 +296,7 @@ impl Domain {
         requires { place < vec_len self.old.groups }
         ensures same { Keeps self.old self.new }
         ensures others { LeavesOthers self.old.config.domain shared.old shared.new }
-        ensures made { OnOk result (records_in self.new shared.new outs.new ≡ answered_in (records_in self.old shared.old outs.old) place from number full) }
+        ensures made { OnOk result (records_in self.new shared.new outs.new ≡ on_asked records (records_in self.old shared.old outs.old) place from number full) }
     {
         if full {
             return Ok(());
@@ -325,7 +327,7 @@ impl Domain {
     ) -> Result<(), NoMemory>
         requires { place < vec_len self.old.groups }
         ensures same { Keeps self.old self.new }
-        ensures made { OnOk result ((part : Part) → records_of self.new part outs.new ≡ install_in (records_of self.old part outs.old) place from view members.now request) }
+        ensures made { OnOk result ((part : Part) → records_of self.new part outs.new ≡ on_install records (records_of self.old part outs.old) place from view members.now request) }
     {
         if !self.is_from_home(from) {
             return Ok(());
@@ -458,7 +460,7 @@ impl Domain {
     fn installed(&mut self, place: usize, from: SiteNo, view: u32) -> Result<(), NoMemory>
         requires { place < vec_len self.old.groups }
         ensures same { Keeps self.old self.new }
-        ensures made { OnOk result ((o : Outs) (part : Part) → records_of self.new part o ≡ installed_in (records_of self.old part o) place from view) }
+        ensures made { OnOk result ((o : Outs) (part : Part) → records_of self.new part o ≡ on_installed records (records_of self.old part o) place from view) }
     {
         if self.is_home() {
             installed_at(&mut self.groups, place, from, view)?;

@@ -4,6 +4,7 @@ ghost use Rattle.cast_delay.specs.Queue.{next_key};
 ghost use Rattle.cast_delay.specs.Ready.{is_member};
 ghost use Rattle.cast_model.specs.Outs.{no_outs};
 ghost use Rattle.cast_domain.specs.Calls.{learn_in, record_at};
+ghost use Rattle.cast_history.specs.Rules.Room.{may_order, may_take};
 
 use crate::domain::Domain;
 use crate::record::GroupRecord;
@@ -21,19 +22,19 @@ impl Domain {
     ghost use Rattle.cast_model.specs.declared.event.Outs.{Outs};
     ghost use Rattle.cast_domain.specs.Records.{Keeps, records_in, records_of};
     ghost use Rattle.cast_domain.specs.Shared.{LeavesOthers, Part, no_part};
-    ghost use Rattle.cast_domain.specs.Calls.{awaits_own_in, has_order_room_in, holds_in, is_own_in, log_in, may_take_in, note_delivery_in, send_places_in, set_order_by_in, set_order_in, set_orders_in, settled_in, standing_of, time_of, turn_at, turns_in};
+    ghost use Rattle.cast_domain.specs.Calls.{awaits_own_in, records, holds_in, is_own_in, note_delivery_in, send_places_in, set_order_by_in, set_order_in, set_orders_in, settled_in, standing_of, time_of, turn_at, turns_in};
 
     // Whether a set-order message may be sent or received beside the messages that are kept, and a holder may deliver
     // an ABCAST.
     fn has_order_room(&self, shared: &Shared) -> bool
-        ensures { (o : Outs) → result ≡ has_order_room_in (records_in self.now shared.now o) }
+        ensures { (o : Outs) → result ≡ may_order records (records_in self.now shared.now o) }
     {
         (self.held(shared) as u64) < 2 * u64::from(self.config.quotas.held)
     }
 
     // Whether a message of this body may be received from another site.
     pub(crate) fn may_take(&self, body: &Body, shared: &Shared) -> bool
-        ensures { (o : Outs) → result ≡ may_take_in (records_in self.now shared.now o) body.now }
+        ensures { (o : Outs) → result ≡ may_take records (records_in self.now shared.now o) body.now }
     {
         match body.kind() {
             Kind::Order => self.has_order_room(shared),
@@ -210,7 +211,7 @@ impl Domain {
 
     // Whether the holder is a member, and there is room for one more set-order message.
     fn may_list(&self, holder: Proc, group: GroupNo, shared: &Shared) -> bool
-        ensures { (o : Outs) → result ≡ (is_member (standing_of self.now.delay holder group) && has_order_room_in (records_in self.now shared.now o)) }
+        ensures { (o : Outs) → result ≡ (is_member (standing_of self.now.delay holder group) && may_order records (records_in self.now shared.now o)) }
     {
         is_member(self.delay.standing(holder, group)) && self.has_order_room(shared)
     }

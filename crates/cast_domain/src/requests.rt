@@ -2,6 +2,7 @@ ghost use Rattle.std.specs.Prelude.{◌≡◌, ◌<◌, ◌≤◌, ◌+◌, ◌=
 ghost use Rattle.std.specs.List.{fold};
 ghost use Rattle.cast_history.specs.Step.{body_of};
 ghost use Rattle.cast_domain.specs.Calls.{record_at};
+ghost use Rattle.cast_history.specs.Rules.Requests.{ask_home, request};
 
 use crate::domain::Domain;
 use crate::order::learn;
@@ -25,7 +26,7 @@ impl Domain {
     ghost use Rattle.cast_domain.specs.Records.{Keeps, records_in, records_of};
     ghost use Rattle.cast_domain.specs.Shared.{LeavesOthers, Part};
     ghost use Rattle.cast_history.specs.Effects.{may_raise};
-    ghost use Rattle.cast_domain.specs.Calls.{ask_home_in, cast_at, cast_in, command_in, join_at, join_in, open_in, receive_in, request_in, requested_in, send_data_in, send_message_in, time_of};
+    ghost use Rattle.cast_domain.specs.Calls.{records, cast_at, cast_in, command_in, join_at, join_in, open_in, receive_in, requested_in, send_data_in, send_message_in, time_of};
 
     // A program connects.
     pub(crate) fn open(&mut self) -> Result<Taken, NoMemory>
@@ -174,7 +175,7 @@ impl Domain {
         requires numbered { (record_at self.old.groups.items place).here.asked < 4294967295 }
         ensures same { Keeps self.old self.new }
         ensures others { LeavesOthers self.old.config.domain shared.old shared.new }
-        ensures made { OnOk result (records_in self.new shared.new outs.new ≡ request_in (records_in self.old shared.old outs.old) place change process) }
+        ensures made { OnOk result (records_in self.new shared.new outs.new ≡ request records (records_in self.old shared.old outs.old) place change process) }
     {
         let is_first = self.record(place).here.requests.is_empty();
         ask_at(&mut self.groups, place, change, process)?;
@@ -193,7 +194,7 @@ impl Domain {
     ) -> Result<(), NoMemory>
         requires { place < vec_len self.now.groups }
         ensures others { LeavesOthers self.now.config.domain shared.old shared.new }
-        ensures made { OnOk result (records_in self.now shared.new outs.new ≡ ask_home_in (records_in self.now shared.old outs.old) place) }
+        ensures made { OnOk result (records_in self.now shared.new outs.new ≡ ask_home records (records_in self.now shared.old outs.old) place) }
     {
         let record = self.record(place);
         if record.here.requests.is_empty() {

@@ -1,5 +1,6 @@
 ghost use Rattle.std.specs.Prelude.{◌≡◌, ◌<◌, IfOk, OnOk, map, filter, vec_len};
 ghost use Rattle.std.specs.List.{fold};
+ghost use Rattle.cast_history.specs.Rules.Data.{acknowledge};
 
 use crate::domain::Domain;
 use crate::owing::message_key;
@@ -16,7 +17,7 @@ impl Domain {
     ghost use Rattle.cast_history.specs.Rules.Stability.{is_used_ack, on_ack, on_stable, tell_more, tell_stable, with_ack};
     ghost use Rattle.cast_domain.specs.Records.{Keeps, records_in, records_of};
     ghost use Rattle.cast_domain.specs.Shared.{LeavesOthers, Part, no_part};
-    ghost use Rattle.cast_domain.specs.Calls.{acknowledge_in, is_current_in, is_free_in, let_go_in, records, release_in};
+    ghost use Rattle.cast_domain.specs.Calls.{is_current_in, is_free_in, let_go_in, records, release_in};
 
     // Acknowledges a received message: its site is owed that until it tells that the message is stable.
     pub(crate) fn acknowledge(
@@ -27,7 +28,7 @@ impl Domain {
         outs: &mut Outs,
     ) -> Result<(), NoMemory>
         ensures others { LeavesOthers self.now.config.domain shared.old shared.new }
-        ensures made { OnOk result (records_in self.now shared.new outs.new ≡ acknowledge_in (records_in self.now shared.old outs.old) to id) }
+        ensures made { OnOk result (records_in self.now shared.new outs.new ≡ acknowledge records (records_in self.now shared.old outs.old) to id) }
     {
         if self.acks.is_stable(id) {
             return self.send(outs, to, SiteFrame::Ack(id));

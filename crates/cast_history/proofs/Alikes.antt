@@ -1,5 +1,5 @@
 -- What leaves a state alike.
-use Rattle.std.proofs.Common.{◌≡◌, ℕ, Bool, true, false, List, [], ◌∷◌, ◌++◌, Option, Some, None, refl, ap, ◌∙◌}
+use Rattle.std.proofs.Common.{◌≡◌, ℕ, Bool, true, false, List, [], ◌∷◌, ◌++◌, refl, ap, ◌∙◌}
 use Rattle.std.specs.Prelude.{◌==◌, if◌then◌else◌}
 use Rattle.std.specs.List.{fold}
 use Rattle.std.proofs.lemmas.Bool.{eqb-true}
@@ -17,14 +17,14 @@ use Rattle.cast_timer.specs.declared.key.OwedKind.TheVariants as kinds
 use Rattle.cast_delay.specs.Ready.{Process}
 use Rattle.cast_model.specs.declared.session.Session.{Session}
 use Rattle.cast_model.specs.Session.{is_open, pushed_to}
-use Rattle.cast_history.specs.State.{State, set_session, set_process, emitted, others_of, noting_ack, noting_stable, let_go}
+use Rattle.cast_history.specs.State.{State, set_session, set_process, emitted, others_of, noting_ack, noting_stable, let_go, pushing, receiving}
 use Rattle.cast_history.specs.Owing.{noting_owed, noting_resent, paying, paying_upto, at_moment}
 use Rattle.cast_history.specs.Rules.Keys.{message_key}
 use Rattle.cast_history.specs.Rules.Owing.{send_for, owe}
 use Rattle.cast_history.specs.History.{history}
 use Rattle.cast_history.proofs.Rules.Follows.{IsInvariant}
 use Rattle.cast_history.proofs.Rules.Owing.{send_for_keeps, owe_keeps}
-use Rattle.cast_history.specs.Effects.{pushing, receiving, sending_to, next_message, sending}
+use Rattle.cast_history.specs.Effects.{sending_to, next_message, sending}
 
 -- alike but for sessions, standings, times, and what is kept, stable, owed and sent
 pub record Alike (s : State) (t : State) : Type 0 where

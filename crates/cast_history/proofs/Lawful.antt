@@ -27,7 +27,6 @@ use Rattle.cast_message.specs.declared.message.Message.{Message}
 use Rattle.cast_message.specs.Bodies.{kind_of}
 use Rattle.cast_message.specs.declared.site.Change.{Change}
 use Rattle.cast_message.specs.declared.site.SiteFrame.{SiteFrame}
-use Rattle.cast_message.specs.declared.site.SiteFrame.TheVariants as frame
 use Rattle.cast_message.specs.declared.client.Push.{Push}
 use Rattle.cast_message.specs.declared.client.Push.TheVariants as push
 use Rattle.cast_message.specs.Membership.{Membership}
@@ -46,15 +45,17 @@ use Rattle.cast_model.specs.Group.{no_group, has_view, is_at, is_current, with_r
 use Rattle.cast_model.specs.declared.home.Home.{Home}
 use Rattle.cast_model.specs.Home.{is_empty}
 use Rattle.cast_model.specs.declared.config.DomainConfig.{DomainConfig}
-use Rattle.cast_history.specs.State.{State, opening, local, serials, is_group, set_session, set_process, set_group, set_home, set_standing, emitted, others_of, noting_ack, noting_stable, gate_of, local_members, is_stable, is_free, let_go, was_given}
+use Rattle.cast_history.specs.State.{State, opening, local, serials, is_group, set_session, set_process, set_group, set_home, set_standing, emitted, others_of, noting_ack, noting_stable, gate_of, local_members, is_stable, is_free, let_go, was_given, pushing, receiving}
 use Rattle.cast_history.specs.Order.{is_ready_for}
 use Rattle.cast_history.specs.Owing.{noting_owed, noting_resent, paying, paying_upto, at_moment}
 use Rattle.cast_history.specs.Rules.Keys.{ask_key, message_key}
 use Rattle.cast_history.specs.Rules.Owing.{send_for, owe}
+use Rattle.cast_history.specs.Rules.Requests.{ask_home, request}
 use Rattle.cast_history.specs.History.{history}
 use Rattle.cast_history.proofs.Rules.Follows.{IsInvariant}
 use Rattle.cast_history.proofs.Rules.Owing.{send_for_keeps, owe_keeps}
-use Rattle.cast_history.specs.Effects.{asking, requesting, pushing, receiving, sending_to, next_message, sending_message, sending, told_of, with_delivery, delivering, enters, in_view, all_in_view, push_view, completing}
+use Rattle.cast_history.specs.Effects.{sending_to, next_message, sending_message, sending, told_of, with_delivery, delivering}
+use Rattle.cast_history.specs.Entering.{enters, in_view, all_in_view, push_view, completing}
 use Rattle.cast_history.specs.Run.{before_event}
 use Rattle.cast_history.specs.Lawful.{IsSpent, AreKept, IsTraced, IsLawful}
 
@@ -309,14 +310,14 @@ same_send_for s key = send_for_keeps history (SameLaw s) (moves_same s) s (same_
 pub same_owe : (s : State) (key : OwedKey) → SameLaw s (owe history s key)
 same_owe s key = owe_keeps history (SameLaw s) (moves_same s) s (same_self s) key
 
-pub same_asking : (s : State) (g : GroupNo) → SameLaw s (asking s g)
-same_asking s g = same_if s s (owe history s (ask_key g s.config.home)) (is_empty (s.group g).requests) (same_self s) (same_owe s (ask_key g s.config.home))
+pub same_ask_home : (s : State) (g : GroupNo) → SameLaw s (ask_home history s g)
+same_ask_home s g = same_if s s (owe history s (ask_key g s.config.home)) (is_empty (s.group g).requests) (same_self s) (same_owe s (ask_key g s.config.home))
 
-pub same_requesting : (s : State) (g : GroupNo) (what : Change) (p : Proc) → SameLaw s (requesting s g what p)
-same_requesting s g what p =
+pub same_request : (s : State) (g : GroupNo) (what : Change) (p : Proc) → SameLaw s (request history s g what p)
+same_request s g what p =
     let next : State = set_group s g (with_request (s.group g) what p) in
     let a : SameLaw s next = same_group_set s g (with_request (s.group g) what p) refl refl in
-    same_if s (asking next g) next (is_empty (s.group g).requests) (same_then s next (asking next g) a (same_asking next g)) a
+    same_if s (ask_home history next g) next (is_empty (s.group g).requests) (same_then s next (ask_home history next g) a (same_ask_home next g)) a
 
 pub lawful_pushing : (s : State) (k : ℕ) (p : Push) → IsLawful s → IsLawful (pushing s k p)
 lawful_pushing s k p l = lawful_same s (pushing s k p) (same_pushing s k p) l
@@ -324,8 +325,8 @@ lawful_pushing s k p l = lawful_same s (pushing s k p) (same_pushing s k p) l
 pub lawful_emitted : (s : State) (to : SiteNo) (f : SiteFrame) → IsLawful s → IsLawful (emitted s to f)
 lawful_emitted s to f l = lawful_same s (emitted s to f) (same_emitted s to f) l
 
-pub lawful_requesting : (s : State) (g : GroupNo) (what : Change) (p : Proc) → IsLawful s → IsLawful (requesting s g what p)
-lawful_requesting s g what p l = lawful_same s (requesting s g what p) (same_requesting s g what p) l
+pub lawful_request : (s : State) (g : GroupNo) (what : Change) (p : Proc) → IsLawful s → IsLawful (request history s g what p)
+lawful_request s g what p l = lawful_same s (request history s g what p) (same_request s g what p) l
 
 -- Combinations
 
@@ -644,8 +645,5 @@ lawful_all_in_view s g n members request l listed none later =
 pub lawful_completing : (s : State) (g : GroupNo) (n : ℕ) (members : Membership) (request : ℕ) → IsLawful s → is_group s g ≡ true → has_view (s.group g) ≡ false → (s.group g).number < n → IsLawful (completing s g n members request)
 lawful_completing s g n members request l listed none later =
     let now : State = set_group s g (with_view s.here n members (s.group g)) in
-    let all : State = all_in_view now g n members request in
-    let told : State = fold (push_view g n members) all (filter (enters s g members request) (serials s)) in
-    lawful_emitted told s.config.home (frame.Installed g n)
-    (lawful_fold (push_view g n members) (λ t k. lawful_pushing t k (push.View g n members)) (filter (enters s g members request) (serials s)) all
-    (lawful_all_in_view s g n members request l listed none later))
+    lawful_fold (push_view g n members) (λ t k. lawful_pushing t k (push.View g n members)) (filter (enters s g members request) (serials s)) (all_in_view now g n members request)
+    (lawful_all_in_view s g n members request l listed none later)

@@ -1,64 +1,61 @@
 -- What holds of each history that events lead to is kept by each event, and until the state rests.
-use Rattle.std.proofs.Common.{◌≡◌, ℕ, ◌+◌, ◌<◌, ◌≤◌, zero, suc, Bool, true, false, not, List, [], ◌∷◌, length, Some, None, refl, sym, ap, subst, ◌∙◌, inl, inr, arith}
+use Rattle.std.proofs.Common.{◌≡◌, ℕ, ◌+◌, ◌<◌, zero, suc, Bool, true, false, not, List, [], ◌∷◌, length, Some, None, refl, sym, ap, subst, ◌∙◌, inl, inr, arith}
 use Rattle.std.specs.Prelude.{◌&&◌, ◌==◌, nat_lt, nat_le, if◌then◌else◌}
 use Rattle.std.specs.List.{fold, find}
 use Rattle.std.specs.FinMap.Entries.{is_sorted}
 use Rattle.std.proofs.lemmas.Bool.{cases_eq, eqb-true, false≢true, and_parts, and_from, not-false, leb-true, le-leb}
 use Rattle.std.proofs.lemmas.Bool.Decides.{nat_tests}
+use Rattle.std.proofs.lemmas.Option.{none-some, same_Some}
 use Rattle.cast_types.specs.declared.names.SiteNo.{SiteNo}
 use Rattle.cast_types.specs.declared.names.GroupNo.{GroupNo}
 use Rattle.cast_types.specs.declared.names.Proc.{Proc}
-use Rattle.cast_types.specs.declared.names.Uid.{Uid}
 use Rattle.cast_types.specs.declared.names.Standing.TheVariants.{Joining}
 use Rattle.cast_types.specs.declared.refusal.Refusal.{Refusal}
 use Rattle.cast_types.specs.declared.refusal.Refusal.TheVariants.{NotOpen, TooManySessions}
 use Rattle.cast_types.specs.declared.limits.TheConstants.{MAX_NUMBER}
-use Rattle.cast_types.specs.Names.{site_eq, group_cmp}
+use Rattle.cast_types.specs.Names.{group_cmp}
 use Rattle.cast_types.specs.Repeat.{iterate}
 use Rattle.cast_types.specs.Stamps.{ClockList, is_stamp}
 use Rattle.cast_clock.specs.Times.{view_of, count_in, bumped, has_room}
 use Rattle.cast_message.specs.declared.message.Body.{Body}
 use Rattle.cast_message.specs.declared.message.Body.TheVariants as body
 use Rattle.cast_message.specs.declared.message.Message.{Message}
-use Rattle.cast_message.specs.declared.site.Change.{Change}
 use Rattle.cast_message.specs.declared.site.Change.TheVariants as change
-use Rattle.cast_message.specs.declared.site.SiteFrame.{SiteFrame}
-use Rattle.cast_message.specs.declared.site.SiteFrame.TheVariants as frame
 use Rattle.cast_message.specs.declared.client.CastKind.{CastKind}
 use Rattle.cast_message.specs.declared.client.Request.{Request}
 use Rattle.cast_message.specs.declared.client.Request.TheVariants.{Join, Leave, Cast}
 use Rattle.cast_message.specs.declared.client.Push.TheVariants as push
 use Rattle.cast_message.specs.Membership.{Membership}
-use Rattle.cast_timer.specs.declared.key.OwedKind.TheVariants as kinds
 use Rattle.cast_delay.specs.Ready.{is_member}
 use Rattle.cast_order.specs.Order.{ids_to_list, place_after}
 use Rattle.cast_delay.proofs.Finds.{found_in}
 use Rattle.cast_model.specs.Session.{is_open}
 use Rattle.cast_model.specs.declared.group.Group.{Group}
 use Rattle.cast_model.specs.declared.group.Verdict.TheVariants.{Again, Completes, Ignored}
-use Rattle.cast_model.specs.Group.{holder_at, first_asking, members_of, has_view, with_answer, verdict_of, sites_of}
+use Rattle.cast_model.specs.Group.{with_request, holder_at, has_view, with_answer, verdict_of, sites_of}
 use Rattle.cast_model.specs.declared.home.Home.{Home}
-use Rattle.cast_model.specs.Home.{is_empty, applied_of, after_request, after_installed, may_decide, decided}
+use Rattle.cast_model.specs.Home.{is_empty, after_request, after_installed, may_decide, decided}
 use Rattle.cast_message.specs.declared.client.Command.{Command}
 use Rattle.cast_message.specs.declared.client.Command.TheVariants as command
 use Rattle.cast_model.specs.declared.event.Event.{Event}
 use Rattle.cast_model.specs.declared.event.Event.TheVariants as event
 use Rattle.cast_model.specs.declared.event.Taken.TheVariants as taken
-use Rattle.cast_history.specs.State.{State, local, serials, is_home, is_site, is_group, is_received, is_well_formed, may_order, may_take, is_stable, let_go, set_group, set_home, set_standing, emitted, was_given}
+use Rattle.cast_history.specs.State.{State, local, serials, is_group, let_go, set_home, set_standing, was_given, pushing}
+use Rattle.cast_history.specs.Rules.Requests.{is_home}
+use Rattle.cast_history.specs.Rules.Room.{may_order}
 use Rattle.cast_history.specs.Order.{order_of, unlisted, has_place, is_ready_for}
-use Rattle.cast_history.specs.Owing.{paying}
-use Rattle.cast_history.specs.Rules.Keys.{ask_key, message_key}
-use Rattle.cast_history.specs.Rules.Owing.{owe, tick}
+use Rattle.cast_history.specs.Rules.Owing.{tick}
 use Rattle.cast_history.proofs.Rules.Owing.{tick_keeps}
-use Rattle.cast_history.specs.Effects.{may_raise, asking, pushing, receiving, sending, delivering, completing}
-use Rattle.cast_history.specs.Step.{acknowledging, data_used, first_refusal, join_tests, cast_tests, joining, attempting, body_of, requested, commanded, is_used, on_data, is_from_home, on_ask, on_asked, on_install, on_installed, group_of, on_frame, framed, opened, Effect, acted}
+use Rattle.cast_history.specs.Effects.{may_raise, sending, delivering}
+use Rattle.cast_history.specs.Step.{first_refusal, join_tests, cast_tests, joining, attempting, body_of, requested, commanded, opened, Effect, acted}
 use Rattle.cast_history.specs.Rest.{deliver_first, deliver_all, settle, may_set_order, set_order_by, set_order, set_orders, install_frame, send_install, decide, lead_all, pass, RestsAt}
-use Rattle.cast_history.specs.Lawful.{IsSpent, IsLawful, IsTypedFrame, IsTyped}
+use Rattle.cast_history.specs.Lawful.{IsSpent, IsLawful, IsTyped}
 use Rattle.cast_history.proofs.Spots.{found_passes}
 use Rattle.cast_history.specs.History.{history}
-use Rattle.cast_history.proofs.Rules.Follows.{IsInvariant}
-use Rattle.cast_history.proofs.Rules.Stability.{ack_keeps, stable_keeps}
-use Rattle.cast_history.proofs.Lawful.{SameLaw, same_self, same_then, same_if, same_fold, same_home, same_emitted, same_group_set, same_owed, moves_same, invariant_by_same, same_owe, same_asking, kept_map, lawful_same, lawful_pushing, lawful_emitted, lawful_requesting, lawful_if, lawful_fold, lawful_standing, lawful_receiving, lawful_let_go, lawful_sending, lawful_delivering, lawful_completing}
+use Rattle.cast_history.proofs.Rules.Follows.{IsTaken, IsEntered, IsInvariantOfFrames}
+use Rattle.cast_history.proofs.Rules.Data.{used_current}
+use Rattle.cast_history.proofs.Rules.Frames.{framed_keeps}
+use Rattle.cast_history.proofs.Lawful.{SameLaw, same_self, same_then, same_if, same_fold, same_home, same_emitted, same_group_set, moves_same, invariant_by_same, kept_map, lawful_same, lawful_pushing, lawful_request, lawful_if, lawful_fold, lawful_standing, lawful_receiving, lawful_let_go, lawful_sending, lawful_delivering, lawful_completing}
 
 -- a stamp is in order
 stamp_sorted : (t : ClockList) → is_stamp t ≡ true → is_sorted group_cmp t ≡ true
@@ -90,7 +87,7 @@ pub lawful_joining : (s : State) (k : ℕ) (g : GroupNo) → IsLawful s → firs
 lawful_joining s k g l none =
     let now : State = set_standing s k g (Joining ((s.group g).asked + 1) (view_of (s.process k).time g)) in
     let listed : is_group s g ≡ true = not-false (is_group s g) (each_passes (join_tests s k g) none).0 in
-    lawful_requesting now g change.Join (local s k) (lawful_standing s k g ((s.group g).asked + 1) (view_of (s.process k).time g) l listed)
+    lawful_request now g change.Join (local s k) (lawful_standing s k g ((s.group g).asked + 1) (view_of (s.process k).time g) l listed)
 
 pub lawful_casting : (s : State) (k : ℕ) (g : GroupNo) (cast : CastKind) (payload : List ℕ) → IsLawful s → first_refusal (cast_tests s k g payload) ≡ None → IsLawful (sending s g k (body_of cast payload))
 lawful_casting s k g cast payload l none =
@@ -115,61 +112,16 @@ lawful_commanded s k command.Bad l = l
 
 -- Frames
 
-pub same_acknowledging : (s : State) (to : SiteNo) (u : Uid) → SameLaw s (acknowledging s to u)
-same_acknowledging s to u = same_if s (emitted s to (frame.Ack u)) (owe history s (message_key kinds.Ack u to)) (is_stable s u) (same_emitted s to (frame.Ack u)) (same_owe s (message_key kinds.Ack u to))
-
--- what is used is of the view that its group has reached
-used_reached : (s : State) (from : SiteNo) (m : Message) → is_used s from m ≡ true → m.id.view ≤ (s.group m.id.group).number
-used_reached s from m used =
-    let here = m.id.view == (s.group m.id.group).number in
-    let formed = is_well_formed s (members_of (s.group m.id.group)) m in
-    let a = and_parts (site_eq m.id.proc.site from) (not (site_eq from s.here) && (here && formed)) used in
-    let b = and_parts (not (site_eq from s.here)) (here && formed) a.1 in
-    let same = eqb-true m.id.view (s.group m.id.group).number (and_parts here formed b.1).0 in
-    omega (arith, same)
-
-pub lawful_on_data : (s : State) (from : SiteNo) (m : Message) → IsLawful s → is_stamp m.times ≡ true → IsLawful (on_data s from m)
-lawful_on_data s from m l stamp =
-    let now : State = receiving s m in
-    let taken : State = acknowledging now from m.id in
-    lawful_if (data_used s from m) s (is_used s from m)
-    (λ used. lawful_if (emitted s from (frame.Ack m.id)) (if may_take s m.body then taken else s) (is_received s m.id)
-    (λ _. lawful_emitted s from (frame.Ack m.id) l)
-    (λ _. lawful_if taken s (may_take s m.body)
-    (λ _. lawful_same now taken (same_acknowledging now from m.id) (lawful_receiving s m l (stamp_sorted m.times stamp) (used_reached s from m used)))
-    (λ _. l)))
-    (λ _. l)
-
--- a history stays lawful at each move of the rules
-pub moves_lawful : IsInvariant history IsLawful
-moves_lawful = invariant_by_same IsLawful lawful_same
-
-pub same_on_ask : (s : State) (from : SiteNo) (g : GroupNo) (number : ℕ) (what : Change) (p : Proc) → SameLaw s (on_ask s from g number what p)
-same_on_ask s from g number change.Join p =
-    let h : Home = s.home g in
-    let applied : State = set_home s g (after_request h from number p) in
-    let answer : SiteFrame = frame.Asked g number false in
-    let again : State = if nat_le number (applied_of h from) then emitted s from answer else s in
-    let next : State = if number == applied_of h from + 1 then emitted applied from answer else again in
-    same_if s s next (not (is_home s)) (same_self s)
-    (same_if s (emitted applied from answer) again (number == applied_of h from + 1)
-    (same_then s applied (emitted applied from answer) (same_home s g (after_request h from number p)) (same_emitted applied from answer))
-    (same_if s (emitted s from answer) s (nat_le number (applied_of h from)) (same_emitted s from answer) (same_self s)))
-same_on_ask s from g number change.Leave p = same_self s
-
-pub same_on_asked : (s : State) (from : SiteNo) (g : GroupNo) (number : ℕ) (full : Bool) → SameLaw s (on_asked s from g number full)
-same_on_asked s from g number true = same_self s
-same_on_asked s from g number false =
-    let paid : State = paying s (ask_key g s.config.home) in
-    let now : State = set_group paid g (with_answer (s.group g)) in
-    let answered : SameLaw s now = same_then s paid now (same_owed s paid.owed) (same_group_set paid g (with_answer (s.group g)) refl refl) in
-    elim (first_asking (s.group g).requests) as (λ o. SameLaw s (elim o [ Some a ↦ (if is_from_home s from && (a.number == number) then asking now g else s) | None ↦ s ])) [
-      | Some a ↦ same_if s (asking now g) s (is_from_home s from && (a.number == number)) (same_then s now (asking now g) answered (same_asking now g)) (same_self s)
-      | None ↦ same_self s
-    ]
+-- a group stands under its name, where it is configured
+pub placed_at : (s : State) (g h : GroupNo) → (if is_group s g then Some g else None) ≡ Some h → (is_group s g ≡ true) × (g ≡ h)
+placed_at s g h at = of_test (is_group s g) at
+  where
+    of_test : (b : Bool) → (if b then Some g else None) ≡ Some h → (b ≡ true) × (g ≡ h)
+    of_test true same = (refl, same_Some g h same)
+    of_test false same = absurd (none-some h same)
 
 -- a view is completed where the group has none, and its number is a later one
-pub completes_unseen : (group : Group) (n : ℕ) → verdict_of group n ≡ Completes → (nat_le n group.number ≡ false) × (has_view group ≡ false)
+completes_unseen : (group : Group) (n : ℕ) → verdict_of group n ≡ Completes → (nat_le n group.number ≡ false) × (has_view group ≡ false)
 completes_unseen group n is = completes (nat_le n group.number) (has_view group) is
   where
     completes : (known seen : Bool) → (if known then Again else if seen then Ignored else Completes) ≡ Completes → (known ≡ false) × (seen ≡ false)
@@ -177,42 +129,38 @@ completes_unseen group n is = completes (nat_le n group.number) (has_view group)
     completes false true e = cc
     completes false false e = (refl, refl)
 
-pub later_number : (m n : ℕ) → nat_le n m ≡ false → m < n
+later_number : (m n : ℕ) → nat_le n m ≡ false → m < n
 later_number m n not_below = grind (arith, nat_tests)
 
-pub lawful_on_install : (s : State) (from : SiteNo) (g : GroupNo) (n : ℕ) (members : Membership) (request : ℕ) → IsLawful s → is_group s g ≡ true → IsLawful (on_install s from g n members request)
-lawful_on_install s from g n members request l listed =
-    let again : State = emitted s s.config.home (frame.Installed g n) in
-    lawful_if (elim (verdict_of (s.group g) n) [ Again ↦ again | Completes ↦ completing s g n members request | Ignored ↦ s ]) s (is_from_home s from)
-    (λ _. elim (verdict_of (s.group g) n) as (λ v. verdict_of (s.group g) n ≡ v → IsLawful (elim v [ Again ↦ again | Completes ↦ completing s g n members request | Ignored ↦ s ])) [
-      | Again ↦ λ _. lawful_emitted s s.config.home (frame.Installed g n) l
-      | Completes ↦ λ is. let unseen = completes_unseen (s.group g) n is in lawful_completing s g n members request l listed unseen.1 (later_number (s.group g).number n unseen.0)
-      | Ignored ↦ λ _. l
-    ] refl)
-    (λ _. l)
+-- what is received is of the view that its group has reached
+pub taken_current : (s : State) (h : GroupNo) (from : SiteNo) (m : Message) → IsTaken history s h from m → m.id.view ≡ (s.group m.id.group).number
+taken_current s h from m taken =
+    let there = placed_at s m.id.group h taken.at in
+    eqb-true m.id.view (s.group h).number (used_current history s h from m taken.used) ∙ ap (λ g. (s.group g).number) (sym there.1)
 
-pub same_on_installed : (s : State) (from : SiteNo) (g : GroupNo) (n : ℕ) → SameLaw s (on_installed s from g n)
-same_on_installed s from g n = same_if s (set_home s g (after_installed (s.home g) from n)) s (is_home s) (same_home s g (after_installed (s.home g) from n)) (same_self s)
+-- a view is entered by a configured group that has none, and is a later one
+pub record Enters (s : State) (h : GroupNo) (n : ℕ) : Type 0 where
+  pub listed : is_group s h ≡ true
+  pub unseen : has_view (s.group h) ≡ false
+  pub later : (s.group h).number < n
 
-pub lawful_on_frame : (s : State) (from : SiteNo) (f : SiteFrame) → IsLawful s → is_group s (group_of f) ≡ true → IsTypedFrame f → IsLawful (on_frame s from f)
-lawful_on_frame s from (frame.Data m) l listed typed = lawful_on_data s from m l typed.0
-lawful_on_frame s from (frame.Ack u) l listed typed = ack_keeps history IsLawful moves_lawful s l u.group from u
-lawful_on_frame s from (frame.Stable u) l listed typed = stable_keeps history IsLawful moves_lawful s l u.group from u
-lawful_on_frame s from (frame.Ask g number what p) l listed typed = lawful_same s (on_ask s from g number what p) (same_on_ask s from g number what p) l
-lawful_on_frame s from (frame.Asked g number full) l listed typed = lawful_same s (on_asked s from g number full) (same_on_asked s from g number full) l
-lawful_on_frame s from (frame.Prepare g view) l listed typed = l
-lawful_on_frame s from (frame.Flushed g view counts tail kept) l listed typed = l
-lawful_on_frame s from (frame.Want u) l listed typed = l
-lawful_on_frame s from (frame.Forward m) l listed typed = l
-lawful_on_frame s from (frame.Install g view members request cut tail) l listed typed = lawful_on_install s from g view members request l listed
-lawful_on_frame s from (frame.Installed g view) l listed typed = lawful_same s (on_installed s from g view) (same_on_installed s from g view) l
-lawful_on_frame s from (frame.Out g view) l listed typed = l
+pub entered : (s : State) (h g : GroupNo) (n : ℕ) (members : Membership) → IsEntered history s h g n members → Enters s h n
+entered s h g n members is =
+    let there = placed_at s g h is.at in
+    let seen = completes_unseen (s.group h) n is.completes in
+    record { listed = subst (λ x. is_group s x ≡ true) there.1 there.0; unseen = seen.1; later = later_number (s.group h).number n seen.0 }
 
-pub lawful_framed : (s : State) (from : SiteNo) (f : SiteFrame) → IsLawful s → IsTypedFrame f → IsLawful (framed s from f)
-lawful_framed s from f l typed =
-    lawful_if (on_frame s from f) s (is_site s from && is_group s (group_of f))
-    (λ ours. lawful_on_frame s from f l (and_parts (is_site s from) (is_group s (group_of f)) ours).1 typed)
-    (λ _. l)
+-- a history stays lawful at each move of the rules
+pub frames_lawful : IsInvariantOfFrames history IsLawful
+frames_lawful = record {
+  keeps = invariant_by_same IsLawful lawful_same;
+  receive = λ s l h from m taken. let same = taken_current s h from m taken in lawful_receiving s m l (stamp_sorted m.times taken.typed.0) (omega (arith, same));
+  note_request = λ s l g what p. lawful_same s _ (same_group_set s g (with_request (s.group g) what p) refl refl) l;
+  note_answer = λ s l g. lawful_same s _ (same_group_set s g (with_answer (s.group g)) refl refl) l;
+  note_applied = λ s l g from number p. lawful_same s _ (same_home s g (after_request (s.home g) from number p)) l;
+  note_installed = λ s l g from n. lawful_same s _ (same_home s g (after_installed (s.home g) from n)) l;
+  enter_view = λ s l h g n members request is. let e = entered s h g n members is in lawful_completing s h n members request l e.listed e.unseen e.later;
+}
 
 -- Events
 
@@ -259,7 +207,7 @@ lawful_acted s (event.Command d k c) l unborn typed =
       | true ↦ lawful_commanded s k c l
       | false ↦ l
     ]
-lawful_acted s (event.Frame d from f) l unborn typed = lawful_framed s from f l typed
+lawful_acted s (event.Frame d from f) l unborn typed = framed_keeps history IsLawful frames_lawful s l from f typed
 lawful_acted s (event.Tick t) l unborn typed = lawful_same s (tick history s t) (same_tick s t) l
 
 -- Deliveries
@@ -289,8 +237,8 @@ lawful_order_sent s g k content l may =
     let raises = may_raise (s.process k).time g (local s k) in
     let place = has_place (order_of s g) in
     let some = not (is_empty (unlisted s g k)) in
-    let a = and_parts (is_member ((s.process k).standing g)) (may_order s && (some && (place && raises))) may in
-    let b = and_parts (may_order s) (some && (place && raises)) a.1 in
+    let a = and_parts (is_member ((s.process k).standing g)) (may_order history s && (some && (place && raises))) may in
+    let b = and_parts (may_order history s) (some && (place && raises)) a.1 in
     let c = and_parts some (place && raises) b.1 in
     lawful_sending s g k content l (raised_sorted (s.process k).time g (local s k) (and_parts place raises c.1).1)
 
@@ -326,7 +274,7 @@ pub lawful_decide : (s : State) (g : GroupNo) → IsLawful s → IsLawful (decid
 lawful_decide s g l = lawful_same s (decide s g) (same_decide s g) l
 
 pub lawful_lead_all : (s : State) → IsLawful s → IsLawful (lead_all s)
-lawful_lead_all s l = lawful_if (fold decide s s.config.groups) s (is_home s) (λ _. lawful_fold decide lawful_decide s.config.groups s l) (λ _. l)
+lawful_lead_all s l = lawful_if (fold decide s s.config.groups) s (is_home history s) (λ _. lawful_fold decide lawful_decide s.config.groups s l) (λ _. l)
 
 -- The whole
 

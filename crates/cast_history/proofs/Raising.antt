@@ -1,7 +1,7 @@
 -- A history counts members alone, and each effect keeps it so: a member's count can always be raised.
 use Rattle.std.proofs.Common.{◌≡◌, ℕ, ◌+◌, ◌<◌, ◌≤◌, Bool, true, false, cond, [], ◌∷◌, ◌++◌, length, Contains, Option, Some, None, unwrap_or, refl, sym, ap, subst, ◌∙◌, ◌⊎◌, inl, inr, arith}
 use Rattle.std.specs.Prelude.{◌&&◌, ◌==◌, nat_lt, nat_le, if◌then◌else◌, filter}
-use Rattle.std.specs.List.{fold, list_all, list_any}
+use Rattle.std.specs.List.{list_all, list_any}
 use Rattle.std.specs.Ordering.{eq_by_cmp}
 use Rattle.std.specs.FinMap.Entries.{find, put, find-put}
 use Rattle.std.proofs.lemmas.Bool.{false≢true, false_from_ne_true, and_parts, and_from, or_cases, eqb-true, ltb-true, leb-true, le-leb, lt-ltb}
@@ -26,7 +26,6 @@ use Rattle.cast_clock.proofs.Raised.{enter_begins, enter_leaves}
 use Rattle.cast_clock.proofs.Valid.{sorted_time}
 use Rattle.cast_message.specs.declared.message.Body.{Body}
 use Rattle.cast_message.specs.declared.message.Message.{Message}
-use Rattle.cast_message.specs.declared.site.SiteFrame.TheVariants as frame
 use Rattle.cast_message.specs.declared.client.Push.TheVariants as push
 use Rattle.cast_message.specs.Membership.{Membership, is_members, is_held}
 use Rattle.cast_message.specs.Rising.{is_rising}
@@ -37,14 +36,15 @@ use Rattle.cast_model.specs.Session.{is_open, first_session}
 use Rattle.cast_model.specs.declared.group.Group.{Group}
 use Rattle.cast_model.specs.declared.config.DomainConfig.{DomainConfig}
 use Rattle.cast_model.specs.Group.{no_group, has_view, members_of, with_view, is_at, is_taken_in}
-use Rattle.cast_history.specs.State.{State, opening, local, serials, is_group, set_process, set_group, set_standing, others_of, gate_of, let_go, was_given}
+use Rattle.cast_history.specs.State.{State, opening, local, serials, is_group, set_process, set_group, set_standing, others_of, gate_of, let_go, was_given, receiving, pushing}
 use Rattle.cast_history.specs.Order.{is_ready_for}
-use Rattle.cast_history.specs.Effects.{receiving, sending_to, next_message, sending, told_of, with_delivery, delivering, pushing, enters, in_view, all_in_view, push_view, completing}
+use Rattle.cast_history.specs.Effects.{sending_to, next_message, sending, told_of, with_delivery, delivering}
+use Rattle.cast_history.specs.Entering.{enters, in_view, all_in_view, push_view, completing}
 use Rattle.cast_history.specs.Step.{opened}
 use Rattle.cast_history.specs.Run.{before_event}
 use Rattle.cast_history.specs.Lawful.{IsLawful}
 use Rattle.cast_history.specs.Raising.{IsTimeOf, IsFromMember, IsView, IsAmongMembers, CountsMembers, CanRaise}
-use Rattle.cast_history.proofs.Lawful.{SameLaw, same_emitted, same_pushing, same_sending_to, same_fold, seen_view, allowed_view, ready_allows, named_here}
+use Rattle.cast_history.proofs.Lawful.{SameLaw, same_pushing, same_sending_to, same_fold, seen_view, allowed_view, ready_allows, named_here}
 use Rattle.cast_history.proofs.Counting.{all_counted, time_joined, time_entered, time_raised, time_spelled, put_some, counted_put, counted_joined, raised_room, each_sender}
 
 -- Groups that are alike
@@ -387,10 +387,8 @@ module _ (s : State) (g : GroupNo) (n : ℕ) (members : Membership) (request : �
   pub counts_completing : CountsMembers (completing s g n members request)
   counts_completing =
       let all : State = all_in_view now g n members request in
-      let told : State = fold (push_view g n members) all (filter (enters s g members request) (serials s)) in
-      counts_same told (completing s g n members request) (same_emitted told s.config.home (frame.Installed g n))
-      (counts_same all told (same_fold (push_view g n members) (λ t k. same_pushing t k (push.View g n members)) (filter (enters s g members request) (serials s)) all)
-      counts_all_in_view)
+      counts_same all (completing s g n members request) (same_fold (push_view g n members) (λ t k. same_pushing t k (push.View g n members)) (filter (enters s g members request) (serials s)) all)
+      counts_all_in_view
 
 -- Sessions
 

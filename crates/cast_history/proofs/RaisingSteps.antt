@@ -1,16 +1,16 @@
 -- A history counts members alone in each state that it passes.
-use Rattle.std.proofs.Common.{◌≡◌, ℕ, ◌+◌, ◌≤◌, zero, suc, Bool, true, false, not, List, [], ◌∷◌, length, Some, None, refl, sym, subst, arith}
-use Rattle.std.specs.Prelude.{◌&&◌, ◌==◌, nat_lt, nat_le, if◌then◌else◌}
+use Rattle.std.proofs.Common.{◌≡◌, ℕ, ◌+◌, ◌≤◌, zero, suc, Bool, true, false, List, [], ◌∷◌, length, Some, None, refl, sym, subst, arith}
+use Rattle.std.specs.Prelude.{◌==◌, nat_lt, nat_le, if◌then◌else◌}
 use Rattle.std.specs.List.{fold, find, list_all, AllByRecursion}
 use Rattle.std.specs.FinMap.Entries.{is_sorted}
-use Rattle.std.proofs.lemmas.Bool.{eqb-true, and_parts, and_from, not-false}
+use Rattle.std.proofs.lemmas.Bool.{and_parts, and_from, not-false}
 use Rattle.cast_types.specs.declared.names.SiteNo.{SiteNo}
 use Rattle.cast_types.specs.declared.names.GroupNo.{GroupNo}
 use Rattle.cast_types.specs.declared.names.Standing.TheVariants.{Joining}
 use Rattle.cast_types.specs.declared.refusal.Refusal.{Refusal}
 use Rattle.cast_types.specs.declared.refusal.Refusal.TheVariants.{NotOpen, TooManySessions}
 use Rattle.cast_types.specs.declared.limits.TheConstants.{MAX_NUMBER, MAX_GROUPS}
-use Rattle.cast_types.specs.Names.{site_eq, group_cmp, proc_eq}
+use Rattle.cast_types.specs.Names.{group_cmp, proc_eq}
 use Rattle.cast_types.specs.Sets.{is_among}
 use Rattle.cast_types.specs.Repeat.{iterate}
 use Rattle.cast_types.specs.Counts.{is_counts}
@@ -20,18 +20,16 @@ use Rattle.cast_message.specs.declared.message.Body.TheVariants as body
 use Rattle.cast_message.specs.declared.message.Message.{Message}
 use Rattle.cast_message.specs.declared.site.Change.TheVariants as change
 use Rattle.cast_message.specs.declared.site.SiteFrame.{SiteFrame}
-use Rattle.cast_message.specs.declared.site.SiteFrame.TheVariants as frame
 use Rattle.cast_message.specs.declared.client.Request.{Request}
 use Rattle.cast_message.specs.declared.client.Request.TheVariants.{Join, Leave, Cast}
 use Rattle.cast_message.specs.declared.client.Push.TheVariants as push
-use Rattle.cast_message.specs.Membership.{Membership, is_members}
 use Rattle.cast_message.specs.Rising.{is_rising}
 use Rattle.cast_delay.specs.Ready.{is_member}
 use Rattle.cast_delay.proofs.Finds.{found_in}
 use Rattle.cast_order.specs.Order.{ids_to_list, place_after}
 use Rattle.cast_model.specs.declared.config.DomainConfig.{DomainConfig}
-use Rattle.cast_model.specs.declared.group.Verdict.TheVariants.{Again, Completes, Ignored}
-use Rattle.cast_model.specs.Group.{holder_at, members_of, verdict_of}
+use Rattle.cast_model.specs.Group.{holder_at, members_of, with_request, with_answer}
+use Rattle.cast_model.specs.Home.{after_request, after_installed}
 use Rattle.cast_model.specs.Session.{is_open}
 use Rattle.cast_message.specs.declared.client.Command.{Command}
 use Rattle.cast_message.specs.declared.client.Command.TheVariants as command
@@ -39,21 +37,23 @@ use Rattle.cast_model.specs.declared.event.Event.{Event}
 use Rattle.cast_model.specs.declared.event.Event.TheVariants as event
 use Rattle.cast_model.specs.declared.event.Taken.{Taken}
 use Rattle.cast_model.specs.declared.event.Taken.TheVariants as taken
-use Rattle.cast_history.specs.State.{State, opening, local, serials, is_home, is_site, is_group, is_received, is_well_formed, counts_itself, may_take, let_go, set_standing, emitted, was_given}
+use Rattle.cast_history.specs.State.{State, opening, local, serials, is_group, let_go, set_standing, was_given, pushing}
+use Rattle.cast_history.specs.Rules.Requests.{is_home}
 use Rattle.cast_history.specs.Order.{order_of, unlisted, is_ready_for}
-use Rattle.cast_history.specs.Effects.{pushing, receiving, sending, delivering, completing}
+use Rattle.cast_history.specs.Effects.{sending, delivering}
 use Rattle.cast_history.specs.Rules.Owing.{tick}
-use Rattle.cast_history.specs.Step.{acknowledging, data_used, first_refusal, join_tests, cast_tests, joining, attempting, body_of, requested, commanded, is_used, on_data, is_from_home, on_ask, on_asked, on_install, on_installed, group_of, on_frame, framed, opened, Effect, acted}
+use Rattle.cast_history.specs.Step.{first_refusal, join_tests, cast_tests, joining, attempting, body_of, requested, commanded, opened, Effect, acted}
 use Rattle.cast_history.specs.Rest.{deliver_first, deliver_all, settle, may_set_order, set_order_by, set_order, set_orders, decide, lead_all, pass}
 use Rattle.cast_history.specs.Run.{before_event, after_event, IsRun}
-use Rattle.cast_history.specs.Lawful.{IsLawful, IsTypedFrame, IsTyped}
+use Rattle.cast_history.specs.Lawful.{IsLawful, IsTyped}
 use Rattle.cast_history.specs.History.{history}
 use Rattle.cast_history.specs.Raising.{IsTimeOf, IsFromMember, CountsMembers, IsPassed, opens, begins, acts, lets_go, delivers, orders, decides, CountsCanBeRaised, CountsCanBeRaisedWithin, MembersAreCounted, RunsArePassed}
 use Rattle.cast_history.proofs.Spots.{found_passes}
-use Rattle.cast_history.proofs.Rules.Follows.{IsInvariant}
-use Rattle.cast_history.proofs.Rules.Stability.{ack_keeps, stable_keeps}
-use Rattle.cast_history.proofs.Lawful.{same_emitted, invariant_by_same, same_pushing, same_requesting, lawful_opening, lawful_before, lawful_let_go}
-use Rattle.cast_history.proofs.LawfulSteps.{each_passes, same_acknowledging, same_on_ask, same_on_asked, same_on_installed, same_tick, same_decide, completes_unseen, later_number, lawful_acted, lawful_first, lawful_set_order, lawful_decide}
+use Rattle.cast_history.proofs.Rules.Follows.{IsTaken, IsInvariantOfFrames}
+use Rattle.cast_history.proofs.Rules.Data.{used_known, used_of_member}
+use Rattle.cast_history.proofs.Rules.Frames.{framed_keeps}
+use Rattle.cast_history.proofs.Lawful.{same_home, same_group_set, invariant_by_same, lawful_same, same_pushing, same_request, lawful_opening, lawful_before, lawful_let_go}
+use Rattle.cast_history.proofs.LawfulSteps.{each_passes, same_tick, same_decide, placed_at, taken_current, entered, frames_lawful, lawful_acted, lawful_first, lawful_set_order, lawful_decide}
 use Rattle.cast_history.proofs.Counting.{is_clock_of, all_both}
 use Rattle.cast_history.proofs.Raising.{counts_same, counts_let_go, counts_before, counts_opening, counts_standing, counts_receiving, counts_sending, counts_delivering, counts_completing, counts_opened, next_unborn, can_raise}
 
@@ -75,7 +75,7 @@ counts_joining s k g c given =
     let request : ℕ = (s.group g).asked + 1 in
     let heard : ℕ = view_of (s.process k).time g in
     let now : State = set_standing s k g (Joining request heard) in
-    counts_same now (joining s k g) (same_requesting now g change.Join (local s k)) (counts_standing s k g request heard c given)
+    counts_same now (joining s k g) (same_request now g change.Join (local s k)) (counts_standing s k g request heard c given)
 
 counts_requested : (s : State) (k : ℕ) (r : Request) → IsLawful s → CountsMembers s → was_given s.used k ≡ true → CountsMembers (requested s k r)
 counts_requested s k (Join tag g) l c given = counts_attempting s k tag (join_tests s k g) (joining s k g) c (λ _. counts_joining s k g c given)
@@ -90,79 +90,42 @@ counts_commanded s k command.Bad l c given = c
 
 -- Frames
 
--- what is used is of configured groups, and from a member of the group's view
-used_time : (s : State) (from : SiteNo) (m : Message) → is_used s from m ≡ true → IsTypedFrame (frame.Data m) → IsTimeOf s.config.groups m.times
-used_time s from m used typed =
-    let here = m.id.view == (s.group m.id.group).number in
-    let formed = is_well_formed s (members_of (s.group m.id.group)) m in
-    let a = and_parts (site_eq m.id.proc.site from) (not (site_eq from s.here) && (here && formed)) used in
-    let b = and_parts (not (site_eq from s.here)) (here && formed) a.1 in
-    let f = and_parts here formed b.1 in
-    let g = and_parts (is_group s m.id.group) _ f.1 in
-    let known = (and_parts (list_all (λ e. is_group s e.0) m.times) (is_among proc_eq m.id.proc (members_of (s.group m.id.group)) && counts_itself m) g.1).0 in
-    let x = and_parts (is_sorted group_cmp m.times) _ typed.0 in
+-- what is received has a time of configured groups, and is from a member of the group's view
+taken_time : (s : State) (h : GroupNo) (from : SiteNo) (m : Message) → IsTaken history s h from m → IsTimeOf s.config.groups m.times
+taken_time s h from m taken =
+    let x = and_parts (is_sorted group_cmp m.times) _ taken.typed.0 in
     let y = and_parts (nat_lt 0 (length m.times)) _ x.1 in
     let seen = (and_parts (nat_le (length m.times) 32) (list_all (λ e. nat_lt 0 e.1.view) m.times) y.1).1 in
-    record { valid = and_from (is_sorted group_cmp m.times) (list_all (λ e. is_counts e.1.counts) m.times) x.0 typed.1; named = all_both (λ e. is_group s e.0) (λ e. nat_lt 0 e.1.view) (λ e. is_clock_of s.config.groups e.0 e.1) (λ e p q. and_from (is_group s e.0) (nat_lt 0 e.1.view) p q) m.times known seen }
+    record {
+      valid = and_from (is_sorted group_cmp m.times) (list_all (λ e. is_counts e.1.counts) m.times) x.0 taken.typed.1;
+      named = all_both (λ e. is_group s e.0) (λ e. nat_lt 0 e.1.view) (λ e. is_clock_of s.config.groups e.0 e.1) (λ e p q. and_from (is_group s e.0) (nat_lt 0 e.1.view) p q) m.times (used_known history s h from m taken.used) seen;
+    }
 
-used_from : (s : State) (from : SiteNo) (m : Message) → is_used s from m ≡ true → IsFromMember (s.group m.id.group) m.id
-used_from s from m used =
-    let here = m.id.view == (s.group m.id.group).number in
-    let formed = is_well_formed s (members_of (s.group m.id.group)) m in
-    let a = and_parts (site_eq m.id.proc.site from) (not (site_eq from s.here) && (here && formed)) used in
-    let b = and_parts (not (site_eq from s.here)) (here && formed) a.1 in
-    let f = and_parts here formed b.1 in
-    let g = and_parts (is_group s m.id.group) _ f.1 in
-    let h = and_parts (list_all (λ e. is_group s e.0) m.times) (is_among proc_eq m.id.proc (members_of (s.group m.id.group)) && counts_itself m) g.1 in
-    let same = eqb-true m.id.view (s.group m.id.group).number f.0 in
-    record { reached = omega (arith, same); member = λ _. (and_parts (is_among proc_eq m.id.proc (members_of (s.group m.id.group))) (counts_itself m) h.1).0 }
+taken_from : (s : State) (h : GroupNo) (from : SiteNo) (m : Message) → IsTaken history s h from m → IsFromMember (s.group m.id.group) m.id
+taken_from s h from m taken =
+    let there = placed_at s m.id.group h taken.at in
+    let same = taken_current s h from m taken in
+    record {
+      reached = omega (arith, same);
+      member = λ _. subst (λ g. is_among proc_eq m.id.proc (members_of (s.group g)) ≡ true) (sym there.1) (used_of_member history s h from m taken.used);
+    }
 
-counts_on_data : (s : State) (from : SiteNo) (m : Message) → CountsMembers s → IsTypedFrame (frame.Data m) → CountsMembers (on_data s from m)
-counts_on_data s from m c typed =
-    let now : State = receiving s m in
-    let after : State = acknowledging now from m.id in
-    counts_if (data_used s from m) s (is_used s from m)
-    (λ used. counts_if (emitted s from (frame.Ack m.id)) (if may_take s m.body then after else s) (is_received s m.id)
-    (λ _. counts_same s (emitted s from (frame.Ack m.id)) (same_emitted s from (frame.Ack m.id)) c)
-    (λ _. counts_if after s (may_take s m.body)
-    (λ _. counts_same now after (same_acknowledging now from m.id) (counts_receiving s m c (used_time s from m used typed) (used_from s from m used)))
-    (λ _. c)))
-    (λ _. c)
+-- it is lawful, and counts members alone
+abbrev IsCounted : State → Type 0
+IsCounted s = IsLawful s × CountsMembers s
 
-counts_on_install : (s : State) (from : SiteNo) (g : GroupNo) (n : ℕ) (members : Membership) (request : ℕ) → IsLawful s → CountsMembers s → is_group s g ≡ true → is_members members ≡ true → CountsMembers (on_install s from g n members request)
-counts_on_install s from g n members request l c listed typed =
-    let again : State = emitted s s.config.home (frame.Installed g n) in
-    counts_if (elim (verdict_of (s.group g) n) [ Again ↦ again | Completes ↦ completing s g n members request | Ignored ↦ s ]) s (is_from_home s from)
-    (λ _. elim (verdict_of (s.group g) n) as (λ v. verdict_of (s.group g) n ≡ v → CountsMembers (elim v [ Again ↦ again | Completes ↦ completing s g n members request | Ignored ↦ s ])) [
-      | Again ↦ λ _. counts_same s again (same_emitted s s.config.home (frame.Installed g n)) c
-      | Completes ↦ λ is. let unseen = completes_unseen (s.group g) n is in counts_completing s g n members request l c listed typed unseen.1 (later_number (s.group g).number n unseen.0)
-      | Ignored ↦ λ _. c
-    ] refl)
-    (λ _. c)
-
--- each move of the rules leaves it so that members alone are counted
-moves_counted : IsInvariant history CountsMembers
-moves_counted = invariant_by_same CountsMembers counts_same
-
-counts_on_frame : (s : State) (from : SiteNo) (f : SiteFrame) → IsLawful s → CountsMembers s → is_group s (group_of f) ≡ true → IsTypedFrame f → CountsMembers (on_frame s from f)
-counts_on_frame s from (frame.Data m) l c listed typed = counts_on_data s from m c typed
-counts_on_frame s from (frame.Ack u) l c listed typed = ack_keeps history CountsMembers moves_counted s c u.group from u
-counts_on_frame s from (frame.Stable u) l c listed typed = stable_keeps history CountsMembers moves_counted s c u.group from u
-counts_on_frame s from (frame.Ask g number what p) l c listed typed = counts_same s (on_ask s from g number what p) (same_on_ask s from g number what p) c
-counts_on_frame s from (frame.Asked g number full) l c listed typed = counts_same s (on_asked s from g number full) (same_on_asked s from g number full) c
-counts_on_frame s from (frame.Prepare g view) l c listed typed = c
-counts_on_frame s from (frame.Flushed g view counts tail kept) l c listed typed = c
-counts_on_frame s from (frame.Want u) l c listed typed = c
-counts_on_frame s from (frame.Forward m) l c listed typed = c
-counts_on_frame s from (frame.Install g view members request cut tail) l c listed typed = counts_on_install s from g view members request l c listed typed
-counts_on_frame s from (frame.Installed g view) l c listed typed = counts_same s (on_installed s from g view) (same_on_installed s from g view) c
-counts_on_frame s from (frame.Out g view) l c listed typed = c
-
-counts_framed : (s : State) (from : SiteNo) (f : SiteFrame) → IsLawful s → CountsMembers s → IsTypedFrame f → CountsMembers (framed s from f)
-counts_framed s from f l c typed =
-    counts_if (on_frame s from f) s (is_site s from && is_group s (group_of f))
-    (λ ours. counts_on_frame s from f l c (and_parts (is_site s from) (is_group s (group_of f)) ours).1 typed)
-    (λ _. c)
+-- each move of the rules leaves it so
+frames_counted : IsInvariantOfFrames history IsCounted
+frames_counted = record {
+  keeps = invariant_by_same IsCounted (λ s t a c. (lawful_same s t a c.0, counts_same s t a c.1));
+  receive = λ s c h from m taken. (frames_lawful.receive s c.0 h from m taken, counts_receiving s m c.1 (taken_time s h from m taken) (taken_from s h from m taken));
+  note_request = λ s c g what p. (frames_lawful.note_request s c.0 g what p, counts_same s _ (same_group_set s g (with_request (s.group g) what p) refl refl) c.1);
+  note_answer = λ s c g. (frames_lawful.note_answer s c.0 g, counts_same s _ (same_group_set s g (with_answer (s.group g)) refl refl) c.1);
+  note_applied = λ s c g from number p. (frames_lawful.note_applied s c.0 g from number p, counts_same s _ (same_home s g (after_request (s.home g) from number p)) c.1);
+  note_installed = λ s c g from n. (frames_lawful.note_installed s c.0 g from n, counts_same s _ (same_home s g (after_installed (s.home g) from n)) c.1);
+  enter_view = λ s c h g n members request is. let e = entered s h g n members is in
+      (frames_lawful.enter_view s c.0 h g n members request is, counts_completing s h n members request c.0 c.1 e.listed is.typed e.unseen e.later);
+}
 
 -- Events
 
@@ -177,7 +140,7 @@ counts_acted s (event.Command d k x) l c typed =
       | true ↦ λ is. counts_commanded s k x l c (c.opened k is)
       | false ↦ λ _. c
     ] refl
-counts_acted s (event.Frame d from f) l c typed = counts_framed s from f l c typed
+counts_acted s (event.Frame d from f) l c typed = (framed_keeps history IsCounted frames_counted s (l, c) from f typed).1
 counts_acted s (event.Tick t) l c typed = counts_same s (tick history s t) (same_tick s t) c
 
 -- Until the state rests
@@ -245,7 +208,7 @@ module _ (here : SiteNo) (config : DomainConfig) where
   passed_settle s p = passed_fold deliver_all (λ t k q. passed_iterate (length t.got) (deliver_first k) (λ u r. delivers u k r) t q) (serials s) s p
 
   passed_lead_all : (s : State) → Passed s → Passed (lead_all s)
-  passed_lead_all s p = elim (is_home s) as (λ b. Passed (if b then fold decide s s.config.groups else s)) [
+  passed_lead_all s p = elim (is_home history s) as (λ b. Passed (if b then fold decide s s.config.groups else s)) [
     | true ↦ passed_fold decide (λ t g q. decides t g q) s.config.groups s p
     | false ↦ p
   ]

@@ -20,9 +20,12 @@ use Rattle.cast_model.specs.declared.home.Home.{Home}
 use Rattle.cast_model.specs.Phase.{is_idle}
 use Rattle.cast_model.specs.Group.{holder_at, sites_of}
 use Rattle.cast_model.specs.Home.{is_empty, may_decide, decided}
-use Rattle.cast_history.specs.State.{State, serials, is_home, may_order, let_go, set_home}
+use Rattle.cast_history.specs.State.{State, serials, let_go, set_home, receiving}
+use Rattle.cast_history.specs.Rules.Requests.{is_home}
+use Rattle.cast_history.specs.History.{history}
+use Rattle.cast_history.specs.Rules.Room.{may_order}
 use Rattle.cast_history.specs.Order.{unlisted, is_ready_for}
-use Rattle.cast_history.specs.Effects.{receiving, sending_message, with_delivery}
+use Rattle.cast_history.specs.Effects.{sending_message, with_delivery}
 use Rattle.cast_history.specs.Rest.{deliver_first, deliver_all, settle, may_set_order, set_order_by, set_order, set_orders, send_install, install_frame, decide, lead_all, pass, RestsAt}
 use Rattle.cast_history.specs.Endings.{total, one_if, left, rank, ranks, undelivered, to_list_in, to_list, to_do, Moves, PassMoves, EachComesToRest, RestIsOne}
 use Rattle.cast_history.proofs.Alikes.{Alike, alike_then, alike_fold, alike_emitted, alike_let_go, alike_sending}
@@ -145,7 +148,7 @@ to_do_orders s g p at holder some =
 has_unlisted : (s : State) (g : GroupNo) (k : ℕ) → may_set_order s g k ≡ true → not (is_empty (unlisted s g k)) ≡ true
 has_unlisted s g k may =
     let a = and_parts (is_member ((s.process k).standing g)) _ may in
-    let b = and_parts (may_order s) _ a.1 in
+    let b = and_parts (may_order history s) _ a.1 in
     (and_parts (not (is_empty (unlisted s g k))) _ b.1).0
 
 moves_set_order_by : (s : State) (g : GroupNo) (p : Proc) → In g s.config.groups → holder_at s.here (s.group g) ≡ Some p → Moves s (set_order_by s g p.serial)
@@ -216,7 +219,7 @@ moves_decide s g at =
 
 moves_lead_all : (s : State) → Moves s (lead_all s)
 moves_lead_all s =
-    moves_if s (fold decide s s.config.groups) s (is_home s)
+    moves_if s (fold decide s s.config.groups) s (is_home history s)
     (λ _. moves_fold s decide s.config.groups (λ g at t u c. moves_decide t g (subst (λ x. In g x.groups) (sym c) at)) s refl refl)
     (moves_self s)
 

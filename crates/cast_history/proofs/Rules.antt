@@ -1,3 +1,7 @@
 pub mod Follows
 pub mod Owing
+pub mod Data
 pub mod Stability
+pub mod Requests
+pub mod Views
+pub mod Frames

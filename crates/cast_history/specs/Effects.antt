@@ -1,58 +1,31 @@
 -- What processes, messages, requests and views do to a state, and what is sent and pushed with it.
-use Rattle.std.specs.Prelude.{ℕ, Bool, ◌&&◌, ◌==◌, nat_lt, if◌then◌else◌, List, [], ◌∷◌, ◌++◌, filter, Option, Some, None}
+use Rattle.std.specs.Prelude.{ℕ, Bool, ◌&&◌, ◌==◌, nat_lt, if◌then◌else◌, List, [], ◌∷◌, ◌++◌, Option, Some, None}
 use Rattle.std.specs.List.{fold}
 use Rattle.cast_types.specs.declared.names.SiteNo.{SiteNo}
 use Rattle.cast_types.specs.declared.names.GroupNo.{GroupNo}
 use Rattle.cast_types.specs.declared.names.Proc.{Proc}
 use Rattle.cast_types.specs.declared.names.Uid.{Uid}
-use Rattle.cast_types.specs.declared.names.Standing.TheVariants.{Member}
-use Rattle.cast_types.specs.Names.{group_eq, proc_eq, is_atomic}
-use Rattle.cast_types.specs.Sets.{is_among, set_at}
+use Rattle.cast_types.specs.Names.{is_atomic}
+use Rattle.cast_types.specs.Sets.{set_at}
 use Rattle.cast_types.specs.declared.limits.TheConstants.{MAX_NUMBER}
 use Rattle.cast_types.specs.Stamps.{ClockList, is_stamp}
-use Rattle.cast_clock.specs.Times.{count_in, join, bumped, entering, has_room}
+use Rattle.cast_clock.specs.Times.{count_in, join, bumped, has_room}
 use Rattle.cast_message.specs.declared.message.Body.{Body}
 use Rattle.cast_message.specs.declared.message.Body.TheVariants as body
 use Rattle.cast_message.specs.declared.message.Message.{Message}
 use Rattle.cast_message.specs.Bodies.{kind_of}
-use Rattle.cast_message.specs.declared.site.Change.{Change}
-use Rattle.cast_message.specs.declared.site.SiteFrame.TheVariants as frame
 use Rattle.cast_message.specs.declared.client.CastKind.TheVariants as kind
 use Rattle.cast_message.specs.declared.client.Push.{Push}
 use Rattle.cast_message.specs.declared.client.Push.TheVariants as push
-use Rattle.cast_message.specs.Membership.{Membership}
 use Rattle.cast_stable.specs.Stable.{has_acked}
 use Rattle.cast_timer.specs.declared.key.OwedKind.TheVariants as kinds
 use Rattle.cast_delay.specs.Ready.{Process}
-use Rattle.cast_model.specs.Session.{is_open, pushed_to}
-use Rattle.cast_model.specs.Group.{with_request, with_view, is_taken_in}
-use Rattle.cast_model.specs.Home.{is_empty}
-use Rattle.cast_history.specs.State.{State, local, serials, set_session, set_process, set_group, emitted, others_of}
-use Rattle.cast_history.specs.Rules.Keys.{ask_key, message_key}
+use Rattle.cast_history.specs.State.{State, local, set_process, receiving, pushing, others_of}
+use Rattle.cast_history.specs.Rules.Keys.{message_key}
 use Rattle.cast_history.specs.Rules.Owing.{send_for, owe}
 use Rattle.cast_history.specs.History.{history}
 
--- Requests
-
--- the first request, where there is one, is owed to the home
-abbrev pub asking : State → GroupNo → State
-asking s g = if is_empty (s.group g).requests then s else owe history s (ask_key g s.config.home)
-
--- one more request; it is asked at once where it is the first
-abbrev pub requesting : State → GroupNo → Change → Proc → State
-requesting s g what p =
-    let next : State = set_group s g (with_request (s.group g) what p) in
-    if is_empty (s.group g).requests then asking next g else next
-
--- Pushes
-
-abbrev pub pushing : State → ℕ → Push → State
-pushing s k p = if is_open (s.session k) then set_session s k (pushed_to (s.session k) p) else s
-
 -- Messages
-
-abbrev pub receiving : State → Message → State
-receiving s m = record s { got = s.got ++ m ∷ []; kept = s.kept ++ m ∷ [] }
 
 -- a message is sent to a site, and owed to it until it has acknowledged it, as it may have done before
 abbrev pub sending_to : Uid → State → SiteNo → State
@@ -108,29 +81,3 @@ with_delivery s k m =
 abbrev pub delivering : State → ℕ → Message → State
 delivering s k m =
     elim (told_of m.id m.body) [ Some p ↦ pushing (with_delivery s k m) k p | None ↦ with_delivery s k m ]
-
--- Views
-
--- a view takes a process in: it names it, and the process is a member or its join was applied
-abbrev pub enters : State → GroupNo → Membership → ℕ → ℕ → Bool
-enters s g members request k =
-    is_taken_in request ((s.process k).standing g) && is_among proc_eq (local s k) members.list
-
--- a process in a view
-abbrev pub in_view : GroupNo → ℕ → Process → Process
-in_view g n p = record p { time = entering p.time g n; standing = set_at group_eq p.standing g Member }
-
-abbrev pub all_in_view : State → GroupNo → ℕ → Membership → ℕ → State
-all_in_view s g n members request =
-    record s { process = λ k. if enters s g members request k then in_view g n (s.process k) else s.process k }
-
-abbrev pub push_view : GroupNo → ℕ → Membership → State → ℕ → State
-push_view g n members s k = pushing s k (push.View g n members)
-
--- a view is complete: members and joining processes in it enter it and are told, and then the home
-abbrev pub completing : State → GroupNo → ℕ → Membership → ℕ → State
-completing s g n members request =
-    let now : State = set_group s g (with_view s.here n members (s.group g)) in
-    let told : State =
-    fold (push_view g n members) (all_in_view now g n members request) (filter (enters s g members request) (serials s)) in
-    emitted told s.config.home (frame.Installed g n)

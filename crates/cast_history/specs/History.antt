@@ -1,18 +1,27 @@
 -- The history of a domain as the rules see it.
-use Rattle.std.specs.Prelude.{if◌then◌else◌, Option, Some, None}
+use Rattle.std.specs.Prelude.{if◌then◌else◌, Some, None}
 use Rattle.cast_types.specs.declared.names.GroupNo.{GroupNo}
 use Rattle.cast_timer.specs.Owed.{is_owed, due_at}
-use Rattle.cast_history.specs.State.{State, is_group, emitted, message_of, others_of, upto, noting_ack, noting_stable}
+use Rattle.cast_model.specs.Group.{with_request, with_answer}
+use Rattle.cast_model.specs.Home.{after_request, after_installed}
+use Rattle.cast_history.specs.State.{State, is_group, set_group, set_home, emitted, receiving, is_received, held, message_of, others_of, is_stable, upto, noting_ack, noting_stable}
 use Rattle.cast_history.specs.Owing.{noting_owed, noting_resent, paying, paying_upto, at_moment}
+use Rattle.cast_history.specs.Entering.{completing}
 use Rattle.cast_history.specs.Rules.Interface.{Site}
 
 -- a group stands under its name
 abbrev pub history : Site State GroupNo
 history = record {
   here = λ s. s.here;
+  config = λ s. s.config;
   place = λ s g. if is_group s g then Some g else None;
+  name = λ s g. g;
   group = λ s g. s.group g;
+  home = λ s g. s.home g;
   others = others_of;
+  held = held;
+  is_received = is_received;
+  is_stable = is_stable;
   stable_upto = upto;
   message = message_of;
   is_owed = λ s key. is_owed s.owed key;
@@ -25,4 +34,10 @@ history = record {
   note_moment = at_moment;
   note_ack = noting_ack;
   note_stable = noting_stable;
+  receive = receiving;
+  note_request = λ s g what p. set_group s g (with_request (s.group g) what p);
+  note_answer = λ s g. set_group s g (with_answer (s.group g));
+  note_applied = λ s g from number p. set_home s g (after_request (s.home g) from number p);
+  note_installed = λ s g from n. set_home s g (after_installed (s.home g) from n);
+  enter_view = completing;
 }

@@ -1,9 +1,10 @@
 pub mod State
-pub mod Order
 pub mod Rules
 pub mod Owing
-pub mod Effects
+pub mod Entering
 pub mod History
+pub mod Order
+pub mod Effects
 pub mod Rest
 pub mod Step
 pub mod Run

@@ -15,7 +15,9 @@ use Rattle.cast_delay.specs.declared.turn.Turn.{Turn}
 use Rattle.cast_delay.specs.declared.turn.Turn.TheVariants.{Holding, Following}
 use Rattle.cast_delay.specs.Ready.{has_delivered, awaits, is_ready}
 use Rattle.cast_model.specs.Group.{holder_of, is_process}
-use Rattle.cast_history.specs.State.{State, local, is_stable, may_order, gate_of}
+use Rattle.cast_history.specs.State.{State, local, is_stable, gate_of}
+use Rattle.cast_history.specs.Rules.Room.{may_order}
+use Rattle.cast_history.specs.History.{history}
 
 -- Set-order messages
 
@@ -75,7 +77,7 @@ has_place order = nat_lt (length order) MAX_POSITION
 -- the holder may deliver one more ABCAST: fewer than 512 are unsettled, and there is a place for it
 abbrev pub has_room_for_order : State → GroupNo → ℕ → Bool
 has_room_for_order s g k =
-    may_order s && (nat_lt (length (unsettled s g k)) MAX_UNSETTLED && has_place (order_of s g ++ unlisted s g k))
+    may_order history s && (nat_lt (length (unsettled s g k)) MAX_UNSETTLED && has_place (order_of s g ++ unlisted s g k))
 
 -- Readiness
 

@@ -12,7 +12,10 @@ use Rattle.cast_model.specs.Home.{is_empty, applied_of, may_decide, decided}
 use Rattle.cast_message.specs.declared.message.Body.TheVariants as body
 use Rattle.cast_delay.specs.Ready.{is_member}
 use Rattle.cast_order.specs.Order.{ids_to_list, place_after}
-use Rattle.cast_history.specs.State.{State, local, serials, is_home, may_order, let_go, set_home, emitted}
+use Rattle.cast_history.specs.State.{State, local, serials, let_go, set_home, emitted}
+use Rattle.cast_history.specs.Rules.Room.{may_order}
+use Rattle.cast_history.specs.Rules.Requests.{is_home}
+use Rattle.cast_history.specs.History.{history}
 use Rattle.cast_history.specs.Order.{order_of, unlisted, has_place, is_ready_for}
 use Rattle.cast_history.specs.Effects.{may_raise, sending, delivering}
 
@@ -37,7 +40,7 @@ settle s = fold deliver_all s (serials s)
 abbrev pub may_set_order : State → GroupNo → ℕ → Bool
 may_set_order s g k =
     is_member ((s.process k).standing g)
-    && (may_order s
+    && (may_order history s
     && (not (is_empty (unlisted s g k))
     && (has_place (order_of s g)
     && may_raise (s.process k).time g (local s k))))
@@ -73,7 +76,7 @@ decide s g =
     else s
 
 abbrev pub lead_all : State → State
-lead_all s = if is_home s then fold decide s s.config.groups else s
+lead_all s = if is_home history s then fold decide s s.config.groups else s
 
 -- The whole
 

@@ -1,4 +1,9 @@
 pub mod Keys
 pub mod Interface
+pub mod Room
 pub mod Owing
+pub mod Data
 pub mod Stability
+pub mod Requests
+pub mod Views
+pub mod Frames

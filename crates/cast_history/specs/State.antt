@@ -1,5 +1,5 @@
 -- The state of one domain at one site, with its whole history, and what its parts say together.
-use Rattle.std.specs.Prelude.{ℕ, ◌*◌, Bool, not, ◌&&◌, ◌==◌, nat_lt, nat_le, if◌then◌else◌, List, [], ◌∷◌, ◌++◌, length, filter, Option}
+use Rattle.std.specs.Prelude.{ℕ, Bool, not, ◌&&◌, ◌==◌, nat_lt, nat_le, if◌then◌else◌, List, [], ◌∷◌, ◌++◌, length, filter, Option}
 use Rattle.std.specs.List.{find, list_any, list_all, range_with_len}
 use Rattle.cast_types.specs.declared.names.SiteNo.{SiteNo}
 use Rattle.cast_types.specs.declared.names.GroupNo.{GroupNo}
@@ -7,18 +7,17 @@ use Rattle.cast_types.specs.declared.names.Proc.{Proc}
 use Rattle.cast_types.specs.declared.names.Uid.{Uid}
 use Rattle.cast_types.specs.declared.names.Standing.{Standing}
 use Rattle.cast_types.specs.declared.names.Standing.TheVariants.{Outside}
-use Rattle.cast_types.specs.Names.{site_eq, group_eq, proc_eq, uid_eq, is_order}
+use Rattle.cast_types.specs.Names.{site_eq, group_eq, uid_eq}
 use Rattle.cast_types.specs.Sets.{is_among, set_at}
-use Rattle.cast_clock.specs.Times.{no_time, clock_of, count_in}
+use Rattle.cast_clock.specs.Times.{no_time}
 use Rattle.cast_message.specs.declared.message.Message.{Message}
-use Rattle.cast_message.specs.Bodies.{kind_of}
-use Rattle.cast_message.specs.declared.message.Body.{Body}
 use Rattle.cast_message.specs.declared.site.SiteFrame.{SiteFrame}
 use Rattle.cast_stable.specs.Stable.{Acked, stable_upto, is_known_stable}
 use Rattle.cast_timer.specs.declared.key.Owed.{Owed}
 use Rattle.cast_delay.specs.Ready.{Process, Gate, is_member, has_delivered}
 use Rattle.cast_model.specs.declared.session.Session.{Session}
-use Rattle.cast_model.specs.Session.{no_session}
+use Rattle.cast_message.specs.declared.client.Push.{Push}
+use Rattle.cast_model.specs.Session.{no_session, is_open, pushed_to}
 use Rattle.cast_model.specs.declared.group.Group.{Group}
 use Rattle.cast_model.specs.Group.{no_group, members_of, other_sites, is_current}
 use Rattle.cast_model.specs.declared.home.Home.{Home}
@@ -87,9 +86,6 @@ serials s = range_with_len 1 s.used
 abbrev pub was_given : ℕ → ℕ → Bool
 was_given used k = nat_lt 0 k && nat_le k used
 
-abbrev pub is_home : State → Bool
-is_home s = site_eq s.here s.config.home
-
 abbrev pub is_site : State → SiteNo → Bool
 is_site s t = is_among site_eq t s.config.sites
 
@@ -117,6 +113,10 @@ set_standing s k g v =
 abbrev pub emitted : State → SiteNo → SiteFrame → State
 emitted s to f = record s { frames = s.frames ++ (to, f) ∷ [] }
 
+-- a program is told something
+abbrev pub pushing : State → ℕ → Push → State
+pushing s k p = if is_open (s.session k) then set_session s k (pushed_to (s.session k) p) else s
+
 -- Messages
 
 abbrev pub is_received : State → Uid → Bool
@@ -126,18 +126,9 @@ is_received s u = list_any (λ m. uid_eq m.id u) s.got
 abbrev pub held : State → ℕ
 held s = length s.kept
 
--- a cast, or a cast from another site, may be received beside those that are kept
-abbrev pub may_receive : State → Bool
-may_receive s = nat_lt (held s) s.config.quotas.held
-
--- a set-order message may be sent or received beside them, and a holder may deliver an ABCAST: there is room for these
--- where casts find none
-abbrev pub may_order : State → Bool
-may_order s = nat_lt (held s) (2 * s.config.quotas.held)
-
--- a message of this body may be received from another site
-abbrev pub may_take : State → Body → Bool
-may_take s b = if is_order (kind_of b) then may_order s else may_receive s
+-- a message is received
+abbrev pub receiving : State → Message → State
+receiving s m = record s { got = s.got ++ m ∷ []; kept = s.kept ++ m ∷ [] }
 
 -- the kept message of an id
 abbrev pub message_of : State → Uid → Option Message
@@ -182,14 +173,3 @@ let_go s = record s { kept = filter (λ m. not (is_free s m.id)) s.kept }
 
 abbrev pub gate_of : State → GroupNo → Gate
 gate_of s g = record { number = (s.group g).number }
-
--- the message's own time has its view and its count, from 1 on
-abbrev pub counts_itself : Message → Bool
-counts_itself m =
-    ((clock_of m.times m.id.group).view == m.id.view)
-    && (nat_lt 0 m.id.count && (count_in m.times m.id.group m.id.proc == m.id.count))
-
--- well formed: all its groups are configured, its process is one of these, and its own time counts it
-abbrev pub is_well_formed : State → List Proc → Message → Bool
-is_well_formed s members m =
-    is_group s m.id.group && (list_all (λ c. is_group s c.0) m.times && (is_among proc_eq m.id.proc members && counts_itself m))

@@ -1,16 +1,25 @@
 -- When what a rule leads to at one site stands for what it leads to at another: where each question has the same answer at both, and each
 -- move leads to states that stand for each other. So what is to be shown of two sites is one fact for each question and each move.
 use Rattle.std.proofs.Common.{◌≡◌, ℕ, Bool, true, false, List, [], ◌∷◌, Option, Some, None, refl, sym, ap, subst}
-use Rattle.std.specs.Prelude.{⊤, if◌then◌else◌}
+use Rattle.std.specs.Prelude.{⊤, nat_lt, if◌then◌else◌}
 use Rattle.std.specs.List.{fold}
 use Rattle.std.specs.Option.{option_map_or}
 use Rattle.std.proofs.lemmas.Bool.{false≢true}
 use Rattle.cast_types.specs.declared.names.SiteNo.{SiteNo}
 use Rattle.cast_types.specs.declared.names.GroupNo.{GroupNo}
+use Rattle.cast_types.specs.declared.names.Proc.{Proc}
 use Rattle.cast_types.specs.declared.names.Uid.{Uid}
+use Rattle.cast_message.specs.declared.message.Message.{Message}
+use Rattle.cast_message.specs.declared.site.Change.{Change}
 use Rattle.cast_message.specs.declared.site.SiteFrame.{SiteFrame}
+use Rattle.cast_message.specs.declared.site.SiteFrame.TheVariants as frame
+use Rattle.cast_message.specs.Membership.{Membership, is_members}
 use Rattle.cast_timer.specs.declared.key.OwedKey.{OwedKey}
+use Rattle.cast_model.specs.declared.group.Verdict.TheVariants.{Completes}
+use Rattle.cast_model.specs.Group.{verdict_of}
+use Rattle.cast_history.specs.Lawful.{IsTypedFrame}
 use Rattle.cast_history.specs.Rules.Interface.{Site}
+use Rattle.cast_history.specs.Rules.Data.{is_used}
 
 -- something stands at both places, or there is none
 abbrev pub AtBoth : {H K : Type 0} → (H → K → Type 0) → Option H → Option K → Type 0
@@ -22,6 +31,7 @@ AtBoth stands None None = ⊤
 -- fits r s: r stands for s; stands h k: what is at h in the one is the group at k in the other
 pub record Follows {R S H K : Type 0} (a : Site R H) (b : Site S K) (fits : R → S → Type 0) (stands : H → K → Type 0) : Type 0 where
   pub here : (r : R) (s : S) → fits r s → a.here r ≡ b.here s
+  pub config : (r : R) (s : S) → fits r s → a.config r ≡ b.config s
   pub place : (r : R) (s : S) → fits r s → (g : GroupNo) → AtBoth stands (a.place r g) (b.place s g)
   pub group : (r : R) (s : S) → fits r s → (h : H) (k : K) → stands h k → a.group r h ≡ b.group s k
   pub others : (r : R) (s : S) → fits r s → (g : GroupNo) → a.others r g ≡ b.others s g
@@ -37,6 +47,35 @@ pub record Follows {R S H K : Type 0} (a : Site R H) (b : Site S K) (fits : R �
   pub note_moment : (r : R) (s : S) → fits r s → (t : ℕ) → fits (a.note_moment r t) (b.note_moment s t)
   pub note_ack : (r : R) (s : S) → fits r s → (from : SiteNo) (u : Uid) → fits (a.note_ack r from u) (b.note_ack s from u)
   pub note_stable : (r : R) (s : S) → fits r s → (u : Uid) → fits (a.note_stable r u) (b.note_stable s u)
+
+-- What is known of a message of another site that is received
+
+pub record IsTaken {S H : Type 0} (d : Site S H) (s : S) (h : H) (from : SiteNo) (m : Message) : Type 0 where
+  pub at : d.place s m.id.group ≡ Some h
+  pub used : is_used d s h from m ≡ true
+  pub typed : IsTypedFrame (frame.Data m)
+
+-- and of a view that is entered
+
+pub record IsEntered {S H : Type 0} (d : Site S H) (s : S) (h : H) (g : GroupNo) (n : ℕ) (members : Membership) : Type 0 where
+  pub at : d.place s g ≡ Some h
+  pub completes : verdict_of (d.group s h) n ≡ Completes
+  pub typed : is_members members ≡ true
+
+-- the same of what frames ask and do beside
+pub record FollowsFrames {R S H K : Type 0} (a : Site R H) (b : Site S K) (fits : R → S → Type 0) (stands : H → K → Type 0) : Type 0 where
+  pub follows : Follows a b fits stands
+  pub name : (r : R) (s : S) → fits r s → (h : H) (k : K) → stands h k → a.name r h ≡ b.name s k
+  pub home : (r : R) (s : S) → fits r s → (h : H) (k : K) → stands h k → a.home r h ≡ b.home s k
+  pub held : (r : R) (s : S) → fits r s → a.held r ≡ b.held s
+  pub is_received : (r : R) (s : S) → fits r s → (u : Uid) → nat_lt 0 u.count ≡ true → a.is_received r u ≡ b.is_received s u
+  pub is_stable : (r : R) (s : S) → fits r s → (u : Uid) → nat_lt 0 u.count ≡ true → a.is_stable r u ≡ b.is_stable s u
+  pub receive : (r : R) (s : S) → fits r s → (k : K) (from : SiteNo) (m : Message) → IsTaken b s k from m → fits (a.receive r m) (b.receive s m)
+  pub note_request : (r : R) (s : S) → fits r s → (h : H) (k : K) → stands h k → (what : Change) (p : Proc) → fits (a.note_request r h what p) (b.note_request s k what p)
+  pub note_answer : (r : R) (s : S) → fits r s → (h : H) (k : K) → stands h k → fits (a.note_answer r h) (b.note_answer s k)
+  pub note_applied : (r : R) (s : S) → fits r s → (h : H) (k : K) → stands h k → (from : SiteNo) (number : ℕ) (p : Proc) → fits (a.note_applied r h from number p) (b.note_applied s k from number p)
+  pub note_installed : (r : R) (s : S) → fits r s → (h : H) (k : K) → stands h k → (from : SiteNo) (n : ℕ) → fits (a.note_installed r h from n) (b.note_installed s k from n)
+  pub enter_view : (r : R) (s : S) → fits r s → (h : H) (k : K) → stands h k → (g : GroupNo) (n : ℕ) (members : Membership) (request : ℕ) → IsEntered b s k g n members → fits (a.enter_view r h n members request) (b.enter_view s k n members request)
 
 -- What rules are made of
 
@@ -73,6 +112,16 @@ pub record IsInvariant {S H : Type 0} (d : Site S H) (holds : S → Type 0) : Ty
   pub note_ack : (s : S) → holds s → (from : SiteNo) (u : Uid) → holds (d.note_ack s from u)
   pub note_stable : (s : S) → holds s → (u : Uid) → holds (d.note_stable s u)
 
+-- and after each move of frames
+pub record IsInvariantOfFrames {S H : Type 0} (d : Site S H) (holds : S → Type 0) : Type 0 where
+  pub keeps : IsInvariant d holds
+  pub receive : (s : S) → holds s → (h : H) (from : SiteNo) (m : Message) → IsTaken d s h from m → holds (d.receive s m)
+  pub note_request : (s : S) → holds s → (h : H) (what : Change) (p : Proc) → holds (d.note_request s h what p)
+  pub note_answer : (s : S) → holds s → (h : H) → holds (d.note_answer s h)
+  pub note_applied : (s : S) → holds s → (h : H) (from : SiteNo) (number : ℕ) (p : Proc) → holds (d.note_applied s h from number p)
+  pub note_installed : (s : S) → holds s → (h : H) (from : SiteNo) (n : ℕ) → holds (d.note_installed s h from n)
+  pub enter_view : (s : S) → holds s → (h : H) (g : GroupNo) (n : ℕ) (members : Membership) (request : ℕ) → IsEntered d s h g n members → holds (d.enter_view s h n members request)
+
 -- a site follows itself, in the same state, of which an invariant holds
 abbrev pub AlsoHolds : {S : Type 0} → (S → Type 0) → S → S → Type 0
 AlsoHolds holds r s = (r ≡ s) × holds s
@@ -87,6 +136,7 @@ at_itself None p same = subst (AtBoth SamePlace None) same tt
 pub follows_itself : {S H : Type 0} (d : Site S H) (holds : S → Type 0) → IsInvariant d holds → Follows d d (AlsoHolds holds) SamePlace
 follows_itself d holds keeps = record {
   here = λ r s f. ap d.here f.0;
+  config = λ r s f. ap d.config f.0;
   place = λ r s f g. at_itself (d.place r g) (d.place s g) (λ i. d.place (f.0 i) g);
   group = λ r s f h k at. λ i. d.group (f.0 i) (at i);
   others = λ r s f g. λ i. d.others (f.0 i) g;
@@ -102,4 +152,42 @@ follows_itself d holds keeps = record {
   note_moment = λ r s f t. (λ i. d.note_moment (f.0 i) t, keeps.note_moment s f.1 t);
   note_ack = λ r s f from u. (λ i. d.note_ack (f.0 i) from u, keeps.note_ack s f.1 from u);
   note_stable = λ r s f u. (λ i. d.note_stable (f.0 i) u, keeps.note_stable s f.1 u);
+}
+
+pub follows_itself_in_frames : {S H : Type 0} (d : Site S H) (holds : S → Type 0) → IsInvariantOfFrames d holds → FollowsFrames d d (AlsoHolds holds) SamePlace
+follows_itself_in_frames d holds keeps = record {
+  follows = follows_itself d holds keeps.keeps;
+  name = λ r s f h k at. λ i. d.name (f.0 i) (at i);
+  home = λ r s f h k at. λ i. d.home (f.0 i) (at i);
+  held = λ r s f. ap d.held f.0;
+  is_received = λ r s f u counted. λ i. d.is_received (f.0 i) u;
+  is_stable = λ r s f u counted. λ i. d.is_stable (f.0 i) u;
+  receive = λ r s f k from m taken. (λ i. d.receive (f.0 i) m, keeps.receive s f.1 k from m taken);
+  note_request = λ r s f h k at what p. (λ i. d.note_request (f.0 i) (at i) what p, keeps.note_request s f.1 k what p);
+  note_answer = λ r s f h k at. (λ i. d.note_answer (f.0 i) (at i), keeps.note_answer s f.1 k);
+  note_applied = λ r s f h k at from number p. (λ i. d.note_applied (f.0 i) (at i) from number p, keeps.note_applied s f.1 k from number p);
+  note_installed = λ r s f h k at from n. (λ i. d.note_installed (f.0 i) (at i) from n, keeps.note_installed s f.1 k from n);
+  enter_view = λ r s f h k at g n members request entered. (λ i. d.enter_view (f.0 i) (at i) n members request, keeps.enter_view s f.1 k g n members request entered);
+}
+
+-- a site that follows another follows it also in states of which an invariant holds
+pub with_invariant : {R S H K : Type 0} (a : Site R H) (b : Site S K) (fits : R → S → Type 0) (stands : H → K → Type 0) (holds : S → Type 0) → Follows a b fits stands → IsInvariant b holds → Follows a b (λ r s. fits r s × holds s) stands
+with_invariant a b fits stands holds follows keeps = record {
+  here = λ r s f. follows.here r s f.0;
+  config = λ r s f. follows.config r s f.0;
+  place = λ r s f. follows.place r s f.0;
+  group = λ r s f. follows.group r s f.0;
+  others = λ r s f. follows.others r s f.0;
+  stable_upto = λ r s f. follows.stable_upto r s f.0;
+  message = λ r s f. follows.message r s f.0;
+  is_owed = λ r s f. follows.is_owed r s f.0;
+  due = λ r s f. follows.due r s f.0;
+  send = λ r s f to x. (follows.send r s f.0 to x, keeps.send s f.1 to x);
+  note_owed = λ r s f key. (follows.note_owed r s f.0 key, keeps.note_owed s f.1 key);
+  note_resent = λ r s f key. (follows.note_resent r s f.0 key, keeps.note_resent s f.1 key);
+  pay = λ r s f key. (follows.pay r s f.0 key, keeps.pay s f.1 key);
+  pay_upto = λ r s f key. (follows.pay_upto r s f.0 key, keeps.pay_upto s f.1 key);
+  note_moment = λ r s f t. (follows.note_moment r s f.0 t, keeps.note_moment s f.1 t);
+  note_ack = λ r s f from u. (follows.note_ack r s f.0 from u, keeps.note_ack s f.1 from u);
+  note_stable = λ r s f u. (follows.note_stable r s f.0 u, keeps.note_stable s f.1 u);
 }

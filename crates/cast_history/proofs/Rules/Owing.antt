@@ -56,10 +56,10 @@ module _ {R S H K : Type 0} (a : Site R H) (b : Site S K) (fits : R → S → Ty
   pub tick_follows : (r : R) (s : S) → fits r s → (t : ℕ) → fits (tick a r t) (tick b s t)
   tick_follows r s f t =
       let at : R = a.note_moment r t in
-      let then : S = b.note_moment s t in
-      let now : fits at then = follows.note_moment r s f t in
-      subst (λ keys. fits (fold (resend a) at keys) (resend_due b then)) (sym (follows.due at then now))
-      (each fits (resend a) (resend b) resend_follows (b.due then) at then now)
+      let after : S = b.note_moment s t in
+      let now : fits at after = follows.note_moment r s f t in
+      subst (λ keys. fits (fold (resend a) at keys) (resend_due b after)) (sym (follows.due at after now))
+      (each fits (resend a) (resend b) resend_follows (b.due after) at after now)
 
 -- an invariant of the moves holds after each of these rules
 module _ {S H : Type 0} (d : Site S H) (holds : S → Type 0) (keeps : IsInvariant d holds) where

@@ -3,22 +3,37 @@
 use Rattle.std.specs.Prelude.{ℕ, Bool, List, Option}
 use Rattle.cast_types.specs.declared.names.SiteNo.{SiteNo}
 use Rattle.cast_types.specs.declared.names.GroupNo.{GroupNo}
+use Rattle.cast_types.specs.declared.names.Proc.{Proc}
 use Rattle.cast_types.specs.declared.names.Uid.{Uid}
 use Rattle.cast_message.specs.declared.message.Message.{Message}
+use Rattle.cast_message.specs.declared.site.Change.{Change}
 use Rattle.cast_message.specs.declared.site.SiteFrame.{SiteFrame}
+use Rattle.cast_message.specs.Membership.{Membership}
 use Rattle.cast_timer.specs.declared.key.OwedKey.{OwedKey}
+use Rattle.cast_model.specs.declared.config.DomainConfig.{DomainConfig}
 use Rattle.cast_model.specs.declared.group.Group.{Group}
+use Rattle.cast_model.specs.declared.home.Home.{Home}
 
 -- an S is what is known of the domain, and an H says where a group stands in it; first comes what a rule asks, and from `send` on what it does
 pub record Site (S H : Type 0) : Type 0 where
   -- the site's number
   pub here : S → SiteNo
+  pub config : S → DomainConfig
   -- where a group of the domain's configuration stands
   pub place : S → GroupNo → Option H
+  pub name : S → H → GroupNo
   -- a group: its view, and the requests of its processes here
   pub group : S → H → Group
+  -- what the home keeps of a group
+  pub home : S → H → Home
   -- the other sites of a group's view
   pub others : S → GroupNo → List SiteNo
+  -- how many messages are kept, over all groups
+  pub held : S → ℕ
+  -- a message was received; a count is at least 1
+  pub is_received : S → Uid → Bool
+  -- a message is known to be stable; a count is at least 1
+  pub is_stable : S → Uid → Bool
   -- how many messages of a local process are stable, in a view that has another site
   pub stable_upto : S → Uid → ℕ
   -- the kept message of an id
@@ -43,3 +58,16 @@ pub record Site (S H : Type 0) : Type 0 where
   pub note_ack : S → SiteNo → Uid → S
   -- it is noted that a process's messages up to one are stable
   pub note_stable : S → Uid → S
+  -- a message of another site is received
+  pub receive : S → Message → S
+  -- a local process has a request of a group
+  pub note_request : S → H → Change → Proc → S
+  -- the first request of a group is answered
+  pub note_answer : S → H → S
+  -- the home applies a request of a site to join
+  pub note_applied : S → H → SiteNo → ℕ → Proc → S
+  -- the home awaits a site no more that has installed a view
+  pub note_installed : S → H → SiteNo → ℕ → S
+  -- a group has a new view, with these members; the local processes that it takes in enter it, and are told: a member, and one whose request to
+  -- join was applied, by the number of the last one of this site that was
+  pub enter_view : S → H → ℕ → Membership → ℕ → S

@@ -6,9 +6,10 @@ use Rattle.cast_clock.specs.Times.{bumped, count_in}
 use Rattle.cast_history.specs.Step.{body_of}
 use Rattle.cast_delay.specs.Ready.{is_member}
 use Rattle.cast_delay.specs.declared.row.Fact.TheVariants as fact
+use Rattle.cast_history.specs.Rules.Room.{may_receive}
 use Rattle.cast_domain.specs.Records.{records_in}
 use Rattle.cast_history.specs.Effects.{may_raise}
-use Rattle.cast_domain.specs.Calls.{awaits_own_in, has_room_in, record_at, send_message_in, tell_in, standing_of, time_of, local_in}
+use Rattle.cast_domain.specs.Calls.{awaits_own_in, records, record_at, send_message_in, tell_in, standing_of, time_of, local_in}
 use Rattle.cast_domain.proofs.Attempts.{sent, cast_made, cast_owned, cast_full, cast_unraised, raised_none, raised_some}
 use Rattle.cast_domain.proofs.Loops.{seen_as}
 use Rattle.cast_domain.proofs.domain.Domain.cast_at.Goals as goal
@@ -42,7 +43,7 @@ returns-in_default-clause-made c =
     let member : is_member (standing_of r.delay (local_in r k) g) ≡ true =
     ap is_member (sym (c.standing.ensures.value ∙ ap (λ x. standing_of r.delay x g) p) ∙ c.in-Member.is) in
     let own : awaits_own_in r (local_in r k) ≡ false = sym (c.awaits_own.ensures c.args.outs.now ∙ ap (awaits_own_in r) p) ∙ c.if-awaits_own.false in
-    let room : has_room_in r ≡ true = sym (c.has_room.ensures c.args.outs.now) ∙ c.if-not-has_room.false in
+    let room : may_receive records r ≡ true = sym (c.has_room.ensures c.args.outs.now) ∙ c.if-not-has_room.false in
     let may : may_raise (time_of r.delay q) g q ≡ false = raised_none (may_raise (time_of r.delay q) g q) (bumped (time_of r.delay q) g q) (sym c.in_default.is ∙ c.in_ok-time.ensures) in
     sym (cast_unraised r k g c.args.kind c.args.payload.now c.args.place short member own room (ap (λ x. may_raise (time_of r.delay x) g x) (sym p) ∙ may))
 
@@ -63,7 +64,7 @@ returns-clause-made c =
     let short : nat_lt MAX_PAYLOAD (length c.args.payload.now) ≡ false = grind (arith, nat_tests) in
     let member : is_member (standing_of r.delay (local_in r k) g) ≡ true =
     ap is_member (sym (c.standing.ensures.value ∙ ap (λ x. standing_of r.delay x g) p) ∙ c.in-Member.is) in
-    let room : has_room_in r ≡ true = sym (c.has_room.ensures c.args.outs.now) ∙ c.if-not-has_room.false in
+    let room : may_receive records r ≡ true = sym (c.has_room.ensures c.args.outs.now) ∙ c.if-not-has_room.false in
     let own : awaits_own_in r (local_in r k) ≡ false = sym (c.awaits_own.ensures c.args.outs.now ∙ ap (awaits_own_in r) p) ∙ c.if-awaits_own.false in
     let may : may_raise (time_of r.delay (local_in r k)) g (local_in r k) ≡ true = ap (λ x. may_raise (time_of r.delay x) g x) (sym p) ∙ raised.0 in
     ◌∙◌ {b = (sent r k g c.args.kind c.args.payload.now i, None)}

@@ -5,8 +5,9 @@ use Rattle.std.proofs.lemmas.Result.{on_ok_weaker}
 use Rattle.cast_types.specs.Places.{update}
 use Rattle.cast_message.specs.declared.site.SiteFrame.TheVariants as frame
 use Rattle.cast_model.specs.Home.{applied_of, after_request}
+use Rattle.cast_history.specs.Rules.Requests.{is_home}
 use Rattle.cast_domain.specs.Records.{Records, records_of}
-use Rattle.cast_domain.specs.Calls.{asked_frame_at, is_home_in, record_at, send_in}
+use Rattle.cast_domain.specs.Calls.{records, record_at, send_in}
 use Rattle.cast_domain.proofs.domain.Domain.join_asked_of_home.Goals as goal
 
 pub returns-then-number-applied-clause-made : goal.returns-then-number-applied-clause-made
@@ -18,10 +19,10 @@ returns-then-number-applied-clause-made c =
     let from = c.args.from in
     let number = c.args.number in
     let applied = applied_of (record_at r.groups i).home from in
-    let again : Records = send_in r from (asked_frame_at r i number) in
-    let new : Records = send_in (record r { groups = update r.groups i (λ x. record x { home = after_request x.home from number c.args.process }) }) from (asked_frame_at r i number) in
+    let again : Records = send_in r from (frame.Asked (record_at r.groups i).name number false) in
+    let new : Records = send_in (record r { groups = update r.groups i (λ x. record x { home = after_request x.home from number c.args.process }) }) from (frame.Asked (record_at r.groups i).name number false) in
     let known : Records = if nat_le number applied then again else r in
-    let home : is_home_in r ≡ true = sym c.is_home.ensures ∙ c.if-not-is_home.false in
+    let home : is_home records r ≡ true = sym c.is_home.ensures ∙ c.if-not-is_home.false in
     let last : c.last_applied-applied.result ≡ applied = c.last_applied-applied.ensures ∙ ap (λ x. applied_of x.home from) c.record-2.ensures in
     let follows : (number == c.last_applied-applied.result + 1) ≡ true = grind (arith, nat_tests) in
     let next : (number == applied + 1) ≡ true = ap (λ n. number == n + 1) (sym last) ∙ follows in
@@ -40,10 +41,10 @@ returns-clause-made c =
     let from = c.args.from in
     let number = c.args.number in
     let applied = applied_of (record_at r.groups i).home from in
-    let again : Records = send_in r from (asked_frame_at r i number) in
-    let new : Records = send_in (record r { groups = update r.groups i (λ x. record x { home = after_request x.home from number c.args.process }) }) from (asked_frame_at r i number) in
+    let again : Records = send_in r from (frame.Asked (record_at r.groups i).name number false) in
+    let new : Records = send_in (record r { groups = update r.groups i (λ x. record x { home = after_request x.home from number c.args.process }) }) from (frame.Asked (record_at r.groups i).name number false) in
     let known : Records = if nat_le number applied then again else r in
-    let home : is_home_in r ≡ true = sym c.is_home.ensures ∙ c.if-not-is_home.false in
+    let home : is_home records r ≡ true = sym c.is_home.ensures ∙ c.if-not-is_home.false in
     let last : c.last_applied-applied.result ≡ applied = c.last_applied-applied.ensures ∙ ap (λ x. applied_of x.home from) c.record-2.ensures in
     let passed : (number == c.last_applied-applied.result + 1) ≡ false = grind (arith, nat_tests) in
     let next : (number == applied + 1) ≡ false = ap (λ n. number == n + 1) (sym last) ∙ passed in

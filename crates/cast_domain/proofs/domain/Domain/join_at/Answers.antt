@@ -7,8 +7,9 @@ use Rattle.cast_clock.specs.Times.{view_of}
 use Rattle.cast_message.specs.declared.site.Change.TheVariants as change
 use Rattle.cast_delay.specs.Ready.{is_outside}
 use Rattle.cast_delay.specs.declared.row.Fact.TheVariants as fact
+use Rattle.cast_history.specs.Rules.Requests.{request}
 use Rattle.cast_domain.specs.Records.{records_in}
-use Rattle.cast_domain.specs.Calls.{record_at, request_in, tell_in, standing_of, time_of, local_in}
+use Rattle.cast_domain.specs.Calls.{record_at, records, tell_in, standing_of, time_of, local_in}
 use Rattle.cast_domain.proofs.Attempts.{join_made}
 use Rattle.cast_domain.proofs.Loops.{seen_as}
 use Rattle.cast_domain.proofs.domain.Domain.join_at.Goals as goal
@@ -27,6 +28,6 @@ returns-clause-made c =
     ap is_outside (sym (c.standing.ensures.value ∙ ap (λ q. standing_of r.delay q g) p) ∙ c.in-Outside.is) in
     ap (λ x. (x, None))
     (c.in_ok-ask.ensures.made
-    ∙ ap (λ x. request_in x i change.Join c.process-process.result) (seen_as c.args.self.now c.tell.new.self c.in_ok-tell.ensures.kept c.args.shared.now c.args.outs.now ∙ c.in_ok-tell.ensures.made c.args.outs.now r.part)
-    ∙ λ j. request_in (tell_in r (p j) (fact.Standing g (Joining (asked j + 1) (heard j)))) i change.Join (p j))
+    ∙ ap (λ x. request records x i change.Join c.process-process.result) (seen_as c.args.self.now c.tell.new.self c.in_ok-tell.ensures.kept c.args.shared.now c.args.outs.now ∙ c.in_ok-tell.ensures.made c.args.outs.now r.part)
+    ∙ λ j. request records (tell_in r (p j) (fact.Standing g (Joining (asked j + 1) (heard j)))) i change.Join (p j))
     ∙ sym (join_made r k g i outside (sym (ap (λ n. n == MAX_NUMBER) asked) ∙ below))

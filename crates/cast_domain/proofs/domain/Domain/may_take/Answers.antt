@@ -2,14 +2,15 @@ use Rattle.std.proofs.Common.{◌≡◌, ◌∙◌, sym, ap, false, inl, inr}
 use Rattle.std.specs.Prelude.{if◌then◌else◌}
 use Rattle.cast_types.specs.Names.{is_order}
 use Rattle.cast_message.specs.Bodies.{kind_of}
+use Rattle.cast_history.specs.Rules.Room.{may_order, may_receive}
 use Rattle.cast_domain.specs.Records.{records_in}
-use Rattle.cast_domain.specs.Calls.{has_order_room_in, has_room_in}
+use Rattle.cast_domain.specs.Calls.{records}
 use Rattle.cast_domain.proofs.domain.Domain.may_take.Goals as goal
 
 pub returns-in-Order : goal.returns-in-Order
 returns-in-Order c o =
     let r = records_in c.args.self.now c.args.shared.now o in
-    c.has_order_room.ensures o ∙ sym (ap (λ k. if is_order k then has_order_room_in r else has_room_in r) (sym c.kind.ensures ∙ c.in-Order.is))
+    c.has_order_room.ensures o ∙ sym (ap (λ k. if is_order k then may_order records r else may_receive records r) (sym c.kind.ensures ∙ c.in-Order.is))
 
 pub returns-in-Causal : goal.returns-in-Causal
 returns-in-Causal c o =
@@ -18,4 +19,4 @@ returns-in-Causal c o =
       | inl causal ↦ ap is_order (sym c.kind.ensures ∙ causal)
       | inr atomic ↦ ap is_order (sym c.kind.ensures ∙ atomic)
     ] in
-    c.has_room.ensures o ∙ sym (ap (λ b. if b then has_order_room_in r else has_room_in r) other)
+    c.has_room.ensures o ∙ sym (ap (λ b. if b then may_order records r else may_receive records r) other)

@@ -1,0 +1,48 @@
+-- The rules of messages that come from other sites.
+use Rattle.std.specs.Prelude.{Bool, not, ◌&&◌, ◌==◌, nat_lt, if◌then◌else◌}
+use Rattle.std.specs.List.{list_all}
+use Rattle.cast_types.specs.declared.names.SiteNo.{SiteNo}
+use Rattle.cast_types.specs.declared.names.Uid.{Uid}
+use Rattle.cast_types.specs.Names.{site_eq, group_eq, proc_eq}
+use Rattle.cast_types.specs.Sets.{is_among}
+use Rattle.cast_clock.specs.Times.{clock_of, count_in}
+use Rattle.cast_message.specs.declared.message.Message.{Message}
+use Rattle.cast_message.specs.declared.site.SiteFrame.TheVariants as frame
+use Rattle.cast_timer.specs.declared.key.OwedKind.TheVariants as kinds
+use Rattle.cast_model.specs.Group.{members_of}
+use Rattle.cast_history.specs.Rules.Keys.{message_key}
+use Rattle.cast_history.specs.Rules.Interface.{Site}
+use Rattle.cast_history.specs.Rules.Room.{may_take}
+use Rattle.cast_history.specs.Rules.Owing.{owe}
+
+-- a message's own time has its view and its count, from 1 on
+abbrev pub counts_itself : Message → Bool
+counts_itself m =
+    ((clock_of m.times m.id.group).view == m.id.view)
+    && (nat_lt 0 m.id.count && (count_in m.times m.id.group m.id.proc == m.id.count))
+
+-- each rule is of a message of the group that stands at h
+module _ {S H : Type 0} (d : Site S H) where
+  -- well formed: all groups of its time are configured, its process is one of its group's view, and its own time counts it
+  abbrev pub is_well_formed : S → H → Message → Bool
+  is_well_formed s h m =
+      list_all (λ c. is_among group_eq c.0 (d.config s).groups) m.times
+      && (is_among proc_eq m.id.proc (members_of (d.group s h)) && counts_itself m)
+
+  -- a message is used that is well formed, of the group's view here, and from its process's own site, which is another
+  abbrev pub is_used : S → H → SiteNo → Message → Bool
+  is_used s h from m =
+      site_eq m.id.proc.site from && (not (site_eq from (d.here s)) && ((m.id.view == (d.group s h).number) && is_well_formed s h m))
+
+  -- the acknowledgement is owed to the message's site, until that has told that the message is stable
+  abbrev pub acknowledge : S → SiteNo → Uid → S
+  acknowledge s to u = if d.is_stable s u then d.send s to (frame.Ack u) else owe d s (message_key kinds.Ack u to)
+
+  -- a message is received once, if there is room for it; what was received is acknowledged again
+  abbrev pub use_data : S → SiteNo → Message → S
+  use_data s from m =
+      if d.is_received s m.id then d.send s from (frame.Ack m.id)
+      else if may_take d s m.body then acknowledge (d.receive s m) from m.id else s
+
+  abbrev pub on_data : S → H → SiteNo → Message → S
+  on_data s h from m = if is_used s h from m then use_data s from m else s
