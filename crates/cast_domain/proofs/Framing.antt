@@ -1,7 +1,7 @@
--- What a frame changes of a domain's records it changes of their history.
-use Rattle.std.proofs.Common.{◌≡◌, ◌<◌, true, false, ◌&&◌, ◌||◌, List, [], ◌∷◌, length, map, filter, ℕ, Some, refl, sym, ap, ◌∙◌}
+-- What a rule changes of a domain's records it changes of their history.
+use Rattle.std.proofs.Common.{◌≡◌, ◌<◌, true, false, ◌&&◌, ◌||◌, List, [], ◌∷◌, length, map, filter, ℕ, zero, suc, ◌+◌, Some, refl, sym, ap, subst, ◌∙◌, arith}
 use Rattle.std.specs.Prelude.{◌==◌, nat_lt, slice_get}
-use Rattle.std.specs.List.{list_any}
+use Rattle.std.specs.List.{list_any, range_with_len}
 use Rattle.std.proofs.lemmas.Bool.{not-true, and_parts, eqb-true, eq-eqb, ltb-true}
 use Rattle.std.proofs.lemmas.List.{length-map}
 use Rattle.cast_types.specs.declared.names.SiteNo.{SiteNo}
@@ -24,24 +24,26 @@ use Rattle.cast_stable.specs.Ledger.{is_received_in}
 use Rattle.cast_stable.proofs.Meanings.{stable_meant}
 use Rattle.cast_delay.specs.Fits.{IsSound}
 use Rattle.cast_model.specs.Group.{with_request, with_answer, with_view}
-use Rattle.cast_model.specs.Home.{after_request, after_installed}
+use Rattle.cast_model.specs.Home.{after_request, after_installed, decided}
 use Rattle.cast_history.specs.State.{State, local, serials, set_group, is_received, receiving, others_of}
 use Rattle.cast_history.specs.Entering.{enters, all_in_view, push_view, completing}
 use Rattle.cast_history.specs.History.{history}
 use Rattle.cast_history.specs.Lawful.{IsLawful, IsTypedFrame}
 use Rattle.cast_history.specs.Rules.Data.{counts_itself}
 use Rattle.cast_history.specs.Rules.Requests.{request}
+use Rattle.cast_history.specs.Rules.Views.{lead}
 use Rattle.cast_history.specs.Rules.Frames.{framed}
-use Rattle.cast_history.proofs.Rules.Follows.{FollowsFrames, IsTaken, with_invariant}
+use Rattle.cast_history.proofs.Rules.Follows.{FollowsAll, AllAt, IsTaken, with_invariant}
 use Rattle.cast_history.proofs.Rules.Data.{used_of_another, used_from_its_site, used_counts}
 use Rattle.cast_history.proofs.Rules.Requests.{request_follows}
+use Rattle.cast_history.proofs.Rules.Views.{lead_follows}
 use Rattle.cast_history.proofs.Rules.Frames.{framed_follows}
 use Rattle.cast_history.proofs.Lawful.{same_fold, same_pushing}
-use Rattle.cast_history.proofs.LawfulSteps.{taken_current, entered, frames_lawful}
+use Rattle.cast_history.proofs.LawfulSteps.{taken_current, entered, all_lawful}
 use Rattle.cast_domain.specs.declared.record.GroupRecord.{GroupRecord}
 use Rattle.cast_domain.specs.Records.{Records}
 use Rattle.cast_domain.specs.Calls.{receive_in, records}
-use Rattle.cast_domain.specs.Fits.{Fits}
+use Rattle.cast_domain.specs.Fits.{record_for, Fits}
 use Rattle.cast_domain.proofs.Standing.{and_none, record_there, fits_here, fits_home, fits_receive}
 use Rattle.cast_domain.proofs.Following.{FitsIn, IsAt, records_follow}
 use Rattle.cast_domain.proofs.Entering.{fits_complete}
@@ -101,29 +103,41 @@ module _ (groups : List GroupNo) where
   there : (r : Records) (s : State) → StandsIn groups r s → (i : ℕ) (g : GroupNo) → IsAt groups i g → slice_get s.config.groups i ≡ Some g
   there r s f i g at = ap (λ l. slice_get l i) f.0.1 ∙ at
 
-  records_follow_frames : FollowsFrames records history (StandsIn groups) (IsAt groups)
-  records_follow_frames = record {
-    follows = with_invariant records history (FitsIn groups) (IsAt groups) IsLawful (records_follow groups) frames_lawful.keeps;
+  -- places from one on are those of the groups that stand there
+  places_from : (gs : List GroupNo) (a : ℕ) → ((i : ℕ) (g : GroupNo) → slice_get gs i ≡ Some g → slice_get groups (a + i) ≡ Some g) → AllAt (IsAt groups) (range_with_len a (length gs)) gs
+  places_from [] a at = tt
+  places_from (g ∷ gs) a at = (
+    subst (λ j. slice_get groups j ≡ Some g) (omega arith) (at zero g refl),
+    places_from gs (a + 1) (λ i h is. subst (λ j. slice_get groups j ≡ Some h) (omega arith) (at (suc i) h is)),
+  )
+
+  records_follow_all : FollowsAll records history (StandsIn groups) (IsAt groups)
+  records_follow_all = record {
+    follows = with_invariant records history (FitsIn groups) (IsAt groups) IsLawful (records_follow groups) all_lawful.keeps;
     name = λ r s f i g at. ap (λ (x : GroupRecord). x.name) (record_there r s f.0.0 i g (there r s f i g at));
+    places = λ r s f.
+        subst (λ n. AllAt (IsAt groups) (range_with_len 0 n) s.config.groups) (sym (ap length f.0.0.groups ∙ length-map s.config.groups (record_for s)))
+        (places_from s.config.groups 0 (λ i g at. subst (λ j. slice_get groups j ≡ Some g) (omega arith) (sym (ap (λ l. slice_get l i) f.0.1) ∙ at)));
     home = λ r s f i g at. ap (λ (x : GroupRecord). x.home) (record_there r s f.0.0 i g (there r s f i g at));
     held = λ r s f. sym (length-map r.part.kept (λ (x : Received). x.message)) ∙ ap length f.0.0.kept;
     is_received = λ r s f u counted. received_there r s f.0.0 u (ltb-true 0 u.count counted);
     is_stable = λ r s f u counted. stable_meant s.here (others_of s) (map (λ m. m.id) s.got) s.acks s.told r.acks f.0.0.acks u (ltb-true 0 u.count counted);
-    receive = λ r s f g from m taken. ((fits_taken r s f.0.0 g from m taken, f.0.1), frames_lawful.receive s f.1 g from m taken);
+    receive = λ r s f g from m taken. ((fits_taken r s f.0.0 g from m taken, f.0.1), all_lawful.receive s f.1 g from m taken);
     note_request = λ r s f i g at what p.
-        ((fits_here r s f.0.0 f.1 i g (there r s f i g at) (λ x. with_request x what p) refl refl, f.0.1), frames_lawful.note_request s f.1 g what p);
+        ((fits_here r s f.0.0 f.1 i g (there r s f i g at) (λ x. with_request x what p) refl refl, f.0.1), all_lawful.note_request s f.1 g what p);
     note_answer = λ r s f i g at.
-        ((fits_here r s f.0.0 f.1 i g (there r s f i g at) with_answer refl refl, f.0.1), frames_lawful.note_answer s f.1 g);
+        ((fits_here r s f.0.0 f.1 i g (there r s f i g at) with_answer refl refl, f.0.1), all_lawful.note_answer s f.1 g);
     note_applied = λ r s f i g at from number p.
-        ((fits_home r s f.0.0 f.1 i g (there r s f i g at) (λ h. after_request h from number p), f.0.1), frames_lawful.note_applied s f.1 g from number p);
+        ((fits_home r s f.0.0 f.1 i g (there r s f i g at) (λ h. after_request h from number p), f.0.1), all_lawful.note_applied s f.1 g from number p);
     note_installed = λ r s f i g at from n.
-        ((fits_home r s f.0.0 f.1 i g (there r s f i g at) (λ h. after_installed h from n), f.0.1), frames_lawful.note_installed s f.1 g from n);
+        ((fits_home r s f.0.0 f.1 i g (there r s f i g at) (λ h. after_installed h from n), f.0.1), all_lawful.note_installed s f.1 g from n);
+    note_decided = λ r s f i g at. ((fits_home r s f.0.0 f.1 i g (there r s f i g at) decided, f.0.1), all_lawful.note_decided s f.1 g);
     enter_view = λ r s f i g at h n members request is. let e = entered s g h n members is in (
       (
         fits_complete r s f.0.0 f.1 i g (there r s f i g at) e.listed n members request is.typed e.later,
         ap (λ c. c.groups) (completing_config s g n members request) ∙ f.0.1,
       ),
-      frames_lawful.enter_view s f.1 g h n members request is,
+      all_lawful.enter_view s f.1 g h n members request is,
     );
   }
 
@@ -135,8 +149,11 @@ module _ (r : Records) (s : State) (f : Fits r s) (l : IsLawful s) where
 
   pub fits_request : (i : ℕ) (g : GroupNo) → IsAt groups i g → (what : Change) (p : Proc) → Fits (request records r i what p) (request history s g what p)
   fits_request i g at what p =
-      (request_follows records history (StandsIn groups) (IsAt groups) (records_follow_frames groups) r s ((f, refl), l) i g at what p).0.0
+      (request_follows records history (StandsIn groups) (IsAt groups) (records_follow_all groups) r s ((f, refl), l) i g at what p).0.0
 
   pub fits_framed : (from : SiteNo) (x : SiteFrame) → IsTypedFrame x → Fits (framed records r from x) (framed history s from x)
   fits_framed from x typed =
-      (framed_follows records history (StandsIn groups) (IsAt groups) (records_follow_frames groups) r s ((f, refl), l) from x typed).0.0
+      (framed_follows records history (StandsIn groups) (IsAt groups) (records_follow_all groups) r s ((f, refl), l) from x typed).0.0
+
+  pub fits_lead : Fits (lead records r) (lead history s)
+  fits_lead = (lead_follows records history (StandsIn groups) (IsAt groups) (records_follow_all groups) r s ((f, refl), l)).0.0

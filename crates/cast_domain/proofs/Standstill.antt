@@ -24,7 +24,8 @@ use Rattle.cast_history.specs.State.{State, local, serials, let_go}
 use Rattle.cast_history.specs.Rules.Requests.{is_home}
 use Rattle.cast_history.specs.Order.{order_of, unlisted, is_ready_for}
 use Rattle.cast_history.specs.Effects.{sending, next_message}
-use Rattle.cast_history.specs.Rest.{deliver_first, deliver_all, settle, may_set_order, set_order_by, set_order, set_orders, decide, lead_all, pass}
+use Rattle.cast_history.specs.Rest.{deliver_first, deliver_all, settle, may_set_order, set_order_by, set_order, set_orders, pass}
+use Rattle.cast_history.specs.Rules.Views.{decide, lead}
 use Rattle.cast_history.specs.Endings.{total, one_if, left, rank, ranks, undelivered, is_to_come, to_list_by, to_list_in, to_list, to_do}
 use Rattle.cast_domain.specs.Records.{Records}
 use Rattle.cast_domain.specs.Calls.{settle_in, set_orders_in, pass_in}
@@ -37,7 +38,8 @@ use Rattle.cast_history.proofs.Totals.{total_same}
 use Rattle.cast_history.proofs.LawfulSteps.{lawful_settle, lawful_set_orders, same_decide}
 use Rattle.cast_domain.proofs.Standing.{process_here}
 use Rattle.cast_domain.proofs.Ordering.{waiting_there}
-use Rattle.cast_domain.proofs.Turns.{fits_settle, fits_lead}
+use Rattle.cast_domain.proofs.Turns.{fits_settle}
+use Rattle.cast_domain.proofs.Framing.{fits_lead}
 use Rattle.cast_domain.proofs.SetOrders.{holder_local, fits_set_orders}
 use Rattle.cast_types.proofs.Bools.{same_bools}
 
@@ -95,19 +97,19 @@ got_orders : (gs : List GroupNo) (s : State) → GoesOn s.got (fold set_order s 
 got_orders [] s = same_on s.got s.got refl
 got_orders (g ∷ gs) s = on_then s.got (set_order s g).got (fold set_order (set_order s g) gs).got (got_order s g) (got_orders gs (set_order s g))
 
-got_decides : (gs : List GroupNo) (s : State) → (fold decide s gs).got ≡ s.got
+got_decides : (gs : List GroupNo) (s : State) → (fold (decide history) s gs).got ≡ s.got
 got_decides [] s = refl
-got_decides (g ∷ gs) s = got_decides gs (decide s g) ∙ (same_decide s g).got
+got_decides (g ∷ gs) s = got_decides gs (decide history s g) ∙ (same_decide s g).got
 
-got_lead : (s : State) → (lead_all s).got ≡ s.got
-got_lead s = elim (is_home history s) as (λ b. (if b then fold decide s s.config.groups else s).got ≡ s.got) [ true ↦ got_decides s.config.groups s | false ↦ refl ]
+got_lead : (s : State) → (lead history s).got ≡ s.got
+got_lead s = elim (is_home history s) as (λ b. (if b then fold (decide history) s s.config.groups else s).got ≡ s.got) [ true ↦ got_decides s.config.groups s | false ↦ refl ]
 
 got_pass : (s : State) → GoesOn s.got (pass s).got
 got_pass s =
     let t : State = settle s in
     let u : State = set_orders t in
-    on_then s.got t.got (lead_all u).got (same_on s.got t.got (got_settle (serials s) s))
-    (on_then t.got u.got (lead_all u).got (got_orders t.config.groups t) (same_on u.got (lead_all u).got (got_lead u)))
+    on_then s.got t.got (lead history u).got (same_on s.got t.got (got_settle (serials s) s))
+    (on_then t.got u.got (lead history u).got (got_orders t.config.groups t) (same_on u.got (lead history u).got (got_lead u)))
 
 -- what goes on no longer is the same
 no_more : (before after : List Message) → GoesOn before after → length after ≡ length before → after ≡ before

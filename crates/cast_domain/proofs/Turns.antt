@@ -1,18 +1,16 @@
 -- The turns of the records' rest are those of the history that they stand for.
 use Rattle.std.proofs.Common.{◌≡◌, ℕ, zero, suc, ◌+◌, ◌<◌, ◌≤◌, Bool, true, false, cond, not, List, [], ◌∷◌, ◌++◌, length, map, Option, Some, None, refl, sym, ap, subst, ◌∙◌, inl, inr, arith}
-use Rattle.std.specs.Prelude.{◌&&◌, ◌==◌, nat_lt, nat_le, if◌then◌else◌, slice_get, filter, take}
+use Rattle.std.specs.Prelude.{◌&&◌, ◌==◌, nat_lt, nat_le, if◌then◌else◌, filter, take}
 use Rattle.std.specs.List.{fold, find, range_with_len}
 use Rattle.std.specs.Option.{IsSome, option_map_or}
 use Rattle.std.proofs.lemmas.Bool.{false≢true, false_from_ne_true, and_parts, and_from, lt-ltb, le-leb, eqb-true, eq-eqb}
 use Rattle.std.proofs.lemmas.List.{map-append, length-map}
-use Rattle.cast_types.specs.declared.names.SiteNo.{SiteNo}
 use Rattle.cast_types.specs.declared.names.GroupNo.{GroupNo}
 use Rattle.cast_types.specs.declared.names.Proc.{Proc}
 use Rattle.cast_types.specs.declared.names.Key.{Key}
 use Rattle.cast_types.specs.declared.names.Uid.{Uid}
-use Rattle.cast_types.specs.Names.{Entry, site_eq, group_eq, is_atomic, named, entry_of}
+use Rattle.cast_types.specs.Names.{Entry, group_eq, is_atomic, named, entry_of}
 use Rattle.cast_types.proofs.Orders.{group_itself}
-use Rattle.cast_types.specs.Places.{update}
 use Rattle.cast_types.specs.Repeat.{iterate}
 use Rattle.cast_message.specs.declared.message.Message.{Message}
 use Rattle.cast_message.specs.Bodies.{kind_of}
@@ -28,34 +26,28 @@ use Rattle.cast_delay.specs.Fits.{FirstReady, HasTurns, Fits as QueueFits, deliv
 use Rattle.cast_delay.proofs.Delivers.{only_member}
 use Rattle.cast_delay.proofs.Queues.{delivery_fits, next_rules, passed_delivered}
 use Rattle.cast_order.specs.Log.{Log, log_of, change_log, next_in, told, passed}
-use Rattle.cast_history.specs.Rules.Requests.{is_home}
 use Rattle.cast_history.specs.History.{history}
-use Rattle.cast_domain.specs.declared.record.GroupRecord.{GroupRecord}
-use Rattle.cast_model.specs.declared.home.Home.{Home}
 use Rattle.cast_model.specs.Session.{is_open, pushed_to}
-use Rattle.cast_model.specs.Group.{sites_of}
-use Rattle.cast_model.specs.Home.{may_decide, decided}
-use Rattle.cast_history.specs.State.{State, local, is_group, gate_of, is_free, set_session, set_home, was_given, pushing}
-use Rattle.cast_history.specs.Rules.Requests.{is_home}
+use Rattle.cast_history.specs.State.{State, local, is_group, gate_of, is_free, set_session, was_given, pushing}
 use Rattle.cast_history.specs.Order.{is_of_view, holds, turn_of, is_ready_for}
 use Rattle.cast_history.specs.Effects.{told_of, with_delivery, delivering}
-use Rattle.cast_history.specs.Rest.{deliver_first, deliver_all, settle, send_install, install_frame, decide, lead_all}
+use Rattle.cast_history.specs.Rest.{deliver_first, deliver_all, settle}
 use Rattle.cast_history.specs.Endings.{left}
 use Rattle.cast_domain.specs.Records.{Records}
-use Rattle.cast_domain.specs.Calls.{push_in, let_go_in, records, holds_in, turns_in, note_delivery_in, push_delivery_in, deliver_message_in, deliver_in, deliver_first_in, deliver_all_in, settle_at, settle_in, send_install_in, decide_in, lead_in}
+use Rattle.cast_domain.specs.Calls.{push_in, let_go_in, records, holds_in, turns_in, note_delivery_in, push_delivery_in, deliver_message_in, deliver_in, deliver_first_in, deliver_all_in, settle_at, settle_in}
 use Rattle.cast_history.specs.Lawful.{IsSpent, AreKept, IsLawful}
-use Rattle.cast_domain.specs.Fits.{process_named, record_for, Fits}
+use Rattle.cast_domain.specs.Fits.{process_named, Fits}
 use Rattle.cast_history.proofs.Settles.{delivering_one, delivers, ready_causally, ready_new, delivered_first, delivered_none, turns_are_enough}
 use Rattle.cast_domain.proofs.LogSteps.{noting, logs_deliver}
 use Rattle.cast_domain.proofs.Ordering.{holds_there, turns_there}
 use Rattle.cast_history.proofs.Totals.{left_found, left_le}
 use Rattle.cast_history.proofs.Spots.{found_passes}
 use Rattle.cast_history.proofs.Lawful.{lawful_delivering}
-use Rattle.cast_history.proofs.LawfulSteps.{lawful_first, lawful_deliver_all, lawful_decide}
+use Rattle.cast_history.proofs.LawfulSteps.{lawful_first, lawful_deliver_all}
 use Rattle.cast_domain.proofs.Releases.{fits_let_go}
 use Rattle.cast_delay.proofs.Finds.{found_in}
 use Rattle.cast_types.proofs.Iterates.{iterate_still}
-use Rattle.cast_domain.proofs.Standing.{fits_if, fits_send, fits_push, fits_home, record_there, process_here, named_set, still_in, same_names}
+use Rattle.cast_domain.proofs.Standing.{fits_push, process_here, named_set, still_in, same_names}
 
 -- What the turns leave as it is
 
@@ -106,15 +98,6 @@ kept_first k s = kept_found (find (is_ready_for s k) s.got)
 
 pub kept_all : (s : State) (k : ℕ) → Kept s (deliver_all s k)
 kept_all s k = kept_iterate (length s.got) (deliver_first k) (kept_first k) s
-
-pub kept_decide : (s : State) (g : GroupNo) → Kept s (decide s g)
-kept_decide s g =
-    let h : Home = decided (s.home g) in
-    let t : State = set_home s g h in
-    let u : State = fold (send_install g h) t (sites_of (s.home g).joins) in
-    kept_if s u s (may_decide (s.home g))
-    (kept_then s t u (record { here = refl; config = refl; used = refl }) (kept_fold (send_install g h) (λ x to. record { here = refl; config = refl; used = refl }) (sites_of (s.home g).joins) t))
-    (kept_self s)
 
 -- Deliveries
 
@@ -346,47 +329,3 @@ pub fits_settle : (r : Records) (s : State) → Fits r s → IsLawful s → Fits
 fits_settle r s fits l =
     subst (λ u. Fits (fold settle_at r (range_with_len 0 u)) (settle s)) (sym fits.used)
     (subst (λ a. Fits (fold settle_at r (range_with_len 0 s.used)) (fold deliver_all s (range_with_len a s.used))) (omega arith) (fits_each s.used 0 r s fits l (omega arith)))
-
--- The home
-
--- the same changes, one after another
-pub fits_fold : {X : Type 0} (f : Records → X → Records) (g : State → X → State) → ((r : Records) (s : State) → Fits r s → (x : X) → Fits (f r x) (g s x)) → (xs : List X) (r : Records) (s : State) → Fits r s → Fits (fold f r xs) (fold g s xs)
-fits_fold f g one [] r s fits = fits
-fits_fold f g one (x ∷ xs) r s fits = fits_fold f g one xs (f r x) (g s x) (one r s fits x)
-
--- the decision over a record that is at hand
-abbrev decide_at : Records → ℕ → GroupRecord → Records
-decide_at r i x =
-    if may_decide x.home
-    then fold (send_install_in x.name (decided x.home)) (record r { groups = update r.groups i (λ y. record y { home = decided y.home }) }) (sites_of x.home.joins)
-    else r
-
--- the home decides for the group at a place
-pub fits_decide : (r : Records) (s : State) → Fits r s → IsLawful s → (i : ℕ) (g : GroupNo) → slice_get s.config.groups i ≡ Some g → Fits (decide_in r i) (decide s g)
-fits_decide r s fits lawful i g at =
-    let h : Home = decided (s.home g) in
-    let r' : Records = record r { groups = update r.groups i (λ y. record y { home = decided y.home }) } in
-    let to : List SiteNo = sites_of (s.home g).joins in
-    subst (λ x. Fits (decide_at r i x) (decide s g)) (sym (record_there r s fits i g at))
-    (fits_if (may_decide (s.home g)) (may_decide (s.home g)) (fold (send_install_in g h) r' to) r (fold (send_install g h) (set_home s g h) to) s refl
-    (λ _. fits_fold (send_install_in g h) (send_install g h) (λ x y both t. fits_send x y both t (install_frame g h t)) to r' (set_home s g h) (fits_home r s fits lawful i g at decided))
-    (λ _. fits))
-
--- decisions from a place on, each for the group that stands there
-fits_decisions : (gs : List GroupNo) (a : ℕ) (r : Records) (s : State) → Fits r s → IsLawful s → ((i : ℕ) (g : GroupNo) → slice_get gs i ≡ Some g → slice_get s.config.groups (a + i) ≡ Some g) → Fits (fold decide_in r (range_with_len a (length gs))) (fold decide s gs)
-fits_decisions [] a r s fits lawful there = fits
-fits_decisions (g ∷ gs) a r s fits lawful there =
-    let kept : Kept s (decide s g) = kept_decide s g in
-    let here : slice_get s.config.groups a ≡ Some g = subst (λ j. slice_get s.config.groups j ≡ Some g) (omega arith) (there zero g refl) in
-    fits_decisions gs (a + 1) (decide_in r a) (decide s g) (fits_decide r s fits lawful a g here) (lawful_decide s g lawful)
-    (λ i h at. ap (λ c. slice_get c.groups (a + 1 + i)) kept.config ∙ subst (λ j. slice_get s.config.groups j ≡ Some h) (omega arith) (there (suc i) h at))
-
--- the home decides for each group
-pub fits_lead : (r : Records) (s : State) → Fits r s → IsLawful s → Fits (lead_in r) (lead_all s)
-fits_lead r s fits lawful =
-    fits_if (is_home records r) (is_home history s) (fold decide_in r (range_with_len 0 (length r.groups))) r (fold decide s s.config.groups) s
-    (λ i. site_eq (fits.site i) (fits.config i).home)
-    (λ _. subst (λ n. Fits (fold decide_in r (range_with_len 0 n)) (fold decide s s.config.groups))
-    (sym (ap length fits.groups ∙ length-map s.config.groups (record_for s)))
-    (fits_decisions s.config.groups 0 r s fits lawful (λ i g at. subst (λ j. slice_get s.config.groups j ≡ Some g) (omega arith) at)))
-    (λ _. fits)

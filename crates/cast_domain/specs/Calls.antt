@@ -51,18 +51,17 @@ use Rattle.cast_message.specs.declared.client.Command.TheVariants as command
 use Rattle.cast_model.specs.declared.event.Event.{Event}
 use Rattle.cast_model.specs.declared.event.Event.TheVariants as event
 use Rattle.cast_model.specs.Session.{first_session, told as told_session}
-use Rattle.cast_model.specs.Group.{no_group, members_of, holder_of, is_process, holder_at, other_sites, is_current, sites_of, with_request, with_answer, with_view, is_taken_in}
-use Rattle.cast_model.specs.declared.home.Home.{Home}
-use Rattle.cast_model.specs.Home.{first_home, is_empty, after_request, after_installed, may_decide, decided}
+use Rattle.cast_model.specs.Group.{no_group, members_of, holder_of, is_process, holder_at, other_sites, is_current, with_request, with_answer, with_view, is_taken_in}
+use Rattle.cast_model.specs.Home.{first_home, is_empty, after_request, after_installed, decided}
 use Rattle.cast_domain.specs.Shared.{part_with, part_without, part_owing, part_renewing, part_paying, part_paying_upto}
 use Rattle.cast_history.specs.Rules.Interface.{Site}
 use Rattle.cast_history.specs.Rules.Keys.{message_key}
 use Rattle.cast_history.specs.Rules.Room.{may_receive, may_order}
 use Rattle.cast_history.specs.Rules.Owing.{send_for, owe, tick}
-use Rattle.cast_history.specs.Rules.Requests.{is_home, request}
+use Rattle.cast_history.specs.Rules.Requests.{request}
+use Rattle.cast_history.specs.Rules.Views.{lead}
 use Rattle.cast_history.specs.Rules.Frames.{framed}
 use Rattle.cast_history.specs.Effects.{told_of, may_raise}
-use Rattle.cast_history.specs.Rest.{install_frame}
 use Rattle.cast_history.specs.State.{was_given}
 use Rattle.cast_history.specs.Step.{body_of}
 use Rattle.cast_domain.specs.Records.{Records}
@@ -167,6 +166,9 @@ note_applied_in r i from number p = record r { groups = update r.groups i (λ x.
 abbrev pub note_installed_in : Records → ℕ → SiteNo → ℕ → Records
 note_installed_in r i from n = record r { groups = update r.groups i (λ x. record x { home = after_installed x.home from n }) }
 
+abbrev pub note_decided_in : Records → ℕ → Records
+note_decided_in r i = record r { groups = update r.groups i (λ x. record x { home = decided x.home }) }
+
 -- Views
 
 -- a process enters a view, and is told
@@ -204,6 +206,7 @@ records = record {
   config = λ r. r.config;
   place = place_in;
   name = λ r i. (record_at r.groups i).name;
+  places = λ r. range_with_len 0 (length r.groups);
   group = λ r i. (record_at r.groups i).here;
   home = λ r i. (record_at r.groups i).home;
   others = λ r g. others_in r.acks g;
@@ -227,6 +230,7 @@ records = record {
   note_answer = note_answer_in;
   note_applied = note_applied_in;
   note_installed = note_installed_in;
+  note_decided = note_decided_in;
   enter_view = complete_in;
 }
 
@@ -429,18 +433,5 @@ settle_at r k = deliver_all_in r (local_in r (k + 1))
 abbrev pub settle_in : Records → Records
 settle_in r = fold settle_at r (range_with_len 0 r.used)
 
-abbrev pub send_install_in : GroupNo → Home → Records → SiteNo → Records
-send_install_in g h r to = send_in r to (install_frame g h to)
-
-abbrev pub decide_in : Records → ℕ → Records
-decide_in r i =
-    let x : GroupRecord = record_at r.groups i in
-    if may_decide x.home
-    then fold (send_install_in x.name (decided x.home)) (record r { groups = update r.groups i (λ y. record y { home = decided y.home }) }) (sites_of x.home.joins)
-    else r
-
-abbrev pub lead_in : Records → Records
-lead_in r = if is_home records r then fold decide_in r (range_with_len 0 (length r.groups)) else r
-
 abbrev pub pass_in : Records → Records
-pass_in r = lead_in (set_orders_in (settle_in r))
+pass_in r = lead records (set_orders_in (settle_in r))

@@ -13,11 +13,11 @@ use cast_types::{Counts, Key, NoMemory, Proc, SiteNo, Uid};
 use std::alloc::AllocError;
 
 impl Domain {
-    ghost use Rattle.cast_history.specs.Rest.{install_frame};
+    ghost use Rattle.cast_history.specs.Rules.Views.{decide, install_frame, lead, send_install};
     ghost use Rattle.cast_domain.specs.Records.{Keeps, records_in, records_of};
     ghost use Rattle.cast_domain.specs.Shared.{LeavesOthers, Part};
     ghost use Rattle.cast_domain.specs.Stepped.{IsRested};
-    ghost use Rattle.cast_domain.specs.Calls.{decide_in, deliver_all_in, deliver_in, let_go_in, lead_in, note_if_in, pass_in, push_in, record_at, send_install_in, settle_in, take_delivery_in};
+    ghost use Rattle.cast_domain.specs.Calls.{deliver_all_in, deliver_in, let_go_in, note_if_in, pass_in, push_in, record_at, records, settle_in, take_delivery_in};
 
     // What follows from an event, until nothing changes. No run makes 2^64 passes.
     pub(crate) fn rest(&mut self, shared: &mut Shared, outs: &mut Outs) -> Result<(), NoMemory>
@@ -166,7 +166,7 @@ impl Domain {
     // The home decides, by group.
     fn lead(&mut self, outs: &mut Outs) -> Result<bool, NoMemory>
         ensures same { Keeps self.old self.new }
-        ensures made { OnOk result ((part : Part) → records_of self.new part outs.new ≡ lead_in (records_of self.old part outs.old)) }
+        ensures made { OnOk result ((part : Part) → records_of self.new part outs.new ≡ lead records (records_of self.old part outs.old)) }
         ensures still { IfOk result (λ changed. changed ≡ false → (part : Part) → records_of self.new part outs.new ≡ records_of self.old part outs.old) }
     {
         let mut changed = false;
@@ -183,7 +183,7 @@ impl Domain {
     fn decide(&mut self, place: usize, outs: &mut Outs) -> Result<bool, NoMemory>
         requires { place < vec_len self.old.groups }
         ensures same { Keeps self.old self.new }
-        ensures made { OnOk result ((part : Part) → records_of self.new part outs.new ≡ decide_in (records_of self.old part outs.old) place) }
+        ensures made { OnOk result ((part : Part) → records_of self.new part outs.new ≡ decide records (records_of self.old part outs.old) place) }
         ensures still { IfOk result (λ changed. changed ≡ false → (part : Part) → records_of self.new part outs.new ≡ records_of self.old part outs.old) }
         ensures len { vec_len self.new.groups ≡ vec_len self.old.groups }
     {
@@ -199,7 +199,7 @@ impl Domain {
     // Sends the decided view of the group at a place to sites.
     fn send_installs(&self, place: usize, sites: &[SiteNo], outs: &mut Outs) -> Result<(), NoMemory>
         requires { place < vec_len self.now.groups }
-        ensures { OnOk result ((part : Part) → records_of self.now part outs.new ≡ fold (send_install_in (record_at self.now.groups.items place).name (record_at self.now.groups.items place).home) (records_of self.now part outs.old) sites.now) }
+        ensures { OnOk result ((part : Part) → records_of self.now part outs.new ≡ fold (send_install records place) (records_of self.now part outs.old) sites.now) }
     {
         for site in sites {
             self.send_install(place, *site, outs)?;
@@ -210,7 +210,7 @@ impl Domain {
     // Sends the decided view of the group at a place to a site.
     fn send_install(&self, place: usize, to: SiteNo, outs: &mut Outs) -> Result<(), NoMemory>
         requires { place < vec_len self.now.groups }
-        ensures { OnOk result ((part : Part) → records_of self.now part outs.new ≡ send_install_in (record_at self.now.groups.items place).name (record_at self.now.groups.items place).home (records_of self.now part outs.old) to) }
+        ensures { OnOk result ((part : Part) → records_of self.now part outs.new ≡ send_install records place (records_of self.now part outs.old) to) }
     {
         let frame = self.install_for(place, to)?;
         self.send(outs, to, frame)?;

@@ -41,19 +41,20 @@ use Rattle.cast_model.specs.declared.event.Event.{Event}
 use Rattle.cast_model.specs.declared.event.Event.TheVariants as event
 use Rattle.cast_model.specs.declared.event.Taken.TheVariants as taken
 use Rattle.cast_history.specs.State.{State, local, serials, is_group, let_go, set_home, set_standing, was_given, pushing}
-use Rattle.cast_history.specs.Rules.Requests.{is_home}
 use Rattle.cast_history.specs.Rules.Room.{may_order}
 use Rattle.cast_history.specs.Order.{order_of, unlisted, has_place, is_ready_for}
 use Rattle.cast_history.specs.Rules.Owing.{tick}
 use Rattle.cast_history.proofs.Rules.Owing.{tick_keeps}
 use Rattle.cast_history.specs.Effects.{may_raise, sending, delivering}
 use Rattle.cast_history.specs.Step.{first_refusal, join_tests, cast_tests, joining, attempting, body_of, requested, commanded, opened, Effect, acted}
-use Rattle.cast_history.specs.Rest.{deliver_first, deliver_all, settle, may_set_order, set_order_by, set_order, set_orders, install_frame, send_install, decide, lead_all, pass, RestsAt}
+use Rattle.cast_history.specs.Rules.Views.{install_frame, send_install, decide, lead}
+use Rattle.cast_history.specs.Rest.{deliver_first, deliver_all, settle, may_set_order, set_order_by, set_order, set_orders, pass, RestsAt}
 use Rattle.cast_history.specs.Lawful.{IsSpent, IsLawful, IsTyped}
 use Rattle.cast_history.proofs.Spots.{found_passes}
 use Rattle.cast_history.specs.History.{history}
-use Rattle.cast_history.proofs.Rules.Follows.{IsTaken, IsEntered, IsInvariantOfFrames}
+use Rattle.cast_history.proofs.Rules.Follows.{IsTaken, IsEntered, IsInvariantOfAll}
 use Rattle.cast_history.proofs.Rules.Data.{used_current}
+use Rattle.cast_history.proofs.Rules.Views.{decide_keeps, lead_keeps}
 use Rattle.cast_history.proofs.Rules.Frames.{framed_keeps}
 use Rattle.cast_history.proofs.Lawful.{SameLaw, same_self, same_then, same_if, same_fold, same_home, same_emitted, same_group_set, moves_same, invariant_by_same, kept_map, lawful_same, lawful_pushing, lawful_request, lawful_if, lawful_fold, lawful_standing, lawful_receiving, lawful_let_go, lawful_sending, lawful_delivering, lawful_completing}
 
@@ -151,14 +152,15 @@ entered s h g n members is =
     record { listed = subst (λ x. is_group s x ≡ true) there.1 there.0; unseen = seen.1; later = later_number (s.group h).number n seen.0 }
 
 -- a history stays lawful at each move of the rules
-pub frames_lawful : IsInvariantOfFrames history IsLawful
-frames_lawful = record {
+pub all_lawful : IsInvariantOfAll history IsLawful
+all_lawful = record {
   keeps = invariant_by_same IsLawful lawful_same;
   receive = λ s l h from m taken. let same = taken_current s h from m taken in lawful_receiving s m l (stamp_sorted m.times taken.typed.0) (omega (arith, same));
   note_request = λ s l g what p. lawful_same s _ (same_group_set s g (with_request (s.group g) what p) refl refl) l;
   note_answer = λ s l g. lawful_same s _ (same_group_set s g (with_answer (s.group g)) refl refl) l;
   note_applied = λ s l g from number p. lawful_same s _ (same_home s g (after_request (s.home g) from number p)) l;
   note_installed = λ s l g from n. lawful_same s _ (same_home s g (after_installed (s.home g) from n)) l;
+  note_decided = λ s l g. lawful_same s _ (same_home s g (decided (s.home g))) l;
   enter_view = λ s l h g n members request is. let e = entered s h g n members is in lawful_completing s h n members request l e.listed e.unseen e.later;
 }
 
@@ -207,7 +209,7 @@ lawful_acted s (event.Command d k c) l unborn typed =
       | true ↦ lawful_commanded s k c l
       | false ↦ l
     ]
-lawful_acted s (event.Frame d from f) l unborn typed = framed_keeps history IsLawful frames_lawful s l from f typed
+lawful_acted s (event.Frame d from f) l unborn typed = framed_keeps history IsLawful all_lawful s l from f typed
 lawful_acted s (event.Tick t) l unborn typed = lawful_same s (tick history s t) (same_tick s t) l
 
 -- Deliveries
@@ -261,25 +263,22 @@ lawful_set_orders s l = lawful_fold set_order lawful_set_order s.config.groups s
 
 -- The home
 
-pub same_decide : (s : State) (g : GroupNo) → SameLaw s (decide s g)
+pub same_decide : (s : State) (g : GroupNo) → SameLaw s (decide history s g)
 same_decide s g =
     let h : Home = decided (s.home g) in
     let now : State = set_home s g h in
-    let sent : State = fold (send_install g h) now (sites_of (s.home g).joins) in
+    let sent : State = fold (send_install history g) now (sites_of (s.home g).joins) in
     same_if s sent s (may_decide (s.home g))
-    (same_then s now sent (same_home s g h) (same_fold (send_install g h) (λ t to. same_emitted t to (install_frame g h to)) (sites_of (s.home g).joins) now))
+    (same_then s now sent (same_home s g h) (same_fold (send_install history g) (λ t to. same_emitted t to (install_frame g (t.home g) to)) (sites_of (s.home g).joins) now))
     (same_self s)
 
-pub lawful_decide : (s : State) (g : GroupNo) → IsLawful s → IsLawful (decide s g)
-lawful_decide s g l = lawful_same s (decide s g) (same_decide s g) l
-
-pub lawful_lead_all : (s : State) → IsLawful s → IsLawful (lead_all s)
-lawful_lead_all s l = lawful_if (fold decide s s.config.groups) s (is_home history s) (λ _. lawful_fold decide lawful_decide s.config.groups s l) (λ _. l)
+pub lawful_decide : (s : State) (g : GroupNo) → IsLawful s → IsLawful (decide history s g)
+lawful_decide s g l = decide_keeps history IsLawful all_lawful s l g
 
 -- The whole
 
 pub lawful_pass : (s : State) → IsLawful s → IsLawful (pass s)
-lawful_pass s l = lawful_lead_all (set_orders (settle s)) (lawful_set_orders (settle s) (lawful_settle s l))
+lawful_pass s l = lead_keeps history IsLawful all_lawful (set_orders (settle s)) (lawful_set_orders (settle s) (lawful_settle s l))
 
 pub lawful_rests : (s t : State) → IsLawful s → RestsAt s t → IsLawful t
 lawful_rests s t l rests = subst IsLawful rests.1 (lawful_iterate rests.0 pass lawful_pass s l)

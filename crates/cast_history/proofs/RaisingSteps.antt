@@ -29,7 +29,7 @@ use Rattle.cast_delay.proofs.Finds.{found_in}
 use Rattle.cast_order.specs.Order.{ids_to_list, place_after}
 use Rattle.cast_model.specs.declared.config.DomainConfig.{DomainConfig}
 use Rattle.cast_model.specs.Group.{holder_at, members_of, with_request, with_answer}
-use Rattle.cast_model.specs.Home.{after_request, after_installed}
+use Rattle.cast_model.specs.Home.{after_request, after_installed, decided}
 use Rattle.cast_model.specs.Session.{is_open}
 use Rattle.cast_message.specs.declared.client.Command.{Command}
 use Rattle.cast_message.specs.declared.client.Command.TheVariants as command
@@ -43,17 +43,18 @@ use Rattle.cast_history.specs.Order.{order_of, unlisted, is_ready_for}
 use Rattle.cast_history.specs.Effects.{sending, delivering}
 use Rattle.cast_history.specs.Rules.Owing.{tick}
 use Rattle.cast_history.specs.Step.{first_refusal, join_tests, cast_tests, joining, attempting, body_of, requested, commanded, opened, Effect, acted}
-use Rattle.cast_history.specs.Rest.{deliver_first, deliver_all, settle, may_set_order, set_order_by, set_order, set_orders, decide, lead_all, pass}
+use Rattle.cast_history.specs.Rest.{deliver_first, deliver_all, settle, may_set_order, set_order_by, set_order, set_orders, pass}
+use Rattle.cast_history.specs.Rules.Views.{decide, lead}
 use Rattle.cast_history.specs.Run.{before_event, after_event, IsRun}
 use Rattle.cast_history.specs.Lawful.{IsLawful, IsTyped}
 use Rattle.cast_history.specs.History.{history}
 use Rattle.cast_history.specs.Raising.{IsTimeOf, IsFromMember, CountsMembers, IsPassed, opens, begins, acts, lets_go, delivers, orders, decides, CountsCanBeRaised, CountsCanBeRaisedWithin, MembersAreCounted, RunsArePassed}
 use Rattle.cast_history.proofs.Spots.{found_passes}
-use Rattle.cast_history.proofs.Rules.Follows.{IsTaken, IsInvariantOfFrames}
+use Rattle.cast_history.proofs.Rules.Follows.{IsTaken, IsInvariantOfAll}
 use Rattle.cast_history.proofs.Rules.Data.{used_known, used_of_member}
 use Rattle.cast_history.proofs.Rules.Frames.{framed_keeps}
 use Rattle.cast_history.proofs.Lawful.{same_home, same_group_set, invariant_by_same, lawful_same, same_pushing, same_request, lawful_opening, lawful_before, lawful_let_go}
-use Rattle.cast_history.proofs.LawfulSteps.{each_passes, same_tick, same_decide, placed_at, taken_current, entered, frames_lawful, lawful_acted, lawful_first, lawful_set_order, lawful_decide}
+use Rattle.cast_history.proofs.LawfulSteps.{each_passes, same_tick, same_decide, placed_at, taken_current, entered, all_lawful, lawful_acted, lawful_first, lawful_set_order, lawful_decide}
 use Rattle.cast_history.proofs.Counting.{is_clock_of, all_both}
 use Rattle.cast_history.proofs.Raising.{counts_same, counts_let_go, counts_before, counts_opening, counts_standing, counts_receiving, counts_sending, counts_delivering, counts_completing, counts_opened, next_unborn, can_raise}
 
@@ -115,16 +116,17 @@ abbrev IsCounted : State → Type 0
 IsCounted s = IsLawful s × CountsMembers s
 
 -- each move of the rules leaves it so
-frames_counted : IsInvariantOfFrames history IsCounted
-frames_counted = record {
+all_counted : IsInvariantOfAll history IsCounted
+all_counted = record {
   keeps = invariant_by_same IsCounted (λ s t a c. (lawful_same s t a c.0, counts_same s t a c.1));
-  receive = λ s c h from m taken. (frames_lawful.receive s c.0 h from m taken, counts_receiving s m c.1 (taken_time s h from m taken) (taken_from s h from m taken));
-  note_request = λ s c g what p. (frames_lawful.note_request s c.0 g what p, counts_same s _ (same_group_set s g (with_request (s.group g) what p) refl refl) c.1);
-  note_answer = λ s c g. (frames_lawful.note_answer s c.0 g, counts_same s _ (same_group_set s g (with_answer (s.group g)) refl refl) c.1);
-  note_applied = λ s c g from number p. (frames_lawful.note_applied s c.0 g from number p, counts_same s _ (same_home s g (after_request (s.home g) from number p)) c.1);
-  note_installed = λ s c g from n. (frames_lawful.note_installed s c.0 g from n, counts_same s _ (same_home s g (after_installed (s.home g) from n)) c.1);
+  receive = λ s c h from m taken. (all_lawful.receive s c.0 h from m taken, counts_receiving s m c.1 (taken_time s h from m taken) (taken_from s h from m taken));
+  note_request = λ s c g what p. (all_lawful.note_request s c.0 g what p, counts_same s _ (same_group_set s g (with_request (s.group g) what p) refl refl) c.1);
+  note_answer = λ s c g. (all_lawful.note_answer s c.0 g, counts_same s _ (same_group_set s g (with_answer (s.group g)) refl refl) c.1);
+  note_applied = λ s c g from number p. (all_lawful.note_applied s c.0 g from number p, counts_same s _ (same_home s g (after_request (s.home g) from number p)) c.1);
+  note_installed = λ s c g from n. (all_lawful.note_installed s c.0 g from n, counts_same s _ (same_home s g (after_installed (s.home g) from n)) c.1);
+  note_decided = λ s c g. (all_lawful.note_decided s c.0 g, counts_same s _ (same_home s g (decided (s.home g))) c.1);
   enter_view = λ s c h g n members request is. let e = entered s h g n members is in
-      (frames_lawful.enter_view s c.0 h g n members request is, counts_completing s h n members request c.0 c.1 e.listed is.typed e.unseen e.later);
+      (all_lawful.enter_view s c.0 h g n members request is, counts_completing s h n members request c.0 c.1 e.listed is.typed e.unseen e.later);
 }
 
 -- Events
@@ -140,7 +142,7 @@ counts_acted s (event.Command d k x) l c typed =
       | true ↦ λ is. counts_commanded s k x l c (c.opened k is)
       | false ↦ λ _. c
     ] refl
-counts_acted s (event.Frame d from f) l c typed = (framed_keeps history IsCounted frames_counted s (l, c) from f typed).1
+counts_acted s (event.Frame d from f) l c typed = (framed_keeps history IsCounted all_counted s (l, c) from f typed).1
 counts_acted s (event.Tick t) l c typed = counts_same s (tick history s t) (same_tick s t) c
 
 -- Until the state rests
@@ -166,8 +168,8 @@ counts_set_order s g l c =
       | None ↦ c
     ]
 
-pub counts_decide : (s : State) (g : GroupNo) → CountsMembers s → CountsMembers (decide s g)
-counts_decide s g c = counts_same s (decide s g) (same_decide s g) c
+pub counts_decide : (s : State) (g : GroupNo) → CountsMembers s → CountsMembers (decide history s g)
+counts_decide s g c = counts_same s (decide history s g) (same_decide s g) c
 
 -- All states that a history passes
 
@@ -207,16 +209,16 @@ module _ (here : SiteNo) (config : DomainConfig) where
   passed_settle : (s : State) → Passed s → Passed (settle s)
   passed_settle s p = passed_fold deliver_all (λ t k q. passed_iterate (length t.got) (deliver_first k) (λ u r. delivers u k r) t q) (serials s) s p
 
-  passed_lead_all : (s : State) → Passed s → Passed (lead_all s)
-  passed_lead_all s p = elim (is_home history s) as (λ b. Passed (if b then fold decide s s.config.groups else s)) [
-    | true ↦ passed_fold decide (λ t g q. decides t g q) s.config.groups s p
+  passed_lead : (s : State) → Passed s → Passed (lead history s)
+  passed_lead s p = elim (is_home history s) as (λ b. Passed (if b then fold (decide history) s s.config.groups else s)) [
+    | true ↦ passed_fold (decide history) (λ t g q. decides t g q) s.config.groups s p
     | false ↦ p
   ]
 
   passed_pass : (s : State) → Passed s → Passed (pass s)
   passed_pass s p =
       let settled : State = settle s in
-      passed_lead_all (set_orders settled) (passed_fold set_order (λ t g q. orders t g q) settled.config.groups settled (passed_settle s p))
+      passed_lead (set_orders settled) (passed_fold set_order (λ t g q. orders t g q) settled.config.groups settled (passed_settle s p))
 
   pub passed_run : (events : List Event) (answers : List Taken) (sent : List (SiteNo × SiteFrame)) (s t : State) → AllByRecursion IsTyped events → Passed s → IsRun s events answers sent t → Passed t
   passed_run [] [] sent s t typed p run = subst Passed (sym run.1) p

@@ -26,7 +26,8 @@ use Rattle.cast_history.specs.History.{history}
 use Rattle.cast_history.specs.Rules.Room.{may_order}
 use Rattle.cast_history.specs.Order.{unlisted, is_ready_for}
 use Rattle.cast_history.specs.Effects.{sending_message, with_delivery}
-use Rattle.cast_history.specs.Rest.{deliver_first, deliver_all, settle, may_set_order, set_order_by, set_order, set_orders, send_install, install_frame, decide, lead_all, pass, RestsAt}
+use Rattle.cast_history.specs.Rules.Views.{install_frame, send_install, decide, lead}
+use Rattle.cast_history.specs.Rest.{deliver_first, deliver_all, settle, may_set_order, set_order_by, set_order, set_orders, pass, RestsAt}
 use Rattle.cast_history.specs.Endings.{total, one_if, left, rank, ranks, undelivered, to_list_in, to_list, to_do, Moves, PassMoves, EachComesToRest, RestIsOne}
 use Rattle.cast_history.proofs.Alikes.{Alike, alike_then, alike_fold, alike_emitted, alike_let_go, alike_sending}
 use Rattle.cast_history.proofs.Totals.{In, total_le, total_lt, total_more, left_push, left_found, left_more}
@@ -208,25 +209,25 @@ decided_less h e =
     let is : ◌≡◌ {A = ℕ} (rank (decided h)) 0 = numbered h.number in
     omega arith
 
-moves_decide : (s : State) (g : GroupNo) → In g s.config.groups → Moves s (decide s g)
+moves_decide : (s : State) (g : GroupNo) → In g s.config.groups → Moves s (decide history s g)
 moves_decide s g at =
     let t : State = set_home s g (decided (s.home g)) in
-    let u : State = fold (send_install g (decided (s.home g))) t (sites_of (s.home g).joins) in
-    let a : Alike t u = alike_fold (send_install g (decided (s.home g))) (λ x to. alike_emitted x to (install_frame g (decided (s.home g)) to)) (sites_of (s.home g).joins) t in
+    let u : State = fold (send_install history g) t (sites_of (s.home g).joins) in
+    let a : Alike t u = alike_fold (send_install history g) (λ x to. alike_emitted x to (install_frame g (x.home g) to)) (sites_of (s.home g).joins) t in
     moves_if s u s (may_decide (s.home g))
     (λ e. record { config = a.config; used = a.used; way = inr (subst (λ n. n < to_do s) (sym (to_do_alike t u a)) (home_less s g (decided (s.home g)) at (decided_less (s.home g) e))) })
     (moves_self s)
 
-moves_lead_all : (s : State) → Moves s (lead_all s)
-moves_lead_all s =
-    moves_if s (fold decide s s.config.groups) s (is_home history s)
-    (λ _. moves_fold s decide s.config.groups (λ g at t u c. moves_decide t g (subst (λ x. In g x.groups) (sym c) at)) s refl refl)
+moves_lead : (s : State) → Moves s (lead history s)
+moves_lead s =
+    moves_if s (fold (decide history) s s.config.groups) s (is_home history s)
+    (λ _. moves_fold s (decide history) s.config.groups (λ g at t u c. moves_decide t g (subst (λ x. In g x.groups) (sym c) at)) s refl refl)
     (moves_self s)
 
 pub moves_pass : PassMoves
 moves_pass s =
     moves_then s (settle s) (pass s) (moves_settle s)
-    (moves_then (settle s) (set_orders (settle s)) (pass s) (moves_set_orders (settle s)) (moves_lead_all (set_orders (settle s))))
+    (moves_then (settle s) (set_orders (settle s)) (pass s) (moves_set_orders (settle s)) (moves_lead (set_orders (settle s))))
 
 -- The end
 

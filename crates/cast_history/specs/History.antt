@@ -3,7 +3,7 @@ use Rattle.std.specs.Prelude.{if◌then◌else◌, Some, None}
 use Rattle.cast_types.specs.declared.names.GroupNo.{GroupNo}
 use Rattle.cast_timer.specs.Owed.{is_owed, due_at}
 use Rattle.cast_model.specs.Group.{with_request, with_answer}
-use Rattle.cast_model.specs.Home.{after_request, after_installed}
+use Rattle.cast_model.specs.Home.{after_request, after_installed, decided}
 use Rattle.cast_history.specs.State.{State, is_group, set_group, set_home, emitted, receiving, is_received, held, message_of, others_of, is_stable, upto, noting_ack, noting_stable}
 use Rattle.cast_history.specs.Owing.{noting_owed, noting_resent, paying, paying_upto, at_moment}
 use Rattle.cast_history.specs.Entering.{completing}
@@ -16,6 +16,7 @@ history = record {
   config = λ s. s.config;
   place = λ s g. if is_group s g then Some g else None;
   name = λ s g. g;
+  places = λ s. s.config.groups;
   group = λ s g. s.group g;
   home = λ s g. s.home g;
   others = others_of;
@@ -39,5 +40,6 @@ history = record {
   note_answer = λ s g. set_group s g (with_answer (s.group g));
   note_applied = λ s g from number p. set_home s g (after_request (s.home g) from number p);
   note_installed = λ s g from n. set_home s g (after_installed (s.home g) from n);
+  note_decided = λ s g. set_home s g (decided (s.home g));
   enter_view = completing;
 }

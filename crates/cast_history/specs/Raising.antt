@@ -25,7 +25,9 @@ use Rattle.cast_model.specs.Group.{members_of, has_view}
 use Rattle.cast_history.specs.State.{State, opening, local, was_given, let_go}
 use Rattle.cast_history.specs.Effects.{may_raise}
 use Rattle.cast_history.specs.Step.{acted}
-use Rattle.cast_history.specs.Rest.{deliver_first, set_order, decide}
+use Rattle.cast_history.specs.History.{history}
+use Rattle.cast_history.specs.Rules.Views.{decide}
+use Rattle.cast_history.specs.Rest.{deliver_first, set_order}
 use Rattle.cast_history.specs.Run.{before_event, IsRun}
 use Rattle.cast_history.specs.Lawful.{IsLawful, IsTyped}
 
@@ -78,7 +80,7 @@ pub data IsPassed (here : SiteNo) (config : DomainConfig) : State → Type 0 whe
   lets_go : (s : State) → IsPassed here config s → IsPassed here config (let_go s)
   delivers : (s : State) (k : ℕ) → IsPassed here config s → IsPassed here config (deliver_first k s)
   orders : (s : State) (g : GroupNo) → IsPassed here config s → IsPassed here config (set_order s g)
-  decides : (s : State) (g : GroupNo) → IsPassed here config s → IsPassed here config (decide s g)
+  decides : (s : State) (g : GroupNo) → IsPassed here config s → IsPassed here config (decide history s g)
 
 -- whatever events come to a domain of at most 32 groups, after them each member's count may be raised, unless it is the
 -- last one

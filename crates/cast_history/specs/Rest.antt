@@ -1,20 +1,16 @@
 -- What a state does of itself after each event, until nothing changes.
-use Rattle.std.specs.Prelude.{ℕ, Bool, not, ◌&&◌, if◌then◌else◌, [], length, Some, None}
+use Rattle.std.specs.Prelude.{ℕ, Bool, not, ◌&&◌, if◌then◌else◌, length, Some, None}
 use Rattle.std.specs.List.{fold, find}
-use Rattle.cast_types.specs.declared.names.SiteNo.{SiteNo}
 use Rattle.cast_types.specs.declared.names.GroupNo.{GroupNo}
 use Rattle.cast_types.specs.Repeat.{iterate, ComesToRest}
-use Rattle.cast_message.specs.declared.site.SiteFrame.{SiteFrame}
-use Rattle.cast_message.specs.declared.site.SiteFrame.TheVariants as frame
-use Rattle.cast_model.specs.Group.{holder_at, sites_of}
-use Rattle.cast_model.specs.declared.home.Home.{Home}
-use Rattle.cast_model.specs.Home.{is_empty, applied_of, may_decide, decided}
+use Rattle.cast_model.specs.Group.{holder_at}
+use Rattle.cast_model.specs.Home.{is_empty}
 use Rattle.cast_message.specs.declared.message.Body.TheVariants as body
 use Rattle.cast_delay.specs.Ready.{is_member}
 use Rattle.cast_order.specs.Order.{ids_to_list, place_after}
-use Rattle.cast_history.specs.State.{State, local, serials, let_go, set_home, emitted}
+use Rattle.cast_history.specs.State.{State, local, serials, let_go}
 use Rattle.cast_history.specs.Rules.Room.{may_order}
-use Rattle.cast_history.specs.Rules.Requests.{is_home}
+use Rattle.cast_history.specs.Rules.Views.{lead}
 use Rattle.cast_history.specs.History.{history}
 use Rattle.cast_history.specs.Order.{order_of, unlisted, has_place, is_ready_for}
 use Rattle.cast_history.specs.Effects.{may_raise, sending, delivering}
@@ -59,30 +55,11 @@ set_order s g = elim (holder_at s.here (s.group g)) [ Some p ↦ set_order_by s 
 abbrev pub set_orders : State → State
 set_orders s = fold set_order s s.config.groups
 
--- The home
-
--- the Install of a decided view, with the last request of the site that was applied
-abbrev pub install_frame : GroupNo → Home → SiteNo → SiteFrame
-install_frame g h to = frame.Install g h.number h.members (applied_of h to) [] (record { start = 0; ids = [] })
-
-abbrev pub send_install : GroupNo → Home → State → SiteNo → State
-send_install g h s to = emitted s to (install_frame g h to)
-
--- the home decides a view, and sends it to the sites of its members
-abbrev pub decide : State → GroupNo → State
-decide s g =
-    if may_decide (s.home g)
-    then fold (send_install g (decided (s.home g))) (set_home s g (decided (s.home g))) (sites_of (s.home g).joins)
-    else s
-
-abbrev pub lead_all : State → State
-lead_all s = if is_home history s then fold decide s s.config.groups else s
-
 -- The whole
 
 -- deliveries by serial; then by group set-order messages; then by group the home
 abbrev pub pass : State → State
-pass s = lead_all (set_orders (settle s))
+pass s = lead history (set_orders (settle s))
 
 -- from s the state comes to rest at t: some number of passes leads there, and one more changes nothing
 abbrev pub RestsAt : State → State → Type 0

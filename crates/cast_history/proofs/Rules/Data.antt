@@ -19,7 +19,7 @@ use Rattle.cast_history.specs.Rules.Interface.{Site}
 use Rattle.cast_history.specs.Rules.Room.{may_take}
 use Rattle.cast_history.specs.Rules.Owing.{owe}
 use Rattle.cast_history.specs.Rules.Data.{counts_itself, is_well_formed, is_used, acknowledge, use_data, on_data}
-use Rattle.cast_history.proofs.Rules.Follows.{FollowsFrames, IsTaken, choose}
+use Rattle.cast_history.proofs.Rules.Follows.{FollowsAll, IsTaken, choose}
 use Rattle.cast_history.proofs.Rules.Owing.{owe_follows}
 
 -- what a message is that is used
@@ -58,19 +58,19 @@ module _ {S H : Type 0} (d : Site S H) (s : S) (h : H) (from : SiteNo) (m : Mess
 counted : (m : Message) → counts_itself m ≡ true → nat_lt 0 m.id.count ≡ true
 counted m counts = (and_parts (nat_lt 0 m.id.count) _ (and_parts _ _ counts).1).0
 
-module _ {R S H K : Type 0} (a : Site R H) (b : Site S K) (fits : R → S → Type 0) (stands : H → K → Type 0) (frames : FollowsFrames a b fits stands) where
+module _ {R S H K : Type 0} (a : Site R H) (b : Site S K) (fits : R → S → Type 0) (stands : H → K → Type 0) (all : FollowsAll a b fits stands) where
   take_same : (r : R) (s : S) → fits r s → (x : Body) → may_take a r x ≡ may_take b s x
   take_same r s f x =
-      let held = frames.held r s f in
-      let config = frames.follows.config r s f in
+      let held = all.held r s f in
+      let config = all.follows.config r s f in
       λ j. if is_order (kind_of x) then nat_lt (held j) (2 * (config j).quotas.held) else nat_lt (held j) (config j).quotas.held
 
   acknowledge_follows : (r : R) (s : S) → fits r s → (to : SiteNo) (u : Uid) → nat_lt 0 u.count ≡ true → fits (acknowledge a r to u) (acknowledge b s to u)
   acknowledge_follows r s f to u from_one =
       choose fits (a.is_stable r u) (b.is_stable s u) (a.send r to (frame.Ack u)) (owe a r (message_key kinds.Ack u to)) (b.send s to (frame.Ack u)) (owe b s (message_key kinds.Ack u to))
-      (frames.is_stable r s f u from_one)
-      (λ _. frames.follows.send r s f to (frame.Ack u))
-      (λ _. owe_follows a b fits stands frames.follows r s f (message_key kinds.Ack u to))
+      (all.is_stable r s f u from_one)
+      (λ _. all.follows.send r s f to (frame.Ack u))
+      (λ _. owe_follows a b fits stands all.follows r s f (message_key kinds.Ack u to))
 
   use_data_follows : (r : R) (s : S) → fits r s → (k : K) (from : SiteNo) (m : Message) → IsTaken b s k from m → fits (use_data a r from m) (use_data b s from m)
   use_data_follows r s f k from m taken =
@@ -78,17 +78,17 @@ module _ {R S H K : Type 0} (a : Site R H) (b : Site S K) (fits : R → S → Ty
       let next : R = acknowledge a (a.receive r m) from m.id in
       let after : S = acknowledge b (b.receive s m) from m.id in
       choose fits (a.is_received r m.id) (b.is_received s m.id) (a.send r from (frame.Ack m.id)) (if may_take a r m.body then next else r) (b.send s from (frame.Ack m.id)) (if may_take b s m.body then after else s)
-      (frames.is_received r s f m.id from_one)
-      (λ _. frames.follows.send r s f from (frame.Ack m.id))
+      (all.is_received r s f m.id from_one)
+      (λ _. all.follows.send r s f from (frame.Ack m.id))
       (λ _. choose fits (may_take a r m.body) (may_take b s m.body) next r after s (take_same r s f m.body)
-      (λ _. acknowledge_follows (a.receive r m) (b.receive s m) (frames.receive r s f k from m taken) from m.id from_one)
+      (λ _. acknowledge_follows (a.receive r m) (b.receive s m) (all.receive r s f k from m taken) from m.id from_one)
       (λ _. f))
 
   pub data_follows : (r : R) (s : S) → fits r s → (h : H) (k : K) → stands h k → (from : SiteNo) (m : Message) → b.place s m.id.group ≡ Some k → IsTypedFrame (frame.Data m) → fits (on_data a r h from m) (on_data b s k from m)
   data_follows r s f h k at from m there typed =
-      let here = frames.follows.here r s f in
-      let config = frames.follows.config r s f in
-      let group = frames.follows.group r s f h k at in
+      let here = all.follows.here r s f in
+      let config = all.follows.config r s f in
+      let group = all.follows.group r s f h k at in
       choose fits (is_used a r h from m) (is_used b s k from m) (use_data a r from m) r (use_data b s from m) s
       (λ j. site_eq m.id.proc.site from && (not (site_eq from (here j)) && ((m.id.view == (group j).number)
       && (list_all (λ c. is_among group_eq c.0 (config j).groups) m.times && (is_among proc_eq m.id.proc (members_of (group j)) && counts_itself m)))))

@@ -28,6 +28,13 @@ AtBoth stands (Some h) None = ⊥
 AtBoth stands None (Some k) = ⊥
 AtBoth stands None None = ⊤
 
+-- the places of two lists stand for each other, one by one
+abbrev pub AllAt : {H K : Type 0} → (H → K → Type 0) → List H → List K → Type 0
+AllAt stands [] [] = ⊤
+AllAt stands [] (k ∷ ks) = ⊥
+AllAt stands (h ∷ hs) [] = ⊥
+AllAt stands (h ∷ hs) (k ∷ ks) = stands h k × AllAt stands hs ks
+
 -- fits r s: r stands for s; stands h k: what is at h in the one is the group at k in the other
 pub record Follows {R S H K : Type 0} (a : Site R H) (b : Site S K) (fits : R → S → Type 0) (stands : H → K → Type 0) : Type 0 where
   pub here : (r : R) (s : S) → fits r s → a.here r ≡ b.here s
@@ -62,10 +69,11 @@ pub record IsEntered {S H : Type 0} (d : Site S H) (s : S) (h : H) (g : GroupNo)
   pub completes : verdict_of (d.group s h) n ≡ Completes
   pub typed : is_members members ≡ true
 
--- the same of what frames ask and do beside
-pub record FollowsFrames {R S H K : Type 0} (a : Site R H) (b : Site S K) (fits : R → S → Type 0) (stands : H → K → Type 0) : Type 0 where
+-- the same of all that rules ask and do
+pub record FollowsAll {R S H K : Type 0} (a : Site R H) (b : Site S K) (fits : R → S → Type 0) (stands : H → K → Type 0) : Type 0 where
   pub follows : Follows a b fits stands
   pub name : (r : R) (s : S) → fits r s → (h : H) (k : K) → stands h k → a.name r h ≡ b.name s k
+  pub places : (r : R) (s : S) → fits r s → AllAt stands (a.places r) (b.places s)
   pub home : (r : R) (s : S) → fits r s → (h : H) (k : K) → stands h k → a.home r h ≡ b.home s k
   pub held : (r : R) (s : S) → fits r s → a.held r ≡ b.held s
   pub is_received : (r : R) (s : S) → fits r s → (u : Uid) → nat_lt 0 u.count ≡ true → a.is_received r u ≡ b.is_received s u
@@ -75,6 +83,7 @@ pub record FollowsFrames {R S H K : Type 0} (a : Site R H) (b : Site S K) (fits 
   pub note_answer : (r : R) (s : S) → fits r s → (h : H) (k : K) → stands h k → fits (a.note_answer r h) (b.note_answer s k)
   pub note_applied : (r : R) (s : S) → fits r s → (h : H) (k : K) → stands h k → (from : SiteNo) (number : ℕ) (p : Proc) → fits (a.note_applied r h from number p) (b.note_applied s k from number p)
   pub note_installed : (r : R) (s : S) → fits r s → (h : H) (k : K) → stands h k → (from : SiteNo) (n : ℕ) → fits (a.note_installed r h from n) (b.note_installed s k from n)
+  pub note_decided : (r : R) (s : S) → fits r s → (h : H) (k : K) → stands h k → fits (a.note_decided r h) (b.note_decided s k)
   pub enter_view : (r : R) (s : S) → fits r s → (h : H) (k : K) → stands h k → (g : GroupNo) (n : ℕ) (members : Membership) (request : ℕ) → IsEntered b s k g n members → fits (a.enter_view r h n members request) (b.enter_view s k n members request)
 
 -- What rules are made of
@@ -91,6 +100,13 @@ module _ {R S : Type 0} (fits : R → S → Type 0) where
   pub each : {X : Type 0} (f : R → X → R) (g : S → X → S) → ((r : R) (s : S) (x : X) → fits r s → fits (f r x) (g s x)) → (xs : List X) (r : R) (s : S) → fits r s → fits (fold f r xs) (fold g s xs)
   each f g step [] r s h = h
   each f g step (x ∷ xs) r s h = each f g step xs (f r x) (g s x) (step r s x h)
+
+  -- and for each place in turn
+  pub each_place : {H K : Type 0} (stands : H → K → Type 0) (f : R → H → R) (g : S → K → S) → ((r : R) (s : S) → fits r s → (h : H) (k : K) → stands h k → fits (f r h) (g s k)) → (hs : List H) (ks : List K) → AllAt stands hs ks → (r : R) (s : S) → fits r s → fits (fold f r hs) (fold g s ks)
+  each_place stands f g step [] [] at r s h = h
+  each_place stands f g step [] (k ∷ ks) at r s h = absurd at
+  each_place stands f g step (x ∷ hs) [] at r s h = absurd at
+  each_place stands f g step (x ∷ hs) (k ∷ ks) at r s h = each_place stands f g step hs ks at.1 (f r x) (g s k) (step r s h x k at.0)
 
   -- the same of what stands at a place, where there is one
   pub at_place : {H K : Type 0} (stands : H → K → Type 0) (f : H → R) (g : K → S) → ((h : H) (k : K) → stands h k → fits (f h) (g k)) → (o : Option H) (p : Option K) → AtBoth stands o p → (r : R) (s : S) → fits r s → fits (option_map_or f o r) (option_map_or g p s)
@@ -112,14 +128,15 @@ pub record IsInvariant {S H : Type 0} (d : Site S H) (holds : S → Type 0) : Ty
   pub note_ack : (s : S) → holds s → (from : SiteNo) (u : Uid) → holds (d.note_ack s from u)
   pub note_stable : (s : S) → holds s → (u : Uid) → holds (d.note_stable s u)
 
--- and after each move of frames
-pub record IsInvariantOfFrames {S H : Type 0} (d : Site S H) (holds : S → Type 0) : Type 0 where
+-- and after each of all moves
+pub record IsInvariantOfAll {S H : Type 0} (d : Site S H) (holds : S → Type 0) : Type 0 where
   pub keeps : IsInvariant d holds
   pub receive : (s : S) → holds s → (h : H) (from : SiteNo) (m : Message) → IsTaken d s h from m → holds (d.receive s m)
   pub note_request : (s : S) → holds s → (h : H) (what : Change) (p : Proc) → holds (d.note_request s h what p)
   pub note_answer : (s : S) → holds s → (h : H) → holds (d.note_answer s h)
   pub note_applied : (s : S) → holds s → (h : H) (from : SiteNo) (number : ℕ) (p : Proc) → holds (d.note_applied s h from number p)
   pub note_installed : (s : S) → holds s → (h : H) (from : SiteNo) (n : ℕ) → holds (d.note_installed s h from n)
+  pub note_decided : (s : S) → holds s → (h : H) → holds (d.note_decided s h)
   pub enter_view : (s : S) → holds s → (h : H) (g : GroupNo) (n : ℕ) (members : Membership) (request : ℕ) → IsEntered d s h g n members → holds (d.enter_view s h n members request)
 
 -- a site follows itself, in the same state, of which an invariant holds
@@ -132,6 +149,13 @@ SamePlace h k = h ≡ k
 at_itself : {H : Type 0} (o p : Option H) → o ≡ p → AtBoth SamePlace o p
 at_itself (Some h) p same = subst (AtBoth SamePlace (Some h)) same refl
 at_itself None p same = subst (AtBoth SamePlace None) same tt
+
+all_at_themselves : {H : Type 0} (hs ks : List H) → hs ≡ ks → AllAt SamePlace hs ks
+all_at_themselves {H = H} hs ks same = subst (AllAt SamePlace hs) same (alike hs)
+  where
+    alike : (xs : List H) → AllAt SamePlace xs xs
+    alike [] = tt
+    alike (x ∷ xs) = (refl, alike xs)
 
 pub follows_itself : {S H : Type 0} (d : Site S H) (holds : S → Type 0) → IsInvariant d holds → Follows d d (AlsoHolds holds) SamePlace
 follows_itself d holds keeps = record {
@@ -154,10 +178,11 @@ follows_itself d holds keeps = record {
   note_stable = λ r s f u. (λ i. d.note_stable (f.0 i) u, keeps.note_stable s f.1 u);
 }
 
-pub follows_itself_in_frames : {S H : Type 0} (d : Site S H) (holds : S → Type 0) → IsInvariantOfFrames d holds → FollowsFrames d d (AlsoHolds holds) SamePlace
-follows_itself_in_frames d holds keeps = record {
+pub follows_itself_in_all : {S H : Type 0} (d : Site S H) (holds : S → Type 0) → IsInvariantOfAll d holds → FollowsAll d d (AlsoHolds holds) SamePlace
+follows_itself_in_all d holds keeps = record {
   follows = follows_itself d holds keeps.keeps;
   name = λ r s f h k at. λ i. d.name (f.0 i) (at i);
+  places = λ r s f. all_at_themselves (d.places r) (d.places s) (ap d.places f.0);
   home = λ r s f h k at. λ i. d.home (f.0 i) (at i);
   held = λ r s f. ap d.held f.0;
   is_received = λ r s f u counted. λ i. d.is_received (f.0 i) u;
@@ -167,6 +192,7 @@ follows_itself_in_frames d holds keeps = record {
   note_answer = λ r s f h k at. (λ i. d.note_answer (f.0 i) (at i), keeps.note_answer s f.1 k);
   note_applied = λ r s f h k at from number p. (λ i. d.note_applied (f.0 i) (at i) from number p, keeps.note_applied s f.1 k from number p);
   note_installed = λ r s f h k at from n. (λ i. d.note_installed (f.0 i) (at i) from n, keeps.note_installed s f.1 k from n);
+  note_decided = λ r s f h k at. (λ i. d.note_decided (f.0 i) (at i), keeps.note_decided s f.1 k);
   enter_view = λ r s f h k at g n members request entered. (λ i. d.enter_view (f.0 i) (at i) n members request, keeps.enter_view s f.1 k g n members request entered);
 }
 

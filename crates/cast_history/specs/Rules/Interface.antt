@@ -22,6 +22,8 @@ pub record Site (S H : Type 0) : Type 0 where
   -- where a group of the domain's configuration stands
   pub place : S → GroupNo → Option H
   pub name : S → H → GroupNo
+  -- where the groups stand, in the order of the configuration
+  pub places : S → List H
   -- a group: its view, and the requests of its processes here
   pub group : S → H → Group
   -- what the home keeps of a group
@@ -68,6 +70,8 @@ pub record Site (S H : Type 0) : Type 0 where
   pub note_applied : S → H → SiteNo → ℕ → Proc → S
   -- the home awaits a site no more that has installed a view
   pub note_installed : S → H → SiteNo → ℕ → S
+  -- the home decides the view that is due
+  pub note_decided : S → H → S
   -- a group has a new view, with these members; the local processes that it takes in enter it, and are told: a member, and one whose request to
   -- join was applied, by the number of the last one of this site that was
   pub enter_view : S → H → ℕ → Membership → ℕ → S
