@@ -16,10 +16,11 @@ use Rattle.cast_delay.specs.Ready.{is_member, is_outside}
 use Rattle.cast_delay.specs.declared.row.Fact.TheVariants as fact
 use Rattle.cast_history.specs.Rules.Requests.{request}
 use Rattle.cast_history.specs.Rules.Room.{may_order, may_receive}
+use Rattle.cast_history.specs.Rules.Sending.{send_message}
 use Rattle.cast_domain.specs.Records.{Records}
 use Rattle.cast_history.specs.Effects.{may_raise}
 use Rattle.cast_history.specs.Step.{body_of}
-use Rattle.cast_domain.specs.Calls.{Attempt, awaits_own_in, records, let_go_in, send_places_in, set_order_by_in, record_at, standing_of, time_of, local_in, tell_in, join_at, cast_at, send_message_in, next_message_in}
+use Rattle.cast_domain.specs.Calls.{Attempt, awaits_own_in, records, let_go_in, send_places_in, set_order_by_in, record_at, standing_of, time_of, local_in, tell_in, join_at, cast_at, next_message_in}
 
 -- what a join does that is not refused
 abbrev pub joined : Records → ℕ → GroupNo → ℕ → Records
@@ -36,7 +37,7 @@ join_made r k g i outside below =
 -- what a cast sends that is not refused
 abbrev pub sent : Records → ℕ → GroupNo → CastKind → List ℕ → ℕ → Records
 sent r k g cast payload i =
-    send_message_in
+    send_message records
     (tell_in r (local_in r k) (fact.Time (bumped (time_of r.delay (local_in r k)) g (local_in r k))))
     (next_message_in r (local_in r k) g i (body_of cast payload))
 

@@ -5,10 +5,8 @@ use Rattle.std.specs.List.{fold, list_any}
 use Rattle.std.specs.Option.{option_map_or}
 use Rattle.std.proofs.lemmas.Bool.{not-false, false≢true, false_from_ne_true, and_parts, eqb-true, eq-eqb}
 use Rattle.std.proofs.lemmas.List.{length-map}
-use Rattle.cast_types.specs.declared.names.SiteNo.{SiteNo}
 use Rattle.cast_types.specs.declared.names.GroupNo.{GroupNo}
 use Rattle.cast_types.specs.declared.names.Proc.{Proc}
-use Rattle.cast_types.specs.declared.names.Uid.{Uid}
 use Rattle.cast_types.specs.declared.names.Standing.{Standing}
 use Rattle.cast_types.specs.declared.names.Standing.TheVariants.{Joining}
 use Rattle.cast_types.specs.declared.refusal.Refusal.{Refusal}
@@ -29,9 +27,7 @@ use Rattle.cast_message.specs.declared.client.Push.TheVariants as push
 use Rattle.cast_message.specs.declared.message.Received.{Received}
 use Rattle.cast_message.specs.Bodies.{kind_of}
 use Rattle.cast_message.specs.Receipts.{messages}
-use Rattle.cast_stable.specs.Stable.{has_acked}
-use Rattle.cast_stable.specs.Ledger.{others_in, has_acked_in}
-use Rattle.cast_timer.specs.declared.key.OwedKind.TheVariants as kinds
+use Rattle.cast_stable.specs.Ledger.{others_in}
 use Rattle.cast_delay.specs.Ready.{is_member, is_outside, has_delivered, awaits}
 use Rattle.cast_delay.specs.Queue.{delivered_in}
 use Rattle.cast_delay.specs.declared.row.Fact.TheVariants as fact
@@ -40,6 +36,7 @@ use Rattle.cast_delay.proofs.Queues.{delivered_rules}
 use Rattle.cast_order.specs.Log.{Log, log_of}
 use Rattle.cast_history.specs.Rules.Requests.{request}
 use Rattle.cast_history.specs.Rules.Room.{may_receive}
+use Rattle.cast_history.specs.Rules.Sending.{send_data, send_message}
 use Rattle.cast_domain.specs.declared.record.GroupRecord.{GroupRecord}
 use Rattle.cast_model.specs.Group.{has_view}
 use Rattle.cast_message.specs.declared.client.Command.{Command}
@@ -47,19 +44,17 @@ use Rattle.cast_message.specs.declared.client.Command.TheVariants as command
 use Rattle.cast_history.specs.State.{State, local, is_group, set_process, set_standing, others_of, gate_of, was_given, pushing, receiving}
 use Rattle.cast_history.specs.Rules.Room.{may_receive}
 use Rattle.cast_history.specs.Order.{awaits_own}
-use Rattle.cast_history.specs.Rules.Keys.{message_key}
-use Rattle.cast_history.specs.Rules.Owing.{send_for, owe}
 use Rattle.cast_history.specs.History.{history}
-use Rattle.cast_history.specs.Effects.{sending_to, next_message, may_raise, sending}
+use Rattle.cast_history.specs.Effects.{next_message, may_raise, sending}
 use Rattle.cast_history.specs.Step.{first_refusal, join_tests, cast_tests, joining, attempting, body_of, requested, commanded}
 use Rattle.cast_domain.specs.Records.{Records}
-use Rattle.cast_domain.specs.Calls.{place_in, record_at, standing_of, time_of, push_in, tell_in, Attempt, records, join_at, join_in, learn_in, receive_in, send_data_in, send_message_in, next_message_in, is_own_in, awaits_own_in, cast_at, cast_in, reply_in, requested_in, command_in}
+use Rattle.cast_domain.specs.Calls.{place_in, record_at, standing_of, time_of, push_in, tell_in, Attempt, records, join_at, join_in, learn_in, receive_in, next_message_in, is_own_in, awaits_own_in, cast_at, cast_in, reply_in, requested_in, command_in}
 use Rattle.cast_history.specs.Lawful.{IsSpent, AreKept, IsLawful}
 use Rattle.cast_domain.specs.Fits.{process_named, LogFits, Fits}
 use Rattle.cast_history.proofs.Lawful.{lawful_standing}
 use Rattle.cast_domain.proofs.Framing.{fits_request}
-use Rattle.cast_domain.proofs.Following.{fits_send_for, fits_owe}
-use Rattle.cast_domain.proofs.Standing.{and_none, fits_if, record_there, place_some, place_none, standing_there, time_there, fits_push, fits_standing, fits_time, process_here, fits_receive_with}
+use Rattle.cast_domain.proofs.Following.{fits_sends}
+use Rattle.cast_domain.proofs.Standing.{and_none, record_there, place_some, place_none, standing_there, time_there, fits_push, fits_standing, fits_time, process_here, fits_receive_with}
 use Rattle.cast_domain.proofs.Logs.{logs_receive}
 use Rattle.cast_domain.proofs.Releases.{current_same}
 use Rattle.cast_types.proofs.Bools.{same_bools}
@@ -204,27 +199,15 @@ awaits_own_there r s f l k given =
 
 -- Messages that are sent
 
--- a message is sent to a site, and owed to it unless that has acknowledged it
-fits_sending : (u : Uid) → 0 < u.count → (r : Records) (s : State) → Fits r s → (to : SiteNo) → Fits (send_data_in u r to) (sending_to u s to)
-fits_sending u counted r s f to =
-    fits_if (has_acked_in r.acks to u) (has_acked s.acks u to) (send_for records r (message_key kinds.Data u to)) (owe records r (message_key kinds.Data u to)) (send_for history s (message_key kinds.Data u to)) (owe history s (message_key kinds.Data u to))
-    (f.acks.acked to u counted)
-    (λ _. fits_send_for r s f (message_key kinds.Data u to))
-    (λ _. fits_owe r s f (message_key kinds.Data u to))
-
-fits_sends : (u : Uid) → 0 < u.count → (sites : List SiteNo) (r : Records) (s : State) → Fits r s → Fits (fold (send_data_in u) r sites) (fold (sending_to u) s sites)
-fits_sends u counted [] r s f = f
-fits_sends u counted (to ∷ sites) r s f = fits_sends u counted sites (send_data_in u r to) (sending_to u s to) (fits_sending u counted r s f to)
-
 -- a message is received here, the logs that are kept tell of it, and it is sent to the other sites of the view
-pub fits_send_message_with : (r : Records) (s : State) → Fits r s → (m : Message) → IsSound m → (orders : List Log) → ((g : GroupNo) → LogFits (receiving s m) g (log_of orders g)) → Fits (fold (send_data_in m.id) (record (receive_in r m) { orders = orders }) (others_in r.acks m.id.group)) (fold (sending_to m.id) (receiving s m) (others_of s m.id.group))
+pub fits_send_message_with : (r : Records) (s : State) → Fits r s → (m : Message) → IsSound m → (orders : List Log) → ((g : GroupNo) → LogFits (receiving s m) g (log_of orders g)) → Fits (fold (send_data records m.id) (record (receive_in r m) { orders = orders }) (others_in r.acks m.id.group)) (fold (send_data history m.id) (receiving s m) (others_of s m.id.group))
 fits_send_message_with r s f m sound orders logs =
     let now : Records = record (receive_in r m) { orders = orders } in
-    subst (λ sites. Fits (fold (send_data_in m.id) now sites) (fold (sending_to m.id) (receiving s m) (others_of s m.id.group))) (sym (f.acks.views m.id.group))
-    (fits_sends m.id sound.from_one (others_of s m.id.group) now (receiving s m) (fits_receive_with r s f m sound orders logs))
+    subst (λ sites. Fits (fold (send_data records m.id) now sites) (fold (send_data history m.id) (receiving s m) (others_of s m.id.group))) (sym (f.acks.views m.id.group))
+    (fits_sends now (receiving s m) (fits_receive_with r s f m sound orders logs) m.id sound.from_one (others_of s m.id.group))
 
 -- a message of the current view, which is no set-order message
-fits_send_message : (r : Records) (s : State) → Fits r s → (m : Message) → IsSound m → (m.id.view == (s.group m.id.group).number) ≡ true → is_order (kind_of m.body) ≡ false → Fits (send_message_in r m) (fold (sending_to m.id) (receiving s m) (others_of s m.id.group))
+fits_send_message : (r : Records) (s : State) → Fits r s → (m : Message) → IsSound m → (m.id.view == (s.group m.id.group).number) ≡ true → is_order (kind_of m.body) ≡ false → Fits (send_message records r m) (fold (send_data history m.id) (receiving s m) (others_of s m.id.group))
 fits_send_message r s f m sound current plain =
     fits_send_message_with r s f m sound (learn_in r.orders m.id.group m.body)
     (logs_receive s m r.orders f.orders current (λ k. ap (λ b. b && proc_eq m.id.proc (local s k)) plain))
@@ -240,13 +223,13 @@ next_sound s g k content l member =
     }
 
 -- what the cast of a member does
-fits_casting : (r : Records) (s : State) → Fits r s → IsLawful s → (k : ℕ) → was_given s.used k ≡ true → (i : ℕ) (g : GroupNo) → slice_get s.config.groups i ≡ Some g → (content : Body) → is_order (kind_of content) ≡ false → is_member ((s.process k).standing g) ≡ true → Fits (send_message_in (tell_in r (local s k) (fact.Time (bumped (time_of r.delay (local s k)) g (local s k)))) (next_message_in r (local s k) g i content)) (sending s g k content)
+fits_casting : (r : Records) (s : State) → Fits r s → IsLawful s → (k : ℕ) → was_given s.used k ≡ true → (i : ℕ) (g : GroupNo) → slice_get s.config.groups i ≡ Some g → (content : Body) → is_order (kind_of content) ≡ false → is_member ((s.process k).standing g) ≡ true → Fits (send_message records (tell_in r (local s k) (fact.Time (bumped (time_of r.delay (local s k)) g (local s k)))) (next_message_in r (local s k) g i content)) (sending s g k content)
 fits_casting r s f l k given i g at content plain member =
     let p : Proc = local s k in
     let there = record_there r s f i g at in
     let m : Message = next_message s g k content in
-    let same : send_message_in (tell_in r p (fact.Time (bumped (time_of r.delay p) g p))) (next_message_in r p g i content) ≡ send_message_in (tell_in r p (fact.Time m.times)) m = (λ j.
-    send_message_in (tell_in r p (fact.Time (bumped (time_there r s f k j) g p))) (record {
+    let same : send_message records (tell_in r p (fact.Time (bumped (time_of r.delay p) g p))) (next_message_in r p g i content) ≡ send_message records (tell_in r p (fact.Time m.times)) m = (λ j.
+    send_message records (tell_in r p (fact.Time (bumped (time_there r s f k j) g p))) (record {
       id = record { group = g; view = (there j).here.number; proc = p; count = count_in (bumped (time_there r s f k j) g p) g p };
       times = bumped (time_there r s f k j) g p;
       body = content;
@@ -271,7 +254,7 @@ fits_cast r s f l k given g cast payload =
         let x : Records = written r s in
         let p : Proc = local s k in
         let t : State = sending s g k (body_of cast payload) in
-        let next : Records = send_message_in (tell_in x p (fact.Time (bumped (time_of x.delay p) g p))) (next_message_in x p g i (body_of cast payload)) in
+        let next : Records = send_message records (tell_in x p (fact.Time (bumped (time_of x.delay p) g p))) (next_message_in x p g i (body_of cast payload)) in
         let raised : Attempt = if◌then◌else◌ {A = Attempt} (not (may_raise (time_of x.delay p) g p)) (x, Some HeldFull) (next, None) in
         let last : Attempt = if◌then◌else◌ {A = Attempt} (not (may_receive records x)) (x, Some HeldFull) raised in
         let owned : Attempt = if◌then◌else◌ {A = Attempt} (awaits_own_in x p) (x, Some OwnAbcast) last in

@@ -1,10 +1,11 @@
 -- The records follow the history: each question of a rule has the same answer, and each of its moves keeps what the records stand for.
-use Rattle.std.proofs.Common.{◌≡◌, ℕ, List, map, Some, None, refl, sym, ap, subst, ◌∙◌}
+use Rattle.std.proofs.Common.{◌≡◌, ◌<◌, ℕ, List, map, Some, None, refl, sym, ap, subst, ◌∙◌}
 use Rattle.std.specs.Prelude.{if◌then◌else◌, slice_get}
+use Rattle.std.specs.List.{fold}
+use Rattle.std.proofs.lemmas.Bool.{lt-ltb, ltb-true}
 use Rattle.cast_types.specs.declared.names.SiteNo.{SiteNo}
 use Rattle.cast_types.specs.declared.names.GroupNo.{GroupNo}
 use Rattle.cast_types.specs.declared.names.Uid.{Uid}
-use Rattle.cast_timer.specs.declared.key.OwedKey.{OwedKey}
 use Rattle.cast_timer.specs.Owed.{is_owed, due_at}
 use Rattle.cast_stable.specs.Stable.{Acked}
 use Rattle.cast_stable.specs.Ledger.{Ledger, acked_ledger, learnt_ledger}
@@ -13,11 +14,11 @@ use Rattle.cast_stable.proofs.Meanings.{upto_meant, ack_fits, learn_fits}
 use Rattle.cast_order.specs.Log.{log_of}
 use Rattle.cast_history.specs.State.{State, is_group, others_of, noting_ack, noting_stable}
 use Rattle.cast_history.specs.History.{history}
-use Rattle.cast_history.specs.Rules.Owing.{send_for, owe, tick}
-use Rattle.cast_history.specs.Rules.Stability.{on_ack, on_stable}
+use Rattle.cast_history.specs.Rules.Owing.{tick}
+use Rattle.cast_history.specs.Rules.Sending.{send_data}
 use Rattle.cast_history.proofs.Rules.Follows.{AtBoth, Follows}
-use Rattle.cast_history.proofs.Rules.Owing.{send_for_follows, owe_follows, tick_follows}
-use Rattle.cast_history.proofs.Rules.Stability.{ack_follows, stable_follows}
+use Rattle.cast_history.proofs.Rules.Owing.{tick_follows}
+use Rattle.cast_history.proofs.Rules.Sending.{sends_follow}
 use Rattle.cast_domain.specs.declared.record.GroupRecord.{GroupRecord}
 use Rattle.cast_domain.specs.Records.{Records}
 use Rattle.cast_domain.specs.Calls.{place_in, note_ack_in, note_stable_in, records}
@@ -88,6 +89,7 @@ records_follow groups = record {
   group = λ r s f i g at. ap (λ (x : GroupRecord). x.here) (record_there r s f.0 i g (ap (λ l. slice_get l i) f.1 ∙ at));
   others = λ r s f. f.0.acks.views;
   stable_upto = λ r s f. upto_meant s.here (others_of s) (map (λ m. m.id) s.got) s.acks s.told r.acks f.0.acks;
+  has_acked = λ r s f u counted to. f.0.acks.acked to u (ltb-true 0 u.count counted);
   message = λ r s f. message_same r s f.0;
   is_owed = λ r s f key. ap (λ o. is_owed o key) f.0.owed;
   due = λ r s f. λ i. due_at (f.0.moment i) (f.0.owed i);
@@ -107,17 +109,9 @@ module _ (r : Records) (s : State) (f : Fits r s) where
   abbrev groups : List GroupNo
   groups = s.config.groups
 
-  pub fits_send_for : (key : OwedKey) → Fits (send_for records r key) (send_for history s key)
-  fits_send_for key = (send_for_follows records history (FitsIn groups) (IsAt groups) (records_follow groups) r s (f, refl) key).0
-
-  pub fits_owe : (key : OwedKey) → Fits (owe records r key) (owe history s key)
-  fits_owe key = (owe_follows records history (FitsIn groups) (IsAt groups) (records_follow groups) r s (f, refl) key).0
+  pub fits_sends : (u : Uid) → 0 < u.count → (sites : List SiteNo) → Fits (fold (send_data records u) r sites) (fold (send_data history u) s sites)
+  fits_sends u counted sites =
+      (sends_follow records history (FitsIn groups) (IsAt groups) (records_follow groups) u (lt-ltb 0 u.count counted) sites r s (f, refl)).0
 
   pub fits_tick : (t : ℕ) → Fits (tick records r t) (tick history s t)
   fits_tick t = (tick_follows records history (FitsIn groups) (IsAt groups) (records_follow groups) r s (f, refl) t).0
-
-  pub fits_ack : (i : ℕ) (from : SiteNo) (u : Uid) → IsAt groups i u.group → Fits (on_ack records r i from u) (on_ack history s u.group from u)
-  fits_ack i from u at = (ack_follows records history (FitsIn groups) (IsAt groups) (records_follow groups) r s (f, refl) i u.group at from u).0
-
-  pub fits_stable : (i : ℕ) (from : SiteNo) (u : Uid) → IsAt groups i u.group → Fits (on_stable records r i from u) (on_stable history s u.group from u)
-  fits_stable i from u at = (stable_follows records history (FitsIn groups) (IsAt groups) (records_follow groups) r s (f, refl) i u.group at from u).0

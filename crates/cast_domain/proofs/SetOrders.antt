@@ -27,6 +27,7 @@ use Rattle.cast_order.specs.Order.{ids_to_list, place_after}
 use Rattle.cast_order.specs.Log.{Log, log_of, change_log, assigned, next_places}
 use Rattle.cast_history.specs.Rules.Room.{may_order}
 use Rattle.cast_history.specs.History.{history}
+use Rattle.cast_history.specs.Rules.Sending.{send_message}
 use Rattle.cast_domain.specs.declared.record.GroupRecord.{GroupRecord}
 use Rattle.cast_model.specs.Group.{holder_of, is_process, holder_at}
 use Rattle.cast_model.specs.Home.{is_empty}
@@ -36,7 +37,7 @@ use Rattle.cast_history.specs.Order.{order_of, holds, unlisted, has_place, is_of
 use Rattle.cast_history.specs.Effects.{may_raise, next_message, sending}
 use Rattle.cast_history.specs.Rest.{may_set_order, set_order_by, set_order, set_orders}
 use Rattle.cast_domain.specs.Records.{Records}
-use Rattle.cast_domain.specs.Calls.{standing_of, time_of, records, log_in, learn_in, settled_in, tell_in, send_message_in, let_go_in, set_order_by_in, set_order_in, set_orders_in}
+use Rattle.cast_domain.specs.Calls.{standing_of, time_of, records, log_in, learn_in, settled_in, tell_in, let_go_in, set_order_by_in, set_order_in, set_orders_in}
 use Rattle.cast_history.specs.Lawful.{IsLawful}
 use Rattle.cast_domain.specs.Fits.{record_for, Fits}
 use Rattle.cast_history.proofs.Alikes.{alike_sending}
@@ -88,7 +89,7 @@ member_given r s f k g member = elim (cases_lt s.used k) [
 abbrev sent_at : Records → Proc → GroupRecord → Sequence → Records
 sent_at r p x places =
     let time : ClockList = bumped (time_of r.delay p) x.name p in
-    send_message_in
+    send_message records
     (tell_in
     (record r { orders = change_log x.name (assigned (count_in time x.name p) (settled_in r x.name x.here.number p)) r.orders })
     p (fact.Time time))
@@ -127,9 +128,9 @@ fits_places r s f l k g here member raised q next =
         let below = ltb-true (count_in (s.process k).time g p) MAX_NUMBER (and_parts (nat_lt (count_in (s.process k).time g p) MAX_NUMBER) _ raised).0 in
         subst (λ n. n ≤ MAX_NUMBER) (sym (bump_raises (s.process k).time g p)) (omega (arith, below))
 
-    same : sent_at r p (record_for s g) q ≡ send_message_in (tell_in (record r { orders = noted }) p (fact.Time m.times)) m
+    same : sent_at r p (record_for s g) q ≡ send_message records (tell_in (record r { orders = noted }) p (fact.Time m.times)) m
     same = λ j.
-        send_message_in
+        send_message records
         (tell_in (record r { orders = change_log g (assigned (count_in (bumped (time_there r s f k j) g p) g p) settled) r.orders }) p (fact.Time (bumped (time_there r s f k j) g p)))
         (record {
           id = record { group = g; view = (s.group g).number; proc = p; count = count_in (bumped (time_there r s f k j) g p) g p };

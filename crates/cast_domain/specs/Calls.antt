@@ -42,7 +42,6 @@ use Rattle.cast_delay.specs.Queue.{Queue, new_row, row_of, change_row, next_key,
 use Rattle.cast_order.specs.Log.{Log, log_of, change_log, but_log, learnt, next_in, passed, told, next_places, assigned, has_room_in as has_room_in_log}
 use Rattle.cast_stable.specs.Ledger.{others_in, is_received_in, has_acked_in, upto_in, is_stable_in, told_ledger, received_ledger, acked_ledger, learnt_ledger}
 use Rattle.cast_timer.specs.declared.key.OwedKey.{OwedKey}
-use Rattle.cast_timer.specs.declared.key.OwedKind.TheVariants as kinds
 use Rattle.cast_timer.specs.Owed.{is_owed, due_at}
 use Rattle.cast_message.specs.Receipts.{key_eq, message_under}
 use Rattle.cast_domain.specs.declared.record.GroupRecord.{GroupRecord}
@@ -55,9 +54,9 @@ use Rattle.cast_model.specs.Group.{no_group, members_of, holder_of, is_process, 
 use Rattle.cast_model.specs.Home.{first_home, is_empty, after_request, after_installed, decided}
 use Rattle.cast_domain.specs.Shared.{part_with, part_without, part_owing, part_renewing, part_paying, part_paying_upto}
 use Rattle.cast_history.specs.Rules.Interface.{Site}
-use Rattle.cast_history.specs.Rules.Keys.{message_key}
 use Rattle.cast_history.specs.Rules.Room.{may_receive, may_order}
-use Rattle.cast_history.specs.Rules.Owing.{send_for, owe, tick}
+use Rattle.cast_history.specs.Rules.Owing.{tick}
+use Rattle.cast_history.specs.Rules.Sending.{send_message}
 use Rattle.cast_history.specs.Rules.Requests.{request}
 use Rattle.cast_history.specs.Rules.Views.{lead}
 use Rattle.cast_history.specs.Rules.Frames.{framed}
@@ -212,6 +211,7 @@ records = record {
   others = λ r g. others_in r.acks g;
   held = λ r. length r.part.kept;
   is_received = λ r u. is_received_in r.acks u;
+  has_acked = λ r u to. has_acked_in r.acks to u;
   is_stable = λ r u. is_stable_in r.acks u;
   stable_upto = λ r u. upto_in r.acks u;
   message = message_in;
@@ -281,14 +281,6 @@ join_at r k g i =
 abbrev pub join_in : Records → ℕ → GroupNo → Attempt
 join_in r k g = option_map_or (join_at r k g) (place_in r g) (r, Some NoGroup)
 
--- an own message is sent to a site, and owed to it until it has acknowledged it, as it may have done before
-abbrev pub send_data_in : Uid → Records → SiteNo → Records
-send_data_in u r to =
-    if has_acked_in r.acks to u then send_for records r (message_key kinds.Data u to) else owe records r (message_key kinds.Data u to)
-
-abbrev pub send_message_in : Records → Message → Records
-send_message_in r m = fold (send_data_in m.id) (receive_in r m) (others_in r.acks m.id.group)
-
 abbrev pub next_message_in : Records → Proc → GroupNo → ℕ → Body → Message
 next_message_in r p g i content =
     let times : ClockList = bumped (time_of r.delay p) g p in
@@ -315,7 +307,7 @@ cast_at r k g cast payload i =
     else if awaits_own_in r p then (r, Some OwnAbcast)
     else if not (may_receive records r) then (r, Some HeldFull)
     else if not (may_raise (time_of r.delay p) g p) then (r, Some HeldFull)
-    else (send_message_in (tell_in r p (fact.Time (bumped (time_of r.delay p) g p))) (next_message_in r p g i (body_of cast payload)), None)
+    else (send_message records (tell_in r p (fact.Time (bumped (time_of r.delay p) g p))) (next_message_in r p g i (body_of cast payload)), None)
 
 abbrev pub cast_in : Records → ℕ → GroupNo → CastKind → List ℕ → Attempt
 cast_in r k g cast payload = option_map_or (cast_at r k g cast payload) (place_in r g) (r, Some NoGroup)
@@ -378,7 +370,7 @@ abbrev pub send_places_in : Records → ℕ → Proc → Sequence → Records
 send_places_in r i p places =
     let g : GroupNo = (record_at r.groups i).name in
     let time : ClockList = bumped (time_of r.delay p) g p in
-    send_message_in
+    send_message records
     (tell_in
     (record r { orders = change_log g (assigned (count_in time g p) (settled_in r g (record_at r.groups i).here.number p)) r.orders })
     p (fact.Time time))

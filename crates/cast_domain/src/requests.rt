@@ -2,6 +2,7 @@ ghost use Rattle.std.specs.Prelude.{◌≡◌, ◌<◌, ◌≤◌, ◌+◌, ◌=
 ghost use Rattle.std.specs.List.{fold};
 ghost use Rattle.cast_history.specs.Step.{body_of};
 ghost use Rattle.cast_domain.specs.Calls.{record_at};
+ghost use Rattle.cast_history.specs.Rules.Sending.{send_data, send_message};
 ghost use Rattle.cast_history.specs.Rules.Requests.{ask_home, request};
 
 use crate::domain::Domain;
@@ -26,7 +27,7 @@ impl Domain {
     ghost use Rattle.cast_domain.specs.Records.{Keeps, records_in, records_of};
     ghost use Rattle.cast_domain.specs.Shared.{LeavesOthers, Part};
     ghost use Rattle.cast_history.specs.Effects.{may_raise};
-    ghost use Rattle.cast_domain.specs.Calls.{records, cast_at, cast_in, command_in, join_at, join_in, open_in, receive_in, requested_in, send_data_in, send_message_in, time_of};
+    ghost use Rattle.cast_domain.specs.Calls.{records, cast_at, cast_in, command_in, join_at, join_in, open_in, receive_in, requested_in, time_of};
 
     // A program connects.
     pub(crate) fn open(&mut self) -> Result<Taken, NoMemory>
@@ -312,7 +313,7 @@ impl Domain {
     ) -> Result<(), NoMemory>
         ensures same { Keeps self.old self.new }
         ensures others { LeavesOthers self.old.config.domain shared.old shared.new }
-        ensures made { OnOk result (records_in self.new shared.new outs.new ≡ send_message_in (records_in self.old shared.old outs.old) message) }
+        ensures made { OnOk result (records_in self.new shared.new outs.new ≡ send_message records (records_in self.old shared.old outs.old) message) }
     {
         let id = message.id;
         self.receive(message, shared)?;
@@ -329,7 +330,7 @@ impl Domain {
         outs: &mut Outs,
     ) -> Result<(), NoMemory>
         ensures others { LeavesOthers self.now.config.domain shared.old shared.new }
-        ensures made { OnOk result (records_in self.now shared.new outs.new ≡ fold (send_data_in id) (records_in self.now shared.old outs.old) sites.now) }
+        ensures made { OnOk result (records_in self.now shared.new outs.new ≡ fold (send_data records id) (records_in self.now shared.old outs.old) sites.now) }
     {
         for site in sites {
             self.send_data_to(id, *site, shared, outs)?;
@@ -346,7 +347,7 @@ impl Domain {
         outs: &mut Outs,
     ) -> Result<(), NoMemory>
         ensures others { LeavesOthers self.now.config.domain shared.old shared.new }
-        ensures made { OnOk result (records_in self.now shared.new outs.new ≡ send_data_in id (records_in self.now shared.old outs.old) to) }
+        ensures made { OnOk result (records_in self.now shared.new outs.new ≡ send_data records id (records_in self.now shared.old outs.old) to) }
     {
         let key = message_key(OwedKind::Data, id, to);
         if self.acks.has_acked(to, id) {

@@ -11,20 +11,18 @@ use Rattle.cast_message.specs.declared.message.Body.{Body}
 use Rattle.cast_message.specs.declared.message.Message.{Message}
 use Rattle.cast_message.specs.declared.site.SiteFrame.{SiteFrame}
 use Rattle.cast_message.specs.declared.client.Push.{Push}
-use Rattle.cast_stable.specs.Stable.{Acked, has_acked}
+use Rattle.cast_stable.specs.Stable.{Acked}
 use Rattle.cast_timer.specs.declared.key.Owed.{Owed}
-use Rattle.cast_timer.specs.declared.key.OwedKind.TheVariants as kinds
 use Rattle.cast_delay.specs.Ready.{Process}
 use Rattle.cast_model.specs.declared.session.Session.{Session}
 use Rattle.cast_model.specs.Session.{is_open, pushed_to}
 use Rattle.cast_history.specs.State.{State, set_session, set_process, emitted, others_of, noting_ack, noting_stable, let_go, pushing, receiving}
 use Rattle.cast_history.specs.Owing.{noting_owed, noting_resent, paying, paying_upto, at_moment}
-use Rattle.cast_history.specs.Rules.Keys.{message_key}
-use Rattle.cast_history.specs.Rules.Owing.{send_for, owe}
+use Rattle.cast_history.specs.Rules.Sending.{send_data}
 use Rattle.cast_history.specs.History.{history}
 use Rattle.cast_history.proofs.Rules.Follows.{IsInvariant}
-use Rattle.cast_history.proofs.Rules.Owing.{send_for_keeps, owe_keeps}
-use Rattle.cast_history.specs.Effects.{sending_to, next_message, sending}
+use Rattle.cast_history.proofs.Rules.Sending.{send_data_keeps}
+use Rattle.cast_history.specs.Effects.{next_message, sending}
 
 -- alike but for sessions, standings, times, and what is kept, stable, owed and sent
 pub record Alike (s : State) (t : State) : Type 0 where
@@ -103,11 +101,8 @@ moves_alike s = record {
   note_stable = λ t a u. alike_then s t (noting_stable t u) a (alike_known t t.acks (noting_stable t u).told t.moment);
 }
 
-alike_sending_to : (u : Uid) (s : State) (to : SiteNo) → Alike s (sending_to u s to)
-alike_sending_to u s to =
-    alike_if s (send_for history s (message_key kinds.Data u to)) (owe history s (message_key kinds.Data u to)) (has_acked s.acks u to)
-    (send_for_keeps history (Alike s) (moves_alike s) s (alike_self s) (message_key kinds.Data u to))
-    (owe_keeps history (Alike s) (moves_alike s) s (alike_self s) (message_key kinds.Data u to))
+alike_send_data : (u : Uid) (s : State) (to : SiteNo) → Alike s (send_data history u s to)
+alike_send_data u s to = send_data_keeps history (Alike s) (moves_alike s) u s (alike_self s) to
 
 -- what is received alike leaves alike
 alike_receiving : (s t : State) (m : Message) → Alike s t → Alike (receiving s m) (receiving t m)
@@ -119,6 +114,6 @@ alike_sending s g k content =
     let m : Message = next_message s g k content in
     let t : State = set_process s k (record (s.process k) { time = m.times }) in
     let u : State = receiving t m in
-    alike_then (receiving s m) u (fold (sending_to m.id) u (others_of s g))
+    alike_then (receiving s m) u (fold (send_data history m.id) u (others_of s g))
     (alike_receiving s t m (alike_process s k (record (s.process k) { time = m.times }) refl))
-    (alike_fold (sending_to m.id) (alike_sending_to m.id) (others_of s g) u)
+    (alike_fold (send_data history m.id) (alike_send_data m.id) (others_of s g) u)

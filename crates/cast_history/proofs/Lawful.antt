@@ -31,10 +31,9 @@ use Rattle.cast_message.specs.declared.client.Push.{Push}
 use Rattle.cast_message.specs.declared.client.Push.TheVariants as push
 use Rattle.cast_message.specs.Membership.{Membership}
 use Rattle.cast_message.specs.Rising.{is_rising}
-use Rattle.cast_stable.specs.Stable.{Acked, has_acked}
+use Rattle.cast_stable.specs.Stable.{Acked}
 use Rattle.cast_timer.specs.declared.key.Owed.{Owed}
 use Rattle.cast_timer.specs.declared.key.OwedKey.{OwedKey}
-use Rattle.cast_timer.specs.declared.key.OwedKind.TheVariants as kinds
 use Rattle.cast_delay.specs.Ready.{Process, Gate, is_member, is_outside, has_delivered, past_in, group_allows, is_causally_ready}
 use Rattle.cast_delay.proofs.Delivers.{only_member}
 use Rattle.cast_delay.proofs.Means.{among_holds}
@@ -48,13 +47,15 @@ use Rattle.cast_model.specs.declared.config.DomainConfig.{DomainConfig}
 use Rattle.cast_history.specs.State.{State, opening, local, serials, is_group, set_session, set_process, set_group, set_home, set_standing, emitted, others_of, noting_ack, noting_stable, gate_of, local_members, is_stable, is_free, let_go, was_given, pushing, receiving}
 use Rattle.cast_history.specs.Order.{is_ready_for}
 use Rattle.cast_history.specs.Owing.{noting_owed, noting_resent, paying, paying_upto, at_moment}
-use Rattle.cast_history.specs.Rules.Keys.{ask_key, message_key}
-use Rattle.cast_history.specs.Rules.Owing.{send_for, owe}
+use Rattle.cast_history.specs.Rules.Keys.{ask_key}
+use Rattle.cast_history.specs.Rules.Owing.{owe}
+use Rattle.cast_history.specs.Rules.Sending.{send_data}
 use Rattle.cast_history.specs.Rules.Requests.{ask_home, request}
 use Rattle.cast_history.specs.History.{history}
 use Rattle.cast_history.proofs.Rules.Follows.{IsInvariant}
-use Rattle.cast_history.proofs.Rules.Owing.{send_for_keeps, owe_keeps}
-use Rattle.cast_history.specs.Effects.{sending_to, next_message, sending_message, sending, told_of, with_delivery, delivering}
+use Rattle.cast_history.proofs.Rules.Owing.{owe_keeps}
+use Rattle.cast_history.proofs.Rules.Sending.{send_data_keeps}
+use Rattle.cast_history.specs.Effects.{next_message, sending_message, sending, told_of, with_delivery, delivering}
 use Rattle.cast_history.specs.Entering.{enters, in_view, all_in_view, push_view, completing}
 use Rattle.cast_history.specs.Run.{before_event}
 use Rattle.cast_history.specs.Lawful.{IsSpent, AreKept, IsTraced, IsLawful}
@@ -304,9 +305,6 @@ invariant_by_same holds by_same = record {
   note_stable = λ s h u. by_same s (noting_stable s u) ((moves_same s).note_stable s (same_self s) u) h;
 }
 
-pub same_send_for : (s : State) (key : OwedKey) → SameLaw s (send_for history s key)
-same_send_for s key = send_for_keeps history (SameLaw s) (moves_same s) s (same_self s) key
-
 pub same_owe : (s : State) (key : OwedKey) → SameLaw s (owe history s key)
 same_owe s key = owe_keeps history (SameLaw s) (moves_same s) s (same_self s) key
 
@@ -443,8 +441,8 @@ lawful_let_go s l = lawful_from s (let_go s) l refl (placed_of s l) l.stamped
     l.listed
     (record { reached = l.traced.reached; delivered = l.traced.delivered; seen = l.traced.seen })
 
-pub same_sending_to : (u : Uid) (s : State) (to : SiteNo) → SameLaw s (sending_to u s to)
-same_sending_to u s to = same_if s (send_for history s (message_key kinds.Data u to)) (owe history s (message_key kinds.Data u to)) (has_acked s.acks u to) (same_send_for s (message_key kinds.Data u to)) (same_owe s (message_key kinds.Data u to))
+pub same_send_data : (u : Uid) (s : State) (to : SiteNo) → SameLaw s (send_data history u s to)
+same_send_data u s to = send_data_keeps history (SameLaw s) (moves_same s) u s (same_self s) to
 
 -- a process sends a message whose time has the views of its own
 pub lawful_sending_message : (s : State) (k : ℕ) (m : Message) → IsLawful s → ((g : GroupNo) → view_of m.times g ≡ view_of (s.process k).time g) → is_sorted group_cmp m.times ≡ true → m.id.view ≤ (s.group m.id.group).number → IsLawful (sending_message s k m)
@@ -452,7 +450,7 @@ lawful_sending_message s k m l views sorted reached =
     let now : State = set_process s k (record (s.process k) { time = m.times }) in
     let same : IsLawful now = lawful_process s k (record (s.process k) { time = m.times }) l
     (λ g. record { known = l.known k g; current = λ h. views g ∙ l.current k g h; viewed = l.viewed k g }) (λ g is. is) (λ u is. is) in
-    lawful_fold (sending_to m.id) (λ t to. lawful_same t (sending_to m.id t to) (same_sending_to m.id t to)) (others_of s m.id.group) (receiving now m) (lawful_receiving now m same sorted reached)
+    lawful_fold (send_data history m.id) (λ t to. lawful_same t (send_data history m.id t to) (same_send_data m.id t to)) (others_of s m.id.group) (receiving now m) (lawful_receiving now m same sorted reached)
 
 pub lawful_sending : (s : State) (g : GroupNo) (k : ℕ) (content : Body) → IsLawful s → is_sorted group_cmp (bumped (s.process k).time g (local s k)) ≡ true → IsLawful (sending s g k content)
 lawful_sending s g k content l sorted = lawful_sending_message s k (next_message s g k content) l (λ h. bump_leaves_views (s.process k).time g h (local s k)) sorted (omega arith)

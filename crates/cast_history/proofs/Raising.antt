@@ -38,13 +38,15 @@ use Rattle.cast_model.specs.declared.config.DomainConfig.{DomainConfig}
 use Rattle.cast_model.specs.Group.{no_group, has_view, members_of, with_view, is_at, is_taken_in}
 use Rattle.cast_history.specs.State.{State, opening, local, serials, is_group, set_process, set_group, set_standing, others_of, gate_of, let_go, was_given, receiving, pushing}
 use Rattle.cast_history.specs.Order.{is_ready_for}
-use Rattle.cast_history.specs.Effects.{sending_to, next_message, sending, told_of, with_delivery, delivering}
+use Rattle.cast_history.specs.History.{history}
+use Rattle.cast_history.specs.Rules.Sending.{send_data}
+use Rattle.cast_history.specs.Effects.{next_message, sending, told_of, with_delivery, delivering}
 use Rattle.cast_history.specs.Entering.{enters, in_view, all_in_view, push_view, completing}
 use Rattle.cast_history.specs.Step.{opened}
 use Rattle.cast_history.specs.Run.{before_event}
 use Rattle.cast_history.specs.Lawful.{IsLawful}
 use Rattle.cast_history.specs.Raising.{IsTimeOf, IsFromMember, IsView, IsAmongMembers, CountsMembers, CanRaise}
-use Rattle.cast_history.proofs.Lawful.{SameLaw, same_pushing, same_sending_to, same_fold, seen_view, allowed_view, ready_allows, named_here}
+use Rattle.cast_history.proofs.Lawful.{SameLaw, same_pushing, same_send_data, same_fold, seen_view, allowed_view, ready_allows, named_here}
 use Rattle.cast_history.proofs.Counting.{all_counted, time_joined, time_entered, time_raised, time_spelled, put_some, counted_put, counted_joined, raised_room, each_sender}
 
 -- Groups that are alike
@@ -219,7 +221,7 @@ counts_sending s g k content l c member =
     })
     (c.placed k) in
     let taken : State = receiving now m in
-    counts_same taken (sending s g k content) (same_fold (sending_to m.id) (same_sending_to m.id) (others_of s g) taken)
+    counts_same taken (sending s g k content) (same_fold (send_data history m.id) (same_send_data m.id) (others_of s g) taken)
     (counts_receiving now m set stamp (record { reached = omega arith; member = λ _. sender.itself }))
 
 -- a member's group allows a message of its view only after all that the message counts of it

@@ -1,5 +1,6 @@
 pub mod Follows
 pub mod Owing
+pub mod Sending
 pub mod Data
 pub mod Stability
 pub mod Requests

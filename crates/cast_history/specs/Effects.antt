@@ -1,7 +1,5 @@
 -- What processes, messages, requests and views do to a state, and what is sent and pushed with it.
 use Rattle.std.specs.Prelude.{ℕ, Bool, ◌&&◌, ◌==◌, nat_lt, if◌then◌else◌, List, [], ◌∷◌, ◌++◌, Option, Some, None}
-use Rattle.std.specs.List.{fold}
-use Rattle.cast_types.specs.declared.names.SiteNo.{SiteNo}
 use Rattle.cast_types.specs.declared.names.GroupNo.{GroupNo}
 use Rattle.cast_types.specs.declared.names.Proc.{Proc}
 use Rattle.cast_types.specs.declared.names.Uid.{Uid}
@@ -17,20 +15,12 @@ use Rattle.cast_message.specs.Bodies.{kind_of}
 use Rattle.cast_message.specs.declared.client.CastKind.TheVariants as kind
 use Rattle.cast_message.specs.declared.client.Push.{Push}
 use Rattle.cast_message.specs.declared.client.Push.TheVariants as push
-use Rattle.cast_stable.specs.Stable.{has_acked}
-use Rattle.cast_timer.specs.declared.key.OwedKind.TheVariants as kinds
 use Rattle.cast_delay.specs.Ready.{Process}
-use Rattle.cast_history.specs.State.{State, local, set_process, receiving, pushing, others_of}
-use Rattle.cast_history.specs.Rules.Keys.{message_key}
-use Rattle.cast_history.specs.Rules.Owing.{send_for, owe}
+use Rattle.cast_history.specs.State.{State, local, set_process, pushing}
+use Rattle.cast_history.specs.Rules.Sending.{send_message}
 use Rattle.cast_history.specs.History.{history}
 
 -- Messages
-
--- a message is sent to a site, and owed to it until it has acknowledged it, as it may have done before
-abbrev pub sending_to : Uid → State → SiteNo → State
-sending_to u s to =
-    if has_acked s.acks u to then send_for history s (message_key kinds.Data u to) else owe history s (message_key kinds.Data u to)
 
 -- a member's next message of a group
 abbrev pub next_message : State → GroupNo → ℕ → Body → Message
@@ -50,9 +40,7 @@ may_raise t g p = nat_lt (count_in t g p) MAX_NUMBER && (has_room (bumped t g p)
 -- the message is stamped, received here, and sent to each other site of the view until that has acknowledged it
 abbrev pub sending_message : State → ℕ → Message → State
 sending_message s k m =
-    fold (sending_to m.id)
-    (receiving (set_process s k (record (s.process k) { time = m.times })) m)
-    (others_of s m.id.group)
+    send_message history (set_process s k (record (s.process k) { time = m.times })) m
 
 abbrev pub sending : State → GroupNo → ℕ → Body → State
 sending s g k content = sending_message s k (next_message s g k content)

@@ -1,6 +1,7 @@
 -- The history of a domain as the rules see it.
 use Rattle.std.specs.Prelude.{if◌then◌else◌, Some, None}
 use Rattle.cast_types.specs.declared.names.GroupNo.{GroupNo}
+use Rattle.cast_stable.specs.Stable.{has_acked}
 use Rattle.cast_timer.specs.Owed.{is_owed, due_at}
 use Rattle.cast_model.specs.Group.{with_request, with_answer}
 use Rattle.cast_model.specs.Home.{after_request, after_installed, decided}
@@ -22,6 +23,7 @@ history = record {
   others = others_of;
   held = held;
   is_received = is_received;
+  has_acked = λ s u to. has_acked s.acks u to;
   is_stable = is_stable;
   stable_upto = upto;
   message = message_of;

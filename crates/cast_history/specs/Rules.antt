@@ -2,6 +2,7 @@ pub mod Keys
 pub mod Interface
 pub mod Room
 pub mod Owing
+pub mod Sending
 pub mod Data
 pub mod Stability
 pub mod Requests

@@ -43,6 +43,7 @@ pub record Follows {R S H K : Type 0} (a : Site R H) (b : Site S K) (fits : R �
   pub group : (r : R) (s : S) → fits r s → (h : H) (k : K) → stands h k → a.group r h ≡ b.group s k
   pub others : (r : R) (s : S) → fits r s → (g : GroupNo) → a.others r g ≡ b.others s g
   pub stable_upto : (r : R) (s : S) → fits r s → (u : Uid) → (b.others s u.group ≡ [] → ⊥) → a.stable_upto r u ≡ b.stable_upto s u
+  pub has_acked : (r : R) (s : S) → fits r s → (u : Uid) → nat_lt 0 u.count ≡ true → (to : SiteNo) → a.has_acked r u to ≡ b.has_acked s u to
   pub message : (r : R) (s : S) → fits r s → (u : Uid) → a.message r u ≡ b.message s u
   pub is_owed : (r : R) (s : S) → fits r s → (key : OwedKey) → a.is_owed r key ≡ b.is_owed s key
   pub due : (r : R) (s : S) → fits r s → a.due r ≡ b.due s
@@ -165,6 +166,7 @@ follows_itself d holds keeps = record {
   group = λ r s f h k at. λ i. d.group (f.0 i) (at i);
   others = λ r s f g. λ i. d.others (f.0 i) g;
   stable_upto = λ r s f u some. λ i. d.stable_upto (f.0 i) u;
+  has_acked = λ r s f u counted to. λ i. d.has_acked (f.0 i) u to;
   message = λ r s f u. λ i. d.message (f.0 i) u;
   is_owed = λ r s f key. λ i. d.is_owed (f.0 i) key;
   due = λ r s f. ap d.due f.0;
@@ -205,6 +207,7 @@ with_invariant a b fits stands holds follows keeps = record {
   group = λ r s f. follows.group r s f.0;
   others = λ r s f. follows.others r s f.0;
   stable_upto = λ r s f. follows.stable_upto r s f.0;
+  has_acked = λ r s f. follows.has_acked r s f.0;
   message = λ r s f. follows.message r s f.0;
   is_owed = λ r s f. follows.is_owed r s f.0;
   due = λ r s f. follows.due r s f.0;

@@ -34,6 +34,8 @@ pub record Site (S H : Type 0) : Type 0 where
   pub held : S → ℕ
   -- a message was received; a count is at least 1
   pub is_received : S → Uid → Bool
+  -- a site acknowledged a message; a count is at least 1
+  pub has_acked : S → Uid → SiteNo → Bool
   -- a message is known to be stable; a count is at least 1
   pub is_stable : S → Uid → Bool
   -- how many messages of a local process are stable, in a view that has another site

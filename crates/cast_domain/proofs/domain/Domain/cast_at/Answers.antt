@@ -7,9 +7,10 @@ use Rattle.cast_history.specs.Step.{body_of}
 use Rattle.cast_delay.specs.Ready.{is_member}
 use Rattle.cast_delay.specs.declared.row.Fact.TheVariants as fact
 use Rattle.cast_history.specs.Rules.Room.{may_receive}
+use Rattle.cast_history.specs.Rules.Sending.{send_message}
 use Rattle.cast_domain.specs.Records.{records_in}
 use Rattle.cast_history.specs.Effects.{may_raise}
-use Rattle.cast_domain.specs.Calls.{awaits_own_in, records, record_at, send_message_in, tell_in, standing_of, time_of, local_in}
+use Rattle.cast_domain.specs.Calls.{awaits_own_in, records, record_at, tell_in, standing_of, time_of, local_in}
 use Rattle.cast_domain.proofs.Attempts.{sent, cast_made, cast_owned, cast_full, cast_unraised, raised_none, raised_some}
 use Rattle.cast_domain.proofs.Loops.{seen_as}
 use Rattle.cast_domain.proofs.domain.Domain.cast_at.Goals as goal
@@ -70,12 +71,12 @@ returns-clause-made c =
     ◌∙◌ {b = (sent r k g c.args.kind c.args.payload.now i, None)}
     (ap (λ x. (x, None))
     (c.in_ok-send_message.ensures.made
-    ∙ (λ j. send_message_in ((seen_as c.args.self.now c.tell.new.self c.in_ok-tell.ensures.kept c.args.shared.now c.args.outs.now ∙ c.in_ok-tell.ensures.made c.args.outs.now r.part) j) (record {
+    ∙ (λ j. send_message records ((seen_as c.args.self.now c.tell.new.self c.in_ok-tell.ensures.kept c.args.shared.now c.args.outs.now ∙ c.in_ok-tell.ensures.made c.args.outs.now r.part) j) (record {
       id = record { group = g; view = c.record.result.now.here.number; proc = q; count = c.count.result };
       times = c.in-Some.stamp;
       body = (c.body_of.ensures ∙ ap (body_of c.args.kind) c.in_ok-content.ensures) j;
     }))
-    ∙ λ j. send_message_in (tell_in r (p j) (fact.Time (time j))) (record {
+    ∙ λ j. send_message records (tell_in r (p j) (fact.Time (time j))) (record {
       id = record { group = g; view = view j; proc = p j; count = count j };
       times = stamp j;
       body = body_of c.args.kind c.args.payload.now;

@@ -1,8 +1,9 @@
 use Rattle.std.proofs.Common.{◌≡◌, ◌∙◌, ap}
 use Rattle.std.specs.List.{fold}
 use Rattle.cast_stable.specs.Ledger.{others_in}
+use Rattle.cast_history.specs.Rules.Sending.{send_data}
 use Rattle.cast_domain.specs.Records.{records_in}
-use Rattle.cast_domain.specs.Calls.{receive_in, send_data_in}
+use Rattle.cast_domain.specs.Calls.{receive_in, records}
 use Rattle.cast_domain.proofs.domain.Domain.send_message.Goals as goal
 
 pub returns-clause-made : goal.returns-clause-made
@@ -11,4 +12,4 @@ returns-clause-made c =
     let m = c.args.message in
     let received : records_in c.receive.new.self c.receive.new.shared c.args.outs.now ≡ receive_in r m = c.in_ok-receive.ensures.made c.args.outs.now in
     let others : c.others.result.now ≡ others_in r.acks m.id.group = c.others.ensures ∙ ap (λ x. others_in x.acks m.id.group) received in
-    c.in_ok-send_data.ensures.made ∙ λ j. fold (send_data_in m.id) (received j) (others j)
+    c.in_ok-send_data.ensures.made ∙ λ j. fold (send_data records m.id) (received j) (others j)

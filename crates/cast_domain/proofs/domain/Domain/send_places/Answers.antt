@@ -3,8 +3,9 @@ use Rattle.cast_clock.specs.Times.{bumped, count_in}
 use Rattle.cast_message.specs.declared.message.Body.TheVariants as body
 use Rattle.cast_delay.specs.declared.row.Fact.TheVariants as fact
 use Rattle.cast_order.specs.Log.{assigned, change_log}
+use Rattle.cast_history.specs.Rules.Sending.{send_message}
 use Rattle.cast_domain.specs.Records.{records_in}
-use Rattle.cast_domain.specs.Calls.{record_at, send_message_in, settled_in, tell_in, time_of}
+use Rattle.cast_domain.specs.Calls.{record_at, records, settled_in, tell_in, time_of}
 use Rattle.cast_domain.proofs.Loops.{seen_as}
 use Rattle.cast_domain.proofs.domain.Domain.send_places.Goals as goal
 
@@ -25,12 +26,12 @@ returns-clause-made c =
     let told : records_in c.tell.new.self c.args.shared.now o ≡ tell_in (record r { orders = c.note.new.self }) p (fact.Time c.args.time) =
     seen_as (record d { orders = c.note.new.self }) c.tell.new.self c.in_ok-tell.ensures.kept c.args.shared.now o ∙ c.in_ok-tell.ensures.made o r.part in
     c.in_ok-send_message.ensures.made
-    ∙ (λ j. send_message_in (told j) (record {
+    ∙ (λ j. send_message records (told j) (record {
       id = record { group = c.record.result.now.name; view = c.record-2.result.now.here.number; proc = p; count = c.count-count.result };
       times = c.args.stamp;
       body = body.Order c.args.places;
     }))
-    ∙ (λ j. send_message_in (tell_in (record r { orders = noted j }) p (fact.Time (time j))) (record {
+    ∙ (λ j. send_message records (tell_in (record r { orders = noted j }) p (fact.Time (time j))) (record {
       id = record { group = name j; view = view j; proc = p; count = count j };
       times = (c.requires.stamped ∙ time) j;
       body = body.Order c.args.places;

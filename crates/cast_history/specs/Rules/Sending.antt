@@ -1,0 +1,20 @@
+-- The rules of messages that local processes send.
+use Rattle.std.specs.Prelude.{if◌then◌else◌}
+use Rattle.std.specs.List.{fold}
+use Rattle.cast_types.specs.declared.names.SiteNo.{SiteNo}
+use Rattle.cast_types.specs.declared.names.Uid.{Uid}
+use Rattle.cast_message.specs.declared.message.Message.{Message}
+use Rattle.cast_timer.specs.declared.key.OwedKind.TheVariants as kinds
+use Rattle.cast_history.specs.Rules.Keys.{message_key}
+use Rattle.cast_history.specs.Rules.Interface.{Site}
+use Rattle.cast_history.specs.Rules.Owing.{send_for, owe}
+
+module _ {S H : Type 0} (d : Site S H) where
+  -- a message is sent to a site, and owed to it until it has acknowledged it, as it may have done before
+  abbrev pub send_data : Uid → S → SiteNo → S
+  send_data u s to =
+      if d.has_acked s u to then send_for d s (message_key kinds.Data u to) else owe d s (message_key kinds.Data u to)
+
+  -- a message is received here, and sent to each other site of the view
+  abbrev pub send_message : S → Message → S
+  send_message s m = fold (send_data m.id) (d.receive s m) (d.others s m.id.group)
