@@ -1,6 +1,7 @@
 pub mod Places
 pub mod Turns
 pub mod Applies
+pub mod Each
 pub mod Parts
 pub mod Runs
 pub mod Later

@@ -1,8 +1,9 @@
 -- All that holds of a table after the events so far.
-use Rattle.std.proofs.Common.{◌≡◌, ◌≢◌, ℕ, true, false, List, [], ◌∷◌, ◌++◌, length, Some, None, Result, Ok, Err, refl, sym, ap, subst, ◌∙◌, arith}
+use Rattle.std.proofs.Common.{◌≡◌, ◌≢◌, ℕ, true, false, List, [], ◌∷◌, ◌++◌, length, Some, None, Result, Ok, Err, refl, sym, ap, subst, ◌∙◌, append_assoc, arith}
 use Rattle.std.specs.List.{AllZip}
 use Rattle.std.specs.Option.{option_map_or}
 use Rattle.std.proofs.lemmas.Bool.{false≢true}
+use Rattle.std.proofs.lemmas.List.{append-nil}
 use Rattle.cast_types.proofs.Zips.{zip_length, zip_push}
 use Rattle.cast_types.specs.declared.names.DomainNo.{DomainNo}
 use Rattle.cast_types.specs.declared.names.SiteNo.{SiteNo}
@@ -15,7 +16,7 @@ use Rattle.cast_model.specs.Events.{domain_of}
 use Rattle.cast_domain.specs.Shared.{part_of, no_part}
 use Rattle.cast_model.specs.declared.log.Fault.{Fault}
 use Rattle.cast_model.specs.declared.log.Fault.TheVariants.{NoMemory, Halted, NoDomain}
-use Rattle.cast_table.specs.Tables.{domain_eq, by_number, IsNew, IsTurn, IsAppliedAt, IsAppliedTo, IsApplied, IsTicked, AreTurns, Lent, place_named, stopped}
+use Rattle.cast_table.specs.Tables.{domain_eq, by_number, IsNew, IsTurn, IsAppliedAt, IsAppliedTo, IsApplied, IsTicked, AreApplied, AreTurns, Lent, place_named, stopped}
 use Rattle.cast_table.specs.Replays.{Served, is_configured, are_distinct, have_rising_groups, finds_domain, served_as, IsTickAnswer, IsAnswerOf, IsAnswerTo, IsAnswer, AreAnswers, TellsNoDomain}
 use Rattle.cast_table.proofs.Places.{IsNumbered, named_there, configured_at, none_configured, numbered_set, zip_at}
 use Rattle.cast_table.proofs.Later.{IsLater, configs_of, all_same, later_configs, answers_stay, answers_more, none_served}
@@ -193,3 +194,18 @@ module _ (config : Config) (events : List Event) (answers : List (Result Taken F
         | None ↦ more_ticked
         | Some n ↦ more_named n
       ] refl applied
+
+-- and many
+pub so_far_each : (config : Config) (events : List Event) (answers : List (Result Taken Fault)) (l : Lent) (ds : List Domain) → SoFar config events answers l ds → (said : List (Result Taken Fault)) (more : List Event) (new : List Domain) (after : Lent) → AreApplied said more ds new l after → SoFar config (events ++ more) (answers ++ said) after new
+so_far_each config events answers l ds so_far [] [] new after applied =
+    let same = subst (λ ns. SoFar config events answers l ns) (sym applied.0) so_far in
+    let there = subst (λ k. SoFar config events answers k new) (sym applied.1) same in
+    subst (λ es. SoFar config es (answers ++ []) after new) (sym (append-nil events))
+    (subst (λ told. SoFar config events told after new) (sym (append-nil answers)) there)
+so_far_each config events answers l ds so_far [] (e ∷ more) new after applied = absurd applied
+so_far_each config events answers l ds so_far (a ∷ said) [] new after applied = absurd applied
+so_far_each config events answers l ds so_far (a ∷ said) (e ∷ more) new after applied =
+    let one = so_far_more config events answers e a ds applied.1 l applied.2 applied.0 so_far applied.3 in
+    let rest = so_far_each config (events ++ e ∷ []) (answers ++ a ∷ []) applied.2 applied.1 one said more new after applied.4 in
+    subst (λ es. SoFar config es (answers ++ a ∷ said) after new) (append_assoc events (e ∷ []) more)
+    (subst (λ told. SoFar config ((events ++ e ∷ []) ++ more) told after new) (append_assoc answers (a ∷ []) said) rest)

@@ -1,5 +1,5 @@
 -- What one event does to a table of domains.
-use Rattle.std.specs.Prelude.{◌≡◌, ◌==◌, nat_le, nat_lt, if◌then◌else◌, ℕ, Bool, true, false, List, [], ◌∷◌, ◌++◌, length, Option, Some, None, unwrap_or, Result, Ok, Err, slice_get, slice_set}
+use Rattle.std.specs.Prelude.{◌≡◌, ◌≢◌, ◌==◌, nat_le, nat_lt, if◌then◌else◌, ℕ, Bool, true, false, List, [], ◌∷◌, ◌++◌, length, Option, Some, None, unwrap_or, Result, Ok, Err, slice_get, slice_set}
 use Rattle.std.specs.Option.{option_to_list}
 use Rattle.std.specs.List.{find, list_any, list_all, position_from}
 use Rattle.cast_types.specs.declared.names.DomainNo.{DomainNo}
@@ -218,3 +218,14 @@ NotesHaltsOf (Some d) answer old new before after = NotesOne answer d before aft
 -- domains are noted as halted exactly where their steps halt them
 abbrev pub NotesHalts : Result Taken Fault → Event → List Domain → List Domain → List DomainNo → List DomainNo → Type 0
 NotesHalts answer event old new before after = NotesHaltsOf (domain_of event) answer old new before after
+
+-- Events one after another
+
+-- what events do to domains, where each finds memory to begin with
+abbrev pub AreApplied : List (Result Taken Fault) → List Event → List Domain → List Domain → Lent → Lent → Type 0
+AreApplied [] [] old new before after = (new ≡ old) × (after ≡ before)
+AreApplied [] (e ∷ events) old new before after = ⊥
+AreApplied (a ∷ answers) [] old new before after = ⊥
+AreApplied (a ∷ answers) (e ∷ events) old new before after =
+    (a ≢ Err NoMemory)
+    × (middle : List Domain) × (between : Lent) × IsApplied a e old middle before between × AreApplied answers events middle new between after

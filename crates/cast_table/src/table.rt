@@ -3,7 +3,7 @@ ghost use Rattle.std.specs.List.{AllZip, find, insert};
 ghost use Rattle.std.specs.Vec.{vec_capacity};
 ghost use Rattle.cast_domain.specs.Records.{number_of};
 ghost use Rattle.cast_model.specs.Events.{domain_of};
-ghost use Rattle.cast_table.specs.Tables.{AreTurns, IsApplied, IsAppliedAt, IsLeastOf, IsNew, IsTicked, IsTurn, IsUnchanged, NotesHalts, NotesOne, SharesNothing, answer_in_turn, by_number, domain_eq, domains_of, halted_by, lending, lent, lower, picked, place_above, place_for, place_named, stopped, without};
+ghost use Rattle.cast_table.specs.Tables.{AreApplied, AreTurns, IsApplied, IsAppliedAt, IsLeastOf, IsNew, IsTicked, IsTurn, IsUnchanged, NotesHalts, NotesOne, SharesNothing, answer_in_turn, by_number, domain_eq, domains_of, halted_by, lending, lent, lower, picked, place_above, place_for, place_named, stopped, without};
 ghost use Rattle.cast_table.specs.Replays.{AnswersNoDomain, IsReplay, are_distinct, frames_of, given_of, have_rising_groups, lacks_memory};
 
 use cast_domain::{Domain, Session, Shared};
@@ -218,16 +218,30 @@ pub fn replay(alloc: Global, config: Config, events: &[Event]) -> Result<Log, No
 {
     let mut table = Table::new(alloc, &config)?;
     let mut outs = Outs::new(alloc);
+    let answers = apply_each(alloc, &mut table, events, &mut outs)?;
+    let given = given_by_all(alloc, &config, table, outs.frames.as_slice())?;
+    Ok(Log { answers, given })
+}
+
+// Applies events one after another, and gathers the answers. `NoMemory` where an event finds no memory to begin with, or
+// the answers have no room.
+fn apply_each(
+    alloc: Global,
+    table: &mut Table,
+    events: &[Event],
+    outs: &mut Outs,
+) -> Result<Listed<Result<Taken, Fault>>, NoMemory>
+    ensures { IfOk result (λ answers. AreApplied answers events.now (domains_of table.old) (domains_of table.new) (lent table.old outs.old) (lent table.new outs.new)) }
+{
     let mut answers = Listed::new(alloc);
     for event in events {
-        let answer = table.apply(event, &mut outs);
+        let answer = table.apply(event, outs);
         if lacks_memory(&answer) {
             return Err(AllocError);
         }
         answers.push(answer)?;
     }
-    let given = given_by_all(alloc, &config, table, outs.frames.as_slice())?;
-    Ok(Log { answers, given })
+    Ok(answers)
 }
 
 // Whether there was no memory to begin with.
