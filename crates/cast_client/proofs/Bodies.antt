@@ -7,8 +7,8 @@ use Rattle.cast_types.specs.declared.names.Proc.{Proc}
 use Rattle.cast_types.specs.declared.names.Uid.{Uid}
 use Rattle.cast_types.specs.declared.refusal.Refusal.{Refusal}
 use Rattle.cast_types.specs.Refusals.{refusal_code, refusal_numbered}
-use Rattle.cast_frame.specs.declared.fault.FrameFault.{FrameFault}
-use Rattle.cast_frame.specs.declared.fault.FrameFault.TheVariants.{WrongType, Range}
+use Rattle.cast_field.specs.declared.fault.FrameFault.{FrameFault}
+use Rattle.cast_field.specs.declared.fault.FrameFault.TheVariants.{WrongType, Range}
 use Rattle.cast_message.specs.declared.client.CastKind.{CastKind}
 use Rattle.cast_message.specs.declared.client.CastKind.TheVariants.{Causal, Atomic}
 use Rattle.cast_message.specs.declared.client.Request.TheVariants.{Join, Leave, Cast}
@@ -16,16 +16,16 @@ use Rattle.cast_message.specs.declared.client.Push.TheVariants.{Opened, Reply, V
 use Rattle.cast_message.specs.declared.client.ClientFrame.{ClientFrame}
 use Rattle.cast_message.specs.declared.client.ClientFrame.TheVariants as client
 use Rattle.cast_message.specs.Membership.{Membership}
-use Rattle.cast_frame.specs.Spelling.{byte, short, word, spelled_proc, spelled_uid, spelled_members}
+use Rattle.cast_field.specs.Spelling.{byte, short, word, spelled_proc, spelled_uid, spelled_members}
 use Rattle.cast_message.specs.Replies.{reply_code}
 use Rattle.cast_client.specs.Spelling.{cast_code, client_code, spelled_request, spelled_push, spelled_parts}
-use Rattle.cast_frame.specs.Reading.{Reader, byte_at, group_at, count_at, proc_at, uid_at, members_at}
+use Rattle.cast_field.specs.Reading.{Reader, byte_at, group_at, count_at, proc_at, uid_at, members_at}
 use Rattle.cast_client.specs.Reading.{tag_at, cast_numbered, cast_kind_at, reply_at, named_refusal, refusal_at, end_at, short_end_at, join_at, leave_at, cast_at, opened_at, replied_at, view_at, deliver_at, ejected_at, denied_at, closed_at, parts_at}
-use Rattle.cast_frame.specs.Spelled.{IsFrom, IsName, IsCount, IsProc, IsUid, AreMembers}
+use Rattle.cast_field.specs.Spelled.{IsFrom, IsName, IsCount, IsProc, IsUid, AreMembers}
 use Rattle.cast_client.specs.Spelled.{IsTag, IsClient}
-use Rattle.cast_frame.proofs.Fields.{bind_ok, guard_ok, done, ok_is, Took, joined, Takes, Again, byte_takes, byte_again, word_takes, word_again}
-use Rattle.cast_frame.proofs.Parts.{group_takes, group_again, count_takes, count_again, proc_takes, proc_again, uid_takes, uid_again}
-use Rattle.cast_frame.proofs.Holders.{chosen, members_take, members_again}
+use Rattle.cast_field.proofs.Fields.{bind_ok, guard_ok, done, ok_is, Took, joined, Takes, Again, byte_takes, byte_again, word_takes, word_again}
+use Rattle.cast_field.proofs.Parts.{group_takes, group_again, count_takes, count_again, proc_takes, proc_again, uid_takes, uid_again}
+use Rattle.cast_field.proofs.Holders.{chosen, members_take, members_again}
 use Rattle.cast_client.proofs.Sizes.{request_size}
 use Rattle.cast_client.proofs.Refusals.{reply_back, numbered_again}
 

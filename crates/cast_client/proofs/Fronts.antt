@@ -6,25 +6,25 @@ use Rattle.std.specs.Int.{w32}
 use Rattle.std.proofs.Math.Seq.{take-append-add}
 use Rattle.std.proofs.lemmas.Bool.{cases_lt, eqb-true, lt-ltb, le-ltb, le-leb, ltb-false, ltb-true}
 use Rattle.std.proofs.lemmas.List.{append-nil, nil_from_length, length-append, length-take, take_at, drop_at, take-append-drop}
-use Rattle.cast_frame.specs.declared.fault.FrameFault.{FrameFault}
-use Rattle.cast_frame.specs.declared.fault.FrameFault.TheVariants.{Length}
+use Rattle.cast_field.specs.declared.fault.FrameFault.{FrameFault}
+use Rattle.cast_field.specs.declared.fault.FrameFault.TheVariants.{Length}
 use Rattle.cast_message.specs.declared.client.Request.TheVariants.{Join, Leave, Cast}
 use Rattle.cast_message.specs.declared.client.Push.TheVariants.{Opened, Reply, View, Deliver, Ejected, Denied, Closed}
 use Rattle.cast_message.specs.declared.client.ClientFrame.{ClientFrame}
 use Rattle.cast_message.specs.declared.client.ClientFrame.TheVariants as client
 use Rattle.cast_client.specs.declared.front.ClientRead.{ClientRead}
 use Rattle.cast_client.specs.declared.front.ClientRead.TheVariants.{Frame, More}
-use Rattle.cast_frame.specs.Spelling.{byte, word}
+use Rattle.cast_field.specs.Spelling.{byte, word}
 use Rattle.cast_client.specs.Spelling.{client_code, spelled_parts, spelled_client}
-use Rattle.cast_frame.specs.Reading.{Gives, byte_at, number_at}
+use Rattle.cast_field.specs.Reading.{Gives, byte_at, number_at}
 use Rattle.cast_client.specs.Reading.{parts_at, client_frame_of, length_of, length_at, frame_of_length, client_of}
-use Rattle.cast_frame.specs.Spelled.{IsFrom}
+use Rattle.cast_field.specs.Spelled.{IsFrom}
 use Rattle.cast_client.specs.Spelled.{IsClient, Begins, Wants, IsFront}
 use Rattle.cast_message.specs.Fitting.{client_fits}
 use Rattle.cast_client.specs.Laws.{ClientIsRead, ClientSpellingsDiffer, PartWantsTheRest, ClientFits}
-use Rattle.cast_frame.proofs.Fields.{IsBytes, IsBytes-take, bind_ok, guard_ok, pass_ok, ok_is, byte_takes, byte_again, word_takes, word_again}
-use Rattle.cast_frame.proofs.Holders.{chosen}
-use Rattle.cast_frame.proofs.Sizes.{word_size}
+use Rattle.cast_field.proofs.Fields.{IsBytes, IsBytes-take, bind_ok, guard_ok, pass_ok, ok_is, byte_takes, byte_again, word_takes, word_again}
+use Rattle.cast_field.proofs.Holders.{chosen}
+use Rattle.cast_field.proofs.Sizes.{word_size}
 use Rattle.cast_client.proofs.Sizes.{word_len, byte_len, client_size, parts_fit}
 use Rattle.cast_client.proofs.Bodies.{parts_take, parts_again}
 

@@ -7,7 +7,7 @@ use Rattle.cast_types.specs.declared.refusal.Refusal.{Refusal}
 use Rattle.cast_types.specs.declared.refusal.Refusal.TheVariants.{BadFrame, NotOpen, TooManySessions, NoGroup, NotMember, AlreadyMember, Flushing, OwnAbcast, HeldFull, TooLong, NotHolder, Slow, Halted, GroupFull, OutOfRange}
 use Rattle.cast_types.specs.Refusals.{refusal_code, refusals, refusal_numbered}
 use Rattle.cast_message.specs.Replies.{reply_code}
-use Rattle.cast_frame.specs.Spelled.{IsFrom}
+use Rattle.cast_field.specs.Spelled.{IsFrom}
 
 -- the numbers are k, k + 1 and so on
 abbrev are_counted : ℕ → List Refusal → Bool

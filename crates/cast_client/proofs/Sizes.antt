@@ -12,11 +12,11 @@ use Rattle.cast_message.specs.declared.client.Push.TheVariants.{Opened, Reply, V
 use Rattle.cast_message.specs.declared.client.ClientFrame.{ClientFrame}
 use Rattle.cast_message.specs.declared.client.ClientFrame.TheVariants as client
 use Rattle.cast_message.specs.Membership.{Membership}
-use Rattle.cast_frame.specs.Spelling.{byte, word, spelled_holder, spelled_members}
+use Rattle.cast_field.specs.Spelling.{byte, word, spelled_holder, spelled_members}
 use Rattle.cast_message.specs.Replies.{reply_code}
 use Rattle.cast_client.specs.Spelling.{cast_code, client_code, spelled_request, spelled_push, spelled_parts, spelled_client}
 use Rattle.cast_client.specs.Spelled.{IsClient}
-use Rattle.cast_frame.proofs.Sizes.{byte_size, short_size, word_size, proc_size, procs_size, uid_size, members_size}
+use Rattle.cast_field.proofs.Sizes.{byte_size, short_size, word_size, proc_size, procs_size, uid_size, members_size}
 
 holder_len : (ps : List Proc) (h : Option Proc) → length (spelled_holder ps h) ≡ (if is_some h then 1 else 0)
 unfolding spelled_holder byte

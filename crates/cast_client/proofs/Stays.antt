@@ -3,15 +3,15 @@ use Rattle.std.proofs.Common.{◌≡◌, ℕ, ◌-◌, ◌<◌, ◌≤◌, Bool,
 use Rattle.std.specs.Int.{w32, from_be_bytes}
 use Rattle.std.proofs.lemmas.Bool.{cases_lt, lt-ltb, le-ltb, ltb-false}
 use Rattle.std.proofs.lemmas.List.{length-append, take-append-le}
-use Rattle.cast_frame.specs.declared.fault.FrameFault.{FrameFault}
-use Rattle.cast_frame.specs.declared.fault.FrameFault.TheVariants.{Length, Range}
+use Rattle.cast_field.specs.declared.fault.FrameFault.{FrameFault}
+use Rattle.cast_field.specs.declared.fault.FrameFault.TheVariants.{Length, Range}
 use Rattle.cast_message.specs.declared.client.ClientFrame.{ClientFrame}
 use Rattle.cast_client.specs.declared.front.ClientRead.{ClientRead}
 use Rattle.cast_client.specs.declared.front.ClientRead.TheVariants.{Frame, More}
-use Rattle.cast_frame.specs.Reading.{◌>>=◌, within_range, number_at}
+use Rattle.cast_field.specs.Reading.{◌>>=◌, within_range, number_at}
 use Rattle.cast_client.specs.Reading.{client_frame_of, length_of, length_at, frame_of_length, client_of}
 use Rattle.cast_client.specs.Laws.{FrameStays, FaultStays, WantingStays}
-use Rattle.cast_frame.proofs.Fields.{bind_ok, guard_ok}
+use Rattle.cast_field.proofs.Fields.{bind_ok, guard_ok}
 
 -- ---- the length
 

@@ -2,16 +2,16 @@
 use Rattle.std.proofs.Common.{◌≡◌, ℕ, List, [], ◌∷◌, ◌++◌, Some, None, Ok, Err, refl}
 use Rattle.cast_types.specs.declared.names.Proc.{Proc}
 use Rattle.cast_types.specs.declared.refusal.Refusal.TheVariants.{NotMember, Slow, GroupFull}
-use Rattle.cast_frame.specs.declared.fault.FrameFault.TheVariants.{Short, WrongType, Length, Range}
+use Rattle.cast_field.specs.declared.fault.FrameFault.TheVariants.{Short, WrongType, Length, Range}
 use Rattle.cast_message.specs.declared.client.CastKind.TheVariants.{Causal, Atomic}
 use Rattle.cast_message.specs.declared.client.Request.TheVariants.{Join, Leave, Cast}
 use Rattle.cast_message.specs.declared.client.Push.TheVariants.{Opened, Reply, View, Deliver, Ejected, Denied, Closed}
 use Rattle.cast_message.specs.declared.client.ClientFrame.{ClientFrame}
 use Rattle.cast_message.specs.declared.client.ClientFrame.TheVariants as client
 use Rattle.cast_client.specs.declared.front.ClientRead.TheVariants.{Frame, More}
-use Rattle.cast_frame.specs.Spelling.{byte, short, word, spelled_proc, spelled_uid, spelled_holder, spelled_members}
+use Rattle.cast_field.specs.Spelling.{byte, short, word, spelled_proc, spelled_uid, spelled_holder, spelled_members}
 use Rattle.cast_client.specs.Spelling.{spelled_request, spelled_push, spelled_client}
-use Rattle.cast_frame.specs.Reading.{within_range, byte_at, number_at, many, above, site_at, group_at, count_at, proc_at, uid_at, proc_above, holder_at, members_at}
+use Rattle.cast_field.specs.Reading.{within_range, byte_at, number_at, many, above, site_at, group_at, count_at, proc_at, uid_at, proc_above, holder_at, members_at}
 use Rattle.cast_client.specs.Reading.{tag_at, cast_kind_at, reply_at, named_refusal, refusal_at, end_at, short_end_at, join_at, leave_at, cast_at, opened_at, replied_at, view_at, deliver_at, ejected_at, denied_at, closed_at, parts_at, client_frame_of, length_of, length_at, frame_of_length, client_of}
 
 abbrev first : Proc

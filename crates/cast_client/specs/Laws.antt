@@ -1,6 +1,6 @@
 -- What the spellings of frames between a program and its daemon promise.
 use Rattle.std.specs.Prelude.{ℕ, ◌≡◌, ◌≤◌, ◌<◌, ◌-◌, nat_lt, if◌then◌else◌, IsTrue, List, ◌++◌, length, take, Ok, Err}
-use Rattle.cast_frame.specs.declared.fault.FrameFault.{FrameFault}
+use Rattle.cast_field.specs.declared.fault.FrameFault.{FrameFault}
 use Rattle.cast_message.specs.declared.client.ClientFrame.{ClientFrame}
 use Rattle.cast_client.specs.declared.front.ClientRead.TheVariants.{Frame, More}
 use Rattle.cast_client.specs.Spelling.{spelled_client}

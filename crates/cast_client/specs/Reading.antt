@@ -4,8 +4,8 @@ use Rattle.std.specs.Prelude.{ℕ, ◌-◌, ◌==◌, nat_lt, if◌then◌else�
 use Rattle.std.specs.Int.{w32}
 use Rattle.cast_types.specs.declared.refusal.Refusal.{Refusal}
 use Rattle.cast_types.specs.Refusals.{refusal_numbered}
-use Rattle.cast_frame.specs.declared.fault.FrameFault.{FrameFault}
-use Rattle.cast_frame.specs.declared.fault.FrameFault.TheVariants.{WrongType, Length, Range}
+use Rattle.cast_field.specs.declared.fault.FrameFault.{FrameFault}
+use Rattle.cast_field.specs.declared.fault.FrameFault.TheVariants.{WrongType, Length, Range}
 use Rattle.cast_message.specs.declared.client.CastKind.{CastKind}
 use Rattle.cast_message.specs.declared.client.CastKind.TheVariants.{Causal, Atomic}
 use Rattle.cast_message.specs.declared.client.Request.TheVariants.{Join, Leave, Cast}
@@ -14,7 +14,7 @@ use Rattle.cast_message.specs.declared.client.ClientFrame.{ClientFrame}
 use Rattle.cast_message.specs.declared.client.ClientFrame.TheVariants as client
 use Rattle.cast_client.specs.declared.front.ClientRead.{ClientRead}
 use Rattle.cast_client.specs.declared.front.ClientRead.TheVariants.{Frame, More}
-use Rattle.cast_frame.specs.Reading.{◌>>=◌, Reader, byte_at, number_at, group_at, count_at, proc_at, uid_at, members_at}
+use Rattle.cast_field.specs.Reading.{◌>>=◌, Reader, byte_at, number_at, group_at, count_at, proc_at, uid_at, members_at}
 
 -- any number
 unfoldable pub tag_at : Reader ℕ

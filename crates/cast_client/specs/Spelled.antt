@@ -11,7 +11,7 @@ use Rattle.cast_client.specs.declared.front.ClientRead.{ClientRead}
 use Rattle.cast_client.specs.declared.front.ClientRead.TheVariants.{Frame, More}
 use Rattle.cast_client.specs.Spelling.{spelled_client}
 use Rattle.cast_client.specs.Reading.{length_at}
-use Rattle.cast_frame.specs.Spelled.{IsFrom, IsName, IsCount, IsProc, IsUid, AreMembers}
+use Rattle.cast_field.specs.Spelled.{IsFrom, IsName, IsCount, IsProc, IsUid, AreMembers}
 
 -- any number of 32 bits
 abbrev pub IsTag : ℕ → Type 0

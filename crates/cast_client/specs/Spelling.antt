@@ -10,7 +10,7 @@ use Rattle.cast_message.specs.declared.client.Push.TheVariants.{Opened, Reply, V
 use Rattle.cast_message.specs.declared.client.ClientFrame.{ClientFrame}
 use Rattle.cast_message.specs.declared.client.ClientFrame.TheVariants as client
 use Rattle.cast_message.specs.Replies.{reply_code}
-use Rattle.cast_frame.specs.Spelling.{byte, short, word, spelled_proc, spelled_uid, spelled_members}
+use Rattle.cast_field.specs.Spelling.{byte, short, word, spelled_proc, spelled_uid, spelled_members}
 
 abbrev pub cast_code : CastKind → ℕ
 cast_code Causal = 1

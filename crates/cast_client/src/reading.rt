@@ -1,15 +1,15 @@
 ghost use Rattle.std.specs.Prelude.{◌≡◌, ◌++◌, ◌≤◌, ◌<◌, ◌-◌, nat_lt, if◌then◌else◌, IfOk, Ok, length, take, List, ℕ};
 ghost use Rattle.cast_client.specs.declared.front.ClientRead.TheVariants.{Frame, More};
 ghost use Rattle.cast_message.specs.declared.client.ClientFrame.{ClientFrame};
-ghost use Rattle.cast_frame.specs.Reading.{Gives, GivesField};
+ghost use Rattle.cast_field.specs.Reading.{Gives, GivesField};
 ghost use Rattle.cast_client.specs.Reading.{cast_at, cast_kind_at, client_frame_of, client_of, closed_at, deliver_at, denied_at, ejected_at, end_at, frame_of_length, join_at, leave_at, length_at, length_of, opened_at, parts_at, refusal_at, replied_at, reply_at, short_end_at, tag_at, view_at};
 ghost use Rattle.cast_client.specs.Spelled.{IsClient, IsFront};
 ghost use Rattle.cast_client.specs.Spelling.{spelled_client};
 
 use crate::front::{ClientRead, LENGTH_BYTES, MIN_CLIENT_FRAME};
 use bytes::Bytes;
-use cast_frame::FrameFault;
-use cast_frame::reading::{
+use cast_field::FrameFault;
+use cast_field::reading::{
     read_byte, read_count, read_group, read_members, read_proc, read_uid, read_word,
 };
 use cast_message::{CastKind, ClientFrame, Payload, Push, Request};

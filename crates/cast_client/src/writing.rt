@@ -3,11 +3,11 @@ ghost use Rattle.cast_message.specs.declared.client.ClientFrame.TheVariants as c
 ghost use Rattle.cast_message.specs.Fitting.{client_fits, request_fits};
 ghost use Rattle.cast_message.specs.Replies.{reply_code};
 ghost use Rattle.cast_client.specs.Spelling.{cast_code, push_code, request_code, spelled_client, spelled_push, spelled_request};
-ghost use Rattle.cast_frame.specs.Spelling.{byte, short, spelled_members, spelled_uid, word};
+ghost use Rattle.cast_field.specs.Spelling.{byte, short, spelled_members, spelled_uid, word};
 
 use crate::front::MIN_CLIENT_FRAME;
 use bytes::{BufMut, Bytes, BytesMut};
-use cast_frame::writing::{put_members, put_proc, put_uid, put_view};
+use cast_field::writing::{put_members, put_proc, put_uid, put_view};
 use cast_message::{CastKind, ClientFrame, Members, Payload, Push, Request};
 use cast_types::{GroupNo, NoMemory, Refusal, Uid};
 use std::alloc::Global;
@@ -94,7 +94,7 @@ fn len_of_push(push: &Push) -> usize
 }
 
 // The front of a frame of this type, whose parts have so many bytes.
-#[tactic(auto, unfolding(cast_frame::specs::Spelling::byte, cast_frame::specs::Spelling::word))]
+#[tactic(auto, unfolding(cast_field::specs::Spelling::byte, cast_field::specs::Spelling::word))]
 fn front_of_frame(alloc: Global, code: u8, parts: usize) -> Result<BytesMut, NoMemory>
     requires { parts ≤ 19995 }
     ensures { IfOk result (λ b. b.items ≡ word (5 + parts) ++ byte code) }
@@ -106,7 +106,7 @@ fn front_of_frame(alloc: Global, code: u8, parts: usize) -> Result<BytesMut, NoM
     Ok(out)
 }
 
-#[tactic(auto, unfolding(cast_frame::specs::Spelling::byte, cast_frame::specs::Spelling::short, cast_frame::specs::Spelling::word))]
+#[tactic(auto, unfolding(cast_field::specs::Spelling::byte, cast_field::specs::Spelling::short, cast_field::specs::Spelling::word))]
 fn put_cast(
     out: &mut BytesMut,
     tag: u32,
@@ -123,7 +123,7 @@ fn put_cast(
     Ok(())
 }
 
-#[tactic(auto, unfolding(crate::specs::Spelling::spelled_request, cast_frame::specs::Spelling::short, cast_frame::specs::Spelling::word))]
+#[tactic(auto, unfolding(crate::specs::Spelling::spelled_request, cast_field::specs::Spelling::short, cast_field::specs::Spelling::word))]
 fn put_request(out: &mut BytesMut, request: &Request) -> Result<(), NoMemory>
     ensures { OnOk result (out.new.items ≡ out.old.items ++ spelled_request request.now) }
 {
@@ -142,7 +142,7 @@ fn put_request(out: &mut BytesMut, request: &Request) -> Result<(), NoMemory>
     }
 }
 
-#[tactic(auto, unfolding(cast_frame::specs::Spelling::byte))]
+#[tactic(auto, unfolding(cast_field::specs::Spelling::byte))]
 fn put_deliver(
     out: &mut BytesMut,
     id: Uid,
@@ -157,7 +157,7 @@ fn put_deliver(
     Ok(())
 }
 
-#[tactic(auto, unfolding(crate::specs::Spelling::spelled_push, cast_frame::specs::Spelling::byte, cast_frame::specs::Spelling::short, cast_frame::specs::Spelling::word))]
+#[tactic(auto, unfolding(crate::specs::Spelling::spelled_push, cast_field::specs::Spelling::byte, cast_field::specs::Spelling::short, cast_field::specs::Spelling::word))]
 fn put_push(out: &mut BytesMut, push: &Push) -> Result<(), NoMemory>
     ensures { OnOk result (out.new.items ≡ out.old.items ++ spelled_push push.now) }
 {

@@ -9,8 +9,8 @@ use Rattle.cast_types.specs.declared.names.GroupNo.{GroupNo}
 use Rattle.cast_types.specs.declared.names.Proc.{Proc}
 use Rattle.cast_types.specs.declared.names.Uid.{Uid}
 use Rattle.cast_types.specs.Names.{Entry}
-use Rattle.cast_frame.specs.declared.fault.FrameFault.{FrameFault}
-use Rattle.cast_frame.specs.declared.fault.FrameFault.TheVariants.{Magic, Version, WrongType, Length, Range}
+use Rattle.cast_field.specs.declared.fault.FrameFault.{FrameFault}
+use Rattle.cast_field.specs.declared.fault.FrameFault.TheVariants.{Magic, Version, WrongType, Length, Range}
 use Rattle.cast_message.specs.declared.message.Message.{Message}
 use Rattle.cast_message.specs.declared.site.Change.{Change}
 use Rattle.cast_message.specs.declared.site.Change.TheVariants.{Join, Leave}
@@ -21,14 +21,17 @@ use Rattle.cast_frame.specs.declared.reading.FrameType.TheVariants as types
 use Rattle.cast_message.specs.Membership.{Membership}
 use Rattle.cast_message.specs.Stretch.{Stretch}
 use Rattle.cast_message.specs.Keeping.{KeptList}
-use Rattle.cast_frame.specs.Spelling.{byte, short, word, spelled_proc, spelled_counts, spelled_members, spelled_tail, spelled_kept, change_code, full_code, frame_code, spelled_fields, spelled_site}
-use Rattle.cast_frame.specs.Reading.{◌>>=◌, byte_at, number_at, domain_at, site_at, group_at, count_at, proc_at, uid_at, counts_at, message_at, members_at, tail_at, kept_at, change_of, full_of, data_at, ack_at, stable_at, ask_at, asked_at, prepare_at, flushed_at, want_at, forward_at, install_at, installed_at, out_at, type_of, type_at, fields_at, magic_at, version_at, frame_at, site_frame_of}
-use Rattle.cast_frame.specs.Spelled.{IsFrom, IsName, IsCount, IsProc, IsUid, IsMessage, IsFlushed, IsInstall, IsFrame, IsSpelled}
-use Rattle.cast_frame.proofs.Fields.{IsBytes, bind_ok, guard_ok, pass_ok, ok_is, Took, joined, Takes, byte_takes, byte_again, short_takes, short_again, word_takes, word_again}
-use Rattle.cast_frame.proofs.Parts.{domain_takes, domain_again, site_takes, site_again, group_takes, group_again, count_takes, count_again, proc_takes, proc_again, uid_takes, uid_again, counts_takes, counts_again}
-use Rattle.cast_frame.proofs.Holders.{chosen, members_take, members_again}
-use Rattle.cast_frame.proofs.Orders.{stretch_parts, tail_takes, tail_again, kept_takes, kept_again}
-use Rattle.cast_frame.proofs.Messages.{message_takes, message_again}
+use Rattle.cast_field.specs.Spelling.{byte, short, word, spelled_proc, spelled_counts, spelled_members, spelled_tail, spelled_kept}
+use Rattle.cast_frame.specs.Spelling.{change_code, full_code, frame_code, spelled_fields, spelled_site}
+use Rattle.cast_field.specs.Reading.{◌>>=◌, byte_at, number_at, domain_at, site_at, group_at, count_at, proc_at, uid_at, counts_at, message_at, members_at, tail_at, kept_at}
+use Rattle.cast_frame.specs.Reading.{change_of, full_of, data_at, ack_at, stable_at, ask_at, asked_at, prepare_at, flushed_at, want_at, forward_at, install_at, installed_at, out_at, type_of, type_at, fields_at, magic_at, version_at, frame_at, site_frame_of}
+use Rattle.cast_field.specs.Spelled.{IsFrom, IsName, IsCount, IsProc, IsUid, IsMessage}
+use Rattle.cast_frame.specs.Spelled.{IsFlushed, IsInstall, IsFrame, IsSpelled}
+use Rattle.cast_field.proofs.Fields.{IsBytes, bind_ok, guard_ok, pass_ok, ok_is, Took, joined, Takes, byte_takes, byte_again, short_takes, short_again, word_takes, word_again}
+use Rattle.cast_field.proofs.Parts.{domain_takes, domain_again, site_takes, site_again, group_takes, group_again, count_takes, count_again, proc_takes, proc_again, uid_takes, uid_again, counts_takes, counts_again}
+use Rattle.cast_field.proofs.Holders.{chosen, members_take, members_again}
+use Rattle.cast_field.proofs.Orders.{stretch_parts, tail_takes, tail_again, kept_takes, kept_again}
+use Rattle.cast_field.proofs.Messages.{message_takes, message_again}
 
 -- ---- the fields of each frame
 

@@ -1,11 +1,3 @@
-pub mod Numbers
-pub mod Many
-pub mod Fields
-pub mod Lists
-pub mod Parts
-pub mod Holders
-pub mod Orders
-pub mod Messages
 pub mod Frames
 pub mod Sizes
 pub mod Vectors

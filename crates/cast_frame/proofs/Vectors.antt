@@ -3,13 +3,15 @@ use Rattle.std.proofs.Common.{◌≡◌, ◌≤◌, ℕ, true, false, List, [], 
 use Rattle.std.specs.Prelude.{nat_lt}
 use Rattle.std.proofs.lemmas.Bool.{le-ltb}
 use Rattle.cast_types.specs.declared.names.Proc.{Proc}
-use Rattle.cast_frame.specs.declared.fault.FrameFault.TheVariants.{Short, Magic, Version, WrongType, Length, NotSorted, Range}
+use Rattle.cast_field.specs.declared.fault.FrameFault.TheVariants.{Short, Magic, Version, WrongType, Length, NotSorted, Range}
 use Rattle.cast_message.specs.declared.message.Body.TheVariants as body
 use Rattle.cast_message.specs.declared.site.Change.TheVariants.{Join}
 use Rattle.cast_message.specs.declared.site.SiteFrame.{SiteFrame}
 use Rattle.cast_message.specs.declared.site.SiteFrame.TheVariants.{Data, Ack, Stable, Ask, Asked, Prepare, Flushed, Want, Forward, Install, Installed, Out}
-use Rattle.cast_frame.specs.Spelling.{byte, short, word, spelled_proc, spelled_entry, spelled_uid, spelled_counts, spelled_clock, spelled_times, spelled_payload, spelled_sequence, spelled_body, spelled_message, spelled_holder, spelled_members, spelled_tail, spelled_marked, spelled_kept, spelled_fields, spelled_site}
-use Rattle.cast_frame.specs.Reading.{within_range, byte_at, number_at, bytes_at, many, above, domain_at, site_at, group_at, count_at, proc_at, entry_at, uid_at, proc_above, entry_above, counts_at, group_above, clock_above, times_at, payload_at, id_at, sequence_at, kind_at, causal_at, atomic_at, order_at, body_at, message_at, holder_at, members_at, tail_at, id_above, mark_at, marked_above, kept_at, full_of, data_at, ack_at, stable_at, ask_at, asked_at, prepare_at, flushed_at, want_at, forward_at, install_at, installed_at, out_at, type_of, type_at, fields_at, magic_at, version_at, frame_at, site_frame_of}
+use Rattle.cast_field.specs.Spelling.{byte, short, word, spelled_proc, spelled_entry, spelled_uid, spelled_counts, spelled_clock, spelled_times, spelled_payload, spelled_sequence, spelled_body, spelled_message, spelled_holder, spelled_members, spelled_tail, spelled_marked, spelled_kept}
+use Rattle.cast_frame.specs.Spelling.{spelled_fields, spelled_site}
+use Rattle.cast_field.specs.Reading.{within_range, byte_at, number_at, bytes_at, many, above, domain_at, site_at, group_at, count_at, proc_at, entry_at, uid_at, proc_above, entry_above, counts_at, group_above, clock_above, times_at, payload_at, id_at, sequence_at, kind_at, causal_at, atomic_at, order_at, body_at, message_at, holder_at, members_at, tail_at, id_above, mark_at, marked_above, kept_at}
+use Rattle.cast_frame.specs.Reading.{full_of, data_at, ack_at, stable_at, ask_at, asked_at, prepare_at, flushed_at, want_at, forward_at, install_at, installed_at, out_at, type_of, type_at, fields_at, magic_at, version_at, frame_at, site_frame_of}
 
 abbrev first : Proc
 first = record { site = record { 0 = 1 }; serial = 1 }

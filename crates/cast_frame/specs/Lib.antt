@@ -1,4 +1,3 @@
-pub mod Faults
 pub mod Spelling
 pub mod Reading
 pub mod Spelled

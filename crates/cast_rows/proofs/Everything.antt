@@ -2,23 +2,23 @@
 
 unfoldable pub everything : Unit {0}
 unfolding
-    Rattle.cast_order.specs.Order.known_order Rattle.cast_frame.specs.Reading.within_range
-    Rattle.cast_frame.specs.Reading.byte_at Rattle.cast_frame.specs.Reading.number_at
-    Rattle.cast_frame.specs.Reading.bytes_at Rattle.cast_frame.specs.Reading.many Rattle.cast_frame.specs.Reading.above
-    Rattle.cast_frame.specs.Reading.domain_at Rattle.cast_frame.specs.Reading.site_at
-    Rattle.cast_frame.specs.Reading.group_at Rattle.cast_frame.specs.Reading.count_at Rattle.cast_frame.specs.Reading.proc_at
-    Rattle.cast_frame.specs.Reading.entry_at Rattle.cast_frame.specs.Reading.uid_at
-    Rattle.cast_frame.specs.Reading.proc_above Rattle.cast_frame.specs.Reading.entry_above
-    Rattle.cast_frame.specs.Reading.counts_at Rattle.cast_frame.specs.Reading.group_above
-    Rattle.cast_frame.specs.Reading.clock_above Rattle.cast_frame.specs.Reading.times_at
-    Rattle.cast_frame.specs.Reading.payload_at Rattle.cast_frame.specs.Reading.id_at
-    Rattle.cast_frame.specs.Reading.sequence_at Rattle.cast_frame.specs.Reading.kind_at
-    Rattle.cast_frame.specs.Reading.causal_at Rattle.cast_frame.specs.Reading.atomic_at
-    Rattle.cast_frame.specs.Reading.order_at Rattle.cast_frame.specs.Reading.body_at
-    Rattle.cast_frame.specs.Reading.message_at Rattle.cast_frame.specs.Reading.holder_at
-    Rattle.cast_frame.specs.Reading.members_at Rattle.cast_frame.specs.Reading.tail_at
-    Rattle.cast_frame.specs.Reading.id_above Rattle.cast_frame.specs.Reading.mark_at
-    Rattle.cast_frame.specs.Reading.marked_above Rattle.cast_frame.specs.Reading.kept_at
+    Rattle.cast_order.specs.Order.known_order Rattle.cast_field.specs.Reading.within_range
+    Rattle.cast_field.specs.Reading.byte_at Rattle.cast_field.specs.Reading.number_at
+    Rattle.cast_field.specs.Reading.bytes_at Rattle.cast_field.specs.Reading.many Rattle.cast_field.specs.Reading.above
+    Rattle.cast_field.specs.Reading.domain_at Rattle.cast_field.specs.Reading.site_at
+    Rattle.cast_field.specs.Reading.group_at Rattle.cast_field.specs.Reading.count_at Rattle.cast_field.specs.Reading.proc_at
+    Rattle.cast_field.specs.Reading.entry_at Rattle.cast_field.specs.Reading.uid_at
+    Rattle.cast_field.specs.Reading.proc_above Rattle.cast_field.specs.Reading.entry_above
+    Rattle.cast_field.specs.Reading.counts_at Rattle.cast_field.specs.Reading.group_above
+    Rattle.cast_field.specs.Reading.clock_above Rattle.cast_field.specs.Reading.times_at
+    Rattle.cast_field.specs.Reading.payload_at Rattle.cast_field.specs.Reading.id_at
+    Rattle.cast_field.specs.Reading.sequence_at Rattle.cast_field.specs.Reading.kind_at
+    Rattle.cast_field.specs.Reading.causal_at Rattle.cast_field.specs.Reading.atomic_at
+    Rattle.cast_field.specs.Reading.order_at Rattle.cast_field.specs.Reading.body_at
+    Rattle.cast_field.specs.Reading.message_at Rattle.cast_field.specs.Reading.holder_at
+    Rattle.cast_field.specs.Reading.members_at Rattle.cast_field.specs.Reading.tail_at
+    Rattle.cast_field.specs.Reading.id_above Rattle.cast_field.specs.Reading.mark_at
+    Rattle.cast_field.specs.Reading.marked_above Rattle.cast_field.specs.Reading.kept_at
     Rattle.cast_frame.specs.Reading.full_of Rattle.cast_frame.specs.Reading.data_at Rattle.cast_frame.specs.Reading.ack_at
     Rattle.cast_frame.specs.Reading.stable_at Rattle.cast_frame.specs.Reading.ask_at Rattle.cast_frame.specs.Reading.asked_at
     Rattle.cast_frame.specs.Reading.prepare_at Rattle.cast_frame.specs.Reading.flushed_at
@@ -27,16 +27,16 @@ unfolding
     Rattle.cast_frame.specs.Reading.out_at Rattle.cast_frame.specs.Reading.type_of Rattle.cast_frame.specs.Reading.type_at
     Rattle.cast_frame.specs.Reading.fields_at Rattle.cast_frame.specs.Reading.magic_at
     Rattle.cast_frame.specs.Reading.version_at Rattle.cast_frame.specs.Reading.frame_at
-    Rattle.cast_frame.specs.Reading.site_frame_of Rattle.cast_frame.specs.Spelling.byte
-    Rattle.cast_frame.specs.Spelling.short Rattle.cast_frame.specs.Spelling.word
-    Rattle.cast_frame.specs.Spelling.spelled_proc Rattle.cast_frame.specs.Spelling.spelled_entry
-    Rattle.cast_frame.specs.Spelling.spelled_uid Rattle.cast_frame.specs.Spelling.spelled_counts
-    Rattle.cast_frame.specs.Spelling.spelled_clock Rattle.cast_frame.specs.Spelling.spelled_times
-    Rattle.cast_frame.specs.Spelling.spelled_payload Rattle.cast_frame.specs.Spelling.spelled_sequence
-    Rattle.cast_frame.specs.Spelling.spelled_body Rattle.cast_frame.specs.Spelling.spelled_message
-    Rattle.cast_frame.specs.Spelling.spelled_holder Rattle.cast_frame.specs.Spelling.spelled_members
-    Rattle.cast_frame.specs.Spelling.spelled_tail Rattle.cast_frame.specs.Spelling.spelled_marked
-    Rattle.cast_frame.specs.Spelling.spelled_kept Rattle.cast_frame.specs.Spelling.spelled_fields
+    Rattle.cast_frame.specs.Reading.site_frame_of Rattle.cast_field.specs.Spelling.byte
+    Rattle.cast_field.specs.Spelling.short Rattle.cast_field.specs.Spelling.word
+    Rattle.cast_field.specs.Spelling.spelled_proc Rattle.cast_field.specs.Spelling.spelled_entry
+    Rattle.cast_field.specs.Spelling.spelled_uid Rattle.cast_field.specs.Spelling.spelled_counts
+    Rattle.cast_field.specs.Spelling.spelled_clock Rattle.cast_field.specs.Spelling.spelled_times
+    Rattle.cast_field.specs.Spelling.spelled_payload Rattle.cast_field.specs.Spelling.spelled_sequence
+    Rattle.cast_field.specs.Spelling.spelled_body Rattle.cast_field.specs.Spelling.spelled_message
+    Rattle.cast_field.specs.Spelling.spelled_holder Rattle.cast_field.specs.Spelling.spelled_members
+    Rattle.cast_field.specs.Spelling.spelled_tail Rattle.cast_field.specs.Spelling.spelled_marked
+    Rattle.cast_field.specs.Spelling.spelled_kept Rattle.cast_frame.specs.Spelling.spelled_fields
     Rattle.cast_frame.specs.Spelling.spelled_site Rattle.cast_script.specs.Readings.each
     Rattle.cast_script.specs.Readings.spelled_number Rattle.cast_script.specs.Readings.number_of
     Rattle.cast_script.specs.Readings.within Rattle.cast_script.specs.Readings.number_within

@@ -15,7 +15,7 @@ use Rattle.cast_message.specs.declared.client.Request.{Request}
 use Rattle.cast_message.specs.declared.client.Request.TheVariants as request
 use Rattle.cast_message.specs.declared.client.Command.TheVariants as command
 use Rattle.cast_message.specs.declared.site.SiteFrame.{SiteFrame}
-use Rattle.cast_frame.specs.declared.fault.FrameFault.{FrameFault}
+use Rattle.cast_field.specs.declared.fault.FrameFault.{FrameFault}
 use Rattle.cast_frame.specs.Reading.{site_frame_of}
 use Rattle.cast_model.specs.declared.config.DomainConfig.{DomainConfig}
 use Rattle.cast_model.specs.declared.config.Quotas.{Quotas}

@@ -1,12 +1,12 @@
 -- What a program reads where it awaits a push.
 use Rattle.std.specs.Prelude.{◌≡◌, ◌≢◌, ℕ, List, [], ◌∷◌, ◌++◌, drop, Option, Some, None, Result, Ok, Err}
-use Rattle.cast_frame.specs.declared.fault.FrameFault.{FrameFault}
-use Rattle.cast_frame.specs.declared.fault.FrameFault.TheVariants.{Short, WrongType, NoMemory}
+use Rattle.cast_field.specs.declared.fault.FrameFault.{FrameFault}
+use Rattle.cast_field.specs.declared.fault.FrameFault.TheVariants.{Short, WrongType, NoMemory}
 use Rattle.cast_message.specs.declared.client.ClientFrame.TheVariants as client
 use Rattle.cast_client.specs.declared.front.ClientRead.{ClientRead}
 use Rattle.cast_client.specs.declared.front.ClientRead.TheVariants.{Frame, More}
 use Rattle.cast_message.specs.declared.client.Push.{Push}
-use Rattle.cast_frame.specs.Reading.{Reader}
+use Rattle.cast_field.specs.Reading.{Reader}
 use Rattle.cast_client.specs.Reading.{client_of}
 use Rattle.cast_session.specs.declared.client.PushFault.{PushFault}
 use Rattle.cast_session.specs.declared.client.PushFault.TheVariants as faults

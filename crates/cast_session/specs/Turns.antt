@@ -1,7 +1,7 @@
 -- What one call of `read` came to, for the frame that is being read.
 use Rattle.std.specs.Prelude.{◌≡◌, ◌≢◌, ℕ, List, [], ◌++◌, length, Option, Ok, Err}
 use Rattle.std.specs.Io.KnownBytes.{Consumes, IsAtEnd}
-use Rattle.cast_frame.specs.declared.fault.FrameFault.TheVariants.{NoMemory}
+use Rattle.cast_field.specs.declared.fault.FrameFault.TheVariants.{NoMemory}
 use Rattle.cast_client.specs.declared.front.ClientRead.TheVariants as read
 use Rattle.cast_client.specs.Reading.{client_of}
 use Rattle.cast_session.specs.declared.frames.Turn.{Turn}

@@ -10,7 +10,7 @@ use crate::frames::{Incoming, Turn};
 use crate::outgoing::OutFault;
 use cast_client::encode_client;
 use cast_device::{PATIENCE, Watched, write_whole};
-use cast_frame::FrameFault;
+use cast_field::FrameFault;
 use cast_message::{ClientFrame, Push};
 use std::alloc::Global;
 use std::io::{Read, Write};

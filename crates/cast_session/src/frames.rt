@@ -4,7 +4,7 @@ ghost use Rattle.cast_client.specs.declared.front.ClientRead.TheVariants.{More};
 
 use cast_client::{ClientRead, decode_client};
 use cast_device::{PATIENCE, Watched};
-use cast_frame::FrameFault;
+use cast_field::FrameFault;
 use cast_message::ClientFrame;
 use std::alloc::Global;
 use std::io::{ErrorKind, Read};

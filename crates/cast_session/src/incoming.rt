@@ -5,7 +5,7 @@ ghost use Rattle.cast_session.specs.Incoming.{EndsBad, PumpedIn};
 use crate::frames::{Incoming, Turn};
 use crate::sink::Sink;
 use cast_device::{PATIENCE, Watched};
-use cast_frame::FrameFault;
+use cast_field::FrameFault;
 use cast_message::{ClientFrame, Command};
 use std::alloc::Global;
 use std::io::Read;

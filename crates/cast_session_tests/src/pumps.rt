@@ -1,6 +1,6 @@
 ghost use Rattle.std.specs.Prelude.{◌<◌, Some};
 
-use cast_frame::FrameFault;
+use cast_field::FrameFault;
 use cast_message::{CastKind, ClientFrame, Command, Push, Request};
 use cast_session::{
     InEnd, OutFault, PushFault, Sink, Watched, pump_in, pump_out, read_push, write_command,

@@ -1,5 +1,5 @@
 use Rattle.std.proofs.Common.{subst, ap, ◌∙◌, arith}
-use Rattle.cast_frame.specs.Reading.{Gives}
+use Rattle.cast_field.specs.Reading.{Gives}
 use Rattle.cast_client.specs.Reading.{client_of}
 use Rattle.cast_client.proofs.Fronts.{is_found, client_again, part_wants}
 use Rattle.cast_client.proofs.reading.decode_client.Goals as goal

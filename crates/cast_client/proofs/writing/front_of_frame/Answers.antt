@@ -1,5 +1,5 @@
 use Rattle.std.proofs.Common.{rules}
-use Rattle.cast_frame.specs.Spelling.{byte, word}
+use Rattle.cast_field.specs.Spelling.{byte, word}
 use Rattle.cast_client.proofs.writing.front_of_frame.Goals as goal
 
 pub returns : goal.returns

@@ -1,5 +1,6 @@
 use Rattle.std.proofs.Common.{subst, ap, ◌∙◌, arith}
-use Rattle.cast_frame.specs.Reading.{Gives, site_frame_of}
+use Rattle.cast_field.specs.Reading.{Gives}
+use Rattle.cast_frame.specs.Reading.{site_frame_of}
 use Rattle.cast_frame.proofs.Sizes.{is_found, spelled_is_read}
 use Rattle.cast_frame.proofs.reading.decode_site.Goals as goal
 

@@ -1,0 +1,7 @@
+use Rattle.std.proofs.Common.{append_assoc}
+use Rattle.cast_field.specs.Spelling.{spelled_uid, short, word}
+use Rattle.cast_field.proofs.writing.put_uid.Goals as goal
+
+pub returns : goal.returns
+unfolding spelled_uid short word
+returns c = rw (c.in_ok-put_u32-2.ensures.ok, c.in_ok-put_proc.ensures, c.in_ok-put_u32.ensures.ok, c.in_ok-put_u16.ensures.ok) (simp append_assoc)
