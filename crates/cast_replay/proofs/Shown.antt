@@ -9,7 +9,8 @@ use Rattle.cast_types.specs.declared.names.GroupNo.{GroupNo}
 use Rattle.cast_types.specs.Names.{group_cmp}
 use Rattle.cast_message.specs.Rising.{is_rising}
 use Rattle.cast_model.specs.declared.config.Config.{Config}
-use Rattle.cast_script.specs.Scripts.{HasOneDomain, rises_from}
+use Rattle.cast_script.specs.Scripts.{HasOneDomain}
+use Rattle.cast_words.specs.Words.{rises_from}
 use Rattle.cast_table.specs.Replays.{are_distinct, have_rising_groups}
 
 less : (m n : ℕ) → ltb m n ≡ true → is_lt (nat_cmp m n) ≡ true

@@ -37,25 +37,25 @@ unfolding
     Rattle.cast_field.specs.Spelling.spelled_holder Rattle.cast_field.specs.Spelling.spelled_members
     Rattle.cast_field.specs.Spelling.spelled_tail Rattle.cast_field.specs.Spelling.spelled_marked
     Rattle.cast_field.specs.Spelling.spelled_kept Rattle.cast_frame.specs.Spelling.spelled_fields
-    Rattle.cast_frame.specs.Spelling.spelled_site Rattle.cast_script.specs.Readings.each
-    Rattle.cast_script.specs.Readings.spelled_number Rattle.cast_script.specs.Readings.number_of
-    Rattle.cast_script.specs.Readings.within Rattle.cast_script.specs.Readings.number_within
-    Rattle.cast_script.specs.Readings.domain_of Rattle.cast_script.specs.Readings.site_of
-    Rattle.cast_script.specs.Readings.group_of Rattle.cast_script.specs.Readings.checked_sites
-    Rattle.cast_script.specs.Readings.sites_of Rattle.cast_script.specs.Readings.checked_groups
-    Rattle.cast_script.specs.Readings.groups_of Rattle.cast_script.specs.Readings.fixed_of
-    Rattle.cast_script.specs.Readings.bytes_of Rattle.cast_script.specs.Readings.head_of
-    Rattle.cast_script.specs.Readings.behind_first Rattle.cast_script.specs.Readings.site_words
-    Rattle.cast_script.specs.Readings.site_behind Rattle.cast_script.specs.Readings.site_line
-    Rattle.cast_script.specs.Readings.place_words Rattle.cast_script.specs.Readings.list_words
-    Rattle.cast_script.specs.Readings.quota_words Rattle.cast_script.specs.Readings.domain_parts
-    Rattle.cast_script.specs.Readings.domain_words Rattle.cast_script.specs.Readings.domain_behind
-    Rattle.cast_script.specs.Readings.domain_line Rattle.cast_script.specs.Readings.request_parts
-    Rattle.cast_script.specs.Readings.open_words Rattle.cast_script.specs.Readings.join_words
-    Rattle.cast_script.specs.Readings.leave_words Rattle.cast_script.specs.Readings.cast_words
-    Rattle.cast_script.specs.Readings.bad_words Rattle.cast_script.specs.Readings.frame_words
-    Rattle.cast_script.specs.Readings.tick_words Rattle.cast_script.specs.Readings.event_behind
-    Rattle.cast_script.specs.Readings.event_line Rattle.cast_script.specs.Readings.site_at
+    Rattle.cast_frame.specs.Spelling.spelled_site Rattle.cast_words.specs.Readings.each
+    Rattle.cast_words.specs.Readings.spelled_number Rattle.cast_words.specs.Readings.number_of
+    Rattle.cast_words.specs.Readings.within Rattle.cast_words.specs.Readings.number_within
+    Rattle.cast_words.specs.Readings.domain_of Rattle.cast_words.specs.Readings.site_of
+    Rattle.cast_words.specs.Readings.group_of Rattle.cast_words.specs.Readings.checked_sites
+    Rattle.cast_words.specs.Readings.sites_of Rattle.cast_words.specs.Readings.checked_groups
+    Rattle.cast_words.specs.Readings.groups_of Rattle.cast_words.specs.Readings.fixed_of
+    Rattle.cast_words.specs.Readings.bytes_of Rattle.cast_lines.specs.Readings.head_of
+    Rattle.cast_lines.specs.Readings.behind_first Rattle.cast_lines.specs.Readings.site_words
+    Rattle.cast_lines.specs.Readings.site_behind Rattle.cast_lines.specs.Readings.site_line
+    Rattle.cast_words.specs.Readings.place_words Rattle.cast_words.specs.Readings.list_words
+    Rattle.cast_words.specs.Readings.quota_words Rattle.cast_lines.specs.Readings.domain_parts
+    Rattle.cast_lines.specs.Readings.domain_words Rattle.cast_lines.specs.Readings.domain_behind
+    Rattle.cast_lines.specs.Readings.domain_line Rattle.cast_lines.specs.Readings.request_parts
+    Rattle.cast_lines.specs.Readings.open_words Rattle.cast_lines.specs.Readings.join_words
+    Rattle.cast_lines.specs.Readings.leave_words Rattle.cast_lines.specs.Readings.cast_words
+    Rattle.cast_lines.specs.Readings.bad_words Rattle.cast_lines.specs.Readings.frame_words
+    Rattle.cast_lines.specs.Readings.tick_words Rattle.cast_lines.specs.Readings.event_behind
+    Rattle.cast_lines.specs.Readings.event_line Rattle.cast_script.specs.Readings.site_at
     Rattle.cast_script.specs.Readings.domain_at Rattle.cast_script.specs.Readings.event_at
     Rattle.cast_script.specs.Readings.domain_on Rattle.cast_script.specs.Readings.site_on
     Rattle.cast_script.specs.Readings.script_of Rattle.std.specs.Fmt.digits Rattle.hex.specs.Hex.encode_with

@@ -1,6 +1,6 @@
 -- What is a script, and what is wrong with one that is none, by worked scripts.
 use Rattle.std.specs.Prelude.{◌≡◌, ℕ, List, [], ◌∷◌, codes, Ok, Err, refl}
-use Rattle.cast_script.specs.declared.words.Reason.TheVariants.{BadNumber, Order}
+use Rattle.cast_words.specs.declared.words.Reason.TheVariants.{BadNumber, Order}
 use Rattle.cast_rows.proofs.Everything.{everything}
 use Rattle.cast_rows.specs.Printed.{lines, printed}
 

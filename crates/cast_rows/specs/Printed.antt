@@ -7,7 +7,7 @@ use Rattle.cast_model.specs.declared.log.Given.{Given}
 use Rattle.cast_model.specs.declared.log.Log.{Log}
 use Rattle.cast_history.specs.State.{serials}
 use Rattle.cast_history.specs.Run.{Ran, run_of}
-use Rattle.cast_script.specs.declared.words.Reason.{Reason}
+use Rattle.cast_words.specs.declared.words.Reason.{Reason}
 use Rattle.cast_script.specs.declared.script.Script.{Script}
 use Rattle.cast_script.specs.Readings.{script_of}
 use Rattle.cast_print.specs.Texts.{log_text}

@@ -1,16 +1,23 @@
 -- Lines with their numbers.
-use Rattle.std.proofs.Common.{◌≡◌, ℕ, ◌+◌, ◌-◌, cond, eqb, false, List, [], ◌∷◌, length, map, filter, Some, None, Result, Err, inl, inr, refl, ap, add-zero, arith}
+use Rattle.std.proofs.Common.{◌≡◌, ℕ, ◌+◌, ◌-◌, cond, eqb, false, List, [], ◌∷◌, length, map, filter, Some, None, Result, Err, inl, inr, refl, ap, add-zero, arith, Ok}
 use Rattle.std.specs.Borrow.{Bor}
 use Rattle.std.specs.List.{slice_get}
 use Rattle.std.proofs.lemmas.Bool.{cases_Bool}
 use Rattle.std.proofs.lemmas.Option.{slice_get-get_or}
 use Rattle.cast_script.specs.declared.script.ScriptFault.{ScriptFault}
 use Rattle.cast_script.specs.declared.script.ScriptFault.TheVariants as script
-use Rattle.cast_script.specs.declared.words.LineFault.{LineFault}
-use Rattle.cast_script.specs.declared.words.LineFault.TheVariants as fault
-use Rattle.cast_script.specs.declared.words.Reason.{Reason}
-use Rattle.cast_script.specs.Scripts.{is_used, texts}
-use Rattle.cast_script.specs.Readings.{Gives, GivesAt, Numbered, at_line, end_after, fault_at, numbered_from}
+use Rattle.cast_words.specs.declared.words.LineFault.{LineFault}
+use Rattle.cast_words.specs.declared.words.LineFault.TheVariants as fault
+use Rattle.cast_words.specs.declared.words.Reason.{Reason}
+use Rattle.cast_script.specs.Scripts.{is_used}
+use Rattle.cast_words.specs.Words.{texts}
+use Rattle.cast_words.specs.Readings.{Gives}
+use Rattle.cast_script.specs.Readings.{GivesAt, Numbered, at_line, end_after, fault_at, numbered_from}
+
+-- what a line is read as has no number
+pub line_ok : {A : Type 0} (n : ℕ) (r : Result A Reason) (x : A) → at_line n r ≡ Ok x → r ≡ Ok x
+line_ok n (Ok y) x e = cc
+line_ok n (Err d) x e = absurd cc
 
 -- the used lines from a line of this number on
 abbrev pub used_from : ℕ → List (List ℕ) → List Numbered

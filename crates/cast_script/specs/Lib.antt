@@ -1,4 +1,3 @@
 pub mod Scripts
 pub mod Readings
 pub mod Laws
-pub mod Reasons

@@ -1,27 +1,29 @@
 //! Trials of the whole program and of the codec. `cast_trials rows SCRIPT ..` goes through worked examples, and
 //! `cast_trials speed FILE ROUNDS` measures how fast a frame is decoded and encoded.
 //!
-//! The worked examples are the scripts in `data/`, one for each rule, a script of five thousand events (`long`), and the frames in
-//! `stdin`. What has to be printed for them stands in `stdout`, and for the long one beside it.
+//! The worked examples are the scripts in `data/`, one for each rule, a script of five thousand events (`long`), the frames in
+//! `stdin`, and command lines (`words`). What has to be printed for them stands in `stdout`, and for the long one beside it.
 #![tactic(auto)]
 
 mod frames;
 mod long;
 mod scripts;
 mod speed;
+mod words;
 
 use anyhow::{Result, bail};
 use std::rt::{Clock, Env, Files};
 use std::{env, io};
 
 // Does what the arguments ask for.
-fn run<R: Clock + Env + Files + Input + Print + AllocGlobal>(rt: &R) -> Result<()> {
+fn run<R: Clock + Env + Files + Input + Print + Eprint + AllocGlobal>(rt: &R) -> Result<()> {
     let words = env::args(rt)?.collect::<Vec<String>>(rt.alloc())?;
     match words.as_slice() {
         [_, job, names @ ..] if job.as_str() == "rows" => {
             scripts::replay_all(rt, names, &mut io::writer(rt))?;
             long::replay_long(rt)?;
             frames::try_all(rt)?;
+            words::try_all(rt)?;
         }
         [_, job, file, rounds] if job.as_str() == "speed" => speed::measure(rt, file, rounds)?,
         _ => bail!("usage: cast_trials rows SCRIPT .. | cast_trials speed FILE ROUNDS"),

@@ -1,7 +1,8 @@
 use Rattle.std.proofs.Common.{map}
 use Rattle.std.proofs.lemmas.Result.{err_from_is_err_and}
-use Rattle.cast_script.specs.Readings.{each, event_at, numbered_line}
-use Rattle.cast_script.proofs.Each.{ends, goes_on, is_done}
+use Rattle.cast_words.specs.Readings.{each}
+use Rattle.cast_script.specs.Readings.{event_at, numbered_line}
+use Rattle.cast_words.proofs.Each.{ends, goes_on, is_done}
 use Rattle.cast_script.proofs.Lines.{fault_ends}
 use Rattle.cast_script.proofs.script.event_lines.Goals as goal
 

@@ -1,0 +1,52 @@
+use Rattle.std.proofs.Common.{◌≢◌, sym, ap, ◌∙◌}
+use Rattle.cast_lines.specs.declared.lines.Head.TheVariants.{Site, Domain, Open, Join, Leave, Cast, Abcast, Bad, Frame, Tick}
+use Rattle.cast_lines.specs.Lines.{head_text}
+use Rattle.cast_lines.specs.Readings.{head_of}
+use Rattle.cast_lines.proofs.Heads.{head_again, head_not}
+use Rattle.cast_lines.proofs.lines.head_of.Goals as goal
+
+pub returns-in-site : goal.returns-in-site
+returns-in-site c = sym (ap head_of c.in-site.is ∙ head_again Site)
+
+pub returns-in-domain : goal.returns-in-domain
+returns-in-domain c = sym (ap head_of c.in-domain.is ∙ head_again Domain)
+
+pub returns-in-open : goal.returns-in-open
+returns-in-open c = sym (ap head_of c.in-open.is ∙ head_again Open)
+
+pub returns-in-join : goal.returns-in-join
+returns-in-join c = sym (ap head_of c.in-join.is ∙ head_again Join)
+
+pub returns-in-leave : goal.returns-in-leave
+returns-in-leave c = sym (ap head_of c.in-leave.is ∙ head_again Leave)
+
+pub returns-in-cast : goal.returns-in-cast
+returns-in-cast c = sym (ap head_of c.in-cast.is ∙ head_again Cast)
+
+pub returns-in-abcast : goal.returns-in-abcast
+returns-in-abcast c = sym (ap head_of c.in-abcast.is ∙ head_again Abcast)
+
+pub returns-in-bad : goal.returns-in-bad
+returns-in-bad c = sym (ap head_of c.in-bad.is ∙ head_again Bad)
+
+pub returns-in-frame : goal.returns-in-frame
+returns-in-frame c = sym (ap head_of c.in-frame.is ∙ head_again Frame)
+
+pub returns-in-tick : goal.returns-in-tick
+returns-in-tick c = sym (ap head_of c.in-tick.is ∙ head_again Tick)
+
+pub returns-in_default : goal.returns-in_default
+returns-in_default c =
+    sym (head_not c.args.word.now (λ h.
+    elim h as (λ h. c.args.word.now ≢ head_text h) [
+      | Site ↦ c.in_default.not-site
+      | Domain ↦ c.in_default.not-domain
+      | Open ↦ c.in_default.not-open
+      | Join ↦ c.in_default.not-join
+      | Leave ↦ c.in_default.not-leave
+      | Cast ↦ c.in_default.not-cast
+      | Abcast ↦ c.in_default.not-abcast
+      | Bad ↦ c.in_default.not-bad
+      | Frame ↦ c.in_default.not-frame
+      | Tick ↦ c.in_default.not-tick
+    ]))

@@ -1,0 +1,147 @@
+ghost use Rattle.std.specs.Prelude.{◌≡◌};
+ghost use Rattle.cast_words.specs.Words.{texts};
+ghost use Rattle.cast_words.specs.Readings.{Gives};
+ghost use Rattle.cast_lines.specs.Readings.{bad_words, cast_words, frame_words, join_words, leave_words, open_words, request_parts, requested, tick_words};
+
+use bytes::Bytes;
+use cast_frame::{FrameFault, decode_site};
+use cast_message::{CastKind, Command, Request};
+use cast_model::Event;
+use cast_types::{DomainNo, GroupNo};
+use cast_words::{LineFault, Reason, bytes_word, domain_word, group_word, long_number, number};
+use std::alloc::Global;
+
+// What each request of a session says.
+#[derive(Clone, Copy)]
+struct RequestParts {
+    domain: DomainNo,
+    serial: u32,
+    tag: u32,
+    group: GroupNo,
+}
+
+impl RequestParts {
+    // The event that is a request with these parts.
+    fn event(self, request: Request) -> Event
+        ensures { result ≡ requested self request }
+    {
+        Event::Command {
+            domain: self.domain,
+            serial: self.serial,
+            command: Command::Request(request),
+        }
+    }
+}
+
+/// `open D`, from the second word on
+#[tactic(auto, unfolding(crate::specs::Readings::open_words))]
+pub fn open(words: &[&str]) -> Result<Event, Reason>
+    ensures { result ≡ open_words (texts words.now) }
+{
+    let [domain] = words else {
+        return Err(Reason::WrongCount);
+    };
+    Ok(Event::Open(domain_word(domain)?))
+}
+
+/// `join D K TAG G`, from the second word on
+#[tactic(auto, unfolding(crate::specs::Readings::join_words))]
+pub fn join(words: &[&str]) -> Result<Event, Reason>
+    ensures { result ≡ join_words (texts words.now) }
+{
+    let [domain, serial, tag, group] = words else {
+        return Err(Reason::WrongCount);
+    };
+    let parts = request_parts(domain, serial, tag, group)?;
+    Ok(parts.event(Request::Join {
+        tag: parts.tag,
+        group: parts.group,
+    }))
+}
+
+/// `leave D K TAG G`, from the second word on
+#[tactic(auto, unfolding(crate::specs::Readings::leave_words))]
+pub fn leave(words: &[&str]) -> Result<Event, Reason>
+    ensures { result ≡ leave_words (texts words.now) }
+{
+    let [domain, serial, tag, group] = words else {
+        return Err(Reason::WrongCount);
+    };
+    let parts = request_parts(domain, serial, tag, group)?;
+    Ok(parts.event(Request::Leave {
+        tag: parts.tag,
+        group: parts.group,
+    }))
+}
+
+/// `cast D K TAG G HEX` or `abcast D K TAG G HEX`, from the second word on
+#[tactic(auto, unfolding(crate::specs::Readings::cast_words))]
+pub fn cast(alloc: Global, words: &[&str], kind: CastKind) -> Result<Event, LineFault>
+    ensures { Gives result (cast_words kind (texts words.now)) }
+{
+    let [domain, serial, tag, group, payload] = words else {
+        return Err(LineFault::Refused(Reason::WrongCount));
+    };
+    let parts = request_parts(domain, serial, tag, group)?;
+    Ok(parts.event(Request::Cast {
+        tag: parts.tag,
+        group: parts.group,
+        kind,
+        payload: Bytes::from_vec(bytes_word(alloc, payload)?)?,
+    }))
+}
+
+// `D K TAG G`
+#[tactic(auto, unfolding(crate::specs::Readings::request_parts))]
+fn request_parts(domain: &str, serial: &str, tag: &str, group: &str) -> Result<RequestParts, Reason>
+    ensures { result ≡ request_parts domain.now serial.now tag.now group.now }
+{
+    Ok(RequestParts {
+        domain: domain_word(domain)?,
+        serial: number(serial)?,
+        tag: number(tag)?,
+        group: group_word(group)?,
+    })
+}
+
+/// `bad D K`, from the second word on
+#[tactic(auto, unfolding(crate::specs::Readings::bad_words))]
+pub fn bad(words: &[&str]) -> Result<Event, Reason>
+    ensures { result ≡ bad_words (texts words.now) }
+{
+    let [domain, serial] = words else {
+        return Err(Reason::WrongCount);
+    };
+    Ok(Event::Command {
+        domain: domain_word(domain)?,
+        serial: number(serial)?,
+        command: Command::Bad,
+    })
+}
+
+/// `frame HEX`, from the second word on
+#[tactic(auto, unfolding(crate::specs::Readings::frame_words))]
+pub fn frame_event(alloc: Global, words: &[&str]) -> Result<Event, LineFault>
+    ensures { Gives result (frame_words (texts words.now)) }
+{
+    let [frame] = words else {
+        return Err(LineFault::Refused(Reason::WrongCount));
+    };
+    let bytes = bytes_word(alloc, frame)?;
+    match decode_site(alloc, &bytes) {
+        Ok((domain, site, frame)) => Ok(Event::Frame(domain, site, frame)),
+        Err(FrameFault::NoMemory) => Err(LineFault::NoMemory),
+        Err(_) => Err(LineFault::Refused(Reason::BadFrame)),
+    }
+}
+
+/// `tick N`, from the second word on
+#[tactic(auto, unfolding(crate::specs::Readings::tick_words))]
+pub fn tick(words: &[&str]) -> Result<Event, Reason>
+    ensures { result ≡ tick_words (texts words.now) }
+{
+    let [moment] = words else {
+        return Err(Reason::WrongCount);
+    };
+    Ok(Event::Tick(long_number(moment)?))
+}

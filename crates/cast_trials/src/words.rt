@@ -1,0 +1,48 @@
+//! Command lines: what is printed for each, what is said of an error in its file, and the status.
+
+use cast_arguments::run_words;
+use cast_device::Watched;
+use std::alloc::{AllocError, Global};
+use std::io::{self, Write};
+use std::rt::Files;
+
+const LINES: [&str; 8] = [
+    "castd",
+    "castd serve",
+    "castd replay",
+    "castd replay a b",
+    "castd --help",
+    "castd --version",
+    "castd replay --help",
+    "castd replay missing",
+];
+
+// The words of a line.
+fn words_of(alloc: Global, line: &str) -> Result<Vec<String>, AllocError> {
+    let mut words = Vec::new(alloc);
+    for word in line.split(' ') {
+        words.push(String::from_str(alloc, word)?)?;
+    }
+    Ok(words)
+}
+
+// Does what a line asks for.
+fn try_line<R: Files + Print + Eprint + AllocGlobal>(rt: &R, line: &str) -> io::Result<()> {
+    let words = words_of(rt.alloc(), line)?;
+    let mut log = Watched::new(Vec::new(rt.alloc()));
+    let mut told = Watched::new(Vec::new(rt.alloc()));
+    println!(rt; "== {line}")?;
+    let status = run_words(rt, &words, &mut log, &mut told);
+    let mut out = io::writer(rt);
+    out.write_all(&log.device)?;
+    out.write_all(&told.device)?;
+    println!(rt; "status {status}")
+}
+
+/// Does what each line asks for.
+pub fn try_all<R: Files + Print + Eprint + AllocGlobal>(rt: &R) -> io::Result<()> {
+    for line in LINES {
+        try_line(rt, line)?;
+    }
+    Ok(())
+}

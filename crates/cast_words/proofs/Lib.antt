@@ -1,0 +1,4 @@
+pub mod Results
+pub mod Each
+pub mod Numbers
+pub mod Parts
