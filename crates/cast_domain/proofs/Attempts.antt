@@ -16,11 +16,11 @@ use Rattle.cast_delay.specs.Ready.{is_member, is_outside}
 use Rattle.cast_delay.specs.declared.row.Fact.TheVariants as fact
 use Rattle.cast_history.specs.Rules.Requests.{request}
 use Rattle.cast_history.specs.Rules.Room.{may_order, may_receive}
-use Rattle.cast_history.specs.Rules.Sending.{send_message}
+use Rattle.cast_history.specs.Rules.Sending.{send_message, may_raise}
+use Rattle.cast_history.specs.Rules.Commands.{Attempt, join_at, cast_at}
 use Rattle.cast_domain.specs.Records.{Records}
-use Rattle.cast_history.specs.Effects.{may_raise}
-use Rattle.cast_history.specs.Step.{body_of}
-use Rattle.cast_domain.specs.Calls.{Attempt, awaits_own_in, records, let_go_in, send_places_in, set_order_by_in, record_at, standing_of, time_of, local_in, tell_in, join_at, cast_at, next_message_in}
+use Rattle.cast_history.specs.Rules.Commands.{body_of}
+use Rattle.cast_domain.specs.Calls.{awaits_own_in, records, let_go_in, send_places_in, set_order_by_in, record_at, standing_of, time_of, local_in, tell_in, next_message_in}
 
 -- what a join does that is not refused
 abbrev pub joined : Records → ℕ → GroupNo → ℕ → Records
@@ -29,7 +29,7 @@ joined r k g i =
     (tell_in r (local_in r k) (fact.Standing g (Joining ((record_at r.groups i).here.asked + 1) (view_of (time_of r.delay (local_in r k)) g))))
     i change.Join (local_in r k)
 
-pub join_made : (r : Records) (k : ℕ) (g : GroupNo) (i : ℕ) → is_outside (standing_of r.delay (local_in r k) g) ≡ true → ((record_at r.groups i).here.asked == MAX_NUMBER) ≡ false → join_at r k g i ≡ (joined r k g i, None)
+pub join_made : (r : Records) (k : ℕ) (g : GroupNo) (i : ℕ) → is_outside (standing_of r.delay (local_in r k) g) ≡ true → ((record_at r.groups i).here.asked == MAX_NUMBER) ≡ false → join_at records r k g i ≡ (joined r k g i, None)
 join_made r k g i outside below =
     ap (λ b. if not b then (r, Some AlreadyMember) else if (record_at r.groups i).here.asked == MAX_NUMBER then (r, Some HeldFull) else (joined r k g i, None)) outside
     ∙ ap (λ b. if b then (r, Some HeldFull) else (joined r k g i, None)) below
@@ -42,45 +42,45 @@ sent r k g cast payload i =
     (next_message_in r (local_in r k) g i (body_of cast payload))
 
 -- what is left of a cast past the tests of payload and membership
-cast_owning : (r : Records) (k : ℕ) (g : GroupNo) (cast : CastKind) (payload : List ℕ) (i : ℕ) → nat_lt MAX_PAYLOAD (length payload) ≡ false → is_member (standing_of r.delay (local_in r k) g) ≡ true → cast_at r k g cast payload i ≡ (if awaits_own_in r (local_in r k) then (r, Some OwnAbcast) else if not (may_receive records r) then (r, Some HeldFull) else if not (may_raise (time_of r.delay (local_in r k)) g (local_in r k)) then (r, Some HeldFull) else (sent r k g cast payload i, None))
+cast_owning : (r : Records) (k : ℕ) (g : GroupNo) (cast : CastKind) (payload : List ℕ) (i : ℕ) → nat_lt MAX_PAYLOAD (length payload) ≡ false → is_member (standing_of r.delay (local_in r k) g) ≡ true → cast_at records r k g cast payload i ≡ (if awaits_own_in r (local_in r k) then (r, Some OwnAbcast) else if not (may_receive records r) then (r, Some HeldFull) else if not (may_raise (time_of r.delay (local_in r k)) g (local_in r k)) then (r, Some HeldFull) else (sent r k g cast payload i, None))
 cast_owning r k g cast payload i short member =
-    let last : Attempt = if awaits_own_in r (local_in r k) then (r, Some OwnAbcast) else if not (may_receive records r) then (r, Some HeldFull) else if not (may_raise (time_of r.delay (local_in r k)) g (local_in r k)) then (r, Some HeldFull) else (sent r k g cast payload i, None) in
+    let last : Attempt Records = if awaits_own_in r (local_in r k) then (r, Some OwnAbcast) else if not (may_receive records r) then (r, Some HeldFull) else if not (may_raise (time_of r.delay (local_in r k)) g (local_in r k)) then (r, Some HeldFull) else (sent r k g cast payload i, None) in
     ap (λ b. if b then (r, Some TooLong) else if not (is_member (standing_of r.delay (local_in r k) g)) then (r, Some NotMember) else last) short
     ∙ ap (λ b. if not b then (r, Some NotMember) else last) member
 
 -- what is left of a cast past the tests that are not of room
-cast_past : (r : Records) (k : ℕ) (g : GroupNo) (cast : CastKind) (payload : List ℕ) (i : ℕ) → nat_lt MAX_PAYLOAD (length payload) ≡ false → is_member (standing_of r.delay (local_in r k) g) ≡ true → awaits_own_in r (local_in r k) ≡ false → cast_at r k g cast payload i ≡ (if not (may_receive records r) then (r, Some HeldFull) else if not (may_raise (time_of r.delay (local_in r k)) g (local_in r k)) then (r, Some HeldFull) else (sent r k g cast payload i, None))
+cast_past : (r : Records) (k : ℕ) (g : GroupNo) (cast : CastKind) (payload : List ℕ) (i : ℕ) → nat_lt MAX_PAYLOAD (length payload) ≡ false → is_member (standing_of r.delay (local_in r k) g) ≡ true → awaits_own_in r (local_in r k) ≡ false → cast_at records r k g cast payload i ≡ (if not (may_receive records r) then (r, Some HeldFull) else if not (may_raise (time_of r.delay (local_in r k)) g (local_in r k)) then (r, Some HeldFull) else (sent r k g cast payload i, None))
 cast_past r k g cast payload i short member own =
-    let last : Attempt = if not (may_receive records r) then (r, Some HeldFull) else if not (may_raise (time_of r.delay (local_in r k)) g (local_in r k)) then (r, Some HeldFull) else (sent r k g cast payload i, None) in
+    let last : Attempt Records = if not (may_receive records r) then (r, Some HeldFull) else if not (may_raise (time_of r.delay (local_in r k)) g (local_in r k)) then (r, Some HeldFull) else (sent r k g cast payload i, None) in
     cast_owning r k g cast payload i short member
     ∙ ap (λ b. if b then (r, Some OwnAbcast) else last) own
 
 -- a cast that passes all tests is sent
-pub cast_made : (r : Records) (k : ℕ) (g : GroupNo) (cast : CastKind) (payload : List ℕ) (i : ℕ) → nat_lt MAX_PAYLOAD (length payload) ≡ false → is_member (standing_of r.delay (local_in r k) g) ≡ true → awaits_own_in r (local_in r k) ≡ false → may_receive records r ≡ true → may_raise (time_of r.delay (local_in r k)) g (local_in r k) ≡ true → cast_at r k g cast payload i ≡ (sent r k g cast payload i, None)
+pub cast_made : (r : Records) (k : ℕ) (g : GroupNo) (cast : CastKind) (payload : List ℕ) (i : ℕ) → nat_lt MAX_PAYLOAD (length payload) ≡ false → is_member (standing_of r.delay (local_in r k) g) ≡ true → awaits_own_in r (local_in r k) ≡ false → may_receive records r ≡ true → may_raise (time_of r.delay (local_in r k)) g (local_in r k) ≡ true → cast_at records r k g cast payload i ≡ (sent r k g cast payload i, None)
 cast_made r k g cast payload i short member own room may =
-    let raised : Attempt = if not (may_raise (time_of r.delay (local_in r k)) g (local_in r k)) then (r, Some HeldFull) else (sent r k g cast payload i, None) in
+    let raised : Attempt Records = if not (may_raise (time_of r.delay (local_in r k)) g (local_in r k)) then (r, Some HeldFull) else (sent r k g cast payload i, None) in
     cast_past r k g cast payload i short member own
     ∙ ap (λ b. if not b then (r, Some HeldFull) else raised) room
     ∙ ap (λ b. if not b then (r, Some HeldFull) else (sent r k g cast payload i, None)) may
 
 -- a cast of a process that awaits an ABCAST of its own is refused
-pub cast_owned : (r : Records) (k : ℕ) (g : GroupNo) (cast : CastKind) (payload : List ℕ) (i : ℕ) → nat_lt MAX_PAYLOAD (length payload) ≡ false → is_member (standing_of r.delay (local_in r k) g) ≡ true → awaits_own_in r (local_in r k) ≡ true → cast_at r k g cast payload i ≡ (r, Some OwnAbcast)
+pub cast_owned : (r : Records) (k : ℕ) (g : GroupNo) (cast : CastKind) (payload : List ℕ) (i : ℕ) → nat_lt MAX_PAYLOAD (length payload) ≡ false → is_member (standing_of r.delay (local_in r k) g) ≡ true → awaits_own_in r (local_in r k) ≡ true → cast_at records r k g cast payload i ≡ (r, Some OwnAbcast)
 cast_owned r k g cast payload i short member own =
-    let last : Attempt = if not (may_receive records r) then (r, Some HeldFull) else if not (may_raise (time_of r.delay (local_in r k)) g (local_in r k)) then (r, Some HeldFull) else (sent r k g cast payload i, None) in
+    let last : Attempt Records = if not (may_receive records r) then (r, Some HeldFull) else if not (may_raise (time_of r.delay (local_in r k)) g (local_in r k)) then (r, Some HeldFull) else (sent r k g cast payload i, None) in
     cast_owning r k g cast payload i short member
     ∙ ap (λ b. if b then (r, Some OwnAbcast) else last) own
 
 -- and so is a cast beside too many messages
-pub cast_full : (r : Records) (k : ℕ) (g : GroupNo) (cast : CastKind) (payload : List ℕ) (i : ℕ) → nat_lt MAX_PAYLOAD (length payload) ≡ false → is_member (standing_of r.delay (local_in r k) g) ≡ true → awaits_own_in r (local_in r k) ≡ false → may_receive records r ≡ false → cast_at r k g cast payload i ≡ (r, Some HeldFull)
+pub cast_full : (r : Records) (k : ℕ) (g : GroupNo) (cast : CastKind) (payload : List ℕ) (i : ℕ) → nat_lt MAX_PAYLOAD (length payload) ≡ false → is_member (standing_of r.delay (local_in r k) g) ≡ true → awaits_own_in r (local_in r k) ≡ false → may_receive records r ≡ false → cast_at records r k g cast payload i ≡ (r, Some HeldFull)
 cast_full r k g cast payload i short member own full =
-    let raised : Attempt = if not (may_raise (time_of r.delay (local_in r k)) g (local_in r k)) then (r, Some HeldFull) else (sent r k g cast payload i, None) in
+    let raised : Attempt Records = if not (may_raise (time_of r.delay (local_in r k)) g (local_in r k)) then (r, Some HeldFull) else (sent r k g cast payload i, None) in
     cast_past r k g cast payload i short member own
     ∙ ap (λ b. if not b then (r, Some HeldFull) else raised) full
 
 -- and one of a process whose count cannot be raised
-pub cast_unraised : (r : Records) (k : ℕ) (g : GroupNo) (cast : CastKind) (payload : List ℕ) (i : ℕ) → nat_lt MAX_PAYLOAD (length payload) ≡ false → is_member (standing_of r.delay (local_in r k) g) ≡ true → awaits_own_in r (local_in r k) ≡ false → may_receive records r ≡ true → may_raise (time_of r.delay (local_in r k)) g (local_in r k) ≡ false → cast_at r k g cast payload i ≡ (r, Some HeldFull)
+pub cast_unraised : (r : Records) (k : ℕ) (g : GroupNo) (cast : CastKind) (payload : List ℕ) (i : ℕ) → nat_lt MAX_PAYLOAD (length payload) ≡ false → is_member (standing_of r.delay (local_in r k) g) ≡ true → awaits_own_in r (local_in r k) ≡ false → may_receive records r ≡ true → may_raise (time_of r.delay (local_in r k)) g (local_in r k) ≡ false → cast_at records r k g cast payload i ≡ (r, Some HeldFull)
 cast_unraised r k g cast payload i short member own room may =
-    let raised : Attempt = if not (may_raise (time_of r.delay (local_in r k)) g (local_in r k)) then (r, Some HeldFull) else (sent r k g cast payload i, None) in
+    let raised : Attempt Records = if not (may_raise (time_of r.delay (local_in r k)) g (local_in r k)) then (r, Some HeldFull) else (sent r k g cast payload i, None) in
     cast_past r k g cast payload i short member own
     ∙ ap (λ b. if not b then (r, Some HeldFull) else raised) room
     ∙ ap (λ b. if not b then (r, Some HeldFull) else (sent r k g cast payload i, None)) may

@@ -6,8 +6,8 @@ use Rattle.std.proofs.lemmas.Bool.{not-true, and_parts, eqb-true, eq-eqb, ltb-tr
 use Rattle.std.proofs.lemmas.List.{length-map}
 use Rattle.cast_types.specs.declared.names.SiteNo.{SiteNo}
 use Rattle.cast_types.specs.declared.names.GroupNo.{GroupNo}
-use Rattle.cast_types.specs.declared.names.Proc.{Proc}
 use Rattle.cast_types.specs.declared.names.Uid.{Uid}
+use Rattle.cast_types.specs.declared.names.Standing.TheVariants.{Joining}
 use Rattle.cast_types.specs.Names.{site_eq, proc_eq, uid_eq, is_order}
 use Rattle.cast_types.specs.Sets.{is_among}
 use Rattle.cast_types.proofs.Bools.{same_bools}
@@ -15,38 +15,41 @@ use Rattle.cast_types.proofs.Orders.{same_site, same_uid, uid_itself}
 use Rattle.cast_clock.specs.Times.{clock_of, count_in}
 use Rattle.cast_message.specs.declared.message.Message.{Message}
 use Rattle.cast_message.specs.declared.message.Received.{Received}
-use Rattle.cast_message.specs.declared.site.Change.{Change}
 use Rattle.cast_message.specs.declared.site.SiteFrame.{SiteFrame}
+use Rattle.cast_message.specs.declared.client.Command.{Command}
 use Rattle.cast_message.specs.declared.client.Push.TheVariants as push
 use Rattle.cast_message.specs.Bodies.{kind_of}
 use Rattle.cast_message.specs.Membership.{Membership}
 use Rattle.cast_stable.specs.Ledger.{is_received_in}
 use Rattle.cast_stable.proofs.Meanings.{stable_meant}
 use Rattle.cast_delay.specs.Fits.{IsSound}
+use Rattle.cast_delay.specs.declared.row.Fact.TheVariants as fact
 use Rattle.cast_model.specs.Group.{with_request, with_answer, with_view}
 use Rattle.cast_model.specs.Home.{after_request, after_installed, decided}
-use Rattle.cast_history.specs.State.{State, local, serials, set_group, is_received, receiving, others_of}
+use Rattle.cast_history.specs.State.{State, local, serials, was_given, set_process, set_group, set_standing, is_received, receiving, others_of}
+use Rattle.cast_history.specs.Effects.{next_message}
 use Rattle.cast_history.specs.Entering.{enters, all_in_view, push_view, completing}
 use Rattle.cast_history.specs.History.{history}
 use Rattle.cast_history.specs.Lawful.{IsLawful, IsTypedFrame}
 use Rattle.cast_history.specs.Rules.Data.{counts_itself}
-use Rattle.cast_history.specs.Rules.Requests.{request}
+use Rattle.cast_history.specs.Rules.Commands.{message_sent, commanded}
 use Rattle.cast_history.specs.Rules.Views.{lead}
 use Rattle.cast_history.specs.Rules.Frames.{framed}
-use Rattle.cast_history.proofs.Rules.Follows.{FollowsAll, AllAt, IsTaken, with_invariant}
+use Rattle.cast_history.proofs.Rules.Follows.{FollowsAll, AllAt, IsTaken, sent_here, with_invariant}
 use Rattle.cast_history.proofs.Rules.Data.{used_of_another, used_from_its_site, used_counts}
-use Rattle.cast_history.proofs.Rules.Requests.{request_follows}
+use Rattle.cast_history.proofs.Rules.Commands.{commanded_follows}
 use Rattle.cast_history.proofs.Rules.Views.{lead_follows}
 use Rattle.cast_history.proofs.Rules.Frames.{framed_follows}
 use Rattle.cast_history.proofs.Lawful.{same_fold, same_pushing}
-use Rattle.cast_history.proofs.LawfulSteps.{taken_current, entered, all_lawful}
+use Rattle.cast_history.proofs.LawfulSteps.{placed_at, taken_current, entered, all_lawful}
 use Rattle.cast_domain.specs.declared.record.GroupRecord.{GroupRecord}
 use Rattle.cast_domain.specs.Records.{Records}
-use Rattle.cast_domain.specs.Calls.{receive_in, records}
+use Rattle.cast_domain.specs.Calls.{standing_of, time_of, tell_in, receive_in, awaits_own_in, records}
 use Rattle.cast_domain.specs.Fits.{record_for, Fits}
-use Rattle.cast_domain.proofs.Standing.{and_none, record_there, fits_here, fits_home, fits_receive}
+use Rattle.cast_domain.proofs.Standing.{and_none, record_there, standing_there, time_there, fits_push, fits_standing, fits_here, fits_home, fits_receive}
 use Rattle.cast_domain.proofs.Following.{FitsIn, IsAt, records_follow}
 use Rattle.cast_domain.proofs.Entering.{fits_complete}
+use Rattle.cast_domain.proofs.Commands.{awaits_own_there, fits_sent_here}
 
 -- Messages of other sites
 
@@ -122,6 +125,29 @@ module _ (groups : List GroupNo) where
     held = λ r s f. sym (length-map r.part.kept (λ (x : Received). x.message)) ∙ ap length f.0.0.kept;
     is_received = λ r s f u counted. received_there r s f.0.0 u (ltb-true 0 u.count counted);
     is_stable = λ r s f u counted. stable_meant s.here (others_of s) (map (λ m. m.id) s.got) s.acks s.told r.acks f.0.0.acks u (ltb-true 0 u.count counted);
+    is_open = λ r s f k. ap (λ n. was_given n k) f.0.0.used ∙ sym (f.0.0.all_open k);
+    standing = λ r s f k g. ap (λ t. standing_of r.delay (record { site = t; serial = k }) g) f.0.0.site ∙ standing_there r s f.0.0 k g;
+    time = λ r s f k. ap (λ t. time_of r.delay (record { site = t; serial = k })) f.0.0.site ∙ time_there r s f.0.0 k;
+    awaits_own = λ r s f k given. ap (λ t. awaits_own_in r (record { site = t; serial = k })) f.0.0.site ∙ awaits_own_there r s f.0.0 f.1 k (sym (f.0.0.all_open k) ∙ given);
+    push = λ r s f k p. ((fits_push r s f.0.0 k p, ap (λ c. c.groups) (same_pushing s k p).config ∙ f.0.1), all_lawful.push s f.1 k p);
+    note_joining = λ r s f k given g h at number heard. (
+      (
+        subst (λ t. Fits (tell_in r (record { site = t; serial = k }) (fact.Standing g (Joining number heard))) (set_standing s k g (Joining number heard))) (sym f.0.0.site)
+            (fits_standing r s f.0.0 k (sym (f.0.0.all_open k) ∙ given) g (Joining number heard) (λ _. (placed_at s g h at).0)),
+        f.0.1,
+      ),
+      all_lawful.note_joining s f.1 k given g h at number heard,
+    );
+    sends = λ r s f i h at k g content sent. let placed = placed_at s g h sent.at in
+        let same : message_sent history s k g h content ≡ next_message s g k content = ap (λ x. message_sent history s k g x content) (sym placed.1) in
+        let times = (next_message s g k content).times in (
+          (
+            subst (λ m. Fits (sent_here records r i k g content) (receiving (set_process s k (record (s.process k) { time = times })) m)) (sym same)
+                (fits_sent_here r s f.0.0 f.1 k (sym (f.0.0.all_open k) ∙ sent.given) i g (there r s f i g (at ∙ ap Some (sym placed.1))) content sent.plain sent.member),
+            f.0.1,
+          ),
+          all_lawful.sends s f.1 h k g content sent,
+        );
     receive = λ r s f g from m taken. ((fits_taken r s f.0.0 g from m taken, f.0.1), all_lawful.receive s f.1 g from m taken);
     note_request = λ r s f i g at what p.
         ((fits_here r s f.0.0 f.1 i g (there r s f i g at) (λ x. with_request x what p) refl refl, f.0.1), all_lawful.note_request s f.1 g what p);
@@ -147,9 +173,9 @@ module _ (r : Records) (s : State) (f : Fits r s) (l : IsLawful s) where
   abbrev groups : List GroupNo
   groups = s.config.groups
 
-  pub fits_request : (i : ℕ) (g : GroupNo) → IsAt groups i g → (what : Change) (p : Proc) → Fits (request records r i what p) (request history s g what p)
-  fits_request i g at what p =
-      (request_follows records history (StandsIn groups) (IsAt groups) (records_follow_all groups) r s ((f, refl), l) i g at what p).0.0
+  pub fits_commanded : (k : ℕ) (c : Command) → Fits (commanded records r k c) (commanded history s k c)
+  fits_commanded k c =
+      (commanded_follows records history (StandsIn groups) (IsAt groups) (records_follow_all groups) r s ((f, refl), l) k c).0.0
 
   pub fits_framed : (from : SiteNo) (x : SiteFrame) → IsTypedFrame x → Fits (framed records r from x) (framed history s from x)
   fits_framed from x typed =

@@ -10,9 +10,9 @@ pub mod Ordering
 pub mod Owings
 pub mod Following
 pub mod Entering
-pub mod Framing
 pub mod Releases
 pub mod Commands
+pub mod Framing
 pub mod Turns
 pub mod SetOrders
 pub mod Standstill

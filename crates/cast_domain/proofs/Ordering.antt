@@ -32,7 +32,6 @@ use Rattle.cast_domain.specs.declared.record.GroupRecord.{GroupRecord}
 use Rattle.cast_model.specs.Group.{holder_of, is_process}
 use Rattle.cast_model.specs.Home.{is_empty}
 use Rattle.cast_history.specs.State.{State, local, is_group, others_of}
-use Rattle.cast_history.specs.Rules.Room.{may_order}
 use Rattle.cast_history.specs.Order.{facts_in, order_of, holds, lists_of, abcasts_delivered, unlisted, unsettled, has_place, has_room_for_order, turn_of}
 use Rattle.cast_domain.specs.Records.{Records}
 use Rattle.cast_domain.specs.Calls.{place_in, record_at, records, holds_in, settled_in, turn_at, turns_in}

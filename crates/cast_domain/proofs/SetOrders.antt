@@ -27,14 +27,13 @@ use Rattle.cast_order.specs.Order.{ids_to_list, place_after}
 use Rattle.cast_order.specs.Log.{Log, log_of, change_log, assigned, next_places}
 use Rattle.cast_history.specs.Rules.Room.{may_order}
 use Rattle.cast_history.specs.History.{history}
-use Rattle.cast_history.specs.Rules.Sending.{send_message}
+use Rattle.cast_history.specs.Rules.Sending.{send_message, may_raise}
 use Rattle.cast_domain.specs.declared.record.GroupRecord.{GroupRecord}
 use Rattle.cast_model.specs.Group.{holder_of, is_process, holder_at}
 use Rattle.cast_model.specs.Home.{is_empty}
 use Rattle.cast_history.specs.State.{State, local, set_process, let_go, was_given}
-use Rattle.cast_history.specs.Rules.Room.{may_order}
 use Rattle.cast_history.specs.Order.{order_of, holds, unlisted, has_place, is_of_view}
-use Rattle.cast_history.specs.Effects.{may_raise, next_message, sending}
+use Rattle.cast_history.specs.Effects.{next_message, sending}
 use Rattle.cast_history.specs.Rest.{may_set_order, set_order_by, set_order, set_orders}
 use Rattle.cast_domain.specs.Records.{Records}
 use Rattle.cast_domain.specs.Calls.{standing_of, time_of, records, log_in, learn_in, settled_in, tell_in, let_go_in, set_order_by_in, set_order_in, set_orders_in}

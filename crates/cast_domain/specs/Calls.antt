@@ -1,5 +1,5 @@
 -- What the calls of a domain do to its records, exactly.
-use Rattle.std.specs.Prelude.{ℕ, ◌+◌, ◌-◌, min, max, Bool, false, not, ◌&&◌, ◌==◌, nat_lt, if◌then◌else◌, List, [], ◌∷◌, ◌++◌, length, map, filter, get_or, slice_get, Option, Some, None}
+use Rattle.std.specs.Prelude.{ℕ, ◌+◌, ◌-◌, min, max, Bool, false, not, ◌&&◌, ◌==◌, if◌then◌else◌, List, [], ◌∷◌, ◌++◌, length, map, filter, get_or, slice_get, Option, Some, None}
 use Rattle.std.specs.List.{fold, find, list_any, range_with_len}
 use Rattle.std.specs.Option.{option_map, option_map_or}
 use Rattle.std.specs.FinMap.Entries.{put}
@@ -10,29 +10,23 @@ use Rattle.cast_types.specs.declared.names.Uid.{Uid}
 use Rattle.cast_types.specs.declared.names.Key.{Key}
 use Rattle.cast_types.specs.declared.names.Standing.{Standing}
 use Rattle.cast_types.specs.declared.names.Standing.TheVariants.{Outside, Joining, Member}
-use Rattle.cast_types.specs.declared.refusal.Refusal.{Refusal}
-use Rattle.cast_types.specs.declared.refusal.Refusal.TheVariants.{NoGroup, NotMember, AlreadyMember, OwnAbcast, HeldFull, TooLong}
-use Rattle.cast_types.specs.declared.limits.TheConstants.{MAX_NUMBER, MAX_PAYLOAD, MAX_MOMENT}
+use Rattle.cast_types.specs.declared.limits.TheConstants.{MAX_NUMBER, MAX_MOMENT}
 use Rattle.cast_types.specs.Names.{site_eq, group_eq, group_cmp, proc_eq, uid_eq, is_atomic, named, entry_of}
 use Rattle.cast_types.specs.Places.{update}
 use Rattle.cast_types.specs.Repeat.{iterate}
 use Rattle.cast_types.specs.Stamps.{ClockList}
-use Rattle.cast_clock.specs.Times.{no_time, view_of, count_in, bumped, entering}
+use Rattle.cast_clock.specs.Times.{no_time, count_in, bumped, entering}
 use Rattle.cast_message.specs.declared.message.Body.{Body}
 use Rattle.cast_message.specs.declared.message.Body.TheVariants as body
 use Rattle.cast_message.specs.declared.message.Message.{Message}
 use Rattle.cast_message.specs.declared.site.Change.{Change}
-use Rattle.cast_message.specs.declared.site.Change.TheVariants as change
 use Rattle.cast_message.specs.declared.site.SiteFrame.{SiteFrame}
-use Rattle.cast_message.specs.declared.client.CastKind.{CastKind}
-use Rattle.cast_message.specs.declared.client.Request.{Request}
-use Rattle.cast_message.specs.declared.client.Request.TheVariants.{Join, Leave, Cast}
 use Rattle.cast_message.specs.declared.client.Push.{Push}
 use Rattle.cast_message.specs.declared.client.Push.TheVariants as push
 use Rattle.cast_message.specs.Bodies.{kind_of}
 use Rattle.cast_message.specs.Membership.{Membership}
 use Rattle.cast_message.specs.Sequence.{Sequence}
-use Rattle.cast_delay.specs.Ready.{is_member, is_outside}
+use Rattle.cast_delay.specs.Ready.{is_member}
 use Rattle.cast_delay.specs.declared.turn.Turn.{Turn}
 use Rattle.cast_delay.specs.declared.turn.Turn.TheVariants.{Holding, Following}
 use Rattle.cast_delay.specs.Rows.{standing_in, told_row}
@@ -45,8 +39,6 @@ use Rattle.cast_timer.specs.declared.key.OwedKey.{OwedKey}
 use Rattle.cast_timer.specs.Owed.{is_owed, due_at}
 use Rattle.cast_message.specs.Receipts.{key_eq, message_under}
 use Rattle.cast_domain.specs.declared.record.GroupRecord.{GroupRecord}
-use Rattle.cast_message.specs.declared.client.Command.{Command}
-use Rattle.cast_message.specs.declared.client.Command.TheVariants as command
 use Rattle.cast_model.specs.declared.event.Event.{Event}
 use Rattle.cast_model.specs.declared.event.Event.TheVariants as event
 use Rattle.cast_model.specs.Session.{first_session, told as told_session}
@@ -54,15 +46,14 @@ use Rattle.cast_model.specs.Group.{no_group, members_of, holder_of, is_process, 
 use Rattle.cast_model.specs.Home.{first_home, is_empty, after_request, after_installed, decided}
 use Rattle.cast_domain.specs.Shared.{part_with, part_without, part_owing, part_renewing, part_paying, part_paying_upto}
 use Rattle.cast_history.specs.Rules.Interface.{Site}
-use Rattle.cast_history.specs.Rules.Room.{may_receive, may_order}
+use Rattle.cast_history.specs.Rules.Room.{may_order}
 use Rattle.cast_history.specs.Rules.Owing.{tick}
-use Rattle.cast_history.specs.Rules.Sending.{send_message}
-use Rattle.cast_history.specs.Rules.Requests.{request}
+use Rattle.cast_history.specs.Rules.Sending.{send_message, may_raise}
+use Rattle.cast_history.specs.Rules.Commands.{commanded}
 use Rattle.cast_history.specs.Rules.Views.{lead}
 use Rattle.cast_history.specs.Rules.Frames.{framed}
-use Rattle.cast_history.specs.Effects.{told_of, may_raise}
+use Rattle.cast_history.specs.Effects.{told_of}
 use Rattle.cast_history.specs.State.{was_given}
-use Rattle.cast_history.specs.Step.{body_of}
 use Rattle.cast_domain.specs.Records.{Records}
 
 -- Names
@@ -168,6 +159,26 @@ note_installed_in r i from n = record r { groups = update r.groups i (λ x. reco
 abbrev pub note_decided_in : Records → ℕ → Records
 note_decided_in r i = record r { groups = update r.groups i (λ x. record x { home = decided x.home }) }
 
+-- Processes
+
+abbrev pub note_joining_in : Records → ℕ → GroupNo → ℕ → ℕ → Records
+note_joining_in r k g number heard = tell_in r (local_in r k) (fact.Standing g (Joining number heard))
+
+abbrev pub note_time_in : Records → ℕ → ClockList → Records
+note_time_in r k t = tell_in r (local_in r k) (fact.Time t)
+
+abbrev pub is_current_in : Records → Uid → Bool
+is_current_in r u = option_map_or (λ i. is_current (record_at r.groups i).here u.view) (place_in r u.group) false
+
+-- an ABCAST of its own, of the view of a group of which it is a member, that a process has not delivered
+abbrev pub is_own_in : Records → Proc → Message → Bool
+is_own_in r p m =
+    is_atomic (kind_of m.body)
+    && (proc_eq m.id.proc p && (is_current_in r m.id && (is_member (standing_of r.delay p m.id.group) && not (delivered_in r.delay p m.id))))
+
+abbrev pub awaits_own_in : Records → Proc → Bool
+awaits_own_in r p = list_any (λ x. is_own_in r p x.message) r.part.kept
+
 -- Views
 
 -- a process enters a view, and is told
@@ -215,6 +226,10 @@ records = record {
   is_stable = λ r u. is_stable_in r.acks u;
   stable_upto = λ r u. upto_in r.acks u;
   message = message_in;
+  is_open = λ r k. was_given r.used k;
+  standing = λ r k g. standing_of r.delay (local_in r k) g;
+  time = λ r k. time_of r.delay (local_in r k);
+  awaits_own = λ r k. awaits_own_in r (local_in r k);
   is_owed = λ r key. is_owed r.part.owed key;
   due = λ r. due_at r.moment r.part.owed;
   send = send_in;
@@ -225,6 +240,9 @@ records = record {
   note_moment = note_moment_in;
   note_ack = note_ack_in;
   note_stable = note_stable_in;
+  push = push_in;
+  note_joining = note_joining_in;
+  note_time = note_time_in;
   receive = receive_in;
   note_request = note_request_in;
   note_answer = note_answer_in;
@@ -235,9 +253,6 @@ records = record {
 }
 
 -- Messages that are let go
-
-abbrev pub is_current_in : Records → Uid → Bool
-is_current_in r u = option_map_or (λ i. is_current (record_at r.groups i).here u.view) (place_in r u.group) false
 
 abbrev pub is_free_in : Records → Uid → Bool
 is_free_in r u = is_current_in r u && (is_stable_in r.acks u && not (is_awaited r.delay.rows u))
@@ -264,71 +279,11 @@ open_in r =
       delay = record r.delay { rows = r.delay.rows ++ new_row p ∷ [] };
     }
 
--- Requests
-
--- a call that may be refused leaves records and a refusal
-abbrev pub Attempt : Type 0
-Attempt = Records × Option Refusal
-
-abbrev pub join_at : Records → ℕ → GroupNo → ℕ → Attempt
-join_at r k g i =
-    let p : Proc = local_in r k in
-    let asked : ℕ = (record_at r.groups i).here.asked in
-    if not (is_outside (standing_of r.delay p g)) then (r, Some AlreadyMember)
-    else if asked == MAX_NUMBER then (r, Some HeldFull)
-    else (request records (tell_in r p (fact.Standing g (Joining (asked + 1) (view_of (time_of r.delay p) g)))) i change.Join p, None)
-
-abbrev pub join_in : Records → ℕ → GroupNo → Attempt
-join_in r k g = option_map_or (join_at r k g) (place_in r g) (r, Some NoGroup)
-
-abbrev pub next_message_in : Records → Proc → GroupNo → ℕ → Body → Message
-next_message_in r p g i content =
-    let times : ClockList = bumped (time_of r.delay p) g p in
-    record {
-      id = record { group = g; view = (record_at r.groups i).here.number; proc = p; count = count_in times g p };
-      times = times;
-      body = content;
-    }
-
--- an ABCAST of its own, of the view of a group of which it is a member, that a process has not delivered
-abbrev pub is_own_in : Records → Proc → Message → Bool
-is_own_in r p m =
-    is_atomic (kind_of m.body)
-    && (proc_eq m.id.proc p && (is_current_in r m.id && (is_member (standing_of r.delay p m.id.group) && not (delivered_in r.delay p m.id))))
-
-abbrev pub awaits_own_in : Records → Proc → Bool
-awaits_own_in r p = list_any (λ x. is_own_in r p x.message) r.part.kept
-
-abbrev pub cast_at : Records → ℕ → GroupNo → CastKind → List ℕ → ℕ → Attempt
-cast_at r k g cast payload i =
-    let p : Proc = local_in r k in
-    if nat_lt MAX_PAYLOAD (length payload) then (r, Some TooLong)
-    else if not (is_member (standing_of r.delay p g)) then (r, Some NotMember)
-    else if awaits_own_in r p then (r, Some OwnAbcast)
-    else if not (may_receive records r) then (r, Some HeldFull)
-    else if not (may_raise (time_of r.delay p) g p) then (r, Some HeldFull)
-    else (send_message records (tell_in r p (fact.Time (bumped (time_of r.delay p) g p))) (next_message_in r p g i (body_of cast payload)), None)
-
-abbrev pub cast_in : Records → ℕ → GroupNo → CastKind → List ℕ → Attempt
-cast_in r k g cast payload = option_map_or (cast_at r k g cast payload) (place_in r g) (r, Some NoGroup)
-
-abbrev pub reply_in : Attempt → ℕ → ℕ → Records
-reply_in a k tag = push_in a.0 k (push.Reply tag a.1)
-
-abbrev pub requested_in : Records → ℕ → Request → Records
-requested_in r k (Join tag g) = reply_in (join_in r k g) k tag
-requested_in r k (Leave tag g) = r
-requested_in r k (Cast tag g cast payload) = reply_in (cast_in r k g cast payload) k tag
-
-abbrev pub command_in : Records → ℕ → Command → Records
-command_in r k (command.Request q) = if was_given r.used k then requested_in r k q else r
-command_in r k command.Bad = r
-
 -- Events
 
 abbrev pub act_in : Records → Event → Records
 act_in r (event.Open d) = if r.used == MAX_NUMBER then r else open_in r
-act_in r (event.Command d k c) = command_in r k c
+act_in r (event.Command d k c) = commanded records r k c
 act_in r (event.Frame d from f) = framed records r from f
 act_in r (event.Tick t) = tick records r t
 
@@ -363,6 +318,16 @@ note_delivery_in r p u =
       orders =
           if holds_in r u.group p then change_log u.group (told (entry_of u)) r.orders
           else change_log u.group (passed p (passed_in r.delay p u.group u.view (next_in (log_in r u.group) p))) r.orders;
+    }
+
+-- the holder's next message of the group at a place
+abbrev pub next_message_in : Records → Proc → GroupNo → ℕ → Body → Message
+next_message_in r p g i content =
+    let times : ClockList = bumped (time_of r.delay p) g p in
+    record {
+      id = record { group = g; view = (record_at r.groups i).here.number; proc = p; count = count_in times g p };
+      times = times;
+      body = content;
     }
 
 -- the holder of the group at a place lists ABCASTs in a set-order message

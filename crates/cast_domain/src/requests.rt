@@ -1,6 +1,6 @@
 ghost use Rattle.std.specs.Prelude.{◌≡◌, ◌<◌, ◌≤◌, ◌+◌, ◌==◌, if◌then◌else◌, IfOk, OnOk, Some, None, length, vec_len};
 ghost use Rattle.std.specs.List.{fold};
-ghost use Rattle.cast_history.specs.Step.{body_of};
+ghost use Rattle.cast_history.specs.Rules.Commands.{body_of, cast, cast_at, commanded, join, join_at, requested};
 ghost use Rattle.cast_domain.specs.Calls.{record_at};
 ghost use Rattle.cast_history.specs.Rules.Sending.{send_data, send_message};
 ghost use Rattle.cast_history.specs.Rules.Requests.{ask_home, request};
@@ -26,8 +26,8 @@ impl Domain {
     ghost use Rattle.cast_history.specs.State.{was_given};
     ghost use Rattle.cast_domain.specs.Records.{Keeps, records_in, records_of};
     ghost use Rattle.cast_domain.specs.Shared.{LeavesOthers, Part};
-    ghost use Rattle.cast_history.specs.Effects.{may_raise};
-    ghost use Rattle.cast_domain.specs.Calls.{records, cast_at, cast_in, command_in, join_at, join_in, open_in, receive_in, requested_in, time_of};
+    ghost use Rattle.cast_history.specs.Rules.Sending.{may_raise};
+    ghost use Rattle.cast_domain.specs.Calls.{records, open_in, receive_in, time_of};
 
     // A program connects.
     pub(crate) fn open(&mut self) -> Result<Taken, NoMemory>
@@ -59,7 +59,7 @@ impl Domain {
         ensures answer { IfOk result (λ t. t ≡ (if was_given self.old.used serial then Taken.Nothing else Taken.Refused Refusal.NotOpen)) }
         ensures same { Keeps self.old self.new }
         ensures others { LeavesOthers self.old.config.domain shared.old shared.new }
-        ensures made { OnOk result (records_in self.new shared.new outs.new ≡ command_in (records_in self.old shared.old outs.old) serial command.now) }
+        ensures made { OnOk result (records_in self.new shared.new outs.new ≡ commanded records (records_in self.old shared.old outs.old) serial command.now) }
     {
         if serial == 0 || serial > self.used {
             return Ok(Taken::Refused(Refusal::NotOpen));
@@ -81,7 +81,7 @@ impl Domain {
     ) -> Result<(), NoMemory>
         ensures same { Keeps self.old self.new }
         ensures others { LeavesOthers self.old.config.domain shared.old shared.new }
-        ensures made { OnOk result (records_in self.new shared.new outs.new ≡ requested_in (records_in self.old shared.old outs.old) serial request.now) }
+        ensures made { OnOk result (records_in self.new shared.new outs.new ≡ requested records (records_in self.old shared.old outs.old) serial request.now) }
     {
         match request {
             Request::Join { tag, group } => {
@@ -111,7 +111,7 @@ impl Domain {
     ) -> Result<Option<Refusal>, NoMemory>
         ensures same { Keeps self.old self.new }
         ensures others { LeavesOthers self.old.config.domain shared.old shared.new }
-        ensures made { IfOk result (λ refusal. (records_in self.new shared.new outs.new, refusal) ≡ join_in (records_in self.old shared.old outs.old) serial group) }
+        ensures made { IfOk result (λ refusal. (records_in self.new shared.new outs.new, refusal) ≡ join records (records_in self.old shared.old outs.old) serial group) }
     {
         match self.place_of(group) {
             Some(place) => self.join_at(place, serial, group, shared, outs),
@@ -131,7 +131,7 @@ impl Domain {
         requires { place < vec_len self.old.groups }
         ensures same { Keeps self.old self.new }
         ensures others { LeavesOthers self.old.config.domain shared.old shared.new }
-        ensures made { IfOk result (λ refusal. (records_in self.new shared.new outs.new, refusal) ≡ join_at (records_in self.old shared.old outs.old) serial group place) }
+        ensures made { IfOk result (λ refusal. (records_in self.new shared.new outs.new, refusal) ≡ join_at records (records_in self.old shared.old outs.old) serial group place) }
     {
         let process = self.process(serial);
         match self.delay.standing(process, group) {
@@ -216,7 +216,7 @@ impl Domain {
     ) -> Result<Option<Refusal>, NoMemory>
         ensures same { Keeps self.old self.new }
         ensures others { LeavesOthers self.old.config.domain shared.old shared.new }
-        ensures made { IfOk result (λ refusal. (records_in self.new shared.new outs.new, refusal) ≡ cast_in (records_in self.old shared.old outs.old) serial group kind payload.now) }
+        ensures made { IfOk result (λ refusal. (records_in self.new shared.new outs.new, refusal) ≡ cast records (records_in self.old shared.old outs.old) serial group kind payload.now) }
     {
         match self.place_of(group) {
             Some(place) => self.cast_at(place, serial, group, kind, payload, shared, outs),
@@ -238,7 +238,7 @@ impl Domain {
         requires { place < vec_len self.old.groups }
         ensures same { Keeps self.old self.new }
         ensures others { LeavesOthers self.old.config.domain shared.old shared.new }
-        ensures made { IfOk result (λ refusal. (records_in self.new shared.new outs.new, refusal) ≡ cast_at (records_in self.old shared.old outs.old) serial group kind payload.now place) }
+        ensures made { IfOk result (λ refusal. (records_in self.new shared.new outs.new, refusal) ≡ cast_at records (records_in self.old shared.old outs.old) serial group kind payload.now place) }
     {
         let process = self.process(serial);
         if payload.len() > MAX_PAYLOAD {

@@ -7,8 +7,9 @@ use Rattle.cast_message.specs.declared.client.Request.TheVariants.{Leave}
 use Rattle.cast_message.specs.declared.client.Command.TheVariants as command
 use Rattle.cast_model.specs.declared.event.Event.{Event}
 use Rattle.cast_model.specs.declared.event.Taken.TheVariants as taken
+use Rattle.cast_history.specs.History.{history}
 use Rattle.cast_history.specs.State.{State}
-use Rattle.cast_history.specs.Step.{commanded}
+use Rattle.cast_history.specs.Rules.Commands.{requested, commanded}
 use Rattle.cast_history.specs.Run.{Ran}
 use Rattle.cast_history.proofs.Words.{group, uid, alone, asks_leave, sends_bad, comes, in_second_view, then_run, pushed_after, p21}
 
@@ -31,10 +32,10 @@ unfolding unused frames
 unused_sent = refl
 
 -- the commands whose rules are not there yet, and bytes that are no frame: they leave each state as it is
-leave_changes_nothing : (s : State) (k tag : ℕ) (g : GroupNo) → commanded s k (command.Request (Leave tag g)) ≡ s
+leave_changes_nothing : (s : State) (k tag : ℕ) (g : GroupNo) → requested history s k (Leave tag g) ≡ s
 leave_changes_nothing s k tag g = refl
 
-bad_changes_nothing : (s : State) (k : ℕ) → commanded s k command.Bad ≡ s
+bad_changes_nothing : (s : State) (k : ℕ) → commanded history s k command.Bad ≡ s
 bad_changes_nothing s k = refl
 
 -- and are not replied to

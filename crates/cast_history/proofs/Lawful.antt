@@ -445,12 +445,17 @@ pub same_send_data : (u : Uid) (s : State) (to : SiteNo) → SameLaw s (send_dat
 same_send_data u s to = send_data_keeps history (SameLaw s) (moves_same s) u s (same_self s) to
 
 -- a process sends a message whose time has the views of its own
+pub lawful_sent_here : (s : State) (k : ℕ) (m : Message) → IsLawful s → ((g : GroupNo) → view_of m.times g ≡ view_of (s.process k).time g) → is_sorted group_cmp m.times ≡ true → m.id.view ≤ (s.group m.id.group).number → IsLawful (receiving (set_process s k (record (s.process k) { time = m.times })) m)
+lawful_sent_here s k m l views sorted reached =
+    lawful_receiving (set_process s k (record (s.process k) { time = m.times })) m
+    (lawful_process s k (record (s.process k) { time = m.times }) l
+    (λ g. record { known = l.known k g; current = λ h. views g ∙ l.current k g h; viewed = l.viewed k g }) (λ g is. is) (λ u is. is))
+    sorted reached
+
 pub lawful_sending_message : (s : State) (k : ℕ) (m : Message) → IsLawful s → ((g : GroupNo) → view_of m.times g ≡ view_of (s.process k).time g) → is_sorted group_cmp m.times ≡ true → m.id.view ≤ (s.group m.id.group).number → IsLawful (sending_message s k m)
 lawful_sending_message s k m l views sorted reached =
-    let now : State = set_process s k (record (s.process k) { time = m.times }) in
-    let same : IsLawful now = lawful_process s k (record (s.process k) { time = m.times }) l
-    (λ g. record { known = l.known k g; current = λ h. views g ∙ l.current k g h; viewed = l.viewed k g }) (λ g is. is) (λ u is. is) in
-    lawful_fold (send_data history m.id) (λ t to. lawful_same t (send_data history m.id t to) (same_send_data m.id t to)) (others_of s m.id.group) (receiving now m) (lawful_receiving now m same sorted reached)
+    let now : State = receiving (set_process s k (record (s.process k) { time = m.times })) m in
+    lawful_fold (send_data history m.id) (λ t to. lawful_same t (send_data history m.id t to) (same_send_data m.id t to)) (others_of s m.id.group) now (lawful_sent_here s k m l views sorted reached)
 
 pub lawful_sending : (s : State) (g : GroupNo) (k : ℕ) (content : Body) → IsLawful s → is_sorted group_cmp (bumped (s.process k).time g (local s k)) ≡ true → IsLawful (sending s g k content)
 lawful_sending s g k content l sorted = lawful_sending_message s k (next_message s g k content) l (λ h. bump_leaves_views (s.process k).time g h (local s k)) sorted (omega arith)

@@ -1,52 +1,45 @@
 -- What holds of each history that events lead to is kept by each event, and until the state rests.
-use Rattle.std.proofs.Common.{◌≡◌, ℕ, ◌+◌, ◌<◌, zero, suc, Bool, true, false, not, List, [], ◌∷◌, length, Some, None, refl, sym, ap, subst, ◌∙◌, inl, inr, arith}
+use Rattle.std.proofs.Common.{◌≡◌, ℕ, ◌+◌, ◌<◌, zero, suc, Bool, true, false, not, length, Some, None, refl, sym, ap, subst, ◌∙◌, inl, inr, arith}
 use Rattle.std.specs.Prelude.{◌&&◌, ◌==◌, nat_lt, nat_le, if◌then◌else◌}
 use Rattle.std.specs.List.{fold, find}
 use Rattle.std.specs.FinMap.Entries.{is_sorted}
-use Rattle.std.proofs.lemmas.Bool.{cases_eq, eqb-true, false≢true, and_parts, and_from, not-false, leb-true, le-leb}
+use Rattle.std.proofs.lemmas.Bool.{cases_eq, eqb-true, false≢true, and_parts, and_from, leb-true, le-leb}
 use Rattle.std.proofs.lemmas.Bool.Decides.{nat_tests}
 use Rattle.std.proofs.lemmas.Option.{none-some, same_Some}
 use Rattle.cast_types.specs.declared.names.SiteNo.{SiteNo}
 use Rattle.cast_types.specs.declared.names.GroupNo.{GroupNo}
 use Rattle.cast_types.specs.declared.names.Proc.{Proc}
-use Rattle.cast_types.specs.declared.names.Standing.TheVariants.{Joining}
-use Rattle.cast_types.specs.declared.refusal.Refusal.{Refusal}
-use Rattle.cast_types.specs.declared.refusal.Refusal.TheVariants.{NotOpen, TooManySessions}
+use Rattle.cast_types.specs.declared.refusal.Refusal.TheVariants.{TooManySessions}
 use Rattle.cast_types.specs.declared.limits.TheConstants.{MAX_NUMBER}
 use Rattle.cast_types.specs.Names.{group_cmp}
 use Rattle.cast_types.specs.Repeat.{iterate}
 use Rattle.cast_types.specs.Stamps.{ClockList, is_stamp}
-use Rattle.cast_clock.specs.Times.{view_of, count_in, bumped, has_room}
+use Rattle.cast_clock.specs.Times.{count_in, bumped, has_room}
 use Rattle.cast_message.specs.declared.message.Body.{Body}
 use Rattle.cast_message.specs.declared.message.Body.TheVariants as body
 use Rattle.cast_message.specs.declared.message.Message.{Message}
-use Rattle.cast_message.specs.declared.site.Change.TheVariants as change
-use Rattle.cast_message.specs.declared.client.CastKind.{CastKind}
-use Rattle.cast_message.specs.declared.client.Request.{Request}
-use Rattle.cast_message.specs.declared.client.Request.TheVariants.{Join, Leave, Cast}
-use Rattle.cast_message.specs.declared.client.Push.TheVariants as push
 use Rattle.cast_message.specs.Membership.{Membership}
 use Rattle.cast_delay.specs.Ready.{is_member}
 use Rattle.cast_order.specs.Order.{ids_to_list, place_after}
 use Rattle.cast_delay.proofs.Finds.{found_in}
-use Rattle.cast_model.specs.Session.{is_open}
 use Rattle.cast_model.specs.declared.group.Group.{Group}
 use Rattle.cast_model.specs.declared.group.Verdict.TheVariants.{Again, Completes, Ignored}
 use Rattle.cast_model.specs.Group.{with_request, holder_at, has_view, with_answer, verdict_of, sites_of}
 use Rattle.cast_model.specs.declared.home.Home.{Home}
 use Rattle.cast_model.specs.Home.{is_empty, after_request, after_installed, may_decide, decided}
-use Rattle.cast_message.specs.declared.client.Command.{Command}
-use Rattle.cast_message.specs.declared.client.Command.TheVariants as command
 use Rattle.cast_model.specs.declared.event.Event.{Event}
 use Rattle.cast_model.specs.declared.event.Event.TheVariants as event
 use Rattle.cast_model.specs.declared.event.Taken.TheVariants as taken
-use Rattle.cast_history.specs.State.{State, local, serials, is_group, let_go, set_home, set_standing, was_given, pushing}
+use Rattle.cast_clock.proofs.Raised.{bump_leaves_views}
+use Rattle.cast_history.specs.Rules.Commands.{message_sent}
+use Rattle.cast_history.specs.State.{State, receiving, set_process, local, serials, is_group, let_go, set_home, was_given}
 use Rattle.cast_history.specs.Rules.Room.{may_order}
 use Rattle.cast_history.specs.Order.{order_of, unlisted, has_place, is_ready_for}
 use Rattle.cast_history.specs.Rules.Owing.{tick}
 use Rattle.cast_history.proofs.Rules.Owing.{tick_keeps}
-use Rattle.cast_history.specs.Effects.{may_raise, sending, delivering}
-use Rattle.cast_history.specs.Step.{first_refusal, join_tests, cast_tests, joining, attempting, body_of, requested, commanded, opened, Effect, acted}
+use Rattle.cast_history.specs.Effects.{next_message, sending, delivering}
+use Rattle.cast_history.specs.Rules.Sending.{may_raise}
+use Rattle.cast_history.specs.Step.{opened, Effect, acted}
 use Rattle.cast_history.specs.Rules.Views.{install_frame, send_install, decide, lead}
 use Rattle.cast_history.specs.Rest.{deliver_first, deliver_all, settle, may_set_order, set_order_by, set_order, set_orders, pass, RestsAt}
 use Rattle.cast_history.specs.Lawful.{IsSpent, IsLawful, IsTyped}
@@ -54,9 +47,10 @@ use Rattle.cast_history.proofs.Spots.{found_passes}
 use Rattle.cast_history.specs.History.{history}
 use Rattle.cast_history.proofs.Rules.Follows.{IsTaken, IsEntered, IsInvariantOfAll}
 use Rattle.cast_history.proofs.Rules.Data.{used_current}
+use Rattle.cast_history.proofs.Rules.Commands.{commanded_keeps}
 use Rattle.cast_history.proofs.Rules.Views.{decide_keeps, lead_keeps}
 use Rattle.cast_history.proofs.Rules.Frames.{framed_keeps}
-use Rattle.cast_history.proofs.Lawful.{SameLaw, same_self, same_then, same_if, same_fold, same_home, same_emitted, same_group_set, moves_same, invariant_by_same, kept_map, lawful_same, lawful_pushing, lawful_request, lawful_if, lawful_fold, lawful_standing, lawful_receiving, lawful_let_go, lawful_sending, lawful_delivering, lawful_completing}
+use Rattle.cast_history.proofs.Lawful.{SameLaw, same_self, same_then, same_if, same_fold, same_home, same_emitted, same_group_set, moves_same, invariant_by_same, kept_map, lawful_same, lawful_pushing, lawful_sent_here, lawful_if, lawful_fold, lawful_standing, lawful_receiving, lawful_let_go, lawful_sending, lawful_delivering, lawful_completing}
 
 -- a stamp is in order
 stamp_sorted : (t : ClockList) → is_stamp t ≡ true → is_sorted group_cmp t ≡ true
@@ -68,50 +62,7 @@ raised_sorted t g p may =
     let room = and_parts (nat_lt (count_in t g p) MAX_NUMBER) (has_room (bumped t g p) && is_stamp (bumped t g p)) may in
     stamp_sorted (bumped t g p) (and_parts (has_room (bumped t g p)) (is_stamp (bumped t g p)) room.1).1
 
--- Commands
-
--- each test lets pass
-abbrev pub Passed : List (Bool × Refusal) → Type 0
-Passed [] = Unit {0}
-Passed (t ∷ tests) = (t.0 ≡ false) × Passed tests
-
--- where nothing is refused, each test lets pass
-pub each_passes : (tests : List (Bool × Refusal)) → first_refusal tests ≡ None → Passed tests
-each_passes [] none = tt
-each_passes (t ∷ tests) none =
-    elim t.0 as (λ b. (if b then Some t.1 else first_refusal tests) ≡ None → (b ≡ false) × Passed tests) [
-      | true ↦ λ some. cc
-      | false ↦ λ rest. (refl, each_passes tests rest)
-    ] none
-
-pub lawful_joining : (s : State) (k : ℕ) (g : GroupNo) → IsLawful s → first_refusal (join_tests s k g) ≡ None → IsLawful (joining s k g)
-lawful_joining s k g l none =
-    let now : State = set_standing s k g (Joining ((s.group g).asked + 1) (view_of (s.process k).time g)) in
-    let listed : is_group s g ≡ true = not-false (is_group s g) (each_passes (join_tests s k g) none).0 in
-    lawful_request now g change.Join (local s k) (lawful_standing s k g ((s.group g).asked + 1) (view_of (s.process k).time g) l listed)
-
-pub lawful_casting : (s : State) (k : ℕ) (g : GroupNo) (cast : CastKind) (payload : List ℕ) → IsLawful s → first_refusal (cast_tests s k g payload) ≡ None → IsLawful (sending s g k (body_of cast payload))
-lawful_casting s k g cast payload l none =
-    let raises = not-false (may_raise (s.process k).time g (local s k)) (each_passes (cast_tests s k g payload) none).1.1.1.1.1.0 in
-    lawful_sending s g k (body_of cast payload) l (raised_sorted (s.process k).time g (local s k) raises)
-
-pub lawful_attempting : (s : State) (k tag : ℕ) (tests : List (Bool × Refusal)) (effect : State) → IsLawful s → (first_refusal tests ≡ None → IsLawful effect) → IsLawful (attempting s k tag tests effect)
-lawful_attempting s k tag tests effect l lawful =
-    elim (first_refusal tests) as (λ o. first_refusal tests ≡ o → IsLawful (elim o [ Some refusal ↦ pushing s k (push.Reply tag (Some refusal)) | None ↦ pushing effect k (push.Reply tag None) ])) [
-      | Some refusal ↦ λ _. lawful_pushing s k (push.Reply tag (Some refusal)) l
-      | None ↦ λ none. lawful_pushing effect k (push.Reply tag None) (lawful none)
-    ] refl
-
-pub lawful_requested : (s : State) (k : ℕ) (r : Request) → IsLawful s → IsLawful (requested s k r)
-lawful_requested s k (Join tag g) l = lawful_attempting s k tag (join_tests s k g) (joining s k g) l (lawful_joining s k g l)
-lawful_requested s k (Leave tag g) l = l
-lawful_requested s k (Cast tag g cast payload) l = lawful_attempting s k tag (cast_tests s k g payload) (sending s g k (body_of cast payload)) l (lawful_casting s k g cast payload l)
-
-pub lawful_commanded : (s : State) (k : ℕ) (c : Command) → IsLawful s → IsLawful (commanded s k c)
-lawful_commanded s k (command.Request r) l = lawful_requested s k r l
-lawful_commanded s k command.Bad l = l
-
--- Frames
+-- The moves of the rules
 
 -- a group stands under its name, where it is configured
 pub placed_at : (s : State) (g h : GroupNo) → (if is_group s g then Some g else None) ≡ Some h → (is_group s g ≡ true) × (g ≡ h)
@@ -155,6 +106,12 @@ entered s h g n members is =
 pub all_lawful : IsInvariantOfAll history IsLawful
 all_lawful = record {
   keeps = invariant_by_same IsLawful lawful_same;
+  push = λ s l k p. lawful_pushing s k p l;
+  note_joining = λ s l k given g h at number heard. lawful_standing s k g number heard l (placed_at s g h at).0;
+  sends = λ s l h k g content sent. let there = placed_at s g h sent.at in
+      let same : message_sent history s k g h content ≡ next_message s g k content = ap (λ x. message_sent history s k g x content) (sym there.1) in
+      subst (λ m. IsLawful (receiving (set_process s k (record (s.process k) { time = (next_message s g k content).times })) m)) (sym same)
+      (lawful_sent_here s k (next_message s g k content) l (λ i. bump_leaves_views (s.process k).time g i (local s k)) (raised_sorted (s.process k).time g (local s k) sent.raises) (omega arith));
   receive = λ s l h from m taken. let same = taken_current s h from m taken in lawful_receiving s m l (stamp_sorted m.times taken.typed.0) (omega (arith, same));
   note_request = λ s l g what p. lawful_same s _ (same_group_set s g (with_request (s.group g) what p) refl refl) l;
   note_answer = λ s l g. lawful_same s _ (same_group_set s g (with_answer (s.group g)) refl refl) l;
@@ -204,11 +161,7 @@ lawful_acted s (event.Open d) l unborn typed =
       | true ↦ l
       | false ↦ lawful_opened s l unborn
     ]
-lawful_acted s (event.Command d k c) l unborn typed =
-    elim (is_open (s.session k)) as (λ b. IsLawful (if◌then◌else◌ {A = Effect} b (commanded s k c, taken.Nothing) (s, taken.Refused NotOpen)).0) [
-      | true ↦ lawful_commanded s k c l
-      | false ↦ l
-    ]
+lawful_acted s (event.Command d k c) l unborn typed = commanded_keeps history IsLawful all_lawful s l k c
 lawful_acted s (event.Frame d from f) l unborn typed = framed_keeps history IsLawful all_lawful s l from f typed
 lawful_acted s (event.Tick t) l unborn typed = lawful_same s (tick history s t) (same_tick s t) l
 

@@ -203,8 +203,8 @@ clock_put t g c h P new old =
     ] refl)
 
 -- a member sends its next message
-pub counts_sending : (s : State) (g : GroupNo) (k : ℕ) (content : Body) → IsLawful s → CountsMembers s → is_member ((s.process k).standing g) ≡ true → CountsMembers (sending s g k content)
-counts_sending s g k content l c member =
+pub counts_sent_here : (s : State) (g : GroupNo) (k : ℕ) (content : Body) → IsLawful s → CountsMembers s → is_member ((s.process k).standing g) ≡ true → CountsMembers (receiving (set_process s k (record (s.process k) { time = (next_message s g k content).times })) (next_message s g k content))
+counts_sent_here s g k content l c member =
     let p : Process = s.process k in
     let m : Message = next_message s g k content in
     let now : State = set_process s k (record p { time = m.times }) in
@@ -220,9 +220,13 @@ counts_sending s g k content l c member =
           (c.members k h is).counted;
     })
     (c.placed k) in
-    let taken : State = receiving now m in
-    counts_same taken (sending s g k content) (same_fold (send_data history m.id) (same_send_data m.id) (others_of s g) taken)
-    (counts_receiving now m set stamp (record { reached = omega arith; member = λ _. sender.itself }))
+    counts_receiving now m set stamp (record { reached = omega arith; member = λ _. sender.itself })
+
+pub counts_sending : (s : State) (g : GroupNo) (k : ℕ) (content : Body) → IsLawful s → CountsMembers s → is_member ((s.process k).standing g) ≡ true → CountsMembers (sending s g k content)
+counts_sending s g k content l c member =
+    let m : Message = next_message s g k content in
+    let taken : State = receiving (set_process s k (record (s.process k) { time = m.times })) m in
+    counts_same taken (sending s g k content) (same_fold (send_data history m.id) (same_send_data m.id) (others_of s g) taken) (counts_sent_here s g k content l c member)
 
 -- a member's group allows a message of its view only after all that the message counts of it
 allowed_past : (x : Standing) (p : Process) (gate : Gate) (m : Message) (g : GroupNo) → is_member x ≡ true → group_allows x p gate m g ≡ true → view_of m.times g ≡ gate.number → list_all (has_delivered p) (past_in m g) ≡ true

@@ -1,28 +1,21 @@
 -- A history counts members alone in each state that it passes.
-use Rattle.std.proofs.Common.{◌≡◌, ℕ, ◌+◌, ◌≤◌, zero, suc, Bool, true, false, List, [], ◌∷◌, length, Some, None, refl, sym, subst, arith}
+use Rattle.std.proofs.Common.{◌≡◌, ℕ, ◌+◌, ◌≤◌, zero, suc, Bool, true, false, List, [], ◌∷◌, length, Some, None, refl, sym, ap, subst, arith}
 use Rattle.std.specs.Prelude.{◌==◌, nat_lt, nat_le, if◌then◌else◌}
 use Rattle.std.specs.List.{fold, find, list_all, AllByRecursion}
 use Rattle.std.specs.FinMap.Entries.{is_sorted}
-use Rattle.std.proofs.lemmas.Bool.{and_parts, and_from, not-false}
+use Rattle.std.proofs.lemmas.Bool.{and_parts, and_from}
 use Rattle.cast_types.specs.declared.names.SiteNo.{SiteNo}
 use Rattle.cast_types.specs.declared.names.GroupNo.{GroupNo}
-use Rattle.cast_types.specs.declared.names.Standing.TheVariants.{Joining}
-use Rattle.cast_types.specs.declared.refusal.Refusal.{Refusal}
-use Rattle.cast_types.specs.declared.refusal.Refusal.TheVariants.{NotOpen, TooManySessions}
+use Rattle.cast_types.specs.declared.refusal.Refusal.TheVariants.{TooManySessions}
 use Rattle.cast_types.specs.declared.limits.TheConstants.{MAX_NUMBER, MAX_GROUPS}
 use Rattle.cast_types.specs.Names.{group_cmp, proc_eq}
 use Rattle.cast_types.specs.Sets.{is_among}
 use Rattle.cast_types.specs.Repeat.{iterate}
 use Rattle.cast_types.specs.Counts.{is_counts}
-use Rattle.cast_clock.specs.Times.{view_of}
 use Rattle.cast_message.specs.declared.message.Body.{Body}
 use Rattle.cast_message.specs.declared.message.Body.TheVariants as body
 use Rattle.cast_message.specs.declared.message.Message.{Message}
-use Rattle.cast_message.specs.declared.site.Change.TheVariants as change
 use Rattle.cast_message.specs.declared.site.SiteFrame.{SiteFrame}
-use Rattle.cast_message.specs.declared.client.Request.{Request}
-use Rattle.cast_message.specs.declared.client.Request.TheVariants.{Join, Leave, Cast}
-use Rattle.cast_message.specs.declared.client.Push.TheVariants as push
 use Rattle.cast_message.specs.Rising.{is_rising}
 use Rattle.cast_delay.specs.Ready.{is_member}
 use Rattle.cast_delay.proofs.Finds.{found_in}
@@ -30,19 +23,17 @@ use Rattle.cast_order.specs.Order.{ids_to_list, place_after}
 use Rattle.cast_model.specs.declared.config.DomainConfig.{DomainConfig}
 use Rattle.cast_model.specs.Group.{holder_at, members_of, with_request, with_answer}
 use Rattle.cast_model.specs.Home.{after_request, after_installed, decided}
-use Rattle.cast_model.specs.Session.{is_open}
-use Rattle.cast_message.specs.declared.client.Command.{Command}
-use Rattle.cast_message.specs.declared.client.Command.TheVariants as command
 use Rattle.cast_model.specs.declared.event.Event.{Event}
 use Rattle.cast_model.specs.declared.event.Event.TheVariants as event
 use Rattle.cast_model.specs.declared.event.Taken.{Taken}
 use Rattle.cast_model.specs.declared.event.Taken.TheVariants as taken
-use Rattle.cast_history.specs.State.{State, opening, local, serials, is_group, let_go, set_standing, was_given, pushing}
+use Rattle.cast_history.specs.Rules.Commands.{message_sent}
+use Rattle.cast_history.specs.State.{State, receiving, set_process, opening, serials, is_group, let_go}
 use Rattle.cast_history.specs.Rules.Requests.{is_home}
 use Rattle.cast_history.specs.Order.{order_of, unlisted, is_ready_for}
-use Rattle.cast_history.specs.Effects.{sending, delivering}
+use Rattle.cast_history.specs.Effects.{next_message, sending, delivering}
 use Rattle.cast_history.specs.Rules.Owing.{tick}
-use Rattle.cast_history.specs.Step.{first_refusal, join_tests, cast_tests, joining, attempting, body_of, requested, commanded, opened, Effect, acted}
+use Rattle.cast_history.specs.Step.{opened, Effect, acted}
 use Rattle.cast_history.specs.Rest.{deliver_first, deliver_all, settle, may_set_order, set_order_by, set_order, set_orders, pass}
 use Rattle.cast_history.specs.Rules.Views.{decide, lead}
 use Rattle.cast_history.specs.Run.{before_event, after_event, IsRun}
@@ -52,44 +43,18 @@ use Rattle.cast_history.specs.Raising.{IsTimeOf, IsFromMember, CountsMembers, Is
 use Rattle.cast_history.proofs.Spots.{found_passes}
 use Rattle.cast_history.proofs.Rules.Follows.{IsTaken, IsInvariantOfAll}
 use Rattle.cast_history.proofs.Rules.Data.{used_known, used_of_member}
+use Rattle.cast_history.proofs.Rules.Commands.{commanded_keeps}
 use Rattle.cast_history.proofs.Rules.Frames.{framed_keeps}
-use Rattle.cast_history.proofs.Lawful.{same_home, same_group_set, invariant_by_same, lawful_same, same_pushing, same_request, lawful_opening, lawful_before, lawful_let_go}
-use Rattle.cast_history.proofs.LawfulSteps.{each_passes, same_tick, same_decide, placed_at, taken_current, entered, all_lawful, lawful_acted, lawful_first, lawful_set_order, lawful_decide}
+use Rattle.cast_history.proofs.Lawful.{same_home, same_group_set, invariant_by_same, lawful_same, same_pushing, lawful_opening, lawful_before, lawful_let_go}
+use Rattle.cast_history.proofs.LawfulSteps.{same_tick, same_decide, placed_at, taken_current, entered, all_lawful, lawful_acted, lawful_first, lawful_set_order, lawful_decide}
 use Rattle.cast_history.proofs.Counting.{is_clock_of, all_both}
-use Rattle.cast_history.proofs.Raising.{counts_same, counts_let_go, counts_before, counts_opening, counts_standing, counts_receiving, counts_sending, counts_delivering, counts_completing, counts_opened, next_unborn, can_raise}
+use Rattle.cast_history.proofs.Raising.{counts_same, counts_let_go, counts_before, counts_opening, counts_standing, counts_receiving, counts_sent_here, counts_sending, counts_delivering, counts_completing, counts_opened, next_unborn, can_raise}
 
 counts_if : (x y : State) (b : Bool) → (b ≡ true → CountsMembers x) → (b ≡ false → CountsMembers y) → CountsMembers (if b then x else y)
 counts_if x y true p q = p refl
 counts_if x y false p q = q refl
 
--- Commands
-
-counts_attempting : (s : State) (k tag : ℕ) (tests : List (Bool × Refusal)) (effect : State) → CountsMembers s → (first_refusal tests ≡ None → CountsMembers effect) → CountsMembers (attempting s k tag tests effect)
-counts_attempting s k tag tests effect c counts =
-    elim (first_refusal tests) as (λ o. first_refusal tests ≡ o → CountsMembers (elim o [ Some refusal ↦ pushing s k (push.Reply tag (Some refusal)) | None ↦ pushing effect k (push.Reply tag None) ])) [
-      | Some refusal ↦ λ _. counts_same s (pushing s k (push.Reply tag (Some refusal))) (same_pushing s k (push.Reply tag (Some refusal))) c
-      | None ↦ λ none. counts_same effect (pushing effect k (push.Reply tag None)) (same_pushing effect k (push.Reply tag None)) (counts none)
-    ] refl
-
-counts_joining : (s : State) (k : ℕ) (g : GroupNo) → CountsMembers s → was_given s.used k ≡ true → CountsMembers (joining s k g)
-counts_joining s k g c given =
-    let request : ℕ = (s.group g).asked + 1 in
-    let heard : ℕ = view_of (s.process k).time g in
-    let now : State = set_standing s k g (Joining request heard) in
-    counts_same now (joining s k g) (same_request now g change.Join (local s k)) (counts_standing s k g request heard c given)
-
-counts_requested : (s : State) (k : ℕ) (r : Request) → IsLawful s → CountsMembers s → was_given s.used k ≡ true → CountsMembers (requested s k r)
-counts_requested s k (Join tag g) l c given = counts_attempting s k tag (join_tests s k g) (joining s k g) c (λ _. counts_joining s k g c given)
-counts_requested s k (Leave tag g) l c given = c
-counts_requested s k (Cast tag g cast payload) l c given =
-    counts_attempting s k tag (cast_tests s k g payload) (sending s g k (body_of cast payload)) c
-    (λ none. counts_sending s g k (body_of cast payload) l c (not-false (is_member ((s.process k).standing g)) (each_passes (cast_tests s k g payload) none).1.1.0))
-
-counts_commanded : (s : State) (k : ℕ) (x : Command) → IsLawful s → CountsMembers s → was_given s.used k ≡ true → CountsMembers (commanded s k x)
-counts_commanded s k (command.Request r) l c given = counts_requested s k r l c given
-counts_commanded s k command.Bad l c given = c
-
--- Frames
+-- The moves of the rules
 
 -- what is received has a time of configured groups, and is from a member of the group's view
 taken_time : (s : State) (h : GroupNo) (from : SiteNo) (m : Message) → IsTaken history s h from m → IsTimeOf s.config.groups m.times
@@ -119,6 +84,13 @@ IsCounted s = IsLawful s × CountsMembers s
 all_counted : IsInvariantOfAll history IsCounted
 all_counted = record {
   keeps = invariant_by_same IsCounted (λ s t a c. (lawful_same s t a c.0, counts_same s t a c.1));
+  push = λ s c k p. (all_lawful.push s c.0 k p, counts_same s _ (same_pushing s k p) c.1);
+  note_joining = λ s c k given g h at number heard. (all_lawful.note_joining s c.0 k given g h at number heard, counts_standing s k g number heard c.1 (c.1.opened k given));
+  sends = λ s c h k g content sent. let there = placed_at s g h sent.at in
+      let same : message_sent history s k g h content ≡ next_message s g k content = ap (λ x. message_sent history s k g x content) (sym there.1) in (
+        all_lawful.sends s c.0 h k g content sent,
+        subst (λ m. CountsMembers (receiving (set_process s k (record (s.process k) { time = (next_message s g k content).times })) m)) (sym same) (counts_sent_here s g k content c.0 c.1 sent.member),
+      );
   receive = λ s c h from m taken. (all_lawful.receive s c.0 h from m taken, counts_receiving s m c.1 (taken_time s h from m taken) (taken_from s h from m taken));
   note_request = λ s c g what p. (all_lawful.note_request s c.0 g what p, counts_same s _ (same_group_set s g (with_request (s.group g) what p) refl refl) c.1);
   note_answer = λ s c g. (all_lawful.note_answer s c.0 g, counts_same s _ (same_group_set s g (with_answer (s.group g)) refl refl) c.1);
@@ -137,11 +109,7 @@ counts_acted s (event.Open d) l c typed =
       | true ↦ c
       | false ↦ counts_opened s c
     ]
-counts_acted s (event.Command d k x) l c typed =
-    elim (is_open (s.session k)) as (λ b. is_open (s.session k) ≡ b → CountsMembers (if◌then◌else◌ {A = Effect} b (commanded s k x, taken.Nothing) (s, taken.Refused NotOpen)).0) [
-      | true ↦ λ is. counts_commanded s k x l c (c.opened k is)
-      | false ↦ λ _. c
-    ] refl
+counts_acted s (event.Command d k x) l c typed = (commanded_keeps history IsCounted all_counted s (l, c) k x).1
 counts_acted s (event.Frame d from f) l c typed = (framed_keeps history IsCounted all_counted s (l, c) from f typed).1
 counts_acted s (event.Tick t) l c typed = counts_same s (tick history s t) (same_tick s t) c
 

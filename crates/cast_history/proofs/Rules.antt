@@ -1,8 +1,10 @@
 pub mod Follows
+pub mod Room
 pub mod Owing
 pub mod Sending
 pub mod Data
 pub mod Stability
 pub mod Requests
+pub mod Commands
 pub mod Views
 pub mod Frames

@@ -1,13 +1,10 @@
 -- What processes, messages, requests and views do to a state, and what is sent and pushed with it.
-use Rattle.std.specs.Prelude.{ℕ, Bool, ◌&&◌, ◌==◌, nat_lt, if◌then◌else◌, List, [], ◌∷◌, ◌++◌, Option, Some, None}
+use Rattle.std.specs.Prelude.{ℕ, ◌==◌, if◌then◌else◌, List, [], ◌∷◌, ◌++◌, Option, Some, None}
 use Rattle.cast_types.specs.declared.names.GroupNo.{GroupNo}
-use Rattle.cast_types.specs.declared.names.Proc.{Proc}
 use Rattle.cast_types.specs.declared.names.Uid.{Uid}
 use Rattle.cast_types.specs.Names.{is_atomic}
 use Rattle.cast_types.specs.Sets.{set_at}
-use Rattle.cast_types.specs.declared.limits.TheConstants.{MAX_NUMBER}
-use Rattle.cast_types.specs.Stamps.{ClockList, is_stamp}
-use Rattle.cast_clock.specs.Times.{count_in, join, bumped, has_room}
+use Rattle.cast_clock.specs.Times.{join}
 use Rattle.cast_message.specs.declared.message.Body.{Body}
 use Rattle.cast_message.specs.declared.message.Body.TheVariants as body
 use Rattle.cast_message.specs.declared.message.Message.{Message}
@@ -17,6 +14,7 @@ use Rattle.cast_message.specs.declared.client.Push.{Push}
 use Rattle.cast_message.specs.declared.client.Push.TheVariants as push
 use Rattle.cast_delay.specs.Ready.{Process}
 use Rattle.cast_history.specs.State.{State, local, set_process, pushing}
+use Rattle.cast_history.specs.Rules.Commands.{message_sent}
 use Rattle.cast_history.specs.Rules.Sending.{send_message}
 use Rattle.cast_history.specs.History.{history}
 
@@ -24,18 +22,7 @@ use Rattle.cast_history.specs.History.{history}
 
 -- a member's next message of a group
 abbrev pub next_message : State → GroupNo → ℕ → Body → Message
-next_message s g k content =
-    let times = bumped (s.process k).time g (local s k) in
-    record {
-      id = record { group = g; view = (s.group g).number; proc = local s k; count = count_in times g (local s k) };
-      times = times;
-      body = content;
-    }
-
--- a process's count in a group may be raised: it is not the last one, and the raised time has room and a spelling,
--- as a member's always has (`laws::counts_can_be_raised`)
-abbrev pub may_raise : ClockList → GroupNo → Proc → Bool
-may_raise t g p = nat_lt (count_in t g p) MAX_NUMBER && (has_room (bumped t g p) && is_stamp (bumped t g p))
+next_message s g k content = message_sent history s k g g content
 
 -- the message is stamped, received here, and sent to each other site of the view until that has acknowledged it
 abbrev pub sending_message : State → ℕ → Message → State

@@ -2,10 +2,12 @@
 use Rattle.std.specs.Prelude.{if◌then◌else◌, Some, None}
 use Rattle.cast_types.specs.declared.names.GroupNo.{GroupNo}
 use Rattle.cast_stable.specs.Stable.{has_acked}
+use Rattle.cast_types.specs.declared.names.Standing.TheVariants.{Joining}
+use Rattle.cast_model.specs.Session.{is_open}
 use Rattle.cast_timer.specs.Owed.{is_owed, due_at}
 use Rattle.cast_model.specs.Group.{with_request, with_answer}
 use Rattle.cast_model.specs.Home.{after_request, after_installed, decided}
-use Rattle.cast_history.specs.State.{State, is_group, set_group, set_home, emitted, receiving, is_received, held, message_of, others_of, is_stable, upto, noting_ack, noting_stable}
+use Rattle.cast_history.specs.State.{State, is_group, set_process, set_group, set_home, set_standing, emitted, pushing, receiving, awaits_own, is_received, held, message_of, others_of, is_stable, upto, noting_ack, noting_stable}
 use Rattle.cast_history.specs.Owing.{noting_owed, noting_resent, paying, paying_upto, at_moment}
 use Rattle.cast_history.specs.Entering.{completing}
 use Rattle.cast_history.specs.Rules.Interface.{Site}
@@ -27,6 +29,10 @@ history = record {
   is_stable = is_stable;
   stable_upto = upto;
   message = message_of;
+  is_open = λ s k. is_open (s.session k);
+  standing = λ s k g. (s.process k).standing g;
+  time = λ s k. (s.process k).time;
+  awaits_own = awaits_own;
   is_owed = λ s key. is_owed s.owed key;
   due = λ s. due_at s.moment s.owed;
   send = emitted;
@@ -37,6 +43,9 @@ history = record {
   note_moment = at_moment;
   note_ack = noting_ack;
   note_stable = noting_stable;
+  push = pushing;
+  note_joining = λ s k g number heard. set_standing s k g (Joining number heard);
+  note_time = λ s k t. set_process s k (record (s.process k) { time = t });
   receive = receiving;
   note_request = λ s g what p. set_group s g (with_request (s.group g) what p);
   note_answer = λ s g. set_group s g (with_answer (s.group g));

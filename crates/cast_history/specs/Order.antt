@@ -1,11 +1,11 @@
 -- The order of a view's ABCASTs, as a site knows it from all set-order messages that it received, and when a message is
 -- ready for a process.
 use Rattle.std.specs.Prelude.{ℕ, Bool, ◌&&◌, ◌==◌, nat_lt, if◌then◌else◌, List, [], ◌++◌, length, map, filter}
-use Rattle.std.specs.List.{flat_map, list_any}
+use Rattle.std.specs.List.{flat_map}
 use Rattle.cast_types.specs.declared.names.GroupNo.{GroupNo}
 use Rattle.cast_types.specs.declared.names.Uid.{Uid}
 use Rattle.cast_types.specs.declared.limits.TheConstants.{MAX_UNSETTLED, MAX_POSITION}
-use Rattle.cast_types.specs.Names.{Entry, group_eq, proc_eq, is_atomic, is_order, named, entry_of}
+use Rattle.cast_types.specs.Names.{Entry, group_eq, proc_eq, is_order, named, entry_of}
 use Rattle.cast_message.specs.declared.message.Body.{Body}
 use Rattle.cast_message.specs.declared.message.Body.TheVariants as body
 use Rattle.cast_message.specs.declared.message.Message.{Message}
@@ -13,7 +13,7 @@ use Rattle.cast_message.specs.Bodies.{kind_of}
 use Rattle.cast_order.specs.Order.{Facts, facts_of, known_order, next_of, Listing, listed_ids, still_to_list}
 use Rattle.cast_delay.specs.declared.turn.Turn.{Turn}
 use Rattle.cast_delay.specs.declared.turn.Turn.TheVariants.{Holding, Following}
-use Rattle.cast_delay.specs.Ready.{has_delivered, awaits, is_ready}
+use Rattle.cast_delay.specs.Ready.{has_delivered, is_ready}
 use Rattle.cast_model.specs.Group.{holder_of, is_process}
 use Rattle.cast_history.specs.State.{State, local, is_stable, gate_of}
 use Rattle.cast_history.specs.Rules.Room.{may_order}
@@ -89,10 +89,3 @@ turn_of s k g =
 
 abbrev pub is_ready_for : State → ℕ → Message → Bool
 is_ready_for s k m = is_ready s.config.groups (gate_of s) (turn_of s k) (s.process k) m
-
--- a process has not delivered an ABCAST of its own, of the view of a group of which it is a member
-abbrev pub awaits_own : State → ℕ → Bool
-awaits_own s k =
-    list_any
-    (λ m. is_atomic (kind_of m.body) && (proc_eq m.id.proc (local s k) && ((m.id.view == (s.group m.id.group).number) && awaits (s.process k) m.id)))
-    s.got

@@ -23,7 +23,7 @@ use Rattle.cast_model.specs.declared.group.Group.{Group}
 use Rattle.cast_model.specs.Session.{is_open}
 use Rattle.cast_model.specs.Group.{members_of, has_view}
 use Rattle.cast_history.specs.State.{State, opening, local, was_given, let_go}
-use Rattle.cast_history.specs.Effects.{may_raise}
+use Rattle.cast_history.specs.Rules.Sending.{may_raise}
 use Rattle.cast_history.specs.Step.{acted}
 use Rattle.cast_history.specs.History.{history}
 use Rattle.cast_history.specs.Rules.Views.{decide}

@@ -13,7 +13,8 @@ use Rattle.cast_history.specs.Rules.Room.{may_order}
 use Rattle.cast_history.specs.Rules.Views.{lead}
 use Rattle.cast_history.specs.History.{history}
 use Rattle.cast_history.specs.Order.{order_of, unlisted, has_place, is_ready_for}
-use Rattle.cast_history.specs.Effects.{may_raise, sending, delivering}
+use Rattle.cast_history.specs.Effects.{sending, delivering}
+use Rattle.cast_history.specs.Rules.Sending.{may_raise}
 
 -- Deliveries
 

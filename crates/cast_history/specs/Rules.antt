@@ -6,5 +6,6 @@ pub mod Sending
 pub mod Data
 pub mod Stability
 pub mod Requests
+pub mod Commands
 pub mod Views
 pub mod Frames

@@ -7,14 +7,15 @@ use Rattle.cast_types.specs.declared.names.Proc.{Proc}
 use Rattle.cast_types.specs.declared.names.Uid.{Uid}
 use Rattle.cast_types.specs.declared.names.Standing.{Standing}
 use Rattle.cast_types.specs.declared.names.Standing.TheVariants.{Outside}
-use Rattle.cast_types.specs.Names.{site_eq, group_eq, uid_eq}
+use Rattle.cast_types.specs.Names.{site_eq, group_eq, proc_eq, uid_eq, is_atomic}
 use Rattle.cast_types.specs.Sets.{is_among, set_at}
 use Rattle.cast_clock.specs.Times.{no_time}
 use Rattle.cast_message.specs.declared.message.Message.{Message}
+use Rattle.cast_message.specs.Bodies.{kind_of}
 use Rattle.cast_message.specs.declared.site.SiteFrame.{SiteFrame}
 use Rattle.cast_stable.specs.Stable.{Acked, stable_upto, is_known_stable}
 use Rattle.cast_timer.specs.declared.key.Owed.{Owed}
-use Rattle.cast_delay.specs.Ready.{Process, Gate, is_member, has_delivered}
+use Rattle.cast_delay.specs.Ready.{Process, Gate, is_member, has_delivered, awaits}
 use Rattle.cast_model.specs.declared.session.Session.{Session}
 use Rattle.cast_message.specs.declared.client.Push.{Push}
 use Rattle.cast_model.specs.Session.{no_session, is_open, pushed_to}
@@ -173,3 +174,10 @@ let_go s = record s { kept = filter (λ m. not (is_free s m.id)) s.kept }
 
 abbrev pub gate_of : State → GroupNo → Gate
 gate_of s g = record { number = (s.group g).number }
+
+-- a process has not delivered an ABCAST of its own, of the view of a group of which it is a member
+abbrev pub awaits_own : State → ℕ → Bool
+awaits_own s k =
+    list_any
+    (λ m. is_atomic (kind_of m.body) && (proc_eq m.id.proc (local s k) && ((m.id.view == (s.group m.id.group).number) && awaits (s.process k) m.id)))
+    s.got

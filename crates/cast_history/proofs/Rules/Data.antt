@@ -1,16 +1,14 @@
 -- By the rules of messages that come from other sites a site that follows another goes on standing for it.
 use Rattle.std.proofs.Common.{◌≡◌, Some, true, not, ◌&&◌}
-use Rattle.std.specs.Prelude.{◌*◌, ◌==◌, nat_lt, if◌then◌else◌}
+use Rattle.std.specs.Prelude.{◌==◌, nat_lt, if◌then◌else◌}
 use Rattle.std.specs.List.{list_all}
 use Rattle.std.proofs.lemmas.Bool.{and_parts}
 use Rattle.cast_types.specs.declared.names.SiteNo.{SiteNo}
 use Rattle.cast_types.specs.declared.names.Uid.{Uid}
-use Rattle.cast_types.specs.Names.{site_eq, group_eq, proc_eq, is_order}
+use Rattle.cast_types.specs.Names.{site_eq, group_eq, proc_eq}
 use Rattle.cast_types.specs.Sets.{is_among}
-use Rattle.cast_message.specs.declared.message.Body.{Body}
 use Rattle.cast_message.specs.declared.message.Message.{Message}
 use Rattle.cast_message.specs.declared.site.SiteFrame.TheVariants as frame
-use Rattle.cast_message.specs.Bodies.{kind_of}
 use Rattle.cast_timer.specs.declared.key.OwedKind.TheVariants as kinds
 use Rattle.cast_model.specs.Group.{members_of}
 use Rattle.cast_history.specs.Lawful.{IsTypedFrame}
@@ -21,6 +19,7 @@ use Rattle.cast_history.specs.Rules.Owing.{owe}
 use Rattle.cast_history.specs.Rules.Data.{counts_itself, is_well_formed, is_used, acknowledge, use_data, on_data}
 use Rattle.cast_history.proofs.Rules.Follows.{FollowsAll, IsTaken, choose}
 use Rattle.cast_history.proofs.Rules.Owing.{owe_follows}
+use Rattle.cast_history.proofs.Rules.Room.{take_same}
 
 -- what a message is that is used
 module _ {S H : Type 0} (d : Site S H) (s : S) (h : H) (from : SiteNo) (m : Message) (used : is_used d s h from m ≡ true) where
@@ -59,12 +58,6 @@ counted : (m : Message) → counts_itself m ≡ true → nat_lt 0 m.id.count ≡
 counted m counts = (and_parts (nat_lt 0 m.id.count) _ (and_parts _ _ counts).1).0
 
 module _ {R S H K : Type 0} (a : Site R H) (b : Site S K) (fits : R → S → Type 0) (stands : H → K → Type 0) (all : FollowsAll a b fits stands) where
-  take_same : (r : R) (s : S) → fits r s → (x : Body) → may_take a r x ≡ may_take b s x
-  take_same r s f x =
-      let held = all.held r s f in
-      let config = all.follows.config r s f in
-      λ j. if is_order (kind_of x) then nat_lt (held j) (2 * (config j).quotas.held) else nat_lt (held j) (config j).quotas.held
-
   acknowledge_follows : (r : R) (s : S) → fits r s → (to : SiteNo) (u : Uid) → nat_lt 0 u.count ≡ true → fits (acknowledge a r to u) (acknowledge b s to u)
   acknowledge_follows r s f to u from_one =
       choose fits (a.is_stable r u) (b.is_stable s u) (a.send r to (frame.Ack u)) (owe a r (message_key kinds.Ack u to)) (b.send s to (frame.Ack u)) (owe b s (message_key kinds.Ack u to))
@@ -80,7 +73,7 @@ module _ {R S H K : Type 0} (a : Site R H) (b : Site S K) (fits : R → S → Ty
       choose fits (a.is_received r m.id) (b.is_received s m.id) (a.send r from (frame.Ack m.id)) (if may_take a r m.body then next else r) (b.send s from (frame.Ack m.id)) (if may_take b s m.body then after else s)
       (all.is_received r s f m.id from_one)
       (λ _. all.follows.send r s f from (frame.Ack m.id))
-      (λ _. choose fits (may_take a r m.body) (may_take b s m.body) next r after s (take_same r s f m.body)
+      (λ _. choose fits (may_take a r m.body) (may_take b s m.body) next r after s (take_same a b fits stands all r s f m.body)
       (λ _. acknowledge_follows (a.receive r m) (b.receive s m) (all.receive r s f k from m taken) from m.id from_one)
       (λ _. f))
 

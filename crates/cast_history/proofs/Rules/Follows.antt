@@ -9,7 +9,13 @@ use Rattle.cast_types.specs.declared.names.SiteNo.{SiteNo}
 use Rattle.cast_types.specs.declared.names.GroupNo.{GroupNo}
 use Rattle.cast_types.specs.declared.names.Proc.{Proc}
 use Rattle.cast_types.specs.declared.names.Uid.{Uid}
+use Rattle.cast_types.specs.Names.{is_order}
+use Rattle.cast_clock.specs.Times.{bumped}
+use Rattle.cast_message.specs.declared.message.Body.{Body}
 use Rattle.cast_message.specs.declared.message.Message.{Message}
+use Rattle.cast_message.specs.Bodies.{kind_of}
+use Rattle.cast_message.specs.declared.client.Push.{Push}
+use Rattle.cast_delay.specs.Ready.{is_member}
 use Rattle.cast_message.specs.declared.site.Change.{Change}
 use Rattle.cast_message.specs.declared.site.SiteFrame.{SiteFrame}
 use Rattle.cast_message.specs.declared.site.SiteFrame.TheVariants as frame
@@ -19,7 +25,9 @@ use Rattle.cast_model.specs.declared.group.Verdict.TheVariants.{Completes}
 use Rattle.cast_model.specs.Group.{verdict_of}
 use Rattle.cast_history.specs.Lawful.{IsTypedFrame}
 use Rattle.cast_history.specs.Rules.Interface.{Site}
+use Rattle.cast_history.specs.Rules.Sending.{may_raise}
 use Rattle.cast_history.specs.Rules.Data.{is_used}
+use Rattle.cast_history.specs.Rules.Commands.{named_here, message_sent}
 
 -- something stands at both places, or there is none
 abbrev pub AtBoth : {H K : Type 0} → (H → K → Type 0) → Option H → Option K → Type 0
@@ -70,6 +78,19 @@ pub record IsEntered {S H : Type 0} (d : Site S H) (s : S) (h : H) (g : GroupNo)
   pub completes : verdict_of (d.group s h) n ≡ Completes
   pub typed : is_members members ≡ true
 
+-- and of a message that a local process sends to the group g, which stands at h
+
+pub record IsSent {S H : Type 0} (d : Site S H) (s : S) (h : H) (k : ℕ) (g : GroupNo) (content : Body) : Type 0 where
+  pub given : d.is_open s k ≡ true
+  pub at : d.place s g ≡ Some h
+  pub member : is_member (d.standing s k g) ≡ true
+  pub raises : may_raise (d.time s k) g (named_here d s k) ≡ true
+  pub plain : is_order (kind_of content) ≡ false
+
+-- the message is stamped, and received here
+abbrev pub sent_here : {S H : Type 0} → Site S H → S → H → ℕ → GroupNo → Body → S
+sent_here d s h k g content = d.receive (d.note_time s k (bumped (d.time s k) g (named_here d s k))) (message_sent d s k g h content)
+
 -- the same of all that rules ask and do
 pub record FollowsAll {R S H K : Type 0} (a : Site R H) (b : Site S K) (fits : R → S → Type 0) (stands : H → K → Type 0) : Type 0 where
   pub follows : Follows a b fits stands
@@ -79,6 +100,13 @@ pub record FollowsAll {R S H K : Type 0} (a : Site R H) (b : Site S K) (fits : R
   pub held : (r : R) (s : S) → fits r s → a.held r ≡ b.held s
   pub is_received : (r : R) (s : S) → fits r s → (u : Uid) → nat_lt 0 u.count ≡ true → a.is_received r u ≡ b.is_received s u
   pub is_stable : (r : R) (s : S) → fits r s → (u : Uid) → nat_lt 0 u.count ≡ true → a.is_stable r u ≡ b.is_stable s u
+  pub is_open : (r : R) (s : S) → fits r s → (k : ℕ) → a.is_open r k ≡ b.is_open s k
+  pub standing : (r : R) (s : S) → fits r s → (k : ℕ) (g : GroupNo) → a.standing r k g ≡ b.standing s k g
+  pub time : (r : R) (s : S) → fits r s → (k : ℕ) → a.time r k ≡ b.time s k
+  pub awaits_own : (r : R) (s : S) → fits r s → (k : ℕ) → b.is_open s k ≡ true → a.awaits_own r k ≡ b.awaits_own s k
+  pub push : (r : R) (s : S) → fits r s → (k : ℕ) (p : Push) → fits (a.push r k p) (b.push s k p)
+  pub note_joining : (r : R) (s : S) → fits r s → (k : ℕ) → b.is_open s k ≡ true → (g : GroupNo) (h : K) → b.place s g ≡ Some h → (number heard : ℕ) → fits (a.note_joining r k g number heard) (b.note_joining s k g number heard)
+  pub sends : (r : R) (s : S) → fits r s → (h : H) (l : K) → stands h l → (k : ℕ) (g : GroupNo) (content : Body) → IsSent b s l k g content → fits (sent_here a r h k g content) (sent_here b s l k g content)
   pub receive : (r : R) (s : S) → fits r s → (k : K) (from : SiteNo) (m : Message) → IsTaken b s k from m → fits (a.receive r m) (b.receive s m)
   pub note_request : (r : R) (s : S) → fits r s → (h : H) (k : K) → stands h k → (what : Change) (p : Proc) → fits (a.note_request r h what p) (b.note_request s k what p)
   pub note_answer : (r : R) (s : S) → fits r s → (h : H) (k : K) → stands h k → fits (a.note_answer r h) (b.note_answer s k)
@@ -132,6 +160,9 @@ pub record IsInvariant {S H : Type 0} (d : Site S H) (holds : S → Type 0) : Ty
 -- and after each of all moves
 pub record IsInvariantOfAll {S H : Type 0} (d : Site S H) (holds : S → Type 0) : Type 0 where
   pub keeps : IsInvariant d holds
+  pub push : (s : S) → holds s → (k : ℕ) (p : Push) → holds (d.push s k p)
+  pub note_joining : (s : S) → holds s → (k : ℕ) → d.is_open s k ≡ true → (g : GroupNo) (h : H) → d.place s g ≡ Some h → (number heard : ℕ) → holds (d.note_joining s k g number heard)
+  pub sends : (s : S) → holds s → (h : H) (k : ℕ) (g : GroupNo) (content : Body) → IsSent d s h k g content → holds (sent_here d s h k g content)
   pub receive : (s : S) → holds s → (h : H) (from : SiteNo) (m : Message) → IsTaken d s h from m → holds (d.receive s m)
   pub note_request : (s : S) → holds s → (h : H) (what : Change) (p : Proc) → holds (d.note_request s h what p)
   pub note_answer : (s : S) → holds s → (h : H) → holds (d.note_answer s h)
@@ -189,6 +220,13 @@ follows_itself_in_all d holds keeps = record {
   held = λ r s f. ap d.held f.0;
   is_received = λ r s f u counted. λ i. d.is_received (f.0 i) u;
   is_stable = λ r s f u counted. λ i. d.is_stable (f.0 i) u;
+  is_open = λ r s f k. λ i. d.is_open (f.0 i) k;
+  standing = λ r s f k g. λ i. d.standing (f.0 i) k g;
+  time = λ r s f k. λ i. d.time (f.0 i) k;
+  awaits_own = λ r s f k given. λ i. d.awaits_own (f.0 i) k;
+  push = λ r s f k p. (λ i. d.push (f.0 i) k p, keeps.push s f.1 k p);
+  note_joining = λ r s f k given g h at number heard. (λ i. d.note_joining (f.0 i) k g number heard, keeps.note_joining s f.1 k given g h at number heard);
+  sends = λ r s f h l at k g content sent. (λ i. sent_here d (f.0 i) (at i) k g content, keeps.sends s f.1 l k g content sent);
   receive = λ r s f k from m taken. (λ i. d.receive (f.0 i) m, keeps.receive s f.1 k from m taken);
   note_request = λ r s f h k at what p. (λ i. d.note_request (f.0 i) (at i) what p, keeps.note_request s f.1 k what p);
   note_answer = λ r s f h k at. (λ i. d.note_answer (f.0 i) (at i), keeps.note_answer s f.1 k);

@@ -5,9 +5,12 @@ use Rattle.cast_types.specs.declared.names.SiteNo.{SiteNo}
 use Rattle.cast_types.specs.declared.names.GroupNo.{GroupNo}
 use Rattle.cast_types.specs.declared.names.Proc.{Proc}
 use Rattle.cast_types.specs.declared.names.Uid.{Uid}
+use Rattle.cast_types.specs.declared.names.Standing.{Standing}
+use Rattle.cast_types.specs.Stamps.{ClockList}
 use Rattle.cast_message.specs.declared.message.Message.{Message}
 use Rattle.cast_message.specs.declared.site.Change.{Change}
 use Rattle.cast_message.specs.declared.site.SiteFrame.{SiteFrame}
+use Rattle.cast_message.specs.declared.client.Push.{Push}
 use Rattle.cast_message.specs.Membership.{Membership}
 use Rattle.cast_timer.specs.declared.key.OwedKey.{OwedKey}
 use Rattle.cast_model.specs.declared.config.DomainConfig.{DomainConfig}
@@ -42,6 +45,12 @@ pub record Site (S H : Type 0) : Type 0 where
   pub stable_upto : S → Uid → ℕ
   -- the kept message of an id
   pub message : S → Uid → Option Message
+  -- a session was opened
+  pub is_open : S → ℕ → Bool
+  -- what a local process is in a group, its time, and that it has not delivered an ABCAST of its own; processes are named by their serials
+  pub standing : S → ℕ → GroupNo → Standing
+  pub time : S → ℕ → ClockList
+  pub awaits_own : S → ℕ → Bool
   -- a frame is owed
   pub is_owed : S → OwedKey → Bool
   -- the frames that are due to be sent again, in their order
@@ -62,7 +71,13 @@ pub record Site (S H : Type 0) : Type 0 where
   pub note_ack : S → SiteNo → Uid → S
   -- it is noted that a process's messages up to one are stable
   pub note_stable : S → Uid → S
-  -- a message of another site is received
+  -- a program is told something
+  pub push : S → ℕ → Push → S
+  -- a local process joins a group by a request of this number, and had heard of views up to one
+  pub note_joining : S → ℕ → GroupNo → ℕ → ℕ → S
+  -- a local process has this time
+  pub note_time : S → ℕ → ClockList → S
+  -- a message is received
   pub receive : S → Message → S
   -- a local process has a request of a group
   pub note_request : S → H → Change → Proc → S

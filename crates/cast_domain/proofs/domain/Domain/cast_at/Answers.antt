@@ -3,13 +3,12 @@ use Rattle.std.specs.Prelude.{nat_lt}
 use Rattle.std.proofs.lemmas.Bool.Decides.{nat_tests}
 use Rattle.cast_types.specs.declared.limits.TheConstants.{MAX_PAYLOAD}
 use Rattle.cast_clock.specs.Times.{bumped, count_in}
-use Rattle.cast_history.specs.Step.{body_of}
+use Rattle.cast_history.specs.Rules.Commands.{body_of}
 use Rattle.cast_delay.specs.Ready.{is_member}
 use Rattle.cast_delay.specs.declared.row.Fact.TheVariants as fact
 use Rattle.cast_history.specs.Rules.Room.{may_receive}
-use Rattle.cast_history.specs.Rules.Sending.{send_message}
+use Rattle.cast_history.specs.Rules.Sending.{send_message, may_raise}
 use Rattle.cast_domain.specs.Records.{records_in}
-use Rattle.cast_history.specs.Effects.{may_raise}
 use Rattle.cast_domain.specs.Calls.{awaits_own_in, records, record_at, tell_in, standing_of, time_of, local_in}
 use Rattle.cast_domain.proofs.Attempts.{sent, cast_made, cast_owned, cast_full, cast_unraised, raised_none, raised_some}
 use Rattle.cast_domain.proofs.Loops.{seen_as}

@@ -9,7 +9,7 @@ use Rattle.cast_delay.specs.Ready.{is_member}
 use Rattle.cast_order.specs.Log.{log_of, next_places}
 use Rattle.cast_history.specs.Rules.Room.{may_order}
 use Rattle.cast_domain.specs.Records.{Records, records_in}
-use Rattle.cast_history.specs.Effects.{may_raise}
+use Rattle.cast_history.specs.Rules.Sending.{may_raise}
 use Rattle.cast_domain.specs.Calls.{records, let_go_in, record_at, send_places_in, set_order_by_in, standing_of, time_of}
 use Rattle.cast_domain.proofs.Attempts.{places_made, places_none, raised_none, raised_some}
 use Rattle.cast_domain.proofs.domain.Domain.set_order_by.Goals as goal

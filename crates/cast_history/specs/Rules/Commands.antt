@@ -1,0 +1,87 @@
+-- The rules of commands: what a program asks for, when it is refused, and its reply.
+use Rattle.std.specs.Prelude.{ℕ, ◌+◌, not, ◌==◌, nat_lt, if◌then◌else◌, List, length, Option, Some, None}
+use Rattle.std.specs.Option.{option_map_or}
+use Rattle.cast_types.specs.declared.names.GroupNo.{GroupNo}
+use Rattle.cast_types.specs.declared.names.Proc.{Proc}
+use Rattle.cast_types.specs.declared.refusal.Refusal.{Refusal}
+use Rattle.cast_types.specs.declared.refusal.Refusal.TheVariants.{NoGroup, NotMember, AlreadyMember, OwnAbcast, HeldFull, TooLong}
+use Rattle.cast_types.specs.declared.limits.TheConstants.{MAX_NUMBER, MAX_PAYLOAD}
+use Rattle.cast_types.specs.Stamps.{ClockList}
+use Rattle.cast_clock.specs.Times.{view_of, count_in, bumped}
+use Rattle.cast_message.specs.declared.message.Body.{Body}
+use Rattle.cast_message.specs.declared.message.Body.TheVariants as body
+use Rattle.cast_message.specs.declared.message.Message.{Message}
+use Rattle.cast_message.specs.declared.site.Change.TheVariants as change
+use Rattle.cast_message.specs.declared.client.CastKind.{CastKind}
+use Rattle.cast_message.specs.declared.client.CastKind.TheVariants as kind
+use Rattle.cast_message.specs.declared.client.Request.{Request}
+use Rattle.cast_message.specs.declared.client.Request.TheVariants.{Join, Leave, Cast}
+use Rattle.cast_message.specs.declared.client.Push.TheVariants as push
+use Rattle.cast_message.specs.declared.client.Command.{Command}
+use Rattle.cast_message.specs.declared.client.Command.TheVariants as command
+use Rattle.cast_delay.specs.Ready.{is_member, is_outside}
+use Rattle.cast_history.specs.Rules.Interface.{Site}
+use Rattle.cast_history.specs.Rules.Room.{may_receive}
+use Rattle.cast_history.specs.Rules.Sending.{may_raise, send_message}
+use Rattle.cast_history.specs.Rules.Requests.{request}
+
+-- a cast of a kind
+abbrev pub body_of : CastKind → List ℕ → Body
+body_of kind.Causal payload = body.Causal payload
+body_of kind.Atomic payload = body.Atomic payload
+
+-- what a call that may be refused leaves, and the refusal: a refused one leaves what was
+abbrev pub Attempt : Type 0 → Type 0
+Attempt S = S × Option Refusal
+
+-- each rule is of the local process of serial k, and of the group g, which stands at h
+module _ {S H : Type 0} (d : Site S H) where
+  -- the process's name
+  abbrev pub named_here : S → ℕ → Proc
+  named_here s k = record { site = d.here s; serial = k }
+
+  abbrev pub join_at : S → ℕ → GroupNo → H → Attempt S
+  join_at s k g h =
+      if not (is_outside (d.standing s k g)) then (s, Some AlreadyMember)
+      else if (d.group s h).asked == MAX_NUMBER then (s, Some HeldFull)
+      else (request d (d.note_joining s k g ((d.group s h).asked + 1) (view_of (d.time s k) g)) h change.Join (named_here s k), None)
+
+  abbrev pub join : S → ℕ → GroupNo → Attempt S
+  join s k g = option_map_or (join_at s k g) (d.place s g) (s, Some NoGroup)
+
+  -- the process's next message: its time, with its own count raised, stamps it
+  abbrev pub message_sent : S → ℕ → GroupNo → H → Body → Message
+  message_sent s k g h content =
+      let times : ClockList = bumped (d.time s k) g (named_here s k) in
+      record {
+        id = record { group = g; view = (d.group s h).number; proc = named_here s k; count = count_in times g (named_here s k) };
+        times = times;
+        body = content;
+      }
+
+  abbrev pub cast_at : S → ℕ → GroupNo → CastKind → List ℕ → H → Attempt S
+  cast_at s k g cast payload h =
+      if nat_lt MAX_PAYLOAD (length payload) then (s, Some TooLong)
+      else if not (is_member (d.standing s k g)) then (s, Some NotMember)
+      else if d.awaits_own s k then (s, Some OwnAbcast)
+      else if not (may_receive d s) then (s, Some HeldFull)
+      else if not (may_raise (d.time s k) g (named_here s k)) then (s, Some HeldFull)
+      else (send_message d (d.note_time s k (bumped (d.time s k) g (named_here s k))) (message_sent s k g h (body_of cast payload)), None)
+
+  abbrev pub cast : S → ℕ → GroupNo → CastKind → List ℕ → Attempt S
+  cast s k g kind payload = option_map_or (cast_at s k g kind payload) (d.place s g) (s, Some NoGroup)
+
+  -- the program is told whether its request was refused
+  abbrev pub reply : Attempt S → ℕ → ℕ → S
+  reply a k tag = d.push a.0 k (push.Reply tag a.1)
+
+  -- there is no rule for leaves yet: they are ignored
+  abbrev pub requested : S → ℕ → Request → S
+  requested s k (Join tag g) = reply (join s k g) k tag
+  requested s k (Leave tag g) = s
+  requested s k (Cast tag g kind payload) = reply (cast s k g kind payload) k tag
+
+  -- and so are bytes that are no frame, and all that is said in a session that is not open
+  abbrev pub commanded : S → ℕ → Command → S
+  commanded s k (command.Request q) = if d.is_open s k then requested s k q else s
+  commanded s k command.Bad = s
