@@ -10,7 +10,7 @@
 //!
 //! The definitions are in `specs/`: `State` has what a domain knows and what of it is kept and stable, `Order` the order
 //! of a view and when a message is ready. `Rules` has the rules that are written over what they ask of a domain and do to it:
-//! those of frames, owed frames and ticks, own messages that are sent, and the home; `History` is the history as they see it, of
+//! those of commands, frames, owed frames and ticks, and the home; `History` is the history as they see it, of
 //! which `Owing` and `Entering` are parts. `Effects`, `Rest` and `Step` say what else events do, and `Run` what a domain that is
 //! served alone answers, pushes and sends. `Lawful` is what holds of each history that events lead to, `Endings` what its rest promises, and `Raising` that a member
 //! counts members alone. The values that they speak of are those of `cast_model`, and of the parts only the definitions are
