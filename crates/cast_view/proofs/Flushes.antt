@@ -38,18 +38,17 @@ module _ (g : GroupNo) (h : Home) (awaited : List SiteNo) (reports : Reports) (b
       ∙ sym (ap (λ (b : Bool). if b then wants_of g h.number (cut_from h.members.list reports) reports bodies else []) complete)
       ∙ sym (ap (wants_in g h) gathers)
 
--- the home after a decision, by its parts
-pub decided_parts :
+-- the home that passes to the next view, by its parts
+pub passed_parts :
     (h : Home) (list : List Proc) (holder : Option Proc) (members : Membership) (joins leavings : List Proc) (suspected : List SiteNo) (phase : Phase)
     → members ≡ record { list = list; holder = holder } → list ≡ decided_list h → holder ≡ decided_holder h list
-    → joins ≡ filter (λ p. is_suspected h p.site) h.joins → leavings ≡ [] → suspected ≡ [] → phase ≡ decided_phase h list h.phase
-    → record { number = h.number + 1; members = members; joins = joins; leavings = leavings; suspected = suspected; answers = h.answers; phase = phase } ≡ decided h
-decided_parts h list holder members joins leavings suspected phase with_both with_list with_holder with_joins with_leavings with_suspected with_phase =
+    → joins ≡ filter (λ p. is_suspected h p.site) h.joins → leavings ≡ [] → suspected ≡ []
+    → record { number = h.number + 1; members = members; joins = joins; leavings = leavings; suspected = suspected; answers = h.answers; phase = phase } ≡ record (decided h) { phase = phase }
+passed_parts h list holder members joins leavings suspected phase with_both with_list with_holder with_joins with_leavings with_suspected =
     let holders = with_holder ∙ ap (decided_holder h) with_list in
     let memberships : record { list = list; holder = holder } ≡ decided_members h = λ i. record { list = with_list i; holder = holders i } in
     let both = with_both ∙ memberships in
-    let phases = with_phase ∙ ap (λ (l : List Proc). decided_phase h l h.phase) with_list in
-    λ i. record { number = h.number + 1; members = both i; joins = with_joins i; leavings = with_leavings i; suspected = with_suspected i; answers = h.answers; phase = phases i }
+    λ i. record { number = h.number + 1; members = both i; joins = with_joins i; leavings = with_leavings i; suspected = with_suspected i; answers = h.answers; phase = phase }
 
 -- where it may decide the home is the decided one
 pub decision_taken : (g : GroupNo) (h : Home) → may_decide g h ≡ true → decided h ≡ after_decision g h

@@ -194,7 +194,7 @@ next_installing n [] decision bodies = refl
 next_installing n (s ∷ waiting) decision bodies = refl
 
 -- after a decision none is needed
-next_decided : (h : Home) (n : ℕ) (members : List Proc) (phase : Phase) → has_next_number n (decided_phase h members phase) ≡ true
+pub next_decided : (h : Home) (n : ℕ) (members : List Proc) (phase : Phase) → has_next_number n (decided_phase h members phase) ≡ true
 next_decided h n members Idle = refl
 next_decided h n members (Gathering awaited reports bodies) =
     next_installing n (with_items site_cmp (sites_of members) awaited)
@@ -231,6 +231,12 @@ sound_decided h sound =
     join_expected h p
     (and_parts (is_among proc_eq p h.joins) (is_suspected h p.site) (sym (among_kept proc_eq same_proc (λ q. is_suspected h q.site) p h.joins) ∙ join)).0))
     (next_decided h (h.number + 1) (decided_list h) h.phase)
+
+-- in whatever phase that needs no further number
+pub sound_passed : (h : Home) (phase : Phase) → has_next_number (h.number + 1) phase ≡ true → IsTrue (is_sound h) → IsTrue (is_sound (record (decided h) { phase = phase }))
+sound_passed h phase next sound =
+    let parts = and_parts (nat_le (length (expected (decided h))) MAX_MEMBERS) (has_next_number (h.number + 1) (decided_phase h (decided_list h) h.phase)) (sound_decided h sound) in
+    and_from (nat_le (length (expected (decided h))) MAX_MEMBERS) (has_next_number (h.number + 1) phase) parts.0 next
 
 -- where a process is not crowded out, there is room for one beside the others
 not_crowded : (h : Home) (p : Proc) → is_crowded h p ≡ false → length (without proc_eq p (expected h)) < MAX_MEMBERS

@@ -1,4 +1,5 @@
-ghost use Rattle.std.specs.Prelude.{◌≡◌, ◌≤◌, false, IfOk, OnOk, IsTrue, List, length};
+ghost use Rattle.std.specs.Prelude.{◌≡◌, ◌+◌, ◌<◌, ◌≤◌, false, IfOk, OnOk, IsTrue, List, length};
+ghost use Rattle.cast_types.specs.declared.limits.TheConstants.{MAX_NUMBER};
 ghost use Rattle.cast_types.specs.Names.{Entry, proc_cmp, proc_eq, site_cmp, site_eq};
 ghost use Rattle.cast_types.specs.Sets.{with_item, with_items, without, apart_from};
 ghost use Rattle.cast_message.specs.Membership.{is_held};
@@ -42,7 +43,7 @@ impl Model for HomeSide {
 }
 
 impl HomeSide {
-    ghost use Rattle.cast_view.specs.Home.{first_home, answer_of, answer_to, is_refused, is_crowded, expected, stays, marked_leaving, with_suspect, changed_by, after_ask, after_suspicion, may_start, after_start, takes_report, after_reply, after_body, bodies_of, wants_in, may_decide, decided_list, decided_holder, decided_phase, after_decision, takes_installed, after_installed};
+    ghost use Rattle.cast_view.specs.Home.{first_home, answer_of, answer_to, is_refused, is_crowded, expected, stays, marked_leaving, with_suspect, changed_by, after_ask, after_suspicion, may_start, after_start, takes_report, after_reply, after_body, bodies_of, wants_in, may_decide, decided_list, decided_holder, decided_phase, decided, has_next_number, after_decision, takes_installed, after_installed};
 
     /// No view, nothing to change and no requests.
     pub fn new(alloc: Global) -> Self
@@ -347,18 +348,28 @@ impl HomeSide {
         if !self.may_decide(group)? {
             return Ok(false);
         }
-        let alloc = self.joins.alloc();
         let list = self.decided_list()?;
-        let holder = self.decided_holder(list.as_slice());
         let phase = mem::replace(&mut self.phase, Phase::Idle);
         let phase = self.decided_phase(phase, list.as_slice())?;
-        let suspected = mem::replace(&mut self.suspected, Vec::new(alloc));
+        self.pass_to(list, phase);
+        Ok(true)
+    }
+
+    // Passes to the next view, which has this list of members, and to the phase after the decision. Takes no memory.
+    fn pass_to(&mut self, list: Procs, phase: Phase)
+        requires number { self.old.number < MAX_NUMBER }
+        requires list { list ≡ decided_list self.old }
+        requires few { length list ≤ 64 }
+        requires phase { IsTrue (has_next_number (self.old.number + 1) phase) }
+        ensures { self.new ≡ record (decided self.old) { phase = phase } }
+    {
+        let holder = self.decided_holder(list.as_slice());
+        let suspected = mem::replace(&mut self.suspected, Vec::new(self.joins.alloc()));
         self.joins.keep_at(&suspected);
-        self.leavings = Procs::new(alloc);
+        self.leavings = Procs::new(self.joins.alloc());
         self.members = Members::from_parts(list.into_vec(), holder);
         self.number += 1;
         self.phase = phase;
-        Ok(true)
     }
 
     // The members that stay, and the joins that are not at suspected sites.
