@@ -1,4 +1,4 @@
--- What one event does to a table of domains.
+-- What events do to a table of domains: each alone, and one after another.
 use Rattle.std.specs.Prelude.{◌≡◌, ◌≢◌, ◌==◌, nat_le, nat_lt, if◌then◌else◌, ℕ, Bool, true, false, List, [], ◌∷◌, ◌++◌, length, Option, Some, None, unwrap_or, Result, Ok, Err, slice_get, slice_set}
 use Rattle.std.specs.Option.{option_to_list}
 use Rattle.std.specs.List.{find, list_any, list_all, position_from}

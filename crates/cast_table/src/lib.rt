@@ -5,7 +5,7 @@
 //! served alone, with no other event; where nothing halts it, it pushes the same, and where something did, it refuses from
 //! then on (`replay`).
 //!
-//! The definitions are in `specs/`: `Tables` has what one event does to a table of domains, `Replays` what a whole list
+//! The definitions are in `specs/`: `Tables` has what events do to a table of domains, `Replays` what a whole list
 //! of events gives.
 #![tactic(auto)]
 

@@ -317,8 +317,8 @@ fn given_by(
 {
     let number = domain.number();
     let halted = domain.is_halted();
-    let sent = sent_for(alloc, number, frames)?;
     let pushes = pushes_to(alloc, domain.into_sessions())?;
+    let sent = sent_for(alloc, number, frames)?;
     Ok(Given {
         domain: number,
         pushes,
