@@ -216,6 +216,14 @@ impl HomeSide {
         self.joins.remove(process);
     }
 
+    // Sets the phase.
+    fn set_phase(&mut self, phase: Phase)
+        requires { IsTrue (has_next_number self.old.number phase) }
+        ensures { self.new ≡ record self.old { phase = phase } }
+    {
+        self.phase = phase;
+    }
+
     /// Takes in that a site is suspected: its members, where the view has some, do not come into the next one, and the
     /// flush awaits nothing from it.
     pub fn suspect(&mut self, site: SiteNo) -> Result<(), NoMemory>
@@ -223,7 +231,7 @@ impl HomeSide {
     {
         self.mark_suspected(site)?;
         let phase = mem::replace(&mut self.phase, Phase::Idle);
-        self.phase = phase.without(site);
+        self.set_phase(phase.without(site));
         Ok(())
     }
 
@@ -275,7 +283,8 @@ impl HomeSide {
             return Ok(false);
         }
         let phase = mem::replace(&mut self.phase, Phase::Idle);
-        self.phase = phase.with_report(site, report)?;
+        let phase = phase.with_report(site, report)?;
+        self.set_phase(phase);
         Ok(true)
     }
 
@@ -317,7 +326,8 @@ impl HomeSide {
         ensures { OnOk result (self.new ≡ after_body self.old message) }
     {
         let phase = mem::replace(&mut self.phase, Phase::Idle);
-        self.phase = phase.with_body(message)?;
+        let phase = phase.with_body(message)?;
+        self.set_phase(phase);
         Ok(())
     }
 
@@ -445,7 +455,7 @@ impl HomeSide {
             return false;
         }
         let phase = mem::replace(&mut self.phase, Phase::Idle);
-        self.phase = phase.without(site);
+        self.set_phase(phase.without(site));
         true
     }
 }
