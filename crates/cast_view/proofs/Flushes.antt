@@ -13,7 +13,7 @@ use Rattle.cast_message.specs.Membership.{Membership}
 use Rattle.cast_view.specs.declared.phase.Phase.{Phase}
 use Rattle.cast_view.specs.declared.phase.Phase.TheVariants.{Gathering}
 use Rattle.cast_flush.specs.Reports.{Reports, is_complete, cut_from, wanting, want_of, wants_of}
-use Rattle.cast_view.specs.Home.{Home, is_empty, is_suspected, may_decide, may_decide_in, wants_in, decided_list, decided_holder, decided_members, decided_phase, decided, after_decision}
+use Rattle.cast_view.specs.Home.{Home, is_empty, is_suspected, may_decide, may_decide_in, wants_in, decided_list, decided_holder, decided_members, decided, after_decision}
 
 -- a list without items is empty
 empty_length : {A : Type 0} (xs : List A) → (length xs == 0) ≡ is_empty xs

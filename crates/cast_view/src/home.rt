@@ -361,17 +361,18 @@ impl HomeSide {
         let list = self.decided_list()?;
         let phase = mem::replace(&mut self.phase, Phase::Idle);
         let phase = self.decided_phase(phase, list.as_slice())?;
-        self.pass_to(list, phase);
+        self.pass_to(list);
+        self.set_phase(phase);
         Ok(true)
     }
 
-    // Passes to the next view, which has this list of members, and to the phase after the decision. Takes no memory.
-    fn pass_to(&mut self, list: Procs, phase: Phase)
+    // Passes to the next view, which has this list of members, in the phase as it is. Takes no memory.
+    fn pass_to(&mut self, list: Procs)
         requires number { self.old.number < MAX_NUMBER }
         requires list { list ≡ decided_list self.old }
         requires few { length list ≤ 64 }
-        requires phase { IsTrue (has_next_number (self.old.number + 1) phase) }
-        ensures { self.new ≡ record (decided self.old) { phase = phase } }
+        requires phase { IsTrue (has_next_number (self.old.number + 1) self.old.phase) }
+        ensures { self.new ≡ record (decided self.old) { phase = self.old.phase } }
     {
         let holder = self.decided_holder(list.as_slice());
         let suspected = mem::replace(&mut self.suspected, Vec::new(self.joins.alloc()));
@@ -379,7 +380,6 @@ impl HomeSide {
         self.leavings = Procs::new(self.joins.alloc());
         self.members = Members::from_parts(list.into_vec(), holder);
         self.number += 1;
-        self.phase = phase;
     }
 
     // The members that stay, and the joins that are not at suspected sites.
