@@ -43,7 +43,7 @@ impl Model for HomeSide {
 }
 
 impl HomeSide {
-    ghost use Rattle.cast_view.specs.Home.{first_home, answer_of, answer_to, is_refused, is_crowded, expected, stays, marked_leaving, with_suspect, changed_by, after_ask, after_suspicion, may_start, after_start, takes_report, after_reply, after_body, bodies_of, wants_in, may_decide, decided_list, decided_holder, decided_phase, decided, has_next_number, after_decision, takes_installed, after_installed};
+    ghost use Rattle.cast_view.specs.Home.{first_home, answer_of, answer_to, is_refused, is_crowded, expected, stays, marked_leaving, with_suspect, changed_by, after_request, after_ask, after_suspicion, may_start, after_start, takes_report, after_reply, after_body, bodies_of, wants_in, may_decide, decided_list, decided_holder, decided_phase, decided, has_next_number, after_decision, takes_installed, after_installed};
 
     /// No view, nothing to change and no requests.
     pub fn new(alloc: Global) -> Self
@@ -127,12 +127,27 @@ impl HomeSide {
         if number - last.number > 1 {
             return Ok(None);
         }
+        let full = self.apply(site, number, change, process)?;
+        Ok(Some(full))
+    }
+
+    // Applies the next request of a site, and answers whether it is refused.
+    fn apply(
+        &mut self,
+        site: SiteNo,
+        number: u32,
+        change: Change,
+        process: Proc,
+    ) -> Result<bool, NoMemory>
+        ensures value { IfOk result (λ full. full ≡ is_refused self.old site change process) }
+        ensures new { OnOk result (self.new ≡ after_request self.old site number change process) }
+    {
         let full = self.is_refused(site, change, process)?;
         if process.site == site && !full {
             self.change(change, process)?;
         }
         self.answers.put(site, Answer { number, full })?;
-        Ok(Some(full))
+        Ok(full)
     }
 
     // Whether a request is refused: a join of a process of the asking site for which there is no room.

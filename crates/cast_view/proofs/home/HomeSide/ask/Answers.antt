@@ -6,6 +6,3 @@ returns-clause-answer c = search rules
 
 pub returns-clause-new : goal.returns-clause-new
 returns-clause-new c = search rules
-
-pub returns-then-number-last-clause-answer : goal.returns-then-number-last-clause-answer
-returns-then-number-last-clause-answer c = search rules
