@@ -1,0 +1,28 @@
+//! The tests of the crates below the domain, of scripts, of printed texts and of the bytes of programs. Each is a list of rows: calls
+//! with what they answer, and what is then seen.
+#![tactic(auto)]
+
+#[cfg(test)]
+mod clock;
+#[cfg(test)]
+mod delay;
+#[cfg(test)]
+mod faults;
+#[cfg(test)]
+mod home;
+#[cfg(test)]
+mod messages;
+#[cfg(test)]
+mod order;
+#[cfg(test)]
+mod pumps;
+#[cfg(test)]
+mod pushes;
+#[cfg(test)]
+mod stable;
+#[cfg(test)]
+mod store;
+#[cfg(test)]
+mod timer;
+#[cfg(test)]
+mod types;
