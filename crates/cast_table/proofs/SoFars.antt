@@ -46,7 +46,7 @@ new_numbered here [] (d ∷ ds) new = absurd new
 new_numbered here (c ∷ cs) [] new = absurd new
 new_numbered here (c ∷ cs) (d ∷ ds) new = (new.0.number, new_numbered here cs ds new.1)
 
-pub so_far_none : (config : Config) (l : Lent) (ds : List Domain) → l.outs.frames ≡ [] → ((q : DomainNo) → part_of q l.shared ≡ no_part) → AllZip (IsNew config.site) config.domains ds → SoFar config [] [] l ds
+so_far_none : (config : Config) (l : Lent) (ds : List Domain) → l.outs.frames ≡ [] → ((q : DomainNo) → part_of q l.shared ≡ no_part) → AllZip (IsNew config.site) config.domains ds → SoFar config [] [] l ds
 so_far_none config l ds none unshared new =
     record {
       numbers = new_numbered config.site config.domains ds new;
@@ -188,7 +188,7 @@ module _ (config : Config) (events : List Event) (answers : List (Result Taken F
           | Some place ↦ more_there place
         ] refl applied
 
-  pub so_far_more : IsApplied a e old new before after → More
+  so_far_more : IsApplied a e old new before after → More
   so_far_more applied =
       elim (domain_of e) as (λ o. domain_of e ≡ o → IsAppliedTo o a e old new before after → More) [
         | None ↦ more_ticked
@@ -196,7 +196,7 @@ module _ (config : Config) (events : List Event) (answers : List (Result Taken F
       ] refl applied
 
 -- and many
-pub so_far_each : (config : Config) (events : List Event) (answers : List (Result Taken Fault)) (l : Lent) (ds : List Domain) → SoFar config events answers l ds → (said : List (Result Taken Fault)) (more : List Event) (new : List Domain) (after : Lent) → AreApplied said more ds new l after → SoFar config (events ++ more) (answers ++ said) after new
+so_far_each : (config : Config) (events : List Event) (answers : List (Result Taken Fault)) (l : Lent) (ds : List Domain) → SoFar config events answers l ds → (said : List (Result Taken Fault)) (more : List Event) (new : List Domain) (after : Lent) → AreApplied said more ds new l after → SoFar config (events ++ more) (answers ++ said) after new
 so_far_each config events answers l ds so_far [] [] new after applied =
     let same = subst (λ ns. SoFar config events answers l ns) (sym applied.0) so_far in
     let there = subst (λ k. SoFar config events answers k new) (sym applied.1) same in
@@ -209,3 +209,8 @@ so_far_each config events answers l ds so_far (a ∷ said) (e ∷ more) new afte
     let rest = so_far_each config (events ++ e ∷ []) (answers ++ a ∷ []) applied.2 applied.1 one said more new after applied.4 in
     subst (λ es. SoFar config es (answers ++ a ∷ said) after new) (append_assoc events (e ∷ []) more)
     (subst (λ told. SoFar config ((events ++ e ∷ []) ++ more) told after new) (append_assoc answers (a ∷ []) said) rest)
+
+-- all, from new domains on
+pub so_far_all : (config : Config) (events : List Event) (answers : List (Result Taken Fault)) (first last : Lent) (olds news : List Domain) → first.outs.frames ≡ [] → ((q : DomainNo) → part_of q first.shared ≡ no_part) → AllZip (IsNew config.site) config.domains olds → AreApplied answers events olds news first last → SoFar config events answers last news
+so_far_all config events answers first last olds news none unshared new applied =
+    so_far_each config [] [] first olds (so_far_none config first olds none unshared new) answers events news last applied

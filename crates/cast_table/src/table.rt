@@ -231,7 +231,7 @@ fn apply_each(
     events: &[Event],
     outs: &mut Outs,
 ) -> Result<Listed<Result<Taken, Fault>>, NoMemory>
-    ensures { IfOk result (λ answers. AreApplied answers events.now (domains_of table.old) (domains_of table.new) (lent table.old outs.old) (lent table.new outs.new)) }
+    ensures { IfOk result (λ all. AreApplied all events.now (domains_of table.old) (domains_of table.new) (lent table.old outs.old) (lent table.new outs.new)) }
 {
     let mut answers = Listed::new(alloc);
     for event in events {
