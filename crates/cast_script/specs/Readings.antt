@@ -16,7 +16,7 @@ use Rattle.cast_words.specs.Words.{parted}
 use Rattle.cast_words.specs.Readings.{◌>>=◌, each}
 use Rattle.cast_lines.specs.Readings.{site_line, domain_line, event_line}
 
--- the same of lines, where a fault has the number of its line
+-- what a function returned of lines is what reading gives, unless memory ran out; a fault has the number of its line
 abbrev pub GivesAt : {X : Type 0} → Result X ScriptFault → Result X (ℕ × Reason) → Type 0
 GivesAt (Ok x) read = read ≡ Ok x
 GivesAt (Err (script.At line reason)) read = read ≡ Err (line, reason)
