@@ -2,6 +2,7 @@ pub mod Numbers
 pub mod Many
 pub mod Fields
 pub mod Lists
+pub mod Pieces
 pub mod Parts
 pub mod Holders
 pub mod Orders
