@@ -1,22 +1,28 @@
-//! The command line of `castd`: what its words ask for, and the status that the program ends with.
+//! The command line of `castd`: what its words ask for.
 //!
 //! Promised: nothing but that every call is safe and returns. What is promised of a replay stands in the crate `cast_replay`.
 #![tactic(auto)]
 
-use cast_device::Watched;
-use cast_replay::{RunFault, complain, no_memory, run_script};
 use clap::error::ErrorKind;
 use clap::{Arg, ArgAction, ArgMatches, Command};
-use std::alloc::Global;
-use std::io::Write;
-use std::rt::{Env, Files};
-use std::{env, fs, io};
+use std::alloc::{AllocError, Global};
+use std::rt::Env;
+use std::{env, io};
 
 // The status of a command line that is not understood.
 const USAGE: u8 = 2;
 
 // The version of the program.
 const VERSION: &str = "0.1.0";
+
+/// What a command line asks for.
+pub enum Asked {
+    /// To replay the script in the file of this name.
+    Replay(String),
+    /// For no more than was printed: the program ends with this status, 0 where help or the version was asked for and 2 where
+    /// something is not understood.
+    Ended(u8),
+}
 
 // The words that the program understands.
 fn command<'a>(alloc: Global) -> Result<Command<'a>, clap::Error> {
@@ -48,62 +54,51 @@ fn file_of<'a>(matches: &ArgMatches<'a>) -> Option<&'a str> {
 }
 
 // Says what is wrong with the command line, or prints the help that it asks for.
-fn usage<R: Print + Eprint, E: Write>(rt: &R, error: &clap::Error, err: &mut Watched<E>) -> u8 {
+fn usage<R: Print + Eprint>(rt: &R, error: &clap::Error) -> Result<Asked, AllocError> {
     if error.kind() == ErrorKind::OutOfMemory {
-        return no_memory(err);
+        return Err(AllocError);
     }
     let _ = error.print(rt);
-    if error.use_stderr() { USAGE } else { 0 }
+    Ok(Asked::Ended(if error.use_stderr() { USAGE } else { 0 }))
 }
 
-// Replays the script in a file.
-fn replay_file<R: Files + AllocGlobal, O: Write, E: Write>(
-    rt: &R,
-    name: &str,
-    out: &mut Watched<O>,
-    err: &mut Watched<E>,
-) -> u8 {
-    match fs::read(rt, name) {
-        Ok(bytes) => run_script(rt.alloc(), name, &bytes, out, err),
-        Err(error) if error.kind() == io::ErrorKind::OutOfMemory => no_memory(err),
-        Err(_) => complain(rt.alloc(), name, RunFault::Unreadable, err),
-    }
-}
-
-/// Does what these words ask for, the first of which names the program, and answers the status.
-pub fn run_words<R: Files + Print + Eprint + AllocGlobal, O: Write, E: Write>(
+/// What these words ask for, of which the first names the program. Help that is asked for is printed, and what is not understood
+/// is said on standard error.
+///
+/// # Errors
+/// `AllocError` where memory ran out.
+pub fn read_words<R: Print + Eprint + AllocGlobal>(
     rt: &R,
     words: &[String],
-    out: &mut Watched<O>,
-    err: &mut Watched<E>,
-) -> u8 {
+) -> Result<Asked, AllocError> {
     let matches = match matches_of(rt.alloc(), words) {
         Ok(matches) => matches,
-        Err(error) => return usage(rt, &error, err),
+        Err(error) => return usage(rt, &error),
     };
-    match file_of(&matches) {
-        Some(name) => replay_file(rt, name, out, err),
-        None => USAGE,
-    }
+    Ok(match file_of(&matches) {
+        Some(name) => Asked::Replay(String::from_str(rt.alloc(), name)?),
+        None => Asked::Ended(USAGE),
+    })
 }
 
 // The words of the command line.
-fn arguments<R: Env + AllocGlobal>(rt: &R) -> io::Result<Vec<String>> {
+fn words<R: Env + AllocGlobal>(rt: &R) -> io::Result<Vec<String>> {
     Ok(env::args(rt)?.collect(rt.alloc())?)
 }
 
-/// Does what the command line asks for, and answers the status of the program.
-pub fn run_program<R: Env + Files + Print + Eprint + AllocGlobal, O: Write, E: Write>(
+/// What the program's own command line asks for, as `read_words` says.
+///
+/// # Errors
+/// `AllocError` where memory ran out.
+pub fn read_command_line<R: Env + Print + Eprint + AllocGlobal>(
     rt: &R,
-    out: &mut Watched<O>,
-    err: &mut Watched<E>,
-) -> u8 {
-    match arguments(rt) {
-        Ok(words) => run_words(rt, &words, out, err),
-        Err(error) if error.kind() == io::ErrorKind::OutOfMemory => no_memory(err),
+) -> Result<Asked, AllocError> {
+    match words(rt) {
+        Ok(words) => read_words(rt, &words),
+        Err(error) if error.kind() == io::ErrorKind::OutOfMemory => Err(AllocError),
         Err(_) => {
-            let _ = writeln!(err.device, "error: the arguments cannot be read");
-            USAGE
+            let _ = eprintln!(rt; "error: the arguments cannot be read");
+            Ok(Asked::Ended(USAGE))
         }
     }
 }

@@ -1,5 +1,5 @@
 -- How the replay of a file ends, and what the program says of it.
-use Rattle.std.specs.Prelude.{◌≡◌, ◌⊎◌, ℕ, List, [], ◌++◌, codes, Option, Result, Ok, Err}
+use Rattle.std.specs.Prelude.{◌≡◌, ◌⊎◌, ℕ, List, [], ◌++◌, codes, Option, None, Some, Result, Ok, Err}
 use Rattle.std.specs.Io.KnownBytes.{Appends}
 use Rattle.std.specs.Fmt.{decimal}
 use Rattle.std.specs.Str.{IsUtf8}
@@ -19,6 +19,11 @@ Ends bytes (Ok text) = IsUtf8 bytes × Shows bytes text
 Ends bytes (Err Unreadable) = ¬ (IsUtf8 bytes)
 Ends bytes (Err (BadLine line reason)) = IsUtf8 bytes × (script_of bytes ≡ Err (line, reason))
 Ends bytes (Err NoMemory) = IsUtf8 bytes
+
+-- the same of a file, which has these bytes, or could not be read
+abbrev pub EndsOn : Option (List ℕ) → Result (List ℕ) RunFault → Type 0
+EndsOn (Some bytes) end = Ends bytes end
+EndsOn None end = (end ≡ Err Unreadable) ⊎ (end ≡ Err NoMemory)
 
 -- the same of a text, seen by view
 abbrev pub EndsAs : {T : Type 0} → (T → List ℕ) → List ℕ → Result T RunFault → Type 0

@@ -1,10 +1,10 @@
-ghost use Rattle.std.specs.Prelude.{◌≡◌, ◌≢◌, ℕ, List, [], IfOk, IfErr, Err};
+ghost use Rattle.std.specs.Prelude.{◌≡◌, ◌≢◌, ℕ, List, [], Option, IfOk, IfErr, Err};
 ghost use Rattle.std.specs.Str.{IsUtf8};
 ghost use Rattle.std.specs.String.{string_bytes};
 ghost use Rattle.std.specs.declared.result.Result.{Result};
 ghost use Rattle.cast_device.specs.Watching.{HasFailedOrStalled};
 ghost use Rattle.cast_script.specs.declared.script.ScriptFault.{ScriptFault};
-ghost use Rattle.cast_replay.specs.Ends.{Ends, EndsAs, IsTold, IsToldOf, fault_text, faulted, output_of, status_of};
+ghost use Rattle.cast_replay.specs.Ends.{Ends, EndsAs, EndsOn, IsTold, IsToldOf, fault_text, faulted, output_of, status_of};
 ghost use Rattle.cast_replay.specs.declared.run.RunFault.TheVariants.{NoMemory, Unreadable};
 
 use cast_device::{Watched, write_whole};
@@ -14,6 +14,8 @@ use cast_table::replay;
 use cast_types::NoMemory;
 use std::alloc::{AllocError, Global};
 use std::io::Write;
+use std::rt::Files;
+use std::{fs, io};
 use thiserror::Error;
 
 /// Why a file has no log.
@@ -140,6 +142,28 @@ pub fn run_script<O: Write, E: Write>(
             0
         }
         Err(fault) => complain(alloc, name, fault, err),
+    }
+}
+
+/// Replays the script in the file of this name, as `run_script` does, and answers the status of the program. Where the file
+/// cannot be read, that is said.
+pub fn replay_file<R: Files + AllocGlobal, O: Write, E: Write>(
+    files: &R,
+    name: &str,
+    out: &mut Watched<O>,
+    err: &mut Watched<E>,
+) -> u8
+    // There are bytes, of which all that was written is the end; or they cannot be read, and that was said.
+    ensures ended { (bytes : Option (List ℕ)) × (end : Result (List ℕ) RunFault) × EndsOn bytes end × (result ≡ status_of end)
+        × IsTold (O.contents out.old.device) (O.contents out.new.device) (output_of end) (HasFailedOrStalled out.new)
+        × IsToldOf (E.contents err.old.device) (E.contents err.new.device) name.now end (HasFailedOrStalled err.new) }
+    ensures done { result ≡ 0 → err.new.device ≡ err.old.device }
+    ensures failed { result ≢ 0 → out.new.device ≡ out.old.device }
+{
+    match fs::read(files, name) {
+        Ok(bytes) => run_script(files.alloc(), name, &bytes, out, err),
+        Err(error) if error.kind() == io::ErrorKind::OutOfMemory => no_memory(err),
+        Err(_) => complain(files.alloc(), name, RunFault::Unreadable, err),
     }
 }
 

@@ -1,7 +1,8 @@
 //! Command lines: what is printed for each, what is said of an error in its file, and the status.
 
-use cast_arguments::run_words;
+use cast_arguments::{Asked, read_words};
 use cast_device::Watched;
+use cast_replay::{no_memory, replay_file};
 use std::alloc::{AllocError, Global};
 use std::io::{self, Write};
 use std::rt::Files;
@@ -32,7 +33,11 @@ fn try_line<R: Files + Print + Eprint + AllocGlobal>(rt: &R, line: &str) -> io::
     let mut log = Watched::new(Vec::new(rt.alloc()));
     let mut told = Watched::new(Vec::new(rt.alloc()));
     println!(rt; "== {line}")?;
-    let status = run_words(rt, &words, &mut log, &mut told);
+    let status = match read_words(rt, &words) {
+        Ok(Asked::Replay(file)) => replay_file(rt, &file, &mut log, &mut told),
+        Ok(Asked::Ended(status)) => status,
+        Err(_) => no_memory(&mut told),
+    };
     let mut out = io::writer(rt);
     out.write_all(&log.device)?;
     out.write_all(&told.device)?;

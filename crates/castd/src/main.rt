@@ -4,12 +4,17 @@
 //! The command line stands in the crate `cast_arguments`, and what is promised of the printed text in `cast_replay`.
 #![tactic(auto)]
 
-use cast_arguments::run_program;
+use cast_arguments::{Asked, read_command_line};
 use cast_device::Watched;
+use cast_replay::{no_memory, replay_file};
 use std::process::ExitCode;
 
 fn main(rt: HostRuntime) -> ExitCode {
     let mut out = Watched::new(rt.stdout());
     let mut err = Watched::new(rt.stderr());
-    ExitCode::from(run_program(&rt, &mut out, &mut err))
+    ExitCode::from(match read_command_line(&rt) {
+        Ok(Asked::Replay(file)) => replay_file(&rt, &file, &mut out, &mut err),
+        Ok(Asked::Ended(status)) => status,
+        Err(_) => no_memory(&mut err),
+    })
 }
