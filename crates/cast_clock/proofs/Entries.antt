@@ -7,6 +7,7 @@ use Rattle.std.specs.List.{list_all}
 use Rattle.std.proofs.lemmas.Cmp.{tied_itself}
 use Rattle.std.proofs.lemmas.Map.Lookups.{CmpEqualImpliesEq}
 use Rattle.std.specs.FinMap.Entries.{is_sorted, below_all, put, by_order, find, find_tied, find-put}
+use Rattle.cast_types.proofs.Bools.{and_end}
 
 pub as_T : (b : Bool) → IsTrue b → T b
 as_T b h = subst T (sym h) tt
@@ -26,10 +27,6 @@ and_both false b h = cc
 pub and_true : (a b : Bool) → a ≡ true → b ≡ true → (a && b) ≡ true
 and_true true b g h = h
 and_true false b g h = g
-
-and_end : (b : Bool) → (b && true) ≡ b
-and_end true = refl
-and_end false = refl
 
 apart : {A : Type 0} (v : A) → Some v ≡ None → ⊥
 apart v h = cc

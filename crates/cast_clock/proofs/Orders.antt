@@ -17,7 +17,8 @@ use Rattle.cast_types.specs.Stamps.{ClockList}
 use Rattle.cast_clock.specs.Times.{first_clock, clock_of, counts_at_most, clock_at_most, at_most, IsAtMost, join_counts, join_clocks, join, is_time}
 use Rattle.cast_clock.specs.Laws.{is_in_order, OrderIsPointwise, OrderIsReflexive, OrderIsTransitive, JoinIsAbove, JoinIsLeast}
 use Rattle.cast_clock.proofs.Entries.{as_T, from_T, and_both, and_true, found_or, each_found}
-use Rattle.cast_clock.proofs.Joins.{proc_total, proc_exact, group_total, group_exact, count_of-join_counts, clock_of-join}
+use Rattle.cast_clock.proofs.Joins.{count_of-join_counts, clock_of-join}
+use Rattle.cast_types.proofs.Orders.{proc_total, proc_exact, group_total, group_exact}
 use Rattle.cast_clock.proofs.Rooms.{is_sorted-join}
 use Rattle.cast_clock.proofs.Valid.{le_from, le_as, lt_from, lt_as, sorted_join, valid_counts}
 

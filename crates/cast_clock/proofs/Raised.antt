@@ -17,7 +17,8 @@ use Rattle.cast_types.specs.Stamps.{ClockList}
 use Rattle.cast_clock.specs.Times.{first_clock, clock_of, view_of, count_in, bumped, join}
 use Rattle.cast_clock.specs.Laws.{BumpRaises, BumpLeavesCounts, BumpLeavesViews, EnterBegins, EnterLeaves, JoinIsTime, BumpIsTime, EnterIsTime}
 use Rattle.cast_clock.proofs.Entries.{equal_is, as_T, from_T, and_true, each_found}
-use Rattle.cast_clock.proofs.Joins.{proc_total, proc_exact, group_total, group_exact, clock_of-join}
+use Rattle.cast_clock.proofs.Joins.{clock_of-join}
+use Rattle.cast_types.proofs.Orders.{proc_total, proc_exact, group_total, group_exact}
 use Rattle.cast_clock.proofs.Rooms.{is_sorted-join, fits_from_room}
 use Rattle.cast_clock.proofs.Valid.{sorted_time, is_counts-clock_of, joined_clock_valid, is_time-put, bumped_valid, has_room-bumped}
 

@@ -15,7 +15,8 @@ use Rattle.cast_types.specs.Counts.{CountList, count_of}
 use Rattle.cast_types.specs.Stamps.{ClockList}
 use Rattle.cast_clock.specs.Times.{first_clock, clock_of, join_counts, join_clocks, join, clock_has_room, has_room}
 use Rattle.cast_clock.proofs.Entries.{as_T, both_parts, and_both, and_true, less_is, found_or, found_holds, each_found, option_cases, list_all_of, longer_put}
-use Rattle.cast_clock.proofs.Joins.{proc_total, group_total, group_exact, clock_of-join}
+use Rattle.cast_clock.proofs.Joins.{clock_of-join}
+use Rattle.cast_types.proofs.Orders.{proc_total, group_total, group_exact}
 
 -- ---- counts
 abbrev pub lacks : CountList → Entry → Bool

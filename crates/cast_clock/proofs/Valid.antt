@@ -14,7 +14,7 @@ use Rattle.cast_types.specs.Counts.{CountList, count_of, is_counts}
 use Rattle.cast_types.specs.Stamps.{ClockList, is_stamp}
 use Rattle.cast_clock.specs.Times.{first_clock, clock_of, count_in, join_counts, join_clocks, clock_has_room, has_room, is_time, bumped}
 use Rattle.cast_clock.proofs.Entries.{as_T, from_T, and_both, and_true, list_all-put, found_or}
-use Rattle.cast_clock.proofs.Joins.{proc_total, group_total, group_exact}
+use Rattle.cast_types.proofs.Orders.{proc_total, group_total, group_exact}
 
 pub le_from : (a b : ℕ) → nat_le a b ≡ true → a ≤ b
 le_from a b h = grind (arith, nat_tests)

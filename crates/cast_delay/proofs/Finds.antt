@@ -10,12 +10,7 @@ use Rattle.cast_types.specs.declared.names.GroupNo.{GroupNo}
 use Rattle.cast_types.specs.Names.{group_cmp, group_eq}
 use Rattle.cast_types.proofs.Orders.{group_total, group_exact, same_group, group_itself, tie_self, tie_same}
 use Rattle.cast_types.proofs.Bools.{same_bools}
-
-pub contains_here : {A : Type 0} (x : A) (xs : List A) → Contains (x ∷ xs) x
-contains_here x xs = (0, omega arith, refl)
-
-pub contains_later : {A : Type 0} (x y : A) (xs : List A) → Contains xs x → Contains (y ∷ xs) x
-contains_later x y xs (k, lt, at) = (suc k, omega (arith, lt), at)
+use Rattle.cast_types.proofs.Contains.{contains_here, contains_later}
 
 -- what is found is in the list
 pub found_in : {A : Type 0} (t : A → Bool) (xs : List A) (x : A) → list.find t xs ≡ Some x → Contains xs x

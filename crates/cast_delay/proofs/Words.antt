@@ -26,7 +26,7 @@ use Rattle.cast_delay.specs.Rule.{HappenedBefore, Allows, MayBeDelivered, IsTurn
 use Rattle.cast_delay.proofs.Listed.{range_holds, holds_range}
 use Rattle.cast_delay.proofs.Counted.{past_spelled}
 use Rattle.cast_delay.proofs.Delivers.{only_member}
-use Rattle.cast_delay.proofs.Finds.{contains_here, contains_later}
+use Rattle.cast_types.proofs.Contains.{contains_here, contains_later}
 use Rattle.cast_delay.proofs.Turns.{in_turn, ready_causally, ready_has_turn}
 
 -- an item of a longer list is its first or one of the rest

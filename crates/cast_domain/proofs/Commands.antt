@@ -31,9 +31,9 @@ use Rattle.cast_domain.specs.Calls.{tell_in, records, receive_in, is_own_in, awa
 use Rattle.cast_history.specs.Lawful.{IsSpent, AreKept, IsLawful}
 use Rattle.cast_domain.specs.Fits.{process_named, LogFits, Fits}
 use Rattle.cast_domain.proofs.Following.{fits_sends}
-use Rattle.cast_domain.proofs.Standing.{and_none, record_there, standing_there, time_there, fits_time, process_here, fits_receive, fits_receive_with}
+use Rattle.cast_domain.proofs.Standing.{record_there, standing_there, time_there, fits_time, process_here, fits_receive, fits_receive_with}
 use Rattle.cast_domain.proofs.Releases.{current_same}
-use Rattle.cast_types.proofs.Bools.{same_bools}
+use Rattle.cast_types.proofs.Bools.{same_bools, and_none}
 
 -- the records with the parts that the history has, as it has them
 abbrev written : Records → State → Records

@@ -17,7 +17,7 @@ use Rattle.cast_clock.specs.Times.{entering}
 use Rattle.cast_message.specs.declared.client.Push.{Push}
 use Rattle.cast_message.specs.declared.client.Push.TheVariants as push
 use Rattle.cast_message.specs.Membership.{Membership, is_members}
-use Rattle.cast_message.specs.Rising.{is_rising}
+use Rattle.cast_types.specs.Rising.{is_rising}
 use Rattle.cast_delay.specs.declared.row.Row.{Row}
 use Rattle.cast_delay.specs.declared.row.Fact.TheVariants as fact
 use Rattle.cast_delay.specs.Ready.{Process, is_outside}
@@ -33,7 +33,8 @@ use Rattle.cast_domain.specs.Records.{Records}
 use Rattle.cast_domain.specs.Calls.{record_at, standing_of, push_in, tell_in, enter_in, take_in, view_in, complete_in}
 use Rattle.cast_history.specs.Lawful.{IsLawful}
 use Rattle.cast_domain.specs.Fits.{Fits}
-use Rattle.cast_domain.proofs.Standing.{and_none, fits_told, fits_if, record_there, standing_there, time_there, fits_push, fits_view, still_in}
+use Rattle.cast_domain.proofs.Standing.{fits_told, fits_if, record_there, standing_there, time_there, fits_push, fits_view, still_in}
+use Rattle.cast_types.proofs.Bools.{and_none}
 
 -- Small truths of tests
 

@@ -10,7 +10,7 @@ use Rattle.cast_types.specs.declared.names.Uid.{Uid}
 use Rattle.cast_types.specs.declared.names.Standing.TheVariants.{Joining}
 use Rattle.cast_types.specs.Names.{site_eq, proc_eq, uid_eq, is_order}
 use Rattle.cast_types.specs.Sets.{is_among}
-use Rattle.cast_types.proofs.Bools.{same_bools}
+use Rattle.cast_types.proofs.Bools.{same_bools, and_none}
 use Rattle.cast_types.proofs.Orders.{same_site, same_uid, uid_itself}
 use Rattle.cast_clock.specs.Times.{clock_of, count_in}
 use Rattle.cast_message.specs.declared.message.Message.{Message}
@@ -46,7 +46,7 @@ use Rattle.cast_domain.specs.declared.record.GroupRecord.{GroupRecord}
 use Rattle.cast_domain.specs.Records.{Records}
 use Rattle.cast_domain.specs.Calls.{standing_of, time_of, tell_in, receive_in, awaits_own_in, records}
 use Rattle.cast_domain.specs.Fits.{record_for, Fits}
-use Rattle.cast_domain.proofs.Standing.{and_none, record_there, standing_there, time_there, fits_push, fits_standing, fits_here, fits_home, fits_receive}
+use Rattle.cast_domain.proofs.Standing.{record_there, standing_there, time_there, fits_push, fits_standing, fits_here, fits_home, fits_receive}
 use Rattle.cast_domain.proofs.Following.{FitsIn, IsAt, records_follow}
 use Rattle.cast_domain.proofs.Entering.{fits_complete}
 use Rattle.cast_domain.proofs.Commands.{awaits_own_there, fits_sent_here}

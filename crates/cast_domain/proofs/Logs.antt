@@ -25,7 +25,7 @@ use Rattle.cast_message.specs.Sequence.{Sequence}
 use Rattle.cast_stable.specs.Stable.{Acked, has_acked, stable_upto}
 use Rattle.cast_stable.proofs.Greatest.{stable_greatest}
 use Rattle.cast_delay.specs.Ready.{has_delivered}
-use Rattle.cast_delay.proofs.Finds.{contains_here, contains_later}
+use Rattle.cast_types.proofs.Contains.{contains_here, contains_later}
 use Rattle.cast_order.specs.Order.{Facts, facts_of, Listing}
 use Rattle.cast_order.specs.Log.{Log, new_log, log_of, but_log, learnt}
 use Rattle.cast_order.specs.Fits.{Fits as OrderFits}

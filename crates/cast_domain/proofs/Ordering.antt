@@ -21,7 +21,7 @@ use Rattle.cast_delay.specs.declared.turn.Turn.{Turn}
 use Rattle.cast_delay.specs.declared.turn.Turn.TheVariants.{Holding, Following}
 use Rattle.cast_delay.specs.Ready.{has_delivered, turn_in}
 use Rattle.cast_delay.specs.Queue.{passed_in}
-use Rattle.cast_delay.proofs.Finds.{contains_here, contains_later}
+use Rattle.cast_types.proofs.Contains.{contains_here, contains_later}
 use Rattle.cast_delay.proofs.Queues.{passed_next}
 use Rattle.cast_order.specs.Order.{listed_ids, still_to_list, ids_to_list, place_after}
 use Rattle.cast_order.specs.Log.{Log, log_of, next_in, next_places, unsettled_in, has_room_in}

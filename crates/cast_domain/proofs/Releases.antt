@@ -32,6 +32,7 @@ use Rattle.cast_history.specs.Lawful.{IsLawful}
 use Rattle.cast_domain.specs.Fits.{process_named, Fits}
 use Rattle.cast_history.proofs.Totals.{In}
 use Rattle.cast_domain.proofs.Standing.{orders_same, record_there, place_some, place_none, process_here}
+use Rattle.cast_types.proofs.Bools.{neither}
 
 -- Rows and serials
 
@@ -182,10 +183,6 @@ filter_same f g (x ∷ xs) same = λ i. cond (same x (inl refl) i) (x ∷ filter
 filter_all : {X : Type 0} (f : X → Bool) (xs : List X) → ((x : X) → f x ≡ true) → filter f xs ≡ xs
 filter_all f [] all = refl
 filter_all f (x ∷ xs) all = ap (λ b. cond b (x ∷ filter f xs) (filter f xs)) (all x) ∙ ap (λ ys. x ∷ ys) (filter_all f xs all)
-
-neither : (a b : Bool) → (not a && not b) ≡ not (a || b)
-neither true b = refl
-neither false b = refl
 
 fold_drop : (keys : List Key) (xs : List Received) → fold drop_kept xs keys ≡ filter (λ x. not (is_key keys x.key)) xs
 fold_drop [] xs = sym (filter_all (λ (x : Received). not (is_key [] x.key)) xs (λ x. refl))

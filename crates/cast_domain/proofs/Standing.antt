@@ -55,13 +55,9 @@ use Rattle.cast_history.specs.Lawful.{IsLawful}
 use Rattle.cast_domain.specs.Fits.{process_named, record_for, session_in, LogFits, Fits}
 use Rattle.cast_domain.proofs.Logs.{log_alike, settled_same, logs_receive, logs_view}
 use Rattle.cast_history.proofs.Rules.Follows.{choose}
-use Rattle.cast_history.proofs.Spots.{length_update, update_own, update_other, push_last, push_other, update_mapped}
+use Rattle.cast_history.proofs.Spots.{update_own, update_other, push_last, push_other, update_mapped}
+use Rattle.cast_types.proofs.Updates.{length_update}
 use Rattle.cast_types.proofs.Bools.{same_bools}
-
--- nothing is left of two tests where the second fails
-pub and_none : (a : Bool) → (a && false) ≡ false
-and_none true = refl
-and_none false = refl
 
 -- Choices on both sides
 

@@ -34,7 +34,7 @@ pub struct Domain {
 
 impl Domain {
     ghost use Rattle.cast_types.specs.Names.{group_cmp};
-    ghost use Rattle.cast_message.specs.Rising.{is_rising};
+    ghost use Rattle.cast_types.specs.Rising.{is_rising};
     ghost use Rattle.cast_history.specs.State.{opening};
     ghost use Rattle.cast_domain.specs.Records.{number_of, is_halted, sessions_of, IsFor};
     ghost use Rattle.cast_domain.specs.Shared.{no_part};

@@ -9,7 +9,7 @@ use Rattle.std.proofs.lemmas.Bool.{and_parts, and_from, cases_Bool, false_from_n
 use Rattle.cast_types.specs.declared.names.Proc.{Proc}
 use Rattle.cast_types.specs.Names.{proc_cmp, proc_eq}
 use Rattle.cast_types.proofs.Orders.{proc_total, same_proc, proc_itself}
-use Rattle.cast_message.specs.Rising.{is_rising}
+use Rattle.cast_types.specs.Rising.{is_rising}
 use Rattle.cast_message.specs.Membership.{Membership, is_held, is_members}
 use Rattle.cast_field.specs.Spelling.{byte, spelled_proc, spelled_holder, spelled_members}
 use Rattle.cast_field.specs.Reading.{◌>>=◌, byte_at, many, proc_above, some_proc, holder_at, members_at}

@@ -1,15 +1,16 @@
 -- Counted lists are read as they were written, and what is read of a sorted list is sorted.
-use Rattle.std.proofs.Common.{◌≡◌, ℕ, zero, suc, Bool, true, false, List, [], ◌∷◌, ◌++◌, length, Option, Some, None, Ordering, Less, Equal, Greater, Ok, Err, refl, sym, ap, subst, ◌∙◌, append_assoc}
+use Rattle.std.proofs.Common.{◌≡◌, ℕ, zero, suc, Bool, true, false, List, [], ◌∷◌, ◌++◌, length, Option, Some, None, Ordering, Ok, Err, refl, sym, ap, subst, ◌∙◌, append_assoc}
 use Rattle.std.specs.List.{flat_map, list_all, AllByRecursion}
 use Rattle.std.specs.Ordering.{is_lt}
 use Rattle.std.specs.Cmp.{IsTotalOrder}
 use Rattle.std.specs.FinMap.Entries.{is_sorted, below_all}
-use Rattle.std.proofs.lemmas.Bool.{and_parts, and_from, false≢true}
+use Rattle.std.proofs.lemmas.Bool.{and_parts, and_from}
 use Rattle.std.proofs.lemmas.List.Concat.{flat_map-cons}
 use Rattle.cast_field.specs.declared.fault.FrameFault.TheVariants.{NotSorted}
-use Rattle.cast_message.specs.Rising.{is_rising}
+use Rattle.cast_types.specs.Rising.{is_rising}
 use Rattle.cast_field.specs.Reading.{◌>>=◌, Reader, many, above}
 use Rattle.cast_field.proofs.Fields.{IsBytes, bind_ok, ok_is, pass_ok, Took, joined, Takes, Again}
+use Rattle.cast_types.proofs.Rising.{less_is}
 
 -- a fact of each item in view of the one before
 abbrev pub AllFrom : {S A : Type 0} → (S → A → Type 0) → (A → S) → S → List A → Type 0
@@ -68,13 +69,8 @@ pub above_refused : {K : Type 0} (R : K → K → Ordering) (last : Option K) (p
 unfolding above
 above_refused R last p k is not_less = rw (is, not_less) refl
 
-less : (o : Ordering) → is_lt o ≡ true → o ≡ Less
-less Less h = refl
-less Equal h = absurd (false≢true h)
-less Greater h = absurd (false≢true h)
-
 chain : {K : Type 0} {R : K → K → Ordering} → IsTotalOrder R → (x y z : K) → is_lt (R x y) ≡ true → is_lt (R y z) ≡ true → is_lt (R x z) ≡ true
-chain {R = R} o x y z p q = ap is_lt (o.trans x y z (less (R x y) p) (less (R y z) q))
+chain {R = R} o x y z p q = ap is_lt (o.trans x y z (less_is (R x y) p) (less_is (R y z) q))
 
 -- an item above the one before
 abbrev pub Keyed : {K X : Type 0} → (K → K → Ordering) → (K × X → Type 0) → Option K → K × X → Type 0

@@ -11,7 +11,7 @@ use Rattle.cast_types.specs.Sets.{is_among}
 use Rattle.cast_types.specs.Counts.{count_of, is_counts}
 use Rattle.cast_types.proofs.CountLists.{counts_from}
 use Rattle.cast_types.proofs.Orders.{proc_total, proc_exact, same_proc, proc_itself, tie_self, tie_other}
-use Rattle.cast_message.specs.Rising.{is_rising}
+use Rattle.cast_types.specs.Rising.{is_rising}
 use Rattle.cast_flush.specs.Reports.{Reports, greatest_count, cut_from}
 use Rattle.cast_flush.specs.Laws.{CutInWords}
 use Rattle.cast_flush.proofs.Each.{all_filter, length_filter}

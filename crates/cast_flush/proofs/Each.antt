@@ -13,16 +13,6 @@ all_filter test (x ∷ xs) = elim (cases_Bool (test x)) [
   | inr goes ↦ subst (λ b. list_all test (cond b (x ∷ filter test xs) (filter test xs)) ≡ true) (sym goes) (all_filter test xs)
 ]
 
--- what holds of each item holds of each that another test keeps
-pub all_filtered : {A : Type 0} (test keep : A → Bool) (xs : List A) → list_all test xs ≡ true → list_all test (filter keep xs) ≡ true
-all_filtered test keep [] all = refl
-all_filtered test keep (x ∷ xs) all =
-    let parts = and_parts (test x) (list_all test xs) all in
-    elim (keep x) as (λ b. list_all test (cond b (x ∷ filter keep xs) (filter keep xs)) ≡ true) [
-      | true ↦ and_from (test x) (list_all test (filter keep xs)) parts.0 (all_filtered test keep xs parts.1)
-      | false ↦ all_filtered test keep xs parts.1
-    ]
-
 -- what holds of each item holds of each of the first
 pub all_take : {A : Type 0} (test : A → Bool) (n : ℕ) (xs : List A) → list_all test xs ≡ true → list_all test (take n xs) ≡ true
 all_take test zero xs all = refl

@@ -12,7 +12,8 @@ use Rattle.cast_message.specs.Stretch.{Stretch}
 use Rattle.cast_flush.specs.Reports.{Reports}
 use Rattle.cast_flush.specs.Decisions.{end_of, no_stretch, longest, unplaced, added, ids_from}
 use Rattle.cast_flush.specs.Laws.{LongestInWords, OrderIsWhole, OrderIsWithinTheCut}
-use Rattle.cast_flush.proofs.Each.{all_filter, all_filtered, all_take, all_append, length_filter}
+use Rattle.cast_flush.proofs.Each.{all_filter, all_take, all_append, length_filter}
+use Rattle.cast_types.proofs.Rising.{all_kept}
 
 -- the farther of two
 abbrev farther : Stretch → Stretch → Stretch
@@ -89,4 +90,4 @@ order_is_within cut reports =
     (all_append (is_within cut) (placed_in cut reports) (added cut reports (placed_in cut reports))
     (all_filter (is_within cut) (longest reports).ids)
     (all_take (is_within cut) 64 (apart_from entry_eq fits (placed_in cut reports))
-    (all_filtered (is_within cut) (λ x. not (is_among entry_eq x (placed_in cut reports))) fits (all_filter (is_within cut) (unplaced reports)))))
+    (all_kept (is_within cut) (λ x. not (is_among entry_eq x (placed_in cut reports))) fits (all_filter (is_within cut) (unplaced reports)))))

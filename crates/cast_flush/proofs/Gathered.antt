@@ -1,40 +1,19 @@
 -- What is among the sets that are made of lists, and what a test finds in lists that are made of others.
 use Rattle.std.proofs.Common.{◌≡◌, ℕ, ◌+◌, ◌<◌, Bool, true, false, cond, List, [], ◌∷◌, ◌++◌, length, get_or, drop, map, Ordering, Less, Equal, Greater, refl, sym, ap, ◌∙◌, inl, inr}
-use Rattle.std.specs.Prelude.{◌&&◌, ◌||◌, ◌==◌}
+use Rattle.std.specs.Prelude.{◌&&◌, ◌||◌}
 use Rattle.std.specs.List.{list_any, filter, flat_map}
-use Rattle.std.proofs.lemmas.Bool.{cases_Bool, false≢true, and_parts, and_from, eqb-true, eq-eqb}
-use Rattle.std.proofs.lemmas.Bool.Decides.{same_from_decides}
+use Rattle.std.proofs.lemmas.Bool.{cases_Bool, false≢true}
 use Rattle.std.proofs.lemmas.List.{at_drop_more}
 use Rattle.std.proofs.lemmas.Map.Lookups.{CmpEqualImpliesEq}
-use Rattle.cast_types.specs.Names.{Entry, proc_eq, entry_eq}
+use Rattle.cast_types.specs.Names.{Entry, entry_eq}
 use Rattle.cast_types.specs.Sets.{with_item, with_items, set_of, is_among, at_order}
-use Rattle.cast_types.proofs.Orders.{same_proc, proc_itself}
-
--- tests that follow from each other are one
-pub same_bools : (a b : Bool) → (a ≡ true → b ≡ true) → (b ≡ true → a ≡ true) → a ≡ b
-same_bools a b there back = same_from_decides {P = b ≡ true} a b (there, back) (λ e. e, λ e. e)
+use Rattle.cast_types.proofs.Orders.{entry_itself, same_entry}
+use Rattle.cast_types.proofs.Bools.{or_turned, or_moved, same_bools, and_none}
 
 -- an `or` with false is the other test, and an `and` with false is false
 or_none : (a : Bool) → a ≡ (a || false)
 or_none true = refl
 or_none false = refl
-
-pub and_none : (a : Bool) → (a && false) ≡ false
-and_none true = refl
-and_none false = refl
-
--- three tests of an `or` in another order
-or_turned : (a b c : Bool) → (b || (a || c)) ≡ (a || (b || c))
-or_turned true true c = refl
-or_turned true false c = refl
-or_turned false true c = refl
-or_turned false false c = refl
-
-or_moved : (a b c : Bool) → ((a || b) || c) ≡ (b || (a || c))
-or_moved true true c = refl
-or_moved true false c = refl
-or_moved false true c = refl
-or_moved false false c = refl
 
 -- a test that stands twice in an `or` counts once
 or_twice : (a b c : Bool) → a ≡ b → (b || c) ≡ (a || (b || c))
@@ -159,18 +138,6 @@ module _ {A : Type 0} (cmp : A → A → Ordering) (exact : CmpEqualImpliesEq cm
   any_set xs = any_with_items [] xs
 
 -- entries
-
--- an entry tests equal to itself
-pub entry_itself : (a : Entry) → entry_eq a a ≡ true
-entry_itself a = and_from (proc_eq a.0 a.0) (a.1 == a.1) (proc_itself a.0) (eq-eqb a.1 a.1 refl)
-
--- entries that test equal are one
-pub same_entry : (a b : Entry) → entry_eq a b ≡ true → a ≡ b
-same_entry a b h =
-    let parts = and_parts (proc_eq a.0 b.0) (a.1 == b.1) h in
-    let procs = same_proc a.0 b.0 parts.0 in
-    let counts = eqb-true a.1 b.1 parts.1 in
-    λ i. (procs i, counts i)
 
 -- the test of two entries may be turned round
 turned : (a b : Entry) → entry_eq a b ≡ true → entry_eq b a ≡ true

@@ -4,7 +4,7 @@ ghost use Rattle.cast_types.specs.Names.{proc_cmp, entry_cmp};
 ghost use Rattle.cast_types.specs.Sets.{with_items};
 ghost use Rattle.cast_types.specs.Counts.{is_within};
 ghost use Rattle.cast_types.specs.declared.limits.TheConstants.{MAX_PLACED};
-ghost use Rattle.cast_message.specs.Rising.{is_rising};
+ghost use Rattle.cast_types.specs.Rising.{is_rising};
 ghost use Rattle.cast_flush.specs.Reports.{has_report, is_complete, greatest_count, cut_from, keeps, all_kept, is_needed, keeper_of, has_body, wanting, want_of};
 
 use crate::report::Report;

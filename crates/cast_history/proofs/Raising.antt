@@ -28,7 +28,7 @@ use Rattle.cast_message.specs.declared.message.Body.{Body}
 use Rattle.cast_message.specs.declared.message.Message.{Message}
 use Rattle.cast_message.specs.declared.client.Push.TheVariants as push
 use Rattle.cast_message.specs.Membership.{Membership, is_members, is_held}
-use Rattle.cast_message.specs.Rising.{is_rising}
+use Rattle.cast_types.specs.Rising.{is_rising}
 use Rattle.cast_delay.specs.Ready.{Process, Gate, is_member, is_outside, has_delivered, past_in, group_allows, is_causally_ready}
 use Rattle.cast_delay.proofs.Delivers.{only_member}
 use Rattle.cast_delay.proofs.Means.{among_holds}
@@ -48,6 +48,7 @@ use Rattle.cast_history.specs.Lawful.{IsLawful}
 use Rattle.cast_history.specs.Raising.{IsTimeOf, IsFromMember, IsView, IsAmongMembers, CountsMembers, CanRaise}
 use Rattle.cast_history.proofs.Lawful.{SameLaw, same_pushing, same_send_data, same_fold, seen_view, allowed_view, ready_allows, named_here}
 use Rattle.cast_history.proofs.Counting.{all_counted, time_joined, time_entered, time_raised, time_spelled, put_some, counted_put, counted_joined, raised_room, each_sender}
+use Rattle.cast_types.proofs.Bools.{and_end}
 
 -- Groups that are alike
 
@@ -127,10 +128,6 @@ time_after_raise s l c k g member =
     time_raised s.config.groups (s.process k).time g (local s k) (c.times k) (listed_member s l k g member)
     (subst (λ n. 0 < n) (sym (l.current k g member)) ((c.views g).numbered (l.viewed k g member)))
     (room_raised s c k g member)
-
-and_end : (b : Bool) → (b && true) ≡ b
-and_end true = refl
-and_end false = refl
 
 pub can_raise : (s : State) → IsLawful s → CountsMembers s → CanRaise s
 can_raise s l c k g member =

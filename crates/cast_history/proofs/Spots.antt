@@ -11,12 +11,7 @@ use Rattle.cast_types.specs.declared.names.GroupNo.{GroupNo}
 use Rattle.cast_types.specs.Names.{group_cmp, group_eq}
 use Rattle.cast_types.specs.Places.{update}
 use Rattle.cast_types.proofs.Orders.{group_total, same_group}
-use Rattle.cast_message.specs.Rising.{is_rising}
-
-pub length_update : {X : Type 0} (f : X → X) (xs : List X) (i : ℕ) → length (update xs i f) ≡ length xs
-length_update f [] i = refl
-length_update f (x ∷ xs) zero = refl
-length_update f (x ∷ xs) (suc i) = ap suc (length_update f xs i)
+use Rattle.cast_types.specs.Rising.{is_rising}
 
 pub update_own : {X : Type 0} (f : X → X) (xs : List X) (i : ℕ) → slice_get (update xs i f) i ≡ option_map f (slice_get xs i)
 update_own f [] i = refl

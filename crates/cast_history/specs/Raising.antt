@@ -14,7 +14,7 @@ use Rattle.cast_types.specs.Stamps.{ClockList}
 use Rattle.cast_clock.specs.Times.{clock_of, count_in, is_time}
 use Rattle.cast_message.specs.declared.message.Message.{Message}
 use Rattle.cast_message.specs.declared.site.SiteFrame.{SiteFrame}
-use Rattle.cast_message.specs.Rising.{is_rising}
+use Rattle.cast_types.specs.Rising.{is_rising}
 use Rattle.cast_delay.specs.Ready.{is_member, is_outside, has_delivered}
 use Rattle.cast_model.specs.declared.config.DomainConfig.{DomainConfig}
 use Rattle.cast_model.specs.declared.event.Event.{Event}

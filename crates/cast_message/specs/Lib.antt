@@ -1,6 +1,5 @@
 pub mod Bodies
 pub mod Receipts
-pub mod Rising
 pub mod Membership
 pub mod Stretch
 pub mod Sequence

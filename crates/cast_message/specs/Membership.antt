@@ -3,7 +3,7 @@ use Rattle.std.specs.Prelude.{Bool, ◌&&◌, ◌==◌, nat_le, List, length, Op
 use Rattle.cast_types.specs.declared.names.Proc.{Proc}
 use Rattle.cast_types.specs.Names.{proc_cmp, proc_eq}
 use Rattle.cast_types.specs.Sets.{is_among}
-use Rattle.cast_message.specs.Rising.{is_rising}
+use Rattle.cast_types.specs.Rising.{is_rising}
 
 pub record Membership : Type 0 where
   pub list : List Proc

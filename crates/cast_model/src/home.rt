@@ -1,7 +1,7 @@
 ghost use Rattle.std.specs.Prelude.{◌≡◌, ◌<◌, ◌≤◌, [], IfOk, OnOk, OnErr, IsTrue, length};
 ghost use Rattle.cast_types.specs.Names.{proc_cmp, site_eq};
 ghost use Rattle.cast_types.specs.Sets.{with_item, without, is_among};
-ghost use Rattle.cast_message.specs.Rising.{is_rising};
+ghost use Rattle.cast_types.specs.Rising.{is_rising};
 ghost use Rattle.cast_model.specs.Group.{sites_of, other_sites};
 ghost use Rattle.cast_model.specs.Phase.{installing, is_idle, least};
 
@@ -22,7 +22,7 @@ impl Model for Procs {
     ghost use Rattle.std.specs.Prelude.{List, IsTrue};
     ghost use Rattle.cast_types.specs.declared.names.Proc.{Proc};
     ghost use Rattle.cast_types.specs.Names.{proc_cmp};
-    ghost use Rattle.cast_message.specs.Rising.{is_rising};
+    ghost use Rattle.cast_types.specs.Rising.{is_rising};
 
     ghost Value = { List Proc };
 

@@ -14,6 +14,7 @@ use Rattle.cast_order.specs.Order.{Listing, listed_ids, listed_upto, listed_beyo
 use Rattle.cast_order.specs.Log.{ids_above}
 use Rattle.cast_order.proofs.Lists.{differ, differ_back, among_first, kept_among, taken_among, filter_alike, filter_within}
 use Rattle.cast_types.proofs.Orders.{same_entry, entry_itself}
+use Rattle.cast_types.proofs.Bools.{neither}
 
 abbrev among : Entry → List Entry → Bool
 among e xs = is_among entry_eq e xs
@@ -99,16 +100,12 @@ left_over p (x ∷ xs) once (suc k) =
       | false ↦ left_over p xs parts.1 (suc k)
     ]
 
-not_either : (a b : Bool) → (not a && not b) ≡ not (a || b)
-not_either true b = refl
-not_either false b = refl
-
 pub left_to_list : (delivered listed : List Entry) → is_distinct delivered ≡ true → (k : ℕ) → drop k (still_to_list delivered listed) ≡ still_to_list delivered (listed ++ take k (still_to_list delivered listed))
 left_to_list delivered listed once k =
     let taken = take k (still_to_list delivered listed) in
     left_over (λ x. not (among x listed)) delivered once k
     ∙ filter_agree (λ x. not (among x listed) && not (among x taken)) (λ x. not (among x (listed ++ taken)))
-    (λ x. not_either (among x listed) (among x taken) ∙ ap not (sym (among-append x listed taken))) delivered
+    (λ x. neither (among x listed) (among x taken) ∙ ap not (sym (among-append x listed taken))) delivered
 
 -- How many are left
 
@@ -152,7 +149,7 @@ count_apart delivered once (b ∷ more) listed alone apart inside =
     one_less (λ x. not (among x listed)) b (not_from_false (among b listed) (apart b (among_first b more))) delivered once (inside b (among_first b more)) in
     let named : length (filter (λ x. not (among x listed) && not (entry_eq x b)) delivered) ≡ length (still_to_list delivered (listed ++ b ∷ [])) =
     ap length (filter_agree (λ x. not (among x listed) && not (entry_eq x b)) (λ x. not (among x (listed ++ b ∷ [])))
-    (λ x. not_either (among x listed) (entry_eq x b) ∙ ap not (ap (λ c. among x listed || c) (or_false (entry_eq x b)) ∙ sym (among-append x listed (b ∷ [])))) delivered) in
+    (λ x. neither (among x listed) (entry_eq x b) ∙ ap not (ap (λ c. among x listed || c) (or_false (entry_eq x b)) ∙ sym (among-append x listed (b ∷ [])))) delivered) in
     let rest = count_apart delivered once more (listed ++ b ∷ []) parts.1 (still_apart (not-true (among b more) parts.0)) (λ e has. inside e (or_right (entry_eq e b) (among e more) has)) in
     let joined : length (still_to_list delivered ((listed ++ b ∷ []) ++ more)) ≡ length (still_to_list delivered (listed ++ b ∷ more)) = ap (λ l. length (still_to_list delivered l)) (append_assoc listed (b ∷ []) more) in
     omega arith

@@ -11,7 +11,8 @@ use Rattle.cast_types.specs.declared.names.Uid.{Uid}
 use Rattle.cast_types.specs.Names.{site_eq, uid_eq, named}
 use Rattle.cast_types.proofs.Orders.{same_uid}
 use Rattle.cast_stable.specs.Stable.{Acked, has_acked, greatest_acked, acked_from, stable_upto, IsStableUpto}
-use Rattle.cast_stable.proofs.Lists.{contains_here, each_passes, some_fails}
+use Rattle.cast_stable.proofs.Lists.{each_passes, some_fails}
+use Rattle.cast_types.proofs.Contains.{contains_here}
 
 -- a count above the greatest was never acknowledged
 none_beyond : (acks : List Acked) (u : Uid) (s : SiteNo) → greatest_acked acks < u.count → has_acked acks u s ≡ false

@@ -3,12 +3,7 @@ use Rattle.std.proofs.Common.{◌≡◌, ℕ, zero, suc, ◌≤◌, ◌⊎◌, m
 use Rattle.std.specs.List.{list_all, fold}
 use Rattle.std.proofs.Math.Nat.{min-le_left, min-le_right}
 use Rattle.std.proofs.lemmas.Bool.{and_parts, cases_Bool, cases_lt}
-
-pub contains_here : {A : Type 0} (x : A) (xs : List A) → Contains (x ∷ xs) x
-contains_here x xs = (0, omega arith, refl)
-
-pub contains_later : {A : Type 0} (x y : A) (xs : List A) → Contains xs x → Contains (y ∷ xs) x
-contains_later x y xs (k, lt, at) = (suc k, omega (arith, lt), at)
+use Rattle.cast_types.proofs.Contains.{contains_here, contains_later}
 
 pub contains_none : {A : Type 0} (x : A) → Contains [] x → ⊥
 contains_none x (k, lt, at) = omega (arith, lt)

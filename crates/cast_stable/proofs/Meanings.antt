@@ -23,7 +23,8 @@ use Rattle.cast_stable.specs.Ledger.{Ledger, source_of, others_in, received_run,
 use Rattle.cast_stable.specs.Fits.{Fits}
 use Rattle.cast_stable.proofs.Runs.{and_false, eqb_sym, next_apart, inserted_is, contains_inserted}
 use Rattle.cast_stable.proofs.Witnesses.{witness_total, witness_exact, key_cases, put_here, put_elsewhere}
-use Rattle.cast_stable.proofs.Lists.{contains_here, contains_later, contains_cases, least_first, least_each, least_reached}
+use Rattle.cast_stable.proofs.Lists.{contains_cases, least_first, least_each, least_reached}
+use Rattle.cast_types.proofs.Contains.{contains_here, contains_later}
 use Rattle.cast_stable.proofs.Greatest.{stable_greatest, one_greatest}
 use Rattle.cast_types.proofs.Bools.{same_bools}
 

@@ -8,17 +8,13 @@ use Rattle.std.proofs.lemmas.List.Folds.{find_at, find-append}
 use Rattle.std.proofs.lemmas.List.Quantifiers.{position-Some}
 use Rattle.std.proofs.lemmas.Option.{slice_get_past}
 use Rattle.cast_types.specs.Places.{update}
+use Rattle.cast_types.proofs.Updates.{length_update}
 
 -- what stands at the place that is changed
 pub at_update : {X : Type 0} (f : X → X) (xs : List X) (i : ℕ) (d : X) → i < length xs → get_or (update xs i f) i d ≡ f (get_or xs i d)
 at_update f [] i d lt = absurd (omega arith)
 at_update f (x ∷ xs) zero d lt = refl
 at_update f (x ∷ xs) (suc i) d lt = at_update f xs i d (omega arith)
-
-pub length-update : {X : Type 0} (f : X → X) (xs : List X) (i : ℕ) → length (update xs i f) ≡ length xs
-length-update f [] i = refl
-length-update f (x ∷ xs) zero = refl
-length-update f (x ∷ xs) (suc i) = ap suc (length-update f xs i)
 
 pub update-last : {X : Type 0} (f : X → X) (xs : List X) (x : X) → update (xs ++ x ∷ []) (length xs) f ≡ xs ++ f x ∷ []
 update-last f [] x = refl
@@ -50,7 +46,7 @@ module _ {X : Type 0} (p : X → Bool) where
   pub find_update : (f : X → X) → ((x : X) → p (f x) ≡ p x) → (xs : List X) (i : ℕ) (d : X) → position p xs ≡ Some i → find p (update xs i f) ≡ Some (f (get_or xs i d))
   find_update f alike xs i d at =
       let place = place_still f alike xs i in
-      let len = length-update f xs i in
+      let len = length_update f xs i in
       let still : position p (update xs i f) ≡ position p xs = λ j. cond {A = Option ℕ} (nat_lt (place j) (len j)) (Some (place j)) None in
       find_place (update xs i f) i d (still ∙ at) ∙ ap Some (at_update f xs i d ((position-Some p xs i d at).0))
 

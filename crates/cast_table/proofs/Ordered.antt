@@ -8,7 +8,7 @@ use Rattle.std.proofs.lemmas.List.{map-append, drop_more}
 use Rattle.std.proofs.lemmas.List.Folds.{list_any-append}
 use Rattle.cast_types.specs.declared.names.DomainNo.{DomainNo}
 use Rattle.cast_types.specs.Names.{group_cmp}
-use Rattle.cast_message.specs.Rising.{is_rising}
+use Rattle.cast_types.specs.Rising.{is_rising}
 use Rattle.cast_model.specs.declared.config.DomainConfig.{DomainConfig}
 use Rattle.cast_domain.specs.declared.domain.Domain.{Domain}
 use Rattle.cast_model.specs.declared.event.Event.{Event}

@@ -1,5 +1,5 @@
 pub mod Rows
 pub mod Derived
-pub mod Rising
+pub mod Orders
 pub mod Owing
 pub mod Renewing

@@ -6,9 +6,11 @@ use Rattle.std.proofs.lemmas.Bool.{and_parts, and_from, eqb-true, false_from_ne_
 use Rattle.std.proofs.lemmas.Cmp.{tied_itself}
 use Rattle.cast_types.specs.Sets.{with_item, at_order}
 use Rattle.cast_timer.specs.declared.key.Owed.{Owed}
-use Rattle.cast_timer.specs.Owed.{owed_cmp, key_eq, paid, renewed, is_rising}
+use Rattle.cast_timer.specs.Owed.{owed_cmp, key_eq, paid, renewed}
+use Rattle.cast_types.specs.Rising.{is_rising}
 use Rattle.cast_timer.proofs.Owing.{same_key, key_itself, tied_frame}
-use Rattle.cast_timer.proofs.Rising.{owed_total, before, less, before_too, all_kept}
+use Rattle.cast_timer.proofs.Orders.{owed_total, before}
+use Rattle.cast_types.proofs.Rising.{less_is, all_kept, below_more}
 
 module _ (x : Owed) where
   -- the frames that stay beside it
@@ -39,7 +41,7 @@ module _ (x : Owed) where
   behind [] all = refl
   behind (o ∷ os) all =
       let parts = and_parts (is_lt (owed_cmp x o)) (before x os) all in
-      let here = stays_other o (apart o (less (owed_cmp x o) parts.0)) in
+      let here = stays_other o (apart o (less_is (owed_cmp x o) parts.0)) in
       let rest = behind os parts.1 in
       λ i. cond (here i) (o ∷ rest i) (rest i)
 
@@ -48,7 +50,7 @@ module _ (x : Owed) where
   put_first [] all = refl
   put_first (o ∷ os) all =
       let parts = and_parts (is_lt (owed_cmp x o)) (before x os) all in
-      ap (λ r. at_order r (x ∷ o ∷ os) (o ∷ os) (o ∷ with_item owed_cmp x os)) (less (owed_cmp x o) parts.0)
+      ap (λ r. at_order r (x ∷ o ∷ os) (o ∷ os) (o ∷ with_item owed_cmp x os)) (less_is (owed_cmp x o) parts.0)
 
   paid_first : (os : List Owed) → before x os ≡ true → x ∷ filter stays os ≡ with_item owed_cmp x (paid (key_eq x.key) os)
   paid_first os all =
@@ -58,13 +60,13 @@ module _ (x : Owed) where
   stays_itself : stays x ≡ true
   stays_itself = or_right (not (key_eq x.key x.key)) (x.due == x.due) (eq-eqb x.due x.due refl)
 
-  renewing_at : (o : Owed) (os : List Owed) (r : Ordering) → owed_cmp x o ≡ r → is_rising (o ∷ os) ≡ true → filter stays (with_item owed_cmp x os) ≡ renewed os x.key x.due → filter stays (at_order r (x ∷ o ∷ os) (o ∷ os) (o ∷ with_item owed_cmp x os)) ≡ renewed (o ∷ os) x.key x.due
+  renewing_at : (o : Owed) (os : List Owed) (r : Ordering) → owed_cmp x o ≡ r → is_rising owed_cmp (o ∷ os) ≡ true → filter stays (with_item owed_cmp x os) ≡ renewed os x.key x.due → filter stays (at_order r (x ∷ o ∷ os) (o ∷ os) (o ∷ with_item owed_cmp x os)) ≡ renewed (o ∷ os) x.key x.due
   renewing_at o os Less lt rising later =
-      let parts = and_parts (before o os) (is_rising os) rising in
-      let all = and_from (is_lt (owed_cmp x o)) (before x os) (ap is_lt lt) (before_too x o os lt parts.0) in
+      let parts = and_parts (before o os) (is_rising owed_cmp os) rising in
+      let all = and_from (is_lt (owed_cmp x o)) (before x os) (ap is_lt lt) (below_more owed_cmp owed_total x o os lt parts.0) in
       ap (λ b. cond b (x ∷ filter stays (o ∷ os)) (filter stays (o ∷ os))) stays_itself ∙ paid_first (o ∷ os) all
   renewing_at o os Equal tie rising later =
-      let parts = and_parts (before o os) (is_rising os) rising in
+      let parts = and_parts (before o os) (is_rising owed_cmp os) rising in
       let rest = paid (key_eq x.key) os in
       let same : x ≡ o = tied_frame x o tie in
       let stay : stays o ≡ true = ap stays (sym same) ∙ stays_itself in
@@ -82,6 +84,6 @@ module _ (x : Owed) where
         | false ↦ sym (ap (λ r. at_order r (x ∷ o ∷ rest) (o ∷ rest) (o ∷ with_item owed_cmp x rest)) gt)
       ]
 
-  pub renewing : (os : List Owed) → is_rising os ≡ true → filter stays (with_item owed_cmp x os) ≡ renewed os x.key x.due
+  pub renewing : (os : List Owed) → is_rising owed_cmp os ≡ true → filter stays (with_item owed_cmp x os) ≡ renewed os x.key x.due
   renewing [] rising = ap (λ b. cond b (x ∷ []) []) stays_itself
-  renewing (o ∷ os) rising = renewing_at o os (owed_cmp x o) refl rising (renewing os (and_parts (before o os) (is_rising os) rising).1)
+  renewing (o ∷ os) rising = renewing_at o os (owed_cmp x o) refl rising (renewing os (and_parts (before o os) (is_rising owed_cmp os) rising).1)

@@ -1,8 +1,8 @@
 -- The frames that a domain owes: a set in order of due moments, and at one moment in order of keys.
-use Rattle.std.specs.Prelude.{ℕ, Bool, true, not, nat_le, ◌&&◌, ◌==◌, List, [], ◌∷◌, map, filter}
-use Rattle.std.specs.List.{list_any, list_all}
+use Rattle.std.specs.Prelude.{ℕ, Bool, not, nat_le, ◌&&◌, ◌==◌, List, map, filter}
+use Rattle.std.specs.List.{list_any}
 use Rattle.std.specs.declared.cmp.Ordering.{Ordering}
-use Rattle.std.specs.Ordering.{nat_cmp, ordering_then, is_lt}
+use Rattle.std.specs.Ordering.{nat_cmp, ordering_then}
 use Rattle.cast_types.specs.Names.{site_cmp, group_cmp, proc_cmp, site_eq, group_eq, proc_eq}
 use Rattle.cast_types.specs.Sets.{with_item}
 use Rattle.cast_timer.specs.declared.key.OwedKind.{OwedKind}
@@ -75,8 +75,3 @@ due_frames now owed = filter (λ o. nat_le o.due now) owed
 -- their keys, in the order in which they are sent
 abbrev pub due_at : ℕ → List Owed → List OwedKey
 due_at now owed = map (λ o. o.key) (due_frames now owed)
-
--- whether each frame comes before all that stand behind it
-abbrev pub is_rising : List Owed → Bool
-is_rising [] = true
-is_rising (o ∷ os) = list_all (λ p. is_lt (owed_cmp o p)) os && is_rising os

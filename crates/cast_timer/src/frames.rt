@@ -1,6 +1,7 @@
 ghost use Rattle.std.specs.Prelude.{◌≡◌, ◌||◌, ◌==◌, [], IfOk, IsTrue, OnOk, OnErr, not, filter};
 ghost use Rattle.cast_types.specs.Sets.{with_item};
-ghost use Rattle.cast_timer.specs.Owed.{owed_cmp, key_eq, is_owed, paid, is_upto, renewed, due_frames, due_at, is_rising};
+ghost use Rattle.cast_timer.specs.Owed.{owed_cmp, key_eq, is_owed, paid, is_upto, renewed, due_frames, due_at};
+ghost use Rattle.cast_types.specs.Rising.{is_rising};
 
 use crate::key::{Owed, OwedKey, is_upto};
 use cast_types::{NoMemory, sorted};
@@ -15,14 +16,15 @@ pub(crate) struct Frames {
 
 impl Model for Frames {
     ghost use Rattle.std.specs.Prelude.{List, IsTrue};
+    ghost use Rattle.cast_types.specs.Rising.{is_rising};
     ghost use Rattle.cast_timer.specs.declared.key.Owed.{Owed};
-    ghost use Rattle.cast_timer.specs.Owed.{is_rising};
+    ghost use Rattle.cast_timer.specs.Owed.{owed_cmp};
 
     ghost Value = { List Owed };
 
     ghost view = { λ f. f.owed.items };
 
-    ghost invariant = { λ f. IsTrue (is_rising f.owed.items) };
+    ghost invariant = { λ f. IsTrue (is_rising owed_cmp f.owed.items) };
 }
 
 impl Frames {
@@ -77,7 +79,7 @@ impl Frames {
     /// The keys of the frames that are due.
     pub(crate) fn due(&self, now: u64) -> Result<Vec<OwedKey>, NoMemory>
         ensures value { IfOk result (λ keys. keys.items ≡ due_at now self.now) }
-        ensures rising { IsTrue (is_rising (due_frames now self.now)) }
+        ensures rising { IsTrue (is_rising owed_cmp (due_frames now self.now)) }
     {
         self.owed
             .iter()

@@ -4,7 +4,8 @@ ghost use Rattle.std.specs.Option.{option_copied};
 ghost use Rattle.cast_types.specs.declared.names.DomainNo.{DomainNo};
 ghost use Rattle.cast_types.specs.Sets.{with_item};
 ghost use Rattle.cast_types.specs.Places.{update};
-ghost use Rattle.cast_timer.specs.Owed.{owed_cmp, key_eq, with_owed, is_owed, paid, is_upto, renewed, due_frames, due_at, is_rising};
+ghost use Rattle.cast_timer.specs.Owed.{owed_cmp, key_eq, with_owed, is_owed, paid, is_upto, renewed, due_frames, due_at};
+ghost use Rattle.cast_types.specs.Rising.{is_rising};
 ghost use Rattle.cast_timer.specs.Rows.{is_of, row_of, owed_in};
 
 use crate::frames::Frames;
@@ -111,7 +112,7 @@ impl Timers {
     /// memory.
     pub fn due(&self, domain: DomainNo, now: u64) -> Result<Vec<OwedKey>, NoMemory>
         ensures value { IfOk result (λ keys. keys.items ≡ due_at now (owed_in self.now domain)) }
-        ensures rising { IsTrue (is_rising (due_frames now (owed_in self.now domain))) }
+        ensures rising { IsTrue (is_rising owed_cmp (due_frames now (owed_in self.now domain))) }
     {
         match row_among(&self.rows, domain) {
             Some(row) => row.frames.due(now),

@@ -6,3 +6,5 @@ pub mod Orders
 pub mod Sources
 pub mod CountLists
 pub mod Bools
+pub mod Rising
+pub mod Contains

@@ -1,5 +1,5 @@
 -- One place of a list changed by a function.
-use Rattle.std.proofs.Common.{◌≡◌, ℕ, zero, suc, ◌<◌, List, [], ◌∷◌, length, ◌+◌, ◌++◌, map, take, drop, append_assoc, get_or, set, sym, ap, ◌∙◌, arith}
+use Rattle.std.proofs.Common.{◌≡◌, ℕ, zero, suc, ◌<◌, List, [], ◌∷◌, length, ◌+◌, ◌++◌, map, take, drop, append_assoc, get_or, set, refl, sym, ap, ◌∙◌, arith}
 use Rattle.std.proofs.lemmas.List.{take_more_set, drop-set-lt, drop_more}
 use Rattle.cast_types.specs.Places.{update}
 
@@ -18,3 +18,9 @@ map_more_set f whole xs i x y lt is so_far =
     ∙ ap (λ w. take i xs ++ (w ∷ map f (drop (i + 1) xs))) is
     ∙ ap (λ (back : List _). take i xs ++ map f back) (sym (drop_more xs i x lt))
     ∙ so_far
+
+-- a place that changes leaves the length
+pub length_update : {X : Type 0} (f : X → X) (xs : List X) (i : ℕ) → length (update xs i f) ≡ length xs
+length_update f [] i = refl
+length_update f (x ∷ xs) zero = refl
+length_update f (x ∷ xs) (suc i) = ap suc (length_update f xs i)

@@ -2,6 +2,7 @@ pub mod Names
 pub mod Sources
 pub mod Refusals
 pub mod Sets
+pub mod Rising
 pub mod Places
 pub mod Repeat
 pub mod Counts

@@ -2,20 +2,7 @@
 use Rattle.std.proofs.Common.{◌≡◌, Bool, true, false, ◌&&◌, ◌||◌, List, [], ◌∷◌, filter, Ordering, Less, Equal, Greater, refl, sym, ap, ◌∙◌}
 use Rattle.std.specs.Prelude.{if◌then◌else◌}
 use Rattle.cast_types.specs.Sets.{is_among, with_item, with_items, set_of, at_order}
-
--- the first and the second of three may change places
-or_turned : (a b c : Bool) → (b || (a || c)) ≡ (a || (b || c))
-or_turned true true c = refl
-or_turned true false c = refl
-or_turned false true c = refl
-or_turned false false c = refl
-
--- as above, from the left
-or_moved : (a b c : Bool) → ((a || b) || c) ≡ (b || (a || c))
-or_moved true true c = refl
-or_moved true false c = refl
-or_moved false true c = refl
-or_moved false false c = refl
+use Rattle.cast_types.proofs.Bools.{or_turned, or_moved}
 
 -- a test said twice is said once
 or_twice : (a b : Bool) → (a || b) ≡ (a || (a || b))

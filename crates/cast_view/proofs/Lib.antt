@@ -1,4 +1,3 @@
-pub mod Risings
 pub mod Among
 pub mod Rooms
 pub mod Flushes

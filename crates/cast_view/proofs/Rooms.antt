@@ -12,7 +12,7 @@ use Rattle.cast_types.specs.declared.names.Proc.{Proc}
 use Rattle.cast_types.specs.Names.{site_eq, site_cmp, proc_eq, proc_cmp}
 use Rattle.cast_types.specs.Sets.{is_among, with_item, with_items, without}
 use Rattle.cast_types.proofs.Orders.{proc_total, proc_exact, site_exact, same_proc, proc_itself, site_itself}
-use Rattle.cast_message.specs.Rising.{is_rising}
+use Rattle.cast_types.specs.Rising.{is_rising}
 use Rattle.cast_message.specs.declared.message.Message.{Message}
 use Rattle.cast_message.specs.declared.site.Change.TheVariants.{Join}
 use Rattle.cast_view.specs.declared.phase.Decision.{Decision}
@@ -21,21 +21,15 @@ use Rattle.cast_view.specs.declared.phase.Phase.TheVariants.{Idle, Gathering, In
 use Rattle.cast_flush.specs.Reports.{cut_from}
 use Rattle.cast_flush.specs.Decisions.{order_from}
 use Rattle.cast_view.specs.Home.{Home, expected, stays, is_leaving, is_suspected, is_crowded, is_refused, is_sound, has_next_number, installing, sites_of, decided_list, decided_phase, decided, marked_leaving}
-use Rattle.cast_view.proofs.Risings.{rising_kept, rising-with_items}
+use Rattle.cast_types.proofs.Rising.{rising_kept, rising-with_items}
 use Rattle.cast_view.proofs.Among.{among_kept, among_with_item, among_set_of}
-
--- what is kept of a list is no longer than it
-kept_length : {A : Type 0} (keep : A → Bool) (xs : List A) → length (filter keep xs) ≤ length xs
-kept_length keep [] = omega arith
-kept_length keep (x ∷ xs) =
-    let rest = kept_length keep xs in
-    elim (keep x) as (λ b. length (if b then x ∷ filter keep xs else filter keep xs) ≤ length (x ∷ xs)) [ true ↦ omega arith | false ↦ omega arith ]
+use Rattle.cast_flush.proofs.Each.{length_filter}
 
 -- a process among a list is one of it, so that it is shorter without the process
 without_length : (p : Proc) (xs : List Proc) → is_among proc_eq p xs ≡ true → length (without proc_eq p xs) + 1 ≤ length xs
 without_length p [] among = absurd (false≢true among)
 without_length p (x ∷ xs) among =
-    let few = kept_length (λ y. not (proc_eq p y)) xs in
+    let few = length_filter (λ y. not (proc_eq p y)) xs in
     elim (proc_eq p x) as (λ b. (b || is_among proc_eq p xs) ≡ true → length (if not b then x ∷ without proc_eq p xs else without proc_eq p xs) + 1 ≤ length (x ∷ xs)) [
       | true ↦ λ _. omega arith
       | false ↦ λ rest. let less = without_length p xs rest in omega arith

@@ -1,7 +1,7 @@
 ghost use Rattle.std.specs.Prelude.{◌≡◌, [], filter, OnOk, OnErr, IsTrue, ◌↔◌};
 ghost use Rattle.cast_types.specs.Names.{proc_cmp, proc_eq, site_eq};
 ghost use Rattle.cast_types.specs.Sets.{with_item, without, is_among};
-ghost use Rattle.cast_message.specs.Rising.{is_rising};
+ghost use Rattle.cast_types.specs.Rising.{is_rising};
 
 use crate::phase::is_among;
 use cast_types::{NoMemory, Proc, SiteNo, sorted};
@@ -18,7 +18,7 @@ impl Model for Procs {
     ghost use Rattle.std.specs.Prelude.{List, IsTrue};
     ghost use Rattle.cast_types.specs.declared.names.Proc.{Proc};
     ghost use Rattle.cast_types.specs.Names.{proc_cmp};
-    ghost use Rattle.cast_message.specs.Rising.{is_rising};
+    ghost use Rattle.cast_types.specs.Rising.{is_rising};
 
     ghost Value = { List Proc };
 

@@ -1,6 +1,6 @@
 use Rattle.cast_types.specs.Names.{proc_cmp}
 use Rattle.cast_types.proofs.Orders.{proc_total}
-use Rattle.cast_model.proofs.Risings.{rising-with_item}
+use Rattle.cast_types.proofs.Rising.{rising-with_item}
 use Rattle.cast_model.proofs.home.Procs.insert.Goals as goal
 
 pub invariant_of-self-2 : goal.invariant_of-self-2

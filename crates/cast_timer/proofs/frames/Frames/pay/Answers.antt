@@ -1,7 +1,7 @@
 use Rattle.std.proofs.Common.{◌≡◌, rules, not}
 use Rattle.std.proofs.lemmas.Fn.{filter_same}
-use Rattle.cast_timer.specs.Owed.{key_eq, paid}
-use Rattle.cast_timer.proofs.Rising.{rising_kept}
+use Rattle.cast_timer.specs.Owed.{key_eq, paid, owed_cmp}
+use Rattle.cast_types.proofs.Rising.{rising_kept}
 use Rattle.cast_timer.proofs.frames.Frames.pay.Goals as goal
 
 pub returns : goal.returns
@@ -10,4 +10,4 @@ returns c = rw (← c.self.view_is) (filter_same _ _ _ (λ x b f' k. search rule
 pub invariant_of-self : goal.invariant_of-self
 invariant_of-self c =
     let rest : c.retain.new.self.items ≡ paid (key_eq c.args.key.now) c.self.inside.owed.items = filter_same _ _ _ (λ x b f' k. search rules) _ _ c.retain.ensures.filtered in
-    rw rest (rising_kept (λ o. not (key_eq c.args.key.now o.key)) c.self.inside.owed.items c.self.invariant)
+    rw rest (rising_kept owed_cmp (λ o. not (key_eq c.args.key.now o.key)) c.self.inside.owed.items c.self.invariant)

@@ -2,7 +2,7 @@ use Rattle.std.proofs.Common.{◌≡◌, rules, filter}
 use Rattle.std.proofs.lemmas.Fn.{filter_same}
 use Rattle.cast_types.specs.Names.{proc_cmp, site_eq}
 use Rattle.cast_types.specs.Sets.{is_among}
-use Rattle.cast_view.proofs.Risings.{rising_kept}
+use Rattle.cast_types.proofs.Rising.{rising_kept}
 use Rattle.cast_view.proofs.procs.Procs.keep_at.Goals as goal
 
 pub returns : goal.returns

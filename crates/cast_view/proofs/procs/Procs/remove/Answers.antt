@@ -2,7 +2,7 @@ use Rattle.std.proofs.Common.{◌≡◌, rules, not}
 use Rattle.std.proofs.lemmas.Fn.{filter_same}
 use Rattle.cast_types.specs.Names.{proc_cmp, proc_eq}
 use Rattle.cast_types.specs.Sets.{without}
-use Rattle.cast_view.proofs.Risings.{rising_kept}
+use Rattle.cast_types.proofs.Rising.{rising_kept}
 use Rattle.cast_view.proofs.procs.Procs.remove.Goals as goal
 
 pub returns : goal.returns
