@@ -2,19 +2,18 @@ ghost use Rattle.std.specs.Prelude.{◌≡◌, ◌<◌, ◌↔◌, ◌&&◌, ◌
 ghost use Rattle.std.specs.List.{list_any, position};
 ghost use Rattle.std.specs.Option.{option_copied, option_map, option_map_or};
 ghost use Rattle.std.specs.FinMap.Entries.{put};
-ghost use Rattle.cast_types.specs.Names.{group_cmp, proc_eq, named, is_atomic};
+ghost use Rattle.cast_types.specs.Names.{group_cmp, named};
 ghost use Rattle.cast_types.specs.declared.names.GroupNo.{GroupNo};
 ghost use Rattle.cast_types.specs.declared.names.Proc.{Proc};
 ghost use Rattle.cast_types.specs.declared.names.Standing.TheVariants.{Outside};
 ghost use Rattle.cast_clock.specs.Times.{no_time};
 ghost use Rattle.cast_message.specs.declared.message.Received.{Received};
-ghost use Rattle.cast_message.specs.Bodies.{kind_of};
 ghost use Rattle.cast_message.specs.Receipts.{key_eq};
 ghost use Rattle.cast_delay.specs.declared.turn.Turn.{Turn};
 ghost use Rattle.cast_delay.specs.Ready.{Process, Gate, is_member, has_delivered, turn_in};
-ghost use Rattle.cast_delay.specs.Rows.{delivered_row, told_row, standing_in, done_in};
+ghost use Rattle.cast_delay.specs.Rows.{told_row, standing_in, done_in};
 ghost use Rattle.cast_delay.specs.Queue.{new_row, row_of, change_row, first_for, offered_under, next_key, delivered_in, passed_in, but_offered, is_awaited, HasOneRowEach, after_delivery};
-ghost use Rattle.cast_delay.specs.Fits.{Fits, FirstReady, IsAwaited};
+ghost use Rattle.cast_delay.specs.Fits.{Fits, FirstReady, IsAwaited, offer_of};
 
 use crate::offered::Offered;
 use crate::row::{Fact, Row};
@@ -81,7 +80,7 @@ impl Delay {
 
     /// Adds a received message, the last one in order of receipt.
     pub fn offer(&mut self, key: Key, message: &Message) -> Result<(), NoMemory>
-        ensures { OnOk result (self.new ≡ record self.old { offered = self.old.offered ++ (record { key = key; id = message.now.id; atomic = is_atomic (kind_of message.now.body); times = message.now.times }) ∷ [] }) }
+        ensures { OnOk result (self.new ≡ record self.old { offered = self.old.offered ++ offer_of (record { key = key; message = message.now }) ∷ [] }) }
     {
         self.offered.push(Offered {
             key,

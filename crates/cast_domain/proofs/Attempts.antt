@@ -1,9 +1,8 @@
 -- Requests that are not refused.
 use Rattle.std.proofs.Common.{◌≡◌, ℕ, ◌+◌, Bool, true, false, not, List, Option, Some, None, refl, ap, ◌∙◌}
-use Rattle.std.specs.Prelude.{◌&&◌, ◌==◌, nat_lt, length, if◌then◌else◌}
+use Rattle.std.specs.Prelude.{◌==◌, nat_lt, length, if◌then◌else◌}
 use Rattle.std.specs.Option.{option_map_or}
 use Rattle.cast_types.specs.declared.names.GroupNo.{GroupNo}
-use Rattle.cast_types.specs.declared.names.Proc.{Proc}
 use Rattle.cast_types.specs.declared.names.Standing.TheVariants.{Joining}
 use Rattle.cast_types.specs.declared.limits.TheConstants.{MAX_NUMBER, MAX_PAYLOAD}
 use Rattle.cast_types.specs.declared.refusal.Refusal.TheVariants.{NotMember, AlreadyMember, OwnAbcast, HeldFull, TooLong}
@@ -11,16 +10,17 @@ use Rattle.cast_clock.specs.Times.{view_of, bumped}
 use Rattle.cast_message.specs.declared.client.CastKind.{CastKind}
 use Rattle.cast_message.specs.declared.site.Change.TheVariants as change
 use Rattle.cast_message.specs.Sequence.{Sequence}
-use Rattle.cast_order.specs.Log.{log_of, next_places}
+use Rattle.cast_order.specs.Log.{next_places}
 use Rattle.cast_delay.specs.Ready.{is_member, is_outside}
 use Rattle.cast_delay.specs.declared.row.Fact.TheVariants as fact
 use Rattle.cast_history.specs.Rules.Requests.{request}
-use Rattle.cast_history.specs.Rules.Room.{may_order, may_receive}
+use Rattle.cast_history.specs.Rules.Room.{may_receive}
 use Rattle.cast_history.specs.Rules.Sending.{send_message, may_raise}
-use Rattle.cast_history.specs.Rules.Commands.{Attempt, join_at, cast_at}
+use Rattle.cast_history.specs.Rules.Commands.{Attempt, join_at, message_sent, cast_at}
 use Rattle.cast_domain.specs.Records.{Records}
 use Rattle.cast_history.specs.Rules.Commands.{body_of}
-use Rattle.cast_domain.specs.Calls.{awaits_own_in, records, let_go_in, send_places_in, set_order_by_in, record_at, standing_of, time_of, local_in, tell_in, next_message_in}
+use Rattle.cast_domain.specs.Calls.{awaits_own_in, records, let_go_in, record_at, standing_of, time_of, local_in, tell_in, resting_records}
+use Rattle.cast_history.specs.Rules.Order.{may_list, send_places, list_places, set_order_by}
 
 -- what a join does that is not refused
 abbrev pub joined : Records → ℕ → GroupNo → ℕ → Records
@@ -39,7 +39,7 @@ abbrev pub sent : Records → ℕ → GroupNo → CastKind → List ℕ → ℕ 
 sent r k g cast payload i =
     send_message records
     (tell_in r (local_in r k) (fact.Time (bumped (time_of r.delay (local_in r k)) g (local_in r k))))
-    (next_message_in r (local_in r k) g i (body_of cast payload))
+    (message_sent records r k g i (body_of cast payload))
 
 -- what is left of a cast past the tests of payload and membership
 cast_owning : (r : Records) (k : ℕ) (g : GroupNo) (cast : CastKind) (payload : List ℕ) (i : ℕ) → nat_lt MAX_PAYLOAD (length payload) ≡ false → is_member (standing_of r.delay (local_in r k) g) ≡ true → cast_at records r k g cast payload i ≡ (if awaits_own_in r (local_in r k) then (r, Some OwnAbcast) else if not (may_receive records r) then (r, Some HeldFull) else if not (may_raise (time_of r.delay (local_in r k)) g (local_in r k)) then (r, Some HeldFull) else (sent r k g cast payload i, None))
@@ -86,17 +86,29 @@ cast_unraised r k g cast payload i short member own room may =
     ∙ ap (λ b. if not b then (r, Some HeldFull) else (sent r k g cast payload i, None)) may
 
 -- what the holder's set-order message does that is sent
-pub places_made : (r : Records) (i : ℕ) (p : Proc) (q : Sequence) → (is_member (standing_of r.delay p (record_at r.groups i).name) && may_order records r) ≡ true → next_places (log_of r.orders (record_at r.groups i).name) ≡ Some q → may_raise (time_of r.delay p) (record_at r.groups i).name p ≡ true → set_order_by_in r i p ≡ let_go_in (send_places_in r i p q)
-places_made r i p q may next raised =
-    let g : GroupNo = (record_at r.groups i).name in
-    ap (λ b. if b then option_map_or (λ places. if may_raise (time_of r.delay p) g p then let_go_in (send_places_in r i p places) else r) (next_places (log_of r.orders g)) r else r) may
-    ∙ ap (λ o. option_map_or (λ places. if may_raise (time_of r.delay p) g p then let_go_in (send_places_in r i p places) else r) o r) next
-    ∙ ap (λ b. if b then let_go_in (send_places_in r i p q) else r) raised
+pub places_made : (r : Records) (i k : ℕ) (q : Sequence) → may_list records resting_records r i k ≡ true → resting_records.next_places r i k ≡ Some q → may_raise (time_of r.delay (local_in r k)) (record_at r.groups i).name (local_in r k) ≡ true → set_order_by records resting_records r i k ≡ let_go_in (send_places records resting_records r i k q)
+places_made r i k q may next raised =
+    ap (λ b. if b then option_map_or (list_places records resting_records r i k) (resting_records.next_places r i k) r else r) may
+    ∙ ap (λ o. option_map_or (list_places records resting_records r i k) o r) next
+    ∙ ap (λ b. if b then let_go_in (send_places records resting_records r i k q) else r) raised
 
-pub places_none : (r : Records) (i : ℕ) (p : Proc) → (is_member (standing_of r.delay p (record_at r.groups i).name) && may_order records r) ≡ false → set_order_by_in r i p ≡ r
-places_none r i p may =
-    let g : GroupNo = (record_at r.groups i).name in
-    ap (λ b. if b then option_map_or (λ places. if may_raise (time_of r.delay p) g p then let_go_in (send_places_in r i p places) else r) (next_places (log_of r.orders g)) r else r) may
+-- a holder that may list nothing changes nothing
+pub places_none : (r : Records) (i k : ℕ) → may_list records resting_records r i k ≡ false → set_order_by records resting_records r i k ≡ r
+places_none r i k may =
+    ap (λ b. if b then option_map_or (list_places records resting_records r i k) (resting_records.next_places r i k) r else r) may
+
+-- nor does one that has nothing to list
+pub places_missing : (r : Records) (i k : ℕ) → may_list records resting_records r i k ≡ true → resting_records.next_places r i k ≡ None → set_order_by records resting_records r i k ≡ r
+places_missing r i k may next =
+    ap (λ b. if b then option_map_or (list_places records resting_records r i k) (resting_records.next_places r i k) r else r) may
+    ∙ ap (λ o. option_map_or (list_places records resting_records r i k) o r) next
+
+-- nor one whose count cannot be raised
+pub places_unraised : (r : Records) (i k : ℕ) (q : Sequence) → may_list records resting_records r i k ≡ true → resting_records.next_places r i k ≡ Some q → may_raise (time_of r.delay (local_in r k)) (record_at r.groups i).name (local_in r k) ≡ false → set_order_by records resting_records r i k ≡ r
+places_unraised r i k q may next raised =
+    ap (λ b. if b then option_map_or (list_places records resting_records r i k) (resting_records.next_places r i k) r else r) may
+    ∙ ap (λ o. option_map_or (list_places records resting_records r i k) o r) next
+    ∙ ap (λ b. if b then let_go_in (send_places records resting_records r i k q) else r) raised
 
 -- a choice that gives nothing
 pub raised_none : {A : Type 0} (b : Bool) (x : A) → ◌≡◌ {A = Option (A × A)} None (if b then Some (x, x) else None) → b ≡ false

@@ -42,7 +42,7 @@ written r s = record r { site = s.here; config = s.config; used = s.used }
 -- what holds of the records so written holds of them
 as_written : (P : Records → Type 0) (r : Records) (s : State) → Fits r s → (Fits (written r s) s → P (written r s)) → P r
 as_written P r s f h =
-    let same : r ≡ written r s = (λ i. record r { site = f.site i; config = f.config i; used = f.used i }) in
+    let same : r ≡ written r s = (λ i. record r { site = (f.core i).site; config = (f.core i).config; used = (f.core i).used }) in
     subst P (sym same) (h (subst (λ x. Fits x s) same f))
 
 -- Own ABCASTs
@@ -70,7 +70,7 @@ own_same r s f l k m =
   where
     delivered_there : delivered_in r.delay (local s k) m.id ≡ has_delivered (s.process k) m.id
     delivered_there =
-        delivered_rules s.config.groups (gate_of s) (process_named s) r.part.kept r.delay f.delay (local s k) m.id
+        delivered_rules s.config.groups (gate_of s) (process_named s) r.part.kept r.delay f.processes.delay (local s k) m.id
         ∙ ap (λ p. has_delivered p m.id) (process_here s k)
 
 -- what is spent passes no test, so that it is enough to look among what is kept
@@ -101,7 +101,7 @@ spent_own s k given m spent = false_from_ne_true (own_of s k m) (λ is.
 pub awaits_own_there : (r : Records) (s : State) → Fits r s → IsLawful s → (k : ℕ) → was_given s.used k ≡ true → awaits_own_in r (local s k) ≡ awaits_own s k
 awaits_own_there r s f l k given =
     any_message (is_own_in r (local s k)) r.part.kept
-    ∙ ap (list_any (is_own_in r (local s k))) f.kept
+    ∙ ap (list_any (is_own_in r (local s k))) f.messages.kept_in
     ∙ any_same (is_own_in r (local s k)) (own_of s k) (own_same r s f l k) s.kept
     ∙ kept_any (IsSpent s) (own_of s k) (spent_own s k given) s.got s.kept l.spent
 

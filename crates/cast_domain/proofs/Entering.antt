@@ -246,7 +246,7 @@ module _ (g : GroupNo) (n : ℕ) (members : Membership) (request : ℕ) (t : Sta
   fits_take_here : (r : Records) (e : ℕ → Bool) → Fits r (entered e) → is_group t g ≡ true → (k : ℕ) → e k ≡ false → Fits (take r (local t k)) (entered (λ j. e j || (taken k && (k == j))))
   fits_take_here r e f listed k fresh =
       let p : Proc = local t k in
-      let here : site_eq t.here r.site ≡ true = ap (λ x. site_eq t.here x) f.site ∙ site_itself t.here in
+      let here : site_eq t.here r.site ≡ true = ap (λ x. site_eq t.here x) (ap (λ c. c.site) f.core) ∙ site_itself t.here in
       let same : (site_eq t.here r.site && is_taken_in request (standing_of r.delay p g)) ≡ taken k =
       ap (λ b. b && is_taken_in request (standing_of r.delay p g)) here ∙ ap (is_taken_in request) (standing_now r e f k fresh) in
       let more : State = entered (λ j. e j || (k == j)) in
@@ -267,7 +267,7 @@ module _ (g : GroupNo) (n : ℕ) (members : Membership) (request : ℕ) (t : Sta
         (subst (λ x. Fits (take r (local t p.serial)) (entered x)) (λ i j. e j || one p.serial j (cases_eq p.serial j) i)
         (fits_take_here r e f listed p.serial (fresh p.serial own)))
     | inr other ↦
-        subst (λ b. Fits (if b && is_taken_in request (standing_of r.delay p g) then enter_in g n members r p else r) (entered (λ j. e j || (taken j && proc_eq (local t j) p)))) (sym (ap (λ x. site_eq p.site x) f.site ∙ other))
+        subst (λ b. Fits (if b && is_taken_in request (standing_of r.delay p g) then enter_in g n members r p else r) (entered (λ j. e j || (taken j && proc_eq (local t j) p)))) (sym (ap (λ x. site_eq p.site x) (ap (λ c. c.site) f.core) ∙ other))
         (subst (λ x. Fits r (entered x)) (λ i j. none other j i) f)
   ]
     where
@@ -307,6 +307,6 @@ fits_complete r s f l i g at listed n members request typed newer =
     let f0 : Fits first now = fits_view r s f l i g at n members newer in
     let rising = (and_parts (is_rising proc_cmp members.list) _ typed).0 in
     let all = fits_take_all g n members request now members.list first (λ k. false) f0 listed rising (λ k _. refl) in
-    let one_by_one = subst (λ x. Fits (fold (take_in g n members request) first members.list) x) (sym (at_once g n members request now (enters s g members request) f0.all_open)) all in
+    let one_by_one = subst (λ x. Fits (fold (take_in g n members request) first members.list) x) (sym (at_once g n members request now (enters s g members request) f0.opened.all_open)) all in
     let name : (record_at r.groups i).name ≡ g = ap (λ (x : GroupRecord). x.name) (record_there r s f i g at) in
     subst (λ h. Fits (fold (take_in h n members request) first members.list) (completing s g n members request)) (sym name) one_by_one

@@ -19,7 +19,7 @@ use Rattle.cast_domain.proofs.Following.{fits_tick}
 -- each event
 pub fits_acted : (r : Records) (s : State) (e : Event) → Fits r s → IsLawful s → IsTyped e → Fits (act_in r e) (acted s e).0
 fits_acted r s (event.Open d) f l typed =
-    subst (λ n. Fits (if n == MAX_NUMBER then r else open_in r) (acted s (event.Open d)).0) (sym f.used)
+    subst (λ n. Fits (if n == MAX_NUMBER then r else open_in r) (acted s (event.Open d)).0) (sym (ap (λ c. c.used) f.core))
     (elim (s.used == MAX_NUMBER) as (λ b. (s.used == MAX_NUMBER) ≡ b → Fits (if b then r else open_in r) (if◌then◌else◌ {A = Effect} b (s, taken.Refused TooManySessions) (opened s, taken.Opened (s.used + 1))).0) [
       | true ↦ λ _. f
       | false ↦ λ _. fits_open r s f
@@ -31,8 +31,8 @@ fits_acted r s (event.Tick t) f l typed = fits_tick r s f t
 -- and its answer
 pub answer_acted : (r : Records) (s : State) (e : Event) → Fits r s → answer_to r.used e ≡ (acted s e).1
 answer_acted r s (event.Open d) f =
-    subst (λ n. answer_to n (event.Open d) ≡ (acted s (event.Open d)).1) (sym f.used)
+    subst (λ n. answer_to n (event.Open d) ≡ (acted s (event.Open d)).1) (sym (ap (λ c. c.used) f.core))
     (elim (s.used == MAX_NUMBER) as (λ b. (if b then taken.Refused TooManySessions else taken.Opened (s.used + 1)) ≡ (if◌then◌else◌ {A = Effect} b (s, taken.Refused TooManySessions) (opened s, taken.Opened (s.used + 1))).1) [ true ↦ refl | false ↦ refl ])
-answer_acted r s (event.Command d k c) f = ap (λ b. if b then taken.Nothing else taken.Refused NotOpen) (ap (λ n. was_given n k) f.used ∙ sym (f.all_open k))
+answer_acted r s (event.Command d k c) f = ap (λ b. if b then taken.Nothing else taken.Refused NotOpen) (ap (λ n. was_given n k) (ap (λ c. c.used) f.core) ∙ sym (f.opened.all_open k))
 answer_acted r s (event.Frame d from x) f = refl
 answer_acted r s (event.Tick t) f = refl

@@ -48,21 +48,11 @@ place_both groups r s f g =
 -- what was acknowledged and told is noted on both sides
 fits_noted : (r : Records) (s : State) → Fits r s → (acks : List Acked) (told : List Uid) (ledger : Ledger) → AcksFits s.here (others_of s) (map (λ m. m.id) s.got) acks told ledger → ((g : GroupNo) → LogFits (record s { acks = acks; told = told }) g (log_of r.orders g)) → Fits (record r { acks = ledger }) (record s { acks = acks; told = told })
 fits_noted r s f acks told ledger known orders = record {
-  site = f.site;
-  config = f.config;
-  used = f.used;
-  given = f.given;
-  sessions = f.sessions;
-  all_open = f.all_open;
+  core = f.core;
+  opened = f.opened;
   groups = f.groups;
-  moment = f.moment;
-  kept = f.kept;
-  fresh = f.fresh;
-  received = f.received;
-  owed = f.owed;
-  delay = f.delay;
-  admitted = f.admitted;
-  rows = f.rows;
+  messages = f.messages;
+  processes = f.processes;
   acks = known;
   orders = orders;
   frames = f.frames;
@@ -83,16 +73,16 @@ fits_note_stable r s f u =
 
 pub records_follow : (groups : List GroupNo) → Follows records history (FitsIn groups) (IsAt groups)
 records_follow groups = record {
-  here = λ r s f. f.0.site;
-  config = λ r s f. f.0.config;
+  here = λ r s f. (ap (λ c. c.site) f.0.core);
+  config = λ r s f. (ap (λ c. c.config) f.0.core);
   place = place_both groups;
   group = λ r s f i g at. ap (λ (x : GroupRecord). x.here) (record_there r s f.0 i g (ap (λ l. slice_get l i) f.1 ∙ at));
   others = λ r s f. f.0.acks.views;
   stable_upto = λ r s f. upto_meant s.here (others_of s) (map (λ m. m.id) s.got) s.acks s.told r.acks f.0.acks;
   has_acked = λ r s f u counted to. f.0.acks.acked to u (ltb-true 0 u.count counted);
   message = λ r s f. message_same r s f.0;
-  is_owed = λ r s f key. ap (λ o. is_owed o key) f.0.owed;
-  due = λ r s f. λ i. due_at (f.0.moment i) (f.0.owed i);
+  is_owed = λ r s f key. ap (λ o. is_owed o key) (ap (λ c. c.owed) f.0.core);
+  due = λ r s f. λ i. due_at (f.0.core i).moment (f.0.core i).owed;
   send = λ r s f to x. (fits_send r s f.0 to x, f.1);
   note_owed = λ r s f key. (fits_note_owed r s f.0 key, f.1);
   note_resent = λ r s f key. (fits_note_resent r s f.0 key, f.1);

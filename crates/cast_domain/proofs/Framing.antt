@@ -33,12 +33,10 @@ use Rattle.cast_history.specs.History.{history}
 use Rattle.cast_history.specs.Lawful.{IsLawful, IsTypedFrame}
 use Rattle.cast_history.specs.Rules.Data.{counts_itself}
 use Rattle.cast_history.specs.Rules.Commands.{message_sent, commanded}
-use Rattle.cast_history.specs.Rules.Views.{lead}
 use Rattle.cast_history.specs.Rules.Frames.{framed}
 use Rattle.cast_history.proofs.Rules.Follows.{FollowsAll, AllAt, IsTaken, sent_here, with_invariant}
 use Rattle.cast_history.proofs.Rules.Data.{used_of_another, used_from_its_site, used_counts}
 use Rattle.cast_history.proofs.Rules.Commands.{commanded_follows}
-use Rattle.cast_history.proofs.Rules.Views.{lead_follows}
 use Rattle.cast_history.proofs.Rules.Frames.{framed_follows}
 use Rattle.cast_history.proofs.Lawful.{same_fold, same_pushing}
 use Rattle.cast_history.proofs.LawfulSteps.{placed_at, taken_current, entered, all_lawful}
@@ -99,11 +97,11 @@ completing_config s g n members request =
 
 -- The records stand for a lawful history of a domain of these groups
 
-abbrev StandsIn : List GroupNo → Records → State → Type 0
+abbrev pub StandsIn : List GroupNo → Records → State → Type 0
 StandsIn groups r s = FitsIn groups r s × IsLawful s
 
 module _ (groups : List GroupNo) where
-  there : (r : Records) (s : State) → StandsIn groups r s → (i : ℕ) (g : GroupNo) → IsAt groups i g → slice_get s.config.groups i ≡ Some g
+  pub there : (r : Records) (s : State) → StandsIn groups r s → (i : ℕ) (g : GroupNo) → IsAt groups i g → slice_get s.config.groups i ≡ Some g
   there r s f i g at = ap (λ l. slice_get l i) f.0.1 ∙ at
 
   -- places from one on are those of the groups that stand there
@@ -114,7 +112,7 @@ module _ (groups : List GroupNo) where
     places_from gs (a + 1) (λ i h is. subst (λ j. slice_get groups j ≡ Some h) (omega arith) (at (suc i) h is)),
   )
 
-  records_follow_all : FollowsAll records history (StandsIn groups) (IsAt groups)
+  pub records_follow_all : FollowsAll records history (StandsIn groups) (IsAt groups)
   records_follow_all = record {
     follows = with_invariant records history (FitsIn groups) (IsAt groups) IsLawful (records_follow groups) all_lawful.keeps;
     name = λ r s f i g at. ap (λ (x : GroupRecord). x.name) (record_there r s f.0.0 i g (there r s f i g at));
@@ -122,18 +120,18 @@ module _ (groups : List GroupNo) where
         subst (λ n. AllAt (IsAt groups) (range_with_len 0 n) s.config.groups) (sym (ap length f.0.0.groups ∙ length-map s.config.groups (record_for s)))
         (places_from s.config.groups 0 (λ i g at. subst (λ j. slice_get groups j ≡ Some g) (omega arith) (sym (ap (λ l. slice_get l i) f.0.1) ∙ at)));
     home = λ r s f i g at. ap (λ (x : GroupRecord). x.home) (record_there r s f.0.0 i g (there r s f i g at));
-    held = λ r s f. sym (length-map r.part.kept (λ (x : Received). x.message)) ∙ ap length f.0.0.kept;
+    held = λ r s f. sym (length-map r.part.kept (λ (x : Received). x.message)) ∙ ap length f.0.0.messages.kept_in;
     is_received = λ r s f u counted. received_there r s f.0.0 u (ltb-true 0 u.count counted);
     is_stable = λ r s f u counted. stable_meant s.here (others_of s) (map (λ m. m.id) s.got) s.acks s.told r.acks f.0.0.acks u (ltb-true 0 u.count counted);
-    is_open = λ r s f k. ap (λ n. was_given n k) f.0.0.used ∙ sym (f.0.0.all_open k);
-    standing = λ r s f k g. ap (λ t. standing_of r.delay (record { site = t; serial = k }) g) f.0.0.site ∙ standing_there r s f.0.0 k g;
-    time = λ r s f k. ap (λ t. time_of r.delay (record { site = t; serial = k })) f.0.0.site ∙ time_there r s f.0.0 k;
-    awaits_own = λ r s f k given. ap (λ t. awaits_own_in r (record { site = t; serial = k })) f.0.0.site ∙ awaits_own_there r s f.0.0 f.1 k (sym (f.0.0.all_open k) ∙ given);
+    is_open = λ r s f k. ap (λ n. was_given n k) (ap (λ c. c.used) f.0.0.core) ∙ sym (f.0.0.opened.all_open k);
+    standing = λ r s f k g. ap (λ t. standing_of r.delay (record { site = t; serial = k }) g) (ap (λ c. c.site) f.0.0.core) ∙ standing_there r s f.0.0 k g;
+    time = λ r s f k. ap (λ t. time_of r.delay (record { site = t; serial = k })) (ap (λ c. c.site) f.0.0.core) ∙ time_there r s f.0.0 k;
+    awaits_own = λ r s f k given. ap (λ t. awaits_own_in r (record { site = t; serial = k })) (ap (λ c. c.site) f.0.0.core) ∙ awaits_own_there r s f.0.0 f.1 k (sym (f.0.0.opened.all_open k) ∙ given);
     push = λ r s f k p. ((fits_push r s f.0.0 k p, ap (λ c. c.groups) (same_pushing s k p).config ∙ f.0.1), all_lawful.push s f.1 k p);
     note_joining = λ r s f k given g h at number heard. (
       (
-        subst (λ t. Fits (tell_in r (record { site = t; serial = k }) (fact.Standing g (Joining number heard))) (set_standing s k g (Joining number heard))) (sym f.0.0.site)
-            (fits_standing r s f.0.0 k (sym (f.0.0.all_open k) ∙ given) g (Joining number heard) (λ _. (placed_at s g h at).0)),
+        subst (λ t. Fits (tell_in r (record { site = t; serial = k }) (fact.Standing g (Joining number heard))) (set_standing s k g (Joining number heard))) (sym (ap (λ c. c.site) f.0.0.core))
+            (fits_standing r s f.0.0 k (sym (f.0.0.opened.all_open k) ∙ given) g (Joining number heard) (λ _. (placed_at s g h at).0)),
         f.0.1,
       ),
       all_lawful.note_joining s f.1 k given g h at number heard,
@@ -143,7 +141,7 @@ module _ (groups : List GroupNo) where
         let times = (next_message s g k content).times in (
           (
             subst (λ m. Fits (sent_here records r i k g content) (receiving (set_process s k (record (s.process k) { time = times })) m)) (sym same)
-                (fits_sent_here r s f.0.0 f.1 k (sym (f.0.0.all_open k) ∙ sent.given) i g (there r s f i g (at ∙ ap Some (sym placed.1))) content sent.plain sent.member),
+                (fits_sent_here r s f.0.0 f.1 k (sym (f.0.0.opened.all_open k) ∙ sent.given) i g (there r s f i g (at ∙ ap Some (sym placed.1))) content sent.plain sent.member),
             f.0.1,
           ),
           all_lawful.sends s f.1 h k g content sent,
@@ -180,6 +178,3 @@ module _ (r : Records) (s : State) (f : Fits r s) (l : IsLawful s) where
   pub fits_framed : (from : SiteNo) (x : SiteFrame) → IsTypedFrame x → Fits (framed records r from x) (framed history s from x)
   fits_framed from x typed =
       (framed_follows records history (StandsIn groups) (IsAt groups) (records_follow_all groups) r s ((f, refl), l) from x typed).0.0
-
-  pub fits_lead : Fits (lead records r) (lead history s)
-  fits_lead = (lead_follows records history (StandsIn groups) (IsAt groups) (records_follow_all groups) r s ((f, refl), l)).0.0

@@ -15,6 +15,7 @@ pub mod Commands
 pub mod Framing
 pub mod Turns
 pub mod SetOrders
+pub mod Resting
 pub mod Standstill
 pub mod Events
 pub mod Passes

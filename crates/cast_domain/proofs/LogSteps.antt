@@ -26,9 +26,8 @@ use Rattle.cast_order.specs.Log.{Log, log_of, change_log, learnt, next_in, next_
 use Rattle.cast_order.proofs.Meanings.{learnt_group, learn_fits, tell_fits, assign_fits, pass_fits, more_fits}
 use Rattle.cast_order.proofs.Logs.{log_of_change}
 use Rattle.cast_model.specs.Group.{holder_of, is_process, holder_at}
-use Rattle.cast_history.specs.State.{State, no_process, local, receiving}
+use Rattle.cast_history.specs.State.{State, no_process, local, receiving, abcasts_with, with_delivery}
 use Rattle.cast_history.specs.Order.{told_by, is_of_view, facts_in, holds, abcasts_delivered}
-use Rattle.cast_history.specs.Effects.{abcasts_with, with_delivery}
 use Rattle.cast_history.specs.Lawful.{IsTraced}
 use Rattle.cast_domain.specs.Fits.{process_named, told_here, lists_here, settled_here, LogFits}
 use Rattle.cast_domain.proofs.Logs.{has_passed, sets, list_in, lists_by, filter_skips, filter_takes, facts_push, log_made, log_alike, log_apart, other_group}

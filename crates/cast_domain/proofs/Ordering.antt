@@ -42,7 +42,7 @@ use Rattle.cast_domain.proofs.Standing.{record_there, place_some, place_none, pr
 
 -- room for set-order messages
 pub order_room_there : (r : Records) (s : State) → Fits r s → may_order records r ≡ may_order history s
-order_room_there r s f = (λ j. nat_lt ((sym (length-map r.part.kept (λ (x : Received). x.message)) ∙ ap length f.kept) j) (2 * (f.config j).quotas.held))
+order_room_there r s f = (λ j. nat_lt ((sym (length-map r.part.kept (λ (x : Received). x.message)) ∙ ap length f.messages.kept_in) j) (2 * (f.core j).config.quotas.held))
 
 -- who holds the order of a configured group
 pub holds_there : (r : Records) (s : State) → Fits r s → (g : GroupNo) → is_group s g ≡ true → (k : ℕ) → holds_in r g (local s k) ≡ holds s g k
@@ -122,7 +122,7 @@ next_there r s f g k =
     let l : Log = log_of r.orders g in
     let p : Proc = local s k in
     let fits = f.orders g in
-    sym (passed_next s.config.groups _ (process_named s) r.part.kept r.delay f.delay p g (s.group g).number (next_in l p))
+    sym (passed_next s.config.groups _ (process_named s) r.part.kept r.delay f.processes.delay p g (s.group g).number (next_in l p))
     ∙ sym (order_next_rules (facts_in s g) (told_here s g) (lists_here s g) (has_passed s g) fits.stable l fits.fits p)
     ∙ ap (λ x. find (λ e. not (has_delivered x (named g (s.group g).number e))) (order_of s g)) (process_here s k)
 

@@ -23,21 +23,11 @@ use Rattle.cast_domain.proofs.Standing.{orders_same}
 -- what is owed changes on both sides alike
 pub fits_owed : (r : Records) (s : State) → Fits r s → (o p : List Owed) → o ≡ p → Fits (record r { part = record r.part { owed = o } }) (record s { owed = p })
 fits_owed r s fits o p same = record {
-  site = fits.site;
-  config = fits.config;
-  used = fits.used;
-  given = fits.given;
-  sessions = fits.sessions;
-  all_open = fits.all_open;
+  core = λ i. record (fits.core i) { owed = same i };
+  opened = fits.opened;
   groups = fits.groups;
-  moment = fits.moment;
-  kept = fits.kept;
-  fresh = fits.fresh;
-  received = fits.received;
-  owed = same;
-  delay = fits.delay;
-  admitted = fits.admitted;
-  rows = fits.rows;
+  messages = fits.messages;
+  processes = fits.processes;
   acks = fits.acks;
   orders = orders_same s (record s { owed = p }) r.orders refl refl refl refl refl refl fits.orders;
   frames = fits.frames;
@@ -46,11 +36,11 @@ fits_owed r s fits o p same = record {
 
 -- a frame is owed no more
 pub fits_pay : (r : Records) (s : State) → Fits r s → (key : OwedKey) → Fits (pay_in r key) (paying s key)
-fits_pay r s fits key = fits_owed r s fits (paid (key_eq key) r.part.owed) (paid (key_eq key) s.owed) (ap (paid (key_eq key)) fits.owed)
+fits_pay r s fits key = fits_owed r s fits (paid (key_eq key) r.part.owed) (paid (key_eq key) s.owed) (ap (paid (key_eq key)) (ap (λ c. c.owed) fits.core))
 
 -- nor those of its kind about the process's messages before
 pub fits_pay_upto : (r : Records) (s : State) → Fits r s → (key : OwedKey) → Fits (pay_upto_in r key) (paying_upto s key)
-fits_pay_upto r s fits key = fits_owed r s fits (paid (is_upto key) r.part.owed) (paid (is_upto key) s.owed) (ap (paid (is_upto key)) fits.owed)
+fits_pay_upto r s fits key = fits_owed r s fits (paid (is_upto key) r.part.owed) (paid (is_upto key) s.owed) (ap (paid (is_upto key)) (ap (λ c. c.owed) fits.core))
 
 -- the kept message of an id
 found_mapped : (u : Uid) (kept : List Received) → option_map (λ (x : Received). x.message) (find (λ (x : Received). uid_eq x.message.id u) kept) ≡ find (λ (m : Message). uid_eq m.id u) (messages kept)
@@ -61,38 +51,28 @@ found_mapped u (x ∷ kept) = elim (uid_eq x.message.id u) as (λ b. option_map 
 ]
 
 pub message_same : (r : Records) (s : State) → Fits r s → (u : Uid) → message_in r u ≡ message_of s u
-message_same r s fits u = found_mapped u r.part.kept ∙ ap (find (λ (m : Message). uid_eq m.id u)) fits.kept
+message_same r s fits u = found_mapped u r.part.kept ∙ ap (find (λ (m : Message). uid_eq m.id u)) fits.messages.kept_in
 
 -- the moment at which what is sent now is due again
 due_same : (r : Records) (s : State) → Fits r s → next_due_in r ≡ next_due s
-due_same r s fits = λ i. fits.moment i + (fits.config i).quotas.resend
+due_same r s fits = λ i. (fits.core i).moment + (fits.core i).config.quotas.resend
 
 -- a frame is owed from now on, or was sent again now
 
 pub fits_note_owed : (r : Records) (s : State) → Fits r s → (key : OwedKey) → Fits (note_owed_in r key) (noting_owed s key)
-fits_note_owed r s fits key = fits_owed r s fits (with_owed r.part.owed key (next_due_in r)) (with_owed s.owed key (next_due s)) (λ i. with_owed (fits.owed i) key (due_same r s fits i))
+fits_note_owed r s fits key = fits_owed r s fits (with_owed r.part.owed key (next_due_in r)) (with_owed s.owed key (next_due s)) (λ i. with_owed (fits.core i).owed key (due_same r s fits i))
 
 pub fits_note_resent : (r : Records) (s : State) → Fits r s → (key : OwedKey) → Fits (note_resent_in r key) (noting_resent s key)
-fits_note_resent r s fits key = fits_owed r s fits (renewed r.part.owed key (next_due_in r)) (renewed s.owed key (next_due s)) (λ i. renewed (fits.owed i) key (due_same r s fits i))
+fits_note_resent r s fits key = fits_owed r s fits (renewed r.part.owed key (next_due_in r)) (renewed s.owed key (next_due s)) (λ i. renewed (fits.core i).owed key (due_same r s fits i))
 
 -- time passes
 pub fits_moment : (r : Records) (s : State) → Fits r s → (t : ℕ) → Fits (note_moment_in r t) (at_moment s t)
 fits_moment r s fits t = record {
-  site = fits.site;
-  config = fits.config;
-  used = fits.used;
-  given = fits.given;
-  sessions = fits.sessions;
-  all_open = fits.all_open;
+  core = λ i. record (fits.core i) { moment = max (fits.core i).moment (min t MAX_MOMENT) };
+  opened = fits.opened;
   groups = fits.groups;
-  moment = ap (λ n. max n (min t MAX_MOMENT)) fits.moment;
-  kept = fits.kept;
-  fresh = fits.fresh;
-  received = fits.received;
-  owed = fits.owed;
-  delay = fits.delay;
-  admitted = fits.admitted;
-  rows = fits.rows;
+  messages = fits.messages;
+  processes = fits.processes;
   acks = fits.acks;
   orders = orders_same s (at_moment s t) r.orders refl refl refl refl refl refl fits.orders;
   frames = fits.frames;

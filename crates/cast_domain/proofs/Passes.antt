@@ -5,38 +5,30 @@ use Rattle.cast_history.specs.State.{State}
 use Rattle.cast_history.specs.Rest.{pass, RestsAt}
 use Rattle.cast_history.specs.Run.{before_event}
 use Rattle.cast_domain.specs.Records.{Records}
-use Rattle.cast_domain.specs.Calls.{pass_in}
+use Rattle.cast_domain.specs.Calls.{records, resting_records}
+use Rattle.cast_history.specs.Rules.Rest as rest
 use Rattle.cast_history.specs.Lawful.{IsLawful}
 use Rattle.cast_domain.specs.Fits.{Fits}
 use Rattle.cast_history.proofs.LawfulSteps.{lawful_pass}
 use Rattle.cast_domain.proofs.Standing.{orders_same}
-use Rattle.cast_domain.proofs.Standstill.{fits_pass, still_pass}
+use Rattle.cast_domain.proofs.Standstill.{still_pass}
+use Rattle.cast_domain.proofs.Resting.{fits_pass}
 
 -- the records stand for a lawful history
 abbrev pub Stands : Records → State → Type 0
 Stands r s = Fits r s × IsLawful s
 
-pub stands_pass : (w v : Records) → v ≡ pass_in w → (s : State) → Stands w s → Stands v (pass s)
+pub stands_pass : (w v : Records) → v ≡ rest.pass records resting_records w → (s : State) → Stands w s → Stands v (pass s)
 stands_pass w v made s h = (subst (λ r. Fits r (pass s)) (sym made) (fits_pass w s h.0 h.1), lawful_pass s h.1)
 
 -- between two steps nothing is sent or delivered
 pub fits_between : (r : Records) (s : State) → Fits r s → Fits (record r { frames = []; delivered = [] }) (before_event s)
 fits_between r s fits = record {
-  site = fits.site;
-  config = fits.config;
-  used = fits.used;
-  given = fits.given;
-  sessions = fits.sessions;
-  all_open = fits.all_open;
+  core = fits.core;
+  opened = fits.opened;
   groups = fits.groups;
-  moment = fits.moment;
-  kept = fits.kept;
-  fresh = fits.fresh;
-  received = fits.received;
-  owed = fits.owed;
-  delay = fits.delay;
-  admitted = fits.admitted;
-  rows = fits.rows;
+  messages = fits.messages;
+  processes = fits.processes;
   acks = fits.acks;
   orders = orders_same s (before_event s) r.orders refl refl refl refl refl refl fits.orders;
   frames = refl;
@@ -48,11 +40,11 @@ pub led_start : (w : Records) (s : State) → Fits w s → IsLawful s → Led St
 led_start w s fits lawful = (zero, (fits, lawful))
 
 -- one more pass
-pub led_pass : (w v : Records) → v ≡ pass_in w → (s : State) → Led Stands pass w s → Led Stands pass v s
+pub led_pass : (w v : Records) → v ≡ rest.pass records resting_records w → (s : State) → Led Stands pass w s → Led Stands pass v s
 led_pass w v made s led = led_on Stands pass w v s led (stands_pass w v made)
 
 -- a pass that changes no record is the end
-pub led_end : (w v : Records) → v ≡ pass_in w → v ≡ w → (s : State) → Led Stands pass w s → (t : State) × RestsAt s t × Fits v t
+pub led_end : (w v : Records) → v ≡ rest.pass records resting_records w → v ≡ w → (s : State) → Led Stands pass w s → (t : State) × RestsAt s t × Fits v t
 led_end w v made still s led =
     let rest = led_rests Stands pass w v s led (stands_pass w v made)
     (λ t h. still_pass w t h.0 (subst (λ r. Fits r (pass t)) still (stands_pass w v made t h).0)) in

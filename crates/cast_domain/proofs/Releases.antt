@@ -92,7 +92,7 @@ awaits u row = is_member (standing_in row u.group) && nat_lt (done_in row u.grou
 -- a row awaits what its process is to deliver
 awaits_as : (r : Records) (s : State) → Fits r s → (u : Uid) → 0 < u.count → (row : Row) (k : ℕ) → row_of r.delay.rows (local s k) ≡ Some row → awaits u row ≡ (is_member ((s.process k).standing u.group) && not (has_delivered (s.process k) u))
 awaits_as r s fits u counted row k at =
-    awaited_by s.config.groups (gate_of s) (process_named s) r.part.kept r.delay fits.delay (local s k) row at u counted
+    awaited_by s.config.groups (gate_of s) (process_named s) r.part.kept r.delay fits.processes.delay (local s k) row at u counted
     ∙ ap (λ p. is_member (p.standing u.group) && not (has_delivered p u)) (process_here s k)
 
 one_less : (m d some rest : Bool) (a b : List ℕ) (k : ℕ) (test : ℕ → Bool) → test k ≡ d → not some ≡ list_all test a → not ((m && not d) || some) ≡ list_all test (cond m (k ∷ a) a)
@@ -121,9 +121,9 @@ awaited_rows r s fits u counted (x ∷ rows) a (suc n) names at =
 
 pub awaited_same : (r : Records) (s : State) → Fits r s → (u : Uid) → 0 < u.count → not (is_awaited r.delay.rows u) ≡ list_all (λ k. has_delivered (s.process k) u) (local_members s u.group)
 awaited_same r s fits u counted =
-    awaited_rows r s fits u counted r.delay.rows 1 s.used fits.rows
+    awaited_rows r s fits u counted r.delay.rows 1 s.used fits.processes.rows
     (λ row there k is.
-    let found = row_found s r.delay.rows 1 s.used fits.rows row there in
+    let found = row_found s r.delay.rows 1 s.used fits.processes.rows row there in
     let same : found.0 ≡ k = serial_of s found.0 k (sym found.2 ∙ is) in
     subst (λ j. row_of r.delay.rows (local s j) ≡ Some row) same found.3)
 
@@ -131,9 +131,9 @@ awaited_same r s fits u counted =
 pub unborn : (r : Records) (s : State) → Fits r s → (g : GroupNo) → is_member ((s.process (s.used + 1)).standing g) ≡ false
 unborn r s fits g =
     let p : Proc = local s (s.used + 1) in
-    let none = row_none s r.delay.rows 1 s.used (s.used + 1) fits.rows (omega arith) in
+    let none = row_none s r.delay.rows 1 s.used (s.used + 1) fits.processes.rows (omega arith) in
     ap (λ q. is_member (q.standing g)) (sym (process_here s (s.used + 1)))
-    ∙ ap is_member (sym ((fits.delay.rows p).standing g))
+    ∙ ap is_member (sym ((fits.processes.delay.rows p).standing g))
     ∙ ap (λ (o : Option Row). is_member (standing_in (unwrap_or o (new_row p)) g)) none
 
 -- What is free
@@ -277,21 +277,19 @@ pub fits_let_go : (r : Records) (s : State) → Fits r s → IsLawful s → Fits
 fits_let_go r s fits l =
     subst (λ x. Fits x (let_go s)) (sym (fold_release keys r))
     (record {
-      site = fits.site;
-      config = fits.config;
-      used = fits.used;
-      given = fits.given;
-      sessions = fits.sessions;
-      all_open = fits.all_open;
+      core = fits.core;
+      opened = fits.opened;
       groups = fits.groups;
-      moment = fits.moment;
-      kept = kept_now;
-      fresh = λ n past. still_fresh keys r.part.kept n (fits.fresh n past);
-      received = fits.received;
-      owed = fits.owed;
-      delay = forgets keys s.config.groups (gate_of s) (process_named s) r.part.kept r.delay fits.delay;
-      admitted = fits.admitted;
-      rows = fits.rows;
+      messages = record {
+        kept_in = kept_now;
+        fresh = λ n past. still_fresh keys r.part.kept n (fits.messages.fresh n past);
+        counted = fits.messages.counted;
+      };
+      processes = record {
+        delay = forgets keys s.config.groups (gate_of s) (process_named s) r.part.kept r.delay fits.processes.delay;
+        admitted = fits.processes.admitted;
+        rows = fits.processes.rows;
+      };
       acks = fits.acks;
       orders = orders_same s (let_go s) r.orders refl refl refl refl refl refl fits.orders;
       frames = fits.frames;
@@ -302,12 +300,12 @@ fits_let_go r s fits l =
     keys = map (λ x. x.key) (filter (λ x. is_free_in r x.message.id) r.part.kept)
 
     free_as : (x : Received) → In x r.part.kept → is_free_in r x.message.id ≡ is_free s x.message.id
-    free_as x at = free_same r s fits l x.message.id (fits.delay.sound x (in_contains x r.part.kept at)).from_one
+    free_as x at = free_same r s fits l x.message.id (fits.processes.delay.sound x (in_contains x r.part.kept at)).from_one
 
     kept_now : messages (fold drop_kept r.part.kept keys) ≡ filter (λ m. not (is_free s m.id)) s.kept
     kept_now =
         ap messages (fold_drop keys r.part.kept)
         ∙ ap messages (filter_same (λ x. not (is_key keys x.key)) (λ x. not (is_free s x.message.id)) r.part.kept
-        (λ x at. ap not (key_is (λ m. is_free_in r m.id) r.part.kept (λ y there. fits.delay.named y (in_contains y r.part.kept there)) x at ∙ free_as x at)))
+        (λ x at. ap not (key_is (λ m. is_free_in r m.id) r.part.kept (λ y there. fits.processes.delay.named y (in_contains y r.part.kept there)) x at ∙ free_as x at)))
         ∙ messages_filter (λ m. not (is_free s m.id)) r.part.kept
-        ∙ ap (filter (λ m. not (is_free s m.id))) fits.kept
+        ∙ ap (filter (λ m. not (is_free s m.id))) fits.messages.kept_in

@@ -1,10 +1,9 @@
 -- Set-order messages of the records are those of the history that they stand for.
-use Rattle.std.proofs.Common.{◌≡◌, ℕ, zero, suc, ◌+◌, ◌<◌, ◌≤◌, Bool, true, false, cond, not, List, [], ◌∷◌, length, map, Option, Some, None, unwrap_or, refl, sym, ap, subst, ◌∙◌, inl, inr, arith}
+use Rattle.std.proofs.Common.{◌≡◌, ℕ, zero, suc, ◌+◌, ◌<◌, ◌≤◌, Bool, true, false, cond, not, List, [], ◌∷◌, map, Option, Some, None, unwrap_or, refl, sym, ap, subst, ◌∙◌, inl, inr, arith}
 use Rattle.std.specs.Prelude.{◌&&◌, ◌==◌, nat_lt, nat_le, if◌then◌else◌, slice_get}
-use Rattle.std.specs.List.{fold, range_with_len}
+use Rattle.std.specs.List.{range_with_len}
 use Rattle.std.specs.Option.{option_map_or}
 use Rattle.std.proofs.lemmas.Bool.{cases_Bool, cases_lt, false≢true, false_from_ne_true, and_parts, and_from, ltb-true, lt-ltb, le-leb, eqb-true, eq-eqb}
-use Rattle.std.proofs.lemmas.List.{length-map}
 use Rattle.std.proofs.lemmas.Option.{none-some, same_Some}
 use Rattle.cast_types.specs.declared.names.GroupNo.{GroupNo}
 use Rattle.cast_types.specs.declared.names.Proc.{Proc}
@@ -23,7 +22,6 @@ use Rattle.cast_delay.specs.declared.row.Fact.TheVariants as fact
 use Rattle.cast_delay.specs.Ready.{is_member}
 use Rattle.cast_delay.specs.Rows.{standing_in}
 use Rattle.cast_delay.specs.Queue.{new_row, row_of}
-use Rattle.cast_order.specs.Order.{ids_to_list, place_after}
 use Rattle.cast_order.specs.Log.{Log, log_of, change_log, assigned, next_places}
 use Rattle.cast_history.specs.Rules.Room.{may_order}
 use Rattle.cast_history.specs.History.{history}
@@ -34,13 +32,16 @@ use Rattle.cast_model.specs.Home.{is_empty}
 use Rattle.cast_history.specs.State.{State, local, set_process, let_go, was_given}
 use Rattle.cast_history.specs.Order.{order_of, holds, unlisted, has_place, is_of_view}
 use Rattle.cast_history.specs.Effects.{next_message, sending}
-use Rattle.cast_history.specs.Rest.{may_set_order, set_order_by, set_order, set_orders}
+use Rattle.cast_history.specs.Rest.{set_order_by}
+use Rattle.cast_history.proofs.Setting.{may_set_order, set_order_is}
 use Rattle.cast_domain.specs.Records.{Records}
-use Rattle.cast_domain.specs.Calls.{standing_of, time_of, records, log_in, learn_in, settled_in, tell_in, let_go_in, set_order_by_in, set_order_in, set_orders_in}
+use Rattle.cast_domain.specs.Calls.{standing_of, time_of, records, resting_records, record_at, log_in, learn_in, settled_in, tell_in, let_go_in}
+use Rattle.cast_history.specs.Resting.{places_of}
+use Rattle.cast_history.specs.Rules.Order as order
 use Rattle.cast_history.specs.Lawful.{IsLawful}
 use Rattle.cast_domain.specs.Fits.{record_for, Fits}
 use Rattle.cast_history.proofs.Alikes.{alike_sending}
-use Rattle.cast_history.proofs.LawfulSteps.{lawful_order_sent, lawful_set_order}
+use Rattle.cast_history.proofs.LawfulSteps.{lawful_order_sent}
 use Rattle.cast_domain.proofs.LogSteps.{logs_place}
 use Rattle.cast_domain.proofs.Ordering.{order_room_there, settled_there, settled_of_holder, places_there}
 use Rattle.cast_domain.proofs.Standing.{record_there, process_here, standing_there, time_there, fits_time}
@@ -69,16 +70,16 @@ row_early s (x ∷ rows) a (suc n) k names early =
 no_member : (r : Records) (s : State) → Fits r s → (k : ℕ) (g : GroupNo) → row_of r.delay.rows (local s k) ≡ None → is_member ((s.process k).standing g) ≡ false
 no_member r s f k g none =
     ap (λ q. is_member (q.standing g)) (sym (process_here s k))
-    ∙ ap is_member (sym ((f.delay.rows (local s k)).standing g))
+    ∙ ap is_member (sym ((f.processes.delay.rows (local s k)).standing g))
     ∙ ap (λ (o : Option Row). is_member (standing_in (unwrap_or o (new_row (local s k))) g)) none
 
 -- a member's serial was given
 pub member_given : (r : Records) (s : State) → Fits r s → (k : ℕ) (g : GroupNo) → is_member ((s.process k).standing g) ≡ true → was_given s.used k ≡ true
 member_given r s f k g member = elim (cases_lt s.used k) [
-  | inl later ↦ absurd (false≢true (sym (no_member r s f k g (row_none s r.delay.rows 1 s.used k f.rows (omega (arith, later)))) ∙ member))
+  | inl later ↦ absurd (false≢true (sym (no_member r s f k g (row_none s r.delay.rows 1 s.used k f.processes.rows (omega (arith, later)))) ∙ member))
   | inr within ↦ elim (cases_lt 0 k) [
     | inl from_one ↦ and_from (nat_lt 0 k) (nat_le k s.used) (lt-ltb 0 k from_one) (le-leb k s.used (omega (arith, within)))
-    | inr none ↦ absurd (false≢true (sym (no_member r s f k g (row_early s r.delay.rows 1 s.used k f.rows (omega (arith, none)))) ∙ member))
+    | inr none ↦ absurd (false≢true (sym (no_member r s f k g (row_early s r.delay.rows 1 s.used k f.processes.rows (omega (arith, none)))) ∙ member))
   ]
 ]
 
@@ -138,26 +139,27 @@ fits_places r s f l k g here member raised q next =
         })
 
 -- five tests, one after another
-choose : (m o e h y : Bool) (x : Sequence → Records) (q : Sequence) (r : Records) (s t : State) → Fits r s → (m ≡ true → o ≡ true → e ≡ true → h ≡ true → y ≡ true → Fits (x q) t) → Fits (if m && o then option_map_or (λ p. if y then x p else r) (if e && h then Some q else None) r else r) (if m && (o && (e && (h && y))) then t else s)
-choose false o e h y x q r s t f go = f
-choose true false e h y x q r s t f go = f
-choose true true false h y x q r s t f go = f
-choose true true true false y x q r s t f go = f
-choose true true true true false x q r s t f go = f
-choose true true true true true x q r s t f go = go refl refl refl refl refl
+choose : (m o e h y : Bool) (x : Sequence → Records) (z : Sequence → State) (q : Sequence) (r : Records) (s : State) → Fits r s → (m ≡ true → o ≡ true → e ≡ true → h ≡ true → y ≡ true → Fits (x q) (z q)) → Fits (if m && o then option_map_or (λ p. if y then x p else r) (if e && h then Some q else None) r else r) (if m && o then option_map_or (λ p. if y then z p else s) (if e && h then Some q else None) s else s)
+choose false o e h y x z q r s f go = f
+choose true false e h y x z q r s f go = f
+choose true true false h y x z q r s f go = f
+choose true true true false y x z q r s f go = f
+choose true true true true false x z q r s f go = f
+choose true true true true true x z q r s f go = go refl refl refl refl refl
 
--- over a record of the group that is at hand
+-- over the name of the holder, and a record of the group that is at hand
 abbrev set_at_hand : Records → Proc → GroupRecord → Records
 set_at_hand r p x =
     if is_member (standing_of r.delay p x.name) && may_order records r
     then option_map_or (λ places. if may_raise (time_of r.delay p) x.name p then let_go_in (sent_at r p x places) else r) (next_places (log_in r x.name)) r
     else r
 
-fits_set_order_by : (r : Records) (s : State) → Fits r s → IsLawful s → (i : ℕ) (g : GroupNo) → slice_get s.config.groups i ≡ Some g → (k : ℕ) → holds s g k ≡ true → Fits (set_order_by_in r i (local s k)) (set_order_by s g k)
+pub fits_set_order_by : (r : Records) (s : State) → Fits r s → IsLawful s → (i : ℕ) (g : GroupNo) → slice_get s.config.groups i ≡ Some g → (k : ℕ) → holds s g k ≡ true → Fits (order.set_order_by records resting_records r i k) (set_order_by s g k)
 fits_set_order_by r s f l i g at k here =
-    subst (λ x. Fits (set_at_hand r p x) (set_order_by s g k)) (sym (record_there r s f i g at))
+    subst (λ t. Fits (set_at_hand r (record { site = t; serial = k }) (record_at r.groups i)) (set_order_by s g k)) (sym (ap (λ c. c.site) f.core))
+    (subst (λ x. Fits (set_at_hand r p x) (set_order_by s g k)) (sym (record_there r s f i g at))
     (subst (λ x. Fits x (set_order_by s g k)) (sym tested)
-    (choose member room some place raised (λ q. let_go_in (sent_at r p (record_for s g) q)) places r s (let_go (sending s g k (body.Order places))) f sets))
+    (choose member room some place raised (λ q. let_go_in (sent_at r p (record_for s g) q)) (λ q. let_go (sending s g k (body.Order q))) (places_of s g k) r s f sets)))
   where
     p : Proc
     p = local s k
@@ -177,21 +179,19 @@ fits_set_order_by r s f l i g at k here =
     raised : Bool
     raised = may_raise (s.process k).time g p
 
-    places : Sequence
-    places = record { first = place_after (order_of s g); ids = ids_to_list (unlisted s g k) }
-
-    tested : set_at_hand r p (record_for s g) ≡ (if member && room then option_map_or (λ q. if raised then let_go_in (sent_at r p (record_for s g) q) else r) (if some && place then Some places else None) r else r)
+    tested : set_at_hand r p (record_for s g) ≡ (if member && room then option_map_or (λ q. if raised then let_go_in (sent_at r p (record_for s g) q) else r) (if some && place then Some (places_of s g k) else None) r else r)
     tested = λ j.
         if is_member (standing_there r s f k g j) && order_room_there r s f j
         then option_map_or (λ q. if may_raise (time_there r s f k j) g p then let_go_in (sent_at r p (record_for s g) q) else r) (places_there r s f g k here j) r
         else r
 
-    sets : member ≡ true → room ≡ true → some ≡ true → place ≡ true → raised ≡ true → Fits (let_go_in (sent_at r p (record_for s g) places)) (let_go (sending s g k (body.Order places)))
+    sets : member ≡ true → room ≡ true → some ≡ true → place ≡ true → raised ≡ true → Fits (let_go_in (sent_at r p (record_for s g) (places_of s g k))) (let_go (sending s g k (body.Order (places_of s g k))))
     sets a b c d e =
+        let q : Sequence = places_of s g k in
         let may : may_set_order s g k ≡ true = and_from member _ a (and_from room _ b (and_from some _ c (and_from place raised d e))) in
-        fits_let_go (sent_at r p (record_for s g) places) (sending s g k (body.Order places))
-        (fits_places r s f l k g here a e places (sym (places_there r s f g k here ∙ ap (λ x. if x then Some places else None) (and_from some place c d))))
-        (lawful_order_sent s g k (body.Order places) l may)
+        fits_let_go (sent_at r p (record_for s g) q) (sending s g k (body.Order q))
+        (fits_places r s f l k g here a e q (sym (places_there r s f g k here ∙ ap (λ x. if x then Some q else None) (and_from some place c d))))
+        (lawful_order_sent s g k (body.Order q) l may)
 
 -- the holder here is a process of this site
 pub holder_local : (s : State) (g : GroupNo) (p : Proc) → holder_at s.here (s.group g) ≡ Some p → (local s p.serial ≡ p) × (holds s g p.serial ≡ true)
@@ -210,41 +210,9 @@ holder_local s g p = at (holder_of (s.group g))
       | inr away ↦ absurd (none-some p (sym (ap (λ b. if b then Some q else None) away) ∙ is))
     ]
 
-pub fits_set_order : (r : Records) (s : State) → Fits r s → IsLawful s → (i : ℕ) (g : GroupNo) → slice_get s.config.groups i ≡ Some g → Fits (set_order_in r i) (set_order s g)
-fits_set_order r s f l i g at =
-    subst (λ o. Fits (option_map_or (set_order_by_in r i) o r) (set_order s g)) (sym (λ j. holder_at (f.site j) (record_there r s f i g at j).here))
-    (held (holder_at s.here (s.group g)) refl)
-  where
-    held : (o : Option Proc) → holder_at s.here (s.group g) ≡ o → Fits (option_map_or (set_order_by_in r i) o r) (elim o [ Some p ↦ set_order_by s g p.serial | None ↦ s ])
-    held None is = f
-    held (Some p) is =
-        let own = holder_local s g p is in
-        subst (λ x. Fits (set_order_by_in r i x) (set_order_by s g p.serial)) own.0 (fits_set_order_by r s f l i g at p.serial own.1)
-
-pub kept_set_order : (s : State) (g : GroupNo) → Kept s (set_order s g)
-kept_set_order s g = held (holder_at s.here (s.group g))
-  where
-    sent : (k : ℕ) (content : Body) → Kept s (let_go (sending s g k content))
-    sent k content = let a = alike_sending s g k content in record { here = a.here; config = a.config; used = a.used }
-
-    held : (o : Option Proc) → Kept s (elim o [ Some p ↦ set_order_by s g p.serial | None ↦ s ])
-    held None = kept_self s
-    held (Some p) =
-        let places : Sequence = record { first = place_after (order_of s g); ids = ids_to_list (unlisted s g p.serial) } in
-        kept_if s (let_go (sending s g p.serial (body.Order places))) s (may_set_order s g p.serial) (sent p.serial (body.Order places)) (kept_self s)
-
--- the orders of groups from a place on, each of the one that stands there
-fits_orders : (gs : List GroupNo) (a : ℕ) (r : Records) (s : State) → Fits r s → IsLawful s → ((i : ℕ) (g : GroupNo) → slice_get gs i ≡ Some g → slice_get s.config.groups (a + i) ≡ Some g) → Fits (fold set_order_in r (range_with_len a (length gs))) (fold set_order s gs)
-fits_orders [] a r s fits lawful there = fits
-fits_orders (g ∷ gs) a r s fits lawful there =
-    let kept : Kept s (set_order s g) = kept_set_order s g in
-    let here : slice_get s.config.groups a ≡ Some g = subst (λ j. slice_get s.config.groups j ≡ Some g) (omega arith) (there zero g refl) in
-    fits_orders gs (a + 1) (set_order_in r a) (set_order s g) (fits_set_order r s fits lawful a g here) (lawful_set_order s g lawful)
-    (λ i h at. ap (λ c. slice_get c.groups (a + 1 + i)) kept.config ∙ subst (λ j. slice_get s.config.groups j ≡ Some h) (omega arith) (there (suc i) h at))
-
--- the holders here set orders
-pub fits_set_orders : (r : Records) (s : State) → Fits r s → IsLawful s → Fits (set_orders_in r) (set_orders s)
-fits_set_orders r s fits lawful =
-    subst (λ n. Fits (fold set_order_in r (range_with_len 0 n)) (set_orders s))
-    (sym (ap length fits.groups ∙ length-map s.config.groups (record_for s)))
-    (fits_orders s.config.groups 0 r s fits lawful (λ i g at. subst (λ j. slice_get s.config.groups j ≡ Some g) (omega arith) at))
+pub kept_set_order_by : (s : State) (g : GroupNo) (k : ℕ) → Kept s (set_order_by s g k)
+kept_set_order_by s g k =
+    let t : State = sending s g k (body.Order (places_of s g k)) in
+    let a = alike_sending s g k (body.Order (places_of s g k)) in
+    subst (Kept s) (sym (set_order_is s g k))
+    (kept_if s (let_go t) s (may_set_order s g k) (record { here = a.here; config = a.config; used = a.used }) (kept_self s))

@@ -192,13 +192,13 @@ row_or f (Some x) row = refl
 pub standing_there : (r : Records) (s : State) → Fits r s → (k : ℕ) (g : GroupNo) → standing_of r.delay (local s k) g ≡ (s.process k).standing g
 standing_there r s fits k g =
     row_or (λ row. standing_in row g) (row_of r.delay.rows (local s k)) (new_row (local s k))
-    ∙ (fits.delay.rows (local s k)).standing g
+    ∙ (fits.processes.delay.rows (local s k)).standing g
     ∙ ap (λ (p : Process). p.standing g) (process_here s k)
 
 pub time_there : (r : Records) (s : State) → Fits r s → (k : ℕ) → time_of r.delay (local s k) ≡ (s.process k).time
 time_there r s fits k =
     row_or (λ row. row.time) (row_of r.delay.rows (local s k)) (new_row (local s k))
-    ∙ (fits.delay.rows (local s k)).time
+    ∙ (fits.processes.delay.rows (local s k)).time
     ∙ ap (λ (p : Process). p.time) (process_here s k)
 
 -- What is sent and pushed
@@ -206,24 +206,14 @@ time_there r s fits k =
 -- a frame is sent
 pub fits_send : (r : Records) (s : State) → Fits r s → (to : SiteNo) (f : SiteFrame) → Fits (send_in r to f) (emitted s to f)
 fits_send r s fits to f = record {
-  site = fits.site;
-  config = fits.config;
-  used = fits.used;
-  given = fits.given;
-  sessions = fits.sessions;
-  all_open = fits.all_open;
+  core = fits.core;
+  opened = fits.opened;
   groups = fits.groups;
-  moment = fits.moment;
-  kept = fits.kept;
-  fresh = fits.fresh;
-  received = fits.received;
-  owed = fits.owed;
-  delay = fits.delay;
-  admitted = fits.admitted;
-  rows = fits.rows;
+  messages = fits.messages;
+  processes = fits.processes;
   acks = fits.acks;
   orders = orders_same s (emitted s to f) r.orders refl refl refl refl refl refl fits.orders;
-  frames = (λ i. fits.frames i ++ ((fits.config i).domain, to, f) ∷ []) ∙ sym (map-append (λ (x : SiteNo × SiteFrame). (s.config.domain, x.0, x.1)) s.frames ((to, f) ∷ []));
+  frames = (λ i. fits.frames i ++ ((fits.core i).config.domain, to, f) ∷ []) ∙ sym (map-append (λ (x : SiteNo × SiteFrame). (s.config.domain, x.0, x.1)) s.frames ((to, f) ∷ []));
   delivered = fits.delivered;
 }
 
@@ -231,8 +221,8 @@ fits_send r s fits to f = record {
 pub fits_push : (r : Records) (s : State) → Fits r s → (k : ℕ) (p : Push) → Fits (push_in r k p) (pushing s k p)
 fits_push r s fits k p =
     fits_if (was_given (length r.sessions) k) (is_open (s.session k)) (record r { sessions = update r.sessions (k - 1) (told p) }) r (set_session s k (pushed_to (s.session k) p)) s
-    (ap (λ n. was_given n k) fits.given ∙ sym (fits.all_open k))
-    (λ was. pushed_on (fits.all_open k ∙ ap (λ n. was_given n k) (sym fits.given) ∙ was) (and_parts (nat_lt 0 k) (nat_le k (length r.sessions)) was).0)
+    (ap (λ n. was_given n k) fits.opened.given ∙ sym (fits.opened.all_open k))
+    (λ was. pushed_on (fits.opened.all_open k ∙ ap (λ n. was_given n k) (sym fits.opened.given) ∙ was) (and_parts (nat_lt 0 k) (nat_le k (length r.sessions)) was).0)
     (λ _. fits)
   where
     told_open : (x : Session) → is_open x ≡ true → told p x ≡ pushed_to x p
@@ -245,20 +235,20 @@ fits_push r s fits k p =
     pushed_now : (j : ℕ) → is_open (s.session k) ≡ true → 0 < k → (set_session s k (pushed_to (s.session k) p)).session j ≡ session_in (update r.sessions (k - 1) (told p)) j
     pushed_now zero is_so above =
         ap (λ b. if b then pushed_to (s.session k) p else s.session 0) (ne_eqb k 0 (λ same. omega (arith, same, above)))
-        ∙ fits.sessions 0
+        ∙ fits.opened.each 0
     pushed_now (suc i) is_so above = elim (cases_eq k (suc i)) [
       | inl same ↦
           let place : ◌≡◌ {A = ℕ} (k - 1) i = omega (arith, same) in
           ap (λ b. if b then pushed_to (s.session k) p else s.session (suc i)) (eq-eqb k (suc i) same)
           ∙ sym (told_open (s.session k) is_so)
           ∙ ap (λ n. told p (s.session n)) same
-          ∙ ap (told p) (fits.sessions (suc i))
+          ∙ ap (told p) (fits.opened.each (suc i))
           ∙ sym (told_or (slice_get r.sessions i))
           ∙ ap (λ (o : Option Session). unwrap_or o no_session) (sym (update_own (told p) r.sessions i))
           ∙ ap (λ n. unwrap_or (slice_get (update r.sessions n (told p)) i) no_session) (sym place)
       | inr other ↦
           ap (λ b. if b then pushed_to (s.session k) p else s.session (suc i)) (ne_eqb k (suc i) other)
-          ∙ fits.sessions (suc i)
+          ∙ fits.opened.each (suc i)
           ∙ ap (λ (o : Option Session). unwrap_or o no_session) (sym (update_other (told p) r.sessions (k - 1) i (λ same. other (omega (arith, same, above)))))
     ]
 
@@ -267,27 +257,21 @@ fits_push r s fits k p =
       | inl here ↦
           ap (λ b. is_open (if b then pushed_to (s.session k) p else s.session j)) here
           ∙ ap (λ n. is_open (s.session n)) (eqb-true k j here)
-          ∙ fits.all_open j
-      | inr other ↦ ap (λ b. is_open (if b then pushed_to (s.session k) p else s.session j)) other ∙ fits.all_open j
+          ∙ fits.opened.all_open j
+      | inr other ↦ ap (λ b. is_open (if b then pushed_to (s.session k) p else s.session j)) other ∙ fits.opened.all_open j
     ]
 
     pushed_on : is_open (s.session k) ≡ true → nat_lt 0 k ≡ true → Fits (record r { sessions = update r.sessions (k - 1) (told p) }) (set_session s k (pushed_to (s.session k) p))
     pushed_on is_so above = record {
-      site = fits.site;
-      config = fits.config;
-      used = fits.used;
-      given = length_update (told p) r.sessions (k - 1) ∙ fits.given;
-      sessions = λ j. pushed_now j is_so (ltb-true 0 k above);
-      all_open = still_open;
+      core = fits.core;
+      opened = record {
+        given = length_update (told p) r.sessions (k - 1) ∙ fits.opened.given;
+        each = λ j. pushed_now j is_so (ltb-true 0 k above);
+        all_open = still_open;
+      };
       groups = fits.groups;
-      moment = fits.moment;
-      kept = fits.kept;
-      fresh = fits.fresh;
-      received = fits.received;
-      owed = fits.owed;
-      delay = fits.delay;
-      admitted = fits.admitted;
-      rows = fits.rows;
+      messages = fits.messages;
+      processes = fits.processes;
       acks = fits.acks;
       orders = orders_same s (set_session s k (pushed_to (s.session k) p)) r.orders refl refl refl refl refl refl fits.orders;
       frames = fits.frames;
@@ -349,21 +333,15 @@ groups_home s lawful i g at change =
 -- a change of the group at this site that leaves its number
 pub fits_here : (r : Records) (s : State) → Fits r s → IsLawful s → (i : ℕ) (g : GroupNo) → slice_get s.config.groups i ≡ Some g → (change : Group → Group) → (change (s.group g)).number ≡ (s.group g).number → (change (s.group g)).view ≡ (s.group g).view → Fits (record r { groups = update r.groups i (λ x. record x { here = change x.here }) }) (set_group s g (change (s.group g)))
 fits_here r s fits lawful i g at change same seen = record {
-  site = fits.site;
-  config = fits.config;
-  used = fits.used;
-  given = fits.given;
-  sessions = fits.sessions;
-  all_open = fits.all_open;
+  core = fits.core;
+  opened = fits.opened;
   groups = ap (λ gs. update gs i (λ x. record x { here = change x.here })) fits.groups ∙ groups_here s lawful i g at change;
-  moment = fits.moment;
-  kept = fits.kept;
-  fresh = fits.fresh;
-  received = fits.received;
-  owed = fits.owed;
-  delay = subst (λ gate. QueueFits s.config.groups gate (process_named s) r.part.kept r.delay) (gate_same s g (change (s.group g)) same) fits.delay;
-  admitted = fits.admitted;
-  rows = fits.rows;
+  messages = fits.messages;
+  processes = record {
+    delay = subst (λ gate. QueueFits s.config.groups gate (process_named s) r.part.kept r.delay) (gate_same s g (change (s.group g)) same) fits.processes.delay;
+    admitted = fits.processes.admitted;
+    rows = fits.processes.rows;
+  };
   acks = subst (λ others. AcksFits s.here others (map (λ m. m.id) s.got) s.acks s.told r.acks) (others_same s g (change (s.group g)) seen) fits.acks;
   orders = orders_group s g (change (s.group g)) r.orders same seen fits.orders;
   frames = fits.frames;
@@ -373,27 +351,21 @@ fits_here r s fits lawful i g at change same seen = record {
 -- a view is known, and the queue is told of its number
 pub fits_view : (r : Records) (s : State) → Fits r s → IsLawful s → (i : ℕ) (g : GroupNo) → slice_get s.config.groups i ≡ Some g → (n : ℕ) (members : Membership) → (s.group g).number < n → Fits (view_in r i n members) (set_group s g (with_view s.here n members (s.group g)))
 fits_view r s fits lawful i g at n members newer = record {
-  site = fits.site;
-  config = fits.config;
-  used = fits.used;
-  given = fits.given;
-  sessions = fits.sessions;
-  all_open = fits.all_open;
-  groups = (λ j. update (fits.groups j) i (λ x. record x { here = with_view (fits.site j) n members x.here })) ∙ groups_here s lawful i g at (with_view s.here n members);
-  moment = fits.moment;
-  kept = fits.kept;
-  fresh = fits.fresh;
-  received = fits.received;
-  owed = fits.owed;
-  delay = subst (λ h. QueueFits s.config.groups (gate_of (set_group s g (with_view s.here n members (s.group g)))) (process_named s) r.part.kept (record r.delay { numbers = put group_cmp h n r.delay.numbers }))
-      (sym (ap (λ (x : GroupRecord). x.name) (record_there r s fits i g at)))
-      (subst (λ gate. QueueFits s.config.groups gate (process_named s) r.part.kept (record r.delay { numbers = put group_cmp g n r.delay.numbers })) (gate_told s g (with_view s.here n members (s.group g)))
-      (view_fits s.config.groups (gate_of s) (process_named s) r.part.kept r.delay fits.delay g n));
-  admitted = fits.admitted;
-  rows = fits.rows;
+  core = fits.core;
+  opened = fits.opened;
+  groups = (λ j. update (fits.groups j) i (λ x. record x { here = with_view (fits.core j).site n members x.here })) ∙ groups_here s lawful i g at (with_view s.here n members);
+  messages = fits.messages;
+  processes = record {
+    delay = subst (λ h. QueueFits s.config.groups (gate_of (set_group s g (with_view s.here n members (s.group g)))) (process_named s) r.part.kept (record r.delay { numbers = put group_cmp h n r.delay.numbers }))
+        (sym (ap (λ (x : GroupRecord). x.name) (record_there r s fits i g at)))
+        (subst (λ gate. QueueFits s.config.groups gate (process_named s) r.part.kept (record r.delay { numbers = put group_cmp g n r.delay.numbers })) (gate_told s g (with_view s.here n members (s.group g)))
+        (view_fits s.config.groups (gate_of s) (process_named s) r.part.kept r.delay fits.processes.delay g n));
+    admitted = fits.processes.admitted;
+    rows = fits.processes.rows;
+  };
   acks = subst (λ others. AcksFits s.here others (map (λ m. m.id) s.got) s.acks s.told (view_in r i n members).acks) (others_told s g (with_view s.here n members (s.group g)))
       (subst (λ l. AcksFits s.here (set_at group_eq (others_of s) g (other_sites s.here (members_of (with_view s.here n members (s.group g))))) (map (λ m. m.id) s.got) s.acks s.told l)
-      (λ j. told_ledger r.acks (sym (record_there r s fits i g at) j).name (other_sites (sym fits.site j) (members_of (with_view (sym fits.site j) n members (sym (record_there r s fits i g at) j).here))))
+      (λ j. told_ledger r.acks (sym (record_there r s fits i g at) j).name (other_sites ((sym fits.core j).site) (members_of (with_view ((sym fits.core j).site) n members (sym (record_there r s fits i g at) j).here))))
       (acks_tell_fits s.here (others_of s) (map (λ m. m.id) s.got) s.acks s.told r.acks fits.acks g (other_sites s.here (members_of (with_view s.here n members (s.group g))))));
   orders = subst (λ h. (x : GroupNo) → LogFits (set_group s g (with_view s.here n members (s.group g))) x (log_of (but_log h r.orders) x))
       (sym (ap (λ (x : GroupRecord). x.name) (record_there r s fits i g at)))
@@ -405,21 +377,11 @@ fits_view r s fits lawful i g at n members newer = record {
 -- a change of the group at the home
 pub fits_home : (r : Records) (s : State) → Fits r s → IsLawful s → (i : ℕ) (g : GroupNo) → slice_get s.config.groups i ≡ Some g → (change : Home → Home) → Fits (record r { groups = update r.groups i (λ x. record x { home = change x.home }) }) (set_home s g (change (s.home g)))
 fits_home r s fits lawful i g at change = record {
-  site = fits.site;
-  config = fits.config;
-  used = fits.used;
-  given = fits.given;
-  sessions = fits.sessions;
-  all_open = fits.all_open;
+  core = fits.core;
+  opened = fits.opened;
   groups = ap (λ gs. update gs i (λ x. record x { home = change x.home })) fits.groups ∙ groups_home s lawful i g at change;
-  moment = fits.moment;
-  kept = fits.kept;
-  fresh = fits.fresh;
-  received = fits.received;
-  owed = fits.owed;
-  delay = fits.delay;
-  admitted = fits.admitted;
-  rows = fits.rows;
+  messages = fits.messages;
+  processes = fits.processes;
   acks = fits.acks;
   orders = orders_same s (set_home s g (change (s.home g))) r.orders refl refl refl refl refl refl fits.orders;
   frames = fits.frames;
@@ -471,22 +433,16 @@ told_delivered (fact.Time t) p = refl
 -- a process that was admitted is told of a fact
 pub fits_told : (r : Records) (s : State) → Fits r s → (k : ℕ) → IsSome (row_of r.delay.rows (local s k)) → (f : Fact) → FactFits s.config.groups f → Fits (tell_in r (local s k) f) (set_process s k (told_of f (s.process k)))
 fits_told r s fits k row f ok = record {
-  site = fits.site;
-  config = fits.config;
-  used = fits.used;
-  given = fits.given;
-  sessions = fits.sessions;
-  all_open = fits.all_open;
+  core = fits.core;
+  opened = fits.opened;
   groups = fits.groups;
-  moment = fits.moment;
-  kept = fits.kept;
-  fresh = fits.fresh;
-  received = fits.received;
-  owed = fits.owed;
-  delay = subst (λ ps. QueueFits s.config.groups (gate_of s) ps r.part.kept (record r.delay { rows = change_row (local s k) (told_row f) r.delay.rows })) (named_set s k (told_of f))
-      (tell_fits s.config.groups (gate_of s) (process_named s) r.part.kept r.delay fits.delay (local s k) f row ok);
-  admitted = λ j was. still_in (local s k) (told_row f) (told_keeps f) (local s j) r.delay.rows (fits.admitted j was);
-  rows = same_names (local s k) (told_row f) (told_keeps f) r.delay.rows ∙ fits.rows;
+  messages = fits.messages;
+  processes = record {
+    delay = subst (λ ps. QueueFits s.config.groups (gate_of s) ps r.part.kept (record r.delay { rows = change_row (local s k) (told_row f) r.delay.rows })) (named_set s k (told_of f))
+        (tell_fits s.config.groups (gate_of s) (process_named s) r.part.kept r.delay fits.processes.delay (local s k) f row ok);
+    admitted = λ j was. still_in (local s k) (told_row f) (told_keeps f) (local s j) r.delay.rows (fits.processes.admitted j was);
+    rows = same_names (local s k) (told_row f) (told_keeps f) r.delay.rows ∙ fits.processes.rows;
+  };
   acks = fits.acks;
   orders = orders_process s k (told_of f (s.process k)) r.orders (told_delivered f (s.process k)) fits.orders;
   frames = fits.frames;
@@ -495,7 +451,7 @@ fits_told r s fits k row f ok = record {
 
 -- each given serial has a row
 pub fits_tell : (r : Records) (s : State) → Fits r s → (k : ℕ) → was_given s.used k ≡ true → (f : Fact) → FactFits s.config.groups f → Fits (tell_in r (local s k) f) (set_process s k (told_of f (s.process k)))
-fits_tell r s fits k given f ok = fits_told r s fits k (fits.admitted k given) f ok
+fits_tell r s fits k given f ok = fits_told r s fits k (fits.processes.admitted k given) f ok
 
 pub fits_standing : (r : Records) (s : State) → Fits r s → (k : ℕ) → was_given s.used k ≡ true → (g : GroupNo) (v : Standing) → (is_outside v ≡ false → is_group s g ≡ true) → Fits (tell_in r (local s k) (fact.Standing g v)) (set_standing s k g v)
 fits_standing r s fits k given g v ok = fits_tell r s fits k given (fact.Standing g v) ok
@@ -516,21 +472,19 @@ fresh_push kept next m fresh n past =
 -- a message is received, and the logs that are kept tell of it
 pub fits_receive_with : (r : Records) (s : State) → Fits r s → (m : Message) → IsSound m → (orders : List Log) → ((g : GroupNo) → LogFits (receiving s m) g (log_of orders g)) → Fits (record (receive_in r m) { orders = orders }) (receiving s m)
 fits_receive_with r s fits m sound orders logs = record {
-  site = fits.site;
-  config = fits.config;
-  used = fits.used;
-  given = fits.given;
-  sessions = fits.sessions;
-  all_open = fits.all_open;
+  core = fits.core;
+  opened = fits.opened;
   groups = fits.groups;
-  moment = fits.moment;
-  kept = map-append (λ (x : Received). x.message) r.part.kept (record { key = record { 0 = r.part.next }; message = m } ∷ []) ∙ ap (λ ms. ms ++ m ∷ []) fits.kept;
-  fresh = fresh_push r.part.kept r.part.next m fits.fresh;
-  received = ap (λ n. n + 1) fits.received ∙ sym (length-append s.got (m ∷ []));
-  owed = fits.owed;
-  delay = offer_fits s.config.groups (gate_of s) (process_named s) r.part.kept r.delay fits.delay (record { key = record { 0 = r.part.next }; message = m }) sound (fits.fresh r.part.next (omega arith));
-  admitted = fits.admitted;
-  rows = fits.rows;
+  messages = record {
+    kept_in = map-append (λ (x : Received). x.message) r.part.kept (record { key = record { 0 = r.part.next }; message = m } ∷ []) ∙ ap (λ ms. ms ++ m ∷ []) fits.messages.kept_in;
+    fresh = fresh_push r.part.kept r.part.next m fits.messages.fresh;
+    counted = ap (λ n. n + 1) fits.messages.counted ∙ sym (length-append s.got (m ∷ []));
+  };
+  processes = record {
+    delay = offer_fits s.config.groups (gate_of s) (process_named s) r.part.kept r.delay fits.processes.delay (record { key = record { 0 = r.part.next }; message = m }) sound (fits.messages.fresh r.part.next (omega arith));
+    admitted = fits.processes.admitted;
+    rows = fits.processes.rows;
+  };
   acks = subst (λ ids. AcksFits s.here (others_of s) ids s.acks s.told (received_ledger r.acks m.id)) (sym (map-append (λ (x : Message). x.id) s.got (m ∷ [])))
       (acks_receive_fits s.here (others_of s) (map (λ x. x.id) s.got) s.acks s.told r.acks fits.acks m.id);
   orders = logs;
@@ -562,24 +516,22 @@ range_push a (suc n) = ap (λ rest. a ∷ rest) (range_push (a + 1) n) ∙ ap (�
 -- a session is opened
 pub fits_open : (r : Records) (s : State) → Fits r s → Fits (open_in r) (opened s)
 fits_open r s fits = record {
-  site = fits.site;
-  config = fits.config;
-  used = ap (λ n. n + 1) fits.used;
-  given = length-append r.sessions (first_session named ∷ []) ∙ ap (λ n. n + 1) fits.given;
-  sessions = opened_now;
-  all_open = open_now;
+  core = λ i. record (fits.core i) { used = (fits.core i).used + 1 };
+  opened = record {
+    given = length-append r.sessions (first_session named ∷ []) ∙ ap (λ n. n + 1) fits.opened.given;
+    each = opened_now;
+    all_open = open_now;
+  };
   groups = fits.groups;
-  moment = fits.moment;
-  kept = fits.kept;
-  fresh = fits.fresh;
-  received = fits.received;
-  owed = fits.owed;
-  delay = admit_fits s.config.groups (gate_of s) (process_named s) r.part.kept r.delay fits.delay named;
-  admitted = admitted_now;
-  rows =
-      map-append (λ (x : Row). x.process) r.delay.rows (new_row named ∷ [])
-      ∙ (λ i. fits.rows i ++ record { site = fits.site i; serial = (ap (λ n. n + 1) fits.used ∙ last_serial s.used) i } ∷ [])
-      ∙ sym (ap (λ n. map (local s) (range_with_len 1 n)) (one_more s.used) ∙ ap (map (local s)) (range_push 1 s.used) ∙ map-append (local s) (range_with_len 1 s.used) ((1 + s.used) ∷ []));
+  messages = fits.messages;
+  processes = record {
+    delay = admit_fits s.config.groups (gate_of s) (process_named s) r.part.kept r.delay fits.processes.delay named;
+    admitted = admitted_now;
+    rows =
+        map-append (λ (x : Row). x.process) r.delay.rows (new_row named ∷ [])
+        ∙ (λ i. fits.processes.rows i ++ record { site = (fits.core i).site; serial = (ap (λ c. c.used + 1) fits.core ∙ last_serial s.used) i } ∷ [])
+        ∙ sym (ap (λ n. map (local s) (range_with_len 1 n)) (one_more s.used) ∙ ap (map (local s)) (range_push 1 s.used) ∙ map-append (local s) (range_with_len 1 s.used) ((1 + s.used) ∷ []));
+  };
   acks = fits.acks;
   orders = orders_same s (opened s) r.orders refl refl refl refl refl refl fits.orders;
   frames = fits.frames;
@@ -596,23 +548,23 @@ fits_open r s fits = record {
           ∙ sym (and_from (nat_lt 0 k) (nat_le k (s.used + 1)) (lt-ltb 0 k (omega (arith, same))) (le-leb k (s.used + 1) (omega (arith, same))))
       | inr other ↦
           ap (λ b. is_open (if b then first_session (local s (s.used + 1)) else s.session k)) (ne_eqb (s.used + 1) k other)
-          ∙ fits.all_open k
+          ∙ fits.opened.all_open k
           ∙ given_more s.used k other
     ]
 
     opened_now : (k : ℕ) → (opened s).session k ≡ session_in (r.sessions ++ first_session named ∷ []) k
-    opened_now zero = ap (λ b. if b then first_session (local s (s.used + 1)) else s.session 0) (ne_eqb (s.used + 1) 0 (λ same. omega (arith, same))) ∙ fits.sessions 0
+    opened_now zero = ap (λ b. if b then first_session (local s (s.used + 1)) else s.session 0) (ne_eqb (s.used + 1) 0 (λ same. omega (arith, same))) ∙ fits.opened.each 0
     opened_now (suc i) = elim (cases_eq (s.used + 1) (suc i)) [
       | inl same ↦
-          let place : length r.sessions ≡ i = omega (arith, same, fits.given) in
+          let place : length r.sessions ≡ i = omega (arith, same, fits.opened.given) in
           ap (λ b. if b then first_session (local s (s.used + 1)) else s.session (suc i)) (eq-eqb (s.used + 1) (suc i) same)
-          ∙ (λ j. first_session (record { site = sym fits.site j; serial = sym fits.used j + 1 }))
+          ∙ (λ j. first_session (record { site = (sym fits.core j).site; serial = (sym fits.core j).used + 1 }))
           ∙ ap (λ (o : Option Session). unwrap_or o no_session) (sym (push_last r.sessions (first_session named)))
           ∙ ap (λ n. unwrap_or (slice_get (r.sessions ++ first_session named ∷ []) n) no_session) place
       | inr other ↦
           ap (λ b. if b then first_session (local s (s.used + 1)) else s.session (suc i)) (ne_eqb (s.used + 1) (suc i) other)
-          ∙ fits.sessions (suc i)
-          ∙ ap (λ (o : Option Session). unwrap_or o no_session) (sym (push_other r.sessions (first_session named) i (λ same. other (omega (arith, same, fits.given)))))
+          ∙ fits.opened.each (suc i)
+          ∙ ap (λ (o : Option Session). unwrap_or o no_session) (sym (push_other r.sessions (first_session named) i (λ same. other (omega (arith, same, fits.opened.given)))))
     ]
 
     admitted_now : (k : ℕ) → was_given (s.used + 1) k ≡ true → IsSome (row_of (r.delay.rows ++ new_row named ∷ []) (local s k))
@@ -620,31 +572,33 @@ fits_open r s fits = record {
       | inr (row, some) ↦ ap is_some (find-append_some (λ (x : Row). proc_eq x.process (local s k)) r.delay.rows (new_row named ∷ []) row some)
       | inl none ↦ elim (cases_eq (s.used + 1) k) [
         | inl same ↦
-            let is : named ≡ local s k = λ j. record { site = fits.site j; serial = (ap (λ n. n + 1) fits.used ∙ same) j } in
+            let is : named ≡ local s k = λ j. record { site = (fits.core j).site; serial = (ap (λ n. n + 1) (ap (λ c. c.used) fits.core) ∙ same) j } in
             ap is_some (find-append_none (λ (x : Row). proc_eq x.process (local s k)) r.delay.rows (new_row named ∷ []) none)
             ∙ ap (λ b. is_some (cond b (Some (new_row named)) None)) (ap (λ p. proc_eq p (local s k)) is ∙ proc_itself (local s k))
-        | inr other ↦ absurd (false≢true (ap is_some (sym none) ∙ fits.admitted k (given_more s.used k other ∙ was)))
+        | inr other ↦ absurd (false≢true (ap is_some (sym none) ∙ fits.processes.admitted k (given_more s.used k other ∙ was)))
       ]
     ]
 
 -- a new domain stands for the history before its first event
 pub fits_before : (here : SiteNo) (config : DomainConfig) → Fits (record { site = here; config = config; used = 0; sessions = []; groups = map (record_for (opening here config)) config.groups; moment = 0; part = no_part; delay = record { numbers = []; offered = []; rows = [] }; acks = new_ledger here; orders = []; frames = []; delivered = [] }) (before_event (opening here config))
 fits_before here config = record {
-  site = refl;
-  config = refl;
-  used = refl;
-  given = refl;
-  sessions = λ k. none_in k;
-  all_open = λ k. sym (none_given k);
+  core = refl;
+  opened = record {
+    given = refl;
+    each = λ k. none_in k;
+    all_open = λ k. sym (none_given k);
+  };
   groups = refl;
-  moment = refl;
-  kept = refl;
-  fresh = λ n past. refl;
-  received = refl;
-  owed = refl;
-  delay = subst (λ ps. QueueFits config.groups (λ g. record { number = 0 }) ps [] (record { numbers = []; offered = []; rows = [] })) (λ i p. idle p i) (new_fits config.groups);
-  admitted = λ k was. absurd (false≢true (sym (none_given k) ∙ was));
-  rows = refl;
+  messages = record {
+    kept_in = refl;
+    fresh = λ n past. refl;
+    counted = refl;
+  };
+  processes = record {
+    delay = subst (λ ps. QueueFits config.groups (λ g. record { number = 0 }) ps [] (record { numbers = []; offered = []; rows = [] })) (λ i p. idle p i) (new_fits config.groups);
+    admitted = λ k was. absurd (false≢true (sym (none_given k) ∙ was));
+    rows = refl;
+  };
   acks = acks_new_fits here;
   orders = λ g. record { stable = 0; reached = omega arith; fits = order_new_fits g (λ p e. has_delivered (process_named (before_event (opening here config)) p) (named g 0 e)); counted = λ x in_it. absurd (omega (arith, in_it.1)) };
   frames = refl;

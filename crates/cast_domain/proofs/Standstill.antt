@@ -1,5 +1,5 @@
 -- Records that a pass leaves as they are stand for a history at rest.
-use Rattle.std.proofs.Common.{◌≡◌, ℕ, zero, suc, ◌+◌, ◌*◌, Bool, true, false, not, List, [], ◌∷◌, ◌++◌, length, map, Option, Some, None, refl, sym, ap, ◌∙◌, inl, inr, arith}
+use Rattle.std.proofs.Common.{◌≡◌, ℕ, zero, suc, ◌+◌, ◌*◌, Bool, true, false, not, List, [], ◌∷◌, ◌++◌, length, map, Option, Some, None, refl, sym, ap, subst, ◌∙◌, inl, inr, arith}
 use Rattle.std.specs.Prelude.{◌&&◌, ◌==◌, if◌then◌else◌, filter}
 use Rattle.std.specs.List.{fold, find, range_with_len}
 use Rattle.std.proofs.lemmas.List.{append_assoc, append-nil, length-append}
@@ -15,41 +15,30 @@ use Rattle.cast_message.specs.Bodies.{kind_of}
 use Rattle.cast_delay.specs.declared.row.Row.{Row}
 use Rattle.cast_delay.specs.Ready.{has_delivered}
 use Rattle.cast_delay.specs.Fits.{RowFits, row_for}
-use Rattle.cast_order.specs.Order.{ids_to_list, place_after}
 use Rattle.cast_order.specs.Log.{log_of}
 use Rattle.cast_history.specs.History.{history}
 use Rattle.cast_domain.specs.declared.record.GroupRecord.{GroupRecord}
 use Rattle.cast_model.specs.Group.{holder_at}
 use Rattle.cast_history.specs.State.{State, local, serials, let_go}
 use Rattle.cast_history.specs.Rules.Requests.{is_home}
-use Rattle.cast_history.specs.Order.{order_of, unlisted, is_ready_for}
+use Rattle.cast_history.specs.Order.{unlisted, is_ready_for}
 use Rattle.cast_history.specs.Effects.{sending, next_message}
-use Rattle.cast_history.specs.Rest.{deliver_first, deliver_all, settle, may_set_order, set_order_by, set_order, set_orders, pass}
+use Rattle.cast_history.specs.Rest.{deliver_first, deliver_all, settle, set_order_by, set_order, set_orders, pass}
+use Rattle.cast_history.proofs.Setting.{may_set_order, set_order_is}
+use Rattle.cast_history.specs.Resting.{places_of}
 use Rattle.cast_history.specs.Rules.Views.{decide, lead}
 use Rattle.cast_history.specs.Endings.{total, one_if, left, rank, ranks, undelivered, is_to_come, to_list_by, to_list_in, to_list, to_do}
 use Rattle.cast_domain.specs.Records.{Records}
-use Rattle.cast_domain.specs.Calls.{settle_in, set_orders_in, pass_in}
-use Rattle.cast_history.specs.Lawful.{IsLawful}
 use Rattle.cast_domain.specs.Fits.{record_for, process_named, Fits}
 use Rattle.cast_history.proofs.Alikes.{alike_sending}
 use Rattle.cast_history.proofs.Settles.{delivering_one, delivers}
 use Rattle.cast_history.proofs.Rests.{moves_pass}
 use Rattle.cast_history.proofs.Totals.{total_same}
-use Rattle.cast_history.proofs.LawfulSteps.{lawful_settle, lawful_set_orders, same_decide}
+use Rattle.cast_history.proofs.LawfulSteps.{same_decide}
 use Rattle.cast_domain.proofs.Standing.{process_here}
 use Rattle.cast_domain.proofs.Ordering.{waiting_there}
-use Rattle.cast_domain.proofs.Turns.{fits_settle}
-use Rattle.cast_domain.proofs.Framing.{fits_lead}
-use Rattle.cast_domain.proofs.SetOrders.{holder_local, fits_set_orders}
+use Rattle.cast_domain.proofs.SetOrders.{holder_local}
 use Rattle.cast_types.proofs.Bools.{same_bools}
-
--- deliveries, then set-order messages, and then the home
-pub fits_pass : (r : Records) (s : State) → Fits r s → IsLawful s → Fits (pass_in r) (pass s)
-fits_pass r s fits lawful =
-    let settled = lawful_settle s lawful in
-    fits_lead (set_orders_in (settle_in r)) (set_orders (settle s))
-    (fits_set_orders (settle_in r) (settle s) (fits_settle r s fits lawful) settled)
-    (lawful_set_orders (settle s) settled)
 
 -- What a pass receives comes last
 
@@ -87,11 +76,12 @@ got_order s g = held (holder_at s.here (s.group g))
     held : (o : Option Proc) → GoesOn s.got (elim o as (λ _. State) [ Some p ↦ set_order_by s g p.serial | None ↦ s ]).got
     held None = same_on s.got s.got refl
     held (Some p) =
-        let content : Body = body.Order (record { first = place_after (order_of s g); ids = ids_to_list (unlisted s g p.serial) }) in
-        elim (may_set_order s g p.serial) as (λ b. GoesOn s.got (if b then let_go (sending s g p.serial content) else s).got) [
+        let content : Body = body.Order (places_of s g p.serial) in
+        subst (λ t. GoesOn s.got t.got) (sym (set_order_is s g p.serial))
+        (elim (may_set_order s g p.serial) as (λ b. GoesOn s.got (if b then let_go (sending s g p.serial content) else s).got) [
           | true ↦ sent p.serial content
           | false ↦ same_on s.got s.got refl
-        ]
+        ])
 
 got_orders : (gs : List GroupNo) (s : State) → GoesOn s.got (fold set_order s gs).got
 got_orders [] s = same_on s.got s.got refl
@@ -126,17 +116,17 @@ pub same_to_do : (r : Records) (s t : State) → Fits r s → Fits r t → t.got
 same_to_do r s t a b got = λ i. undelivered_same i + ranks_same i + (used_same i + 1) * lists_same i
   where
     here_same : t.here ≡ s.here
-    here_same = sym b.site ∙ a.site
+    here_same = sym (ap (λ c. c.site) b.core) ∙ (ap (λ c. c.site) a.core)
 
     used_same : t.used ≡ s.used
-    used_same = sym b.used ∙ a.used
+    used_same = sym (ap (λ c. c.used) b.core) ∙ (ap (λ c. c.used) a.core)
 
     -- the same row tells what either process delivered
     has_same : (k : ℕ) (u : Uid) → has_delivered (t.process k) u ≡ has_delivered (s.process k) u
     has_same k u =
         let row : Row = row_for r.delay.rows (local s k) in
-        let now : RowFits (process_named t (local s k)) row = b.delay.rows (local s k) in
-        let was : RowFits (process_named s (local s k)) row = a.delay.rows (local s k) in
+        let now : RowFits (process_named t (local s k)) row = b.processes.delay.rows (local s k) in
+        let was : RowFits (process_named s (local s k)) row = a.processes.delay.rows (local s k) in
         ap (λ p. has_delivered p u) (sym (process_here t k))
         ∙ ap (λ h. has_delivered (process_named t (record { site = h; serial = k })) u) here_same
         ∙ same_bools (has_delivered (process_named t (local s k)) u) (has_delivered (process_named s (local s k)) u)
@@ -197,7 +187,7 @@ same_to_do r s t a b got = λ i. undelivered_same i + ranks_same i + (used_same 
         λ i. list_same g (ap (λ (x : GroupRecord). x.here) first) i + lists_in gs rest i
 
     config_same : t.config ≡ s.config
-    config_same = sym b.config ∙ a.config
+    config_same = sym (ap (λ c. c.config) b.core) ∙ (ap (λ c. c.config) a.core)
 
     lists_same : to_list t ≡ to_list s
     lists_same =
@@ -209,6 +199,6 @@ pub still_pass : (r : Records) (s : State) → Fits r s → Fits r (pass s) → 
 still_pass r s before after = elim (moves_pass s).way [
   | inl same ↦ same
   | inr less ↦
-      let got : (pass s).got ≡ s.got = no_more s.got (pass s).got (got_pass s) (sym after.received ∙ before.received) in
+      let got : (pass s).got ≡ s.got = no_more s.got (pass s).got (got_pass s) (sym after.messages.counted ∙ before.messages.counted) in
       let same = same_to_do r s (pass s) before after got in absurd (omega (arith, less, same))
 ]

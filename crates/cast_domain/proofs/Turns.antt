@@ -1,9 +1,9 @@
 -- The turns of the records' rest are those of the history that they stand for.
 use Rattle.std.proofs.Common.{◌≡◌, ℕ, zero, suc, ◌+◌, ◌<◌, ◌≤◌, Bool, true, false, cond, not, List, [], ◌∷◌, ◌++◌, length, map, Option, Some, None, refl, sym, ap, subst, ◌∙◌, inl, inr, arith}
-use Rattle.std.specs.Prelude.{◌&&◌, ◌==◌, nat_lt, nat_le, if◌then◌else◌, filter, take}
-use Rattle.std.specs.List.{fold, find, range_with_len}
+use Rattle.std.specs.Prelude.{◌&&◌, ◌==◌, if◌then◌else◌, filter, take}
+use Rattle.std.specs.List.{fold, find}
 use Rattle.std.specs.Option.{IsSome, option_map_or}
-use Rattle.std.proofs.lemmas.Bool.{false≢true, false_from_ne_true, and_parts, and_from, lt-ltb, le-leb, eqb-true, eq-eqb}
+use Rattle.std.proofs.lemmas.Bool.{false≢true, false_from_ne_true, and_parts, eqb-true, eq-eqb}
 use Rattle.std.proofs.lemmas.List.{map-append, length-map}
 use Rattle.cast_types.specs.declared.names.GroupNo.{GroupNo}
 use Rattle.cast_types.specs.declared.names.Proc.{Proc}
@@ -19,7 +19,7 @@ use Rattle.cast_delay.specs.declared.row.Row.{Row}
 use Rattle.cast_delay.specs.declared.offered.Offered.{Offered}
 use Rattle.cast_delay.specs.Ready.{is_member, is_outside, has_delivered, is_causally_ready, is_ready, first_ready}
 use Rattle.cast_delay.specs.Rows.{delivered_row}
-use Rattle.cast_delay.specs.Queue.{row_of, change_row, next_key, offered_under, after_delivery, passed_in}
+use Rattle.cast_delay.specs.Queue.{row_of, change_row, offered_under, after_delivery, passed_in}
 use Rattle.cast_message.specs.declared.message.Received.{Received}
 use Rattle.cast_message.specs.Receipts.{messages, message_under}
 use Rattle.cast_delay.specs.Fits.{FirstReady, HasTurns, Fits as QueueFits, delivering as delivering_to}
@@ -28,13 +28,15 @@ use Rattle.cast_delay.proofs.Queues.{delivery_fits, next_rules, passed_delivered
 use Rattle.cast_order.specs.Log.{Log, log_of, change_log, next_in, told, passed}
 use Rattle.cast_history.specs.History.{history}
 use Rattle.cast_model.specs.Session.{is_open, pushed_to}
-use Rattle.cast_history.specs.State.{State, local, is_group, gate_of, is_free, set_session, was_given, pushing}
+use Rattle.cast_history.specs.State.{State, local, is_group, gate_of, is_free, set_session, was_given, pushing, with_delivery}
 use Rattle.cast_history.specs.Order.{is_of_view, holds, turn_of, is_ready_for}
-use Rattle.cast_history.specs.Effects.{told_of, with_delivery, delivering}
-use Rattle.cast_history.specs.Rest.{deliver_first, deliver_all, settle}
+use Rattle.cast_history.specs.Effects.{delivering}
+use Rattle.cast_history.specs.Rules.Rest.{told_of, tell}
+use Rattle.cast_history.specs.Rest.{deliver_first, deliver_all}
 use Rattle.cast_history.specs.Endings.{left}
 use Rattle.cast_domain.specs.Records.{Records}
-use Rattle.cast_domain.specs.Calls.{push_in, let_go_in, records, holds_in, turns_in, note_delivery_in, push_delivery_in, deliver_message_in, deliver_in, deliver_first_in, deliver_all_in, settle_at, settle_in}
+use Rattle.cast_domain.specs.Calls.{let_go_in, records, resting_records, holds_in, turns_in, note_delivery_in, note_delivered_under, ready_key_in}
+use Rattle.cast_history.specs.Rules.Rest as rest
 use Rattle.cast_history.specs.Lawful.{IsSpent, AreKept, IsLawful}
 use Rattle.cast_domain.specs.Fits.{process_named, Fits}
 use Rattle.cast_history.proofs.Settles.{delivering_one, delivers, ready_causally, ready_new, delivered_first, delivered_none, turns_are_enough}
@@ -43,7 +45,7 @@ use Rattle.cast_domain.proofs.Ordering.{holds_there, turns_there}
 use Rattle.cast_history.proofs.Totals.{left_found, left_le}
 use Rattle.cast_history.proofs.Spots.{found_passes}
 use Rattle.cast_history.proofs.Lawful.{lawful_delivering}
-use Rattle.cast_history.proofs.LawfulSteps.{lawful_first, lawful_deliver_all}
+use Rattle.cast_history.proofs.LawfulSteps.{lawful_first}
 use Rattle.cast_domain.proofs.Releases.{fits_let_go}
 use Rattle.cast_delay.proofs.Finds.{found_in}
 use Rattle.cast_types.proofs.Iterates.{iterate_still}
@@ -145,27 +147,21 @@ ready_listed s k m l ready =
 -- before the process is told
 fits_turn : (r : Records) (s : State) → Fits r s → IsLawful s → (k : ℕ) → was_given s.used k ≡ true → (key : Key) (m : Message) → message_under r.part.kept key ≡ Some m → is_ready_for s k m ≡ true → Fits (record (turned r s k key m) { orders = noting s k m (passing r s k key m) r.orders }) (with_delivery s k m)
 fits_turn r s fits l k given key m under ready = record {
-  site = fits.site;
-  config = fits.config;
-  used = fits.used;
-  given = fits.given;
-  sessions = fits.sessions;
-  all_open = fits.all_open;
+  core = fits.core;
+  opened = fits.opened;
   groups = fits.groups;
-  moment = fits.moment;
-  kept = fits.kept;
-  fresh = fits.fresh;
-  received = fits.received;
-  owed = fits.owed;
-  delay = delay_now;
-  admitted = λ j was. still_after r.delay.offered (local s k) key (local s j) r.delay.rows (fits.admitted j was);
-  rows = names_after r.delay.offered (local s k) key r.delay.rows ∙ fits.rows;
+  messages = fits.messages;
+  processes = record {
+    delay = delay_now;
+    admitted = λ j was. still_after r.delay.offered (local s k) key (local s j) r.delay.rows (fits.processes.admitted j was);
+    rows = names_after r.delay.offered (local s k) key r.delay.rows ∙ fits.processes.rows;
+  };
   acks = fits.acks;
   orders = logs_deliver s k m (passing r s k key m) r.orders l.traced fits.orders (ready_new s k m ready) (ready_current s k m ready)
       (subst (λ v. find (λ e. not (has_delivered (process_named (with_delivery s k m) (local s k)) (named m.id.group v e))) (take (passing r s k key m) ids) ≡ None) view
       (passed_delivered s.config.groups (gate_of s) (process_named (with_delivery s k m)) r.part.kept (turned r s k key m).delay delay_now (local s k) m.id.group m.id.view ids));
   frames = fits.frames;
-  delivered = (λ i. fits.delivered i ++ ((fits.config i).domain, local s k, m.id) ∷ []) ∙ sym (map-append (λ (x : Proc × Uid). (s.config.domain, x.0, x.1)) s.deliveries ((local s k, m.id) ∷ []));
+  delivered = (λ i. fits.delivered i ++ ((fits.core i).config.domain, local s k, m.id) ∷ []) ∙ sym (map-append (λ (x : Proc × Uid). (s.config.domain, x.0, x.1)) s.deliveries ((local s k, m.id) ∷ []));
 }
   where
     ids : List Entry
@@ -177,7 +173,7 @@ fits_turn r s fits l k given key m under ready = record {
     delay_now : QueueFits s.config.groups (gate_of s) (process_named (with_delivery s k m)) r.part.kept (turned r s k key m).delay
     delay_now =
         subst (λ ps. QueueFits s.config.groups (gate_of s) ps r.part.kept (turned r s k key m).delay) (named_set s k (delivering_to m))
-        (delivery_fits s.config.groups (gate_of s) (process_named s) r.part.kept r.delay fits.delay (local s k) key m under
+        (delivery_fits s.config.groups (gate_of s) (process_named s) r.part.kept r.delay fits.processes.delay (local s k) key m under
         (ap (λ p. is_causally_ready s.config.groups (gate_of s) p m) (process_here s k) ∙ ready_causally s k m ready))
 
 -- what is noted of the delivery of an ABCAST is what the history notes
@@ -201,21 +197,17 @@ noted_as r s fits l k key m ready = at (is_atomic (kind_of m.body))
     at false = refl
 
 -- the program is told on both sides, or nothing is told
-fits_push_delivery : (r : Records) (s : State) → Fits r s → (k : ℕ) (m : Message) → Fits (push_delivery_in r (local s k) m) (elim (told_of m.id m.body) [ Some p ↦ pushing s k p | None ↦ s ])
-fits_push_delivery r s fits k m = at (told_of m.id m.body)
-  where
-    at : (o : Option Push) → Fits (option_map_or (push_in r k) o r) (elim o [ Some p ↦ pushing s k p | None ↦ s ])
-    at (Some p) = fits_push r s fits k p
-    at None = fits
+fits_tell : (r : Records) (s : State) → Fits r s → (k : ℕ) (o : Option Push) → Fits (tell records r k o) (tell history s k o)
+fits_tell r s fits k (Some p) = fits_push r s fits k p
+fits_tell r s fits k None = fits
 
 -- a process delivers a message that is ready, and is told; what is free then is let go
-pub fits_delivering : (r : Records) (s : State) → Fits r s → IsLawful s → (k : ℕ) → was_given s.used k ≡ true → (key : Key) (m : Message) → message_under r.part.kept key ≡ Some m → is_ready_for s k m ≡ true → IsLawful (delivering s k m) → Fits (let_go_in (deliver_in (local s k) r key)) (delivering_one s k m)
+pub fits_delivering : (r : Records) (s : State) → Fits r s → IsLawful s → (k : ℕ) → was_given s.used k ≡ true → (key : Key) (m : Message) → message_under r.part.kept key ≡ Some m → is_ready_for s k m ≡ true → IsLawful (delivering s k m) → Fits (let_go_in (tell records (note_delivered_under r (local s k) key m) k (told_of m.id m.body))) (delivering_one s k m)
 fits_delivering r s fits l k given key m under ready lawful =
     let next : Records = record (turned r s k key m) { orders = noting s k m (passing r s k key m) r.orders } in
-    fits_let_go (deliver_in (local s k) r key) (delivering s k m)
-    (subst (λ (o : Option Message). Fits (option_map_or (deliver_message_in r (local s k) key) o r) (delivering s k m)) (sym under)
-    (subst (λ x. Fits (push_delivery_in x (local s k) m) (delivering s k m)) (sym (noted_as r s fits l k key m ready))
-    (fits_push_delivery next (with_delivery s k m) (fits_turn r s fits l k given key m under ready) k m)))
+    fits_let_go (tell records (note_delivered_under r (local s k) key m) k (told_of m.id m.body)) (delivering s k m)
+    (subst (λ x. Fits (tell records x k (told_of m.id m.body)) (delivering s k m)) (sym (noted_as r s fits l k key m ready))
+    (fits_tell next (with_delivery s k m) (fits_turn r s fits l k given key m under ready) k (told_of m.id m.body)))
     lawful
 
 -- a spent message is ready for nobody
@@ -236,33 +228,46 @@ found_kept P test fails (m ∷ got) kept (inr (spent, more)) = ap (λ b. cond b 
 pub ready_kept : (s : State) (k : ℕ) → was_given s.used k ≡ true → IsLawful s → find (is_ready_for s k) s.got ≡ find (is_ready_for s k) s.kept
 ready_kept s k given l = found_kept (IsSpent s) (is_ready_for s k) (spent_not_ready s k given) s.got s.kept l.spent
 
+-- over the name of the process
+abbrev first_of : Records → ℕ → Proc → Records
+first_of r k p =
+    elim (option_map_or (message_under r.part.kept) (ready_key_in r p) None) [
+      | Some m ↦ let_go_in (tell records (option_map_or (λ key. note_delivered_under r p key m) (ready_key_in r p) r) k (told_of m.id m.body))
+      | None ↦ r
+    ]
+
 -- the queue names the message that the rule names
-pub fits_first : (r : Records) (s : State) → Fits r s → IsLawful s → (k : ℕ) → was_given s.used k ≡ true → Fits (deliver_first_in (local s k) r) (deliver_first k s)
+pub fits_first : (r : Records) (s : State) → Fits r s → IsLawful s → (k : ℕ) → was_given s.used k ≡ true → Fits (rest.deliver_first records resting_records k r) (deliver_first k s)
 fits_first r s fits l k given =
-    fits_next (next_key (turns_in r (local s k)) r.delay (local s k)) (next_rules s.config.groups (gate_of s) (process_named s) r.part.kept r.delay fits.delay (local s k) (turns_in r (local s k)) (turn_of s k) turns)
+    subst (λ h. Fits (first_of r k (record { site = h; serial = k })) (deliver_first k s)) (sym (ap (λ c. c.site) fits.core))
+    (fits_next (ready_key_in r (local s k)) (next_rules s.config.groups (gate_of s) (process_named s) r.part.kept r.delay fits.processes.delay (local s k) (turns_in r (local s k)) (turn_of s k) turns))
   where
     -- the turns of the groups that it is a member of
     turns : HasTurns (process_named s (local s k)) (turns_in r (local s k)) (turn_of s k)
     turns g member = turns_there r s fits k g (l.known k g (ap is_outside (only_member ((s.process k).standing g) (ap (λ p. is_member (p.standing g)) (sym (process_here s k)) ∙ member))))
 
     found_is : first_ready s.config.groups (gate_of s) (turn_of s k) (process_named s (local s k)) (messages r.part.kept) ≡ find (is_ready_for s k) s.got
-    found_is = (λ i. find (is_ready s.config.groups (gate_of s) (turn_of s k) (process_here s k i)) (fits.kept i)) ∙ sym (ready_kept s k given l)
+    found_is = (λ i. find (is_ready s.config.groups (gate_of s) (turn_of s k) (process_here s k i)) (fits.messages.kept_in i)) ∙ sym (ready_kept s k given l)
 
-    fits_next : (o : Option Key) → FirstReady s.config.groups (gate_of s) (turn_of s k) (process_named s (local s k)) r.part.kept o → Fits (option_map_or (λ key. let_go_in (deliver_in (local s k) r key)) o r) (deliver_first k s)
+    -- with the key that is named, and the message under it
+    named_key : Option Key → Option Message → Records
+    named_key o found =
+        elim found [ Some m ↦ let_go_in (tell records (option_map_or (λ key. note_delivered_under r (local s k) key m) o r) k (told_of m.id m.body)) | None ↦ r ]
+
+    fits_next : (o : Option Key) → FirstReady s.config.groups (gate_of s) (turn_of s k) (process_named s (local s k)) r.part.kept o → Fits (named_key o (option_map_or (message_under r.part.kept) o None)) (deliver_first k s)
     fits_next None none = subst (Fits r) (sym (delivered_none s k (sym found_is ∙ none))) fits
     fits_next (Some key) (m, under, first) =
         let found : find (is_ready_for s k) s.got ≡ Some m = sym found_is ∙ first in
         let ready : is_ready_for s k m ≡ true = found_passes (is_ready_for s k) s.got m found in
-        subst (Fits (let_go_in (deliver_in (local s k) r key))) (sym (delivered_first s k m found))
-        (fits_delivering r s fits l k given key m under ready (lawful_delivering s k m l (found_in (is_ready_for s k) s.got m found) ready))
+        subst (λ x. Fits (named_key (Some key) x) (deliver_first k s)) (sym under)
+        (subst (Fits (let_go_in (tell records (note_delivered_under r (local s k) key m) k (told_of m.id m.body)))) (sym (delivered_first s k m found))
+        (fits_delivering r s fits l k given key m under ready (lawful_delivering s k m l (found_in (is_ready_for s k) s.got m found) ready)))
 
 -- so many turns of one process
-fits_turns : (n : ℕ) (r : Records) (s : State) → Fits r s → IsLawful s → (k : ℕ) → was_given s.used k ≡ true → Fits (iterate n (deliver_first_in (local s k)) r) (iterate n (deliver_first k) s)
+fits_turns : (n : ℕ) (r : Records) (s : State) → Fits r s → IsLawful s → (k : ℕ) → was_given s.used k ≡ true → Fits (iterate n (rest.deliver_first records resting_records k) r) (iterate n (deliver_first k) s)
 fits_turns zero r s fits l k given = fits
 fits_turns (suc n) r s fits l k given =
-    let kept : Kept s (deliver_first k s) = kept_first k s in
-    subst (λ h. Fits (iterate n (deliver_first_in (record { site = h; serial = k })) (deliver_first_in (local s k) r)) (iterate n (deliver_first k) (deliver_first k s))) kept.here
-    (fits_turns n (deliver_first_in (local s k) r) (deliver_first k s) (fits_first r s fits l k given) (lawful_first s k l) k (ap (λ u. was_given u k) kept.used ∙ given))
+    fits_turns n (rest.deliver_first records resting_records k r) (deliver_first k s) (fits_first r s fits l k given) (lawful_first s k l) k (ap (λ u. was_given u k) (kept_first k s).used ∙ given)
 
 -- fewer are left of fewer
 left_filter : (ids : List Uid) (test : Message → Bool) (got : List Message) → left ids (filter test got) ≤ left ids got
@@ -308,24 +313,8 @@ settled_kept (suc n) s k l given enough =
     ] refl
 
 -- all deliveries of one process
-pub fits_deliver_all : (r : Records) (s : State) → Fits r s → IsLawful s → (k : ℕ) → was_given s.used k ≡ true → Fits (deliver_all_in r (local s k)) (deliver_all s k)
+pub fits_deliver_all : (r : Records) (s : State) → Fits r s → IsLawful s → (k : ℕ) → was_given s.used k ≡ true → Fits (rest.deliver_all records resting_records r k) (deliver_all s k)
 fits_deliver_all r s fits l k given =
     let n : ℕ = length r.part.kept in
-    let enough : left (s.process k).delivered s.kept ≤ n = subst (λ x. left (s.process k).delivered s.kept ≤ x) (ap length (sym fits.kept) ∙ length-map r.part.kept (λ (x : Received). x.message)) (left_le (s.process k).delivered s.kept) in
-    subst (Fits (deliver_all_in r (local s k))) (turns_are_enough s k n (settled_kept n s k l given enough)) (fits_turns n r s fits l k given)
-
--- some processes deliver, by serial
-fits_each : (n a : ℕ) (r : Records) (s : State) → Fits r s → IsLawful s → a + n ≤ s.used → Fits (fold settle_at r (range_with_len a n)) (fold deliver_all s (range_with_len (a + 1) n))
-fits_each zero a r s fits l within = fits
-fits_each (suc n) a r s fits l within =
-    let kept : Kept s (deliver_all s (a + 1)) = kept_all s (a + 1) in
-    let given : was_given s.used (a + 1) ≡ true = and_from (nat_lt 0 (a + 1)) (nat_le (a + 1) s.used) (lt-ltb 0 (a + 1) (omega arith)) (le-leb (a + 1) s.used (omega (arith, within))) in
-    let one : Fits (settle_at r a) (deliver_all s (a + 1)) =
-    subst (λ h. Fits (deliver_all_in r (record { site = h; serial = a + 1 })) (deliver_all s (a + 1))) (sym fits.site) (fits_deliver_all r s fits l (a + 1) given) in
-    fits_each n (a + 1) (settle_at r a) (deliver_all s (a + 1)) one (lawful_deliver_all s (a + 1) l) (omega (arith, within, kept.used))
-
--- each process delivers
-pub fits_settle : (r : Records) (s : State) → Fits r s → IsLawful s → Fits (settle_in r) (settle s)
-fits_settle r s fits l =
-    subst (λ u. Fits (fold settle_at r (range_with_len 0 u)) (settle s)) (sym fits.used)
-    (subst (λ a. Fits (fold settle_at r (range_with_len 0 s.used)) (fold deliver_all s (range_with_len a s.used))) (omega arith) (fits_each s.used 0 r s fits l (omega arith)))
+    let enough : left (s.process k).delivered s.kept ≤ n = subst (λ x. left (s.process k).delivered s.kept ≤ x) (ap length (sym fits.messages.kept_in) ∙ length-map r.part.kept (λ (x : Received). x.message)) (left_le (s.process k).delivered s.kept) in
+    subst (Fits (rest.deliver_all records resting_records r k)) (turns_are_enough s k n (settled_kept n s k l given enough)) (fits_turns n r s fits l k given)

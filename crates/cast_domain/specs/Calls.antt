@@ -13,7 +13,6 @@ use Rattle.cast_types.specs.declared.names.Standing.TheVariants.{Outside, Joinin
 use Rattle.cast_types.specs.declared.limits.TheConstants.{MAX_NUMBER, MAX_MOMENT}
 use Rattle.cast_types.specs.Names.{site_eq, group_eq, group_cmp, proc_eq, uid_eq, is_atomic, named, entry_of}
 use Rattle.cast_types.specs.Places.{update}
-use Rattle.cast_types.specs.Repeat.{iterate}
 use Rattle.cast_types.specs.Stamps.{ClockList}
 use Rattle.cast_clock.specs.Times.{no_time, count_in, bumped, entering}
 use Rattle.cast_message.specs.declared.message.Body.{Body}
@@ -25,10 +24,10 @@ use Rattle.cast_message.specs.declared.client.Push.{Push}
 use Rattle.cast_message.specs.declared.client.Push.TheVariants as push
 use Rattle.cast_message.specs.Bodies.{kind_of}
 use Rattle.cast_message.specs.Membership.{Membership}
-use Rattle.cast_message.specs.Sequence.{Sequence}
 use Rattle.cast_delay.specs.Ready.{is_member}
 use Rattle.cast_delay.specs.declared.turn.Turn.{Turn}
 use Rattle.cast_delay.specs.declared.turn.Turn.TheVariants.{Holding, Following}
+use Rattle.cast_delay.specs.Fits.{offer_of}
 use Rattle.cast_delay.specs.Rows.{standing_in, told_row}
 use Rattle.cast_delay.specs.declared.row.Fact.{Fact}
 use Rattle.cast_delay.specs.declared.row.Fact.TheVariants as fact
@@ -42,17 +41,15 @@ use Rattle.cast_domain.specs.declared.record.GroupRecord.{GroupRecord}
 use Rattle.cast_model.specs.declared.event.Event.{Event}
 use Rattle.cast_model.specs.declared.event.Event.TheVariants as event
 use Rattle.cast_model.specs.Session.{first_session, told as told_session}
-use Rattle.cast_model.specs.Group.{no_group, members_of, holder_of, is_process, holder_at, other_sites, is_current, with_request, with_answer, with_view, is_taken_in}
+use Rattle.cast_model.specs.Group.{no_group, members_of, holder_of, is_process, other_sites, is_current, with_request, with_answer, with_view, is_taken_in}
 use Rattle.cast_model.specs.Home.{first_home, is_empty, after_request, after_installed, decided}
 use Rattle.cast_domain.specs.Shared.{part_with, part_without, part_owing, part_renewing, part_paying, part_paying_upto}
-use Rattle.cast_history.specs.Rules.Interface.{Site}
+use Rattle.cast_history.specs.Rules.Interface.{Site, Resting}
+use Rattle.cast_history.specs.Rules.Rest.{tell, told_of}
 use Rattle.cast_history.specs.Rules.Room.{may_order}
 use Rattle.cast_history.specs.Rules.Owing.{tick}
-use Rattle.cast_history.specs.Rules.Sending.{send_message, may_raise}
 use Rattle.cast_history.specs.Rules.Commands.{commanded}
-use Rattle.cast_history.specs.Rules.Views.{lead}
 use Rattle.cast_history.specs.Rules.Frames.{framed}
-use Rattle.cast_history.specs.Effects.{told_of}
 use Rattle.cast_history.specs.State.{was_given}
 use Rattle.cast_domain.specs.Records.{Records}
 
@@ -137,7 +134,7 @@ abbrev pub receive_in : Records → Message → Records
 receive_in r m =
     record r {
       part = part_with r.part m;
-      delay = record r.delay { offered = r.delay.offered ++ record { key = record { 0 = r.part.next }; id = m.id; times = m.times; atomic = is_atomic (kind_of m.body) } ∷ [] };
+      delay = record r.delay { offered = r.delay.offered ++ offer_of (record { key = record { 0 = r.part.next }; message = m }) ∷ [] };
       acks = received_ledger r.acks m.id;
       orders = learn_in r.orders m.id.group m.body;
     }
@@ -279,10 +276,14 @@ open_in r =
       delay = record r.delay { rows = r.delay.rows ++ new_row p ∷ [] };
     }
 
+-- serials are used once
+abbrev pub opened_in : Records → Records
+opened_in r = if r.used == MAX_NUMBER then r else open_in r
+
 -- Events
 
 abbrev pub act_in : Records → Event → Records
-act_in r (event.Open d) = if r.used == MAX_NUMBER then r else open_in r
+act_in r (event.Open d) = opened_in r
 act_in r (event.Command d k c) = commanded records r k c
 act_in r (event.Frame d from f) = framed records r from f
 act_in r (event.Tick t) = tick records r t
@@ -320,45 +321,7 @@ note_delivery_in r p u =
           else change_log u.group (passed p (passed_in r.delay p u.group u.view (next_in (log_in r u.group) p))) r.orders;
     }
 
--- the holder's next message of the group at a place
-abbrev pub next_message_in : Records → Proc → GroupNo → ℕ → Body → Message
-next_message_in r p g i content =
-    let times : ClockList = bumped (time_of r.delay p) g p in
-    record {
-      id = record { group = g; view = (record_at r.groups i).here.number; proc = p; count = count_in times g p };
-      times = times;
-      body = content;
-    }
-
--- the holder of the group at a place lists ABCASTs in a set-order message
-abbrev pub send_places_in : Records → ℕ → Proc → Sequence → Records
-send_places_in r i p places =
-    let g : GroupNo = (record_at r.groups i).name in
-    let time : ClockList = bumped (time_of r.delay p) g p in
-    send_message records
-    (tell_in
-    (record r { orders = change_log g (assigned (count_in time g p) (settled_in r g (record_at r.groups i).here.number p)) r.orders })
-    p (fact.Time time))
-    (next_message_in r p g i (body.Order places))
-
-abbrev pub set_order_by_in : Records → ℕ → Proc → Records
-set_order_by_in r i p =
-    let g : GroupNo = (record_at r.groups i).name in
-    if is_member (standing_of r.delay p g) && may_order records r
-    then option_map_or (λ places. if may_raise (time_of r.delay p) g p then let_go_in (send_places_in r i p places) else r) (next_places (log_in r g)) r
-    else r
-
-abbrev pub set_order_in : Records → ℕ → Records
-set_order_in r i = option_map_or (set_order_by_in r i) (holder_at r.site (record_at r.groups i).here) r
-
-abbrev pub set_orders_in : Records → Records
-set_orders_in r = fold set_order_in r (range_with_len 0 (length r.groups))
-
--- The rest
-
--- a process is told of a message that it delivered
-abbrev pub push_delivery_in : Records → Proc → Message → Records
-push_delivery_in r p m = option_map_or (push_in r p.serial) (told_of m.id m.body) r
+-- The rest, as the rules see it
 
 -- a process has delivered the message under a key
 abbrev pub take_delivery_in : Records → Proc → Key → Uid → Records
@@ -371,24 +334,42 @@ take_delivery_in r p key u =
 abbrev pub note_if_in : Bool → Records → Proc → Uid → Records
 note_if_in atomic r p u = if atomic then note_delivery_in r p u else r
 
--- a process delivers the message under a key, and is told
-abbrev pub deliver_message_in : Records → Proc → Key → Message → Records
-deliver_message_in r p key m = push_delivery_in (note_if_in (is_atomic (kind_of m.body)) (take_delivery_in r p key m.id) p m.id) p m
+-- and that is noted for the order of its view
+abbrev pub note_delivered_under : Records → Proc → Key → Message → Records
+note_delivered_under r p key m = note_if_in (is_atomic (kind_of m.body)) (take_delivery_in r p key m.id) p m.id
 
-abbrev pub deliver_in : Proc → Records → Key → Records
-deliver_in p r key = option_map_or (deliver_message_in r p key) (message_under r.part.kept key) r
+-- and its program is told
+abbrev pub deliver_under : Records → Proc → Key → Message → Records
+deliver_under r p key m = tell records (note_delivered_under r p key m) p.serial (told_of m.id m.body)
 
-abbrev pub deliver_first_in : Proc → Records → Records
-deliver_first_in p r = option_map_or (λ key. let_go_in (deliver_in p r key)) (next_key (turns_in r p) r.delay p) r
+-- the key of the first message that is ready for a process
+abbrev pub ready_key_in : Records → Proc → Option Key
+ready_key_in r p = next_key (turns_in r p) r.delay p
 
-abbrev pub deliver_all_in : Records → Proc → Records
-deliver_all_in r p = iterate (length r.part.kept) (deliver_first_in p) r
+abbrev pub next_ready_in : Records → ℕ → Option Message
+next_ready_in r k = option_map_or (message_under r.part.kept) (ready_key_in r (local_in r k)) None
 
-abbrev pub settle_at : Records → ℕ → Records
-settle_at r k = deliver_all_in r (local_in r (k + 1))
+abbrev pub note_delivered_in : Records → ℕ → Message → Records
+note_delivered_in r k m = option_map_or (λ key. note_delivered_under r (local_in r k) key m) (ready_key_in r (local_in r k)) r
 
-abbrev pub settle_in : Records → Records
-settle_in r = fold settle_at r (range_with_len 0 r.used)
+-- the time of a local process, with its count in the group at a place raised
+abbrev pub raised_at : Records → ℕ → ℕ → ClockList
+raised_at r i k = bumped (time_of r.delay (local_in r k)) (record_at r.groups i).name (local_in r k)
 
-abbrev pub pass_in : Records → Records
-pass_in r = lead records (set_orders_in (settle_in r))
+-- the holder of the group at a place lists what it has to list in its next message
+abbrev pub note_listed_in : Records → ℕ → ℕ → Records
+note_listed_in r i k =
+    let g : GroupNo = (record_at r.groups i).name in
+    let p : Proc = local_in r k in
+    record r { orders = change_log g (assigned (count_in (raised_at r i k) g p) (settled_in r g (record_at r.groups i).here.number p)) r.orders }
+
+abbrev pub resting_records : Resting Records ℕ
+resting_records = record {
+  serials = λ r. range_with_len 1 r.used;
+  turns = λ r. length r.part.kept;
+  next_ready = next_ready_in;
+  next_places = λ r i k. next_places (log_in r (record_at r.groups i).name);
+  note_delivered = note_delivered_in;
+  note_listed = note_listed_in;
+  let_go = let_go_in;
+}

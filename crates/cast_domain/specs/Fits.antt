@@ -1,27 +1,33 @@
 -- When a domain's records stand for a history.
 use Rattle.std.specs.Prelude.{◌≡◌, ℕ, zero, suc, ◌≤◌, true, if◌then◌else◌, List, [], length, map, Contains, slice_get, unwrap_or, None}
 use Rattle.std.specs.Option.{IsSome, option_map_or}
+use Rattle.std.specs.List.{range_with_len}
 use Rattle.cast_types.specs.declared.names.DomainNo.{DomainNo}
+use Rattle.cast_types.specs.declared.names.SiteNo.{SiteNo}
 use Rattle.cast_types.specs.declared.names.GroupNo.{GroupNo}
 use Rattle.cast_types.specs.declared.names.Proc.{Proc}
 use Rattle.cast_types.specs.declared.limits.TheConstants.{MAX_NUMBER}
 use Rattle.cast_types.specs.Names.{Entry, site_eq, named}
-use Rattle.cast_delay.specs.Ready.{Process, has_delivered}
-use Rattle.cast_delay.specs.Queue.{row_of}
+use Rattle.cast_delay.specs.Ready.{Process, Gate, has_delivered}
+use Rattle.cast_delay.specs.Queue.{Queue, row_of}
 use Rattle.cast_delay.specs.Fits.{Fits as QueueFits}
 use Rattle.cast_message.specs.Receipts.{messages, message_under}
+use Rattle.cast_message.specs.declared.message.Message.{Message}
+use Rattle.cast_message.specs.declared.message.Received.{Received}
 use Rattle.cast_stable.specs.Fits.{Fits as AcksFits}
 use Rattle.cast_order.specs.Order.{Listing}
 use Rattle.cast_order.specs.Log.{Log, log_of}
 use Rattle.cast_order.specs.Fits.{Fits as OrderFits}
 use Rattle.cast_domain.specs.declared.domain.Domain.{Domain}
 use Rattle.cast_domain.specs.declared.record.GroupRecord.{GroupRecord}
+use Rattle.cast_timer.specs.declared.key.Owed.{Owed}
+use Rattle.cast_model.specs.declared.config.DomainConfig.{DomainConfig}
 use Rattle.cast_model.specs.declared.session.Session.{Session}
 use Rattle.cast_model.specs.Session.{no_session, is_open}
 use Rattle.cast_model.specs.Group.{holder_at}
 use Rattle.cast_model.specs.Home.{is_empty}
 use Rattle.cast_history.specs.Lawful.{IsLawful}
-use Rattle.cast_history.specs.State.{State, no_process, local, serials, gate_of, others_of, upto, was_given}
+use Rattle.cast_history.specs.State.{State, no_process, gate_of, others_of, upto, was_given}
 use Rattle.cast_history.specs.Order.{facts_in, abcasts_delivered, lists_of}
 use Rattle.cast_history.specs.Run.{before_event}
 use Rattle.cast_domain.specs.Shared.{Part}
@@ -68,26 +74,47 @@ pub record LogFits (s : State) (g : GroupNo) (l : Log) : Type 0 where
   pub fits : OrderFits (facts_in s g) (told_here s g) (lists_here s g) (λ p e. has_delivered (process_named s p) (named g (s.group g).number e)) stable l
   pub counted : (x : ℕ × List Entry) → Contains (lists_here s g) x → x.0 ≤ MAX_NUMBER
 
--- the records of a step so far stand for the state
+-- The records of a step so far, beside a state
+
+-- what both have as it is: the site, the configuration, how many serials were given, the moment, and the frames that are owed
+pub record Core : Type 0 where
+  pub site : SiteNo
+  pub config : DomainConfig
+  pub used : ℕ
+  pub moment : ℕ
+  pub owed : List Owed
+
+abbrev pub core_in : Records → Core
+core_in r = record { site = r.site; config = r.config; used = r.used; moment = r.moment; owed = r.part.owed }
+
+abbrev pub core_of : State → Core
+core_of s = record { site = s.here; config = s.config; used = s.used; moment = s.moment; owed = s.owed }
+
+-- sessions by serial, of which no one is closed yet
+pub record SessionsFit (sessions : List Session) (used : ℕ) (session : ℕ → Session) : Type 0 where
+  pub given : length sessions ≡ used
+  pub each : (k : ℕ) → session k ≡ session_in sessions k
+  pub all_open : (k : ℕ) → is_open (session k) ≡ was_given used k
+
+-- the kept messages in order of receipt; the keys from the next one on are free, and so many messages were received
+pub record MessagesFit (received : List Received) (next : ℕ) (kept got : List Message) : Type 0 where
+  pub kept_in : messages received ≡ kept
+  pub fresh : (n : ℕ) → next ≤ n → message_under received (record { 0 = n }) ≡ None
+  pub counted : next ≡ length got
+
+-- processes and what they await; the queue has one row for each serial
+pub record ProcessesFit (s : SiteNo) (used : ℕ) (groups : List GroupNo) (gate : GroupNo → Gate) (processes : Proc → Process) (received : List Received) (q : Queue) : Type 0 where
+  pub delay : QueueFits groups gate processes received q
+  pub admitted : (k : ℕ) → was_given used k ≡ true → IsSome (row_of q.rows (record { site = s; serial = k }))
+  pub rows : map (λ row. row.process) q.rows ≡ map (λ k. record { site = s; serial = k }) (range_with_len 1 used)
+
+-- the records stand for the state
 pub record Fits (r : Records) (s : State) : Type 0 where
-  pub site : r.site ≡ s.here
-  pub config : r.config ≡ s.config
-  pub used : r.used ≡ s.used
-  pub given : length r.sessions ≡ s.used
-  pub sessions : (k : ℕ) → s.session k ≡ session_in r.sessions k
-  -- no session is closed yet
-  pub all_open : (k : ℕ) → is_open (s.session k) ≡ was_given s.used k
+  pub core : core_in r ≡ core_of s
+  pub opened : SessionsFit r.sessions s.used s.session
   pub groups : r.groups ≡ map (record_for s) s.config.groups
-  pub moment : r.moment ≡ s.moment
-  -- the kept messages in order of receipt; the keys from the next one on are free, and so many messages were received
-  pub kept : messages r.part.kept ≡ s.kept
-  pub fresh : (n : ℕ) → r.part.next ≤ n → message_under r.part.kept (record { 0 = n }) ≡ None
-  pub received : r.part.next ≡ length s.got
-  pub owed : r.part.owed ≡ s.owed
-  -- the queue has one row for each serial
-  pub delay : QueueFits s.config.groups (gate_of s) (process_named s) r.part.kept r.delay
-  pub admitted : (k : ℕ) → was_given s.used k ≡ true → IsSome (row_of r.delay.rows (local s k))
-  pub rows : map (λ row. row.process) r.delay.rows ≡ map (local s) (serials s)
+  pub messages : MessagesFit r.part.kept r.part.next s.kept s.got
+  pub processes : ProcessesFit s.here s.used s.config.groups (gate_of s) (process_named s) r.part.kept r.delay
   pub acks : AcksFits s.here (others_of s) (map (λ m. m.id) s.got) s.acks s.told r.acks
   pub orders : (g : GroupNo) → LogFits s g (log_of r.orders g)
   pub frames : r.frames ≡ tagged s.config.domain s.frames

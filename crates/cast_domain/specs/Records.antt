@@ -1,9 +1,10 @@
 -- A domain's records as contracts see them: lists and what the queue keeps.
-use Rattle.std.specs.Prelude.{◌≡◌, ℕ, ◌+◌, Bool, ◌==◌, if◌then◌else◌, List}
+use Rattle.std.specs.Prelude.{◌≡◌, ℕ, ◌+◌, Bool, ◌==◌, if◌then◌else◌, List, Option}
 use Rattle.cast_types.specs.declared.names.DomainNo.{DomainNo}
 use Rattle.cast_types.specs.declared.names.SiteNo.{SiteNo}
 use Rattle.cast_types.specs.declared.names.Proc.{Proc}
 use Rattle.cast_types.specs.declared.names.Uid.{Uid}
+use Rattle.cast_types.specs.declared.refusal.Refusal.{Refusal}
 use Rattle.cast_types.specs.declared.refusal.Refusal.TheVariants.{NotOpen, TooManySessions}
 use Rattle.cast_types.specs.declared.limits.TheConstants.{MAX_NUMBER}
 use Rattle.cast_message.specs.declared.site.SiteFrame.{SiteFrame}
@@ -12,6 +13,7 @@ use Rattle.cast_stable.specs.Ledger.{Ledger}
 use Rattle.cast_order.specs.Log.{Log}
 use Rattle.cast_model.specs.declared.config.DomainConfig.{DomainConfig}
 use Rattle.cast_history.specs.State.{was_given}
+use Rattle.cast_history.specs.Rules.Commands.{Attempt}
 use Rattle.cast_domain.specs.declared.domain.Domain.{Domain}
 use Rattle.cast_domain.specs.declared.record.GroupRecord.{GroupRecord}
 use Rattle.cast_model.specs.declared.session.Session.{Session}
@@ -93,3 +95,7 @@ used_after used (Open d) = if used == MAX_NUMBER then used else used + 1
 used_after used (Command d k c) = used
 used_after used (Frame d from f) = used
 used_after used (Tick t) = used
+
+-- a call led to these records, with this refusal or none
+abbrev pub IsAttempt : Records → Attempt Records → Option Refusal → Type 0
+IsAttempt r attempt refusal = (r, refusal) ≡ attempt

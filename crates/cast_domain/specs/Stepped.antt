@@ -7,9 +7,10 @@ use Rattle.cast_model.specs.declared.event.Taken.{Taken}
 use Rattle.cast_history.specs.State.{State}
 use Rattle.cast_history.specs.Run.{IsStep}
 use Rattle.cast_history.specs.Rest.{RestsAt}
-use Rattle.cast_domain.specs.Shared.{Part}
+use Rattle.cast_domain.specs.Shared.{Part, part_of}
 use Rattle.cast_model.specs.Outs.{outs_then}
-use Rattle.cast_domain.specs.Records.{Records}
+use Rattle.cast_domain.specs.Records.{Records, number_of}
+use Rattle.cast_domain.specs.declared.shared.Shared.{Shared}
 use Rattle.cast_history.specs.Lawful.{IsLawful}
 use Rattle.cast_domain.specs.Fits.{Fits, Means, tagged}
 
@@ -33,3 +34,8 @@ pub record IsStepOf (s : State) (e : Event) (answer : Taken) (new : Domain) (par
 -- whatever history the domain stood for, with its part of what is shared before and after
 abbrev pub IsStepped : Domain → Part → Event → Taken → Domain → Part → Outs → Outs → Type 0
 IsStepped old part e answer new next before after = (s : State) → Means old part s → IsStepOf s e answer new next before after
+
+-- the same beside all that is shared
+abbrev pub IsSteppedBeside : Domain → Shared → Outs → Event → Domain → Shared → Outs → Taken → Type 0
+IsSteppedBeside old shared before e new later after answer =
+    IsStepped old (part_of (number_of old) shared) e answer new (part_of (number_of old) later) before after

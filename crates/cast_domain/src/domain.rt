@@ -99,7 +99,7 @@ impl Domain {
     ghost use Rattle.cast_domain.specs.Records.{Keeps, answer_to, is_halted, number_of, records_in, records_of, used_after};
     ghost use Rattle.cast_domain.specs.Shared.{LeavesOthers, Part, part_of};
     ghost use Rattle.cast_history.specs.Lawful.{IsTyped};
-    ghost use Rattle.cast_domain.specs.Stepped.{IsStepped};
+    ghost use Rattle.cast_domain.specs.Stepped.{IsSteppedBeside};
     ghost use Rattle.cast_domain.specs.Calls.{act_in, records, place_among, push_in, record_at, send_in, tell_in};
 
     /// The process of a session.
@@ -199,7 +199,7 @@ impl Domain {
         ensures running { is_halted self.old ≡ false → OnOk result (is_halted self.new ≡ false) }
         ensures halts { OnErr result (is_halted self.new ≡ true) }
         ensures halted { is_halted self.old ≡ true → (result ≡ Ok (Taken.Refused Refusal.Halted)) × (self.new ≡ self.old) × (shared.new ≡ shared.old) × (outs.new ≡ outs.old) }
-        ensures steps { is_halted self.old ≡ false → IfOk result (λ answer. IsStepped self.old (part_of (number_of self.old) shared.old) event.now answer self.new (part_of (number_of self.old) shared.new) outs.old outs.new) }
+        ensures steps { is_halted self.old ≡ false → IfOk result (IsSteppedBeside self.old shared.old outs.old event.now self.new shared.new outs.new) }
         ensures nothing { OnErr result (outs.new ≡ outs.old) }
         ensures others { LeavesOthers (number_of self.old) shared.old shared.new }
     {
@@ -225,7 +225,7 @@ impl Domain {
         ensures used { OnOk result (self.new.used ≡ used_after self.old.used event.now) }
         ensures same { (self.new.site ≡ self.old.site) × (self.new.config ≡ self.old.config) × (self.new.halted ≡ self.old.halted) }
         ensures others { LeavesOthers self.old.config.domain shared.old shared.new }
-        ensures steps { IfOk result (λ answer. IsStepped self.old (part_of self.old.config.domain shared.old) event.now answer self.new (part_of self.old.config.domain shared.new) outs.old outs.new) }
+        ensures steps { IfOk result (IsSteppedBeside self.old shared.old outs.old event.now self.new shared.new outs.new) }
         ensures nothing { OnErr result (outs.new ≡ outs.old) }
     {
         let mut step = Outs::new(outs.frames.alloc());

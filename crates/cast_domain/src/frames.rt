@@ -3,7 +3,7 @@ ghost use Rattle.std.specs.List.{fold, list_all};
 ghost use Rattle.cast_types.specs.Names.{group_eq, proc_eq};
 ghost use Rattle.cast_types.specs.Counts.{is_counts};
 ghost use Rattle.cast_types.specs.Sets.{is_among};
-ghost use Rattle.cast_message.specs.declared.site.Change.TheVariants as asked_change;
+ghost use Rattle.cast_message.specs.declared.site.Change.TheVariants as change;
 ghost use Rattle.cast_message.specs.declared.site.SiteFrame.TheVariants as asked_frame;
 ghost use Rattle.cast_history.specs.Lawful.{IsTypedFrame};
 ghost use Rattle.cast_history.specs.Rules.Data.{counts_itself, is_used, is_well_formed, on_data, use_data};
@@ -248,7 +248,7 @@ impl Domain {
     ) -> Result<(), NoMemory>
         requires { place < vec_len self.old.groups }
         ensures same { Keeps self.old self.new }
-        ensures made { OnOk result ((part : Part) → records_of self.new part outs.new ≡ on_ask records (records_of self.old part outs.old) place from number asked_change.Join process) }
+        ensures made { OnOk result ((part : Part) → records_of self.new part outs.new ≡ on_ask records (records_of self.old part outs.old) place from number change.Join process) }
     {
         if !self.is_home() {
             return Ok(());

@@ -1,10 +1,10 @@
 ghost use Rattle.std.specs.Prelude.{◌≡◌, ◌<◌, ◌&&◌, false, IfOk, OnOk, vec_len};
 ghost use Rattle.std.specs.List.{list_any};
-ghost use Rattle.cast_delay.specs.Queue.{next_key};
 ghost use Rattle.cast_delay.specs.Ready.{is_member};
 ghost use Rattle.cast_model.specs.Outs.{no_outs};
-ghost use Rattle.cast_domain.specs.Calls.{learn_in, record_at};
+ghost use Rattle.cast_domain.specs.Calls.{learn_in};
 ghost use Rattle.cast_history.specs.Rules.Room.{may_order, may_take};
+ghost use Rattle.cast_history.specs.Rules.Order.{may_list, send_places, set_order_by, set_order, set_orders};
 
 use crate::domain::Domain;
 use crate::record::GroupRecord;
@@ -18,11 +18,10 @@ use cast_types::limits::MAX_NUMBER;
 use cast_types::{GroupNo, Key, Kind, NoMemory, Proc, Stamp, Standing, Uid};
 
 impl Domain {
-    ghost use Rattle.cast_clock.specs.Times.{bumped};
     ghost use Rattle.cast_model.specs.declared.event.Outs.{Outs};
     ghost use Rattle.cast_domain.specs.Records.{Keeps, records_in, records_of};
     ghost use Rattle.cast_domain.specs.Shared.{LeavesOthers, Part, no_part};
-    ghost use Rattle.cast_domain.specs.Calls.{awaits_own_in, records, holds_in, is_own_in, note_delivery_in, send_places_in, set_order_by_in, set_order_in, set_orders_in, settled_in, standing_of, time_of, turn_at, turns_in};
+    ghost use Rattle.cast_domain.specs.Calls.{awaits_own_in, records, resting_records, holds_in, is_own_in, note_delivery_in, ready_key_in, settled_in, raised_at, standing_of, turn_at, turns_in};
 
     // Whether a set-order message may be sent or received beside the messages that are kept, and a holder may deliver
     // an ABCAST.
@@ -69,7 +68,7 @@ impl Domain {
 
     // The key of the first message that is ready for a process.
     pub(crate) fn next_ready(&self, process: Proc, shared: &Shared) -> Result<Option<Key>, NoMemory>
-        ensures { IfOk result (λ key. key ≡ next_key (turns_in (records_in self.now shared.now no_outs) process) self.now.delay process) }
+        ensures { IfOk result (λ key. key ≡ ready_key_in (records_in self.now shared.now no_outs) process) }
     {
         let turns = self.turns(process, shared)?;
         Ok(self.delay.next_ready(process, &turns))
@@ -148,7 +147,7 @@ impl Domain {
     ) -> Result<bool, NoMemory>
         ensures same { Keeps self.old self.new }
         ensures others { LeavesOthers self.old.config.domain shared.old shared.new }
-        ensures made { OnOk result (records_in self.new shared.new outs.new ≡ set_orders_in (records_in self.old shared.old outs.old)) }
+        ensures made { OnOk result (records_in self.new shared.new outs.new ≡ set_orders records resting_records (records_in self.old shared.old outs.old)) }
         ensures still { IfOk result (λ changed. changed ≡ false → records_in self.new shared.new outs.new ≡ records_in self.old shared.old outs.old) }
     {
         let mut changed = false;
@@ -168,14 +167,14 @@ impl Domain {
     ) -> Result<bool, NoMemory>
         ensures same { Keeps self.old self.new }
         ensures others { LeavesOthers self.old.config.domain shared.old shared.new }
-        ensures made { OnOk result (records_in self.new shared.new outs.new ≡ set_order_in (records_in self.old shared.old outs.old) place) }
+        ensures made { OnOk result (records_in self.new shared.new outs.new ≡ set_order records resting_records (records_in self.old shared.old outs.old) place) }
         ensures still { IfOk result (λ changed. changed ≡ false → records_in self.new shared.new outs.new ≡ records_in self.old shared.old outs.old) }
     {
         if place >= self.groups.len() {
             return Ok(false);
         }
         match self.record(place).here.holder_at(self.site) {
-            Some(holder) => self.set_order_by(place, holder, shared, outs),
+            Some(holder) => self.set_order_by(place, holder.serial, shared, outs),
             None => Ok(false),
         }
     }
@@ -184,16 +183,17 @@ impl Domain {
     fn set_order_by(
         &mut self,
         place: usize,
-        holder: Proc,
+        serial: u32,
         shared: &mut Shared,
         outs: &mut Outs,
     ) -> Result<bool, NoMemory>
         requires { place < vec_len self.old.groups }
         ensures same { Keeps self.old self.new }
         ensures others { LeavesOthers self.old.config.domain shared.old shared.new }
-        ensures made { OnOk result (records_in self.new shared.new outs.new ≡ set_order_by_in (records_in self.old shared.old outs.old) place holder) }
+        ensures made { OnOk result (records_in self.new shared.new outs.new ≡ set_order_by records resting_records (records_in self.old shared.old outs.old) place serial) }
         ensures still { IfOk result (λ changed. changed ≡ false → records_in self.new shared.new outs.new ≡ records_in self.old shared.old outs.old) }
     {
+        let holder = self.process(serial);
         let group = self.record(place).name;
         if !self.may_list(holder, group, shared) {
             return Ok(false);
@@ -204,7 +204,7 @@ impl Domain {
         let Some((time, stamp)) = self.raised(holder, group)? else {
             return Ok(false);
         };
-        self.send_places(place, holder, time, stamp, places, shared, outs)?;
+        self.send_places(place, serial, time, stamp, places, shared, outs)?;
         self.let_go(shared)?;
         Ok(true)
     }
@@ -220,7 +220,7 @@ impl Domain {
     fn send_places(
         &mut self,
         place: usize,
-        holder: Proc,
+        serial: u32,
         time: Times,
         stamp: Stamp,
         places: Placement,
@@ -228,12 +228,13 @@ impl Domain {
         outs: &mut Outs,
     ) -> Result<(), NoMemory>
         requires placed { place < vec_len self.old.groups }
-        requires raised { time ≡ bumped (time_of self.old.delay holder) (record_at self.old.groups.items place).name holder }
+        requires raised { time ≡ raised_at (records_of self.old no_part no_outs) place serial }
         requires stamped { stamp ≡ time }
         ensures same { Keeps self.old self.new }
         ensures others { LeavesOthers self.old.config.domain shared.old shared.new }
-        ensures made { OnOk result (records_in self.new shared.new outs.new ≡ send_places_in (records_in self.old shared.old outs.old) place holder places) }
+        ensures made { OnOk result (records_in self.new shared.new outs.new ≡ send_places records resting_records (records_in self.old shared.old outs.old) place serial places) }
     {
+        let holder = self.process(serial);
         let group = self.record(place).name;
         let view = self.record(place).here.number;
         let count = time.count(group, holder);

@@ -24,17 +24,17 @@ impl Domain {
     ghost use Rattle.cast_clock.specs.Times.{bumped, view_of};
     ghost use Rattle.cast_model.specs.declared.event.Outs.{Outs};
     ghost use Rattle.cast_history.specs.State.{was_given};
-    ghost use Rattle.cast_domain.specs.Records.{Keeps, records_in, records_of};
+    ghost use Rattle.cast_domain.specs.Records.{IsAttempt, Keeps, records_in, records_of};
     ghost use Rattle.cast_domain.specs.Shared.{LeavesOthers, Part};
     ghost use Rattle.cast_history.specs.Rules.Sending.{may_raise};
-    ghost use Rattle.cast_domain.specs.Calls.{records, open_in, receive_in, time_of};
+    ghost use Rattle.cast_domain.specs.Calls.{records, opened_in, receive_in, time_of};
 
     // A program connects.
     pub(crate) fn open(&mut self) -> Result<Taken, NoMemory>
         ensures answer { IfOk result (λ t. t ≡ (if self.old.used == MAX_NUMBER then Taken.Refused Refusal.TooManySessions else Taken.Opened (self.old.used + 1))) }
         ensures used { OnOk result (self.new.used ≡ (if self.old.used == MAX_NUMBER then self.old.used else self.old.used + 1)) }
         ensures same { (self.new.site ≡ self.old.site) × (self.new.config ≡ self.old.config) × (self.new.halted ≡ self.old.halted) }
-        ensures made { OnOk result ((o : Outs) (part : Part) → records_of self.new part o ≡ (if self.old.used == MAX_NUMBER then records_of self.old part o else open_in (records_of self.old part o))) }
+        ensures made { OnOk result ((o : Outs) (part : Part) → records_of self.new part o ≡ opened_in (records_of self.old part o)) }
     {
         if self.used == MAX_NUMBER {
             return Ok(Taken::Refused(Refusal::TooManySessions));
@@ -131,7 +131,7 @@ impl Domain {
         requires { place < vec_len self.old.groups }
         ensures same { Keeps self.old self.new }
         ensures others { LeavesOthers self.old.config.domain shared.old shared.new }
-        ensures made { IfOk result (λ refusal. (records_in self.new shared.new outs.new, refusal) ≡ join_at records (records_in self.old shared.old outs.old) serial group place) }
+        ensures made { IfOk result (IsAttempt (records_in self.new shared.new outs.new) (join_at records (records_in self.old shared.old outs.old) serial group place)) }
     {
         let process = self.process(serial);
         match self.delay.standing(process, group) {
@@ -216,7 +216,7 @@ impl Domain {
     ) -> Result<Option<Refusal>, NoMemory>
         ensures same { Keeps self.old self.new }
         ensures others { LeavesOthers self.old.config.domain shared.old shared.new }
-        ensures made { IfOk result (λ refusal. (records_in self.new shared.new outs.new, refusal) ≡ cast records (records_in self.old shared.old outs.old) serial group kind payload.now) }
+        ensures made { IfOk result (IsAttempt (records_in self.new shared.new outs.new) (cast records (records_in self.old shared.old outs.old) serial group kind payload.now)) }
     {
         match self.place_of(group) {
             Some(place) => self.cast_at(place, serial, group, kind, payload, shared, outs),
@@ -238,7 +238,7 @@ impl Domain {
         requires { place < vec_len self.old.groups }
         ensures same { Keeps self.old self.new }
         ensures others { LeavesOthers self.old.config.domain shared.old shared.new }
-        ensures made { IfOk result (λ refusal. (records_in self.new shared.new outs.new, refusal) ≡ cast_at records (records_in self.old shared.old outs.old) serial group kind payload.now place) }
+        ensures made { IfOk result (IsAttempt (records_in self.new shared.new outs.new) (cast_at records (records_in self.old shared.old outs.old) serial group kind payload.now place)) }
     {
         let process = self.process(serial);
         if payload.len() > MAX_PAYLOAD {

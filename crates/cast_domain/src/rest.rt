@@ -1,7 +1,6 @@
 ghost use Rattle.std.specs.Prelude.{◌≡◌, ◌<◌, false, IfOk, OnOk, vec_len};
 ghost use Rattle.std.specs.List.{fold};
-ghost use Rattle.std.specs.Option.{option_map_or};
-ghost use Rattle.cast_history.specs.Effects.{told_of};
+ghost use Rattle.cast_history.specs.Rules.Rest.{told_of, tell, deliver_first, deliver_all, settle, pass};
 
 use crate::domain::Domain;
 use crate::record::decide_at;
@@ -17,7 +16,7 @@ impl Domain {
     ghost use Rattle.cast_domain.specs.Records.{Keeps, records_in, records_of};
     ghost use Rattle.cast_domain.specs.Shared.{LeavesOthers, Part};
     ghost use Rattle.cast_domain.specs.Stepped.{IsRested};
-    ghost use Rattle.cast_domain.specs.Calls.{deliver_all_in, deliver_in, let_go_in, note_if_in, pass_in, push_in, record_at, records, settle_in, take_delivery_in};
+    ghost use Rattle.cast_domain.specs.Calls.{deliver_under, note_if_in, record_at, records, resting_records, take_delivery_in};
 
     // What follows from an event, until nothing changes. No run makes 2^64 passes.
     pub(crate) fn rest(&mut self, shared: &mut Shared, outs: &mut Outs) -> Result<(), NoMemory>
@@ -37,7 +36,7 @@ impl Domain {
     fn pass(&mut self, shared: &mut Shared, outs: &mut Outs) -> Result<bool, NoMemory>
         ensures same { Keeps self.old self.new }
         ensures others { LeavesOthers self.old.config.domain shared.old shared.new }
-        ensures made { OnOk result (records_in self.new shared.new outs.new ≡ pass_in (records_in self.old shared.old outs.old)) }
+        ensures made { OnOk result (records_in self.new shared.new outs.new ≡ pass records resting_records (records_in self.old shared.old outs.old)) }
         ensures still { IfOk result (λ changed. changed ≡ false → records_in self.new shared.new outs.new ≡ records_in self.old shared.old outs.old) }
     {
         let settled = self.settle(shared, outs)?;
@@ -50,13 +49,12 @@ impl Domain {
     fn settle(&mut self, shared: &mut Shared, outs: &mut Outs) -> Result<bool, NoMemory>
         ensures same { Keeps self.old self.new }
         ensures others { LeavesOthers self.old.config.domain shared.old shared.new }
-        ensures made { OnOk result (records_in self.new shared.new outs.new ≡ settle_in (records_in self.old shared.old outs.old)) }
+        ensures made { OnOk result (records_in self.new shared.new outs.new ≡ settle records resting_records (records_in self.old shared.old outs.old)) }
         ensures still { IfOk result (λ changed. changed ≡ false → records_in self.new shared.new outs.new ≡ records_in self.old shared.old outs.old) }
     {
         let mut changed = false;
         for earlier in 0..self.used {
-            let process = self.process(earlier + 1);
-            let delivered = self.deliver_all(process, shared, outs)?;
+            let delivered = self.deliver_all(earlier + 1, shared, outs)?;
             changed = changed | delivered;
         }
         Ok(changed)
@@ -65,57 +63,60 @@ impl Domain {
     // A process delivers until nothing is ready for it. It delivers no message twice.
     fn deliver_all(
         &mut self,
-        process: Proc,
+        serial: u32,
         shared: &mut Shared,
         outs: &mut Outs,
     ) -> Result<bool, NoMemory>
         ensures same { Keeps self.old self.new }
         ensures others { LeavesOthers self.old.config.domain shared.old shared.new }
-        ensures made { OnOk result (records_in self.new shared.new outs.new ≡ deliver_all_in (records_in self.old shared.old outs.old) process) }
+        ensures made { OnOk result (records_in self.new shared.new outs.new ≡ deliver_all records resting_records (records_in self.old shared.old outs.old) serial) }
         ensures still { IfOk result (λ changed. changed ≡ false → records_in self.new shared.new outs.new ≡ records_in self.old shared.old outs.old) }
     {
         let mut changed = false;
         for _turn in 0..self.held(shared) {
-            match self.next_ready(process, shared)? {
-                Some(key) => self.deliver_next(process, key, shared, outs)?,
-                None => return Ok(changed),
+            if !self.deliver_first(serial, shared, outs)? {
+                return Ok(changed);
             }
             changed = true;
         }
         Ok(changed)
     }
 
-    // A process delivers a message, and what is free then is let go.
-    fn deliver_next(
+    // A process delivers the first message that is ready for it, and what is free then is let go. Answers whether there was one.
+    fn deliver_first(
         &mut self,
-        process: Proc,
-        key: Key,
+        serial: u32,
         shared: &mut Shared,
         outs: &mut Outs,
-    ) -> Result<(), NoMemory>
+    ) -> Result<bool, NoMemory>
         ensures same { Keeps self.old self.new }
         ensures others { LeavesOthers self.old.config.domain shared.old shared.new }
-        ensures made { OnOk result (records_in self.new shared.new outs.new ≡ let_go_in (deliver_in process (records_in self.old shared.old outs.old) key)) }
+        ensures made { OnOk result (records_in self.new shared.new outs.new ≡ deliver_first records resting_records serial (records_in self.old shared.old outs.old)) }
+        ensures still { IfOk result (λ delivered. delivered ≡ false → records_in self.new shared.new outs.new ≡ records_in self.old shared.old outs.old) }
     {
-        self.deliver(process, key, shared, outs)?;
+        let process = self.process(serial);
+        let Some(key) = self.next_ready(process, shared)? else {
+            return Ok(false);
+        };
+        let Some(message) = shared.store.get(self.config.domain, key) else {
+            return Ok(false);
+        };
+        self.deliver(process, key, message, outs)?;
         self.let_go(shared)?;
-        Ok(())
+        Ok(true)
     }
 
-    // A process delivers a message, and the program is told.
+    // A process delivers the message under a key, and the program is told.
     fn deliver(
         &mut self,
         process: Proc,
         key: Key,
-        shared: &Shared,
+        message: &Message,
         outs: &mut Outs,
     ) -> Result<(), NoMemory>
         ensures same { Keeps self.old self.new }
-        ensures made { OnOk result (records_in self.new shared.now outs.new ≡ deliver_in process (records_in self.old shared.now outs.old) key) }
+        ensures made { OnOk result ((part : Part) → records_of self.new part outs.new ≡ deliver_under (records_of self.old part outs.old) process key message.now) }
     {
-        let Some(message) = shared.store.get(self.config.domain, key) else {
-            return Ok(());
-        };
         let id = message.id;
         let atomic = message.kind().is_atomic();
         let push = push_of(message)?;
@@ -155,7 +156,7 @@ impl Domain {
     // Pushes what a process is told of a message that it delivered.
     fn push_delivery(&mut self, process: Proc, push: Option<Push>) -> Result<(), NoMemory>
         ensures kept { Keeps self.old self.new }
-        ensures made { OnOk result ((o : Outs) (part : Part) → records_of self.new part o ≡ option_map_or (push_in (records_of self.old part o) process.serial) push (records_of self.old part o)) }
+        ensures made { OnOk result ((o : Outs) (part : Part) → records_of self.new part o ≡ tell records (records_of self.old part o) process.serial push) }
     {
         match push {
             Some(push) => self.push(process.serial, push),

@@ -27,11 +27,15 @@ unplaced reports = set_of entry_cmp (flat_map (λ r. map (λ k. k.0) (filter (λ
 abbrev pub added : CountList → Reports → List Entry → List Entry
 added cut reports placed = take MAX_PLACED (apart_from entry_eq (filter (is_within cut) (unplaced reports)) placed)
 
+-- an order within the cut, and behind it the ABCASTs without a place
+abbrev pub ids_behind : CountList → Reports → List Entry → List Entry
+ids_behind cut reports order =
+    let placed : List Entry = filter (is_within cut) order in placed ++ added cut reports placed
+
 -- the order that the old view ends with, within the cut: the longest one, and behind it the ABCASTs without a place. No
 -- report of a site has more ids than leave room for them
 abbrev pub ids_from : CountList → Reports → List Entry
-ids_from cut reports =
-    let placed : List Entry = filter (is_within cut) (longest reports).ids in placed ++ added cut reports placed
+ids_from cut reports = ids_behind cut reports (longest reports).ids
 
 abbrev pub order_from : CountList → Reports → Stretch
 order_from cut reports = record { start = (longest reports).start; ids = take MAX_ORDER (ids_from cut reports) }

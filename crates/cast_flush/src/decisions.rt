@@ -1,10 +1,10 @@
-ghost use Rattle.std.specs.Prelude.{◌≡◌, ◌++◌, List, map, filter, take, unwrap_or, IfOk, OnOk};
+ghost use Rattle.std.specs.Prelude.{◌≡◌, map, filter, take, unwrap_or, IfOk, OnOk};
 ghost use Rattle.std.specs.Option.{option_copied};
-ghost use Rattle.cast_types.specs.Names.{Entry, entry_eq, entry_cmp};
+ghost use Rattle.cast_types.specs.Names.{entry_eq, entry_cmp};
 ghost use Rattle.cast_types.specs.Sets.{with_items, is_among, apart_from};
 ghost use Rattle.cast_types.specs.Counts.{is_within};
 ghost use Rattle.cast_types.specs.declared.limits.TheConstants.{MAX_PLACED, MAX_ORDER};
-ghost use Rattle.cast_flush.specs.Decisions.{end_of, no_stretch, longest, unplaced, added, order_from};
+ghost use Rattle.cast_flush.specs.Decisions.{end_of, no_stretch, longest, unplaced, added, ids_behind, order_from};
 
 use crate::report::Report;
 use crate::reports::is_within;
@@ -84,7 +84,7 @@ fn order_behind(
     reports: &[(SiteNo, Report)],
     tail: &Tail,
 ) -> Result<Tail, NoMemory>
-    ensures { let placed : List Entry = filter (is_within cut.now) tail.now.ids in IfOk result (λ t. t ≡ record { start = tail.now.start; ids = take MAX_ORDER (placed ++ added cut.now reports.now placed) }) }
+    ensures { IfOk result (λ t. t ≡ record { start = tail.now.start; ids = take MAX_ORDER (ids_behind cut.now reports.now tail.now.ids) }) }
 {
     let mut ids = Vec::from_slice(alloc, tail.ids())?;
     ids.retain(|id| is_within(cut, *id));

@@ -20,7 +20,6 @@ use Rattle.cast_message.specs.declared.message.Body.TheVariants as body
 use Rattle.cast_message.specs.declared.message.Message.{Message}
 use Rattle.cast_message.specs.Membership.{Membership}
 use Rattle.cast_delay.specs.Ready.{is_member}
-use Rattle.cast_order.specs.Order.{ids_to_list, place_after}
 use Rattle.cast_delay.proofs.Finds.{found_in}
 use Rattle.cast_model.specs.declared.group.Group.{Group}
 use Rattle.cast_model.specs.declared.group.Verdict.TheVariants.{Again, Completes, Ignored}
@@ -40,8 +39,10 @@ use Rattle.cast_history.proofs.Rules.Owing.{tick_keeps}
 use Rattle.cast_history.specs.Effects.{next_message, sending, delivering}
 use Rattle.cast_history.specs.Rules.Sending.{may_raise}
 use Rattle.cast_history.specs.Step.{opened, Effect, acted}
-use Rattle.cast_history.specs.Rules.Views.{install_frame, send_install, decide, lead}
-use Rattle.cast_history.specs.Rest.{deliver_first, deliver_all, settle, may_set_order, set_order_by, set_order, set_orders, pass, RestsAt}
+use Rattle.cast_history.specs.Rules.Views.{install_frame, send_install, decide}
+use Rattle.cast_history.specs.Rest.{deliver_first, deliver_all, settle, set_order_by, set_order, set_orders, pass, RestsAt}
+use Rattle.cast_history.proofs.Setting.{may_set_order, set_order_is}
+use Rattle.cast_history.specs.Resting.{places_of}
 use Rattle.cast_history.specs.Lawful.{IsSpent, IsLawful, IsTyped}
 use Rattle.cast_history.proofs.Spots.{found_passes}
 use Rattle.cast_history.specs.History.{history}
@@ -199,10 +200,11 @@ lawful_order_sent s g k content l may =
 
 pub lawful_set_order_by : (s : State) (g : GroupNo) (k : ℕ) → IsLawful s → IsLawful (set_order_by s g k)
 lawful_set_order_by s g k l =
-    let content : Body = body.Order (record { first = place_after (order_of s g); ids = ids_to_list (unlisted s g k) }) in
-    lawful_if (let_go (sending s g k content)) s (may_set_order s g k)
+    let content : Body = body.Order (places_of s g k) in
+    subst IsLawful (sym (set_order_is s g k))
+    (lawful_if (let_go (sending s g k content)) s (may_set_order s g k)
     (λ may. lawful_let_go (sending s g k content) (lawful_order_sent s g k content l may))
-    (λ _. l)
+    (λ _. l))
 
 pub lawful_set_order : (s : State) (g : GroupNo) → IsLawful s → IsLawful (set_order s g)
 lawful_set_order s g l =

@@ -9,6 +9,7 @@ pub mod Delivering
 pub mod Totals
 pub mod Listings
 pub mod Rules
+pub mod Setting
 pub mod Alikes
 pub mod Settles
 pub mod Rests

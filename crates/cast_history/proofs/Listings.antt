@@ -19,9 +19,9 @@ use Rattle.cast_message.specs.Bodies.{kind_of}
 use Rattle.cast_order.specs.Order.{listed_ids, still_to_list, ids_to_list, place_after}
 use Rattle.cast_model.specs.Home.{is_empty}
 use Rattle.cast_model.specs.Group.{holder_at}
-use Rattle.cast_history.specs.State.{State, local, receiving}
+use Rattle.cast_history.specs.State.{State, local, receiving, with_delivery}
 use Rattle.cast_history.specs.Order.{ids_told, is_of_view, lists_of, abcasts_delivered, order_of, unlisted, is_ready_for}
-use Rattle.cast_history.specs.Effects.{next_message, with_delivery}
+use Rattle.cast_history.specs.Effects.{next_message}
 use Rattle.cast_history.specs.Endings.{one_if, is_to_come, to_list_by, to_list_in}
 use Rattle.cast_history.proofs.Totals.{In, one_le, one_mono, not_mono, among_push, among_last}
 use Rattle.cast_history.proofs.Settles.{delivered_at, ready_new}

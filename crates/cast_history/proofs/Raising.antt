@@ -36,11 +36,12 @@ use Rattle.cast_model.specs.Session.{is_open, first_session}
 use Rattle.cast_model.specs.declared.group.Group.{Group}
 use Rattle.cast_model.specs.declared.config.DomainConfig.{DomainConfig}
 use Rattle.cast_model.specs.Group.{no_group, has_view, members_of, with_view, is_at, is_taken_in}
-use Rattle.cast_history.specs.State.{State, opening, local, serials, is_group, set_process, set_group, set_standing, others_of, gate_of, let_go, was_given, receiving, pushing}
+use Rattle.cast_history.specs.State.{State, opening, local, serials, is_group, set_process, set_group, set_standing, others_of, gate_of, let_go, was_given, receiving, pushing, with_delivery}
 use Rattle.cast_history.specs.Order.{is_ready_for}
 use Rattle.cast_history.specs.History.{history}
 use Rattle.cast_history.specs.Rules.Sending.{send_data}
-use Rattle.cast_history.specs.Effects.{next_message, sending, told_of, with_delivery, delivering}
+use Rattle.cast_history.specs.Effects.{next_message, sending, delivering}
+use Rattle.cast_history.specs.Rules.Rest.{told_of}
 use Rattle.cast_history.specs.Entering.{enters, in_view, all_in_view, push_view, completing}
 use Rattle.cast_history.specs.Step.{opened}
 use Rattle.cast_history.specs.Run.{before_event}

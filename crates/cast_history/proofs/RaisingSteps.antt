@@ -19,7 +19,6 @@ use Rattle.cast_message.specs.declared.site.SiteFrame.{SiteFrame}
 use Rattle.cast_types.specs.Rising.{is_rising}
 use Rattle.cast_delay.specs.Ready.{is_member}
 use Rattle.cast_delay.proofs.Finds.{found_in}
-use Rattle.cast_order.specs.Order.{ids_to_list, place_after}
 use Rattle.cast_model.specs.declared.config.DomainConfig.{DomainConfig}
 use Rattle.cast_model.specs.Group.{holder_at, members_of, with_request, with_answer}
 use Rattle.cast_model.specs.Home.{after_request, after_installed, decided}
@@ -30,11 +29,13 @@ use Rattle.cast_model.specs.declared.event.Taken.TheVariants as taken
 use Rattle.cast_history.specs.Rules.Commands.{message_sent}
 use Rattle.cast_history.specs.State.{State, receiving, set_process, opening, serials, is_group, let_go}
 use Rattle.cast_history.specs.Rules.Requests.{is_home}
-use Rattle.cast_history.specs.Order.{order_of, unlisted, is_ready_for}
+use Rattle.cast_history.specs.Order.{is_ready_for}
 use Rattle.cast_history.specs.Effects.{next_message, sending, delivering}
 use Rattle.cast_history.specs.Rules.Owing.{tick}
 use Rattle.cast_history.specs.Step.{opened, Effect, acted}
-use Rattle.cast_history.specs.Rest.{deliver_first, deliver_all, settle, may_set_order, set_order_by, set_order, set_orders, pass}
+use Rattle.cast_history.specs.Rest.{deliver_first, deliver_all, settle, set_order_by, set_order, set_orders, pass}
+use Rattle.cast_history.specs.Resting.{places_of}
+use Rattle.cast_history.proofs.Setting.{may_set_order, set_order_is}
 use Rattle.cast_history.specs.Rules.Views.{decide, lead}
 use Rattle.cast_history.specs.Run.{before_event, after_event, IsRun}
 use Rattle.cast_history.specs.Lawful.{IsLawful, IsTyped}
@@ -124,10 +125,11 @@ counts_first s k l c =
 
 counts_set_order_by : (s : State) (g : GroupNo) (k : ℕ) → IsLawful s → CountsMembers s → CountsMembers (set_order_by s g k)
 counts_set_order_by s g k l c =
-    let content : Body = body.Order (record { first = place_after (order_of s g); ids = ids_to_list (unlisted s g k) }) in
-    counts_if (let_go (sending s g k content)) s (may_set_order s g k)
+    let content : Body = body.Order (places_of s g k) in
+    subst CountsMembers (sym (set_order_is s g k))
+    (counts_if (let_go (sending s g k content)) s (may_set_order s g k)
     (λ may. counts_let_go (sending s g k content) (counts_sending s g k content l c (and_parts (is_member ((s.process k).standing g)) _ may).0))
-    (λ _. c)
+    (λ _. c))
 
 pub counts_set_order : (s : State) (g : GroupNo) → IsLawful s → CountsMembers s → CountsMembers (set_order s g)
 counts_set_order s g l c =

@@ -20,14 +20,15 @@ use Rattle.cast_model.specs.declared.home.Home.{Home}
 use Rattle.cast_model.specs.Phase.{is_idle}
 use Rattle.cast_model.specs.Group.{holder_at, sites_of}
 use Rattle.cast_model.specs.Home.{is_empty, may_decide, decided}
-use Rattle.cast_history.specs.State.{State, serials, let_go, set_home, receiving}
+use Rattle.cast_history.specs.State.{State, serials, let_go, set_home, receiving, with_delivery}
 use Rattle.cast_history.specs.Rules.Requests.{is_home}
 use Rattle.cast_history.specs.History.{history}
 use Rattle.cast_history.specs.Rules.Room.{may_order}
 use Rattle.cast_history.specs.Order.{unlisted, is_ready_for}
-use Rattle.cast_history.specs.Effects.{sending_message, with_delivery}
+use Rattle.cast_history.specs.Effects.{sending_message}
 use Rattle.cast_history.specs.Rules.Views.{install_frame, send_install, decide, lead}
-use Rattle.cast_history.specs.Rest.{deliver_first, deliver_all, settle, may_set_order, set_order_by, set_order, set_orders, pass, RestsAt}
+use Rattle.cast_history.specs.Rest.{deliver_first, deliver_all, settle, set_order_by, set_order, set_orders, pass, RestsAt}
+use Rattle.cast_history.proofs.Setting.{may_set_order, set_order_is}
 use Rattle.cast_history.specs.Endings.{total, one_if, left, rank, ranks, undelivered, to_list_in, to_list, to_do, Moves, PassMoves, EachComesToRest, RestIsOne}
 use Rattle.cast_history.proofs.Alikes.{Alike, alike_then, alike_fold, alike_emitted, alike_let_go, alike_sending}
 use Rattle.cast_history.proofs.Totals.{In, total_le, total_lt, total_more, left_push, left_found, left_more}
@@ -157,9 +158,10 @@ moves_set_order_by s g p at holder =
     let m : Message = order_message s g p.serial in
     let t : State = sending_message s p.serial m in
     let a : Alike (receiving s m) (let_go t) = alike_then (receiving s m) t (let_go t) (alike_sending s g p.serial m.body) (alike_let_go t) in
-    moves_if s (let_go t) s (may_set_order s g p.serial)
+    subst (Moves s) (sym (set_order_is s g p.serial))
+    (moves_if s (let_go t) s (may_set_order s g p.serial)
     (λ may. record { config = a.config; used = a.used; way = inr (subst (λ n. n < to_do s) (sym (to_do_alike (receiving s m) (let_go t) a)) (to_do_orders s g p at holder (has_unlisted s g p.serial may))) })
-    (moves_self s)
+    (moves_self s))
 
 moves_set_order : (s : State) (g : GroupNo) → In g s.config.groups → Moves s (set_order s g)
 moves_set_order s g at =

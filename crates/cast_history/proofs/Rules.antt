@@ -8,3 +8,4 @@ pub mod Requests
 pub mod Commands
 pub mod Views
 pub mod Frames
+pub mod Rest

@@ -1,24 +1,14 @@
--- What processes, messages, requests and views do to a state, and what is sent and pushed with it.
-use Rattle.std.specs.Prelude.{ℕ, ◌==◌, if◌then◌else◌, List, [], ◌∷◌, ◌++◌, Option, Some, None}
+-- What the rules of messages come to for a history.
+use Rattle.std.specs.Prelude.{ℕ}
 use Rattle.cast_types.specs.declared.names.GroupNo.{GroupNo}
-use Rattle.cast_types.specs.declared.names.Uid.{Uid}
-use Rattle.cast_types.specs.Names.{is_atomic}
-use Rattle.cast_types.specs.Sets.{set_at}
-use Rattle.cast_clock.specs.Times.{join}
 use Rattle.cast_message.specs.declared.message.Body.{Body}
-use Rattle.cast_message.specs.declared.message.Body.TheVariants as body
 use Rattle.cast_message.specs.declared.message.Message.{Message}
-use Rattle.cast_message.specs.Bodies.{kind_of}
-use Rattle.cast_message.specs.declared.client.CastKind.TheVariants as kind
-use Rattle.cast_message.specs.declared.client.Push.{Push}
-use Rattle.cast_message.specs.declared.client.Push.TheVariants as push
-use Rattle.cast_delay.specs.Ready.{Process}
-use Rattle.cast_history.specs.State.{State, local, set_process, pushing}
+use Rattle.cast_history.specs.State.{State, set_process}
+use Rattle.cast_history.specs.History.{history}
+use Rattle.cast_history.specs.Resting.{resting}
 use Rattle.cast_history.specs.Rules.Commands.{message_sent}
 use Rattle.cast_history.specs.Rules.Sending.{send_message}
-use Rattle.cast_history.specs.History.{history}
-
--- Messages
+use Rattle.cast_history.specs.Rules.Rest.{deliver}
 
 -- a member's next message of a group
 abbrev pub next_message : State → GroupNo → ℕ → Body → Message
@@ -32,27 +22,6 @@ sending_message s k m =
 abbrev pub sending : State → GroupNo → ℕ → Body → State
 sending s g k content = sending_message s k (next_message s g k content)
 
--- what a program is told of a message that its process delivers: of a set-order message nothing
-abbrev pub told_of : Uid → Body → Option Push
-told_of id (body.Causal payload) = Some (push.Deliver id kind.Causal payload)
-told_of id (body.Atomic payload) = Some (push.Deliver id kind.Atomic payload)
-told_of id (body.Order sequence) = None
-
--- the ABCASTs that processes delivered, once one has delivered a message
-abbrev pub abcasts_with : State → ℕ → Message → ℕ → List Uid
-abcasts_with s k m =
-    if is_atomic (kind_of m.body) then set_at (λ a b. a == b) s.abcasts k (s.abcasts k ++ m.id ∷ []) else s.abcasts
-
--- a process has delivered a message
-abbrev pub with_delivery : State → ℕ → Message → State
-with_delivery s k m =
-    let p : Process = s.process k in
-    record (set_process s k (record p { time = join p.time m.times; delivered = p.delivered ++ m.id ∷ [] })) {
-      abcasts = abcasts_with s k m;
-      deliveries = s.deliveries ++ (local s k, m.id) ∷ [];
-    }
-
 -- a process delivers a message, and the program is told
 abbrev pub delivering : State → ℕ → Message → State
-delivering s k m =
-    elim (told_of m.id m.body) [ Some p ↦ pushing (with_delivery s k m) k p | None ↦ with_delivery s k m ]
+delivering = deliver history resting

@@ -5,7 +5,7 @@ use Rattle.cast_types.specs.declared.names.GroupNo.{GroupNo}
 use Rattle.cast_types.specs.declared.names.Standing.TheVariants.{Member}
 use Rattle.cast_types.specs.Names.{group_eq, proc_eq}
 use Rattle.cast_types.specs.Sets.{is_among, set_at}
-use Rattle.cast_clock.specs.Times.{join, entering}
+use Rattle.cast_clock.specs.Times.{entering}
 use Rattle.cast_message.specs.declared.client.Push.TheVariants as push
 use Rattle.cast_message.specs.Membership.{Membership}
 use Rattle.cast_delay.specs.Ready.{Process}

@@ -4,6 +4,7 @@ pub mod Owing
 pub mod Entering
 pub mod History
 pub mod Order
+pub mod Resting
 pub mod Effects
 pub mod Rest
 pub mod Step

@@ -9,3 +9,5 @@ pub mod Requests
 pub mod Commands
 pub mod Views
 pub mod Frames
+pub mod Order
+pub mod Rest

@@ -9,7 +9,7 @@ use Rattle.cast_types.specs.declared.names.Standing.{Standing}
 use Rattle.cast_types.specs.declared.names.Standing.TheVariants.{Outside}
 use Rattle.cast_types.specs.Names.{site_eq, group_eq, proc_eq, uid_eq, is_atomic}
 use Rattle.cast_types.specs.Sets.{is_among, set_at}
-use Rattle.cast_clock.specs.Times.{no_time}
+use Rattle.cast_clock.specs.Times.{no_time, join}
 use Rattle.cast_message.specs.declared.message.Message.{Message}
 use Rattle.cast_message.specs.Bodies.{kind_of}
 use Rattle.cast_message.specs.declared.site.SiteFrame.{SiteFrame}
@@ -130,6 +130,20 @@ held s = length s.kept
 -- a message is received
 abbrev pub receiving : State → Message → State
 receiving s m = record s { got = s.got ++ m ∷ []; kept = s.kept ++ m ∷ [] }
+
+-- the ABCASTs that processes delivered, once one has delivered a message
+abbrev pub abcasts_with : State → ℕ → Message → ℕ → List Uid
+abcasts_with s k m =
+    if is_atomic (kind_of m.body) then set_at (λ a b. a == b) s.abcasts k (s.abcasts k ++ m.id ∷ []) else s.abcasts
+
+-- a process has delivered a message
+abbrev pub with_delivery : State → ℕ → Message → State
+with_delivery s k m =
+    let p : Process = s.process k in
+    record (set_process s k (record p { time = join p.time m.times; delivered = p.delivered ++ m.id ∷ [] })) {
+      abcasts = abcasts_with s k m;
+      deliveries = s.deliveries ++ (local s k, m.id) ∷ [];
+    }
 
 -- the kept message of an id
 abbrev pub message_of : State → Uid → Option Message

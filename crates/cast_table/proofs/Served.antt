@@ -68,8 +68,8 @@ pushed_in_order pushed (s ∷ sessions) a (suc n) long each =
 -- a domain pushed what the history pushed that it stands for
 all_pushed : (d : Domain) (part : Part) (end : State) → Means d part end → map (λ (s : Session). s.pushed) (sessions_of d) ≡ map (λ k. (end.session k).pushed) (serials end)
 all_pushed d part end means =
-    pushed_in_order (λ k. (end.session k).pushed) (sessions_of d) 1 end.used means.fits.given
-    (λ i. let next : 1 + i ≡ suc i = omega arith in ap (λ k. (end.session k).pushed) next ∙ ap (λ (s : Session). s.pushed) (means.fits.sessions (suc i)))
+    pushed_in_order (λ k. (end.session k).pushed) (sessions_of d) 1 end.used means.fits.opened.given
+    (λ i. let next : 1 + i ≡ suc i = omega arith in ap (λ k. (end.session k).pushed) next ∙ ap (λ (s : Session). s.pushed) (means.fits.opened.each (suc i)))
 
 -- what is sent for a domain, and its part of what is shared, stay
 abbrev pub Keeps : DomainNo → Lent → Lent → Type 0
@@ -177,7 +177,7 @@ module _ (here : SiteNo) (events : List Event) (answers : List (Result Taken Fau
   -- the frames of a step bear the domain's number
   step_frames : (t : State) (taken : Taken) (step : IsStepOf t e taken new (part_in after old) before.outs after.outs) (r : DomainNo) → number_of new ≡ number_of old → frames_of r after.outs.frames ≡ frames_of r before.outs.frames ++ frames_of r (tagged s.config.domain step.end.frames)
   step_frames t taken step r number =
-      let named : step.end.config.domain ≡ s.config.domain = sym (ap (λ (k : DomainConfig). k.domain) step.means.fits.config) ∙ number ∙ so_far.served.domain in
+      let named : step.end.config.domain ≡ s.config.domain = sym (ap (λ c. c.config.domain) step.means.fits.core) ∙ number ∙ so_far.served.domain in
       ap (λ (o : Outs). frames_of r o.frames) step.outs
       ∙ frames_more r before.outs.frames (tagged step.end.config.domain step.end.frames)
       ∙ ap (λ d. frames_of r before.outs.frames ++ frames_of r (tagged d step.end.frames)) named

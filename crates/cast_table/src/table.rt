@@ -3,7 +3,7 @@ ghost use Rattle.std.specs.List.{AllZip, find, insert};
 ghost use Rattle.std.specs.Vec.{vec_capacity};
 ghost use Rattle.cast_domain.specs.Records.{number_of};
 ghost use Rattle.cast_model.specs.Events.{domain_of};
-ghost use Rattle.cast_table.specs.Tables.{AreApplied, AreTurns, IsApplied, IsAppliedAt, IsLeastOf, IsNew, IsTicked, IsTurn, IsUnchanged, NotesHalts, NotesOne, SharesNothing, answer_in_turn, by_number, domain_eq, domains_of, halted_by, lending, lent, lower, picked, place_above, place_for, place_named, stopped, without};
+ghost use Rattle.cast_table.specs.Tables.{AreApplied, AreTurns, IsApplied, IsAppliedTo, IsLeastOf, IsNew, IsTicked, IsTurn, IsUnchanged, NotesHalts, NotesOne, SharesNothing, answer_in_turn, by_number, domain_eq, domains_of, halted_by, lending, lent, lower, picked, place_above, place_for, place_named, stopped, without};
 ghost use Rattle.cast_table.specs.Replays.{AnswersNoDomain, IsReplay, are_distinct, frames_of, given_of, have_rising_groups, lacks_memory};
 
 use cast_domain::{Domain, Session, Shared};
@@ -58,7 +58,7 @@ impl Table {
         event: &Event,
         outs: &mut Outs,
     ) -> Result<Taken, Fault>
-        ensures applied { IsAppliedAt (place_named number (domains_of self.old)) result event.now (domains_of self.old) (domains_of self.new) (lent self.old outs.old) (lent self.new outs.new) }
+        ensures applied { IsAppliedTo (Some number) result event.now (domains_of self.old) (domains_of self.new) (lent self.old outs.old) (lent self.new outs.new) }
         ensures unchanged { IsUnchanged result self.old self.new outs.old outs.new }
         ensures halted { NotesOne result number outs.old.halted outs.new.halted }
     {

@@ -16,7 +16,7 @@ use Rattle.cast_view.specs.declared.phase.Answer.{Answer}
 use Rattle.cast_view.specs.declared.phase.Decision.{Decision}
 use Rattle.cast_view.specs.declared.phase.Phase.{Phase}
 use Rattle.cast_view.specs.declared.phase.Phase.TheVariants.{Idle, Gathering, Installing}
-use Rattle.cast_flush.specs.Reports.{has_report, is_complete, cut_from, wanting, wants_of}
+use Rattle.cast_flush.specs.Reports.{Reports, has_report, is_complete, cut_from, wanting, wants_of}
 use Rattle.cast_flush.specs.Decisions.{order_from}
 
 pub record Home : Type 0 where
@@ -223,13 +223,17 @@ decided_holder h members =
 abbrev pub decided_members : Home → Membership
 decided_members h = record { list = decided_list h; holder = decided_holder h (decided_list h) }
 
+-- what goes with the next view
+abbrev pub decision_of : Home → Reports → Decision
+decision_of h reports =
+    let cut : List Entry = cut_from h.members.list reports in
+    record { cut = cut; tail = order_from cut reports; answers = h.answers }
+
 -- the phase after the decision: the sites of the new view, and those that were awaited, are to install it
 abbrev pub decided_phase : Home → List Proc → Phase → Phase
 decided_phase h members Idle = Idle
 decided_phase h members (Gathering awaited reports bodies) =
-    let cut : List Entry = cut_from h.members.list reports in
-    installing (with_items site_cmp (sites_of members) awaited)
-    (record { cut = cut; tail = order_from cut reports; answers = h.answers }) bodies
+    installing (with_items site_cmp (sites_of members) awaited) (decision_of h reports) bodies
 decided_phase h members (Installing waiting decision bodies) = Installing waiting decision bodies
 
 -- the next view is decided. Joins from suspected sites stay for the one after it

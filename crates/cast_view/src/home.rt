@@ -1,6 +1,6 @@
-ghost use Rattle.std.specs.Prelude.{◌≡◌, ◌+◌, ◌<◌, ◌≤◌, false, IfOk, OnOk, IsTrue, List, length};
+ghost use Rattle.std.specs.Prelude.{◌≡◌, ◌+◌, ◌<◌, ◌≤◌, false, IfOk, OnOk, IsTrue, length};
 ghost use Rattle.cast_types.specs.declared.limits.TheConstants.{MAX_NUMBER};
-ghost use Rattle.cast_types.specs.Names.{Entry, proc_cmp, proc_eq, site_cmp, site_eq};
+ghost use Rattle.cast_types.specs.Names.{proc_cmp, proc_eq, site_cmp, site_eq};
 ghost use Rattle.cast_types.specs.Sets.{with_item, with_items, without, apart_from};
 ghost use Rattle.cast_message.specs.Membership.{is_held};
 ghost use Rattle.cast_flush.specs.Reports.{cut_from, wanting};
@@ -43,7 +43,7 @@ impl Model for HomeSide {
 }
 
 impl HomeSide {
-    ghost use Rattle.cast_view.specs.Home.{first_home, answer_of, answer_to, is_refused, is_crowded, expected, stays, marked_leaving, with_suspect, changed_by, after_request, after_ask, after_suspicion, may_start, after_start, takes_report, after_reply, after_body, bodies_of, wants_in, may_decide, decided_list, decided_holder, decided_phase, decided, has_next_number, after_decision, takes_installed, after_installed};
+    ghost use Rattle.cast_view.specs.Home.{first_home, answer_of, decision_of, answer_to, is_refused, is_crowded, expected, stays, marked_leaving, with_suspect, changed_by, after_request, after_ask, after_suspicion, may_start, after_start, takes_report, after_reply, after_body, bodies_of, wants_in, may_decide, decided_list, decided_holder, decided_phase, decided, has_next_number, after_decision, takes_installed, after_installed};
 
     /// No view, nothing to change and no requests.
     pub fn new(alloc: Global) -> Self
@@ -452,7 +452,7 @@ impl HomeSide {
 
     // What goes with the next view.
     fn decision(&self, reports: &[(SiteNo, Report)]) -> Result<Decision, NoMemory>
-        ensures { let cut : List Entry = cut_from self.now.members.list reports.now in IfOk result (λ d. d ≡ record { cut = cut; tail = order_from cut reports.now; answers = self.now.answers }) }
+        ensures { IfOk result (λ d. d ≡ decision_of self.now reports.now) }
     {
         let alloc = self.joins.alloc();
         let cut = cut_from(alloc, self.members.list(), reports)?;

@@ -1,5 +1,6 @@
 -- A domain at its site, as the rules see it: what they ask of it, and what they do to it. A rule is written once, over this, and holds
--- of whatever gives it: of the history of a domain, and of the records that stand for a history.
+-- of whatever gives it: of the history of a domain, and of the records that stand for a history. The rules of what a domain does of itself
+-- after an event ask and do more, and that stands apart: what is ready follows from what the first rules tell of the order.
 use Rattle.std.specs.Prelude.{ℕ, Bool, List, Option}
 use Rattle.cast_types.specs.declared.names.SiteNo.{SiteNo}
 use Rattle.cast_types.specs.declared.names.GroupNo.{GroupNo}
@@ -12,6 +13,7 @@ use Rattle.cast_message.specs.declared.site.Change.{Change}
 use Rattle.cast_message.specs.declared.site.SiteFrame.{SiteFrame}
 use Rattle.cast_message.specs.declared.client.Push.{Push}
 use Rattle.cast_message.specs.Membership.{Membership}
+use Rattle.cast_message.specs.Sequence.{Sequence}
 use Rattle.cast_timer.specs.declared.key.OwedKey.{OwedKey}
 use Rattle.cast_model.specs.declared.config.DomainConfig.{DomainConfig}
 use Rattle.cast_model.specs.declared.group.Group.{Group}
@@ -92,3 +94,20 @@ pub record Site (S H : Type 0) : Type 0 where
   -- a group has a new view, with these members; the local processes that it takes in enter it, and are told: a member, and one whose request to
   -- join was applied, by the number of the last one of this site that was
   pub enter_view : S → H → ℕ → Membership → ℕ → S
+
+-- what a domain does of itself, until nothing changes
+pub record Resting (S H : Type 0) : Type 0 where
+  -- the serials that were given, in their order
+  pub serials : S → List ℕ
+  -- so many deliveries of one process are all that it can make
+  pub turns : S → ℕ
+  -- the first message that is ready for a local process
+  pub next_ready : S → ℕ → Option Message
+  -- what a local process, the holder of a group's view, has to list, at the places after those that are known
+  pub next_places : S → H → ℕ → Option Sequence
+  -- a local process has delivered a message, the first one that was ready for it
+  pub note_delivered : S → ℕ → Message → S
+  -- the holder lists what it has to list, in the message that it sends now
+  pub note_listed : S → H → ℕ → S
+  -- messages that are free are let go
+  pub let_go : S → S

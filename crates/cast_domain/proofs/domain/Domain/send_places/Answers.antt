@@ -5,7 +5,7 @@ use Rattle.cast_delay.specs.declared.row.Fact.TheVariants as fact
 use Rattle.cast_order.specs.Log.{assigned, change_log}
 use Rattle.cast_history.specs.Rules.Sending.{send_message}
 use Rattle.cast_domain.specs.Records.{records_in}
-use Rattle.cast_domain.specs.Calls.{record_at, records, settled_in, tell_in, time_of}
+use Rattle.cast_domain.specs.Calls.{local_in, record_at, records, settled_in, tell_in, time_of}
 use Rattle.cast_domain.proofs.Loops.{seen_as}
 use Rattle.cast_domain.proofs.domain.Domain.send_places.Goals as goal
 
@@ -14,25 +14,27 @@ returns-clause-made c =
     let d = c.args.self.now in
     let o = c.args.outs.now in
     let r = records_in d c.args.shared.now o in
-    let p = c.args.holder in
+    let k = c.args.serial in
+    let p = local_in r k in
+    let own : c.process-holder.result ≡ p = c.process-holder.ensures in
     let i = c.args.place in
     let name : c.record.result.now.name ≡ (record_at r.groups i).name = ap (λ x. x.name) c.record.ensures in
     let view : c.record-2.result.now.here.number ≡ (record_at r.groups i).here.number = ap (λ x. x.here.number) c.record-2.ensures in
     let time : c.args.time ≡ bumped (time_of r.delay p) (record_at r.groups i).name p = c.requires.raised in
-    let count : c.count-count.result ≡ count_in (bumped (time_of r.delay p) (record_at r.groups i).name p) (record_at r.groups i).name p = c.count-count.ensures ∙ λ j. count_in (time j) (name j) p in
-    let settled : c.settled-settled.result ≡ settled_in r (record_at r.groups i).name (record_at r.groups i).here.number p = c.settled-settled.ensures o r.part ∙ λ j. settled_in r (name j) (view j) p in
+    let count : c.count-count.result ≡ count_in (bumped (time_of r.delay p) (record_at r.groups i).name p) (record_at r.groups i).name p = c.count-count.ensures ∙ λ j. count_in (time j) (name j) (own j) in
+    let settled : c.settled-settled.result ≡ settled_in r (record_at r.groups i).name (record_at r.groups i).here.number p = c.settled-settled.ensures o r.part ∙ λ j. settled_in r (name j) (view j) (own j) in
     let noted : c.note.new.self ≡ change_log (record_at r.groups i).name (assigned (count_in (bumped (time_of r.delay p) (record_at r.groups i).name p) (record_at r.groups i).name p) (settled_in r (record_at r.groups i).name (record_at r.groups i).here.number p)) r.orders =
     c.in_ok-note.ensures ∙ λ j. change_log (name j) (assigned (count j) (settled j)) r.orders in
-    let told : records_in c.tell.new.self c.args.shared.now o ≡ tell_in (record r { orders = c.note.new.self }) p (fact.Time c.args.time) =
+    let told : records_in c.tell.new.self c.args.shared.now o ≡ tell_in (record r { orders = c.note.new.self }) c.process-holder.result (fact.Time c.args.time) =
     seen_as (record d { orders = c.note.new.self }) c.tell.new.self c.in_ok-tell.ensures.kept c.args.shared.now o ∙ c.in_ok-tell.ensures.made o r.part in
     c.in_ok-send_message.ensures.made
     ∙ (λ j. send_message records (told j) (record {
-      id = record { group = c.record.result.now.name; view = c.record-2.result.now.here.number; proc = p; count = c.count-count.result };
+      id = record { group = c.record.result.now.name; view = c.record-2.result.now.here.number; proc = c.process-holder.result; count = c.count-count.result };
       times = c.args.stamp;
       body = body.Order c.args.places;
     }))
-    ∙ (λ j. send_message records (tell_in (record r { orders = noted j }) p (fact.Time (time j))) (record {
-      id = record { group = name j; view = view j; proc = p; count = count j };
+    ∙ (λ j. send_message records (tell_in (record r { orders = noted j }) (own j) (fact.Time (time j))) (record {
+      id = record { group = name j; view = view j; proc = own j; count = count j };
       times = (c.requires.stamped ∙ time) j;
       body = body.Order c.args.places;
     }))

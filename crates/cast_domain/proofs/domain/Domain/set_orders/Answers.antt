@@ -2,7 +2,8 @@ use Rattle.std.proofs.Common.{◌<◌, ◌+◌, ◌-◌, ◌∙◌, ap, length, 
 use Rattle.std.specs.List.{fold, range_with_len}
 use Rattle.std.proofs.lemmas.Bool.{or_parts}
 use Rattle.cast_domain.specs.Records.{records_in}
-use Rattle.cast_domain.specs.Calls.{set_order_in}
+use Rattle.cast_history.specs.Rules.Order.{set_order}
+use Rattle.cast_domain.specs.Calls.{records, resting_records}
 use Rattle.cast_domain.proofs.Loops.{keeps_then, others_then, fold_more}
 use Rattle.cast_domain.proofs.domain.Domain.set_orders.Goals as goal
 
@@ -16,8 +17,8 @@ loop-place-preserved c =
       same = keeps_then _ _ _ c.loop-place.invariant.same c.in_ok-set.ensures.same;
       others = others_then c.args.self.now c.loop-place.self _ _ _ c.loop-place.invariant.same c.loop-place.invariant.others c.in_ok-set.ensures.others;
       left =
-          ap (λ x. fold set_order_in x (range_with_len (i + 1) (n - (i + 1)))) c.in_ok-set.ensures.made
-          ∙ fold_more set_order_in r i n within ∙ c.loop-place.invariant.left;
+          ap (λ x. fold (set_order records resting_records) x (range_with_len (i + 1) (n - (i + 1)))) c.in_ok-set.ensures.made
+          ∙ fold_more (set_order records resting_records) r i n within ∙ c.loop-place.invariant.left;
       still = λ e.
           let parts = or_parts c.loop-place.changed c.in_ok-set.set e in
           c.in_ok-set.ensures.still parts.1 ∙ c.loop-place.invariant.still parts.0;

@@ -1,9 +1,10 @@
 use Rattle.std.proofs.Common.{◌<◌, ◌+◌, ◌-◌, ◌∙◌, ap, arith}
 use Rattle.std.specs.List.{fold, range_with_len}
 use Rattle.std.proofs.lemmas.Bool.{or_parts}
+use Rattle.cast_history.specs.Rules.Rest.{deliver_all}
 use Rattle.cast_domain.specs.Records.{records_in}
-use Rattle.cast_domain.specs.Calls.{deliver_all_in, settle_at}
-use Rattle.cast_domain.proofs.Loops.{keeps_then, others_then, fold_more}
+use Rattle.cast_domain.specs.Calls.{records, resting_records}
+use Rattle.cast_domain.proofs.Loops.{keeps_then, others_then, fold_serial}
 use Rattle.cast_domain.proofs.domain.Domain.settle.Goals as goal
 
 pub loop-earlier-preserved : goal.loop-earlier-preserved
@@ -16,8 +17,8 @@ loop-earlier-preserved c =
       same = keeps_then _ _ _ c.loop-earlier.invariant.same c.in_ok-delivered.ensures.same;
       others = others_then c.args.self.now c.loop-earlier.self _ _ _ c.loop-earlier.invariant.same c.loop-earlier.invariant.others c.in_ok-delivered.ensures.others;
       left =
-          ap (λ x. fold settle_at x (range_with_len (i + 1) (n - (i + 1)))) (c.in_ok-delivered.ensures.made ∙ ap (deliver_all_in r) c.process-process.ensures)
-          ∙ fold_more settle_at r i n within ∙ c.loop-earlier.invariant.left;
+          ap (λ x. fold (deliver_all records resting_records) x (range_with_len (i + 1 + 1) (n - (i + 1)))) c.in_ok-delivered.ensures.made
+          ∙ fold_serial (deliver_all records resting_records) r i n within ∙ c.loop-earlier.invariant.left;
       still = λ e.
           let parts = or_parts c.loop-earlier.changed c.in_ok-delivered.delivered e in
           c.in_ok-delivered.ensures.still parts.1 ∙ c.loop-earlier.invariant.still parts.0;

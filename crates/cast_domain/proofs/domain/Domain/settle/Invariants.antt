@@ -1,6 +1,7 @@
-use Rattle.std.proofs.Common.{◌≡◌, ◌-◌, false}
+use Rattle.std.proofs.Common.{◌≡◌, ◌+◌, ◌-◌, false}
 use Rattle.std.specs.List.{fold, range_with_len}
-use Rattle.cast_domain.specs.Calls.{settle_at, settle_in}
+use Rattle.cast_history.specs.Rules.Rest.{deliver_all, settle}
+use Rattle.cast_domain.specs.Calls.{records, resting_records}
 use Rattle.cast_domain.specs.Records.{Keeps, records_in}
 use Rattle.cast_domain.specs.Shared.{LeavesOthers}
 use Rattle.cast_domain.proofs.domain.Domain.settle.Given as goal
@@ -10,6 +11,6 @@ abbrev pub invariant-loop-earlier : goal.invariant-loop-earlier
 invariant-loop-earlier l = record {
   same : Keeps l.fn.self l.self;
   others : LeavesOthers l.fn.self.config.domain l.fn.shared l.shared;
-  left : fold settle_at (records_in l.self l.shared l.outs) (range_with_len l.earlier (l.fn.self.used - l.earlier)) ≡ settle_in (records_in l.fn.self l.fn.shared l.fn.outs);
+  left : fold (deliver_all records resting_records) (records_in l.self l.shared l.outs) (range_with_len (l.earlier + 1) (l.fn.self.used - l.earlier)) ≡ settle records resting_records (records_in l.fn.self l.fn.shared l.fn.outs);
   still : l.changed ≡ false → records_in l.self l.shared l.outs ≡ records_in l.fn.self l.fn.shared l.fn.outs;
 }

@@ -1,0 +1,51 @@
+-- By what a domain does of itself a site that follows another goes on standing for it.
+use Rattle.std.proofs.Common.{◌≡◌, ℕ, List, [], ◌∷◌, Option, Some, None, refl, sym, subst, inl, inr}
+use Rattle.std.specs.List.{fold}
+use Rattle.cast_types.specs.declared.names.Proc.{Proc}
+use Rattle.cast_model.specs.Group.{holder_at}
+use Rattle.cast_history.specs.Rules.Interface.{Site, Resting}
+use Rattle.cast_history.specs.Rules.Order.{set_order_by, set_order, set_orders}
+use Rattle.cast_history.specs.Rules.Rest.{deliver_all, settle, pass}
+use Rattle.cast_history.proofs.Totals.{In}
+use Rattle.cast_history.proofs.Rules.Follows.{FollowsAll, each_place}
+use Rattle.cast_history.proofs.Rules.Views.{lead_follows}
+
+-- beside all that other rules ask and do: both have the same serials, and stand for each other after all deliveries of one process, and
+-- after what the holder of one group lists
+pub record FollowsToRest {R S H K : Type 0} (a : Site R H) (b : Site S K) (x : Resting R H) (y : Resting S K) (fits : R → S → Type 0) (stands : H → K → Type 0) : Type 0 where
+  pub all : FollowsAll a b fits stands
+  pub serials : (r : R) (s : S) → fits r s → x.serials r ≡ y.serials s
+  pub same_serials : (s : S) (k : ℕ) → y.serials (deliver_all b y s k) ≡ y.serials s
+  pub delivers : (r : R) (s : S) → fits r s → (k : ℕ) → In k (y.serials s) → fits (deliver_all a x r k) (deliver_all b y s k)
+  pub orders : (r : R) (s : S) → fits r s → (h : H) (l : K) → stands h l → (p : Proc) → holder_at (b.here s) (b.group s l) ≡ Some p → fits (set_order_by a x r h p.serial) (set_order_by b y s l p.serial)
+
+module _ {R S H K : Type 0} (a : Site R H) (b : Site S K) (x : Resting R H) (y : Resting S K) (fits : R → S → Type 0) (stands : H → K → Type 0) (rests : FollowsToRest a b x y fits stands) where
+  each_delivers : (ks : List ℕ) (r : R) (s : S) → fits r s → ((k : ℕ) → In k ks → In k (y.serials s)) → fits (fold (deliver_all a x) r ks) (fold (deliver_all b y) s ks)
+  each_delivers [] r s f among = f
+  each_delivers (k ∷ ks) r s f among =
+      each_delivers ks (deliver_all a x r k) (deliver_all b y s k) (rests.delivers r s f k (among k (inl refl)))
+      (λ j at. subst (In j) (sym (rests.same_serials s k)) (among j (inr at)))
+
+  settle_follows : (r : R) (s : S) → fits r s → fits (settle a x r) (settle b y s)
+  settle_follows r s f =
+      subst (λ ks. fits (fold (deliver_all a x) r ks) (settle b y s)) (sym (rests.serials r s f))
+      (each_delivers (y.serials s) r s f (λ k at. at))
+
+  set_order_follows : (r : R) (s : S) → fits r s → (h : H) (l : K) → stands h l → fits (set_order a x r h) (set_order b y s l)
+  set_order_follows r s f h l at =
+      let here = rests.all.follows.here r s f in
+      let group = rests.all.follows.group r s f h l at in
+      subst (λ o. fits (elim o [ Some p ↦ set_order_by a x r h p.serial | None ↦ r ]) (set_order b y s l)) (sym (λ i. holder_at (here i) (group i)))
+      (held (holder_at (b.here s) (b.group s l)) refl)
+    where
+      held : (o : Option Proc) → holder_at (b.here s) (b.group s l) ≡ o → fits (elim o [ Some p ↦ set_order_by a x r h p.serial | None ↦ r ]) (elim o [ Some p ↦ set_order_by b y s l p.serial | None ↦ s ])
+      held (Some p) is = rests.orders r s f h l at p is
+      held None is = f
+
+  pub pass_follows : (r : R) (s : S) → fits r s → fits (pass a x r) (pass b y s)
+  pass_follows r s f =
+      let t : R = settle a x r in
+      let u : S = settle b y s in
+      let settled : fits t u = settle_follows r s f in
+      lead_follows a b fits stands rests.all (set_orders a x t) (set_orders b y u)
+      (each_place fits stands (set_order a x) (set_order b y) set_order_follows (a.places t) (b.places u) (rests.all.places t u settled) t u settled)

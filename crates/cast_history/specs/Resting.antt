@@ -1,0 +1,30 @@
+-- What a history does of itself after an event, as the rules see it.
+use Rattle.std.specs.Prelude.{ℕ, not, ◌&&◌, if◌then◌else◌, length, Option, Some, None}
+use Rattle.std.specs.List.{find}
+use Rattle.cast_types.specs.declared.names.GroupNo.{GroupNo}
+use Rattle.cast_message.specs.Sequence.{Sequence}
+use Rattle.cast_order.specs.Order.{ids_to_list, place_after}
+use Rattle.cast_model.specs.Home.{is_empty}
+use Rattle.cast_history.specs.State.{State, serials, with_delivery, let_go}
+use Rattle.cast_history.specs.Order.{order_of, unlisted, has_place, is_ready_for}
+use Rattle.cast_history.specs.Rules.Interface.{Resting}
+
+-- a process of this site lists the first of the ABCASTs that it has to list, at the places after the known order
+abbrev pub places_of : State → GroupNo → ℕ → Sequence
+places_of s g k = record { first = place_after (order_of s g); ids = ids_to_list (unlisted s g k) }
+
+-- where there are some, and a place for them
+abbrev pub next_places : State → GroupNo → ℕ → Option Sequence
+next_places s g k = if not (is_empty (unlisted s g k)) && has_place (order_of s g) then Some (places_of s g k) else None
+
+-- what a process listed is read from the messages that it sent; it delivers no message twice
+abbrev pub resting : Resting State GroupNo
+resting = record {
+  serials = serials;
+  turns = λ s. length s.got;
+  next_ready = λ s k. find (is_ready_for s k) s.got;
+  next_places = next_places;
+  note_delivered = with_delivery;
+  note_listed = λ s g k. s;
+  let_go = let_go;
+}

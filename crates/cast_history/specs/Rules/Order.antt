@@ -1,0 +1,43 @@
+-- The rules of set-order messages: the holder of a group's view gives ABCASTs their places.
+use Rattle.std.specs.Prelude.{ℕ, Bool, ◌&&◌, if◌then◌else◌, Some, None}
+use Rattle.std.specs.List.{fold}
+use Rattle.std.specs.Option.{option_map_or}
+use Rattle.cast_clock.specs.Times.{bumped}
+use Rattle.cast_message.specs.declared.message.Body.TheVariants as body
+use Rattle.cast_message.specs.Sequence.{Sequence}
+use Rattle.cast_delay.specs.Ready.{is_member}
+use Rattle.cast_model.specs.Group.{holder_at}
+use Rattle.cast_history.specs.Rules.Interface.{Site, Resting}
+use Rattle.cast_history.specs.Rules.Room.{may_order}
+use Rattle.cast_history.specs.Rules.Sending.{send_message, may_raise}
+use Rattle.cast_history.specs.Rules.Commands.{named_here, message_sent}
+
+-- each rule is of the group that stands at h, and of the local process of serial k
+module _ {S H : Type 0} (d : Site S H) (q : Resting S H) where
+  -- the holder is a member, and there is room for one more set-order message
+  abbrev pub may_list : S → H → ℕ → Bool
+  may_list s h k = is_member (d.standing s k (d.name s h)) && may_order d s
+
+  -- the holder lists ABCASTs at these places in a set-order message
+  abbrev pub send_places : S → H → ℕ → Sequence → S
+  send_places s h k places =
+      send_message d
+      (d.note_time (q.note_listed s h k) k (bumped (d.time s k) (d.name s h) (named_here d s k)))
+      (message_sent d s k (d.name s h) h (body.Order places))
+
+  -- where its count may be raised; what is free then is let go
+  abbrev pub list_places : S → H → ℕ → Sequence → S
+  list_places s h k places =
+      if may_raise (d.time s k) (d.name s h) (named_here d s k) then q.let_go (send_places s h k places) else s
+
+  -- where it has some to list
+  abbrev pub set_order_by : S → H → ℕ → S
+  set_order_by s h k = if may_list s h k then option_map_or (list_places s h k) (q.next_places s h k) s else s
+
+  -- where it is a process of this site
+  abbrev pub set_order : S → H → S
+  set_order s h = elim (holder_at (d.here s) (d.group s h)) [ Some p ↦ set_order_by s h p.serial | None ↦ s ]
+
+  -- for each group
+  abbrev pub set_orders : S → S
+  set_orders s = fold set_order s (d.places s)
