@@ -10,7 +10,6 @@ use Rattle.cast_clock.specs.Times.{view_of, bumped}
 use Rattle.cast_message.specs.declared.client.CastKind.{CastKind}
 use Rattle.cast_message.specs.declared.site.Change.TheVariants as change
 use Rattle.cast_message.specs.Sequence.{Sequence}
-use Rattle.cast_order.specs.Log.{next_places}
 use Rattle.cast_delay.specs.Ready.{is_member, is_outside}
 use Rattle.cast_delay.specs.declared.row.Fact.TheVariants as fact
 use Rattle.cast_history.specs.Rules.Requests.{request}
@@ -19,7 +18,8 @@ use Rattle.cast_history.specs.Rules.Sending.{send_message, may_raise}
 use Rattle.cast_history.specs.Rules.Commands.{Attempt, join_at, message_sent, cast_at}
 use Rattle.cast_domain.specs.Records.{Records}
 use Rattle.cast_history.specs.Rules.Commands.{body_of}
-use Rattle.cast_domain.specs.Calls.{awaits_own_in, records, let_go_in, record_at, standing_of, time_of, local_in, tell_in, resting_records}
+use Rattle.cast_history.specs.Rules.Release as release
+use Rattle.cast_domain.specs.Calls.{awaits_own_in, records, record_at, standing_of, time_of, local_in, tell_in, resting_records}
 use Rattle.cast_history.specs.Rules.Order.{may_list, send_places, list_places, set_order_by}
 
 -- what a join does that is not refused
@@ -86,11 +86,11 @@ cast_unraised r k g cast payload i short member own room may =
     ∙ ap (λ b. if not b then (r, Some HeldFull) else (sent r k g cast payload i, None)) may
 
 -- what the holder's set-order message does that is sent
-pub places_made : (r : Records) (i k : ℕ) (q : Sequence) → may_list records resting_records r i k ≡ true → resting_records.next_places r i k ≡ Some q → may_raise (time_of r.delay (local_in r k)) (record_at r.groups i).name (local_in r k) ≡ true → set_order_by records resting_records r i k ≡ let_go_in (send_places records resting_records r i k q)
+pub places_made : (r : Records) (i k : ℕ) (q : Sequence) → may_list records resting_records r i k ≡ true → resting_records.next_places r i k ≡ Some q → may_raise (time_of r.delay (local_in r k)) (record_at r.groups i).name (local_in r k) ≡ true → set_order_by records resting_records r i k ≡ release.let_go records resting_records (send_places records resting_records r i k q)
 places_made r i k q may next raised =
     ap (λ b. if b then option_map_or (list_places records resting_records r i k) (resting_records.next_places r i k) r else r) may
     ∙ ap (λ o. option_map_or (list_places records resting_records r i k) o r) next
-    ∙ ap (λ b. if b then let_go_in (send_places records resting_records r i k q) else r) raised
+    ∙ ap (λ b. if b then release.let_go records resting_records (send_places records resting_records r i k q) else r) raised
 
 -- a holder that may list nothing changes nothing
 pub places_none : (r : Records) (i k : ℕ) → may_list records resting_records r i k ≡ false → set_order_by records resting_records r i k ≡ r
@@ -108,7 +108,7 @@ pub places_unraised : (r : Records) (i k : ℕ) (q : Sequence) → may_list reco
 places_unraised r i k q may next raised =
     ap (λ b. if b then option_map_or (list_places records resting_records r i k) (resting_records.next_places r i k) r else r) may
     ∙ ap (λ o. option_map_or (list_places records resting_records r i k) o r) next
-    ∙ ap (λ b. if b then let_go_in (send_places records resting_records r i k q) else r) raised
+    ∙ ap (λ b. if b then release.let_go records resting_records (send_places records resting_records r i k q) else r) raised
 
 -- a choice that gives nothing
 pub raised_none : {A : Type 0} (b : Bool) (x : A) → ◌≡◌ {A = Option (A × A)} None (if b then Some (x, x) else None) → b ≡ false

@@ -7,9 +7,10 @@ use Rattle.cast_model.specs.declared.event.Event.{Event}
 use Rattle.cast_model.specs.declared.event.Event.TheVariants as event
 use Rattle.cast_model.specs.declared.event.Taken.TheVariants as taken
 use Rattle.cast_history.specs.State.{State, was_given}
-use Rattle.cast_history.specs.Step.{opened, Effect, acted}
-use Rattle.cast_domain.specs.Records.{Records, answer_to}
-use Rattle.cast_domain.specs.Calls.{open_in, act_in}
+use Rattle.cast_history.specs.Step.{opening_next, acted, answered}
+use Rattle.cast_history.specs.Rules.Events as rules
+use Rattle.cast_domain.specs.Records.{Records}
+use Rattle.cast_domain.specs.Calls.{records, records_serials, open_in}
 use Rattle.cast_history.specs.Lawful.{IsLawful, IsTyped}
 use Rattle.cast_domain.specs.Fits.{Fits}
 use Rattle.cast_domain.proofs.Standing.{fits_open}
@@ -17,22 +18,17 @@ use Rattle.cast_domain.proofs.Framing.{fits_framed, fits_commanded}
 use Rattle.cast_domain.proofs.Following.{fits_tick}
 
 -- each event
-pub fits_acted : (r : Records) (s : State) (e : Event) → Fits r s → IsLawful s → IsTyped e → Fits (act_in r e) (acted s e).0
+pub fits_acted : (r : Records) (s : State) (e : Event) → Fits r s → IsLawful s → IsTyped e → Fits (rules.acted records records_serials r e) (acted s e)
 fits_acted r s (event.Open d) f l typed =
-    subst (λ n. Fits (if n == MAX_NUMBER then r else open_in r) (acted s (event.Open d)).0) (sym (ap (λ c. c.used) f.core))
-    (elim (s.used == MAX_NUMBER) as (λ b. (s.used == MAX_NUMBER) ≡ b → Fits (if b then r else open_in r) (if◌then◌else◌ {A = Effect} b (s, taken.Refused TooManySessions) (opened s, taken.Opened (s.used + 1))).0) [
-      | true ↦ λ _. f
-      | false ↦ λ _. fits_open r s f
-    ] refl)
+    subst (λ n. Fits (if n == MAX_NUMBER then r else open_in r) (acted s (event.Open d))) (sym (ap (λ c. c.used) f.core))
+    (elim (s.used == MAX_NUMBER) as (λ b. Fits (if b then r else open_in r) (if b then s else opening_next s)) [ true ↦ f | false ↦ fits_open r s f ])
 fits_acted r s (event.Command d k c) f l typed = fits_commanded r s f l k c
 fits_acted r s (event.Frame d from x) f l typed = fits_framed r s f l from x typed
 fits_acted r s (event.Tick t) f l typed = fits_tick r s f t
 
 -- and its answer
-pub answer_acted : (r : Records) (s : State) (e : Event) → Fits r s → answer_to r.used e ≡ (acted s e).1
-answer_acted r s (event.Open d) f =
-    subst (λ n. answer_to n (event.Open d) ≡ (acted s (event.Open d)).1) (sym (ap (λ c. c.used) f.core))
-    (elim (s.used == MAX_NUMBER) as (λ b. (if b then taken.Refused TooManySessions else taken.Opened (s.used + 1)) ≡ (if◌then◌else◌ {A = Effect} b (s, taken.Refused TooManySessions) (opened s, taken.Opened (s.used + 1))).1) [ true ↦ refl | false ↦ refl ])
+pub answer_acted : (r : Records) (s : State) (e : Event) → Fits r s → rules.answered records records_serials r e ≡ answered s e
+answer_acted r s (event.Open d) f = ap (λ n. if n == MAX_NUMBER then taken.Refused TooManySessions else taken.Opened (n + 1)) (ap (λ c. c.used) f.core)
 answer_acted r s (event.Command d k c) f = ap (λ b. if b then taken.Nothing else taken.Refused NotOpen) (ap (λ n. was_given n k) (ap (λ c. c.used) f.core) ∙ sym (f.opened.all_open k))
 answer_acted r s (event.Frame d from x) f = refl
 answer_acted r s (event.Tick t) f = refl

@@ -25,9 +25,11 @@ use Rattle.cast_delay.proofs.Queues.{forget_fits, awaited_by}
 use Rattle.cast_stable.proofs.Meanings.{stable_meant}
 use Rattle.cast_domain.specs.declared.record.GroupRecord.{GroupRecord}
 use Rattle.cast_model.specs.Group.{has_view, is_current}
-use Rattle.cast_history.specs.State.{State, local, others_of, is_free, local_members, let_go, gate_of}
+use Rattle.cast_history.specs.State.{State, local, others_of, local_members, gate_of}
+use Rattle.cast_history.specs.Rest.{is_free, let_go}
 use Rattle.cast_domain.specs.Records.{Records}
-use Rattle.cast_domain.specs.Calls.{place_in, record_at, is_current_in, is_free_in, release_in, let_go_in}
+use Rattle.cast_history.specs.Rules.Release as release
+use Rattle.cast_domain.specs.Calls.{place_in, record_at, is_current_in, release_in, records, resting_records}
 use Rattle.cast_history.specs.Lawful.{IsLawful}
 use Rattle.cast_domain.specs.Fits.{process_named, Fits}
 use Rattle.cast_history.proofs.Totals.{In}
@@ -146,7 +148,7 @@ current_same r s fits l u =
       | None ↦ λ is. sym (ap (λ b. b && ((s.group u.group).number == u.view)) (false_from_ne_true (has_view (s.group u.group)) (λ seen. false≢true (sym (place_none r s fits u.group is) ∙ l.listed u.group seen))))
     ] refl
 
-pub free_same : (r : Records) (s : State) → Fits r s → IsLawful s → (u : Uid) → 0 < u.count → is_free_in r u ≡ is_free s u
+pub free_same : (r : Records) (s : State) → Fits r s → IsLawful s → (u : Uid) → 0 < u.count → release.is_free records resting_records r u ≡ is_free s u
 free_same r s fits l u counted = λ i.
     current_same r s fits l u i
     && (stable_meant s.here (others_of s) (map (λ m. m.id) s.got) s.acks s.told r.acks fits.acks u counted i
@@ -273,7 +275,7 @@ still_fresh (key ∷ keys) kept n none = still_fresh keys (drop_kept kept key) n
         ]
 
 -- free messages are let go on both sides
-pub fits_let_go : (r : Records) (s : State) → Fits r s → IsLawful s → Fits (let_go_in r) (let_go s)
+pub fits_let_go : (r : Records) (s : State) → Fits r s → IsLawful s → Fits (release.let_go records resting_records r) (let_go s)
 fits_let_go r s fits l =
     subst (λ x. Fits x (let_go s)) (sym (fold_release keys r))
     (record {
@@ -297,15 +299,15 @@ fits_let_go r s fits l =
     })
   where
     keys : List Key
-    keys = map (λ x. x.key) (filter (λ x. is_free_in r x.message.id) r.part.kept)
+    keys = map (λ x. x.key) (filter (λ x. release.is_free records resting_records r x.message.id) r.part.kept)
 
-    free_as : (x : Received) → In x r.part.kept → is_free_in r x.message.id ≡ is_free s x.message.id
+    free_as : (x : Received) → In x r.part.kept → release.is_free records resting_records r x.message.id ≡ is_free s x.message.id
     free_as x at = free_same r s fits l x.message.id (fits.processes.delay.sound x (in_contains x r.part.kept at)).from_one
 
     kept_now : messages (fold drop_kept r.part.kept keys) ≡ filter (λ m. not (is_free s m.id)) s.kept
     kept_now =
         ap messages (fold_drop keys r.part.kept)
         ∙ ap messages (filter_same (λ x. not (is_key keys x.key)) (λ x. not (is_free s x.message.id)) r.part.kept
-        (λ x at. ap not (key_is (λ m. is_free_in r m.id) r.part.kept (λ y there. fits.processes.delay.named y (in_contains y r.part.kept there)) x at ∙ free_as x at)))
+        (λ x at. ap not (key_is (λ m. release.is_free records resting_records r m.id) r.part.kept (λ y there. fits.processes.delay.named y (in_contains y r.part.kept there)) x at ∙ free_as x at)))
         ∙ messages_filter (λ m. not (is_free s m.id)) r.part.kept
         ∙ ap (filter (λ m. not (is_free s m.id))) fits.messages.kept_in

@@ -13,7 +13,6 @@ use Rattle.cast_types.specs.Stamps.{ClockList}
 use Rattle.cast_types.proofs.Orders.{same_site, group_itself, proc_itself}
 use Rattle.cast_clock.specs.Times.{count_in, bumped}
 use Rattle.cast_clock.proofs.Raised.{bump_raises}
-use Rattle.cast_message.specs.declared.message.Body.{Body}
 use Rattle.cast_message.specs.declared.message.Body.TheVariants as body
 use Rattle.cast_message.specs.declared.message.Message.{Message}
 use Rattle.cast_message.specs.Sequence.{Sequence}
@@ -29,13 +28,14 @@ use Rattle.cast_history.specs.Rules.Sending.{send_message, may_raise}
 use Rattle.cast_domain.specs.declared.record.GroupRecord.{GroupRecord}
 use Rattle.cast_model.specs.Group.{holder_of, is_process, holder_at}
 use Rattle.cast_model.specs.Home.{is_empty}
-use Rattle.cast_history.specs.State.{State, local, set_process, let_go, was_given}
+use Rattle.cast_history.specs.State.{State, local, set_process, was_given}
 use Rattle.cast_history.specs.Order.{order_of, holds, unlisted, has_place, is_of_view}
 use Rattle.cast_history.specs.Effects.{next_message, sending}
-use Rattle.cast_history.specs.Rest.{set_order_by}
+use Rattle.cast_history.specs.Rest.{set_order_by, let_go}
 use Rattle.cast_history.proofs.Setting.{may_set_order, set_order_is}
 use Rattle.cast_domain.specs.Records.{Records}
-use Rattle.cast_domain.specs.Calls.{standing_of, time_of, records, resting_records, record_at, log_in, learn_in, settled_in, tell_in, let_go_in}
+use Rattle.cast_history.specs.Rules.Release as release
+use Rattle.cast_domain.specs.Calls.{standing_of, time_of, records, resting_records, record_at, log_in, learn_in, settled_in, tell_in}
 use Rattle.cast_history.specs.Resting.{places_of}
 use Rattle.cast_history.specs.Rules.Order as order
 use Rattle.cast_history.specs.Lawful.{IsLawful}
@@ -151,7 +151,7 @@ choose true true true true true x z q r s f go = go refl refl refl refl refl
 abbrev set_at_hand : Records → Proc → GroupRecord → Records
 set_at_hand r p x =
     if is_member (standing_of r.delay p x.name) && may_order records r
-    then option_map_or (λ places. if may_raise (time_of r.delay p) x.name p then let_go_in (sent_at r p x places) else r) (next_places (log_in r x.name)) r
+    then option_map_or (λ places. if may_raise (time_of r.delay p) x.name p then release.let_go records resting_records (sent_at r p x places) else r) (next_places (log_in r x.name)) r
     else r
 
 pub fits_set_order_by : (r : Records) (s : State) → Fits r s → IsLawful s → (i : ℕ) (g : GroupNo) → slice_get s.config.groups i ≡ Some g → (k : ℕ) → holds s g k ≡ true → Fits (order.set_order_by records resting_records r i k) (set_order_by s g k)
@@ -159,7 +159,7 @@ fits_set_order_by r s f l i g at k here =
     subst (λ t. Fits (set_at_hand r (record { site = t; serial = k }) (record_at r.groups i)) (set_order_by s g k)) (sym (ap (λ c. c.site) f.core))
     (subst (λ x. Fits (set_at_hand r p x) (set_order_by s g k)) (sym (record_there r s f i g at))
     (subst (λ x. Fits x (set_order_by s g k)) (sym tested)
-    (choose member room some place raised (λ q. let_go_in (sent_at r p (record_for s g) q)) (λ q. let_go (sending s g k (body.Order q))) (places_of s g k) r s f sets)))
+    (choose member room some place raised (λ q. release.let_go records resting_records (sent_at r p (record_for s g) q)) (λ q. let_go (sending s g k (body.Order q))) (places_of s g k) r s f sets)))
   where
     p : Proc
     p = local s k
@@ -179,13 +179,13 @@ fits_set_order_by r s f l i g at k here =
     raised : Bool
     raised = may_raise (s.process k).time g p
 
-    tested : set_at_hand r p (record_for s g) ≡ (if member && room then option_map_or (λ q. if raised then let_go_in (sent_at r p (record_for s g) q) else r) (if some && place then Some (places_of s g k) else None) r else r)
+    tested : set_at_hand r p (record_for s g) ≡ (if member && room then option_map_or (λ q. if raised then release.let_go records resting_records (sent_at r p (record_for s g) q) else r) (if some && place then Some (places_of s g k) else None) r else r)
     tested = λ j.
         if is_member (standing_there r s f k g j) && order_room_there r s f j
-        then option_map_or (λ q. if may_raise (time_there r s f k j) g p then let_go_in (sent_at r p (record_for s g) q) else r) (places_there r s f g k here j) r
+        then option_map_or (λ q. if may_raise (time_there r s f k j) g p then release.let_go records resting_records (sent_at r p (record_for s g) q) else r) (places_there r s f g k here j) r
         else r
 
-    sets : member ≡ true → room ≡ true → some ≡ true → place ≡ true → raised ≡ true → Fits (let_go_in (sent_at r p (record_for s g) (places_of s g k))) (let_go (sending s g k (body.Order (places_of s g k))))
+    sets : member ≡ true → room ≡ true → some ≡ true → place ≡ true → raised ≡ true → Fits (release.let_go records resting_records (sent_at r p (record_for s g) (places_of s g k))) (let_go (sending s g k (body.Order (places_of s g k))))
     sets a b c d e =
         let q : Sequence = places_of s g k in
         let may : may_set_order s g k ≡ true = and_from member _ a (and_from room _ b (and_from some _ c (and_from place raised d e))) in

@@ -46,7 +46,7 @@ use Rattle.cast_model.specs.declared.home.Home.{Home}
 use Rattle.cast_model.specs.Session.{no_session, first_session, is_open, pushed_to, told}
 use Rattle.cast_model.specs.Group.{no_group, members_of, other_sites, with_view}
 use Rattle.cast_history.specs.State.{State, opening, no_process, local, is_group, gate_of, others_of, set_session, set_process, set_group, set_home, set_standing, emitted, was_given, pushing, receiving}
-use Rattle.cast_history.specs.Step.{opened}
+use Rattle.cast_history.specs.Step.{opening_next}
 use Rattle.cast_history.specs.Run.{before_event}
 use Rattle.cast_domain.specs.Shared.{no_part}
 use Rattle.cast_domain.specs.Records.{Records}
@@ -514,7 +514,7 @@ range_push a zero = ap (λ k. k ∷ []) (omega arith)
 range_push a (suc n) = ap (λ rest. a ∷ rest) (range_push (a + 1) n) ∙ ap (λ k. a ∷ (range_with_len (a + 1) n ++ k ∷ [])) (omega arith)
 
 -- a session is opened
-pub fits_open : (r : Records) (s : State) → Fits r s → Fits (open_in r) (opened s)
+pub fits_open : (r : Records) (s : State) → Fits r s → Fits (open_in r) (opening_next s)
 fits_open r s fits = record {
   core = λ i. record (fits.core i) { used = (fits.core i).used + 1 };
   opened = record {
@@ -533,7 +533,7 @@ fits_open r s fits = record {
         ∙ sym (ap (λ n. map (local s) (range_with_len 1 n)) (one_more s.used) ∙ ap (map (local s)) (range_push 1 s.used) ∙ map-append (local s) (range_with_len 1 s.used) ((1 + s.used) ∷ []));
   };
   acks = fits.acks;
-  orders = orders_same s (opened s) r.orders refl refl refl refl refl refl fits.orders;
+  orders = orders_same s (opening_next s) r.orders refl refl refl refl refl refl fits.orders;
   frames = fits.frames;
   delivered = fits.delivered;
 }
@@ -541,7 +541,7 @@ fits_open r s fits = record {
     named : Proc
     named = local_in r (r.used + 1)
 
-    open_now : (k : ℕ) → is_open ((opened s).session k) ≡ was_given (s.used + 1) k
+    open_now : (k : ℕ) → is_open ((opening_next s).session k) ≡ was_given (s.used + 1) k
     open_now k = elim (cases_eq (s.used + 1) k) [
       | inl same ↦
           ap (λ b. is_open (if b then first_session (local s (s.used + 1)) else s.session k)) (eq-eqb (s.used + 1) k same)
@@ -552,7 +552,7 @@ fits_open r s fits = record {
           ∙ given_more s.used k other
     ]
 
-    opened_now : (k : ℕ) → (opened s).session k ≡ session_in (r.sessions ++ first_session named ∷ []) k
+    opened_now : (k : ℕ) → (opening_next s).session k ≡ session_in (r.sessions ++ first_session named ∷ []) k
     opened_now zero = ap (λ b. if b then first_session (local s (s.used + 1)) else s.session 0) (ne_eqb (s.used + 1) 0 (λ same. omega (arith, same))) ∙ fits.opened.each 0
     opened_now (suc i) = elim (cases_eq (s.used + 1) (suc i)) [
       | inl same ↦

@@ -1,5 +1,5 @@
 -- The turns of the records' rest are those of the history that they stand for.
-use Rattle.std.proofs.Common.{◌≡◌, ℕ, zero, suc, ◌+◌, ◌<◌, ◌≤◌, Bool, true, false, cond, not, List, [], ◌∷◌, ◌++◌, length, map, Option, Some, None, refl, sym, ap, subst, ◌∙◌, inl, inr, arith}
+use Rattle.std.proofs.Common.{◌≡◌, ℕ, zero, suc, ◌<◌, ◌≤◌, Bool, true, false, cond, not, List, [], ◌∷◌, ◌++◌, length, map, Option, Some, None, refl, sym, ap, subst, ◌∙◌, inl, inr, arith}
 use Rattle.std.specs.Prelude.{◌&&◌, ◌==◌, if◌then◌else◌, filter, take}
 use Rattle.std.specs.List.{fold, find}
 use Rattle.std.specs.Option.{IsSome, option_map_or}
@@ -28,14 +28,15 @@ use Rattle.cast_delay.proofs.Queues.{delivery_fits, next_rules, passed_delivered
 use Rattle.cast_order.specs.Log.{Log, log_of, change_log, next_in, told, passed}
 use Rattle.cast_history.specs.History.{history}
 use Rattle.cast_model.specs.Session.{is_open, pushed_to}
-use Rattle.cast_history.specs.State.{State, local, is_group, gate_of, is_free, set_session, was_given, pushing, with_delivery}
+use Rattle.cast_history.specs.State.{State, local, is_group, gate_of, set_session, was_given, pushing, with_delivery}
 use Rattle.cast_history.specs.Order.{is_of_view, holds, turn_of, is_ready_for}
 use Rattle.cast_history.specs.Effects.{delivering}
 use Rattle.cast_history.specs.Rules.Rest.{told_of, tell}
-use Rattle.cast_history.specs.Rest.{deliver_first, deliver_all}
+use Rattle.cast_history.specs.Rest.{deliver_first, deliver_all, is_free}
 use Rattle.cast_history.specs.Endings.{left}
 use Rattle.cast_domain.specs.Records.{Records}
-use Rattle.cast_domain.specs.Calls.{let_go_in, records, resting_records, holds_in, turns_in, note_delivery_in, note_delivered_under, ready_key_in}
+use Rattle.cast_history.specs.Rules.Release as release
+use Rattle.cast_domain.specs.Calls.{records, resting_records, holds_in, turns_in, note_delivery_in, note_delivered_under, ready_key_in}
 use Rattle.cast_history.specs.Rules.Rest as rest
 use Rattle.cast_history.specs.Lawful.{IsSpent, AreKept, IsLawful}
 use Rattle.cast_domain.specs.Fits.{process_named, Fits}
@@ -202,7 +203,7 @@ fits_tell r s fits k (Some p) = fits_push r s fits k p
 fits_tell r s fits k None = fits
 
 -- a process delivers a message that is ready, and is told; what is free then is let go
-pub fits_delivering : (r : Records) (s : State) → Fits r s → IsLawful s → (k : ℕ) → was_given s.used k ≡ true → (key : Key) (m : Message) → message_under r.part.kept key ≡ Some m → is_ready_for s k m ≡ true → IsLawful (delivering s k m) → Fits (let_go_in (tell records (note_delivered_under r (local s k) key m) k (told_of m.id m.body))) (delivering_one s k m)
+pub fits_delivering : (r : Records) (s : State) → Fits r s → IsLawful s → (k : ℕ) → was_given s.used k ≡ true → (key : Key) (m : Message) → message_under r.part.kept key ≡ Some m → is_ready_for s k m ≡ true → IsLawful (delivering s k m) → Fits (release.let_go records resting_records (tell records (note_delivered_under r (local s k) key m) k (told_of m.id m.body))) (delivering_one s k m)
 fits_delivering r s fits l k given key m under ready lawful =
     let next : Records = record (turned r s k key m) { orders = noting s k m (passing r s k key m) r.orders } in
     fits_let_go (tell records (note_delivered_under r (local s k) key m) k (told_of m.id m.body)) (delivering s k m)
@@ -232,7 +233,7 @@ ready_kept s k given l = found_kept (IsSpent s) (is_ready_for s k) (spent_not_re
 abbrev first_of : Records → ℕ → Proc → Records
 first_of r k p =
     elim (option_map_or (message_under r.part.kept) (ready_key_in r p) None) [
-      | Some m ↦ let_go_in (tell records (option_map_or (λ key. note_delivered_under r p key m) (ready_key_in r p) r) k (told_of m.id m.body))
+      | Some m ↦ release.let_go records resting_records (tell records (option_map_or (λ key. note_delivered_under r p key m) (ready_key_in r p) r) k (told_of m.id m.body))
       | None ↦ r
     ]
 
@@ -252,7 +253,7 @@ fits_first r s fits l k given =
     -- with the key that is named, and the message under it
     named_key : Option Key → Option Message → Records
     named_key o found =
-        elim found [ Some m ↦ let_go_in (tell records (option_map_or (λ key. note_delivered_under r (local s k) key m) o r) k (told_of m.id m.body)) | None ↦ r ]
+        elim found [ Some m ↦ release.let_go records resting_records (tell records (option_map_or (λ key. note_delivered_under r (local s k) key m) o r) k (told_of m.id m.body)) | None ↦ r ]
 
     fits_next : (o : Option Key) → FirstReady s.config.groups (gate_of s) (turn_of s k) (process_named s (local s k)) r.part.kept o → Fits (named_key o (option_map_or (message_under r.part.kept) o None)) (deliver_first k s)
     fits_next None none = subst (Fits r) (sym (delivered_none s k (sym found_is ∙ none))) fits
@@ -260,7 +261,7 @@ fits_first r s fits l k given =
         let found : find (is_ready_for s k) s.got ≡ Some m = sym found_is ∙ first in
         let ready : is_ready_for s k m ≡ true = found_passes (is_ready_for s k) s.got m found in
         subst (λ x. Fits (named_key (Some key) x) (deliver_first k s)) (sym under)
-        (subst (Fits (let_go_in (tell records (note_delivered_under r (local s k) key m) k (told_of m.id m.body)))) (sym (delivered_first s k m found))
+        (subst (Fits (release.let_go records resting_records (tell records (note_delivered_under r (local s k) key m) k (told_of m.id m.body)))) (sym (delivered_first s k m found))
         (fits_delivering r s fits l k given key m under ready (lawful_delivering s k m l (found_in (is_ready_for s k) s.got m found) ready)))
 
 -- so many turns of one process

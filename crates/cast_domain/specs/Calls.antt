@@ -1,5 +1,5 @@
 -- What the calls of a domain do to its records, exactly.
-use Rattle.std.specs.Prelude.{ℕ, ◌+◌, ◌-◌, min, max, Bool, false, not, ◌&&◌, ◌==◌, if◌then◌else◌, List, [], ◌∷◌, ◌++◌, length, map, filter, get_or, slice_get, Option, Some, None}
+use Rattle.std.specs.Prelude.{ℕ, ◌+◌, ◌-◌, min, max, Bool, false, not, ◌&&◌, if◌then◌else◌, List, [], ◌∷◌, ◌++◌, length, map, filter, get_or, slice_get, Option, Some, None}
 use Rattle.std.specs.List.{fold, find, list_any, range_with_len}
 use Rattle.std.specs.Option.{option_map, option_map_or}
 use Rattle.std.specs.FinMap.Entries.{put}
@@ -38,18 +38,13 @@ use Rattle.cast_timer.specs.declared.key.OwedKey.{OwedKey}
 use Rattle.cast_timer.specs.Owed.{is_owed, due_at}
 use Rattle.cast_message.specs.Receipts.{key_eq, message_under}
 use Rattle.cast_domain.specs.declared.record.GroupRecord.{GroupRecord}
-use Rattle.cast_model.specs.declared.event.Event.{Event}
-use Rattle.cast_model.specs.declared.event.Event.TheVariants as event
 use Rattle.cast_model.specs.Session.{first_session, told as told_session}
 use Rattle.cast_model.specs.Group.{no_group, members_of, holder_of, is_process, other_sites, is_current, with_request, with_answer, with_view, is_taken_in}
 use Rattle.cast_model.specs.Home.{first_home, is_empty, after_request, after_installed, decided}
 use Rattle.cast_domain.specs.Shared.{part_with, part_without, part_owing, part_renewing, part_paying, part_paying_upto}
-use Rattle.cast_history.specs.Rules.Interface.{Site, Resting}
+use Rattle.cast_history.specs.Rules.Interface.{Site, Serials, Resting}
 use Rattle.cast_history.specs.Rules.Rest.{tell, told_of}
 use Rattle.cast_history.specs.Rules.Room.{may_order}
-use Rattle.cast_history.specs.Rules.Owing.{tick}
-use Rattle.cast_history.specs.Rules.Commands.{commanded}
-use Rattle.cast_history.specs.Rules.Frames.{framed}
 use Rattle.cast_history.specs.State.{was_given}
 use Rattle.cast_domain.specs.Records.{Records}
 
@@ -251,9 +246,6 @@ records = record {
 
 -- Messages that are let go
 
-abbrev pub is_free_in : Records → Uid → Bool
-is_free_in r u = is_current_in r u && (is_stable_in r.acks u && not (is_awaited r.delay.rows u))
-
 -- a message is kept and offered no longer
 abbrev pub release_in : Records → Key → Records
 release_in r key =
@@ -262,8 +254,9 @@ release_in r key =
       delay = record r.delay { offered = filter (λ o. not (key_eq o.key key)) r.delay.offered };
     }
 
-abbrev pub let_go_in : Records → Records
-let_go_in r = fold release_in r (map (λ x. x.key) (filter (λ x. is_free_in r x.message.id) r.part.kept))
+-- and so all whose ids pass a test
+abbrev pub release_all_in : Records → (Uid → Bool) → Records
+release_all_in r passes = fold release_in r (map (λ x. x.key) (filter (λ x. passes x.message.id) r.part.kept))
 
 -- Sessions
 
@@ -276,17 +269,8 @@ open_in r =
       delay = record r.delay { rows = r.delay.rows ++ new_row p ∷ [] };
     }
 
--- serials are used once
-abbrev pub opened_in : Records → Records
-opened_in r = if r.used == MAX_NUMBER then r else open_in r
-
--- Events
-
-abbrev pub act_in : Records → Event → Records
-act_in r (event.Open d) = opened_in r
-act_in r (event.Command d k c) = commanded records r k c
-act_in r (event.Frame d from f) = framed records r from f
-act_in r (event.Tick t) = tick records r t
+abbrev pub records_serials : Serials Records
+records_serials = record { used = λ r. r.used; open_next = open_in }
 
 -- The order of a view
 
@@ -368,8 +352,10 @@ resting_records = record {
   serials = λ r. range_with_len 1 r.used;
   turns = λ r. length r.part.kept;
   next_ready = next_ready_in;
+  is_current = is_current_in;
+  is_delivered = λ r u. not (is_awaited r.delay.rows u);
   next_places = λ r i k. next_places (log_in r (record_at r.groups i).name);
   note_delivered = note_delivered_in;
   note_listed = note_listed_in;
-  let_go = let_go_in;
+  release = release_all_in;
 }

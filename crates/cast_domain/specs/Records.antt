@@ -5,14 +5,12 @@ use Rattle.cast_types.specs.declared.names.SiteNo.{SiteNo}
 use Rattle.cast_types.specs.declared.names.Proc.{Proc}
 use Rattle.cast_types.specs.declared.names.Uid.{Uid}
 use Rattle.cast_types.specs.declared.refusal.Refusal.{Refusal}
-use Rattle.cast_types.specs.declared.refusal.Refusal.TheVariants.{NotOpen, TooManySessions}
 use Rattle.cast_types.specs.declared.limits.TheConstants.{MAX_NUMBER}
 use Rattle.cast_message.specs.declared.site.SiteFrame.{SiteFrame}
 use Rattle.cast_delay.specs.Queue.{Queue}
 use Rattle.cast_stable.specs.Ledger.{Ledger}
 use Rattle.cast_order.specs.Log.{Log}
 use Rattle.cast_model.specs.declared.config.DomainConfig.{DomainConfig}
-use Rattle.cast_history.specs.State.{was_given}
 use Rattle.cast_history.specs.Rules.Commands.{Attempt}
 use Rattle.cast_domain.specs.declared.domain.Domain.{Domain}
 use Rattle.cast_domain.specs.declared.record.GroupRecord.{GroupRecord}
@@ -22,8 +20,6 @@ use Rattle.cast_domain.specs.declared.shared.Shared.{Shared}
 use Rattle.cast_domain.specs.Shared.{Part, part_of}
 use Rattle.cast_model.specs.declared.event.Event.{Event}
 use Rattle.cast_model.specs.declared.event.Event.TheVariants.{Open, Command, Frame, Tick}
-use Rattle.cast_model.specs.declared.event.Taken.{Taken}
-use Rattle.cast_model.specs.declared.event.Taken.TheVariants.{Nothing, Opened, Refused}
 
 -- what a domain keeps, and what a step has sent and delivered so far
 pub record Records : Type 0 where
@@ -81,13 +77,6 @@ pub record Keeps (old : Domain) (new : Domain) : Type 0 where
   pub site : new.site ≡ old.site
   pub config : new.config ≡ old.config
   pub halted : new.halted ≡ old.halted
-
--- what a domain that is not halted answers, by how many serials were given
-abbrev pub answer_to : ℕ → Event → Taken
-answer_to used (Open d) = if used == MAX_NUMBER then Refused TooManySessions else Opened (used + 1)
-answer_to used (Command d k c) = if was_given used k then Nothing else Refused NotOpen
-answer_to used (Frame d from f) = Nothing
-answer_to used (Tick t) = Nothing
 
 -- how many serials are given after an event
 abbrev pub used_after : ℕ → Event → ℕ

@@ -96,11 +96,12 @@ impl Domain {
     ghost use Rattle.cast_types.specs.Names.{site_eq};
     ghost use Rattle.cast_model.specs.declared.event.Outs.{Outs};
     ghost use Rattle.cast_model.specs.Events.{domain_of};
-    ghost use Rattle.cast_domain.specs.Records.{Keeps, answer_to, is_halted, number_of, records_in, records_of, used_after};
+    ghost use Rattle.cast_domain.specs.Records.{Keeps, is_halted, number_of, records_in, records_of, used_after};
     ghost use Rattle.cast_domain.specs.Shared.{LeavesOthers, Part, part_of};
     ghost use Rattle.cast_history.specs.Lawful.{IsTyped};
+    ghost use Rattle.cast_history.specs.Rules.Events.{acted, answered};
     ghost use Rattle.cast_domain.specs.Stepped.{IsSteppedBeside};
-    ghost use Rattle.cast_domain.specs.Calls.{act_in, records, place_among, push_in, record_at, send_in, tell_in};
+    ghost use Rattle.cast_domain.specs.Calls.{records, records_serials, place_among, push_in, record_at, send_in, tell_in};
 
     /// The process of a session.
     pub(crate) fn process(&self, serial: u32) -> Proc
@@ -221,7 +222,7 @@ impl Domain {
         shared: &mut Shared,
         outs: &mut Outs,
     ) -> Result<Taken, NoMemory>
-        ensures answer { IfOk result (λ t. t ≡ answer_to self.old.used event.now) }
+        ensures answer { IfOk result (λ t. t ≡ answered records records_serials (records_in self.old shared.old outs.old) event.now) }
         ensures used { OnOk result (self.new.used ≡ used_after self.old.used event.now) }
         ensures same { (self.new.site ≡ self.old.site) × (self.new.config ≡ self.old.config) × (self.new.halted ≡ self.old.halted) }
         ensures others { LeavesOthers self.old.config.domain shared.old shared.new }
@@ -243,11 +244,11 @@ impl Domain {
         shared: &mut Shared,
         outs: &mut Outs,
     ) -> Result<Taken, NoMemory>
-        ensures answer { IfOk result (λ t. t ≡ answer_to self.old.used event.now) }
+        ensures answer { IfOk result (λ t. t ≡ answered records records_serials (records_in self.old shared.old outs.old) event.now) }
         ensures used { OnOk result (self.new.used ≡ used_after self.old.used event.now) }
         ensures same { (self.new.site ≡ self.old.site) × (self.new.config ≡ self.old.config) × (self.new.halted ≡ self.old.halted) }
         ensures others { LeavesOthers self.old.config.domain shared.old shared.new }
-        ensures made { OnOk result (records_in self.new shared.new outs.new ≡ act_in (records_in self.old shared.old outs.old) event.now) }
+        ensures made { OnOk result (records_in self.new shared.new outs.new ≡ acted records records_serials (records_in self.old shared.old outs.old) event.now) }
         ensures typed { IsTyped event.now }
     {
         match event {

@@ -26,15 +26,16 @@ impl Domain {
     ghost use Rattle.cast_history.specs.State.{was_given};
     ghost use Rattle.cast_domain.specs.Records.{IsAttempt, Keeps, records_in, records_of};
     ghost use Rattle.cast_domain.specs.Shared.{LeavesOthers, Part};
+    ghost use Rattle.cast_history.specs.Rules.Events.{opened};
     ghost use Rattle.cast_history.specs.Rules.Sending.{may_raise};
-    ghost use Rattle.cast_domain.specs.Calls.{records, opened_in, receive_in, time_of};
+    ghost use Rattle.cast_domain.specs.Calls.{records, records_serials, receive_in, time_of};
 
     // A program connects.
     pub(crate) fn open(&mut self) -> Result<Taken, NoMemory>
         ensures answer { IfOk result (λ t. t ≡ (if self.old.used == MAX_NUMBER then Taken.Refused Refusal.TooManySessions else Taken.Opened (self.old.used + 1))) }
         ensures used { OnOk result (self.new.used ≡ (if self.old.used == MAX_NUMBER then self.old.used else self.old.used + 1)) }
         ensures same { (self.new.site ≡ self.old.site) × (self.new.config ≡ self.old.config) × (self.new.halted ≡ self.old.halted) }
-        ensures made { OnOk result ((o : Outs) (part : Part) → records_of self.new part o ≡ opened_in (records_of self.old part o)) }
+        ensures made { OnOk result ((o : Outs) (part : Part) → records_of self.new part o ≡ opened records records_serials (records_of self.old part o)) }
     {
         if self.used == MAX_NUMBER {
             return Ok(Taken::Refused(Refusal::TooManySessions));

@@ -14,10 +14,11 @@ use cast_types::{Key, NoMemory, SiteNo, Uid};
 impl Domain {
     ghost use Rattle.cast_model.specs.declared.event.Outs.{Outs};
     ghost use Rattle.cast_model.specs.Outs.{no_outs};
+    ghost use Rattle.cast_history.specs.Rules.Release.{is_free, let_go};
     ghost use Rattle.cast_history.specs.Rules.Stability.{is_used_ack, on_ack, on_stable, tell_more, tell_stable, with_ack};
     ghost use Rattle.cast_domain.specs.Records.{Keeps, records_in, records_of};
     ghost use Rattle.cast_domain.specs.Shared.{LeavesOthers, Part, no_part};
-    ghost use Rattle.cast_domain.specs.Calls.{is_current_in, is_free_in, let_go_in, records, release_in};
+    ghost use Rattle.cast_domain.specs.Calls.{is_current_in, records, resting_records, release_in};
 
     // Acknowledges a received message: its site is owed that until it tells that the message is stable.
     pub(crate) fn acknowledge(
@@ -143,7 +144,7 @@ impl Domain {
     pub(crate) fn let_go(&mut self, shared: &mut Shared) -> Result<(), NoMemory>
         ensures same { Keeps self.old self.new }
         ensures others { LeavesOthers self.old.config.domain shared.old shared.new }
-        ensures made { OnOk result ((o : Outs) → records_in self.new shared.new o ≡ let_go_in (records_in self.old shared.old o)) }
+        ensures made { OnOk result ((o : Outs) → records_in self.new shared.new o ≡ let_go records resting_records (records_in self.old shared.old o)) }
     {
         let free = self.free_keys(shared.store.kept(self.config.domain))?;
         for key in free.as_slice() {
@@ -154,7 +155,7 @@ impl Domain {
 
     // The keys of the free ones among kept messages.
     fn free_keys(&self, kept: &[Received]) -> Result<Vec<Key>, NoMemory>
-        ensures { IfOk result (λ keys. keys.items ≡ map (λ x. x.key) (filter (λ x. is_free_in (records_of self.now no_part no_outs) x.message.id) kept.now)) }
+        ensures { IfOk result (λ keys. keys.items ≡ map (λ x. x.key) (filter (λ x. is_free records resting_records (records_of self.now no_part no_outs) x.message.id) kept.now)) }
     {
         let alloc = *self.groups.allocator();
         kept.iter()
@@ -165,7 +166,7 @@ impl Domain {
 
     // Whether a message is of the current view, stable, and delivered to each member here.
     fn is_free(&self, id: Uid) -> bool
-        ensures { result ≡ is_free_in (records_of self.now no_part no_outs) id }
+        ensures { result ≡ is_free records resting_records (records_of self.now no_part no_outs) id }
     {
         self.is_current(id) && self.acks.may_free(id, self.delay.is_awaited(id))
     }

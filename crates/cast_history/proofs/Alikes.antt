@@ -16,7 +16,8 @@ use Rattle.cast_timer.specs.declared.key.Owed.{Owed}
 use Rattle.cast_delay.specs.Ready.{Process}
 use Rattle.cast_model.specs.declared.session.Session.{Session}
 use Rattle.cast_model.specs.Session.{is_open, pushed_to}
-use Rattle.cast_history.specs.State.{State, set_session, set_process, emitted, others_of, noting_ack, noting_stable, let_go, pushing, receiving}
+use Rattle.cast_history.specs.State.{State, set_session, set_process, emitted, others_of, noting_ack, noting_stable, pushing, receiving}
+use Rattle.cast_history.specs.Rest.{let_go}
 use Rattle.cast_history.specs.Owing.{noting_owed, noting_resent, paying, paying_upto, at_moment}
 use Rattle.cast_history.specs.Rules.Sending.{send_data}
 use Rattle.cast_history.specs.History.{history}

@@ -9,7 +9,6 @@ use Rattle.std.proofs.lemmas.Option.{none-some, same_Some}
 use Rattle.cast_types.specs.declared.names.SiteNo.{SiteNo}
 use Rattle.cast_types.specs.declared.names.GroupNo.{GroupNo}
 use Rattle.cast_types.specs.declared.names.Proc.{Proc}
-use Rattle.cast_types.specs.declared.refusal.Refusal.TheVariants.{TooManySessions}
 use Rattle.cast_types.specs.declared.limits.TheConstants.{MAX_NUMBER}
 use Rattle.cast_types.specs.Names.{group_cmp}
 use Rattle.cast_types.specs.Repeat.{iterate}
@@ -28,19 +27,18 @@ use Rattle.cast_model.specs.declared.home.Home.{Home}
 use Rattle.cast_model.specs.Home.{is_empty, after_request, after_installed, may_decide, decided}
 use Rattle.cast_model.specs.declared.event.Event.{Event}
 use Rattle.cast_model.specs.declared.event.Event.TheVariants as event
-use Rattle.cast_model.specs.declared.event.Taken.TheVariants as taken
 use Rattle.cast_clock.proofs.Raised.{bump_leaves_views}
 use Rattle.cast_history.specs.Rules.Commands.{message_sent}
-use Rattle.cast_history.specs.State.{State, receiving, set_process, local, serials, is_group, let_go, set_home, was_given}
+use Rattle.cast_history.specs.State.{State, receiving, set_process, local, serials, is_group, set_home, was_given}
 use Rattle.cast_history.specs.Rules.Room.{may_order}
 use Rattle.cast_history.specs.Order.{order_of, unlisted, has_place, is_ready_for}
 use Rattle.cast_history.specs.Rules.Owing.{tick}
 use Rattle.cast_history.proofs.Rules.Owing.{tick_keeps}
 use Rattle.cast_history.specs.Effects.{next_message, sending, delivering}
 use Rattle.cast_history.specs.Rules.Sending.{may_raise}
-use Rattle.cast_history.specs.Step.{opened, Effect, acted}
+use Rattle.cast_history.specs.Step.{opening_next, acted}
 use Rattle.cast_history.specs.Rules.Views.{install_frame, send_install, decide}
-use Rattle.cast_history.specs.Rest.{deliver_first, deliver_all, settle, set_order_by, set_order, set_orders, pass, RestsAt}
+use Rattle.cast_history.specs.Rest.{deliver_first, deliver_all, settle, set_order_by, set_order, set_orders, pass, RestsAt, let_go}
 use Rattle.cast_history.proofs.Setting.{may_set_order, set_order_is}
 use Rattle.cast_history.specs.Resting.{places_of}
 use Rattle.cast_history.specs.Lawful.{IsSpent, IsLawful, IsTyped}
@@ -128,14 +126,14 @@ all_lawful = record {
 abbrev pub IsUnborn : State → Type 0
 IsUnborn s = (g : GroupNo) → is_member ((s.process (s.used + 1)).standing g) ≡ false
 
-pub lawful_opened : (s : State) → IsLawful s → IsUnborn s → IsLawful (opened s)
+pub lawful_opened : (s : State) → IsLawful s → IsUnborn s → IsLawful (opening_next s)
 lawful_opened s l unborn = record {
   rising = l.rising;
   known = l.known;
   current = l.current;
   viewed = l.viewed;
   stamped = l.stamped;
-  spent = kept_map (IsSpent s) (IsSpent (opened s)) (λ m h. record {
+  spent = kept_map (IsSpent s) (IsSpent (opening_next s)) (λ m h. record {
     reached = h.reached;
     delivered = λ k given is here. elim (cases_eq (s.used + 1) k) [
       | inl same ↦ absurd (false≢true (sym (unborn m.id.group) ∙ ap (λ j. is_member ((s.process j).standing m.id.group)) same ∙ is))
@@ -156,9 +154,9 @@ lawful_opened s l unborn = record {
 pub same_tick : (s : State) (t : ℕ) → SameLaw s (tick history s t)
 same_tick s t = tick_keeps history (SameLaw s) (moves_same s) s (same_self s) t
 
-pub lawful_acted : (s : State) (e : Event) → IsLawful s → IsUnborn s → IsTyped e → IsLawful (acted s e).0
+pub lawful_acted : (s : State) (e : Event) → IsLawful s → IsUnborn s → IsTyped e → IsLawful (acted s e)
 lawful_acted s (event.Open d) l unborn typed =
-    elim (s.used == MAX_NUMBER) as (λ b. IsLawful (if◌then◌else◌ {A = Effect} b (s, taken.Refused TooManySessions) (opened s, taken.Opened (s.used + 1))).0) [
+    elim (s.used == MAX_NUMBER) as (λ b. IsLawful (if b then s else opening_next s)) [
       | true ↦ l
       | false ↦ lawful_opened s l unborn
     ]

@@ -36,14 +36,15 @@ use Rattle.cast_model.specs.Session.{is_open, first_session}
 use Rattle.cast_model.specs.declared.group.Group.{Group}
 use Rattle.cast_model.specs.declared.config.DomainConfig.{DomainConfig}
 use Rattle.cast_model.specs.Group.{no_group, has_view, members_of, with_view, is_at, is_taken_in}
-use Rattle.cast_history.specs.State.{State, opening, local, serials, is_group, set_process, set_group, set_standing, others_of, gate_of, let_go, was_given, receiving, pushing, with_delivery}
+use Rattle.cast_history.specs.State.{State, opening, local, serials, is_group, set_process, set_group, set_standing, others_of, gate_of, was_given, receiving, pushing, with_delivery}
+use Rattle.cast_history.specs.Rest.{let_go}
 use Rattle.cast_history.specs.Order.{is_ready_for}
 use Rattle.cast_history.specs.History.{history}
 use Rattle.cast_history.specs.Rules.Sending.{send_data}
 use Rattle.cast_history.specs.Effects.{next_message, sending, delivering}
 use Rattle.cast_history.specs.Rules.Rest.{told_of}
 use Rattle.cast_history.specs.Entering.{enters, in_view, all_in_view, push_view, completing}
-use Rattle.cast_history.specs.Step.{opened}
+use Rattle.cast_history.specs.Step.{opening_next}
 use Rattle.cast_history.specs.Run.{before_event}
 use Rattle.cast_history.specs.Lawful.{IsLawful}
 use Rattle.cast_history.specs.Raising.{IsTimeOf, IsFromMember, IsView, IsAmongMembers, CountsMembers, CanRaise}
@@ -405,7 +406,7 @@ given_more used k given =
 given_next : (used : ℕ) → was_given (used + 1) (used + 1) ≡ true
 given_next used = and_from (nat_lt 0 (used + 1)) (nat_le (used + 1) (used + 1)) (lt-ltb 0 (used + 1) (omega arith)) (le-leb (used + 1) (used + 1) (omega arith))
 
-pub counts_opened : (s : State) → CountsMembers s → CountsMembers (opened s)
+pub counts_opened : (s : State) → CountsMembers s → CountsMembers (opening_next s)
 counts_opened s c = record {
   few = c.few;
   times = c.times;

@@ -1,12 +1,11 @@
 -- A history counts members alone in each state that it passes.
-use Rattle.std.proofs.Common.{◌≡◌, ℕ, ◌+◌, ◌≤◌, zero, suc, Bool, true, false, List, [], ◌∷◌, length, Some, None, refl, sym, ap, subst, arith}
+use Rattle.std.proofs.Common.{◌≡◌, ℕ, ◌≤◌, zero, suc, Bool, true, false, List, [], ◌∷◌, length, Some, None, refl, sym, ap, subst, arith}
 use Rattle.std.specs.Prelude.{◌==◌, nat_lt, nat_le, if◌then◌else◌}
 use Rattle.std.specs.List.{fold, find, list_all, AllByRecursion}
 use Rattle.std.specs.FinMap.Entries.{is_sorted}
 use Rattle.std.proofs.lemmas.Bool.{and_parts, and_from}
 use Rattle.cast_types.specs.declared.names.SiteNo.{SiteNo}
 use Rattle.cast_types.specs.declared.names.GroupNo.{GroupNo}
-use Rattle.cast_types.specs.declared.refusal.Refusal.TheVariants.{TooManySessions}
 use Rattle.cast_types.specs.declared.limits.TheConstants.{MAX_NUMBER, MAX_GROUPS}
 use Rattle.cast_types.specs.Names.{group_cmp, proc_eq}
 use Rattle.cast_types.specs.Sets.{is_among}
@@ -25,15 +24,14 @@ use Rattle.cast_model.specs.Home.{after_request, after_installed, decided}
 use Rattle.cast_model.specs.declared.event.Event.{Event}
 use Rattle.cast_model.specs.declared.event.Event.TheVariants as event
 use Rattle.cast_model.specs.declared.event.Taken.{Taken}
-use Rattle.cast_model.specs.declared.event.Taken.TheVariants as taken
 use Rattle.cast_history.specs.Rules.Commands.{message_sent}
-use Rattle.cast_history.specs.State.{State, receiving, set_process, opening, serials, is_group, let_go}
+use Rattle.cast_history.specs.State.{State, receiving, set_process, opening, serials, is_group}
 use Rattle.cast_history.specs.Rules.Requests.{is_home}
 use Rattle.cast_history.specs.Order.{is_ready_for}
 use Rattle.cast_history.specs.Effects.{next_message, sending, delivering}
 use Rattle.cast_history.specs.Rules.Owing.{tick}
-use Rattle.cast_history.specs.Step.{opened, Effect, acted}
-use Rattle.cast_history.specs.Rest.{deliver_first, deliver_all, settle, set_order_by, set_order, set_orders, pass}
+use Rattle.cast_history.specs.Step.{opening_next, acted}
+use Rattle.cast_history.specs.Rest.{deliver_first, deliver_all, settle, set_order_by, set_order, set_orders, pass, let_go}
 use Rattle.cast_history.specs.Resting.{places_of}
 use Rattle.cast_history.proofs.Setting.{may_set_order, set_order_is}
 use Rattle.cast_history.specs.Rules.Views.{decide, lead}
@@ -104,9 +102,9 @@ all_counted = record {
 
 -- Events
 
-pub counts_acted : (s : State) (e : Event) → IsLawful s → CountsMembers s → IsTyped e → CountsMembers (acted s e).0
+pub counts_acted : (s : State) (e : Event) → IsLawful s → CountsMembers s → IsTyped e → CountsMembers (acted s e)
 counts_acted s (event.Open d) l c typed =
-    elim (s.used == MAX_NUMBER) as (λ b. CountsMembers (if◌then◌else◌ {A = Effect} b (s, taken.Refused TooManySessions) (opened s, taken.Opened (s.used + 1))).0) [
+    elim (s.used == MAX_NUMBER) as (λ b. CountsMembers (if b then s else opening_next s)) [
       | true ↦ c
       | false ↦ counts_opened s c
     ]
@@ -196,7 +194,7 @@ module _ (here : SiteNo) (config : DomainConfig) where
   passed_run (e ∷ events) [] sent s t typed p run = absurd run
   passed_run (e ∷ events) (a ∷ answers) sent s t typed p (u, later, step, made, run) =
       let acted_on : State = before_event s in
-      let after : Passed (after_event s e) = lets_go (acted acted_on e).0 (acts acted_on e typed.0 (begins s p)) in
+      let after : Passed (after_event s e) = lets_go (acted acted_on e) (acts acted_on e typed.0 (begins s p)) in
       passed_run events answers later u t typed.1 (subst Passed step.rests.1 (passed_iterate step.rests.0 pass passed_pass (after_event s e) after)) run
 
 pub members_counted : MembersAreCounted

@@ -20,14 +20,14 @@ use Rattle.cast_model.specs.declared.home.Home.{Home}
 use Rattle.cast_model.specs.Phase.{is_idle}
 use Rattle.cast_model.specs.Group.{holder_at, sites_of}
 use Rattle.cast_model.specs.Home.{is_empty, may_decide, decided}
-use Rattle.cast_history.specs.State.{State, serials, let_go, set_home, receiving, with_delivery}
+use Rattle.cast_history.specs.State.{State, serials, set_home, receiving, with_delivery}
 use Rattle.cast_history.specs.Rules.Requests.{is_home}
 use Rattle.cast_history.specs.History.{history}
 use Rattle.cast_history.specs.Rules.Room.{may_order}
 use Rattle.cast_history.specs.Order.{unlisted, is_ready_for}
 use Rattle.cast_history.specs.Effects.{sending_message}
 use Rattle.cast_history.specs.Rules.Views.{install_frame, send_install, decide, lead}
-use Rattle.cast_history.specs.Rest.{deliver_first, deliver_all, settle, set_order_by, set_order, set_orders, pass, RestsAt}
+use Rattle.cast_history.specs.Rest.{deliver_first, deliver_all, settle, set_order_by, set_order, set_orders, pass, RestsAt, let_go}
 use Rattle.cast_history.proofs.Setting.{may_set_order, set_order_is}
 use Rattle.cast_history.specs.Endings.{total, one_if, left, rank, ranks, undelivered, to_list_in, to_list, to_do, Moves, PassMoves, EachComesToRest, RestIsOne}
 use Rattle.cast_history.proofs.Alikes.{Alike, alike_then, alike_fold, alike_emitted, alike_let_go, alike_sending}

@@ -7,12 +7,12 @@ use Rattle.cast_message.specs.declared.message.Body.TheVariants as body
 use Rattle.cast_message.specs.Sequence.{Sequence}
 use Rattle.cast_delay.specs.Ready.{is_member}
 use Rattle.cast_model.specs.Home.{is_empty}
-use Rattle.cast_history.specs.State.{State, local, let_go}
+use Rattle.cast_history.specs.State.{State, local}
 use Rattle.cast_history.specs.History.{history}
 use Rattle.cast_history.specs.Order.{order_of, unlisted, has_place}
 use Rattle.cast_history.specs.Resting.{places_of}
 use Rattle.cast_history.specs.Effects.{sending}
-use Rattle.cast_history.specs.Rest.{set_order_by}
+use Rattle.cast_history.specs.Rest.{set_order_by, let_go}
 use Rattle.cast_history.specs.Rules.Room.{may_order}
 use Rattle.cast_history.specs.Rules.Sending.{may_raise}
 

@@ -10,11 +10,11 @@ use Rattle.cast_clock.specs.Times.{join}
 use Rattle.cast_message.specs.declared.client.Push.{Push}
 use Rattle.cast_message.specs.declared.message.Message.{Message}
 use Rattle.cast_delay.specs.Ready.{Process, has_delivered, is_member, is_causally_ready}
-use Rattle.cast_history.specs.State.{State, gate_of, let_go, pushing, abcasts_with, with_delivery}
+use Rattle.cast_history.specs.State.{State, gate_of, pushing, abcasts_with, with_delivery}
 use Rattle.cast_history.specs.Order.{is_ready_for}
 use Rattle.cast_history.specs.Effects.{delivering}
 use Rattle.cast_history.specs.Rules.Rest.{told_of}
-use Rattle.cast_history.specs.Rest.{deliver_first, deliver_all}
+use Rattle.cast_history.specs.Rest.{deliver_first, deliver_all, let_go}
 use Rattle.cast_history.specs.Endings.{left, SettlesOne, TurnsAreEnough}
 use Rattle.cast_history.proofs.Alikes.{Alike, alike_self, alike_then, alike_pushing, alike_let_go}
 use Rattle.cast_history.proofs.Totals.{left_found, left_le}

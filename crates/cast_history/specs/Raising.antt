@@ -22,12 +22,12 @@ use Rattle.cast_model.specs.declared.event.Taken.{Taken}
 use Rattle.cast_model.specs.declared.group.Group.{Group}
 use Rattle.cast_model.specs.Session.{is_open}
 use Rattle.cast_model.specs.Group.{members_of, has_view}
-use Rattle.cast_history.specs.State.{State, opening, local, was_given, let_go}
+use Rattle.cast_history.specs.State.{State, opening, local, was_given}
 use Rattle.cast_history.specs.Rules.Sending.{may_raise}
 use Rattle.cast_history.specs.Step.{acted}
 use Rattle.cast_history.specs.History.{history}
 use Rattle.cast_history.specs.Rules.Views.{decide}
-use Rattle.cast_history.specs.Rest.{deliver_first, set_order}
+use Rattle.cast_history.specs.Rest.{deliver_first, set_order, let_go}
 use Rattle.cast_history.specs.Run.{before_event, IsRun}
 use Rattle.cast_history.specs.Lawful.{IsLawful, IsTyped}
 
@@ -76,7 +76,7 @@ CanRaise s = (k : ℕ) (g : GroupNo) → is_member ((s.process k).standing g) �
 pub data IsPassed (here : SiteNo) (config : DomainConfig) : State → Type 0 where
   opens : IsPassed here config (opening here config)
   begins : (s : State) → IsPassed here config s → IsPassed here config (before_event s)
-  acts : (s : State) (e : Event) → IsTyped e → IsPassed here config s → IsPassed here config (acted s e).0
+  acts : (s : State) (e : Event) → IsTyped e → IsPassed here config s → IsPassed here config (acted s e)
   lets_go : (s : State) → IsPassed here config s → IsPassed here config (let_go s)
   delivers : (s : State) (k : ℕ) → IsPassed here config s → IsPassed here config (deliver_first k s)
   orders : (s : State) (g : GroupNo) → IsPassed here config s → IsPassed here config (set_order s g)

@@ -1,12 +1,20 @@
 -- What a state does of itself after each event, until nothing changes: the rules of rest for a history.
-use Rattle.std.specs.Prelude.{ℕ}
+use Rattle.std.specs.Prelude.{ℕ, Bool}
 use Rattle.cast_types.specs.declared.names.GroupNo.{GroupNo}
+use Rattle.cast_types.specs.declared.names.Uid.{Uid}
 use Rattle.cast_types.specs.Repeat.{ComesToRest}
 use Rattle.cast_history.specs.State.{State}
 use Rattle.cast_history.specs.History.{history}
 use Rattle.cast_history.specs.Resting.{resting}
+use Rattle.cast_history.specs.Rules.Release as release
 use Rattle.cast_history.specs.Rules.Order as order
 use Rattle.cast_history.specs.Rules.Rest as rest
+
+abbrev pub is_free : State → Uid → Bool
+is_free = release.is_free history resting
+
+abbrev pub let_go : State → State
+let_go = release.let_go history resting
 
 abbrev pub deliver_first : ℕ → State → State
 deliver_first = rest.deliver_first history resting

@@ -5,7 +5,8 @@ use Rattle.cast_types.specs.declared.names.GroupNo.{GroupNo}
 use Rattle.cast_message.specs.Sequence.{Sequence}
 use Rattle.cast_order.specs.Order.{ids_to_list, place_after}
 use Rattle.cast_model.specs.Home.{is_empty}
-use Rattle.cast_history.specs.State.{State, serials, with_delivery, let_go}
+use Rattle.cast_model.specs.Group.{is_current}
+use Rattle.cast_history.specs.State.{State, serials, is_delivered, with_delivery, releasing}
 use Rattle.cast_history.specs.Order.{order_of, unlisted, has_place, is_ready_for}
 use Rattle.cast_history.specs.Rules.Interface.{Resting}
 
@@ -23,8 +24,10 @@ resting = record {
   serials = serials;
   turns = λ s. length s.got;
   next_ready = λ s k. find (is_ready_for s k) s.got;
+  is_current = λ s u. is_current (s.group u.group) u.view;
+  is_delivered = is_delivered;
   next_places = next_places;
   note_delivered = with_delivery;
   note_listed = λ s g k. s;
-  let_go = let_go;
+  release = releasing;
 }

@@ -9,5 +9,7 @@ pub mod Requests
 pub mod Commands
 pub mod Views
 pub mod Frames
+pub mod Events
+pub mod Release
 pub mod Order
 pub mod Rest

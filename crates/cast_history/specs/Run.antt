@@ -5,10 +5,10 @@ use Rattle.cast_message.specs.declared.site.SiteFrame.{SiteFrame}
 use Rattle.cast_model.specs.declared.config.DomainConfig.{DomainConfig}
 use Rattle.cast_model.specs.declared.event.Event.{Event}
 use Rattle.cast_model.specs.declared.event.Taken.{Taken}
-use Rattle.cast_history.specs.State.{State, opening, let_go}
+use Rattle.cast_history.specs.State.{State, opening}
 use Rattle.cast_types.specs.Repeat.{iterate}
-use Rattle.cast_history.specs.Rest.{RestsAt, pass}
-use Rattle.cast_history.specs.Step.{acted}
+use Rattle.cast_history.specs.Rest.{RestsAt, pass, let_go}
+use Rattle.cast_history.specs.Step.{acted, answered}
 
 -- before an event nothing of it is sent or delivered
 abbrev pub before_event : State → State
@@ -16,11 +16,11 @@ before_event s = record s { frames = []; deliveries = [] }
 
 -- what an event does at once; what is free then is let go
 abbrev pub after_event : State → Event → State
-after_event s e = let_go (acted (before_event s) e).0
+after_event s e = let_go (acted (before_event s) e)
 
 -- an event takes s to t, with an answer. The frames sent and the deliveries stand in t
 pub record IsStep (s : State) (e : Event) (answer : Taken) (t : State) : Type 0 where
-  pub answers : answer ≡ (acted (before_event s) e).1
+  pub answers : answer ≡ answered (before_event s) e
   pub rests : RestsAt (after_event s e) t
 
 -- events take s to t, with an answer to each, and with these frames sent
@@ -45,7 +45,7 @@ pub record Ran : Type 0 where
 abbrev pub ran_on : ℕ → Ran → Event → Ran
 ran_on n r e =
     let t : State = step_in n r.state e in
-    record { answers = r.answers ++ (acted (before_event r.state) e).1 ∷ []; sent = r.sent ++ t.frames; state = t }
+    record { answers = r.answers ++ answered (before_event r.state) e ∷ []; sent = r.sent ++ t.frames; state = t }
 
 abbrev pub run_in : ℕ → Ran → List Event → Ran
 run_in n r [] = r

@@ -20,7 +20,7 @@ use Rattle.cast_model.specs.declared.session.Session.{Session}
 use Rattle.cast_message.specs.declared.client.Push.{Push}
 use Rattle.cast_model.specs.Session.{no_session, is_open, pushed_to}
 use Rattle.cast_model.specs.declared.group.Group.{Group}
-use Rattle.cast_model.specs.Group.{no_group, members_of, other_sites, is_current}
+use Rattle.cast_model.specs.Group.{no_group, members_of, other_sites}
 use Rattle.cast_model.specs.declared.home.Home.{Home}
 use Rattle.cast_model.specs.Home.{first_home}
 use Rattle.cast_model.specs.declared.config.DomainConfig.{DomainConfig}
@@ -174,15 +174,13 @@ noting_stable s u = record s { told = s.told ++ u ∷ [] }
 abbrev pub local_members : State → GroupNo → List ℕ
 local_members s g = filter (λ k. is_member ((s.process k).standing g)) (serials s)
 
--- a message of the current view that is stable, and that each local member has delivered
-abbrev pub is_free : State → Uid → Bool
-is_free s u =
-    is_current (s.group u.group) u.view
-    && (is_stable s u && list_all (λ k. has_delivered (s.process k) u) (local_members s u.group))
+-- each of them has delivered a message
+abbrev pub is_delivered : State → Uid → Bool
+is_delivered s u = list_all (λ k. has_delivered (s.process k) u) (local_members s u.group)
 
--- free messages are let go
-abbrev pub let_go : State → State
-let_go s = record s { kept = filter (λ m. not (is_free s m.id)) s.kept }
+-- kept messages are let go, those whose ids pass a test
+abbrev pub releasing : State → (Uid → Bool) → State
+releasing s passes = record s { kept = filter (λ m. not (passes m.id)) s.kept }
 
 -- Readiness
 

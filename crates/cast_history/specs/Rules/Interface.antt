@@ -95,6 +95,13 @@ pub record Site (S H : Type 0) : Type 0 where
   -- join was applied, by the number of the last one of this site that was
   pub enter_view : S → H → ℕ → Membership → ℕ → S
 
+-- the serials of a domain's sessions, which count from 1
+pub record Serials (S : Type 0) : Type 0 where
+  -- how many were given
+  pub used : S → ℕ
+  -- the next one is given, and its session is open
+  pub open_next : S → S
+
 -- what a domain does of itself, until nothing changes
 pub record Resting (S H : Type 0) : Type 0 where
   -- the serials that were given, in their order
@@ -103,11 +110,15 @@ pub record Resting (S H : Type 0) : Type 0 where
   pub turns : S → ℕ
   -- the first message that is ready for a local process
   pub next_ready : S → ℕ → Option Message
+  -- a message is of the view that its group has here
+  pub is_current : S → Uid → Bool
+  -- each local member of its group has delivered a message; a count is at least 1
+  pub is_delivered : S → Uid → Bool
   -- what a local process, the holder of a group's view, has to list, at the places after those that are known
   pub next_places : S → H → ℕ → Option Sequence
   -- a local process has delivered a message, the first one that was ready for it
   pub note_delivered : S → ℕ → Message → S
   -- the holder lists what it has to list, in the message that it sends now
   pub note_listed : S → H → ℕ → S
-  -- messages that are free are let go
-  pub let_go : S → S
+  -- kept messages are let go, those whose ids pass a test
+  pub release : S → (Uid → Bool) → S

@@ -8,6 +8,7 @@ use Rattle.cast_message.specs.Sequence.{Sequence}
 use Rattle.cast_delay.specs.Ready.{is_member}
 use Rattle.cast_model.specs.Group.{holder_at}
 use Rattle.cast_history.specs.Rules.Interface.{Site, Resting}
+use Rattle.cast_history.specs.Rules.Release.{let_go}
 use Rattle.cast_history.specs.Rules.Room.{may_order}
 use Rattle.cast_history.specs.Rules.Sending.{send_message, may_raise}
 use Rattle.cast_history.specs.Rules.Commands.{named_here, message_sent}
@@ -28,7 +29,7 @@ module _ {S H : Type 0} (d : Site S H) (q : Resting S H) where
   -- where its count may be raised; what is free then is let go
   abbrev pub list_places : S → H → ℕ → Sequence → S
   list_places s h k places =
-      if may_raise (d.time s k) (d.name s h) (named_here d s k) then q.let_go (send_places s h k places) else s
+      if may_raise (d.time s k) (d.name s h) (named_here d s k) then let_go d q (send_places s h k places) else s
 
   -- where it has some to list
   abbrev pub set_order_by : S → H → ℕ → S

@@ -11,6 +11,7 @@ use Rattle.cast_message.specs.declared.client.CastKind.TheVariants as kind
 use Rattle.cast_message.specs.declared.client.Push.{Push}
 use Rattle.cast_message.specs.declared.client.Push.TheVariants as push
 use Rattle.cast_history.specs.Rules.Interface.{Site, Resting}
+use Rattle.cast_history.specs.Rules.Release.{let_go}
 use Rattle.cast_history.specs.Rules.Order.{set_orders}
 use Rattle.cast_history.specs.Rules.Views.{lead}
 
@@ -31,7 +32,7 @@ module _ {S H : Type 0} (d : Site S H) (q : Resting S H) where
 
   -- a process delivers the first message that is ready for it, and what is free then is let go
   abbrev pub deliver_first : ℕ → S → S
-  deliver_first k s = elim (q.next_ready s k) [ Some m ↦ q.let_go (deliver s k m) | None ↦ s ]
+  deliver_first k s = elim (q.next_ready s k) [ Some m ↦ let_go d q (deliver s k m) | None ↦ s ]
 
   -- a process delivers until nothing is ready for it
   abbrev pub deliver_all : S → ℕ → S

@@ -3,10 +3,11 @@ use Rattle.std.specs.Option.{option_copied, option_map_or}
 use Rattle.cast_types.specs.declared.names.Key.{Key}
 use Rattle.cast_message.specs.declared.message.Message.{Message}
 use Rattle.cast_message.specs.Receipts.{message_under}
-use Rattle.cast_history.specs.Rules.Rest.{tell, told_of, deliver, deliver_first}
+use Rattle.cast_history.specs.Rules.Rest.{tell, told_of, deliver}
 use Rattle.cast_domain.specs.Records.{records_in}
 use Rattle.cast_domain.specs.Shared.{part_of}
-use Rattle.cast_domain.specs.Calls.{let_go_in, local_in, next_ready_in, note_delivered_under, ready_key_in, records, resting_records}
+use Rattle.cast_history.specs.Rules.Release as release
+use Rattle.cast_domain.specs.Calls.{local_in, next_ready_in, note_delivered_under, ready_key_in, records, resting_records}
 use Rattle.cast_domain.proofs.Loops.{others_then, seen_as}
 use Rattle.cast_domain.proofs.domain.Domain.deliver_first.Goals as goal
 
@@ -16,7 +17,7 @@ returns-in_default-clause-made c =
     let k = c.args.serial in
     let none : ready_key_in r (local_in r k) ≡ None = ap (ready_key_in r) (sym c.process-process.ensures) ∙ sym c.in_ok-key.ensures ∙ c.in_default.is in
     let next : next_ready_in r k ≡ None = ap (λ (o : Option Key). option_map_or (message_under r.part.kept) o None) none in
-    sym (ap (λ (o : Option Message). elim o [ Some m ↦ let_go_in (deliver records resting_records r k m) | None ↦ r ]) next)
+    sym (ap (λ (o : Option Message). elim o [ Some m ↦ release.let_go records resting_records (deliver records resting_records r k m) | None ↦ r ]) next)
 
 pub returns-in_default-get-clause-made : goal.returns-in_default-get-clause-made
 returns-in_default-get-clause-made c =
@@ -25,7 +26,7 @@ returns-in_default-get-clause-made c =
     let some : ready_key_in r (local_in r k) ≡ Some c.in-Some.key = ap (ready_key_in r) (sym c.process-process.ensures) ∙ sym c.in_ok-key.ensures ∙ c.in-Some.is in
     let none : message_under r.part.kept c.in-Some.key ≡ None = sym c.get.ensures ∙ ap option_copied c.in_default-get.is in
     let next : next_ready_in r k ≡ None = ap (λ (o : Option Key). option_map_or (message_under r.part.kept) o None) some ∙ none in
-    sym (ap (λ (o : Option Message). elim o [ Some m ↦ let_go_in (deliver records resting_records r k m) | None ↦ r ]) next)
+    sym (ap (λ (o : Option Message). elim o [ Some m ↦ release.let_go records resting_records (deliver records resting_records r k m) | None ↦ r ]) next)
 
 pub returns-clause-made : goal.returns-clause-made
 returns-clause-made c =
@@ -39,13 +40,13 @@ returns-clause-made c =
     let found : message_under r.part.kept key ≡ Some m = sym c.get.ensures ∙ ap option_copied c.in-Some-get.is in
     let next : next_ready_in r k ≡ Some m = ap (λ (o : Option Key). option_map_or (message_under r.part.kept) o None) some ∙ found in
     c.in_ok-let_go.ensures.made c.deliver.new.outs
-    ∙ ap let_go_in (
+    ∙ ap (release.let_go records resting_records) (
     seen_as d c.deliver.new.self c.in_ok-deliver.ensures.same c.args.shared.now c.deliver.new.outs
     ∙ c.in_ok-deliver.ensures.made (part_of d.config.domain c.args.shared.now)
     ∙ (λ j. tell records (note_delivered_under r (own j) key m) (own j).serial (told_of m.id m.body))
     ∙ sym (ap (λ (o : Option Key). tell records (option_map_or (λ x. note_delivered_under r (local_in r k) x m) o r) k (told_of m.id m.body)) some)
     )
-    ∙ sym (ap (λ (o : Option Message). elim o [ Some x ↦ let_go_in (deliver records resting_records r k x) | None ↦ r ]) next)
+    ∙ sym (ap (λ (o : Option Message). elim o [ Some x ↦ release.let_go records resting_records (deliver records resting_records r k x) | None ↦ r ]) next)
 
 pub returns-clause-others : goal.returns-clause-others
 returns-clause-others c =

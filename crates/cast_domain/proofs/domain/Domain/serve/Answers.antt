@@ -1,13 +1,14 @@
+use Rattle.cast_history.specs.Rest.{let_go}
 use Rattle.std.proofs.Common.{◌≡◌, ◌++◌, ◌∙◌, sym, ap, subst}
 use Rattle.cast_model.specs.declared.config.DomainConfig.{DomainConfig}
 use Rattle.cast_history.specs.Run.{before_event}
 use Rattle.cast_history.specs.Step.{acted}
-use Rattle.cast_history.specs.State.{let_go}
 use Rattle.cast_domain.specs.Shared.{part_of}
 use Rattle.cast_model.specs.Outs.{no_outs, outs_then}
 use Rattle.cast_domain.specs.Records.{records_in, records_of}
 use Rattle.cast_domain.specs.Stepped.{step_outs}
-use Rattle.cast_domain.specs.Calls.{act_in}
+use Rattle.cast_history.specs.Rules.Events as rules
+use Rattle.cast_domain.specs.Calls.{records, records_serials}
 use Rattle.cast_history.specs.Lawful.{IsLawful}
 use Rattle.cast_domain.specs.Fits.{Fits}
 use Rattle.cast_history.proofs.Lawful.{lawful_before, lawful_let_go}
@@ -28,13 +29,13 @@ returns-clause-steps c s means =
     let typed = c.in_ok-taken.ensures.typed in
     let lawful = lawful_before s means.lawful in
     let acted_records = records_in c.act.new.self c.act.new.shared c.act.new.outs in
-    let made : acted_records ≡ act_in r e = c.in_ok-taken.ensures.made ∙ ap (λ o. act_in (records_of here part o) e) c.new-step.ensures in
-    let acts : Fits acted_records (acted b e).0 = subst (λ x. Fits x (acted b e).0) (sym made) (fits_acted r b e means.fits lawful typed) in
-    let acts_lawful : IsLawful (acted b e).0 = lawful_acted b e lawful (unborn r b means.fits) typed in
-    let after : Fits (records_in c.let_go.new.self c.let_go.new.shared c.act.new.outs) (let_go (acted b e).0) =
-    subst (λ x. Fits x (let_go (acted b e).0)) (sym (c.in_ok-let_go.ensures.made c.act.new.outs)) (fits_let_go acted_records (acted b e).0 acts acts_lawful) in
-    let after_lawful = lawful_let_go (acted b e).0 acts_lawful in
-    let rested = c.in_ok-rest.ensures.rests (let_go (acted b e).0) after after_lawful in
+    let made : acted_records ≡ rules.acted records records_serials r e = c.in_ok-taken.ensures.made ∙ ap (λ o. rules.acted records records_serials (records_of here part o) e) c.new-step.ensures in
+    let acts : Fits acted_records (acted b e) = subst (λ x. Fits x (acted b e)) (sym made) (fits_acted r b e means.fits lawful typed) in
+    let acts_lawful : IsLawful (acted b e) = lawful_acted b e lawful (unborn r b means.fits) typed in
+    let after : Fits (records_in c.let_go.new.self c.let_go.new.shared c.act.new.outs) (let_go (acted b e)) =
+    subst (λ x. Fits x (let_go (acted b e))) (sym (c.in_ok-let_go.ensures.made c.act.new.outs)) (fits_let_go acted_records (acted b e) acts acts_lawful) in
+    let after_lawful = lawful_let_go (acted b e) acts_lawful in
+    let rested = c.in_ok-rest.ensures.rests (let_go (acted b e)) after after_lawful in
     let t = rested.0 in
     let fits = rested.2 in
     let added : outs_then before c.rest.new.outs ≡ outs_then before (step_outs t) =
@@ -51,7 +52,7 @@ returns-clause-steps c s means =
       };
       means = record {
         fits = fits_between (records_of c.rest.new.self last c.rest.new.outs) t fits_last;
-        lawful = lawful_rests (let_go (acted b e).0) t after_lawful rested.1;
+        lawful = lawful_rests (let_go (acted b e)) t after_lawful rested.1;
       };
       outs = c.in_ok-append.ensures.ok ∙ added;
     }

@@ -7,7 +7,8 @@ use Rattle.cast_history.specs.Rules.Room.{may_order}
 use Rattle.cast_history.specs.Rules.Sending.{may_raise}
 use Rattle.cast_history.specs.Rules.Order.{may_list}
 use Rattle.cast_domain.specs.Records.{records_in}
-use Rattle.cast_domain.specs.Calls.{records, resting_records, let_go_in, record_at, standing_of, time_of}
+use Rattle.cast_history.specs.Rules.Release as release
+use Rattle.cast_domain.specs.Calls.{records, resting_records, record_at, standing_of, time_of}
 use Rattle.cast_domain.proofs.Attempts.{places_made, places_none, places_missing, places_unraised, raised_none, raised_some}
 use Rattle.cast_domain.proofs.domain.Domain.set_order_by.Goals as goal
 
@@ -58,7 +59,7 @@ returns-clause-made c =
     ap (λ g. next_places (log_of r.orders g)) (sym name) ∙ sym c.in_ok-places.ensures ∙ c.in-Some.is in
     let raised = raised_some (may_raise (time_of r.delay holder) h holder) (bumped (time_of r.delay holder) h holder) c.in-Some-2.time c.in-Some-2.stamp (sym c.in-Some-2.is ∙ c.in_ok-time.ensures) in
     c.in_ok-let_go.ensures.made c.send_places.new.outs
-    ∙ ap let_go_in c.in_ok-send_places.ensures.made
+    ∙ ap (release.let_go records resting_records) c.in_ok-send_places.ensures.made
     ∙ sym (places_made r i c.args.serial c.in-Some.places may next ((λ j. may_raise (time_of r.delay (sym p j)) (sym name j) (sym p j)) ∙ raised.0))
 
 pub send_places-requires-clause-raised : goal.send_places-requires-clause-raised
