@@ -23,7 +23,7 @@ use Rattle.cast_order.specs.Log.{Log, log_of}
 use Rattle.cast_history.specs.Rules.Sending.{send_data}
 use Rattle.cast_history.proofs.Rules.Follows.{sent_here}
 use Rattle.cast_model.specs.Group.{has_view}
-use Rattle.cast_history.specs.State.{State, local, set_process, others_of, gate_of, was_given, receiving, awaits_own}
+use Rattle.cast_history.specs.State.{State, local, others_of, gate_of, was_given, receiving, awaits_own, noting_sent}
 use Rattle.cast_history.specs.History.{history}
 use Rattle.cast_history.specs.Effects.{next_message}
 use Rattle.cast_domain.specs.Records.{Records}
@@ -31,7 +31,7 @@ use Rattle.cast_domain.specs.Calls.{tell_in, records, receive_in, is_own_in, awa
 use Rattle.cast_history.specs.Lawful.{IsSpent, AreKept, IsLawful}
 use Rattle.cast_domain.specs.Fits.{process_named, LogFits, Fits}
 use Rattle.cast_domain.proofs.Following.{fits_sends}
-use Rattle.cast_domain.proofs.Standing.{record_there, standing_there, time_there, fits_time, process_here, fits_receive, fits_receive_with}
+use Rattle.cast_domain.proofs.Standing.{record_there, standing_there, time_there, fits_sent, process_here, fits_receive, fits_receive_with}
 use Rattle.cast_domain.proofs.Releases.{current_same}
 use Rattle.cast_types.proofs.Bools.{same_bools, and_none}
 
@@ -125,17 +125,17 @@ next_sound s g k content l member =
     }
 
 -- what a member sends is stamped and received, on both sides
-pub fits_sent_here : (r : Records) (s : State) → Fits r s → IsLawful s → (k : ℕ) → was_given s.used k ≡ true → (i : ℕ) (g : GroupNo) → slice_get s.config.groups i ≡ Some g → (content : Body) → is_order (kind_of content) ≡ false → is_member ((s.process k).standing g) ≡ true → Fits (sent_here records r i k g content) (receiving (set_process s k (record (s.process k) { time = (next_message s g k content).times })) (next_message s g k content))
+pub fits_sent_here : (r : Records) (s : State) → Fits r s → IsLawful s → (k : ℕ) → was_given s.used k ≡ true → (i : ℕ) (g : GroupNo) → slice_get s.config.groups i ≡ Some g → (content : Body) → is_order (kind_of content) ≡ false → is_member ((s.process k).standing g) ≡ true → Fits (sent_here records r i k g content) (receiving (noting_sent s k (next_message s g k content)) (next_message s g k content))
 fits_sent_here r s f l k given i g at content plain member =
-    as_written (λ x. Fits (sent_here records x i k g content) (receiving (set_process s k (record (s.process k) { time = (next_message s g k content).times })) (next_message s g k content))) r s f written_fits
+    as_written (λ x. Fits (sent_here records x i k g content) (receiving (noting_sent s k (next_message s g k content)) (next_message s g k content))) r s f written_fits
   where
-    written_fits : Fits (written r s) s → Fits (sent_here records (written r s) i k g content) (receiving (set_process s k (record (s.process k) { time = (next_message s g k content).times })) (next_message s g k content))
+    written_fits : Fits (written r s) s → Fits (sent_here records (written r s) i k g content) (receiving (noting_sent s k (next_message s g k content)) (next_message s g k content))
     written_fits w =
         let x : Records = written r s in
         let p : Proc = local s k in
         let there = record_there x s w i g at in
         let m : Message = next_message s g k content in
-        let now : State = set_process s k (record (s.process k) { time = m.times }) in
+        let now : State = noting_sent s k m in
         let same : sent_here records x i k g content ≡ receive_in (tell_in x p (fact.Time m.times)) m = (λ j.
         receive_in (tell_in x p (fact.Time (bumped (time_there x s w k j) g p))) (record {
           id = record { group = g; view = (there j).here.number; proc = p; count = count_in (bumped (time_there x s w k j) g p) g p };
@@ -143,6 +143,6 @@ fits_sent_here r s f l k given i g at content plain member =
           body = content;
         })) in
         subst (λ y. Fits y (receiving now m)) (sym same)
-        (fits_receive (tell_in x p (fact.Time m.times)) now (fits_time x s w k given m.times) m (next_sound s g k content l member)
+        (fits_receive (tell_in x p (fact.Time m.times)) now (fits_sent x s w k given m) m (next_sound s g k content l member)
         (eq-eqb (s.group g).number (s.group g).number refl)
         (λ j. ap (λ b. b && proc_eq p (local s j)) plain))

@@ -14,6 +14,7 @@ use Rattle.cast_types.specs.Names.{site_eq, group_eq, proc_eq, proc_cmp}
 use Rattle.cast_types.specs.Sets.{is_among, set_at}
 use Rattle.cast_types.proofs.Orders.{proc_total, same_site, same_proc, site_itself, proc_itself}
 use Rattle.cast_clock.specs.Times.{entering}
+use Rattle.cast_types.specs.Counts.{CountList}
 use Rattle.cast_message.specs.declared.client.Push.{Push}
 use Rattle.cast_message.specs.declared.client.Push.TheVariants as push
 use Rattle.cast_message.specs.Membership.{Membership, is_members}
@@ -27,13 +28,14 @@ use Rattle.cast_domain.specs.declared.record.GroupRecord.{GroupRecord}
 use Rattle.cast_model.specs.declared.session.Session.{Session}
 use Rattle.cast_model.specs.Session.{is_open, pushed_to, told}
 use Rattle.cast_model.specs.Group.{with_view, is_taken_in}
+use Rattle.cast_history.specs.Acts.{Act}
 use Rattle.cast_history.specs.State.{State, local, serials, is_group, set_session, set_process, set_group, set_standing, was_given, pushing}
-use Rattle.cast_history.specs.Entering.{enters, in_view, push_view, completing}
+use Rattle.cast_history.specs.Entering.{enters, in_view, push_view, completing, all_in_view}
 use Rattle.cast_domain.specs.Records.{Records}
 use Rattle.cast_domain.specs.Calls.{record_at, standing_of, push_in, tell_in, enter_in, take_in, view_in, complete_in}
 use Rattle.cast_history.specs.Lawful.{IsLawful}
 use Rattle.cast_domain.specs.Fits.{Fits}
-use Rattle.cast_domain.proofs.Standing.{fits_told, fits_if, record_there, standing_there, time_there, fits_push, fits_view, still_in}
+use Rattle.cast_domain.proofs.Standing.{fits_told, fits_if, record_there, standing_there, time_there, fits_push, fits_view, still_in, fits_acts}
 use Rattle.cast_types.proofs.Bools.{and_none}
 
 -- Small truths of tests
@@ -300,13 +302,15 @@ module _ (g : GroupNo) (n : ℕ) (members : Membership) (request : ℕ) (t : Sta
       (λ k later. or_from (e k) (taken k && proc_eq (local t k) p) (fresh k (or_right (proc_eq (local t k) p) (is_among proc_eq (local t k) ps) later)) (ap (λ b. taken k && b) (apart k later) ∙ and_none (taken k))))
 
 -- a view is complete
-pub fits_complete : (r : Records) (s : State) → Fits r s → IsLawful s → (i : ℕ) (g : GroupNo) → slice_get s.config.groups i ≡ Some g → is_group s g ≡ true → (n : ℕ) (members : Membership) (request : ℕ) → is_members members ≡ true → (s.group g).number < n → Fits (complete_in r i n members request) (completing s g n members request)
-fits_complete r s f l i g at listed n members request typed newer =
-    let now : State = set_group s g (with_view s.here n members (s.group g)) in
+pub fits_complete : (r : Records) (s : State) → Fits r s → IsLawful s → (i : ℕ) (g : GroupNo) → slice_get s.config.groups i ≡ Some g → is_group s g ≡ true → (n : ℕ) (members : Membership) (request : ℕ) (cut : CountList) → is_members members ≡ true → (s.group g).number < n → Fits (complete_in r i n members request) (completing s g n members request cut)
+fits_complete r s f l i g at listed n members request cut typed newer =
+    let viewed : State = set_group s g (with_view s.here n members (s.group g)) in
+    let acts : ℕ → List Act = (all_in_view viewed g n members request cut).acts in
+    let now : State = record viewed { acts = acts } in
     let first : Records = view_in r i n members in
-    let f0 : Fits first now = fits_view r s f l i g at n members newer in
+    let f0 : Fits first now = fits_acts first viewed (fits_view r s f l i g at n members newer) acts in
     let rising = (and_parts (is_rising proc_cmp members.list) _ typed).0 in
     let all = fits_take_all g n members request now members.list first (λ k. false) f0 listed rising (λ k _. refl) in
     let one_by_one = subst (λ x. Fits (fold (take_in g n members request) first members.list) x) (sym (at_once g n members request now (enters s g members request) f0.opened.all_open)) all in
     let name : (record_at r.groups i).name ≡ g = ap (λ (x : GroupRecord). x.name) (record_there r s f i g at) in
-    subst (λ h. Fits (fold (take_in h n members request) first members.list) (completing s g n members request)) (sym name) one_by_one
+    subst (λ h. Fits (fold (take_in h n members request) first members.list) (completing s g n members request cut)) (sym name) one_by_one

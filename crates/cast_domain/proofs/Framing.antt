@@ -13,6 +13,7 @@ use Rattle.cast_types.specs.Sets.{is_among}
 use Rattle.cast_types.proofs.Bools.{same_bools, and_none}
 use Rattle.cast_types.proofs.Orders.{same_site, same_uid, uid_itself}
 use Rattle.cast_clock.specs.Times.{clock_of, count_in}
+use Rattle.cast_types.specs.Counts.{CountList}
 use Rattle.cast_message.specs.declared.message.Message.{Message}
 use Rattle.cast_message.specs.declared.message.Received.{Received}
 use Rattle.cast_message.specs.declared.site.SiteFrame.{SiteFrame}
@@ -26,7 +27,7 @@ use Rattle.cast_delay.specs.Fits.{IsSound}
 use Rattle.cast_delay.specs.declared.row.Fact.TheVariants as fact
 use Rattle.cast_model.specs.Group.{with_request, with_answer, with_view}
 use Rattle.cast_model.specs.Home.{after_request, after_installed, decided}
-use Rattle.cast_history.specs.State.{State, local, serials, was_given, set_process, set_group, set_standing, is_received, receiving, others_of}
+use Rattle.cast_history.specs.State.{State, local, serials, was_given, set_group, set_standing, is_received, receiving, others_of, noting_sent}
 use Rattle.cast_history.specs.Effects.{next_message}
 use Rattle.cast_history.specs.Entering.{enters, all_in_view, push_view, completing}
 use Rattle.cast_history.specs.History.{history}
@@ -90,10 +91,10 @@ fits_taken r s f g from m taken =
     (none_ours s m (taken_foreign s g from m taken))
 
 -- the configuration stays as a view is entered
-completing_config : (s : State) (g : GroupNo) (n : ℕ) (members : Membership) (request : ℕ) → (completing s g n members request).config ≡ s.config
-completing_config s g n members request =
+completing_config : (s : State) (g : GroupNo) (n : ℕ) (members : Membership) (request : ℕ) (cut : CountList) → (completing s g n members request cut).config ≡ s.config
+completing_config s g n members request cut =
     let now : State = set_group s g (with_view s.here n members (s.group g)) in
-    (same_fold (push_view g n members) (λ t k. same_pushing t k (push.View g n members)) (filter (enters s g members request) (serials s)) (all_in_view now g n members request)).config
+    (same_fold (push_view g n members) (λ t k. same_pushing t k (push.View g n members)) (filter (enters s g members request) (serials s)) (all_in_view now g n members request cut)).config
 
 -- The records stand for a lawful history of a domain of these groups
 
@@ -137,10 +138,9 @@ module _ (groups : List GroupNo) where
       all_lawful.note_joining s f.1 k given g h at number heard,
     );
     sends = λ r s f i h at k g content sent. let placed = placed_at s g h sent.at in
-        let same : message_sent history s k g h content ≡ next_message s g k content = ap (λ x. message_sent history s k g x content) (sym placed.1) in
-        let times = (next_message s g k content).times in (
+        let same : message_sent history s k g h content ≡ next_message s g k content = ap (λ x. message_sent history s k g x content) (sym placed.1) in (
           (
-            subst (λ m. Fits (sent_here records r i k g content) (receiving (set_process s k (record (s.process k) { time = times })) m)) (sym same)
+            subst (λ m. Fits (sent_here records r i k g content) (receiving (noting_sent s k m) m)) (sym same)
                 (fits_sent_here r s f.0.0 f.1 k (sym (f.0.0.opened.all_open k) ∙ sent.given) i g (there r s f i g (at ∙ ap Some (sym placed.1))) content sent.plain sent.member),
             f.0.1,
           ),
@@ -156,12 +156,12 @@ module _ (groups : List GroupNo) where
     note_installed = λ r s f i g at from n.
         ((fits_home r s f.0.0 f.1 i g (there r s f i g at) (λ h. after_installed h from n), f.0.1), all_lawful.note_installed s f.1 g from n);
     note_decided = λ r s f i g at. ((fits_home r s f.0.0 f.1 i g (there r s f i g at) decided, f.0.1), all_lawful.note_decided s f.1 g);
-    enter_view = λ r s f i g at h n members request is. let e = entered s g h n members is in (
+    enter_view = λ r s f i g at h n members request cut is. let e = entered s g h n members is in (
       (
-        fits_complete r s f.0.0 f.1 i g (there r s f i g at) e.listed n members request is.typed e.later,
-        ap (λ c. c.groups) (completing_config s g n members request) ∙ f.0.1,
+        fits_complete r s f.0.0 f.1 i g (there r s f i g at) e.listed n members request cut is.typed e.later,
+        ap (λ c. c.groups) (completing_config s g n members request cut) ∙ f.0.1,
       ),
-      all_lawful.enter_view s f.1 g h n members request is,
+      all_lawful.enter_view s f.1 g h n members request cut is,
     );
   }
 

@@ -28,7 +28,7 @@ use Rattle.cast_history.specs.Rules.Sending.{send_message, may_raise}
 use Rattle.cast_domain.specs.declared.record.GroupRecord.{GroupRecord}
 use Rattle.cast_model.specs.Group.{holder_of, is_process, holder_at}
 use Rattle.cast_model.specs.Home.{is_empty}
-use Rattle.cast_history.specs.State.{State, local, set_process, was_given}
+use Rattle.cast_history.specs.State.{State, local, was_given, noting_sent}
 use Rattle.cast_history.specs.Order.{order_of, holds, unlisted, has_place, is_of_view}
 use Rattle.cast_history.specs.Effects.{next_message, sending}
 use Rattle.cast_history.specs.Rest.{set_order_by, let_go}
@@ -44,7 +44,7 @@ use Rattle.cast_history.proofs.Alikes.{alike_sending}
 use Rattle.cast_history.proofs.LawfulSteps.{lawful_order_sent}
 use Rattle.cast_domain.proofs.LogSteps.{logs_place}
 use Rattle.cast_domain.proofs.Ordering.{order_room_there, settled_there, settled_of_holder, places_there}
-use Rattle.cast_domain.proofs.Standing.{record_there, process_here, standing_there, time_there, fits_time}
+use Rattle.cast_domain.proofs.Standing.{record_there, process_here, standing_there, time_there, fits_sent}
 use Rattle.cast_domain.proofs.Releases.{row_none, fits_let_go}
 use Rattle.cast_domain.proofs.Commands.{next_sound, fits_send_message_with}
 use Rattle.cast_domain.proofs.Turns.{Kept, kept_self, kept_if}
@@ -102,8 +102,8 @@ sent_at r p x places =
 fits_places : (r : Records) (s : State) → Fits r s → IsLawful s → (k : ℕ) (g : GroupNo) → holds s g k ≡ true → is_member ((s.process k).standing g) ≡ true → may_raise (s.process k).time g (local s k) ≡ true → (q : Sequence) → Some q ≡ next_places (log_of r.orders g) → Fits (sent_at r (local s k) (record_for s g) q) (sending s g k (body.Order q))
 fits_places r s f l k g here member raised q next =
     subst (λ x. Fits x (sending s g k (body.Order q))) (sym same)
-    (fits_send_message_with (tell_in r p (fact.Time m.times)) s1 (fits_time r s f k (member_given r s f k g member) m.times) m (next_sound s g k (body.Order q) l member) (learn_in noted g (body.Order q))
-    (logs_place s1 k m q settled r.orders (fits_time r s f k (member_given r s f k g member) m.times).orders here current refl refl next (settled_there r s f g p ∙ sym (settled_of_holder s g k here)) most))
+    (fits_send_message_with (tell_in r p (fact.Time m.times)) s1 (fits_sent r s f k (member_given r s f k g member) m) m (next_sound s g k (body.Order q) l member) (learn_in noted g (body.Order q))
+    (logs_place s1 k m q settled r.orders (fits_sent r s f k (member_given r s f k g member) m).orders here current refl refl next (settled_there r s f g p ∙ sym (settled_of_holder s g k here)) most))
   where
     p : Proc
     p = local s k
@@ -112,7 +112,7 @@ fits_places r s f l k g here member raised q next =
     m = next_message s g k (body.Order q)
 
     s1 : State
-    s1 = set_process s k (record (s.process k) { time = m.times })
+    s1 = noting_sent s k m
 
     settled : ℕ
     settled = settled_in r g (s.group g).number p

@@ -45,7 +45,9 @@ use Rattle.cast_model.specs.declared.group.Group.{Group}
 use Rattle.cast_model.specs.declared.home.Home.{Home}
 use Rattle.cast_model.specs.Session.{no_session, first_session, is_open, pushed_to, told}
 use Rattle.cast_model.specs.Group.{no_group, members_of, other_sites, with_view}
-use Rattle.cast_history.specs.State.{State, opening, no_process, local, is_group, gate_of, others_of, set_session, set_process, set_group, set_home, set_standing, emitted, was_given, pushing, receiving}
+use Rattle.cast_history.specs.State.{State, opening, no_process, local, is_group, gate_of, others_of, set_session, set_process, set_group, set_home, set_standing, emitted, was_given, pushing, receiving, noting_act, noting_sent}
+use Rattle.cast_history.specs.Acts.{Act}
+use Rattle.cast_history.specs.Acts.Act.{Sent}
 use Rattle.cast_history.specs.Step.{opening_next}
 use Rattle.cast_history.specs.Run.{before_event}
 use Rattle.cast_domain.specs.Shared.{no_part}
@@ -458,6 +460,25 @@ fits_standing r s fits k given g v ok = fits_tell r s fits k given (fact.Standin
 
 pub fits_time : (r : Records) (s : State) → Fits r s → (k : ℕ) → was_given s.used k ≡ true → (t : ClockList) → Fits (tell_in r (local s k) (fact.Time t)) (set_process s k (record (s.process k) { time = t }))
 fits_time r s fits k given t = fits_tell r s fits k given (fact.Time t) tt
+
+-- what processes did is the history's alone
+pub fits_acts : (r : Records) (s : State) → Fits r s → (acts : ℕ → List Act) → Fits r (record s { acts = acts })
+fits_acts r s fits acts = record {
+  core = fits.core;
+  opened = fits.opened;
+  groups = fits.groups;
+  messages = fits.messages;
+  processes = fits.processes;
+  acks = fits.acks;
+  orders = orders_same s (record s { acts = acts }) r.orders refl refl refl refl refl refl fits.orders;
+  frames = fits.frames;
+  delivered = fits.delivered;
+}
+
+pub fits_sent : (r : Records) (s : State) → Fits r s → (k : ℕ) → was_given s.used k ≡ true → (m : Message) → Fits (tell_in r (local s k) (fact.Time m.times)) (noting_sent s k m)
+fits_sent r s fits k given m =
+    let now : State = set_process s k (record (s.process k) { time = m.times }) in
+    fits_acts (tell_in r (local s k) (fact.Time m.times)) now (fits_time r s fits k given m.times) (noting_act now k (Sent m)).acts
 
 -- Messages and sessions that come
 

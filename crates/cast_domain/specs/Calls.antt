@@ -156,8 +156,8 @@ note_decided_in r i = record r { groups = update r.groups i (λ x. record x { ho
 abbrev pub note_joining_in : Records → ℕ → GroupNo → ℕ → ℕ → Records
 note_joining_in r k g number heard = tell_in r (local_in r k) (fact.Standing g (Joining number heard))
 
-abbrev pub note_time_in : Records → ℕ → ClockList → Records
-note_time_in r k t = tell_in r (local_in r k) (fact.Time t)
+abbrev pub note_sent_in : Records → ℕ → Message → Records
+note_sent_in r k m = tell_in r (local_in r k) (fact.Time m.times)
 
 abbrev pub is_current_in : Records → Uid → Bool
 is_current_in r u = option_map_or (λ i. is_current (record_at r.groups i).here u.view) (place_in r u.group) false
@@ -234,14 +234,14 @@ records = record {
   note_stable = note_stable_in;
   push = push_in;
   note_joining = note_joining_in;
-  note_time = note_time_in;
+  note_sent = note_sent_in;
   receive = receive_in;
   note_request = note_request_in;
   note_answer = note_answer_in;
   note_applied = note_applied_in;
   note_installed = note_installed_in;
   note_decided = note_decided_in;
-  enter_view = complete_in;
+  enter_view = λ r i n members request cut. complete_in r i n members request;
 }
 
 -- Messages that are let go

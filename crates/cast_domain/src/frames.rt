@@ -1,4 +1,4 @@
-ghost use Rattle.std.specs.Prelude.{◌≡◌, ◌<◌, true, false, IfOk, OnOk, vec_len};
+ghost use Rattle.std.specs.Prelude.{◌≡◌, ◌<◌, true, false, IfOk, OnOk, [], vec_len};
 ghost use Rattle.std.specs.List.{fold, list_all};
 ghost use Rattle.cast_types.specs.Names.{group_eq, proc_eq};
 ghost use Rattle.cast_types.specs.Counts.{is_counts};
@@ -315,7 +315,8 @@ impl Domain {
         }
     }
 
-    // Install: answered again where the site knows its number; else completed where the site has no view.
+    // Install: answered again where the site knows its number; else completed where the site has no view. What is kept does
+    // not depend on its cut.
     fn install(
         &mut self,
         place: usize,
@@ -327,7 +328,7 @@ impl Domain {
     ) -> Result<(), NoMemory>
         requires { place < vec_len self.old.groups }
         ensures same { Keeps self.old self.new }
-        ensures made { OnOk result ((part : Part) → records_of self.new part outs.new ≡ on_install records (records_of self.old part outs.old) place from view members.now request) }
+        ensures made { OnOk result ((part : Part) → records_of self.new part outs.new ≡ on_install records (records_of self.old part outs.old) place from view members.now request []) }
     {
         if !self.is_from_home(from) {
             return Ok(());

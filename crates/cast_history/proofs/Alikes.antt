@@ -16,7 +16,7 @@ use Rattle.cast_timer.specs.declared.key.Owed.{Owed}
 use Rattle.cast_delay.specs.Ready.{Process}
 use Rattle.cast_model.specs.declared.session.Session.{Session}
 use Rattle.cast_model.specs.Session.{is_open, pushed_to}
-use Rattle.cast_history.specs.State.{State, set_session, set_process, emitted, others_of, noting_ack, noting_stable, pushing, receiving}
+use Rattle.cast_history.specs.State.{State, set_session, set_process, emitted, others_of, noting_ack, noting_stable, pushing, receiving, noting_sent}
 use Rattle.cast_history.specs.Rest.{let_go}
 use Rattle.cast_history.specs.Owing.{noting_owed, noting_resent, paying, paying_upto, at_moment}
 use Rattle.cast_history.specs.Rules.Sending.{send_data}
@@ -109,12 +109,17 @@ alike_send_data u s to = send_data_keeps history (Alike s) (moves_alike s) u s (
 alike_receiving : (s t : State) (m : Message) → Alike s t → Alike (receiving s m) (receiving t m)
 alike_receiving s t m a = record { here = a.here; config = a.config; used = a.used; group = a.group; home = a.home; got = ap (λ got. got ++ m ∷ []) a.got; abcasts = a.abcasts; delivered = a.delivered }
 
+alike_sent : (s : State) (k : ℕ) (m : Message) → Alike s (noting_sent s k m)
+alike_sent s k m =
+    let a = alike_process s k (record (s.process k) { time = m.times }) refl in
+    record { here = a.here; config = a.config; used = a.used; group = a.group; home = a.home; got = a.got; abcasts = a.abcasts; delivered = a.delivered }
+
 -- a message that is sent is received here
 pub alike_sending : (s : State) (g : GroupNo) (k : ℕ) (content : Body) → Alike (receiving s (next_message s g k content)) (sending s g k content)
 alike_sending s g k content =
     let m : Message = next_message s g k content in
-    let t : State = set_process s k (record (s.process k) { time = m.times }) in
+    let t : State = noting_sent s k m in
     let u : State = receiving t m in
     alike_then (receiving s m) u (fold (send_data history m.id) u (others_of s g))
-    (alike_receiving s t m (alike_process s k (record (s.process k) { time = m.times }) refl))
+    (alike_receiving s t m (alike_sent s k m))
     (alike_fold (send_data history m.id) (alike_send_data m.id) (others_of s g) u)

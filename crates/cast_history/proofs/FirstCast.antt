@@ -1,14 +1,17 @@
 -- One process joins a group at its own home, and casts: the stored run, and what follows it.
 use Rattle.std.specs.Prelude.{◌≡◌, ℕ, zero, suc, false, List, [], ◌∷◌, Some, None, refl}
 use Rattle.cast_types.specs.declared.refusal.Refusal.TheVariants.{TooLong}
+use Rattle.cast_message.specs.declared.message.Body.TheVariants as body
+use Rattle.cast_message.specs.declared.message.Message.{Message}
 use Rattle.cast_message.specs.declared.site.Change.TheVariants as change
 use Rattle.cast_message.specs.declared.site.SiteFrame.TheVariants as frame
 use Rattle.cast_message.specs.declared.client.CastKind.TheVariants as kind
 use Rattle.cast_message.specs.declared.client.Push.TheVariants as push
 use Rattle.cast_model.specs.declared.event.Event.{Event}
 use Rattle.cast_model.specs.declared.event.Taken.TheVariants as taken
+use Rattle.cast_history.specs.Acts.Act.{Sent, Delivered, Entered}
 use Rattle.cast_history.specs.Run.{Ran, run_of}
-use Rattle.cast_history.proofs.Words.{site, group, uid, members, config, opens, asks_join, casts, comes, install, then_run, pushed_after, p11}
+use Rattle.cast_history.proofs.Words.{site, group, uid, at, members, config, opens, asks_join, casts, comes, install, then_run, pushed_after, p11}
 
 events : List Event
 events =
@@ -38,6 +41,14 @@ sent : ran.sent ≡
     ∷ (site 1, install 1 1 (p11 ∷ []) p11 1) ∷ (site 1, frame.Installed (group 1) 1) ∷ []
 unfolding ran events
 sent = refl
+
+-- what the process did: it entered the view, sent its message and delivered it
+first : Message
+first = record { id = uid 1 1 p11 1; times = at 1 1 ((p11, 1) ∷ []) ∷ []; body = body.Causal (104 ∷ 105 ∷ []) }
+
+did : ran.state.acts 1 ≡ Entered (group 1) 1 [] ∷ Sent first ∷ Delivered first ∷ []
+unfolding ran events first
+did = refl
 
 -- a second cast, empty: the reply, then the delivery, and no frame
 again : Ran

@@ -44,7 +44,10 @@ use Rattle.cast_model.specs.Group.{no_group, has_view, is_at, is_current, with_r
 use Rattle.cast_model.specs.declared.home.Home.{Home}
 use Rattle.cast_model.specs.Home.{is_empty}
 use Rattle.cast_model.specs.declared.config.DomainConfig.{DomainConfig}
-use Rattle.cast_history.specs.State.{State, opening, local, serials, is_group, set_session, set_process, set_group, set_home, set_standing, emitted, others_of, noting_ack, noting_stable, gate_of, local_members, is_stable, was_given, pushing, receiving, with_delivery}
+use Rattle.cast_history.specs.State.{State, opening, local, serials, is_group, set_session, set_process, set_group, set_home, set_standing, emitted, others_of, noting_ack, noting_stable, gate_of, local_members, is_stable, was_given, pushing, receiving, with_delivery, noting_act, noting_sent}
+use Rattle.cast_history.specs.Acts.{Act}
+use Rattle.cast_history.specs.Acts.Act.{Sent}
+use Rattle.cast_types.specs.Counts.{CountList}
 use Rattle.cast_history.specs.Rest.{is_free, let_go}
 use Rattle.cast_history.specs.Order.{is_ready_for}
 use Rattle.cast_history.specs.Owing.{noting_owed, noting_resent, paying, paying_upto, at_moment}
@@ -446,17 +449,22 @@ lawful_let_go s l = lawful_from s (let_go s) l refl (placed_of s l) l.stamped
 pub same_send_data : (u : Uid) (s : State) (to : SiteNo) → SameLaw s (send_data history u s to)
 same_send_data u s to = send_data_keeps history (SameLaw s) (moves_same s) u s (same_self s) to
 
+-- what a process did is noted
+pub same_noting : (s : State) (k : ℕ) (a : Act) → SameLaw s (noting_act s k a)
+same_noting s k a = record { here = refl; config = refl; used = refl; process = λ k. refl; got = refl; kept = refl; abcasts = λ k. refl; number = λ g. refl; view = λ g. refl; opens = λ k is. is }
+
 -- a process sends a message whose time has the views of its own
-pub lawful_sent_here : (s : State) (k : ℕ) (m : Message) → IsLawful s → ((g : GroupNo) → view_of m.times g ≡ view_of (s.process k).time g) → is_sorted group_cmp m.times ≡ true → m.id.view ≤ (s.group m.id.group).number → IsLawful (receiving (set_process s k (record (s.process k) { time = m.times })) m)
+pub lawful_sent_here : (s : State) (k : ℕ) (m : Message) → IsLawful s → ((g : GroupNo) → view_of m.times g ≡ view_of (s.process k).time g) → is_sorted group_cmp m.times ≡ true → m.id.view ≤ (s.group m.id.group).number → IsLawful (receiving (noting_sent s k m) m)
 lawful_sent_here s k m l views sorted reached =
-    lawful_receiving (set_process s k (record (s.process k) { time = m.times })) m
+    lawful_receiving (noting_sent s k m) m
+    (lawful_same (set_process s k (record (s.process k) { time = m.times })) (noting_sent s k m) (same_noting (set_process s k (record (s.process k) { time = m.times })) k (Sent m))
     (lawful_process s k (record (s.process k) { time = m.times }) l
-    (λ g. record { known = l.known k g; current = λ h. views g ∙ l.current k g h; viewed = l.viewed k g }) (λ g is. is) (λ u is. is))
+    (λ g. record { known = l.known k g; current = λ h. views g ∙ l.current k g h; viewed = l.viewed k g }) (λ g is. is) (λ u is. is)))
     sorted reached
 
 pub lawful_sending_message : (s : State) (k : ℕ) (m : Message) → IsLawful s → ((g : GroupNo) → view_of m.times g ≡ view_of (s.process k).time g) → is_sorted group_cmp m.times ≡ true → m.id.view ≤ (s.group m.id.group).number → IsLawful (sending_message s k m)
 lawful_sending_message s k m l views sorted reached =
-    let now : State = receiving (set_process s k (record (s.process k) { time = m.times })) m in
+    let now : State = receiving (noting_sent s k m) m in
     lawful_fold (send_data history m.id) (λ t to. lawful_same t (send_data history m.id t to) (same_send_data m.id t to)) (others_of s m.id.group) now (lawful_sent_here s k m l views sorted reached)
 
 pub lawful_sending : (s : State) (g : GroupNo) (k : ℕ) (content : Body) → IsLawful s → is_sorted group_cmp (bumped (s.process k).time g (local s k)) ≡ true → IsLawful (sending s g k content)
@@ -596,21 +604,21 @@ placed_old s g n members k l none h =
       | false ↦ λ _. placed_of s l k h
     ] refl
 
-pub lawful_all_in_view : (s : State) (g : GroupNo) (n : ℕ) (members : Membership) (request : ℕ) → IsLawful s → is_group s g ≡ true → has_view (s.group g) ≡ false → (s.group g).number < n → IsLawful (all_in_view (set_group s g (with_view s.here n members (s.group g))) g n members request)
-lawful_all_in_view s g n members request l listed none later =
+pub lawful_all_in_view : (s : State) (g : GroupNo) (n : ℕ) (members : Membership) (request : ℕ) (cut : CountList) → IsLawful s → is_group s g ≡ true → has_view (s.group g) ≡ false → (s.group g).number < n → IsLawful (all_in_view (set_group s g (with_view s.here n members (s.group g))) g n members request cut)
+lawful_all_in_view s g n members request cut l listed none later =
     let now : State = set_group s g (with_view s.here n members (s.group g)) in
-    lawful_from s (all_in_view now g n members request) l refl
+    lawful_from s (all_in_view now g n members request cut) l refl
     (λ k h. elim (enters now g members request k) as (λ b. enters now g members request k ≡ b → PlacedIn now (if b then in_view g n (s.process k) else s.process k) h) [
       | true ↦ λ in_it. placed_new s g n members k l listed (and_parts (is_taken_in request ((s.process k).standing g)) (is_among proc_eq (local s k) members.list) in_it).1 h
       | false ↦ λ _. placed_old s g n members k l none h
     ] refl)
     l.stamped
-    (kept_map (IsSpent s) (IsSpent (all_in_view now g n members request)) spent_now s.got s.kept l.spent)
+    (kept_map (IsSpent s) (IsSpent (all_in_view now g n members request cut)) spent_now s.got s.kept l.spent)
     (λ h. elim (group_eq g h) as (λ b. group_eq g h ≡ b → has_view (if b then with_view s.here n members (s.group g) else s.group h) ≡ true → is_group s h ≡ true) [
       | true ↦ λ is _. subst (λ x. is_group s x ≡ true) (same_group g h is) listed
       | false ↦ λ _ seen. l.listed h seen
     ] refl)
-    (traced_on s (all_in_view now g n members request) refl (λ k. refl) risen
+    (traced_on s (all_in_view now g n members request cut) refl (λ k. refl) risen
     (λ k u is. elim (enters now g members request k) as (λ b. has_delivered (if b then in_view g n (s.process k) else s.process k) u ≡ true) [ true ↦ is | false ↦ is ])
     l.traced)
   where
@@ -621,7 +629,7 @@ lawful_all_in_view s g n members request l listed none later =
     ] refl
 
     -- the group's view is another now, and in the other groups each process is what it was
-    spent_now : (m : Message) → IsSpent s m → IsSpent (all_in_view (set_group s g (with_view s.here n members (s.group g))) g n members request) m
+    spent_now : (m : Message) → IsSpent s m → IsSpent (all_in_view (set_group s g (with_view s.here n members (s.group g))) g n members request cut) m
     spent_now m spent =
         let w : Group = with_view s.here n members (s.group g) in
         elim (cases_Bool (group_eq g m.id.group)) [
@@ -640,15 +648,15 @@ lawful_all_in_view s g n members request l listed none later =
               }
         ]
       where
-        still_delivered : group_eq g m.id.group ≡ false → IsSpent s m → (k : ℕ) → was_given s.used k ≡ true → is_member (((all_in_view (set_group s g (with_view s.here n members (s.group g))) g n members request).process k).standing m.id.group) ≡ true → m.id.view ≡ (s.group m.id.group).number → has_delivered ((all_in_view (set_group s g (with_view s.here n members (s.group g))) g n members request).process k) m.id ≡ true
+        still_delivered : group_eq g m.id.group ≡ false → IsSpent s m → (k : ℕ) → was_given s.used k ≡ true → is_member (((all_in_view (set_group s g (with_view s.here n members (s.group g))) g n members request cut).process k).standing m.id.group) ≡ true → m.id.view ≡ (s.group m.id.group).number → has_delivered ((all_in_view (set_group s g (with_view s.here n members (s.group g))) g n members request cut).process k) m.id ≡ true
         still_delivered other spent k given =
             elim (enters (set_group s g (with_view s.here n members (s.group g))) g members request k) as (λ b. is_member ((if b then in_view g n (s.process k) else s.process k).standing m.id.group) ≡ true → m.id.view ≡ (s.group m.id.group).number → has_delivered (if b then in_view g n (s.process k) else s.process k) m.id ≡ true) [
               | true ↦ λ is here. spent.delivered k given (ap (λ c. is_member (if c then Member else (s.process k).standing m.id.group)) (sym other) ∙ is) here
               | false ↦ λ is here. spent.delivered k given is here
             ]
 
-pub lawful_completing : (s : State) (g : GroupNo) (n : ℕ) (members : Membership) (request : ℕ) → IsLawful s → is_group s g ≡ true → has_view (s.group g) ≡ false → (s.group g).number < n → IsLawful (completing s g n members request)
-lawful_completing s g n members request l listed none later =
+pub lawful_completing : (s : State) (g : GroupNo) (n : ℕ) (members : Membership) (request : ℕ) (cut : CountList) → IsLawful s → is_group s g ≡ true → has_view (s.group g) ≡ false → (s.group g).number < n → IsLawful (completing s g n members request cut)
+lawful_completing s g n members request cut l listed none later =
     let now : State = set_group s g (with_view s.here n members (s.group g)) in
-    lawful_fold (push_view g n members) (λ t k. lawful_pushing t k (push.View g n members)) (filter (enters s g members request) (serials s)) (all_in_view now g n members request)
-    (lawful_all_in_view s g n members request l listed none later)
+    lawful_fold (push_view g n members) (λ t k. lawful_pushing t k (push.View g n members)) (filter (enters s g members request) (serials s)) (all_in_view now g n members request cut)
+    (lawful_all_in_view s g n members request cut l listed none later)

@@ -29,7 +29,7 @@ use Rattle.cast_model.specs.declared.event.Event.{Event}
 use Rattle.cast_model.specs.declared.event.Event.TheVariants as event
 use Rattle.cast_clock.proofs.Raised.{bump_leaves_views}
 use Rattle.cast_history.specs.Rules.Commands.{message_sent}
-use Rattle.cast_history.specs.State.{State, receiving, set_process, local, serials, is_group, set_home, was_given}
+use Rattle.cast_history.specs.State.{State, receiving, noting_sent, local, serials, is_group, set_home, was_given}
 use Rattle.cast_history.specs.Rules.Room.{may_order}
 use Rattle.cast_history.specs.Order.{order_of, unlisted, has_place, is_ready_for}
 use Rattle.cast_history.specs.Rules.Owing.{tick}
@@ -109,7 +109,7 @@ all_lawful = record {
   note_joining = λ s l k given g h at number heard. lawful_standing s k g number heard l (placed_at s g h at).0;
   sends = λ s l h k g content sent. let there = placed_at s g h sent.at in
       let same : message_sent history s k g h content ≡ next_message s g k content = ap (λ x. message_sent history s k g x content) (sym there.1) in
-      subst (λ m. IsLawful (receiving (set_process s k (record (s.process k) { time = (next_message s g k content).times })) m)) (sym same)
+      subst (λ m. IsLawful (receiving (noting_sent s k m) m)) (sym same)
       (lawful_sent_here s k (next_message s g k content) l (λ i. bump_leaves_views (s.process k).time g i (local s k)) (raised_sorted (s.process k).time g (local s k) sent.raises) (omega arith));
   receive = λ s l h from m taken. let same = taken_current s h from m taken in lawful_receiving s m l (stamp_sorted m.times taken.typed.0) (omega (arith, same));
   note_request = λ s l g what p. lawful_same s _ (same_group_set s g (with_request (s.group g) what p) refl refl) l;
@@ -117,7 +117,7 @@ all_lawful = record {
   note_applied = λ s l g from number p. lawful_same s _ (same_home s g (after_request (s.home g) from number p)) l;
   note_installed = λ s l g from n. lawful_same s _ (same_home s g (after_installed (s.home g) from n)) l;
   note_decided = λ s l g. lawful_same s _ (same_home s g (decided (s.home g))) l;
-  enter_view = λ s l h g n members request is. let e = entered s h g n members is in lawful_completing s h n members request l e.listed e.unseen e.later;
+  enter_view = λ s l h g n members request cut is. let e = entered s h g n members is in lawful_completing s h n members request cut l e.listed e.unseen e.later;
 }
 
 -- Events

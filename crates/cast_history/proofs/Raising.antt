@@ -36,7 +36,8 @@ use Rattle.cast_model.specs.Session.{is_open, first_session}
 use Rattle.cast_model.specs.declared.group.Group.{Group}
 use Rattle.cast_model.specs.declared.config.DomainConfig.{DomainConfig}
 use Rattle.cast_model.specs.Group.{no_group, has_view, members_of, with_view, is_at, is_taken_in}
-use Rattle.cast_history.specs.State.{State, opening, local, serials, is_group, set_process, set_group, set_standing, others_of, gate_of, was_given, receiving, pushing, with_delivery}
+use Rattle.cast_history.specs.State.{State, opening, local, serials, is_group, set_process, set_group, set_standing, others_of, gate_of, was_given, receiving, pushing, with_delivery, noting_sent}
+use Rattle.cast_history.specs.Acts.Act.{Sent}
 use Rattle.cast_history.specs.Rest.{let_go}
 use Rattle.cast_history.specs.Order.{is_ready_for}
 use Rattle.cast_history.specs.History.{history}
@@ -48,7 +49,7 @@ use Rattle.cast_history.specs.Step.{opening_next}
 use Rattle.cast_history.specs.Run.{before_event}
 use Rattle.cast_history.specs.Lawful.{IsLawful}
 use Rattle.cast_history.specs.Raising.{IsTimeOf, IsFromMember, IsView, IsAmongMembers, CountsMembers, CanRaise}
-use Rattle.cast_history.proofs.Lawful.{SameLaw, same_pushing, same_send_data, same_fold, seen_view, allowed_view, ready_allows, named_here}
+use Rattle.cast_history.proofs.Lawful.{SameLaw, same_pushing, same_send_data, same_fold, seen_view, allowed_view, ready_allows, named_here, same_noting}
 use Rattle.cast_history.proofs.Counting.{all_counted, time_joined, time_entered, time_raised, time_spelled, put_some, counted_put, counted_joined, raised_room, each_sender}
 use Rattle.cast_types.proofs.Bools.{and_end}
 
@@ -202,7 +203,7 @@ clock_put t g c h P new old =
     ] refl)
 
 -- a member sends its next message
-pub counts_sent_here : (s : State) (g : GroupNo) (k : ℕ) (content : Body) → IsLawful s → CountsMembers s → is_member ((s.process k).standing g) ≡ true → CountsMembers (receiving (set_process s k (record (s.process k) { time = (next_message s g k content).times })) (next_message s g k content))
+pub counts_sent_here : (s : State) (g : GroupNo) (k : ℕ) (content : Body) → IsLawful s → CountsMembers s → is_member ((s.process k).standing g) ≡ true → CountsMembers (receiving (noting_sent s k (next_message s g k content)) (next_message s g k content))
 counts_sent_here s g k content l c member =
     let p : Process = s.process k in
     let m : Message = next_message s g k content in
@@ -219,12 +220,12 @@ counts_sent_here s g k content l c member =
           (c.members k h is).counted;
     })
     (c.placed k) in
-    counts_receiving now m set stamp (record { reached = omega arith; member = λ _. sender.itself })
+    counts_receiving (noting_sent s k m) m (counts_same now (noting_sent s k m) (same_noting now k (Sent m)) set) stamp (record { reached = omega arith; member = λ _. sender.itself })
 
 pub counts_sending : (s : State) (g : GroupNo) (k : ℕ) (content : Body) → IsLawful s → CountsMembers s → is_member ((s.process k).standing g) ≡ true → CountsMembers (sending s g k content)
 counts_sending s g k content l c member =
     let m : Message = next_message s g k content in
-    let taken : State = receiving (set_process s k (record (s.process k) { time = m.times })) m in
+    let taken : State = receiving (noting_sent s k m) m in
     counts_same taken (sending s g k content) (same_fold (send_data history m.id) (same_send_data m.id) (others_of s g) taken) (counts_sent_here s g k content l c member)
 
 -- a member's group allows a message of its view only after all that the message counts of it
@@ -319,7 +320,7 @@ entered here n members group k named = record {
   counted = refl;
 }
 
-module _ (s : State) (g : GroupNo) (n : ℕ) (members : Membership) (request : ℕ) (l : IsLawful s) (c : CountsMembers s) (listed : is_group s g ≡ true) (typed : is_members members ≡ true) (none : has_view (s.group g) ≡ false) (later : (s.group g).number < n) where
+module _ (s : State) (g : GroupNo) (n : ℕ) (members : Membership) (request : ℕ) (cut : CountList) (l : IsLawful s) (c : CountsMembers s) (listed : is_group s g ≡ true) (typed : is_members members ≡ true) (none : has_view (s.group g) ≡ false) (later : (s.group g).number < n) where
   abbrev next : Group
   next = with_view s.here n members (s.group g)
 
@@ -358,7 +359,7 @@ module _ (s : State) (g : GroupNo) (n : ℕ) (members : Membership) (request : �
         | false ↦ λ _. c.members k h member
       ] refl
 
-  pub counts_all_in_view : CountsMembers (all_in_view now g n members request)
+  pub counts_all_in_view : CountsMembers (all_in_view now g n members request cut)
   counts_all_in_view = record {
     few = c.few;
     times = λ k. elim (enters now g members request k) as (λ b. IsTimeOf s.config.groups (if b then in_view g n (s.process k) else s.process k).time) [
@@ -389,10 +390,10 @@ module _ (s : State) (g : GroupNo) (n : ℕ) (members : Membership) (request : �
       inside (Joining number heard) taken = refl
       inside Member taken = refl
 
-  pub counts_completing : CountsMembers (completing s g n members request)
+  pub counts_completing : CountsMembers (completing s g n members request cut)
   counts_completing =
-      let all : State = all_in_view now g n members request in
-      counts_same all (completing s g n members request) (same_fold (push_view g n members) (λ t k. same_pushing t k (push.View g n members)) (filter (enters s g members request) (serials s)) all)
+      let all : State = all_in_view now g n members request cut in
+      counts_same all (completing s g n members request cut) (same_fold (push_view g n members) (λ t k. same_pushing t k (push.View g n members)) (filter (enters s g members request) (serials s)) all)
       counts_all_in_view
 
 -- Sessions

@@ -25,7 +25,7 @@ use Rattle.cast_model.specs.declared.event.Event.{Event}
 use Rattle.cast_model.specs.declared.event.Event.TheVariants as event
 use Rattle.cast_model.specs.declared.event.Taken.{Taken}
 use Rattle.cast_history.specs.Rules.Commands.{message_sent}
-use Rattle.cast_history.specs.State.{State, receiving, set_process, opening, serials, is_group}
+use Rattle.cast_history.specs.State.{State, receiving, noting_sent, opening, serials, is_group}
 use Rattle.cast_history.specs.Rules.Requests.{is_home}
 use Rattle.cast_history.specs.Order.{is_ready_for}
 use Rattle.cast_history.specs.Effects.{next_message, sending, delivering}
@@ -88,7 +88,7 @@ all_counted = record {
   sends = λ s c h k g content sent. let there = placed_at s g h sent.at in
       let same : message_sent history s k g h content ≡ next_message s g k content = ap (λ x. message_sent history s k g x content) (sym there.1) in (
         all_lawful.sends s c.0 h k g content sent,
-        subst (λ m. CountsMembers (receiving (set_process s k (record (s.process k) { time = (next_message s g k content).times })) m)) (sym same) (counts_sent_here s g k content c.0 c.1 sent.member),
+        subst (λ m. CountsMembers (receiving (noting_sent s k m) m)) (sym same) (counts_sent_here s g k content c.0 c.1 sent.member),
       );
   receive = λ s c h from m taken. (all_lawful.receive s c.0 h from m taken, counts_receiving s m c.1 (taken_time s h from m taken) (taken_from s h from m taken));
   note_request = λ s c g what p. (all_lawful.note_request s c.0 g what p, counts_same s _ (same_group_set s g (with_request (s.group g) what p) refl refl) c.1);
@@ -96,8 +96,8 @@ all_counted = record {
   note_applied = λ s c g from number p. (all_lawful.note_applied s c.0 g from number p, counts_same s _ (same_home s g (after_request (s.home g) from number p)) c.1);
   note_installed = λ s c g from n. (all_lawful.note_installed s c.0 g from n, counts_same s _ (same_home s g (after_installed (s.home g) from n)) c.1);
   note_decided = λ s c g. (all_lawful.note_decided s c.0 g, counts_same s _ (same_home s g (decided (s.home g))) c.1);
-  enter_view = λ s c h g n members request is. let e = entered s h g n members is in
-      (all_lawful.enter_view s c.0 h g n members request is, counts_completing s h n members request c.0 c.1 e.listed is.typed e.unseen e.later);
+  enter_view = λ s c h g n members request cut is. let e = entered s h g n members is in
+      (all_lawful.enter_view s c.0 h g n members request cut is, counts_completing s h n members request cut c.0 c.1 e.listed is.typed e.unseen e.later);
 }
 
 -- Events

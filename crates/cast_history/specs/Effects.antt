@@ -3,11 +3,10 @@ use Rattle.std.specs.Prelude.{ℕ}
 use Rattle.cast_types.specs.declared.names.GroupNo.{GroupNo}
 use Rattle.cast_message.specs.declared.message.Body.{Body}
 use Rattle.cast_message.specs.declared.message.Message.{Message}
-use Rattle.cast_history.specs.State.{State, set_process}
+use Rattle.cast_history.specs.State.{State}
 use Rattle.cast_history.specs.History.{history}
 use Rattle.cast_history.specs.Resting.{resting}
-use Rattle.cast_history.specs.Rules.Commands.{message_sent}
-use Rattle.cast_history.specs.Rules.Sending.{send_message}
+use Rattle.cast_history.specs.Rules.Commands.{message_sent, send_own}
 use Rattle.cast_history.specs.Rules.Rest.{deliver}
 
 -- a member's next message of a group
@@ -16,8 +15,7 @@ next_message s g k content = message_sent history s k g g content
 
 -- the message is stamped, received here, and sent to each other site of the view until that has acknowledged it
 abbrev pub sending_message : State → ℕ → Message → State
-sending_message s k m =
-    send_message history (set_process s k (record (s.process k) { time = m.times })) m
+sending_message = send_own history
 
 abbrev pub sending : State → GroupNo → ℕ → Body → State
 sending s g k content = sending_message s k (next_message s g k content)

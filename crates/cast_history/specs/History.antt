@@ -7,7 +7,7 @@ use Rattle.cast_model.specs.Session.{is_open}
 use Rattle.cast_timer.specs.Owed.{is_owed, due_at}
 use Rattle.cast_model.specs.Group.{with_request, with_answer}
 use Rattle.cast_model.specs.Home.{after_request, after_installed, decided}
-use Rattle.cast_history.specs.State.{State, is_group, set_process, set_group, set_home, set_standing, emitted, pushing, receiving, awaits_own, is_received, held, message_of, others_of, is_stable, upto, noting_ack, noting_stable}
+use Rattle.cast_history.specs.State.{State, is_group, set_group, set_home, set_standing, emitted, pushing, receiving, noting_sent, awaits_own, is_received, held, message_of, others_of, is_stable, upto, noting_ack, noting_stable}
 use Rattle.cast_history.specs.Owing.{noting_owed, noting_resent, paying, paying_upto, at_moment}
 use Rattle.cast_history.specs.Entering.{completing}
 use Rattle.cast_history.specs.Rules.Interface.{Site}
@@ -45,7 +45,7 @@ history = record {
   note_stable = noting_stable;
   push = pushing;
   note_joining = λ s k g number heard. set_standing s k g (Joining number heard);
-  note_time = λ s k t. set_process s k (record (s.process k) { time = t });
+  note_sent = noting_sent;
   receive = receiving;
   note_request = λ s g what p. set_group s g (with_request (s.group g) what p);
   note_answer = λ s g. set_group s g (with_answer (s.group g));

@@ -1,3 +1,4 @@
+pub mod Acts
 pub mod State
 pub mod Rules
 pub mod Owing

@@ -16,6 +16,8 @@ use Rattle.cast_message.specs.declared.site.SiteFrame.{SiteFrame}
 use Rattle.cast_stable.specs.Stable.{Acked, stable_upto, is_known_stable}
 use Rattle.cast_timer.specs.declared.key.Owed.{Owed}
 use Rattle.cast_delay.specs.Ready.{Process, Gate, is_member, has_delivered, awaits}
+use Rattle.cast_history.specs.Acts.{Act}
+use Rattle.cast_history.specs.Acts.Act.{Sent, Delivered}
 use Rattle.cast_model.specs.declared.session.Session.{Session}
 use Rattle.cast_message.specs.declared.client.Push.{Push}
 use Rattle.cast_model.specs.Session.{no_session, is_open, pushed_to}
@@ -34,6 +36,8 @@ pub record State : Type 0 where
   pub used : ℕ
   pub session : ℕ → Session
   pub process : ℕ → Process
+  -- all that each process did, in order
+  pub acts : ℕ → List Act
   -- the ABCASTs that each process ever delivered, in order
   pub abcasts : ℕ → List Uid
   pub group : GroupNo → Group
@@ -63,6 +67,7 @@ opening here config =
       used = 0;
       session = λ k. no_session;
       process = λ k. no_process;
+      acts = λ k. [];
       abcasts = λ k. [];
       group = λ g. no_group;
       home = λ g. first_home;
@@ -111,6 +116,10 @@ abbrev pub set_standing : State → ℕ → GroupNo → Standing → State
 set_standing s k g v =
     set_process s k (record (s.process k) { standing = set_at group_eq (s.process k).standing g v })
 
+-- a process did something
+abbrev pub noting_act : State → ℕ → Act → State
+noting_act s k a = record s { acts = set_at (λ i j. i == j) s.acts k (s.acts k ++ a ∷ []) }
+
 abbrev pub emitted : State → SiteNo → SiteFrame → State
 emitted s to f = record s { frames = s.frames ++ (to, f) ∷ [] }
 
@@ -131,6 +140,10 @@ held s = length s.kept
 abbrev pub receiving : State → Message → State
 receiving s m = record s { got = s.got ++ m ∷ []; kept = s.kept ++ m ∷ [] }
 
+-- a process has sent a message, and has its time
+abbrev pub noting_sent : State → ℕ → Message → State
+noting_sent s k m = noting_act (set_process s k (record (s.process k) { time = m.times })) k (Sent m)
+
 -- the ABCASTs that processes delivered, once one has delivered a message
 abbrev pub abcasts_with : State → ℕ → Message → ℕ → List Uid
 abcasts_with s k m =
@@ -141,6 +154,7 @@ abbrev pub with_delivery : State → ℕ → Message → State
 with_delivery s k m =
     let p : Process = s.process k in
     record (set_process s k (record p { time = join p.time m.times; delivered = p.delivered ++ m.id ∷ [] })) {
+      acts = set_at (λ i j. i == j) s.acts k (s.acts k ++ Delivered m ∷ []);
       abcasts = abcasts_with s k m;
       deliveries = s.deliveries ++ (local s k, m.id) ∷ [];
     }

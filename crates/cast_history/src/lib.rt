@@ -8,14 +8,15 @@
 //! (`laws::rest_ends`, `laws::deliveries_end`); and a member's count can be raised unless it is the last one
 //! (`laws::counts_can_be_raised`).
 //!
-//! The definitions are in `specs/`: `State` has what a domain knows and what of it is kept and stable, `Order` the order
-//! of a view and when a message is ready. `Rules` has the rules that are written over what they ask of a domain and do to it:
-//! those of events, commands, frames, owed frames and ticks, the home, set-order messages, and what a domain does of itself; `History`,
-//! `Step` and `Resting` are the history as they see it, of which `Owing` and `Entering` are parts. `Effects` and `Rest` name what
-//! some of them come to, and `Run` says what a domain that is served alone answers, pushes and sends. `Lawful` is what holds of
-//! each history that events lead to, `Endings` what its rest promises, and `Raising` that a member counts members alone. The values that they speak of are those of `cast_model`, and of the parts only the definitions are
-//! named. Worked examples are computed in `proofs/`: `FirstCast`, `Waiting`, `Overlapping`, `Ignored`, `Keeping`, `Placing` and
-//! `Delivering`.
+//! The definitions are in `specs/`: `State` has what a domain knows and what of it is kept and stable, and what each
+//! process did (`Acts`), `Order` the order of a view and when a message is ready. `Rules` has the rules that are
+//! written over what they ask of a domain and do to it: those of events, commands, frames, owed frames and ticks, the
+//! home, set-order messages, and what a domain does of itself; `History`, `Step` and `Resting` are the history as they
+//! see it, of which `Owing` and `Entering` are parts. `Effects` and `Rest` name what some of them come to, and `Run`
+//! says what a domain that is served alone answers, pushes and sends. `Lawful` is what holds of each history that
+//! events lead to, `Endings` what its rest promises, and `Raising` that a member counts members alone. The values that
+//! they speak of are those of `cast_model`, and of the parts only the definitions are named. Worked examples are
+//! computed in `proofs/`: `FirstCast`, `Waiting`, `Overlapping`, `Ignored`, `Keeping`, `Placing` and `Delivering`.
 #![tactic(auto)]
 
 pub mod laws;

@@ -25,9 +25,9 @@ use Rattle.cast_delay.specs.Ready.{is_member, is_outside}
 use Rattle.cast_model.specs.declared.group.Group.{Group}
 use Rattle.cast_history.specs.Rules.Interface.{Site}
 use Rattle.cast_history.specs.Rules.Room.{may_receive}
-use Rattle.cast_history.specs.Rules.Sending.{may_raise, send_data, send_message}
+use Rattle.cast_history.specs.Rules.Sending.{may_raise, send_data}
 use Rattle.cast_history.specs.Rules.Requests.{request}
-use Rattle.cast_history.specs.Rules.Commands.{body_of, Attempt, named_here, join_at, join, message_sent, cast_at, cast, reply, requested, commanded}
+use Rattle.cast_history.specs.Rules.Commands.{body_of, Attempt, named_here, join_at, join, message_sent, send_own, cast_at, cast, reply, requested, commanded}
 use Rattle.cast_history.proofs.Rules.Follows.{FollowsAll, AtBoth, IsSent, sent_here, choose, IsInvariantOfAll, AlsoHolds, SamePlace, follows_itself_in_all}
 use Rattle.cast_history.proofs.Rules.Room.{receive_same}
 use Rattle.cast_history.proofs.Rules.Sending.{sends_follow}
@@ -80,7 +80,7 @@ module _ {R S H K : Type 0} (a : Site R H) (b : Site S K) (fits : R → S → Ty
       content : Body
       content = body_of kind payload
 
-      all_sent : (h : H) (l : K) → stands h l → IsSent b s l k g content → fits (send_message a (a.note_time r k (bumped (a.time r k) g (named_here a r k))) (message_sent a r k g h content)) (send_message b (b.note_time s k (bumped (b.time s k) g (named_here b s k))) (message_sent b s k g l content))
+      all_sent : (h : H) (l : K) → stands h l → IsSent b s l k g content → fits (send_own a r k (message_sent a r k g h content)) (send_own b s k (message_sent b s k g l content))
       all_sent h l at sent =
           let t : R = sent_here a r h k g content in
           let u : S = sent_here b s l k g content in

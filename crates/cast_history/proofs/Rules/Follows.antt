@@ -10,7 +10,7 @@ use Rattle.cast_types.specs.declared.names.GroupNo.{GroupNo}
 use Rattle.cast_types.specs.declared.names.Proc.{Proc}
 use Rattle.cast_types.specs.declared.names.Uid.{Uid}
 use Rattle.cast_types.specs.Names.{is_order}
-use Rattle.cast_clock.specs.Times.{bumped}
+use Rattle.cast_types.specs.Counts.{CountList}
 use Rattle.cast_message.specs.declared.message.Body.{Body}
 use Rattle.cast_message.specs.declared.message.Message.{Message}
 use Rattle.cast_message.specs.Bodies.{kind_of}
@@ -89,7 +89,7 @@ pub record IsSent {S H : Type 0} (d : Site S H) (s : S) (h : H) (k : ℕ) (g : G
 
 -- the message is stamped, and received here
 abbrev pub sent_here : {S H : Type 0} → Site S H → S → H → ℕ → GroupNo → Body → S
-sent_here d s h k g content = d.receive (d.note_time s k (bumped (d.time s k) g (named_here d s k))) (message_sent d s k g h content)
+sent_here d s h k g content = d.receive (d.note_sent s k (message_sent d s k g h content)) (message_sent d s k g h content)
 
 -- the same of all that rules ask and do
 pub record FollowsAll {R S H K : Type 0} (a : Site R H) (b : Site S K) (fits : R → S → Type 0) (stands : H → K → Type 0) : Type 0 where
@@ -113,7 +113,7 @@ pub record FollowsAll {R S H K : Type 0} (a : Site R H) (b : Site S K) (fits : R
   pub note_applied : (r : R) (s : S) → fits r s → (h : H) (k : K) → stands h k → (from : SiteNo) (number : ℕ) (p : Proc) → fits (a.note_applied r h from number p) (b.note_applied s k from number p)
   pub note_installed : (r : R) (s : S) → fits r s → (h : H) (k : K) → stands h k → (from : SiteNo) (n : ℕ) → fits (a.note_installed r h from n) (b.note_installed s k from n)
   pub note_decided : (r : R) (s : S) → fits r s → (h : H) (k : K) → stands h k → fits (a.note_decided r h) (b.note_decided s k)
-  pub enter_view : (r : R) (s : S) → fits r s → (h : H) (k : K) → stands h k → (g : GroupNo) (n : ℕ) (members : Membership) (request : ℕ) → IsEntered b s k g n members → fits (a.enter_view r h n members request) (b.enter_view s k n members request)
+  pub enter_view : (r : R) (s : S) → fits r s → (h : H) (k : K) → stands h k → (g : GroupNo) (n : ℕ) (members : Membership) (request : ℕ) (cut : CountList) → IsEntered b s k g n members → fits (a.enter_view r h n members request cut) (b.enter_view s k n members request cut)
 
 -- What rules are made of
 
@@ -169,7 +169,7 @@ pub record IsInvariantOfAll {S H : Type 0} (d : Site S H) (holds : S → Type 0)
   pub note_applied : (s : S) → holds s → (h : H) (from : SiteNo) (number : ℕ) (p : Proc) → holds (d.note_applied s h from number p)
   pub note_installed : (s : S) → holds s → (h : H) (from : SiteNo) (n : ℕ) → holds (d.note_installed s h from n)
   pub note_decided : (s : S) → holds s → (h : H) → holds (d.note_decided s h)
-  pub enter_view : (s : S) → holds s → (h : H) (g : GroupNo) (n : ℕ) (members : Membership) (request : ℕ) → IsEntered d s h g n members → holds (d.enter_view s h n members request)
+  pub enter_view : (s : S) → holds s → (h : H) (g : GroupNo) (n : ℕ) (members : Membership) (request : ℕ) (cut : CountList) → IsEntered d s h g n members → holds (d.enter_view s h n members request cut)
 
 -- a site follows itself, in the same state, of which an invariant holds
 abbrev pub AlsoHolds : {S : Type 0} → (S → Type 0) → S → S → Type 0
@@ -233,7 +233,7 @@ follows_itself_in_all d holds keeps = record {
   note_applied = λ r s f h k at from number p. (λ i. d.note_applied (f.0 i) (at i) from number p, keeps.note_applied s f.1 k from number p);
   note_installed = λ r s f h k at from n. (λ i. d.note_installed (f.0 i) (at i) from n, keeps.note_installed s f.1 k from n);
   note_decided = λ r s f h k at. (λ i. d.note_decided (f.0 i) (at i), keeps.note_decided s f.1 k);
-  enter_view = λ r s f h k at g n members request entered. (λ i. d.enter_view (f.0 i) (at i) n members request, keeps.enter_view s f.1 k g n members request entered);
+  enter_view = λ r s f h k at g n members request cut entered. (λ i. d.enter_view (f.0 i) (at i) n members request cut, keeps.enter_view s f.1 k g n members request cut entered);
 }
 
 -- a site that follows another follows it also in states of which an invariant holds

@@ -26,7 +26,7 @@ module _ {R S H K : Type 0} (a : Site R H) (b : Site S K) (fits : R → S → Ty
   frame_follows r s f h k at from (frame.Flushed g view counts tail kept) there typed = f
   frame_follows r s f h k at from (frame.Want u) there typed = f
   frame_follows r s f h k at from (frame.Forward m) there typed = f
-  frame_follows r s f h k at from (frame.Install g view members request cut tail) there typed = install_follows a b fits stands all r s f h k at from g there view members request typed
+  frame_follows r s f h k at from (frame.Install g view members request cut tail) there typed = install_follows a b fits stands all r s f h k at from g there view members request cut typed
   frame_follows r s f h k at from (frame.Installed g view) there typed = installed_follows a b fits stands all r s f h k at from view
   frame_follows r s f h k at from (frame.Out g view) there typed = f
 

@@ -59,6 +59,10 @@ module _ {S H : Type 0} (d : Site S H) where
         body = content;
       }
 
+  -- and it sends it
+  abbrev pub send_own : S → ℕ → Message → S
+  send_own s k m = send_message d (d.note_sent s k m) m
+
   abbrev pub cast_at : S → ℕ → GroupNo → CastKind → List ℕ → H → Attempt S
   cast_at s k g cast payload h =
       if nat_lt MAX_PAYLOAD (length payload) then (s, Some TooLong)
@@ -66,7 +70,7 @@ module _ {S H : Type 0} (d : Site S H) where
       else if d.awaits_own s k then (s, Some OwnAbcast)
       else if not (may_receive d s) then (s, Some HeldFull)
       else if not (may_raise (d.time s k) g (named_here s k)) then (s, Some HeldFull)
-      else (send_message d (d.note_time s k (bumped (d.time s k) g (named_here s k))) (message_sent s k g h (body_of cast payload)), None)
+      else (send_own s k (message_sent s k g h (body_of cast payload)), None)
 
   abbrev pub cast : S → ℕ → GroupNo → CastKind → List ℕ → Attempt S
   cast s k g kind payload = option_map_or (cast_at s k g kind payload) (d.place s g) (s, Some NoGroup)

@@ -40,7 +40,7 @@ module _ {S H : Type 0} (d : Site S H) where
   on_frame s h from (frame.Flushed g view counts tail kept) = s
   on_frame s h from (frame.Want u) = s
   on_frame s h from (frame.Forward m) = s
-  on_frame s h from (frame.Install g view members request cut tail) = on_install d s h from view members request
+  on_frame s h from (frame.Install g view members request cut tail) = on_install d s h from view members request cut
   on_frame s h from (frame.Installed g view) = on_installed d s h from view
   on_frame s h from (frame.Out g view) = s
 

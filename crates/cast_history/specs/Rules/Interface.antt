@@ -7,6 +7,7 @@ use Rattle.cast_types.specs.declared.names.GroupNo.{GroupNo}
 use Rattle.cast_types.specs.declared.names.Proc.{Proc}
 use Rattle.cast_types.specs.declared.names.Uid.{Uid}
 use Rattle.cast_types.specs.declared.names.Standing.{Standing}
+use Rattle.cast_types.specs.Counts.{CountList}
 use Rattle.cast_types.specs.Stamps.{ClockList}
 use Rattle.cast_message.specs.declared.message.Message.{Message}
 use Rattle.cast_message.specs.declared.site.Change.{Change}
@@ -77,8 +78,8 @@ pub record Site (S H : Type 0) : Type 0 where
   pub push : S → ℕ → Push → S
   -- a local process joins a group by a request of this number, and had heard of views up to one
   pub note_joining : S → ℕ → GroupNo → ℕ → ℕ → S
-  -- a local process has this time
-  pub note_time : S → ℕ → ClockList → S
+  -- a local process has sent a message, and has its time
+  pub note_sent : S → ℕ → Message → S
   -- a message is received
   pub receive : S → Message → S
   -- a local process has a request of a group
@@ -92,8 +93,8 @@ pub record Site (S H : Type 0) : Type 0 where
   -- the home decides the view that is due
   pub note_decided : S → H → S
   -- a group has a new view, with these members; the local processes that it takes in enter it, and are told: a member, and one whose request to
-  -- join was applied, by the number of the last one of this site that was
-  pub enter_view : S → H → ℕ → Membership → ℕ → S
+  -- join was applied, by the number of the last one of this site that was; the last argument is the Install's cut
+  pub enter_view : S → H → ℕ → Membership → ℕ → CountList → S
 
 -- the serials of a domain's sessions, which count from 1
 pub record Serials (S : Type 0) : Type 0 where

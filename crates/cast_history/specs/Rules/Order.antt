@@ -2,7 +2,6 @@
 use Rattle.std.specs.Prelude.{ℕ, Bool, ◌&&◌, if◌then◌else◌, Some, None}
 use Rattle.std.specs.List.{fold}
 use Rattle.std.specs.Option.{option_map_or}
-use Rattle.cast_clock.specs.Times.{bumped}
 use Rattle.cast_message.specs.declared.message.Body.TheVariants as body
 use Rattle.cast_message.specs.Sequence.{Sequence}
 use Rattle.cast_delay.specs.Ready.{is_member}
@@ -10,8 +9,8 @@ use Rattle.cast_model.specs.Group.{holder_at}
 use Rattle.cast_history.specs.Rules.Interface.{Site, Resting}
 use Rattle.cast_history.specs.Rules.Release.{let_go}
 use Rattle.cast_history.specs.Rules.Room.{may_order}
-use Rattle.cast_history.specs.Rules.Sending.{send_message, may_raise}
-use Rattle.cast_history.specs.Rules.Commands.{named_here, message_sent}
+use Rattle.cast_history.specs.Rules.Sending.{may_raise}
+use Rattle.cast_history.specs.Rules.Commands.{named_here, message_sent, send_own}
 
 -- each rule is of the group that stands at h, and of the local process of serial k
 module _ {S H : Type 0} (d : Site S H) (q : Resting S H) where
@@ -21,10 +20,7 @@ module _ {S H : Type 0} (d : Site S H) (q : Resting S H) where
 
   -- the holder lists ABCASTs at these places in a set-order message
   abbrev pub send_places : S → H → ℕ → Sequence → S
-  send_places s h k places =
-      send_message d
-      (d.note_time (q.note_listed s h k) k (bumped (d.time s k) (d.name s h) (named_here d s k)))
-      (message_sent d s k (d.name s h) h (body.Order places))
+  send_places s h k places = send_own d (q.note_listed s h k) k (message_sent d s k (d.name s h) h (body.Order places))
 
   -- where its count may be raised; what is free then is let go
   abbrev pub list_places : S → H → ℕ → Sequence → S

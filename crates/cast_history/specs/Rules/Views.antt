@@ -3,6 +3,7 @@ use Rattle.std.specs.Prelude.{ℕ, if◌then◌else◌, []}
 use Rattle.std.specs.List.{fold}
 use Rattle.cast_types.specs.declared.names.SiteNo.{SiteNo}
 use Rattle.cast_types.specs.declared.names.GroupNo.{GroupNo}
+use Rattle.cast_types.specs.Counts.{CountList}
 use Rattle.cast_message.specs.declared.site.SiteFrame.{SiteFrame}
 use Rattle.cast_message.specs.declared.site.SiteFrame.TheVariants as frame
 use Rattle.cast_message.specs.Membership.{Membership}
@@ -35,12 +36,12 @@ module _ {S H : Type 0} (d : Site S H) where
   lead s = if is_home d s then fold decide s (d.places s) else s
 
   -- a view is installed by a site that has none; of one that it knows the home is told again
-  abbrev pub on_install : S → H → SiteNo → ℕ → Membership → ℕ → S
-  on_install s h from n members request =
+  abbrev pub on_install : S → H → SiteNo → ℕ → Membership → ℕ → CountList → S
+  on_install s h from n members request cut =
       if is_from_home d s from
       then elim (verdict_of (d.group s h) n) [
         | Again ↦ d.send s from (frame.Installed (d.name s h) n)
-        | Completes ↦ d.send (d.enter_view s h n members request) from (frame.Installed (d.name s h) n)
+        | Completes ↦ d.send (d.enter_view s h n members request cut) from (frame.Installed (d.name s h) n)
         | Ignored ↦ s
       ]
       else s
