@@ -2,7 +2,7 @@
 use Rattle.std.proofs.Common.{◌≡◌, ◌<◌, true, false, ◌&&◌, ◌||◌, List, [], ◌∷◌, length, map, filter, ℕ, zero, suc, ◌+◌, Some, refl, sym, ap, subst, ◌∙◌, arith}
 use Rattle.std.specs.Prelude.{◌==◌, nat_lt, slice_get}
 use Rattle.std.specs.List.{list_any, range_with_len}
-use Rattle.std.proofs.lemmas.Bool.{not-true, and_parts, eqb-true, eq-eqb, ltb-true}
+use Rattle.std.proofs.lemmas.Bool.{and_parts, eqb-true, eq-eqb, ltb-true}
 use Rattle.std.proofs.lemmas.List.{length-map}
 use Rattle.cast_types.specs.declared.names.SiteNo.{SiteNo}
 use Rattle.cast_types.specs.declared.names.GroupNo.{GroupNo}
@@ -11,7 +11,7 @@ use Rattle.cast_types.specs.declared.names.Standing.TheVariants.{Joining}
 use Rattle.cast_types.specs.Names.{site_eq, proc_eq, uid_eq, is_order}
 use Rattle.cast_types.specs.Sets.{is_among}
 use Rattle.cast_types.proofs.Bools.{same_bools, and_none}
-use Rattle.cast_types.proofs.Orders.{same_site, same_uid, uid_itself}
+use Rattle.cast_types.proofs.Orders.{same_uid, uid_itself}
 use Rattle.cast_clock.specs.Times.{clock_of, count_in}
 use Rattle.cast_types.specs.Counts.{CountList}
 use Rattle.cast_message.specs.declared.message.Message.{Message}
@@ -36,11 +36,11 @@ use Rattle.cast_history.specs.Rules.Data.{counts_itself}
 use Rattle.cast_history.specs.Rules.Commands.{message_sent, commanded}
 use Rattle.cast_history.specs.Rules.Frames.{framed}
 use Rattle.cast_history.proofs.Rules.Follows.{FollowsAll, AllAt, IsTaken, sent_here, with_invariant}
-use Rattle.cast_history.proofs.Rules.Data.{used_of_another, used_from_its_site, used_counts}
+use Rattle.cast_history.proofs.Rules.Data.{used_counts}
 use Rattle.cast_history.proofs.Rules.Commands.{commanded_follows}
 use Rattle.cast_history.proofs.Rules.Frames.{framed_follows}
 use Rattle.cast_history.proofs.Lawful.{same_fold, same_pushing}
-use Rattle.cast_history.proofs.LawfulSteps.{placed_at, taken_current, entered, all_lawful}
+use Rattle.cast_history.proofs.LawfulSteps.{placed_at, taken_current, entered, all_lawful, taken_foreign}
 use Rattle.cast_domain.specs.declared.record.GroupRecord.{GroupRecord}
 use Rattle.cast_domain.specs.Records.{Records}
 use Rattle.cast_domain.specs.Calls.{standing_of, time_of, tell_in, receive_in, awaits_own_in, records}
@@ -77,12 +77,6 @@ received_ids u (m ∷ got) = λ i. uid_turned u m.id i || received_ids u got i
 
 received_there : (r : Records) (s : State) → Fits r s → (u : Uid) → 0 < u.count → is_received_in r.acks u ≡ is_received s u
 received_there r s f u counted = f.acks.receipts u counted ∙ received_ids u s.got
-
--- what is received is of another site
-taken_foreign : (s : State) (g : GroupNo) (from : SiteNo) (m : Message) → IsTaken history s g from m → site_eq m.id.proc.site s.here ≡ false
-taken_foreign s g from m taken =
-    ap (λ t. site_eq t s.here) (same_site m.id.proc.site from (used_from_its_site history s g from m taken.used))
-    ∙ not-true (site_eq from s.here) (used_of_another history s g from m taken.used)
 
 fits_taken : (r : Records) (s : State) → Fits r s → (g : GroupNo) (from : SiteNo) (m : Message) → IsTaken history s g from m → Fits (receive_in r m) (receiving s m)
 fits_taken r s f g from m taken =

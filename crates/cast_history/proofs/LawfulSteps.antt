@@ -3,17 +3,18 @@ use Rattle.std.proofs.Common.{◌≡◌, ℕ, ◌+◌, ◌<◌, zero, suc, Bool,
 use Rattle.std.specs.Prelude.{◌&&◌, ◌==◌, nat_lt, nat_le, if◌then◌else◌}
 use Rattle.std.specs.List.{fold, find}
 use Rattle.std.specs.FinMap.Entries.{is_sorted}
-use Rattle.std.proofs.lemmas.Bool.{cases_eq, eqb-true, false≢true, and_parts, and_from, leb-true, le-leb}
+use Rattle.std.proofs.lemmas.Bool.{cases_eq, eqb-true, false≢true, and_parts, and_from, leb-true, le-leb, not-true}
 use Rattle.std.proofs.lemmas.Bool.Decides.{nat_tests}
 use Rattle.std.proofs.lemmas.Option.{none-some, same_Some}
 use Rattle.cast_types.specs.declared.names.SiteNo.{SiteNo}
 use Rattle.cast_types.specs.declared.names.GroupNo.{GroupNo}
 use Rattle.cast_types.specs.declared.names.Proc.{Proc}
 use Rattle.cast_types.specs.declared.limits.TheConstants.{MAX_NUMBER}
-use Rattle.cast_types.specs.Names.{group_cmp}
+use Rattle.cast_types.specs.Names.{group_cmp, site_eq}
 use Rattle.cast_types.specs.Repeat.{iterate}
 use Rattle.cast_types.specs.Stamps.{ClockList, is_stamp}
 use Rattle.cast_clock.specs.Times.{count_in, bumped, has_room}
+use Rattle.cast_types.proofs.Orders.{same_site}
 use Rattle.cast_message.specs.declared.message.Body.{Body}
 use Rattle.cast_message.specs.declared.message.Body.TheVariants as body
 use Rattle.cast_message.specs.declared.message.Message.{Message}
@@ -45,7 +46,7 @@ use Rattle.cast_history.specs.Lawful.{IsSpent, IsLawful, IsTyped}
 use Rattle.cast_history.proofs.Spots.{found_passes}
 use Rattle.cast_history.specs.History.{history}
 use Rattle.cast_history.proofs.Rules.Follows.{IsTaken, IsEntered, IsInvariantOfAll}
-use Rattle.cast_history.proofs.Rules.Data.{used_current}
+use Rattle.cast_history.proofs.Rules.Data.{used_current, used_from_its_site, used_of_another}
 use Rattle.cast_history.proofs.Rules.Commands.{commanded_keeps}
 use Rattle.cast_history.proofs.Rules.Views.{decide_keeps, lead_keeps}
 use Rattle.cast_history.proofs.Rules.Frames.{framed_keeps}
@@ -88,6 +89,12 @@ pub taken_current : (s : State) (h : GroupNo) (from : SiteNo) (m : Message) → 
 taken_current s h from m taken =
     let there = placed_at s m.id.group h taken.at in
     eqb-true m.id.view (s.group h).number (used_current history s h from m taken.used) ∙ ap (λ g. (s.group g).number) (sym there.1)
+
+-- what is received is of another site
+pub taken_foreign : (s : State) (g : GroupNo) (from : SiteNo) (m : Message) → IsTaken history s g from m → site_eq m.id.proc.site s.here ≡ false
+taken_foreign s g from m taken =
+    ap (λ t. site_eq t s.here) (same_site m.id.proc.site from (used_from_its_site history s g from m taken.used))
+    ∙ not-true (site_eq from s.here) (used_of_another history s g from m taken.used)
 
 -- a view is entered by a configured group that has none, and is a later one
 pub record Enters (s : State) (h : GroupNo) (n : ℕ) : Type 0 where

@@ -19,3 +19,4 @@ pub mod LawfulSteps
 pub mod Counting
 pub mod Raising
 pub mod RaisingSteps
+pub mod Noting

@@ -13,3 +13,4 @@ pub mod Run
 pub mod Lawful
 pub mod Endings
 pub mod Raising
+pub mod Noted

@@ -1,4 +1,5 @@
 ghost use Rattle.cast_history.specs.Endings.{EachComesToRest, PassMoves, RestIsOne, SettlesOne, TurnsAreEnough};
+ghost use Rattle.cast_history.specs.Noted.{ActsAreNoted};
 ghost use Rattle.cast_history.specs.Raising.{CountsCanBeRaised, CountsCanBeRaisedWithin, MembersAreCounted, RunsArePassed};
 
 /// After each event, from whatever state, the rest ends, and in one state alone: a pass that changes something lowers
@@ -23,4 +24,10 @@ pub fn counts_can_be_raised()
     ensures within { CountsCanBeRaisedWithin }
     ensures counted { MembersAreCounted }
     ensures passed { RunsArePassed }
+{}
+
+/// What a history notes of each process is what it did: in each state that a run passes, its messages that were received
+/// here are those that it sent, and it has delivered what it noted as delivered, each in that order.
+pub fn acts_are_noted()
+    ensures noted { ActsAreNoted }
 {}

@@ -6,7 +6,7 @@
 //!
 //! Promised: from each state an event leads to rest, in one state alone, and a process delivers all that it can
 //! (`laws::rest_ends`, `laws::deliveries_end`); and a member's count can be raised unless it is the last one
-//! (`laws::counts_can_be_raised`).
+//! (`laws::counts_can_be_raised`). What a history notes of each process is what it did (`laws::acts_are_noted`).
 //!
 //! The definitions are in `specs/`: `State` has what a domain knows and what of it is kept and stable, and what each
 //! process did (`Acts`), `Order` the order of a view and when a message is ready. `Rules` has the rules that are

@@ -1,0 +1,273 @@
+-- In each state that a history passes its acts say what each process did.
+use Rattle.std.proofs.Common.{◌≡◌, ℕ, true, false, List, [], ◌∷◌, ◌++◌, cond, filter, Option, Some, None, refl, sym, ap, subst, ◌∙◌}
+use Rattle.std.specs.Prelude.{◌==◌, ◌&&◌, if◌then◌else◌}
+use Rattle.std.specs.List.{fold, find}
+use Rattle.std.proofs.lemmas.Bool.{eqb-true}
+use Rattle.std.proofs.lemmas.List.{append-nil}
+use Rattle.std.proofs.lemmas.List.Elements.{filter-append}
+use Rattle.cast_types.specs.declared.names.GroupNo.{GroupNo}
+use Rattle.cast_types.specs.declared.limits.TheConstants.{MAX_NUMBER}
+use Rattle.cast_types.specs.Names.{site_eq, proc_eq, is_atomic}
+use Rattle.cast_types.specs.Counts.{CountList}
+use Rattle.cast_types.proofs.Orders.{site_itself}
+use Rattle.cast_clock.specs.Times.{join}
+use Rattle.cast_message.specs.declared.message.Body.{Body}
+use Rattle.cast_message.specs.declared.message.Body.TheVariants as body
+use Rattle.cast_message.specs.declared.message.Message.{Message}
+use Rattle.cast_message.specs.declared.client.Push.{Push}
+use Rattle.cast_message.specs.declared.client.Push.TheVariants as push
+use Rattle.cast_message.specs.Bodies.{kind_of}
+use Rattle.cast_message.specs.Membership.{Membership}
+use Rattle.cast_delay.specs.Ready.{Process}
+use Rattle.cast_model.specs.Session.{is_open, pushed_to}
+use Rattle.cast_model.specs.Group.{holder_at, with_view}
+use Rattle.cast_model.specs.declared.event.Event.{Event}
+use Rattle.cast_model.specs.declared.event.Event.TheVariants as event
+use Rattle.cast_history.specs.Acts.{Act}
+use Rattle.cast_history.specs.Acts.Act.{Sent, Delivered, Entered}
+use Rattle.cast_history.specs.State.{State, local, serials, receiving, noting_sent, pushing, set_session, set_process, set_group, with_delivery}
+use Rattle.cast_history.specs.Entering.{enters, in_view, all_in_view, push_view, completing}
+use Rattle.cast_history.specs.Order.{is_ready_for}
+use Rattle.cast_history.specs.Lawful.{IsTyped}
+use Rattle.cast_history.specs.History.{history}
+use Rattle.cast_history.specs.Step.{opening_next, acted}
+use Rattle.cast_history.specs.Effects.{next_message, sending, delivering}
+use Rattle.cast_history.specs.Resting.{places_of}
+use Rattle.cast_history.specs.Rest.{deliver_first, set_order_by, set_order, let_go}
+use Rattle.cast_history.specs.Rules.Commands.{message_sent}
+use Rattle.cast_history.specs.Rules.Sending.{send_data}
+use Rattle.cast_history.specs.Rules.Rest.{told_of, tell}
+use Rattle.cast_history.specs.Raising.{opens, begins, acts, lets_go, delivers, orders, decides}
+use Rattle.cast_history.specs.Noted.{sent_by, delivered_by, abcasts_by, IsNoted, ActsAreNoted}
+use Rattle.cast_history.proofs.Setting.{may_set_order, set_order_is}
+use Rattle.cast_history.proofs.Rules.Follows.{IsInvariant, IsInvariantOfAll}
+use Rattle.cast_history.proofs.Rules.Sending.{send_data_keeps}
+use Rattle.cast_history.proofs.Rules.Owing.{tick_keeps}
+use Rattle.cast_history.proofs.Rules.Commands.{commanded_keeps}
+use Rattle.cast_history.proofs.Rules.Frames.{framed_keeps}
+use Rattle.cast_history.proofs.Rules.Views.{decide_keeps}
+use Rattle.cast_history.proofs.LawfulSteps.{taken_foreign}
+
+-- What acts say, one after another
+
+sent_append : (xs ys : List Act) → sent_by (xs ++ ys) ≡ sent_by xs ++ sent_by ys
+sent_append [] ys = refl
+sent_append (Sent m ∷ xs) ys = ap (λ ms. m ∷ ms) (sent_append xs ys)
+sent_append (Delivered m ∷ xs) ys = sent_append xs ys
+sent_append (Entered g view cut ∷ xs) ys = sent_append xs ys
+
+delivered_append : (xs ys : List Act) → delivered_by (xs ++ ys) ≡ delivered_by xs ++ delivered_by ys
+delivered_append [] ys = refl
+delivered_append (Sent m ∷ xs) ys = delivered_append xs ys
+delivered_append (Delivered m ∷ xs) ys = ap (λ us. m.id ∷ us) (delivered_append xs ys)
+delivered_append (Entered g view cut ∷ xs) ys = delivered_append xs ys
+
+abcasts_append : (xs ys : List Act) → abcasts_by (xs ++ ys) ≡ abcasts_by xs ++ abcasts_by ys
+abcasts_append [] ys = refl
+abcasts_append (Sent m ∷ xs) ys = abcasts_append xs ys
+abcasts_append (Delivered m ∷ xs) ys =
+    elim (is_atomic (kind_of m.body)) as (λ b. (if b then m.id ∷ abcasts_by (xs ++ ys) else abcasts_by (xs ++ ys)) ≡ (if b then m.id ∷ abcasts_by xs else abcasts_by xs) ++ abcasts_by ys) [
+      | true ↦ ap (λ us. m.id ∷ us) (abcasts_append xs ys)
+      | false ↦ abcasts_append xs ys
+    ]
+abcasts_append (Entered g view cut ∷ xs) ys = abcasts_append xs ys
+
+-- an act of another kind adds nothing
+nothing_sent : (xs : List Act) (a : Act) → sent_by (a ∷ []) ≡ [] → sent_by xs ≡ sent_by (xs ++ a ∷ [])
+nothing_sent xs a none = sym (append-nil (sent_by xs)) ∙ ap (λ ms. sent_by xs ++ ms) (sym none) ∙ sym (sent_append xs (a ∷ []))
+
+nothing_delivered : (xs : List Act) (a : Act) → delivered_by (a ∷ []) ≡ [] → delivered_by xs ≡ delivered_by (xs ++ a ∷ [])
+nothing_delivered xs a none = sym (append-nil (delivered_by xs)) ∙ ap (λ us. delivered_by xs ++ us) (sym none) ∙ sym (delivered_append xs (a ∷ []))
+
+no_abcast : (xs : List Act) (a : Act) → abcasts_by (a ∷ []) ≡ [] → abcasts_by xs ≡ abcasts_by (xs ++ a ∷ [])
+no_abcast xs a none = sym (append-nil (abcasts_by xs)) ∙ ap (λ us. abcasts_by xs ++ us) (sym none) ∙ sym (abcasts_append xs (a ∷ []))
+
+-- The moves of the rules
+
+-- the messages of a process that were received
+abbrev own : State → ℕ → List Message
+own s k = filter (λ m. proc_eq m.id.proc (local s k)) s.got
+
+noted_pushing : (s : State) → IsNoted s → (k : ℕ) (p : Push) → IsNoted (pushing s k p)
+noted_pushing s n k p = elim (is_open (s.session k)) as (λ b. IsNoted (if b then set_session s k (pushed_to (s.session k) p) else s)) [
+  | true ↦ record { sent = n.sent; delivered = n.delivered; abcasts = n.abcasts }
+  | false ↦ n
+]
+
+-- a process that has delivered what it had delivered
+noted_process : (s : State) → IsNoted s → (k : ℕ) (p : Process) → p.delivered ≡ (s.process k).delivered → IsNoted (set_process s k p)
+noted_process s n k p same = record {
+  sent = n.sent;
+  delivered = λ j. elim (k == j) as (λ b. k == j ≡ b → (if b then p else s.process j).delivered ≡ delivered_by (s.acts j)) [
+    | true ↦ λ is. same ∙ ap (λ i. (s.process i).delivered) (eqb-true k j is) ∙ n.delivered j
+    | false ↦ λ _. n.delivered j
+  ] refl;
+  abcasts = n.abcasts;
+}
+
+noted_receiving : (s : State) → IsNoted s → (m : Message) → site_eq m.id.proc.site s.here ≡ false → IsNoted (receiving s m)
+noted_receiving s n m foreign = record {
+  sent = λ k.
+      filter-append (λ x. proc_eq x.id.proc (local s k)) s.got (m ∷ [])
+      ∙ ap (λ b. own s k ++ cond (b && (m.id.proc.serial == k)) (m ∷ []) []) foreign
+      ∙ append-nil (own s k)
+      ∙ n.sent k;
+  delivered = n.delivered;
+  abcasts = n.abcasts;
+}
+
+-- a process sends a message of its own
+noted_sent : (s : State) → IsNoted s → (k : ℕ) (m : Message) → m.id.proc ≡ local s k → IsNoted (receiving (noting_sent s k m) m)
+noted_sent s n k m named = record {
+  sent = λ j.
+      filter-append (λ x. proc_eq x.id.proc (local s j)) s.got (m ∷ [])
+      ∙ ap (λ p. own s j ++ cond (proc_eq p (local s j)) (m ∷ []) []) named
+      ∙ ap (λ b. own s j ++ cond (b && (k == j)) (m ∷ []) []) (site_itself s.here)
+      ∙ elim (k == j) as (λ b. k == j ≡ b → own s j ++ cond b (m ∷ []) [] ≡ sent_by (if b then s.acts k ++ Sent m ∷ [] else s.acts j)) [
+        | true ↦ λ is. ap (λ i. own s i ++ m ∷ []) (sym (eqb-true k j is)) ∙ ap (λ ms. ms ++ m ∷ []) (n.sent k) ∙ sym (sent_append (s.acts k) (Sent m ∷ []))
+        | false ↦ λ _. append-nil (own s j) ∙ n.sent j
+      ] refl;
+  delivered = λ j. elim (k == j) as (λ b. (if b then record (s.process k) { time = m.times } else s.process j).delivered ≡ delivered_by (if b then s.acts k ++ Sent m ∷ [] else s.acts j)) [
+    | true ↦ n.delivered k ∙ nothing_delivered (s.acts k) (Sent m) refl
+    | false ↦ n.delivered j
+  ];
+  abcasts = λ j. elim (k == j) as (λ b. k == j ≡ b → s.abcasts j ≡ abcasts_by (if b then s.acts k ++ Sent m ∷ [] else s.acts j)) [
+    | true ↦ λ is. ap s.abcasts (sym (eqb-true k j is)) ∙ n.abcasts k ∙ no_abcast (s.acts k) (Sent m) refl
+    | false ↦ λ _. n.abcasts j
+  ] refl;
+}
+
+noted_delivery : (s : State) → IsNoted s → (k : ℕ) (m : Message) → IsNoted (with_delivery s k m)
+noted_delivery s n k m = record {
+  sent = λ j. elim (k == j) as (λ b. k == j ≡ b → own s j ≡ sent_by (if b then s.acts k ++ Delivered m ∷ [] else s.acts j)) [
+    | true ↦ λ is. ap (own s) (sym (eqb-true k j is)) ∙ n.sent k ∙ nothing_sent (s.acts k) (Delivered m) refl
+    | false ↦ λ _. n.sent j
+  ] refl;
+  delivered = λ j. elim (k == j) as (λ b. (if b then now else s.process j).delivered ≡ delivered_by (if b then s.acts k ++ Delivered m ∷ [] else s.acts j)) [
+    | true ↦ ap (λ us. us ++ m.id ∷ []) (n.delivered k) ∙ sym (delivered_append (s.acts k) (Delivered m ∷ []))
+    | false ↦ n.delivered j
+  ];
+  abcasts = λ j. elim (is_atomic (kind_of m.body)) as (λ a. is_atomic (kind_of m.body) ≡ a → (if a then (λ i. if k == i then s.abcasts k ++ m.id ∷ [] else s.abcasts i) else s.abcasts) j ≡ abcasts_by (if k == j then s.acts k ++ Delivered m ∷ [] else s.acts j)) [
+    | true ↦ λ atomic. elim (k == j) as (λ b. (if b then s.abcasts k ++ m.id ∷ [] else s.abcasts j) ≡ abcasts_by (if b then s.acts k ++ Delivered m ∷ [] else s.acts j)) [
+      | true ↦ ap (λ us. us ++ m.id ∷ []) (n.abcasts k)
+          ∙ ap (λ b. abcasts_by (s.acts k) ++ (if b then m.id ∷ [] else [])) (sym atomic)
+          ∙ sym (abcasts_append (s.acts k) (Delivered m ∷ []))
+      | false ↦ n.abcasts j
+    ]
+    | false ↦ λ other. elim (k == j) as (λ b. k == j ≡ b → s.abcasts j ≡ abcasts_by (if b then s.acts k ++ Delivered m ∷ [] else s.acts j)) [
+      | true ↦ λ is. ap s.abcasts (sym (eqb-true k j is)) ∙ n.abcasts k ∙ no_abcast (s.acts k) (Delivered m) (ap (λ b. if b then m.id ∷ [] else []) other)
+      | false ↦ λ _. n.abcasts j
+    ] refl
+  ] refl;
+}
+  where
+    now : Process
+    now = record (s.process k) { time = join (s.process k).time m.times; delivered = (s.process k).delivered ++ m.id ∷ [] }
+
+-- processes enter a view
+noted_in_view : (s : State) → IsNoted s → (g : GroupNo) (v : ℕ) (members : Membership) (request : ℕ) (cut : CountList) → IsNoted (all_in_view s g v members request cut)
+noted_in_view s n g v members request cut = record {
+  sent = λ k. n.sent k ∙ (elim (enters s g members request k) as (λ b. sent_by (s.acts k) ≡ sent_by (if b then s.acts k ++ Entered g v cut ∷ [] else s.acts k)) [
+    | true ↦ nothing_sent (s.acts k) (Entered g v cut) refl
+    | false ↦ refl
+  ]);
+  delivered = λ k. elim (enters s g members request k) as (λ b. (if b then in_view g v (s.process k) else s.process k).delivered ≡ delivered_by (if b then s.acts k ++ Entered g v cut ∷ [] else s.acts k)) [
+    | true ↦ n.delivered k ∙ nothing_delivered (s.acts k) (Entered g v cut) refl
+    | false ↦ n.delivered k
+  ];
+  abcasts = λ k. n.abcasts k ∙ (elim (enters s g members request k) as (λ b. abcasts_by (s.acts k) ≡ abcasts_by (if b then s.acts k ++ Entered g v cut ∷ [] else s.acts k)) [
+    | true ↦ no_abcast (s.acts k) (Entered g v cut) refl
+    | false ↦ refl
+  ]);
+}
+
+noted_fold : {X : Type 0} (f : State → X → State) → ((s : State) (x : X) → IsNoted s → IsNoted (f s x)) → (xs : List X) (s : State) → IsNoted s → IsNoted (fold f s xs)
+noted_fold f h [] s n = n
+noted_fold f h (x ∷ xs) s n = noted_fold f h xs (f s x) (h s x n)
+
+noted_completing : (s : State) → IsNoted s → (g : GroupNo) (v : ℕ) (members : Membership) (request : ℕ) (cut : CountList) → IsNoted (completing s g v members request cut)
+noted_completing s n g v members request cut =
+    let now : State = set_group s g (with_view s.here v members (s.group g)) in
+    noted_fold (push_view g v members) (λ t k m. noted_pushing t m k (push.View g v members)) (filter (enters s g members request) (serials s)) (all_in_view now g v members request cut)
+    (noted_in_view now (record { sent = n.sent; delivered = n.delivered; abcasts = n.abcasts }) g v members request cut)
+
+noted_moves : IsInvariant history IsNoted
+noted_moves = record {
+  send = λ s n to f. record { sent = n.sent; delivered = n.delivered; abcasts = n.abcasts };
+  note_owed = λ s n key. record { sent = n.sent; delivered = n.delivered; abcasts = n.abcasts };
+  note_resent = λ s n key. record { sent = n.sent; delivered = n.delivered; abcasts = n.abcasts };
+  pay = λ s n key. record { sent = n.sent; delivered = n.delivered; abcasts = n.abcasts };
+  pay_upto = λ s n key. record { sent = n.sent; delivered = n.delivered; abcasts = n.abcasts };
+  note_moment = λ s n t. record { sent = n.sent; delivered = n.delivered; abcasts = n.abcasts };
+  note_ack = λ s n from u. record { sent = n.sent; delivered = n.delivered; abcasts = n.abcasts };
+  note_stable = λ s n u. record { sent = n.sent; delivered = n.delivered; abcasts = n.abcasts };
+}
+
+all_noted : IsInvariantOfAll history IsNoted
+all_noted = record {
+  keeps = noted_moves;
+  push = noted_pushing;
+  note_joining = λ s n k given g h at number heard. noted_process s n k _ refl;
+  sends = λ s n h k g content sent. noted_sent s n k (message_sent history s k g h content) refl;
+  receive = λ s n h from m taken. noted_receiving s n m (taken_foreign s h from m taken);
+  note_request = λ s n g what p. record { sent = n.sent; delivered = n.delivered; abcasts = n.abcasts };
+  note_answer = λ s n g. record { sent = n.sent; delivered = n.delivered; abcasts = n.abcasts };
+  note_applied = λ s n g from number p. record { sent = n.sent; delivered = n.delivered; abcasts = n.abcasts };
+  note_installed = λ s n g from v. record { sent = n.sent; delivered = n.delivered; abcasts = n.abcasts };
+  note_decided = λ s n g. record { sent = n.sent; delivered = n.delivered; abcasts = n.abcasts };
+  enter_view = λ s n h g v members request cut is. noted_completing s n h v members request cut;
+}
+
+-- Events, and what follows until the state rests
+
+noted_acted : (s : State) (e : Event) → IsNoted s → IsTyped e → IsNoted (acted s e)
+noted_acted s (event.Open d) n typed = elim (s.used == MAX_NUMBER) as (λ b. IsNoted (if b then s else opening_next s)) [
+  | true ↦ n
+  | false ↦ record { sent = n.sent; delivered = n.delivered; abcasts = n.abcasts }
+]
+noted_acted s (event.Command d k c) n typed = commanded_keeps history IsNoted all_noted s n k c
+noted_acted s (event.Frame d from f) n typed = framed_keeps history IsNoted all_noted s n from f typed
+noted_acted s (event.Tick t) n typed = tick_keeps history IsNoted noted_moves s n t
+
+noted_let_go : (s : State) → IsNoted s → IsNoted (let_go s)
+noted_let_go s n = record { sent = n.sent; delivered = n.delivered; abcasts = n.abcasts }
+
+noted_told : (s : State) (k : ℕ) (o : Option Push) → IsNoted s → IsNoted (tell history s k o)
+noted_told s k (Some p) n = noted_pushing s n k p
+noted_told s k None n = n
+
+noted_first : (s : State) (k : ℕ) → IsNoted s → IsNoted (deliver_first k s)
+noted_first s k n = elim (find (is_ready_for s k) s.got) as (λ o. IsNoted (elim o [ Some m ↦ let_go (delivering s k m) | None ↦ s ])) [
+  | Some m ↦ noted_let_go (delivering s k m) (noted_told (with_delivery s k m) k (told_of m.id m.body) (noted_delivery s n k m))
+  | None ↦ n
+]
+
+noted_sending : (s : State) (g : GroupNo) (k : ℕ) (content : Body) → IsNoted s → IsNoted (sending s g k content)
+noted_sending s g k content n =
+    let m : Message = next_message s g k content in
+    let taken : State = receiving (noting_sent s k m) m in
+    noted_fold (send_data history m.id) (λ t to h. send_data_keeps history IsNoted noted_moves m.id t h to) (history.others taken g) taken (noted_sent s n k m refl)
+
+noted_set_order_by : (s : State) (g : GroupNo) (k : ℕ) → IsNoted s → IsNoted (set_order_by s g k)
+noted_set_order_by s g k n =
+    let content : Body = body.Order (places_of s g k) in
+    subst IsNoted (sym (set_order_is s g k))
+    (elim (may_set_order s g k) as (λ b. IsNoted (if b then let_go (sending s g k content) else s)) [
+      | true ↦ noted_let_go (sending s g k content) (noted_sending s g k content n)
+      | false ↦ n
+    ])
+
+noted_set_order : (s : State) (g : GroupNo) → IsNoted s → IsNoted (set_order s g)
+noted_set_order s g n = elim (holder_at s.here (s.group g)) as (λ o. IsNoted (elim o [ Some p ↦ set_order_by s g p.serial | None ↦ s ])) [
+  | Some p ↦ noted_set_order_by s g p.serial n
+  | None ↦ n
+]
+
+pub acts_are_noted : ActsAreNoted
+acts_are_noted here config s opens = record { sent = λ k. refl; delivered = λ k. refl; abcasts = λ k. refl }
+acts_are_noted here config s (begins t p) = let n = acts_are_noted here config t p in record { sent = n.sent; delivered = n.delivered; abcasts = n.abcasts }
+acts_are_noted here config s (acts t e typed p) = noted_acted t e (acts_are_noted here config t p) typed
+acts_are_noted here config s (lets_go t p) = noted_let_go t (acts_are_noted here config t p)
+acts_are_noted here config s (delivers t k p) = noted_first t k (acts_are_noted here config t p)
+acts_are_noted here config s (orders t g p) = noted_set_order t g (acts_are_noted here config t p)
+acts_are_noted here config s (decides t g p) = decide_keeps history IsNoted all_noted t (acts_are_noted here config t p) g
