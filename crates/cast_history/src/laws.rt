@@ -27,7 +27,7 @@ pub fn counts_can_be_raised()
 {}
 
 /// What a history notes of each process is what it did: in each state that a run passes, its messages that were received
-/// here are those that it sent, and it has delivered what it noted as delivered, each in that order.
+/// here are those that it sent, and it has delivered what it noted as delivered, each in that order; its ABCASTs too.
 pub fn acts_are_noted()
     ensures noted { ActsAreNoted }
 {}
