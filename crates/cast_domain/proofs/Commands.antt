@@ -30,7 +30,7 @@ use Rattle.cast_domain.specs.Records.{Records}
 use Rattle.cast_domain.specs.Calls.{tell_in, records, receive_in, is_own_in, awaits_own_in}
 use Rattle.cast_history.specs.Lawful.{IsSpent, AreKept, IsLawful}
 use Rattle.cast_domain.specs.Fits.{process_named, LogFits, Fits}
-use Rattle.cast_domain.proofs.Following.{fits_sends}
+use Rattle.cast_domain.proofs.Following.{asked_of, fits_sends}
 use Rattle.cast_domain.proofs.Standing.{record_there, standing_there, time_there, fits_sent, process_here, fits_receive, fits_receive_with}
 use Rattle.cast_domain.proofs.Releases.{current_same}
 use Rattle.cast_types.proofs.Bools.{same_bools, and_none}
@@ -108,11 +108,11 @@ awaits_own_there r s f l k given =
 -- Messages that are sent
 
 -- a message is received here, the logs that are kept tell of it, and it is sent to the other sites of the view
-pub fits_send_message_with : (r : Records) (s : State) → Fits r s → (m : Message) → IsSound m → (orders : List Log) → ((g : GroupNo) → LogFits (receiving s m) g (log_of orders g)) → Fits (fold (send_data records m.id) (record (receive_in r m) { orders = orders }) (others_in r.acks m.id.group)) (fold (send_data history m.id) (receiving s m) (others_of s m.id.group))
-fits_send_message_with r s f m sound orders logs =
+pub fits_send_message_with : (r : Records) (s : State) → Fits r s → (m : Message) → IsSound m → asked_of s m.id → (orders : List Log) → ((g : GroupNo) → LogFits (receiving s m) g (log_of orders g)) → Fits (fold (send_data records m.id) (record (receive_in r m) { orders = orders }) (others_in r.acks m.id.group)) (fold (send_data history m.id) (receiving s m) (others_of s m.id.group))
+fits_send_message_with r s f m sound asked orders logs =
     let now : Records = record (receive_in r m) { orders = orders } in
     subst (λ sites. Fits (fold (send_data records m.id) now sites) (fold (send_data history m.id) (receiving s m) (others_of s m.id.group))) (sym (f.acks.views m.id.group))
-    (fits_sends now (receiving s m) (fits_receive_with r s f m sound orders logs) m.id sound.from_one (others_of s m.id.group))
+    (fits_sends now (receiving s m) (fits_receive_with r s f m sound orders logs) m.id sound.from_one asked (others_of s m.id.group))
 
 -- a member's next message has its view, and a count from 1 on
 pub next_sound : (s : State) (g : GroupNo) (k : ℕ) (content : Body) → IsLawful s → is_member ((s.process k).standing g) ≡ true → IsSound (next_message s g k content)

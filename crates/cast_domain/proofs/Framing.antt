@@ -2,7 +2,7 @@
 use Rattle.std.proofs.Common.{◌≡◌, ◌<◌, true, false, ◌&&◌, ◌||◌, List, [], ◌∷◌, length, map, filter, ℕ, zero, suc, ◌+◌, Some, refl, sym, ap, subst, ◌∙◌, arith}
 use Rattle.std.specs.Prelude.{◌==◌, nat_lt, slice_get}
 use Rattle.std.specs.List.{list_any, range_with_len}
-use Rattle.std.proofs.lemmas.Bool.{and_parts, eqb-true, eq-eqb, ltb-true}
+use Rattle.std.proofs.lemmas.Bool.{and_parts, eqb-true, eq-eqb, ltb-true, or_right}
 use Rattle.std.proofs.lemmas.List.{length-map}
 use Rattle.cast_types.specs.declared.names.SiteNo.{SiteNo}
 use Rattle.cast_types.specs.declared.names.GroupNo.{GroupNo}
@@ -21,11 +21,11 @@ use Rattle.cast_message.specs.declared.client.Command.{Command}
 use Rattle.cast_message.specs.declared.client.Push.TheVariants as push
 use Rattle.cast_message.specs.Bodies.{kind_of}
 use Rattle.cast_message.specs.Membership.{Membership}
-use Rattle.cast_stable.specs.Ledger.{is_received_in}
+use Rattle.cast_stable.specs.Ledger.{is_received_in, source_of}
 use Rattle.cast_stable.proofs.Meanings.{stable_meant}
 use Rattle.cast_delay.specs.Fits.{IsSound}
 use Rattle.cast_delay.specs.declared.row.Fact.TheVariants as fact
-use Rattle.cast_model.specs.Group.{with_request, with_answer, with_view}
+use Rattle.cast_model.specs.Group.{with_request, with_answer, with_view, has_view, is_current, members_of}
 use Rattle.cast_model.specs.Home.{after_request, after_installed, decided}
 use Rattle.cast_history.specs.State.{State, local, serials, was_given, set_group, set_standing, is_received, receiving, others_of, noting_sent}
 use Rattle.cast_history.specs.Effects.{next_message}
@@ -35,20 +35,22 @@ use Rattle.cast_history.specs.Lawful.{IsLawful, IsTypedFrame}
 use Rattle.cast_history.specs.Rules.Data.{counts_itself}
 use Rattle.cast_history.specs.Rules.Commands.{message_sent, commanded}
 use Rattle.cast_history.specs.Rules.Frames.{framed}
-use Rattle.cast_history.proofs.Rules.Follows.{FollowsAll, AllAt, IsTaken, sent_here, with_invariant}
+use Rattle.cast_history.proofs.Rules.Follows.{FollowsAll, AllAt, IsTaken, sent_here, with_invariant, invariant_asks}
 use Rattle.cast_history.proofs.Rules.Data.{used_counts}
 use Rattle.cast_history.proofs.Rules.Commands.{commanded_follows}
 use Rattle.cast_history.proofs.Rules.Frames.{framed_follows}
-use Rattle.cast_history.proofs.Lawful.{same_fold, same_pushing}
-use Rattle.cast_history.proofs.LawfulSteps.{placed_at, taken_current, entered, all_lawful, taken_foreign}
+use Rattle.cast_history.proofs.Lawful.{same_fold, same_pushing, local_speaks}
+use Rattle.cast_history.proofs.LawfulSteps.{placed_at, taken_current, entered, all_lawful, taken_foreign, taken_speaks}
 use Rattle.cast_domain.specs.declared.record.GroupRecord.{GroupRecord}
 use Rattle.cast_domain.specs.Records.{Records}
 use Rattle.cast_domain.specs.Calls.{standing_of, time_of, tell_in, receive_in, awaits_own_in, records}
-use Rattle.cast_domain.specs.Fits.{record_for, Fits}
+use Rattle.cast_domain.specs.Fits.{record_for, Fits, past_of}
 use Rattle.cast_domain.proofs.Standing.{record_there, standing_there, time_there, fits_push, fits_standing, fits_here, fits_home, fits_receive}
-use Rattle.cast_domain.proofs.Following.{FitsIn, IsAt, records_follow}
+use Rattle.cast_domain.proofs.Following.{records_ask, FitsIn, IsAt, records_follow, asked_of}
 use Rattle.cast_domain.proofs.Entering.{fits_complete}
 use Rattle.cast_domain.proofs.Commands.{awaits_own_there, fits_sent_here}
+use Rattle.cast_domain.proofs.Receipts.{live_now}
+use Rattle.cast_history.specs.Rules.Stability.{is_used_ack}
 
 -- Messages of other sites
 
@@ -75,8 +77,25 @@ received_ids : (u : Uid) (got : List Message) → is_among uid_eq u (map (λ m. 
 received_ids u [] = refl
 received_ids u (m ∷ got) = λ i. uid_turned u m.id i || received_ids u got i
 
-received_there : (r : Records) (s : State) → Fits r s → (u : Uid) → 0 < u.count → is_received_in r.acks u ≡ is_received s u
-received_there r s f u counted = f.acks.receipts u counted ∙ received_ids u s.got
+received_there : (r : Records) (s : State) → Fits r s → (u : Uid) → asked_of s u → 0 < u.count → is_received_in r.acks u ≡ is_received s u
+received_there r s f u asked counted = f.acks.receipts u asked counted ∙ received_ids u s.got
+
+-- whose acknowledgement is used, and what is received, is of a live source
+used_live : (s : State) (g : GroupNo) (from : SiteNo) (u : Uid) → history.place s u.group ≡ Some g → is_used_ack history s g from u ≡ true → asked_of s u
+used_live s g from u at used =
+    let there = placed_at s u.group g at in
+    let first = and_parts (is_current (s.group g) u.view) (nat_lt 0 u.count && (site_eq u.proc.site s.here && is_among site_eq from (others_of s u.group))) used in
+    let counted = and_parts (nat_lt 0 u.count) (site_eq u.proc.site s.here && is_among site_eq from (others_of s u.group)) first.1 in
+    let local = and_parts (site_eq u.proc.site s.here) (is_among site_eq from (others_of s u.group)) counted.1 in
+    live_now s (source_of u)
+    (ap (λ h. (s.group h).number) there.1 ∙ eqb-true (s.group g).number u.view (and_parts (has_view (s.group g)) ((s.group g).number == u.view) first.0).1)
+    (or_right (is_among proc_eq u.proc (members_of (s.group u.group))) (site_eq u.proc.site s.here) local.0)
+
+taken_live : (s : State) (g : GroupNo) (from : SiteNo) (m : Message) → IsTaken history s g from m → asked_of s m.id
+taken_live s g from m taken = live_now s (source_of m.id) (sym (taken_current s g from m taken)) (taken_speaks s g from m taken)
+
+taken_counted : (s : State) (g : GroupNo) (from : SiteNo) (m : Message) → IsTaken history s g from m → 0 < m.id.count
+taken_counted s g from m taken = (sound_counts m (used_counts history s g from m taken.used)).from_one
 
 fits_taken : (r : Records) (s : State) → Fits r s → (g : GroupNo) (from : SiteNo) (m : Message) → IsTaken history s g from m → Fits (receive_in r m) (receiving s m)
 fits_taken r s f g from m taken =
@@ -107,6 +126,9 @@ module _ (groups : List GroupNo) where
     places_from gs (a + 1) (λ i h is. subst (λ j. slice_get groups j ≡ Some h) (omega arith) (at (suc i) h is)),
   )
 
+  asks : (s : State) (u : Uid) → asked_of s u → (with_invariant records history (FitsIn groups) (IsAt groups) IsLawful (records_follow groups) all_lawful.keeps).asked s u
+  asks s u asked = invariant_asks records history (FitsIn groups) (IsAt groups) IsLawful (records_follow groups) all_lawful.keeps s u (records_ask groups s u asked)
+
   pub records_follow_all : FollowsAll records history (StandsIn groups) (IsAt groups)
   records_follow_all = record {
     follows = with_invariant records history (FitsIn groups) (IsAt groups) IsLawful (records_follow groups) all_lawful.keeps;
@@ -116,8 +138,14 @@ module _ (groups : List GroupNo) where
         (places_from s.config.groups 0 (λ i g at. subst (λ j. slice_get groups j ≡ Some g) (omega arith) (sym (ap (λ l. slice_get l i) f.0.1) ∙ at)));
     home = λ r s f i g at. ap (λ (x : GroupRecord). x.home) (record_there r s f.0.0 i g (there r s f i g at));
     held = λ r s f. sym (length-map r.part.kept (λ (x : Received). x.message)) ∙ ap length f.0.0.messages.kept_in;
-    is_received = λ r s f u counted. received_there r s f.0.0 u (ltb-true 0 u.count counted);
-    is_stable = λ r s f u counted. stable_meant s.here (others_of s) (map (λ m. m.id) s.got) s.acks s.told r.acks f.0.0.acks u (ltb-true 0 u.count counted);
+    used = λ s g from u at is_used. asks s u (used_live s g from u at is_used);
+    sent = λ s h k g content is_sent.
+        let placed = placed_at s g h is_sent.at in
+        let id = (message_sent history s k g h content).id in
+        asks (sent_here history s h k g content) id (live_now s (source_of id) (ap (λ x. (s.group x).number) placed.1) (local_speaks s g k));
+    is_received = λ r s f g from m taken. received_there r s f.0.0 m.id (taken_live s g from m taken) (taken_counted s g from m taken);
+    is_stable = λ r s f g from m taken.
+        stable_meant (past_of (receiving s m)) (receive_in r m).acks (fits_taken r s f.0.0 g from m taken).acks m.id (taken_live s g from m taken) (taken_counted s g from m taken);
     is_open = λ r s f k. ap (λ n. was_given n k) (ap (λ c. c.used) f.0.0.core) ∙ sym (f.0.0.opened.all_open k);
     standing = λ r s f k g. ap (λ t. standing_of r.delay (record { site = t; serial = k }) g) (ap (λ c. c.site) f.0.0.core) ∙ standing_there r s f.0.0 k g;
     time = λ r s f k. ap (λ t. time_of r.delay (record { site = t; serial = k })) (ap (λ c. c.site) f.0.0.core) ∙ time_there r s f.0.0 k;

@@ -4,13 +4,13 @@ use Rattle.std.proofs.Common.{◌≡◌, ℕ, ◌+◌, ◌≤◌, Bool, true, fa
 use Rattle.std.specs.Prelude.{◌*◌, ◌&&◌, ◌⊎◌, nat_lt, nat_le, if◌then◌else◌, filter, slice_get}
 use Rattle.std.specs.List.{find}
 use Rattle.std.specs.Option.{option_map_or}
-use Rattle.std.proofs.lemmas.Bool.{cases_Bool, false≢true, or_cases, le-leb, lt-ltb}
+use Rattle.std.proofs.lemmas.Bool.{cases_Bool, false≢true, or_cases, le-leb, lt-ltb, or_right}
 use Rattle.std.proofs.lemmas.List.{length-append, length-map}
 use Rattle.cast_types.specs.declared.names.SiteNo.{SiteNo}
 use Rattle.cast_types.specs.declared.names.GroupNo.{GroupNo}
 use Rattle.cast_types.specs.declared.names.Proc.{Proc}
 use Rattle.cast_types.specs.declared.limits.TheConstants.{MAX_NUMBER, MAX_UNSETTLED, MAX_POSITION}
-use Rattle.cast_types.specs.Names.{Entry, group_eq, named}
+use Rattle.cast_types.specs.Names.{Entry, group_eq, named, site_eq, proc_eq}
 use Rattle.cast_types.specs.Sets.{is_among}
 use Rattle.cast_types.proofs.Orders.{same_group, group_itself, site_itself}
 use Rattle.cast_message.specs.declared.message.Received.{Received}
@@ -29,16 +29,18 @@ use Rattle.cast_order.proofs.Meanings.{next_rules as order_next_rules, unsettled
 use Rattle.cast_history.specs.Rules.Room.{may_order}
 use Rattle.cast_history.specs.History.{history}
 use Rattle.cast_domain.specs.declared.record.GroupRecord.{GroupRecord}
-use Rattle.cast_model.specs.Group.{holder_of, is_process}
+use Rattle.cast_model.specs.Group.{holder_of, is_process, members_of}
 use Rattle.cast_model.specs.Home.{is_empty}
 use Rattle.cast_history.specs.State.{State, local, is_group, others_of}
 use Rattle.cast_history.specs.Order.{facts_in, order_of, holds, lists_of, abcasts_delivered, unlisted, unsettled, has_place, has_room_for_order, turn_of}
 use Rattle.cast_domain.specs.Records.{Records}
 use Rattle.cast_domain.specs.Calls.{place_in, record_at, records, holds_in, settled_in, turn_at, turns_in}
-use Rattle.cast_domain.specs.Fits.{record_for, told_here, lists_here, settled_of, settled_here, process_named, Fits, LogFits}
+use Rattle.cast_domain.specs.Fits.{record_for, told_here, lists_here, settled_of, settled_here, process_named, Fits, LogFits, is_live, past_of}
 use Rattle.cast_domain.proofs.Logs.{has_passed}
 use Rattle.cast_domain.proofs.LogSteps.{holder_is}
 use Rattle.cast_domain.proofs.Standing.{record_there, place_some, place_none, process_here}
+use Rattle.cast_domain.proofs.Receipts.{live_now}
+use Rattle.cast_types.specs.Sources.{source}
 
 -- room for set-order messages
 pub order_room_there : (r : Records) (s : State) → Fits r s → may_order records r ≡ may_order history s
@@ -53,17 +55,20 @@ holds_there r s f g listed k = at (place_in r g) refl
     at (Some i) is = ap (λ (x : GroupRecord). is_process (local s k) (holder_of x.here)) (record_there r s f i g (place_some r s f g i is).0)
 
 -- how many messages of a process are settled
-pub settled_there : (r : Records) (s : State) → Fits r s → (g : GroupNo) (p : Proc) → settled_in r g (s.group g).number p ≡ settled_of s g p
-settled_there r s f g p = at (others_of s g) refl
+pub settled_there : (r : Records) (s : State) → Fits r s → (g : GroupNo) (p : Proc) → site_eq p.site s.here ≡ true → settled_in r g (s.group g).number p ≡ settled_of s g p
+settled_there r s f g p local = at (others_of s g) refl
   where
     n : ℕ
     n = (s.group g).number
+
+    live : is_live s (source g n p) ≡ true
+    live = live_now s (source g n p) refl (or_right (is_among proc_eq p (members_of (s.group g))) (site_eq p.site s.here) local)
 
     at : (others : List SiteNo) → others_of s g ≡ others → settled_in r g n p ≡ (if is_empty others then MAX_NUMBER else stable_upto s.acks others g n p)
     at [] is = ap (λ (xs : List SiteNo). if is_empty xs then MAX_NUMBER else upto_in r.acks (named g n (p, 0))) (f.acks.views g ∙ is)
     at (x ∷ others) is =
         ap (λ (xs : List SiteNo). if is_empty xs then MAX_NUMBER else upto_in r.acks (named g n (p, 0))) (f.acks.views g ∙ is)
-        ∙ upto_meant s.here (others_of s) (map (λ m. m.id) s.got) s.acks s.told r.acks f.acks (named g n (p, 0)) (λ none. some (sym is ∙ none))
+        ∙ upto_meant (past_of s) r.acks f.acks (named g n (p, 0)) live (λ none. some (sym is ∙ none))
         ∙ ap (λ xs. stable_upto s.acks xs g n p) is
       where
         some : x ∷ others ≡ [] → ⊥
@@ -113,7 +118,7 @@ room_there r s f g k here =
     let l : Log = log_of r.orders g in
     let fits = f.orders g in
     let total : length l.known + length l.waiting ≡ length (order_of s g ++ unlisted s g k) = (λ i. length (fits.fits.known i) + length (waiting_there s g k l fits here i)) ∙ sym (length-append (order_of s g) (unlisted s g k)) in
-    ap (λ n. may_order records r && has_room_in n l) (settled_there r s f g (local s k))
+    ap (λ n. may_order records r && has_room_in n l) (settled_there r s f g (local s k) (site_itself s.here))
     ∙ (λ i. order_room_there r s f i && (nat_lt (unsettled_there s g k l fits here i) MAX_UNSETTLED && nat_lt (total i) MAX_POSITION))
 
 -- the next id that a process has not delivered

@@ -25,16 +25,19 @@ use Rattle.cast_delay.proofs.Queues.{forget_fits, awaited_by}
 use Rattle.cast_stable.proofs.Meanings.{stable_meant}
 use Rattle.cast_domain.specs.declared.record.GroupRecord.{GroupRecord}
 use Rattle.cast_model.specs.Group.{has_view, is_current}
-use Rattle.cast_history.specs.State.{State, local, others_of, local_members, gate_of}
+use Rattle.cast_history.specs.State.{State, local, local_members, gate_of, is_stable}
 use Rattle.cast_history.specs.Rest.{is_free, let_go}
 use Rattle.cast_domain.specs.Records.{Records}
 use Rattle.cast_history.specs.Rules.Release as release
 use Rattle.cast_domain.specs.Calls.{place_in, record_at, is_current_in, release_in, records, resting_records}
-use Rattle.cast_history.specs.Lawful.{IsLawful}
-use Rattle.cast_domain.specs.Fits.{process_named, Fits}
+use Rattle.cast_history.specs.Lawful.{IsLawful, IsSpent, AreKept}
+use Rattle.cast_domain.specs.Fits.{process_named, Fits, is_live, past_of}
 use Rattle.cast_history.proofs.Totals.{In}
 use Rattle.cast_domain.proofs.Standing.{orders_same, record_there, place_some, place_none, process_here}
 use Rattle.cast_types.proofs.Bools.{neither}
+use Rattle.cast_domain.proofs.Receipts.{live_now}
+use Rattle.cast_stable.specs.Ledger.{source_of, is_stable_in}
+use Rattle.cast_types.proofs.Contains.{contains_here, contains_later}
 
 -- Rows and serials
 
@@ -148,11 +151,38 @@ current_same r s fits l u =
       | None ↦ λ is. sym (ap (λ b. b && ((s.group u.group).number == u.view)) (false_from_ne_true (has_view (s.group u.group)) (λ seen. false≢true (sym (place_none r s fits u.group is) ∙ l.listed u.group seen))))
     ] refl
 
-pub free_same : (r : Records) (s : State) → Fits r s → IsLawful s → (u : Uid) → 0 < u.count → release.is_free records resting_records r u ≡ is_free s u
-free_same r s fits l u counted = λ i.
-    current_same r s fits l u i
-    && (stable_meant s.here (others_of s) (map (λ m. m.id) s.got) s.acks s.told r.acks fits.acks u counted i
-    && awaited_same r s fits u counted i)
+pub free_same : (r : Records) (s : State) → Fits r s → IsLawful s → (u : Uid) → 0 < u.count → (is_current (s.group u.group) u.view ≡ true → is_live s (source_of u) ≡ true) → release.is_free records resting_records r u ≡ is_free s u
+free_same r s fits l u counted live =
+    ap (λ b. b && (is_stable_in r.acks u && not (is_awaited r.delay.rows u))) (current_same r s fits l u)
+    ∙ elim (cases_Bool (is_current (s.group u.group) u.view)) [
+      | inl current ↦ λ i.
+          is_current (s.group u.group) u.view && (stable_meant (past_of s) r.acks fits.acks u (live current) counted i && awaited_same r s fits u counted i)
+      | inr ended ↦
+          ap (λ b. b && (is_stable_in r.acks u && not (is_awaited r.delay.rows u))) ended
+          ∙ sym (ap (λ b. b && (is_stable s u && list_all (λ k. has_delivered (s.process k) u) (local_members s u.group))) ended)
+    ]
+
+-- what is kept was received
+kept_got : (P : Message → Type 0) (got kept : List Message) → AreKept P got kept → (m : Message) → In m kept → Contains got m
+kept_got P [] kept none m at = absurd (subst (In m) none at)
+kept_got P (x ∷ got) kept (inl (rest, is, more)) m at = elim (subst (In m) is at) [
+  | inl here ↦ subst (Contains (x ∷ got)) (sym here) (contains_here x got)
+  | inr later ↦ contains_later m x got (kept_got P got rest more m later)
+]
+kept_got P (x ∷ got) kept (inr (spent, more)) m at = contains_later m x got (kept_got P got kept more m at)
+
+in_messages : (x : Received) (xs : List Received) → In x xs → In x.message (messages xs)
+in_messages x [] at = absurd at
+in_messages x (y ∷ xs) (inl here) = inl (ap (λ z. z.message) here)
+in_messages x (y ∷ xs) (inr there) = inr (in_messages x xs there)
+
+-- a kept message of the group's view is of a live source
+kept_live : (r : Records) (s : State) → Fits r s → IsLawful s → (x : Received) → In x r.part.kept → is_current (s.group x.message.id.group) x.message.id.view ≡ true → is_live s (source_of x.message.id) ≡ true
+kept_live r s fits l x at current =
+    let u = x.message.id in
+    let same = eqb-true (s.group u.group).number u.view (and_parts (has_view (s.group u.group)) ((s.group u.group).number == u.view) current).1 in
+    let got = kept_got (IsSpent s) s.got s.kept l.spent x.message (subst (In x.message) fits.messages.kept_in (in_messages x r.part.kept at)) in
+    live_now s (source_of u) same (l.traced.spoken x.message got (sym same))
 
 -- Keys
 
@@ -302,7 +332,7 @@ fits_let_go r s fits l =
     keys = map (λ x. x.key) (filter (λ x. release.is_free records resting_records r x.message.id) r.part.kept)
 
     free_as : (x : Received) → In x r.part.kept → release.is_free records resting_records r x.message.id ≡ is_free s x.message.id
-    free_as x at = free_same r s fits l x.message.id (fits.processes.delay.sound x (in_contains x r.part.kept at)).from_one
+    free_as x at = free_same r s fits l x.message.id (fits.processes.delay.sound x (in_contains x r.part.kept at)).from_one (kept_live r s fits l x at)
 
     kept_now : messages (fold drop_kept r.part.kept keys) ≡ filter (λ m. not (is_free s m.id)) s.kept
     kept_now =

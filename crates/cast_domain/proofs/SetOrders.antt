@@ -10,7 +10,7 @@ use Rattle.cast_types.specs.declared.names.Proc.{Proc}
 use Rattle.cast_types.specs.declared.limits.TheConstants.{MAX_NUMBER}
 use Rattle.cast_types.specs.Names.{site_eq, group_eq, proc_eq}
 use Rattle.cast_types.specs.Stamps.{ClockList}
-use Rattle.cast_types.proofs.Orders.{same_site, group_itself, proc_itself}
+use Rattle.cast_types.proofs.Orders.{same_site, group_itself, proc_itself, site_itself}
 use Rattle.cast_clock.specs.Times.{count_in, bumped}
 use Rattle.cast_clock.proofs.Raised.{bump_raises}
 use Rattle.cast_message.specs.declared.message.Body.TheVariants as body
@@ -48,6 +48,9 @@ use Rattle.cast_domain.proofs.Standing.{record_there, process_here, standing_the
 use Rattle.cast_domain.proofs.Releases.{row_none, fits_let_go}
 use Rattle.cast_domain.proofs.Commands.{next_sound, fits_send_message_with}
 use Rattle.cast_domain.proofs.Turns.{Kept, kept_self, kept_if}
+use Rattle.cast_domain.proofs.Receipts.{live_now}
+use Rattle.cast_history.proofs.Lawful.{local_speaks}
+use Rattle.cast_stable.specs.Ledger.{source_of}
 
 -- Members
 
@@ -102,8 +105,8 @@ sent_at r p x places =
 fits_places : (r : Records) (s : State) → Fits r s → IsLawful s → (k : ℕ) (g : GroupNo) → holds s g k ≡ true → is_member ((s.process k).standing g) ≡ true → may_raise (s.process k).time g (local s k) ≡ true → (q : Sequence) → Some q ≡ next_places (log_of r.orders g) → Fits (sent_at r (local s k) (record_for s g) q) (sending s g k (body.Order q))
 fits_places r s f l k g here member raised q next =
     subst (λ x. Fits x (sending s g k (body.Order q))) (sym same)
-    (fits_send_message_with (tell_in r p (fact.Time m.times)) s1 (fits_sent r s f k (member_given r s f k g member) m) m (next_sound s g k (body.Order q) l member) (learn_in noted g (body.Order q))
-    (logs_place s1 k m q settled r.orders (fits_sent r s f k (member_given r s f k g member) m).orders here current refl refl next (settled_there r s f g p ∙ sym (settled_of_holder s g k here)) most))
+    (fits_send_message_with (tell_in r p (fact.Time m.times)) s1 (fits_sent r s f k (member_given r s f k g member) m) m (next_sound s g k (body.Order q) l member) (live_now s1 (source_of m.id) refl (local_speaks s1 g k)) (learn_in noted g (body.Order q))
+    (logs_place s1 k m q settled r.orders (fits_sent r s f k (member_given r s f k g member) m).orders here current refl refl next (settled_there r s f g p (site_itself s.here) ∙ sym (settled_of_holder s g k here)) most))
   where
     p : Proc
     p = local s k

@@ -44,7 +44,7 @@ use Rattle.cast_model.specs.declared.session.Session.{Session}
 use Rattle.cast_model.specs.declared.group.Group.{Group}
 use Rattle.cast_model.specs.declared.home.Home.{Home}
 use Rattle.cast_model.specs.Session.{no_session, first_session, is_open, pushed_to, told}
-use Rattle.cast_model.specs.Group.{no_group, members_of, other_sites, with_view}
+use Rattle.cast_model.specs.Group.{members_of, other_sites, with_view}
 use Rattle.cast_history.specs.State.{State, opening, no_process, local, is_group, gate_of, others_of, set_session, set_process, set_group, set_home, set_standing, emitted, was_given, pushing, receiving, noting_act, noting_sent}
 use Rattle.cast_history.specs.Acts.{Act}
 use Rattle.cast_history.specs.Acts.Act.{Sent}
@@ -54,7 +54,8 @@ use Rattle.cast_domain.specs.Shared.{no_part}
 use Rattle.cast_domain.specs.Records.{Records}
 use Rattle.cast_domain.specs.Calls.{place_among, local_in, place_in, no_record, record_at, standing_of, time_of, send_in, push_in, tell_in, open_in, learn_in, receive_in, view_in}
 use Rattle.cast_history.specs.Lawful.{IsLawful}
-use Rattle.cast_domain.specs.Fits.{process_named, record_for, session_in, LogFits, Fits}
+use Rattle.cast_domain.specs.Fits.{process_named, record_for, session_in, is_live, past_of, LogFits, Fits}
+use Rattle.cast_domain.proofs.Receipts.{group_same, others_told, past_same, was_live}
 use Rattle.cast_domain.proofs.Logs.{log_alike, settled_same, logs_receive, logs_view}
 use Rattle.cast_history.proofs.Rules.Follows.{choose}
 use Rattle.cast_history.proofs.Spots.{update_own, update_other, push_last, push_other, update_mapped}
@@ -89,13 +90,6 @@ orders_process s k v orders same fits g =
     at p true true is = same ∙ ap (λ n. (s.process n).delivered) (is refl)
     at p true false is = refl
     at p false b is = refl
-
--- what holds of a group holds after a change that leaves it
-group_same : {A : Type 0} (f : Group → A) (s : State) (g : GroupNo) (v : Group) → f v ≡ f (s.group g) → (h : GroupNo) → f ((set_group s g v).group h) ≡ f (s.group h)
-group_same f s g v same h = elim (cases_Bool (group_eq g h)) [
-  | inl here ↦ ap (λ b. f (if b then v else s.group h)) here ∙ same ∙ ap (λ k. f (s.group k)) (same_group g h here)
-  | inr other ↦ ap (λ b. f (if b then v else s.group h)) other
-]
 
 -- or where a group changed that has the same number and view
 orders_group : (s : State) (g : GroupNo) (v : Group) (orders : List Log) → v.number ≡ (s.group g).number → v.view ≡ (s.group g).view → ((h : GroupNo) → LogFits s h (log_of orders h)) → (h : GroupNo) → LogFits (set_group s g v) h (log_of orders h)
@@ -299,26 +293,6 @@ gate_same s g v same = λ i h. record { number = at_group h i }
       | inr other ↦ ap (λ b. (if b then v else s.group h).number) (sym other)
     ]
 
--- the other sites of a group's view, as they are told
-others_told : (s : State) (g : GroupNo) (v : Group) → set_at group_eq (others_of s) g (other_sites s.here (members_of v)) ≡ others_of (set_group s g v)
-others_told s g v = λ i h. at_group h i
-  where
-    at_group : (h : GroupNo) → set_at group_eq (others_of s) g (other_sites s.here (members_of v)) h ≡ others_of (set_group s g v) h
-    at_group h =
-        elim (group_eq g h) as (λ b. ◌≡◌ {A = List SiteNo} (if b then other_sites s.here (members_of v) else other_sites s.here (members_of (s.group h))) (other_sites s.here (members_of (if b then v else s.group h)))) [ true ↦ refl | false ↦ refl ]
-
-same_members : (v w : Group) → v.view ≡ w.view → members_of v ≡ members_of w
-same_members v w same = λ i. members_of (record no_group { view = same i })
-
-others_same : (s : State) (g : GroupNo) (v : Group) → v.view ≡ (s.group g).view → others_of s ≡ others_of (set_group s g v)
-others_same s g v same = λ i h. other_sites s.here (at_group h i)
-  where
-    at_group : (h : GroupNo) → members_of (s.group h) ≡ members_of ((set_group s g v).group h)
-    at_group h = elim (cases_Bool (group_eq g h)) [
-      | inl here ↦ ap (λ k. members_of (s.group k)) (sym (same_group g h here)) ∙ sym (same_members v (s.group g) same) ∙ ap (λ b. members_of (if b then v else s.group h)) (sym here)
-      | inr other ↦ ap (λ b. members_of (if b then v else s.group h)) (sym other)
-    ]
-
 -- the record of a group with another state
 groups_here : (s : State) → IsLawful s → (i : ℕ) (g : GroupNo) → slice_get s.config.groups i ≡ Some g → (change : Group → Group) → update (map (record_for s) s.config.groups) i (λ x. record x { here = change x.here }) ≡ map (record_for (set_group s g (change (s.group g)))) s.config.groups
 groups_here s lawful i g at change =
@@ -344,7 +318,7 @@ fits_here r s fits lawful i g at change same seen = record {
     admitted = fits.processes.admitted;
     rows = fits.processes.rows;
   };
-  acks = subst (λ others. AcksFits s.here others (map (λ m. m.id) s.got) s.acks s.told r.acks) (others_same s g (change (s.group g)) seen) fits.acks;
+  acks = subst (λ past. AcksFits past r.acks) (past_same s g (change (s.group g)) same seen) fits.acks;
   orders = orders_group s g (change (s.group g)) r.orders same seen fits.orders;
   frames = fits.frames;
   delivered = fits.delivered;
@@ -365,10 +339,11 @@ fits_view r s fits lawful i g at n members newer = record {
     admitted = fits.processes.admitted;
     rows = fits.processes.rows;
   };
-  acks = subst (λ others. AcksFits s.here others (map (λ m. m.id) s.got) s.acks s.told (view_in r i n members).acks) (others_told s g (with_view s.here n members (s.group g)))
-      (subst (λ l. AcksFits s.here (set_at group_eq (others_of s) g (other_sites s.here (members_of (with_view s.here n members (s.group g))))) (map (λ m. m.id) s.got) s.acks s.told l)
+  acks = subst (λ others. AcksFits (record (past_of (set_group s g (with_view s.here n members (s.group g)))) { others = others }) (view_in r i n members).acks) (others_told s g (with_view s.here n members (s.group g)))
+      (subst (λ l. AcksFits (record (past_of (set_group s g (with_view s.here n members (s.group g)))) { others = set_at group_eq (others_of s) g (other_sites s.here (members_of (with_view s.here n members (s.group g)))) }) l)
       (λ j. told_ledger r.acks (sym (record_there r s fits i g at) j).name (other_sites ((sym fits.core j).site) (members_of (with_view ((sym fits.core j).site) n members (sym (record_there r s fits i g at) j).here))))
-      (acks_tell_fits s.here (others_of s) (map (λ m. m.id) s.got) s.acks s.told r.acks fits.acks g (other_sites s.here (members_of (with_view s.here n members (s.group g))))));
+      (acks_tell_fits (past_of s) r.acks fits.acks g (other_sites s.here (members_of (with_view s.here n members (s.group g))))
+      (is_live (set_group s g (with_view s.here n members (s.group g)))) (was_live s g (with_view s.here n members (s.group g)) newer)));
   orders = subst (λ h. (x : GroupNo) → LogFits (set_group s g (with_view s.here n members (s.group g))) x (log_of (but_log h r.orders) x))
       (sym (ap (λ (x : GroupRecord). x.name) (record_there r s fits i g at)))
       (logs_view s g n members r.orders lawful.traced newer fits.orders);
@@ -506,8 +481,8 @@ fits_receive_with r s fits m sound orders logs = record {
     admitted = fits.processes.admitted;
     rows = fits.processes.rows;
   };
-  acks = subst (λ ids. AcksFits s.here (others_of s) ids s.acks s.told (received_ledger r.acks m.id)) (sym (map-append (λ (x : Message). x.id) s.got (m ∷ [])))
-      (acks_receive_fits s.here (others_of s) (map (λ x. x.id) s.got) s.acks s.told r.acks fits.acks m.id);
+  acks = subst (λ ids. AcksFits (record (past_of s) { received = ids }) (received_ledger r.acks m.id)) (sym (map-append (λ (x : Message). x.id) s.got (m ∷ [])))
+      (acks_receive_fits (past_of s) r.acks fits.acks m.id);
   orders = logs;
   frames = fits.frames;
   delivered = fits.delivered;
@@ -620,7 +595,7 @@ fits_before here config = record {
     admitted = λ k was. absurd (false≢true (sym (none_given k) ∙ was));
     rows = refl;
   };
-  acks = acks_new_fits here;
+  acks = acks_new_fits here (is_live (before_event (opening here config)));
   orders = λ g. record { stable = 0; reached = omega arith; fits = order_new_fits g (λ p e. has_delivered (process_named (before_event (opening here config)) p) (named g 0 e)); counted = λ x in_it. absurd (omega (arith, in_it.1)) };
   frames = refl;
   delivered = refl;

@@ -1,5 +1,5 @@
 -- When a domain's records stand for a history.
-use Rattle.std.specs.Prelude.{◌≡◌, ℕ, zero, suc, ◌≤◌, true, if◌then◌else◌, List, [], length, map, Contains, slice_get, unwrap_or, None}
+use Rattle.std.specs.Prelude.{◌≡◌, ℕ, zero, suc, ◌≤◌, Bool, ◌&&◌, ◌||◌, ◌==◌, true, nat_lt, if◌then◌else◌, List, [], length, map, Contains, slice_get, unwrap_or, None}
 use Rattle.std.specs.Option.{IsSome, option_map_or}
 use Rattle.std.specs.List.{range_with_len}
 use Rattle.cast_types.specs.declared.names.DomainNo.{DomainNo}
@@ -14,7 +14,8 @@ use Rattle.cast_delay.specs.Fits.{Fits as QueueFits}
 use Rattle.cast_message.specs.Receipts.{messages, message_under}
 use Rattle.cast_message.specs.declared.message.Message.{Message}
 use Rattle.cast_message.specs.declared.message.Received.{Received}
-use Rattle.cast_stable.specs.Fits.{Fits as AcksFits}
+use Rattle.cast_types.specs.declared.source.Source.{Source}
+use Rattle.cast_stable.specs.Fits.{Past, Fits as AcksFits}
 use Rattle.cast_order.specs.Order.{Listing}
 use Rattle.cast_order.specs.Log.{Log, log_of}
 use Rattle.cast_order.specs.Fits.{Fits as OrderFits}
@@ -27,7 +28,7 @@ use Rattle.cast_model.specs.Session.{no_session, is_open}
 use Rattle.cast_model.specs.Group.{holder_at}
 use Rattle.cast_model.specs.Home.{is_empty}
 use Rattle.cast_history.specs.Lawful.{IsLawful}
-use Rattle.cast_history.specs.State.{State, no_process, gate_of, others_of, upto, was_given}
+use Rattle.cast_history.specs.State.{State, no_process, gate_of, others_of, may_speak, upto, was_given}
 use Rattle.cast_history.specs.Order.{facts_in, abcasts_delivered, lists_of}
 use Rattle.cast_history.specs.Run.{before_event}
 use Rattle.cast_domain.specs.Shared.{Part}
@@ -50,6 +51,23 @@ session_in sessions (suc i) = unwrap_or (slice_get sessions i) no_session
 -- with the number of the domain
 abbrev pub tagged : {A B : Type 0} → DomainNo → List (A × B) → List (DomainNo × A × B)
 tagged d xs = map (λ x. (d, x.0, x.1)) xs
+
+-- what a history says of receipts. A source is live while a rule may ask of it: its view has not ended, and in its group's view
+-- here it may speak
+abbrev pub is_live : State → Source → Bool
+is_live s x =
+    nat_lt (s.group x.group).number x.view || (((s.group x.group).number == x.view) && may_speak s x.group x.process)
+
+abbrev pub past_of : State → Past
+past_of s =
+    record {
+      here = s.here;
+      others = others_of s;
+      is_live = is_live s;
+      received = map (λ m. m.id) s.got;
+      acks = s.acks;
+      told = s.told;
+    }
 
 -- What the holder of a group's view did, where it is a process of this site: the ABCASTs that it delivered, its
 -- set-order messages, and how many of its messages are stable
@@ -115,7 +133,7 @@ pub record Fits (r : Records) (s : State) : Type 0 where
   pub groups : r.groups ≡ map (record_for s) s.config.groups
   pub messages : MessagesFit r.part.kept r.part.next s.kept s.got
   pub processes : ProcessesFit s.here s.used s.config.groups (gate_of s) (process_named s) r.part.kept r.delay
-  pub acks : AcksFits s.here (others_of s) (map (λ m. m.id) s.got) s.acks s.told r.acks
+  pub acks : AcksFits (past_of s) r.acks
   pub orders : (g : GroupNo) → LogFits s g (log_of r.orders g)
   pub frames : r.frames ≡ tagged s.config.domain s.frames
   pub delivered : r.delivered ≡ tagged s.config.domain s.deliveries

@@ -1,6 +1,6 @@
 -- What holds of each history that events lead to is kept by each effect.
 use Rattle.std.proofs.Common.{◌≡◌, ℕ, zero, suc, ◌+◌, ◌<◌, ◌≤◌, Bool, true, false, cond, not, Less, Equal, Greater, List, [], ◌∷◌, ◌++◌, Contains, Option, Some, None, refl, sym, ap, subst, ◌∙◌, inl, inr, arith}
-use Rattle.std.specs.Prelude.{◌&&◌, ◌⊎◌, ◌==◌, nat_lt, nat_le, if◌then◌else◌, filter}
+use Rattle.std.specs.Prelude.{◌&&◌, ◌||◌, ◌⊎◌, ◌==◌, nat_lt, nat_le, if◌then◌else◌, filter}
 use Rattle.std.specs.List.{fold, list_any, list_all, range_with_len}
 use Rattle.std.specs.Ordering.{nat_cmp, MatchOrdering}
 use Rattle.std.specs.FinMap.Entries.{is_sorted}
@@ -40,11 +40,11 @@ use Rattle.cast_delay.proofs.Means.{among_holds}
 use Rattle.cast_model.specs.declared.session.Session.{Session}
 use Rattle.cast_model.specs.Session.{is_open, pushed_to}
 use Rattle.cast_model.specs.declared.group.Group.{Group}
-use Rattle.cast_model.specs.Group.{no_group, has_view, is_at, is_current, with_request, with_view, is_taken_in}
+use Rattle.cast_model.specs.Group.{no_group, has_view, members_of, is_at, is_current, with_request, with_view, is_taken_in}
 use Rattle.cast_model.specs.declared.home.Home.{Home}
 use Rattle.cast_model.specs.Home.{is_empty}
 use Rattle.cast_model.specs.declared.config.DomainConfig.{DomainConfig}
-use Rattle.cast_history.specs.State.{State, opening, local, serials, is_group, set_session, set_process, set_group, set_home, set_standing, emitted, others_of, noting_ack, noting_stable, gate_of, local_members, is_stable, was_given, pushing, receiving, with_delivery, noting_act, noting_sent}
+use Rattle.cast_history.specs.State.{State, opening, local, serials, is_group, may_speak, set_session, set_process, set_group, set_home, set_standing, emitted, others_of, noting_ack, noting_stable, gate_of, local_members, is_stable, was_given, pushing, receiving, with_delivery, noting_act, noting_sent}
 use Rattle.cast_history.specs.Acts.{Act}
 use Rattle.cast_history.specs.Acts.Act.{Sent}
 use Rattle.cast_types.specs.Counts.{CountList}
@@ -94,10 +94,19 @@ lawful_from s t l config placed stamped spent listed traced = record {
 
 -- What is traced
 
+-- who may speak in a group may still, while it keeps its view
+abbrev pub SpeaksStill : State → State → Type 0
+SpeaksStill s t = (g : GroupNo) (p : Proc) → (s.group g).number ≡ (t.group g).number → may_speak s g p ≡ true → may_speak t g p ≡ true
+
 -- what was received and noted is of views that are reached still, where the same was noted and delivered lists grow
-pub traced_on : (s t : State) → t.got ≡ s.got → ((k : ℕ) → t.abcasts k ≡ s.abcasts k) → ((g : GroupNo) → (s.group g).number ≤ (t.group g).number) → ((k : ℕ) (u : Uid) → has_delivered (s.process k) u ≡ true → has_delivered (t.process k) u ≡ true) → IsTraced s → IsTraced t
-traced_on s t got noted number more l = record {
+pub traced_on : (s t : State) → t.got ≡ s.got → ((k : ℕ) → t.abcasts k ≡ s.abcasts k) → ((g : GroupNo) → (s.group g).number ≤ (t.group g).number) → SpeaksStill s t → ((k : ℕ) (u : Uid) → has_delivered (s.process k) u ≡ true → has_delivered (t.process k) u ≡ true) → IsTraced s → IsTraced t
+traced_on s t got noted number speaks more l = record {
   reached = λ m at. let before = l.reached m (subst (λ ms. Contains ms m) got at) in let up = number m.id.group in omega (arith, before, up);
+  spoken = λ m at same.
+      let inside = subst (λ ms. Contains ms m) got at in
+      let before = l.reached m inside in
+      let up = number m.id.group in
+      speaks m.id.group m.id.proc (omega (arith, before, up, same)) (l.spoken m inside (omega (arith, before, up, same)));
   delivered = λ k u is. more k u (l.delivered k u (sym (ap (λ ids. is_among uid_eq u ids) (noted k)) ∙ is));
   seen = λ k u is. let before = l.seen k u (sym (ap (λ ids. is_among uid_eq u ids) (noted k)) ∙ is) in let up = number u.group in omega (arith, before, up);
 }
@@ -200,7 +209,9 @@ lawful_same s t a l = lawful_from s t l a.config
     (spent_on s t a.used a.number (λ k g is. ap (λ (p : Process). is_member (p.standing g)) (sym (a.process k)) ∙ is) (λ k u is. ap (λ p. has_delivered p u) (a.process k) ∙ is))
     s.got s.kept l.spent)))
     (λ g seen. ap (λ c. is_among group_eq g c.groups) a.config ∙ l.listed g (sym (seen_view (t.group g) (s.group g) (a.view g)) ∙ seen))
-    (traced_on s t a.got a.abcasts (λ g. let same = a.number g in omega (arith, same)) (λ k u is. ap (λ p. has_delivered p u) (a.process k) ∙ is) l.traced)
+    (traced_on s t a.got a.abcasts (λ g. let same = a.number g in omega (arith, same))
+    (λ g p _ is. (λ i. is_among proc_eq p (members_of (record no_group { view = a.view g i })) || site_eq p.site (a.here i)) ∙ is)
+    (λ k u is. ap (λ p. has_delivered p u) (a.process k) ∙ is) l.traced)
 
 pub same_self : (s : State) → SameLaw s s
 same_self s = record { here = refl; config = refl; used = refl; process = λ k. refl; got = refl; kept = refl; abcasts = λ k. refl; number = λ g. refl; view = λ g. refl; opens = λ k is. is }
@@ -352,7 +363,7 @@ lawful_opening here config rising = record {
   stamped = λ m at. let inside = at.1 in absurd (omega arith);
   spent = refl;
   listed = λ g seen. absurd (false≢true seen);
-  traced = record { reached = λ m at. let inside = at.1 in absurd (omega arith); delivered = λ k u is. absurd (false≢true is); seen = λ k u is. absurd (false≢true is) };
+  traced = record { reached = λ m at. let inside = at.1 in absurd (omega arith); spoken = λ m at same. let inside = at.1 in absurd (omega arith); delivered = λ k u is. absurd (false≢true is); seen = λ k u is. absurd (false≢true is) };
 }
 
 pub lawful_before : (s : State) → IsLawful s → IsLawful (before_event s)
@@ -364,7 +375,7 @@ lawful_before s l = record {
   stamped = l.stamped;
   spent = kept_map (IsSpent s) (IsSpent (before_event s)) (λ m h. record { reached = h.reached; delivered = h.delivered }) s.got s.kept l.spent;
   listed = l.listed;
-  traced = record { reached = l.traced.reached; delivered = l.traced.delivered; seen = l.traced.seen };
+  traced = record { reached = l.traced.reached; spoken = l.traced.spoken; delivered = l.traced.delivered; seen = l.traced.seen };
 }
 
 pub lawful_after : (s : State) → IsLawful (before_event s) → IsLawful s
@@ -376,7 +387,7 @@ lawful_after s l = record {
   stamped = l.stamped;
   spent = kept_map (IsSpent (before_event s)) (IsSpent s) (λ m h. record { reached = h.reached; delivered = h.delivered }) s.got s.kept l.spent;
   listed = l.listed;
-  traced = record { reached = l.traced.reached; delivered = l.traced.delivered; seen = l.traced.seen };
+  traced = record { reached = l.traced.reached; spoken = l.traced.spoken; delivered = l.traced.delivered; seen = l.traced.seen };
 }
 
 -- One process
@@ -388,7 +399,7 @@ lawful_process s k v l placed member more = lawful_from s (set_process s k v) l 
     l.stamped
     (kept_map (IsSpent s) (IsSpent (set_process s k v)) (spent_on s (set_process s k v) refl (λ g. refl) members grown) s.got s.kept l.spent)
     l.listed
-    (traced_on s (set_process s k v) refl (λ j. refl) (λ g. omega arith) grown l.traced)
+    (traced_on s (set_process s k v) refl (λ j. refl) (λ g. omega arith) (λ g p _ is. is) grown l.traced)
   where
     members : (j : ℕ) (g : GroupNo) → is_member ((if k == j then v else s.process j).standing g) ≡ true → is_member ((s.process j).standing g) ≡ true
     members j g = elim (k == j) as (λ b. k == j ≡ b → is_member ((if b then v else s.process j).standing g) ≡ true → is_member ((s.process j).standing g) ≡ true) [
@@ -421,8 +432,8 @@ lawful_standing s k g request heard l listed = lawful_process s k (record (s.pro
 
 -- Messages
 
-pub lawful_receiving : (s : State) (m : Message) → IsLawful s → is_sorted group_cmp m.times ≡ true → m.id.view ≤ (s.group m.id.group).number → IsLawful (receiving s m)
-lawful_receiving s m l sorted reached = lawful_from s (receiving s m) l refl (placed_of s l)
+pub lawful_receiving : (s : State) (m : Message) → IsLawful s → is_sorted group_cmp m.times ≡ true → m.id.view ≤ (s.group m.id.group).number → may_speak s m.id.group m.id.proc ≡ true → IsLawful (receiving s m)
+lawful_receiving s m l sorted reached speaks = lawful_from s (receiving s m) l refl (placed_of s l)
     (λ x at. elim (Contains-push_cases s.got m x at) [
       | inl before ↦ l.stamped x before
       | inr last ↦ subst (λ y. is_sorted group_cmp y.times ≡ true) last sorted
@@ -434,6 +445,10 @@ lawful_receiving s m l sorted reached = lawful_from s (receiving s m) l refl (pl
         | inl before ↦ l.traced.reached x before
         | inr last ↦ subst (λ y. y.id.view ≤ (s.group y.id.group).number) last reached
       ];
+      spoken = λ x at same. elim (Contains-push_cases s.got m x at) [
+        | inl before ↦ l.traced.spoken x before same
+        | inr last ↦ subst (λ y. may_speak s y.id.group y.id.proc ≡ true) last speaks
+      ];
       delivered = l.traced.delivered;
       seen = l.traced.seen;
     })
@@ -444,7 +459,7 @@ lawful_let_go s l = lawful_from s (let_go s) l refl (placed_of s l) l.stamped
     (kept_map (IsSpent s) (IsSpent (let_go s)) (λ x h. record { reached = h.reached; delivered = h.delivered }) s.got (let_go s).kept
     (kept_filter (IsSpent s) (λ m. not (is_free s m.id)) (λ m fails. free_spent s m (not-false (is_free s m.id) fails)) s.got s.kept l.spent))
     l.listed
-    (record { reached = l.traced.reached; delivered = l.traced.delivered; seen = l.traced.seen })
+    (record { reached = l.traced.reached; spoken = l.traced.spoken; delivered = l.traced.delivered; seen = l.traced.seen })
 
 pub same_send_data : (u : Uid) (s : State) (to : SiteNo) → SameLaw s (send_data history u s to)
 same_send_data u s to = send_data_keeps history (SameLaw s) (moves_same s) u s (same_self s) to
@@ -454,21 +469,25 @@ pub same_noting : (s : State) (k : ℕ) (a : Act) → SameLaw s (noting_act s k 
 same_noting s k a = record { here = refl; config = refl; used = refl; process = λ k. refl; got = refl; kept = refl; abcasts = λ k. refl; number = λ g. refl; view = λ g. refl; opens = λ k is. is }
 
 -- a process sends a message whose time has the views of its own
-pub lawful_sent_here : (s : State) (k : ℕ) (m : Message) → IsLawful s → ((g : GroupNo) → view_of m.times g ≡ view_of (s.process k).time g) → is_sorted group_cmp m.times ≡ true → m.id.view ≤ (s.group m.id.group).number → IsLawful (receiving (noting_sent s k m) m)
-lawful_sent_here s k m l views sorted reached =
+pub lawful_sent_here : (s : State) (k : ℕ) (m : Message) → IsLawful s → ((g : GroupNo) → view_of m.times g ≡ view_of (s.process k).time g) → is_sorted group_cmp m.times ≡ true → m.id.view ≤ (s.group m.id.group).number → may_speak s m.id.group m.id.proc ≡ true → IsLawful (receiving (noting_sent s k m) m)
+lawful_sent_here s k m l views sorted reached speaks =
     lawful_receiving (noting_sent s k m) m
     (lawful_same (set_process s k (record (s.process k) { time = m.times })) (noting_sent s k m) (same_noting (set_process s k (record (s.process k) { time = m.times })) k (Sent m))
     (lawful_process s k (record (s.process k) { time = m.times }) l
     (λ g. record { known = l.known k g; current = λ h. views g ∙ l.current k g h; viewed = l.viewed k g }) (λ g is. is) (λ u is. is)))
-    sorted reached
+    sorted reached speaks
 
-pub lawful_sending_message : (s : State) (k : ℕ) (m : Message) → IsLawful s → ((g : GroupNo) → view_of m.times g ≡ view_of (s.process k).time g) → is_sorted group_cmp m.times ≡ true → m.id.view ≤ (s.group m.id.group).number → IsLawful (sending_message s k m)
-lawful_sending_message s k m l views sorted reached =
+pub lawful_sending_message : (s : State) (k : ℕ) (m : Message) → IsLawful s → ((g : GroupNo) → view_of m.times g ≡ view_of (s.process k).time g) → is_sorted group_cmp m.times ≡ true → m.id.view ≤ (s.group m.id.group).number → may_speak s m.id.group m.id.proc ≡ true → IsLawful (sending_message s k m)
+lawful_sending_message s k m l views sorted reached speaks =
     let now : State = receiving (noting_sent s k m) m in
-    lawful_fold (send_data history m.id) (λ t to. lawful_same t (send_data history m.id t to) (same_send_data m.id t to)) (others_of s m.id.group) now (lawful_sent_here s k m l views sorted reached)
+    lawful_fold (send_data history m.id) (λ t to. lawful_same t (send_data history m.id t to) (same_send_data m.id t to)) (others_of s m.id.group) now (lawful_sent_here s k m l views sorted reached speaks)
+
+-- each process of this site may speak
+pub local_speaks : (s : State) (g : GroupNo) (k : ℕ) → may_speak s g (local s k) ≡ true
+local_speaks s g k = or_right (is_among proc_eq (local s k) (members_of (s.group g))) (site_eq s.here s.here) (site_itself s.here)
 
 pub lawful_sending : (s : State) (g : GroupNo) (k : ℕ) (content : Body) → IsLawful s → is_sorted group_cmp (bumped (s.process k).time g (local s k)) ≡ true → IsLawful (sending s g k content)
-lawful_sending s g k content l sorted = lawful_sending_message s k (next_message s g k content) l (λ h. bump_leaves_views (s.process k).time g h (local s k)) sorted (omega arith)
+lawful_sending s g k content l sorted = lawful_sending_message s k (next_message s g k content) l (λ h. bump_leaves_views (s.process k).time g h (local s k)) sorted (omega arith) (local_speaks s g k)
 
 -- the join with a time whose view is not later has the view
 joined_view : (a b : Clock) → b.view ≤ a.view → (join_clocks a b).view ≡ a.view
@@ -520,6 +539,7 @@ lawful_told s k m None l = l
 traced_delivery : (s : State) (k : ℕ) (m : Message) → IsLawful s → IsLawful (set_process s k (record (s.process k) { time = join (s.process k).time m.times; delivered = (s.process k).delivered ++ m.id ∷ [] })) → Contains s.got m → IsTraced (with_delivery s k m)
 traced_delivery s k m l taken at = record {
   reached = l.traced.reached;
+  spoken = l.traced.spoken;
   delivered = λ j u is. elim (noted (is_atomic (kind_of m.body)) j u is) [ inl before ↦ taken.traced.delivered j u before | inr last ↦ now_delivered j u last.0 last.1 ];
   seen = λ j u is. elim (noted (is_atomic (kind_of m.body)) j u is) [ inl before ↦ l.traced.seen j u before | inr last ↦ subst (λ x. x.view ≤ (s.group x.group).number) (sym last.1) (l.traced.reached m at) ];
 }
@@ -618,7 +638,7 @@ lawful_all_in_view s g n members request cut l listed none later =
       | true ↦ λ is _. subst (λ x. is_group s x ≡ true) (same_group g h is) listed
       | false ↦ λ _ seen. l.listed h seen
     ] refl)
-    (traced_on s (all_in_view now g n members request cut) refl (λ k. refl) risen
+    (traced_on s (all_in_view now g n members request cut) refl (λ k. refl) risen speaking
     (λ k u is. elim (enters now g members request k) as (λ b. has_delivered (if b then in_view g n (s.process k) else s.process k) u ≡ true) [ true ↦ is | false ↦ is ])
     l.traced)
   where
@@ -626,6 +646,13 @@ lawful_all_in_view s g n members request cut l listed none later =
     risen h = elim (group_eq g h) as (λ b. group_eq g h ≡ b → (s.group h).number ≤ (if b then with_view s.here n members (s.group g) else s.group h).number) [
       | true ↦ λ is. subst (λ x. (s.group x).number ≤ n) (same_group g h is) (omega (arith, later))
       | false ↦ λ _. omega arith
+    ] refl
+
+    -- the group has another view, the others have theirs
+    speaking : SpeaksStill s (all_in_view (set_group s g (with_view s.here n members (s.group g))) g n members request cut)
+    speaking h p = elim (group_eq g h) as (λ b. group_eq g h ≡ b → (s.group h).number ≡ (if b then with_view s.here n members (s.group g) else s.group h).number → may_speak s h p ≡ true → (is_among proc_eq p (members_of (if b then with_view s.here n members (s.group g) else s.group h)) || site_eq p.site s.here) ≡ true) [
+      | true ↦ λ is same _. let before = subst (λ x. (s.group x).number < n) (same_group g h is) later in absurd (omega (arith, before, same))
+      | false ↦ λ _ _ may. may
     ] refl
 
     -- the group's view is another now, and in the other groups each process is what it was

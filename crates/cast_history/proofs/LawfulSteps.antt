@@ -3,17 +3,18 @@ use Rattle.std.proofs.Common.{◌≡◌, ℕ, ◌+◌, ◌<◌, zero, suc, Bool,
 use Rattle.std.specs.Prelude.{◌&&◌, ◌==◌, nat_lt, nat_le, if◌then◌else◌}
 use Rattle.std.specs.List.{fold, find}
 use Rattle.std.specs.FinMap.Entries.{is_sorted}
-use Rattle.std.proofs.lemmas.Bool.{cases_eq, eqb-true, false≢true, and_parts, and_from, leb-true, le-leb, not-true}
+use Rattle.std.proofs.lemmas.Bool.{cases_eq, eqb-true, false≢true, and_parts, and_from, or_left, leb-true, le-leb, not-true}
 use Rattle.std.proofs.lemmas.Bool.Decides.{nat_tests}
 use Rattle.std.proofs.lemmas.Option.{none-some, same_Some}
 use Rattle.cast_types.specs.declared.names.SiteNo.{SiteNo}
 use Rattle.cast_types.specs.declared.names.GroupNo.{GroupNo}
 use Rattle.cast_types.specs.declared.names.Proc.{Proc}
 use Rattle.cast_types.specs.declared.limits.TheConstants.{MAX_NUMBER}
-use Rattle.cast_types.specs.Names.{group_cmp, site_eq}
+use Rattle.cast_types.specs.Names.{group_cmp, site_eq, proc_eq}
 use Rattle.cast_types.specs.Repeat.{iterate}
 use Rattle.cast_types.specs.Stamps.{ClockList, is_stamp}
 use Rattle.cast_clock.specs.Times.{count_in, bumped, has_room}
+use Rattle.cast_types.specs.Sets.{is_among}
 use Rattle.cast_types.proofs.Orders.{same_site}
 use Rattle.cast_message.specs.declared.message.Body.{Body}
 use Rattle.cast_message.specs.declared.message.Body.TheVariants as body
@@ -23,14 +24,14 @@ use Rattle.cast_delay.specs.Ready.{is_member}
 use Rattle.cast_delay.proofs.Finds.{found_in}
 use Rattle.cast_model.specs.declared.group.Group.{Group}
 use Rattle.cast_model.specs.declared.group.Verdict.TheVariants.{Again, Completes, Ignored}
-use Rattle.cast_model.specs.Group.{with_request, holder_at, has_view, with_answer, verdict_of, sites_of}
+use Rattle.cast_model.specs.Group.{members_of, with_request, holder_at, has_view, with_answer, verdict_of, sites_of}
 use Rattle.cast_model.specs.declared.home.Home.{Home}
 use Rattle.cast_model.specs.Home.{is_empty, after_request, after_installed, may_decide, decided}
 use Rattle.cast_model.specs.declared.event.Event.{Event}
 use Rattle.cast_model.specs.declared.event.Event.TheVariants as event
 use Rattle.cast_clock.proofs.Raised.{bump_leaves_views}
 use Rattle.cast_history.specs.Rules.Commands.{message_sent}
-use Rattle.cast_history.specs.State.{State, receiving, noting_sent, local, serials, is_group, set_home, was_given}
+use Rattle.cast_history.specs.State.{State, receiving, noting_sent, local, serials, is_group, may_speak, set_home, was_given}
 use Rattle.cast_history.specs.Rules.Room.{may_order}
 use Rattle.cast_history.specs.Order.{order_of, unlisted, has_place, is_ready_for}
 use Rattle.cast_history.specs.Rules.Owing.{tick}
@@ -46,11 +47,11 @@ use Rattle.cast_history.specs.Lawful.{IsSpent, IsLawful, IsTyped}
 use Rattle.cast_history.proofs.Spots.{found_passes}
 use Rattle.cast_history.specs.History.{history}
 use Rattle.cast_history.proofs.Rules.Follows.{IsTaken, IsEntered, IsInvariantOfAll}
-use Rattle.cast_history.proofs.Rules.Data.{used_current, used_from_its_site, used_of_another}
+use Rattle.cast_history.proofs.Rules.Data.{used_current, used_from_its_site, used_of_another, used_of_member}
 use Rattle.cast_history.proofs.Rules.Commands.{commanded_keeps}
 use Rattle.cast_history.proofs.Rules.Views.{decide_keeps, lead_keeps}
 use Rattle.cast_history.proofs.Rules.Frames.{framed_keeps}
-use Rattle.cast_history.proofs.Lawful.{SameLaw, same_self, same_then, same_if, same_fold, same_home, same_emitted, same_group_set, moves_same, invariant_by_same, kept_map, lawful_same, lawful_pushing, lawful_sent_here, lawful_if, lawful_fold, lawful_standing, lawful_receiving, lawful_let_go, lawful_sending, lawful_delivering, lawful_completing}
+use Rattle.cast_history.proofs.Lawful.{SameLaw, same_self, same_then, same_if, same_fold, same_home, same_emitted, same_group_set, moves_same, invariant_by_same, kept_map, lawful_same, lawful_pushing, lawful_sent_here, local_speaks, lawful_if, lawful_fold, lawful_standing, lawful_receiving, lawful_let_go, lawful_sending, lawful_delivering, lawful_completing}
 
 -- a stamp is in order
 stamp_sorted : (t : ClockList) → is_stamp t ≡ true → is_sorted group_cmp t ≡ true
@@ -90,6 +91,13 @@ taken_current s h from m taken =
     let there = placed_at s m.id.group h taken.at in
     eqb-true m.id.view (s.group h).number (used_current history s h from m taken.used) ∙ ap (λ g. (s.group g).number) (sym there.1)
 
+-- and its process is one of the view's members
+pub taken_speaks : (s : State) (h : GroupNo) (from : SiteNo) (m : Message) → IsTaken history s h from m → may_speak s m.id.group m.id.proc ≡ true
+taken_speaks s h from m taken =
+    let there = placed_at s m.id.group h taken.at in
+    or_left (is_among proc_eq m.id.proc (members_of (s.group m.id.group))) (site_eq m.id.proc.site s.here)
+    (ap (λ g. is_among proc_eq m.id.proc (members_of (s.group g))) there.1 ∙ used_of_member history s h from m taken.used)
+
 -- what is received is of another site
 pub taken_foreign : (s : State) (g : GroupNo) (from : SiteNo) (m : Message) → IsTaken history s g from m → site_eq m.id.proc.site s.here ≡ false
 taken_foreign s g from m taken =
@@ -117,8 +125,8 @@ all_lawful = record {
   sends = λ s l h k g content sent. let there = placed_at s g h sent.at in
       let same : message_sent history s k g h content ≡ next_message s g k content = ap (λ x. message_sent history s k g x content) (sym there.1) in
       subst (λ m. IsLawful (receiving (noting_sent s k m) m)) (sym same)
-      (lawful_sent_here s k (next_message s g k content) l (λ i. bump_leaves_views (s.process k).time g i (local s k)) (raised_sorted (s.process k).time g (local s k) sent.raises) (omega arith));
-  receive = λ s l h from m taken. let same = taken_current s h from m taken in lawful_receiving s m l (stamp_sorted m.times taken.typed.0) (omega (arith, same));
+      (lawful_sent_here s k (next_message s g k content) l (λ i. bump_leaves_views (s.process k).time g i (local s k)) (raised_sorted (s.process k).time g (local s k) sent.raises) (omega arith) (local_speaks s g k));
+  receive = λ s l h from m taken. let same = taken_current s h from m taken in lawful_receiving s m l (stamp_sorted m.times taken.typed.0) (omega (arith, same)) (taken_speaks s h from m taken);
   note_request = λ s l g what p. lawful_same s _ (same_group_set s g (with_request (s.group g) what p) refl refl) l;
   note_answer = λ s l g. lawful_same s _ (same_group_set s g (with_answer (s.group g)) refl refl) l;
   note_applied = λ s l g from number p. lawful_same s _ (same_home s g (after_request (s.home g) from number p)) l;
@@ -148,7 +156,7 @@ lawful_opened s l unborn = record {
     ];
   }) s.got s.kept l.spent;
   listed = l.listed;
-  traced = record { reached = l.traced.reached; delivered = l.traced.delivered; seen = l.traced.seen };
+  traced = record { reached = l.traced.reached; spoken = l.traced.spoken; delivered = l.traced.delivered; seen = l.traced.seen };
 }
   where
     given_less : (used k : ℕ) → (used + 1 ≡ k → ⊥) → was_given (used + 1) k ≡ true → was_given used k ≡ true

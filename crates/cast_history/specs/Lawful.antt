@@ -18,7 +18,7 @@ use Rattle.cast_delay.specs.Ready.{is_member, is_outside, has_delivered}
 use Rattle.cast_model.specs.declared.event.Event.{Event}
 use Rattle.cast_model.specs.declared.event.Event.TheVariants as event
 use Rattle.cast_model.specs.Group.{has_view}
-use Rattle.cast_history.specs.State.{State, was_given, is_group}
+use Rattle.cast_history.specs.State.{State, was_given, is_group, may_speak}
 
 -- a message of a view that its group has reached; while that is the group's view, each local member has delivered it
 pub record IsSpent (s : State) (m : Message) : Type 0 where
@@ -32,9 +32,11 @@ AreKept spent [] kept = kept ≡ []
 AreKept spent (m ∷ got) kept =
     ((rest : List Message) × (kept ≡ m ∷ rest) × AreKept spent got rest) ⊎ (spent m × AreKept spent got kept)
 
--- messages are of views that their groups have reached, and so are the ABCASTs that processes noted, which they delivered
+-- messages are of views that their groups have reached, and while that is the group's view, of processes that may speak in it;
+-- the ABCASTs that processes noted are of such views too, and they delivered them
 pub record IsTraced (s : State) : Type 0 where
   pub reached : (m : Message) → Contains s.got m → m.id.view ≤ (s.group m.id.group).number
+  pub spoken : (m : Message) → Contains s.got m → m.id.view ≡ (s.group m.id.group).number → may_speak s m.id.group m.id.proc ≡ true
   pub delivered : (k : ℕ) (u : Uid) → is_among uid_eq u (s.abcasts k) ≡ true → has_delivered (s.process k) u ≡ true
   pub seen : (k : ℕ) (u : Uid) → is_among uid_eq u (s.abcasts k) ≡ true → u.view ≤ (s.group u.group).number
 

@@ -1,5 +1,5 @@
 -- The state of one domain at one site, with its whole history, and what its parts say together.
-use Rattle.std.specs.Prelude.{ℕ, Bool, not, ◌&&◌, ◌==◌, nat_lt, nat_le, if◌then◌else◌, List, [], ◌∷◌, ◌++◌, length, filter, Option}
+use Rattle.std.specs.Prelude.{ℕ, Bool, not, ◌&&◌, ◌||◌, ◌==◌, nat_lt, nat_le, if◌then◌else◌, List, [], ◌∷◌, ◌++◌, length, filter, Option}
 use Rattle.std.specs.List.{find, list_any, list_all, range_with_len}
 use Rattle.cast_types.specs.declared.names.SiteNo.{SiteNo}
 use Rattle.cast_types.specs.declared.names.GroupNo.{GroupNo}
@@ -165,6 +165,10 @@ message_of s u = find (λ m. uid_eq m.id u) s.kept
 
 abbrev pub others_of : State → GroupNo → List SiteNo
 others_of s g = other_sites s.here (members_of (s.group g))
+
+-- a process may speak in a group: it is one of its view's members, or is at this site
+abbrev pub may_speak : State → GroupNo → Proc → Bool
+may_speak s g p = is_among proc_eq p (members_of (s.group g)) || site_eq p.site s.here
 
 -- Stability
 

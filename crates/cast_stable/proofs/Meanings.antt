@@ -20,7 +20,7 @@ use Rattle.cast_stable.specs.Runs.{no_counts, is_run, contains, inserted}
 use Rattle.cast_stable.specs.Witnesses.{witness}
 use Rattle.cast_stable.specs.Stable.{Acked, has_acked, stable_upto, was_told, is_known_stable}
 use Rattle.cast_stable.specs.Ledger.{Ledger, source_of, others_in, received_run, acked_run, told_count, is_received_in, has_acked_in, least_acked, upto_in, is_stable_among, is_stable_in, new_ledger, told_ledger, received_ledger, acked_ledger, learnt_ledger}
-use Rattle.cast_stable.specs.Fits.{Fits}
+use Rattle.cast_stable.specs.Fits.{Past, Fits}
 use Rattle.cast_stable.proofs.Runs.{and_false, eqb_sym, next_apart, inserted_is, contains_inserted}
 use Rattle.cast_stable.proofs.Witnesses.{witness_total, witness_exact, key_cases, put_here, put_elsewhere}
 use Rattle.cast_stable.proofs.Lists.{contains_cases, least_first, least_each, least_reached}
@@ -76,40 +76,40 @@ below_greater k a b = same_bools (nat_le k (max a b)) (nat_le k a || nat_le k b)
       | inr right ↦ le-leb k (max a b) (omega (arith, leb-true k b right, le-max_right a b))
     ]
 
-pub new_fits : (here : SiteNo) → Fits here (λ _. []) [] [] [] (new_ledger here)
-new_fits here = record {
+pub new_fits : (here : SiteNo) (is_live : Source → Bool) → Fits (record { here = here; others = λ _. []; is_live = is_live; received = []; acks = []; told = [] }) (new_ledger here)
+new_fits here is_live = record {
   site = refl;
   views = λ g. refl;
-  receipts = λ u positive. none_has u.count positive;
-  acked = λ from u positive. none_has u.count positive;
+  receipts = λ u live positive. none_has u.count positive;
+  acked = λ from u live positive. none_has u.count positive;
   runs = λ s from. refl;
-  learnt = λ u positive. lt-leb u.count 0 positive;
+  learnt = λ u live positive. lt-leb u.count 0 positive;
 }
 
-module _ (here : SiteNo) (others : GroupNo → List SiteNo) (received : List Uid) (acks : List Acked) (told : List Uid) (l : Ledger) (fits : Fits here others received acks told l) where
-  -- a group's new view
-  pub tell_fits : (g : GroupNo) (sites : List SiteNo) → Fits here (set_at group_eq others g sites) received acks told (told_ledger l g sites)
-  tell_fits g sites = record {
+module _ (past : Past) (l : Ledger) (fits : Fits past l) where
+  -- a group's new view, in which no more sources are live
+  pub tell_fits : (g : GroupNo) (sites : List SiteNo) (is_live : Source → Bool) → ((x : Source) → is_live x ≡ true → past.is_live x ≡ true) → Fits (record past { others = set_at group_eq past.others g sites; is_live = is_live }) (told_ledger l g sites)
+  tell_fits g sites is_live was = record {
     site = fits.site;
     views = views_now;
-    receipts = fits.receipts;
-    acked = fits.acked;
+    receipts = λ u live. fits.receipts u (was (source_of u) live);
+    acked = λ from u live. fits.acked from u (was (source_of u) live);
     runs = fits.runs;
-    learnt = fits.learnt;
+    learnt = λ u live. fits.learnt u (was (source_of u) live);
   }
     where
-      views_now : (h : GroupNo) → others_in (told_ledger l g sites) h ≡ set_at group_eq others g sites h
+      views_now : (h : GroupNo) → others_in (told_ledger l g sites) h ≡ set_at group_eq past.others g sites h
       views_now h = elim (key_cases group_total group_exact h g) [
         | inl same ↦
             let is : group_eq g h ≡ true = ap (λ k. group_eq g k) same ∙ group_itself g in
-            put_here group_total l.others h g sites [] same ∙ sym (ap (λ b. if b then sites else others h) is)
+            put_here group_total l.others h g sites [] same ∙ sym (ap (λ b. if b then sites else past.others h) is)
         | inr differ ↦
             let is : group_eq g h ≡ false = false_from_ne_true (group_eq g h) (λ e. differ (sym (same_group g h e))) in
-            put_elsewhere group_total group_exact l.others h g sites [] differ ∙ fits.views h ∙ sym (ap (λ b. if b then sites else others h) is)
+            put_elsewhere group_total group_exact l.others h g sites [] differ ∙ fits.views h ∙ sym (ap (λ b. if b then sites else past.others h) is)
       ]
 
   -- a message received
-  pub receive_fits : (id : Uid) → Fits here others (received ++ id ∷ []) acks told (received_ledger l id)
+  pub receive_fits : (id : Uid) → Fits (record past { received = past.received ++ id ∷ [] }) (received_ledger l id)
   receive_fits id = record {
     site = fits.site;
     views = fits.views;
@@ -119,28 +119,28 @@ module _ (here : SiteNo) (others : GroupNo → List SiteNo) (received : List Uid
     learnt = fits.learnt;
   }
     where
-      pushed : (x : Uid) → is_among uid_eq x (received ++ id ∷ []) ≡ (is_among uid_eq x received || uid_eq x id)
-      pushed x = list_any-append (uid_eq x) received (id ∷ []) ∙ ap (λ b. is_among uid_eq x received || b) (or_false (uid_eq x id))
+      pushed : (x : Uid) → is_among uid_eq x (past.received ++ id ∷ []) ≡ (is_among uid_eq x past.received || uid_eq x id)
+      pushed x = list_any-append (uid_eq x) past.received (id ∷ []) ∙ ap (λ b. is_among uid_eq x past.received || b) (or_false (uid_eq x id))
 
-      receipts_now : (x : Uid) → 0 < x.count → is_received_in (received_ledger l id) x ≡ is_among uid_eq x (received ++ id ∷ [])
-      receipts_now x positive = elim (key_cases source_total source_exact (source_of x) (source_of id)) [
+      receipts_now : (x : Uid) → past.is_live (source_of x) ≡ true → 0 < x.count → is_received_in (received_ledger l id) x ≡ is_among uid_eq x (past.received ++ id ∷ [])
+      receipts_now x live positive = elim (key_cases source_total source_exact (source_of x) (source_of id)) [
         | inl same ↦
             ap (λ r. contains r x.count) (put_here source_total l.received (source_of x) (source_of id) (inserted (received_run l (source_of id)) id.count) no_counts same)
             ∙ contains_inserted (received_run l (source_of id)) id.count x.count positive
             ∙ ap (λ s. contains (received_run l s) x.count || (x.count == id.count)) (sym same)
-            ∙ ap (λ b. b || (x.count == id.count)) (fits.receipts x positive)
-            ∙ ap (λ b. is_among uid_eq x received || b) (sym (source_tells x id (x.count == id.count) same))
+            ∙ ap (λ b. b || (x.count == id.count)) (fits.receipts x live positive)
+            ∙ ap (λ b. is_among uid_eq x past.received || b) (sym (source_tells x id (x.count == id.count) same))
             ∙ sym (pushed x)
         | inr differ ↦
             ap (λ r. contains r x.count) (put_elsewhere source_total source_exact l.received (source_of x) (source_of id) (inserted (received_run l (source_of id)) id.count) no_counts differ)
-            ∙ fits.receipts x positive
-            ∙ sym (or_false (is_among uid_eq x received))
-            ∙ ap (λ b. is_among uid_eq x received || b) (sym (sources_differ x id (x.count == id.count) differ))
+            ∙ fits.receipts x live positive
+            ∙ sym (or_false (is_among uid_eq x past.received))
+            ∙ ap (λ b. is_among uid_eq x past.received || b) (sym (sources_differ x id (x.count == id.count) differ))
             ∙ sym (pushed x)
       ]
 
   -- a message acknowledged
-  pub ack_fits : (from : SiteNo) (id : Uid) → Fits here others received (acks ++ (from, id) ∷ []) told (acked_ledger l from id)
+  pub ack_fits : (from : SiteNo) (id : Uid) → Fits (record past { acks = past.acks ++ (from, id) ∷ [] }) (acked_ledger l from id)
   ack_fits from id = record {
     site = fits.site;
     views = fits.views;
@@ -150,10 +150,10 @@ module _ (here : SiteNo) (others : GroupNo → List SiteNo) (received : List Uid
     learnt = fits.learnt;
   }
     where
-      pushed : (s : SiteNo) (x : Uid) → has_acked (acks ++ (from, id) ∷ []) x s ≡ (has_acked acks x s || (site_eq from s && uid_eq id x))
+      pushed : (s : SiteNo) (x : Uid) → has_acked (past.acks ++ (from, id) ∷ []) x s ≡ (has_acked past.acks x s || (site_eq from s && uid_eq id x))
       pushed s x =
-          list_any-append (λ (a : Acked). site_eq a.0 s && uid_eq a.1 x) acks ((from, id) ∷ [])
-          ∙ ap (λ b. has_acked acks x s || b) (or_false (site_eq from s && uid_eq id x))
+          list_any-append (λ (a : Acked). site_eq a.0 s && uid_eq a.1 x) past.acks ((from, id) ∷ [])
+          ∙ ap (λ b. has_acked past.acks x s || b) (or_false (site_eq from s && uid_eq id x))
 
       this : (s : SiteNo) (x : Uid) → witness (source_of x) s ≡ witness (source_of id) from → (x.count == id.count) ≡ (site_eq from s && uid_eq id x)
       this s x same =
@@ -168,20 +168,20 @@ module _ (here : SiteNo) (others : GroupNo → List SiteNo) (received : List Uid
           let names = sym (same_uid id x parts.1) in
           differ (λ i. witness (source_of (names i)) (sites i)))
 
-      acked_now : (s : SiteNo) (x : Uid) → 0 < x.count → has_acked_in (acked_ledger l from id) s x ≡ has_acked (acks ++ (from, id) ∷ []) x s
-      acked_now s x positive = elim (key_cases witness_total witness_exact (witness (source_of x) s) (witness (source_of id) from)) [
+      acked_now : (s : SiteNo) (x : Uid) → past.is_live (source_of x) ≡ true → 0 < x.count → has_acked_in (acked_ledger l from id) s x ≡ has_acked (past.acks ++ (from, id) ∷ []) x s
+      acked_now s x live positive = elim (key_cases witness_total witness_exact (witness (source_of x) s) (witness (source_of id) from)) [
         | inl same ↦
             ap (λ r. contains r x.count) (put_here witness_total l.acked (witness (source_of x) s) (witness (source_of id) from) (inserted (acked_run l (source_of id) from) id.count) no_counts same)
             ∙ contains_inserted (acked_run l (source_of id) from) id.count x.count positive
             ∙ ap (λ (w : Witness). contains (acked_run l w.source w.site) x.count || (x.count == id.count)) (sym same)
-            ∙ ap (λ b. b || (x.count == id.count)) (fits.acked s x positive)
-            ∙ ap (λ b. has_acked acks x s || b) (this s x same)
+            ∙ ap (λ b. b || (x.count == id.count)) (fits.acked s x live positive)
+            ∙ ap (λ b. has_acked past.acks x s || b) (this s x same)
             ∙ sym (pushed s x)
         | inr differ ↦
             ap (λ r. contains r x.count) (put_elsewhere witness_total witness_exact l.acked (witness (source_of x) s) (witness (source_of id) from) (inserted (acked_run l (source_of id) from) id.count) no_counts differ)
-            ∙ fits.acked s x positive
-            ∙ sym (or_false (has_acked acks x s))
-            ∙ ap (λ b. has_acked acks x s || b) (sym (another s x differ))
+            ∙ fits.acked s x live positive
+            ∙ sym (or_false (has_acked past.acks x s))
+            ∙ ap (λ b. has_acked past.acks x s || b) (sym (another s x differ))
             ∙ sym (pushed s x)
       ]
 
@@ -196,7 +196,7 @@ module _ (here : SiteNo) (others : GroupNo → List SiteNo) (received : List Uid
       ]
 
   -- messages told to be stable
-  pub learn_fits : (id : Uid) → Fits here others received acks (told ++ id ∷ []) (learnt_ledger l id)
+  pub learn_fits : (id : Uid) → Fits (record past { told = past.told ++ id ∷ [] }) (learnt_ledger l id)
   learn_fits id = record {
     site = fits.site;
     views = fits.views;
@@ -206,33 +206,33 @@ module _ (here : SiteNo) (others : GroupNo → List SiteNo) (received : List Uid
     learnt = learnt_now;
   }
     where
-      pushed : (x : Uid) → was_told (told ++ id ∷ []) x ≡ (was_told told x || (group_eq id.group x.group && ((id.view == x.view) && (proc_eq id.proc x.proc && nat_le x.count id.count))))
+      pushed : (x : Uid) → was_told (past.told ++ id ∷ []) x ≡ (was_told past.told x || (group_eq id.group x.group && ((id.view == x.view) && (proc_eq id.proc x.proc && nat_le x.count id.count))))
       pushed x =
-          list_any-append (λ (t : Uid). group_eq t.group x.group && ((t.view == x.view) && (proc_eq t.proc x.proc && nat_le x.count t.count))) told (id ∷ [])
-          ∙ ap (λ b. was_told told x || b) (or_false (group_eq id.group x.group && ((id.view == x.view) && (proc_eq id.proc x.proc && nat_le x.count id.count))))
+          list_any-append (λ (t : Uid). group_eq t.group x.group && ((t.view == x.view) && (proc_eq t.proc x.proc && nat_le x.count t.count))) past.told (id ∷ [])
+          ∙ ap (λ b. was_told past.told x || b) (or_false (group_eq id.group x.group && ((id.view == x.view) && (proc_eq id.proc x.proc && nat_le x.count id.count))))
 
-      learnt_now : (x : Uid) → 0 < x.count → nat_le x.count (told_count (learnt_ledger l id) (source_of x)) ≡ was_told (told ++ id ∷ []) x
-      learnt_now x positive = elim (key_cases source_total source_exact (source_of x) (source_of id)) [
+      learnt_now : (x : Uid) → past.is_live (source_of x) ≡ true → 0 < x.count → nat_le x.count (told_count (learnt_ledger l id) (source_of x)) ≡ was_told (past.told ++ id ∷ []) x
+      learnt_now x live positive = elim (key_cases source_total source_exact (source_of x) (source_of id)) [
         | inl same ↦
             ap (λ n. nat_le x.count n) (put_here source_total l.told (source_of x) (source_of id) (max (told_count l (source_of id)) id.count) 0 same)
             ∙ below_greater x.count (told_count l (source_of id)) id.count
             ∙ ap (λ s. nat_le x.count (told_count l s) || nat_le x.count id.count) (sym same)
-            ∙ ap (λ b. b || nat_le x.count id.count) (fits.learnt x positive)
-            ∙ ap (λ b. was_told told x || b) (sym (source_tells id x (nat_le x.count id.count) (sym same)))
+            ∙ ap (λ b. b || nat_le x.count id.count) (fits.learnt x live positive)
+            ∙ ap (λ b. was_told past.told x || b) (sym (source_tells id x (nat_le x.count id.count) (sym same)))
             ∙ sym (pushed x)
         | inr differ ↦
             ap (λ n. nat_le x.count n) (put_elsewhere source_total source_exact l.told (source_of x) (source_of id) (max (told_count l (source_of id)) id.count) 0 differ)
-            ∙ fits.learnt x positive
-            ∙ sym (or_false (was_told told x))
-            ∙ ap (λ b. was_told told x || b) (sym (sources_differ id x (nat_le x.count id.count) (λ e. differ (sym e))))
+            ∙ fits.learnt x live positive
+            ∙ sym (or_false (was_told past.told x))
+            ∙ ap (λ b. was_told past.told x || b) (sym (sources_differ id x (nat_le x.count id.count) (λ e. differ (sym e))))
             ∙ sym (pushed x)
       ]
 
-  pub received_meant : (u : Uid) → 0 < u.count → is_received_in l u ≡ is_among uid_eq u received
-  received_meant u positive = fits.receipts u positive
+  pub received_meant : (u : Uid) → past.is_live (source_of u) ≡ true → 0 < u.count → is_received_in l u ≡ is_among uid_eq u past.received
+  received_meant u live positive = fits.receipts u live positive
 
-  pub acked_meant : (from : SiteNo) (u : Uid) → 0 < u.count → has_acked_in l from u ≡ has_acked acks u from
-  acked_meant from u positive = fits.acked from u positive
+  pub acked_meant : (from : SiteNo) (u : Uid) → past.is_live (source_of u) ≡ true → 0 < u.count → has_acked_in l from u ≡ has_acked past.acks u from
+  acked_meant from u live positive = fits.acked from u live positive
 
   -- to which count a site acknowledged, and the least of these counts
   abbrev acked_to : Uid → SiteNo → ℕ
@@ -242,10 +242,10 @@ module _ (here : SiteNo) (others : GroupNo → List SiteNo) (received : List Uid
   least_of u s sites = fold min (acked_to u s) (map (acked_to u) sites)
 
   -- the least of the counts to which each site acknowledged is the greatest that all acknowledged
-  least_meant : (u : Uid) (s : SiteNo) (sites : List SiteNo) → least_acked l (source_of u) (s ∷ sites) ≡ stable_upto acks (s ∷ sites) u.group u.view u.proc
-  least_meant u s sites =
-      one_greatest acks (s ∷ sites) u.group u.view u.proc (least_of u s sites) (stable_upto acks (s ∷ sites) u.group u.view u.proc)
-      (record { all = all; next = next }) (stable_greatest acks (s ∷ sites) u.group u.view u.proc (filled s sites))
+  least_meant : (u : Uid) → past.is_live (source_of u) ≡ true → (s : SiteNo) (sites : List SiteNo) → least_acked l (source_of u) (s ∷ sites) ≡ stable_upto past.acks (s ∷ sites) u.group u.view u.proc
+  least_meant u live s sites =
+      one_greatest past.acks (s ∷ sites) u.group u.view u.proc (least_of u s sites) (stable_upto past.acks (s ∷ sites) u.group u.view u.proc)
+      (record { all = all; next = next }) (stable_greatest past.acks (s ∷ sites) u.group u.view u.proc (filled s sites))
     where
       within : (t : SiteNo) → Contains (s ∷ sites) t → least_of u s sites ≤ acked_to u t
       within t in_sites = elim (contains_cases t s sites in_sites) [
@@ -253,55 +253,55 @@ module _ (here : SiteNo) (others : GroupNo → List SiteNo) (received : List Uid
         | inr later ↦ least_each (acked_to u) (acked_to u s) sites t later
       ]
 
-      all : (t : SiteNo) (k : ℕ) → Contains (s ∷ sites) t → 0 < k → k ≤ least_of u s sites → has_acked acks (named u.group u.view (u.proc, k)) t ≡ true
+      all : (t : SiteNo) (k : ℕ) → Contains (s ∷ sites) t → 0 < k → k ≤ least_of u s sites → has_acked past.acks (named u.group u.view (u.proc, k)) t ≡ true
       all t k in_sites low high =
           let le : k ≤ acked_to u t = omega (arith, high, within t in_sites) in
-          sym (fits.acked t (named u.group u.view (u.proc, k)) low)
+          sym (fits.acked t (named u.group u.view (u.proc, k)) live low)
           ∙ or_left (nat_lt 0 k && nat_le k (acked_to u t)) (list_any (λ x. x == k) (acked_run l (source_of u) t).above)
           (and_from (nat_lt 0 k) (nat_le k (acked_to u t)) (lt-ltb 0 k low) (le-leb k (acked_to u t) le))
 
-      lacks : (t : SiteNo) → least_of u s sites ≡ acked_to u t → has_acked acks (named u.group u.view (u.proc, least_of u s sites + 1)) t ≡ false
+      lacks : (t : SiteNo) → least_of u s sites ≡ acked_to u t → has_acked past.acks (named u.group u.view (u.proc, least_of u s sites + 1)) t ≡ false
       lacks t is =
-          ap (λ n. has_acked acks (named u.group u.view (u.proc, n + 1)) t) is
-          ∙ sym (fits.acked t (named u.group u.view (u.proc, acked_to u t + 1)) (omega arith))
+          ap (λ n. has_acked past.acks (named u.group u.view (u.proc, n + 1)) t) is
+          ∙ sym (fits.acked t (named u.group u.view (u.proc, acked_to u t + 1)) live (omega arith))
           ∙ next_apart (acked_run l (source_of u) t) (fits.runs (source_of u) t)
 
-      next : (t : SiteNo) × Contains (s ∷ sites) t × (has_acked acks (named u.group u.view (u.proc, least_of u s sites + 1)) t ≡ false)
+      next : (t : SiteNo) × Contains (s ∷ sites) t × (has_acked past.acks (named u.group u.view (u.proc, least_of u s sites + 1)) t ≡ false)
       next = elim (least_reached (acked_to u) (acked_to u s) sites) [
         | inl first ↦ (s, contains_here s sites, lacks s first)
         | inr (t, in_sites, is) ↦ (t, contains_later t s sites in_sites, lacks t is)
       ]
 
   -- so many messages are stable
-  pub upto_meant : (u : Uid) → others u.group ≢ [] → upto_in l u ≡ stable_upto acks (others u.group) u.group u.view u.proc
-  upto_meant u some = ap (λ sites. least_acked l (source_of u) sites) (fits.views u.group) ∙ among (others u.group) some
+  pub upto_meant : (u : Uid) → past.is_live (source_of u) ≡ true → past.others u.group ≢ [] → upto_in l u ≡ stable_upto past.acks (past.others u.group) u.group u.view u.proc
+  upto_meant u live some = ap (λ sites. least_acked l (source_of u) sites) (fits.views u.group) ∙ among (past.others u.group) some
     where
-      among : (sites : List SiteNo) → sites ≢ [] → least_acked l (source_of u) sites ≡ stable_upto acks sites u.group u.view u.proc
+      among : (sites : List SiteNo) → sites ≢ [] → least_acked l (source_of u) sites ≡ stable_upto past.acks sites u.group u.view u.proc
       among [] none = absurd (none refl)
-      among (s ∷ sites) _ = least_meant u s sites
+      among (s ∷ sites) _ = least_meant u live s sites
 
   -- and these messages are
-  pub stable_meant : (u : Uid) → 0 < u.count → is_stable_in l u ≡ is_known_stable here (others u.group) acks told u
-  stable_meant u positive = ap (λ sites. is_stable_among l sites u) (fits.views u.group) ∙ among (others u.group)
+  pub stable_meant : (u : Uid) → past.is_live (source_of u) ≡ true → 0 < u.count → is_stable_in l u ≡ is_known_stable past.here (past.others u.group) past.acks past.told u
+  stable_meant u live positive = ap (λ sites. is_stable_among l sites u) (fits.views u.group) ∙ among (past.others u.group)
     where
-      among : (sites : List SiteNo) → is_stable_among l sites u ≡ is_known_stable here sites acks told u
+      among : (sites : List SiteNo) → is_stable_among l sites u ≡ is_known_stable past.here sites past.acks past.told u
       among [] = refl
-      among (s ∷ sites) = λ i. if site_eq u.proc.site (fits.site i) then nat_le u.count (least_meant u s sites i) else fits.learnt u positive i
+      among (s ∷ sites) = λ i. if site_eq u.proc.site (fits.site i) then nat_le u.count (least_meant u live s sites i) else fits.learnt u live positive i
 
 -- What is read means the same
 module _ (l : Ledger) (u : Uid) where
-  pub is_received_means : (b : Bool) → b ≡ is_received_in l u → (here : SiteNo) (others : GroupNo → List SiteNo) (received : List Uid) (acks : List Acked) (told : List Uid) → Fits here others received acks told l → 0 < u.count → b ≡ is_among uid_eq u received
-  is_received_means b is here others received acks told fits positive = is ∙ received_meant here others received acks told l fits u positive
+  pub is_received_means : (b : Bool) → b ≡ is_received_in l u → (past : Past) → Fits past l → past.is_live (source_of u) ≡ true → 0 < u.count → b ≡ is_among uid_eq u past.received
+  is_received_means b is past fits live positive = is ∙ received_meant past l fits u live positive
 
-  pub has_acked_means : (from : SiteNo) (b : Bool) → b ≡ has_acked_in l from u → (here : SiteNo) (others : GroupNo → List SiteNo) (received : List Uid) (acks : List Acked) (told : List Uid) → Fits here others received acks told l → 0 < u.count → b ≡ has_acked acks u from
-  has_acked_means from b is here others received acks told fits positive = is ∙ acked_meant here others received acks told l fits from u positive
+  pub has_acked_means : (from : SiteNo) (b : Bool) → b ≡ has_acked_in l from u → (past : Past) → Fits past l → past.is_live (source_of u) ≡ true → 0 < u.count → b ≡ has_acked past.acks u from
+  has_acked_means from b is past fits live positive = is ∙ acked_meant past l fits from u live positive
 
-  pub upto_means : (n : ℕ) → n ≡ upto_in l u → (here : SiteNo) (others : GroupNo → List SiteNo) (received : List Uid) (acks : List Acked) (told : List Uid) → Fits here others received acks told l → others u.group ≢ [] → n ≡ stable_upto acks (others u.group) u.group u.view u.proc
-  upto_means n is here others received acks told fits some = is ∙ upto_meant here others received acks told l fits u some
+  pub upto_means : (n : ℕ) → n ≡ upto_in l u → (past : Past) → Fits past l → past.is_live (source_of u) ≡ true → past.others u.group ≢ [] → n ≡ stable_upto past.acks (past.others u.group) u.group u.view u.proc
+  upto_means n is past fits live some = is ∙ upto_meant past l fits u live some
 
-  pub is_stable_means : (b : Bool) → b ≡ is_stable_in l u → (here : SiteNo) (others : GroupNo → List SiteNo) (received : List Uid) (acks : List Acked) (told : List Uid) → Fits here others received acks told l → 0 < u.count → b ≡ is_known_stable here (others u.group) acks told u
-  is_stable_means b is here others received acks told fits positive = is ∙ stable_meant here others received acks told l fits u positive
+  pub is_stable_means : (b : Bool) → b ≡ is_stable_in l u → (past : Past) → Fits past l → past.is_live (source_of u) ≡ true → 0 < u.count → b ≡ is_known_stable past.here (past.others u.group) past.acks past.told u
+  is_stable_means b is past fits live positive = is ∙ stable_meant past l fits u live positive
 
-  pub may_free_means : (awaited b : Bool) → b ≡ (is_stable_in l u && not awaited) → (here : SiteNo) (others : GroupNo → List SiteNo) (received : List Uid) (acks : List Acked) (told : List Uid) → Fits here others received acks told l → 0 < u.count → b ≡ (is_known_stable here (others u.group) acks told u && not awaited)
-  may_free_means awaited b is here others received acks told fits positive =
-      is ∙ ap (λ stable. stable && not awaited) (stable_meant here others received acks told l fits u positive)
+  pub may_free_means : (awaited b : Bool) → b ≡ (is_stable_in l u && not awaited) → (past : Past) → Fits past l → past.is_live (source_of u) ≡ true → 0 < u.count → b ≡ (is_known_stable past.here (past.others u.group) past.acks past.told u && not awaited)
+  may_free_means awaited b is past fits live positive =
+      is ∙ ap (λ stable. stable && not awaited) (stable_meant past l fits u live positive)

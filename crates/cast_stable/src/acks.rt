@@ -1,13 +1,10 @@
-ghost use Rattle.std.specs.Prelude.{◌≡◌, ◌≢◌, ◌<◌, List, [], OnOk, OnErr, IfOk, not, ◌&&◌, unwrap_or, map, min};
+ghost use Rattle.std.specs.Prelude.{◌≡◌, ◌≢◌, ◌<◌, true, [], OnOk, OnErr, IfOk, not, ◌&&◌, unwrap_or, map, min};
 ghost use Rattle.std.specs.List.{reduce};
 ghost use Rattle.std.specs.Option.{option_copied};
-ghost use Rattle.cast_types.specs.declared.names.SiteNo.{SiteNo};
-ghost use Rattle.cast_types.specs.declared.names.GroupNo.{GroupNo};
-ghost use Rattle.cast_types.specs.declared.names.Uid.{Uid};
 ghost use Rattle.cast_types.specs.Names.{uid_eq};
 ghost use Rattle.cast_types.specs.Sets.{is_among};
-ghost use Rattle.cast_stable.specs.Stable.{Acked, has_acked, stable_upto, is_known_stable};
-ghost use Rattle.cast_stable.specs.Fits.{Fits};
+ghost use Rattle.cast_stable.specs.Stable.{has_acked, stable_upto, is_known_stable};
+ghost use Rattle.cast_stable.specs.Fits.{Past, Fits};
 ghost use Rattle.cast_stable.specs.Runs.{no_counts, contains, inserted};
 ghost use Rattle.cast_stable.specs.Ledger.{new_ledger, source_of, others_in, acked_run, told_count, told_ledger, received_ledger, acked_ledger, learnt_ledger, is_received_in, has_acked_in, upto_in, is_stable_in};
 
@@ -75,8 +72,7 @@ impl Acks {
     /// Whether this site received a message. Takes no memory.
     pub fn is_received(&self, id: Uid) -> bool
         ensures value { result ≡ is_received_in self.now id }
-        ensures meaning { (here : SiteNo) (others : GroupNo → List SiteNo) (received : List Uid) (acks : List Acked) (told : List Uid) →
-            Fits here others received acks told self.now → 0 < id.count → result ≡ is_among uid_eq id received }
+        ensures meaning { (past : Past) → Fits past self.now → past.is_live (source_of id) ≡ true → 0 < id.count → result ≡ is_among uid_eq id past.received }
     {
         contains(self.received.get(&source_of(id)), id.count)
     }
@@ -98,8 +94,7 @@ impl Acks {
     /// Whether a site acknowledged a message. Takes no memory.
     pub fn has_acked(&self, from: SiteNo, id: Uid) -> bool
         ensures value { result ≡ has_acked_in self.now from id }
-        ensures meaning { (here : SiteNo) (others : GroupNo → List SiteNo) (received : List Uid) (acks : List Acked) (told : List Uid) →
-            Fits here others received acks told self.now → 0 < id.count → result ≡ has_acked acks id from }
+        ensures meaning { (past : Past) → Fits past self.now → past.is_live (source_of id) ≡ true → 0 < id.count → result ≡ has_acked past.acks id from }
     {
         let witness = Witness {
             source: source_of(id),
@@ -112,8 +107,8 @@ impl Acks {
     /// view of the counts that each acknowledged without a gap, 0 where there is no other site. Takes no memory.
     pub fn stable_upto(&self, id: Uid) -> u32
         ensures value { result ≡ upto_in self.now id }
-        ensures meaning { (here : SiteNo) (others : GroupNo → List SiteNo) (received : List Uid) (acks : List Acked) (told : List Uid) →
-            Fits here others received acks told self.now → others id.group ≢ [] → result ≡ stable_upto acks (others id.group) id.group id.view id.proc }
+        ensures meaning { (past : Past) → Fits past self.now → past.is_live (source_of id) ≡ true → past.others id.group ≢ [] →
+            result ≡ stable_upto past.acks (past.others id.group) id.group id.view id.proc }
     {
         self.least_acked(source_of(id), self.others(id.group))
             .unwrap_or(0)
@@ -135,8 +130,8 @@ impl Acks {
     /// the acknowledgements of all other sites; another by what its site told. Takes no memory.
     pub fn is_stable(&self, id: Uid) -> bool
         ensures value { result ≡ is_stable_in self.now id }
-        ensures meaning { (here : SiteNo) (others : GroupNo → List SiteNo) (received : List Uid) (acks : List Acked) (told : List Uid) →
-            Fits here others received acks told self.now → 0 < id.count → result ≡ is_known_stable here (others id.group) acks told id }
+        ensures meaning { (past : Past) → Fits past self.now → past.is_live (source_of id) ≡ true → 0 < id.count →
+            result ≡ is_known_stable past.here (past.others id.group) past.acks past.told id }
     {
         if self.others(id.group).is_empty() {
             return true;
@@ -151,8 +146,8 @@ impl Acks {
     /// memory.
     pub fn may_free(&self, id: Uid, is_awaited: bool) -> bool
         ensures value { result ≡ (is_stable_in self.now id && not is_awaited) }
-        ensures meaning { (here : SiteNo) (others : GroupNo → List SiteNo) (received : List Uid) (acks : List Acked) (told : List Uid) →
-            Fits here others received acks told self.now → 0 < id.count → result ≡ (is_known_stable here (others id.group) acks told id && not is_awaited) }
+        ensures meaning { (past : Past) → Fits past self.now → past.is_live (source_of id) ≡ true → 0 < id.count →
+            result ≡ (is_known_stable past.here (past.others id.group) past.acks past.told id && not is_awaited) }
     {
         self.is_stable(id) && !is_awaited
     }

@@ -5,13 +5,14 @@
 //! of this site alone.
 //!
 //! Promised: `stable_upto`, `is_stable` and `may_free` answer so, and `is_received` and `has_acked` answer of what was
-//! received and acknowledged, for all that the records were ever told (`Fits`); each call does to the records what it
-//! does to that (`laws`). An acknowledgement counts for its own view alone. Counts that came without a gap take no
-//! memory, and no answer takes any. A call that is refused memory changes nothing. Records of an old view stay.
+//! received and acknowledged, by all that the records were ever told of live sources (`Fits`), those of which somebody may
+//! still ask; each call does to the records what it does to that (`laws`). An acknowledgement counts for its own view
+//! alone. Counts that came without a gap take no memory, and no answer takes any. A call that is refused memory changes
+//! nothing. Records of an old view stay, though nobody may count on it.
 //!
 //! The definitions are in `specs/`: `Stable` has the rule over acknowledgements as a test and in words, `Runs` sets of
 //! counts, `Ledger` what a site keeps and does, exactly, `Witnesses` its keys, `Fits` when that tells of given views,
-//! receipts and acknowledgements, and `Laws` that it goes on so.
+//! live sources, receipts and acknowledgements, and `Laws` that it goes on so.
 #![tactic(auto)]
 
 mod acks;

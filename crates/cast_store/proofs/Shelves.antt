@@ -99,11 +99,6 @@ module _ (d : DomainNo) (xs : List Shelf) where
   pub others_dropped : (e : DomainNo) → e ≢ d → Same e xs rest
   others_dropped e differ = same_shelf e xs rest (find_filter (is_of e) (λ s. not (is_of d s)) (λ s out. of_no_other d e s differ (of_dropped s out)) xs)
 
--- what holds with either result holds
-pub either_way : {X E P : Type 0} (r : Result X E) → OnOk r P → OnErr r P → P
-either_way (Ok x) ok err = ok
-either_way (Err y) ok err = err
-
 pub ok_both : {X E P : Type 0} {A B : X → Type 0} (r : Result X E) → IfOk r A → OnOk r P → ((x : X) → A x → P → B x) → IfOk r B
 ok_both (Ok x) a p both = both x a p
 ok_both (Err y) a p both = a

@@ -1,6 +1,6 @@
 -- What a domain owes after one row is changed, added or dropped.
-use Rattle.std.proofs.Common.{◌≡◌, ◌≢◌, ℕ, zero, suc, ◌+◌, ◌<◌, ◌≤◌, Bool, true, false, not, cond, List, [], ◌∷◌, ◌++◌, length, filter, Some, None, Ok, Err, inl, inr, refl, sym, ap, ◌∙◌, arith}
-use Rattle.std.specs.Prelude.{nat_lt, Result, OnOk, OnErr}
+use Rattle.std.proofs.Common.{◌≡◌, ◌≢◌, ℕ, zero, suc, ◌+◌, ◌<◌, ◌≤◌, Bool, true, false, not, cond, List, [], ◌∷◌, ◌++◌, length, filter, Some, None, inl, inr, refl, sym, ap, ◌∙◌, arith}
+use Rattle.std.specs.Prelude.{nat_lt}
 use Rattle.std.specs.List.{position, position_or_len}
 use Rattle.std.proofs.lemmas.Bool.{cases_Bool, false_from_ne_true, eqb-true, eq-eqb, ltb-true, ltb-false, cond-true}
 use Rattle.std.proofs.lemmas.Option.{cond_some, none-some}
@@ -158,8 +158,3 @@ others_dropped d e (x ∷ xs) differ = elim (cases_Bool (is_of d x)) [
         | inr other ↦ owed_there e x (filter (λ r. not (is_of d r)) xs) other ∙ others_dropped d e xs differ ∙ sym (owed_there e x xs other)
       ]
 ]
-
--- what holds with either result holds
-pub either_way : {X E P : Type 0} (r : Result X E) → OnOk r P → OnErr r P → P
-either_way (Ok x) ok err = ok
-either_way (Err y) ok err = err

@@ -8,3 +8,4 @@ pub mod CountLists
 pub mod Bools
 pub mod Rising
 pub mod Contains
+pub mod Results

@@ -98,7 +98,7 @@ module _ {R S H K : Type 0} (a : Site R H) (b : Site S K) (fits : R → S → Ty
           let others : a.others t g ≡ b.others u g = all.follows.others t u now g in
           let raised = bump_raises (b.time s k) g (named_here b s k) in
           subst (λ x. fits x (fold (send_data b id) u (b.others u g))) (λ j. fold (send_data a (sym same j)) t (sym others j))
-          (sends_follow a b fits stands all.follows id (lt-ltb 0 id.count (omega (arith, raised))) (b.others u g) t u now)
+          (sends_follow a b fits stands all.follows id (lt-ltb 0 id.count (omega (arith, raised))) (b.others u g) t u now (all.sent s l k g content sent))
 
       at_place : (h : H) (l : K) → stands h l → b.place s g ≡ Some l → Attempts (cast_at a r k g kind payload h) (cast_at b s k g kind payload l)
       at_place h l at there =

@@ -58,23 +58,22 @@ counted : (m : Message) → counts_itself m ≡ true → nat_lt 0 m.id.count ≡
 counted m counts = (and_parts (nat_lt 0 m.id.count) _ (and_parts _ _ counts).1).0
 
 module _ {R S H K : Type 0} (a : Site R H) (b : Site S K) (fits : R → S → Type 0) (stands : H → K → Type 0) (all : FollowsAll a b fits stands) where
-  acknowledge_follows : (r : R) (s : S) → fits r s → (to : SiteNo) (u : Uid) → nat_lt 0 u.count ≡ true → fits (acknowledge a r to u) (acknowledge b s to u)
-  acknowledge_follows r s f to u from_one =
+  acknowledge_follows : (r : R) (s : S) → fits r s → (to : SiteNo) (u : Uid) → a.is_stable r u ≡ b.is_stable s u → fits (acknowledge a r to u) (acknowledge b s to u)
+  acknowledge_follows r s f to u same =
       choose fits (a.is_stable r u) (b.is_stable s u) (a.send r to (frame.Ack u)) (owe a r (message_key kinds.Ack u to)) (b.send s to (frame.Ack u)) (owe b s (message_key kinds.Ack u to))
-      (all.is_stable r s f u from_one)
+      same
       (λ _. all.follows.send r s f to (frame.Ack u))
       (λ _. owe_follows a b fits stands all.follows r s f (message_key kinds.Ack u to))
 
   use_data_follows : (r : R) (s : S) → fits r s → (k : K) (from : SiteNo) (m : Message) → IsTaken b s k from m → fits (use_data a r from m) (use_data b s from m)
   use_data_follows r s f k from m taken =
-      let from_one = counted m (used_counts b s k from m taken.used) in
       let next : R = acknowledge a (a.receive r m) from m.id in
       let after : S = acknowledge b (b.receive s m) from m.id in
       choose fits (a.is_received r m.id) (b.is_received s m.id) (a.send r from (frame.Ack m.id)) (if may_take a r m.body then next else r) (b.send s from (frame.Ack m.id)) (if may_take b s m.body then after else s)
-      (all.is_received r s f m.id from_one)
+      (all.is_received r s f k from m taken)
       (λ _. all.follows.send r s f from (frame.Ack m.id))
       (λ _. choose fits (may_take a r m.body) (may_take b s m.body) next r after s (take_same a b fits stands all r s f m.body)
-      (λ _. acknowledge_follows (a.receive r m) (b.receive s m) (all.receive r s f k from m taken) from m.id from_one)
+      (λ _. acknowledge_follows (a.receive r m) (b.receive s m) (all.receive r s f k from m taken) from m.id (all.is_stable r s f k from m taken))
       (λ _. f))
 
   pub data_follows : (r : R) (s : S) → fits r s → (h : H) (k : K) → stands h k → (from : SiteNo) (m : Message) → b.place s m.id.group ≡ Some k → IsTypedFrame (frame.Data m) → fits (on_data a r h from m) (on_data b s k from m)

@@ -27,6 +27,7 @@ use Rattle.cast_history.specs.Lawful.{IsTypedFrame}
 use Rattle.cast_history.specs.Rules.Interface.{Site}
 use Rattle.cast_history.specs.Rules.Sending.{may_raise}
 use Rattle.cast_history.specs.Rules.Data.{is_used}
+use Rattle.cast_history.specs.Rules.Stability.{is_used_ack}
 use Rattle.cast_history.specs.Rules.Commands.{named_here, message_sent}
 
 -- something stands at both places, or there is none
@@ -43,15 +44,29 @@ AllAt stands [] (k ∷ ks) = ⊥
 AllAt stands (h ∷ hs) [] = ⊥
 AllAt stands (h ∷ hs) (k ∷ ks) = stands h k × AllAt stands hs ks
 
+-- what holds of a state holds after each move
+pub record IsInvariant {S H : Type 0} (d : Site S H) (holds : S → Type 0) : Type 0 where
+  pub send : (s : S) → holds s → (to : SiteNo) (f : SiteFrame) → holds (d.send s to f)
+  pub note_owed : (s : S) → holds s → (key : OwedKey) → holds (d.note_owed s key)
+  pub note_resent : (s : S) → holds s → (key : OwedKey) → holds (d.note_resent s key)
+  pub pay : (s : S) → holds s → (key : OwedKey) → holds (d.pay s key)
+  pub pay_upto : (s : S) → holds s → (key : OwedKey) → holds (d.pay_upto s key)
+  pub note_moment : (s : S) → holds s → (t : ℕ) → holds (d.note_moment s t)
+  pub note_ack : (s : S) → holds s → (from : SiteNo) (u : Uid) → holds (d.note_ack s from u)
+  pub note_stable : (s : S) → holds s → (u : Uid) → holds (d.note_stable s u)
+
 -- fits r s: r stands for s; stands h k: what is at h in the one is the group at k in the other
-pub record Follows {R S H K : Type 0} (a : Site R H) (b : Site S K) (fits : R → S → Type 0) (stands : H → K → Type 0) : Type 0 where
+pub record Follows {R S H K : Type 0} (a : Site R H) (b : Site S K) (fits : R → S → Type 0) (stands : H → K → Type 0) : Type 1 where
+  -- of these messages a rule may ask by which sites they are acknowledged; these moves change nothing of that
+  pub asked : S → Uid → Type 0
+  pub still_asked : (u : Uid) → IsInvariant b (λ s. asked s u)
   pub here : (r : R) (s : S) → fits r s → a.here r ≡ b.here s
   pub config : (r : R) (s : S) → fits r s → a.config r ≡ b.config s
   pub place : (r : R) (s : S) → fits r s → (g : GroupNo) → AtBoth stands (a.place r g) (b.place s g)
   pub group : (r : R) (s : S) → fits r s → (h : H) (k : K) → stands h k → a.group r h ≡ b.group s k
   pub others : (r : R) (s : S) → fits r s → (g : GroupNo) → a.others r g ≡ b.others s g
-  pub stable_upto : (r : R) (s : S) → fits r s → (u : Uid) → (b.others s u.group ≡ [] → ⊥) → a.stable_upto r u ≡ b.stable_upto s u
-  pub has_acked : (r : R) (s : S) → fits r s → (u : Uid) → nat_lt 0 u.count ≡ true → (to : SiteNo) → a.has_acked r u to ≡ b.has_acked s u to
+  pub stable_upto : (r : R) (s : S) → fits r s → (u : Uid) → asked s u → (b.others s u.group ≡ [] → ⊥) → a.stable_upto r u ≡ b.stable_upto s u
+  pub has_acked : (r : R) (s : S) → fits r s → (u : Uid) → asked s u → nat_lt 0 u.count ≡ true → (to : SiteNo) → a.has_acked r u to ≡ b.has_acked s u to
   pub message : (r : R) (s : S) → fits r s → (u : Uid) → a.message r u ≡ b.message s u
   pub is_owed : (r : R) (s : S) → fits r s → (key : OwedKey) → a.is_owed r key ≡ b.is_owed s key
   pub due : (r : R) (s : S) → fits r s → a.due r ≡ b.due s
@@ -92,14 +107,17 @@ abbrev pub sent_here : {S H : Type 0} → Site S H → S → H → ℕ → Group
 sent_here d s h k g content = d.receive (d.note_sent s k (message_sent d s k g h content)) (message_sent d s k g h content)
 
 -- the same of all that rules ask and do
-pub record FollowsAll {R S H K : Type 0} (a : Site R H) (b : Site S K) (fits : R → S → Type 0) (stands : H → K → Type 0) : Type 0 where
+pub record FollowsAll {R S H K : Type 0} (a : Site R H) (b : Site S K) (fits : R → S → Type 0) (stands : H → K → Type 0) : Type 1 where
   pub follows : Follows a b fits stands
+  -- the rules ask of messages whose acknowledgements are used, and of those that local processes send
+  pub used : (s : S) (k : K) (from : SiteNo) (u : Uid) → b.place s u.group ≡ Some k → is_used_ack b s k from u ≡ true → follows.asked s u
+  pub sent : (s : S) (l : K) (k : ℕ) (g : GroupNo) (content : Body) → IsSent b s l k g content → follows.asked (sent_here b s l k g content) (message_sent b s k g l content).id
   pub name : (r : R) (s : S) → fits r s → (h : H) (k : K) → stands h k → a.name r h ≡ b.name s k
   pub places : (r : R) (s : S) → fits r s → AllAt stands (a.places r) (b.places s)
   pub home : (r : R) (s : S) → fits r s → (h : H) (k : K) → stands h k → a.home r h ≡ b.home s k
   pub held : (r : R) (s : S) → fits r s → a.held r ≡ b.held s
-  pub is_received : (r : R) (s : S) → fits r s → (u : Uid) → nat_lt 0 u.count ≡ true → a.is_received r u ≡ b.is_received s u
-  pub is_stable : (r : R) (s : S) → fits r s → (u : Uid) → nat_lt 0 u.count ≡ true → a.is_stable r u ≡ b.is_stable s u
+  pub is_received : (r : R) (s : S) → fits r s → (k : K) (from : SiteNo) (m : Message) → IsTaken b s k from m → a.is_received r m.id ≡ b.is_received s m.id
+  pub is_stable : (r : R) (s : S) → fits r s → (k : K) (from : SiteNo) (m : Message) → IsTaken b s k from m → a.is_stable (a.receive r m) m.id ≡ b.is_stable (b.receive s m) m.id
   pub is_open : (r : R) (s : S) → fits r s → (k : ℕ) → a.is_open r k ≡ b.is_open s k
   pub standing : (r : R) (s : S) → fits r s → (k : ℕ) (g : GroupNo) → a.standing r k g ≡ b.standing s k g
   pub time : (r : R) (s : S) → fits r s → (k : ℕ) → a.time r k ≡ b.time s k
@@ -146,18 +164,7 @@ module _ {R S : Type 0} (fits : R → S → Type 0) where
 
 -- What holds of each state
 
--- what holds of a state holds after each move
-pub record IsInvariant {S H : Type 0} (d : Site S H) (holds : S → Type 0) : Type 0 where
-  pub send : (s : S) → holds s → (to : SiteNo) (f : SiteFrame) → holds (d.send s to f)
-  pub note_owed : (s : S) → holds s → (key : OwedKey) → holds (d.note_owed s key)
-  pub note_resent : (s : S) → holds s → (key : OwedKey) → holds (d.note_resent s key)
-  pub pay : (s : S) → holds s → (key : OwedKey) → holds (d.pay s key)
-  pub pay_upto : (s : S) → holds s → (key : OwedKey) → holds (d.pay_upto s key)
-  pub note_moment : (s : S) → holds s → (t : ℕ) → holds (d.note_moment s t)
-  pub note_ack : (s : S) → holds s → (from : SiteNo) (u : Uid) → holds (d.note_ack s from u)
-  pub note_stable : (s : S) → holds s → (u : Uid) → holds (d.note_stable s u)
-
--- and after each of all moves
+-- what holds of a state holds after each of all moves
 pub record IsInvariantOfAll {S H : Type 0} (d : Site S H) (holds : S → Type 0) : Type 0 where
   pub keeps : IsInvariant d holds
   pub push : (s : S) → holds s → (k : ℕ) (p : Push) → holds (d.push s k p)
@@ -189,15 +196,30 @@ all_at_themselves {H = H} hs ks same = subst (AllAt SamePlace hs) same (alike hs
     alike [] = tt
     alike (x ∷ xs) = (refl, alike xs)
 
+-- what holds of all states
+of_all_states : {S H : Type 0} (d : Site S H) → IsInvariant d (λ s. ⊤)
+of_all_states d = record {
+  send = λ s l to f. tt;
+  note_owed = λ s l key. tt;
+  note_resent = λ s l key. tt;
+  pay = λ s l key. tt;
+  pay_upto = λ s l key. tt;
+  note_moment = λ s l t. tt;
+  note_ack = λ s l from u. tt;
+  note_stable = λ s l u. tt;
+}
+
 pub follows_itself : {S H : Type 0} (d : Site S H) (holds : S → Type 0) → IsInvariant d holds → Follows d d (AlsoHolds holds) SamePlace
 follows_itself d holds keeps = record {
+  asked = λ s u. ⊤;
+  still_asked = λ u. of_all_states d;
   here = λ r s f. ap d.here f.0;
   config = λ r s f. ap d.config f.0;
   place = λ r s f g. at_itself (d.place r g) (d.place s g) (λ i. d.place (f.0 i) g);
   group = λ r s f h k at. λ i. d.group (f.0 i) (at i);
   others = λ r s f g. λ i. d.others (f.0 i) g;
-  stable_upto = λ r s f u some. λ i. d.stable_upto (f.0 i) u;
-  has_acked = λ r s f u counted to. λ i. d.has_acked (f.0 i) u to;
+  stable_upto = λ r s f u asked some. λ i. d.stable_upto (f.0 i) u;
+  has_acked = λ r s f u asked counted to. λ i. d.has_acked (f.0 i) u to;
   message = λ r s f u. λ i. d.message (f.0 i) u;
   is_owed = λ r s f key. λ i. d.is_owed (f.0 i) key;
   due = λ r s f. ap d.due f.0;
@@ -211,15 +233,22 @@ follows_itself d holds keeps = record {
   note_stable = λ r s f u. (λ i. d.note_stable (f.0 i) u, keeps.note_stable s f.1 u);
 }
 
+-- it may ask of each message
+pub itself_asks : {S H : Type 0} (d : Site S H) (holds : S → Type 0) (keeps : IsInvariant d holds) (s : S) (u : Uid) → (follows_itself d holds keeps).asked s u
+unfolding follows_itself
+itself_asks d holds keeps s u = tt
+
 pub follows_itself_in_all : {S H : Type 0} (d : Site S H) (holds : S → Type 0) → IsInvariantOfAll d holds → FollowsAll d d (AlsoHolds holds) SamePlace
 follows_itself_in_all d holds keeps = record {
   follows = follows_itself d holds keeps.keeps;
+  used = λ s k from u at is_used. itself_asks d holds keeps.keeps s u;
+  sent = λ s l k g content is_sent. itself_asks d holds keeps.keeps (sent_here d s l k g content) (message_sent d s k g l content).id;
   name = λ r s f h k at. λ i. d.name (f.0 i) (at i);
   places = λ r s f. all_at_themselves (d.places r) (d.places s) (ap d.places f.0);
   home = λ r s f h k at. λ i. d.home (f.0 i) (at i);
   held = λ r s f. ap d.held f.0;
-  is_received = λ r s f u counted. λ i. d.is_received (f.0 i) u;
-  is_stable = λ r s f u counted. λ i. d.is_stable (f.0 i) u;
+  is_received = λ r s f k from m taken. λ i. d.is_received (f.0 i) m.id;
+  is_stable = λ r s f k from m taken. λ i. d.is_stable (d.receive (f.0 i) m) m.id;
   is_open = λ r s f k. λ i. d.is_open (f.0 i) k;
   standing = λ r s f k g. λ i. d.standing (f.0 i) k g;
   time = λ r s f k. λ i. d.time (f.0 i) k;
@@ -239,6 +268,8 @@ follows_itself_in_all d holds keeps = record {
 -- a site that follows another follows it also in states of which an invariant holds
 pub with_invariant : {R S H K : Type 0} (a : Site R H) (b : Site S K) (fits : R → S → Type 0) (stands : H → K → Type 0) (holds : S → Type 0) → Follows a b fits stands → IsInvariant b holds → Follows a b (λ r s. fits r s × holds s) stands
 with_invariant a b fits stands holds follows keeps = record {
+  asked = follows.asked;
+  still_asked = follows.still_asked;
   here = λ r s f. follows.here r s f.0;
   config = λ r s f. follows.config r s f.0;
   place = λ r s f. follows.place r s f.0;
@@ -258,3 +289,8 @@ with_invariant a b fits stands holds follows keeps = record {
   note_ack = λ r s f from u. (follows.note_ack r s f.0 from u, keeps.note_ack s f.1 from u);
   note_stable = λ r s f u. (follows.note_stable r s f.0 u, keeps.note_stable s f.1 u);
 }
+
+-- and it asks of the same messages
+pub invariant_asks : {R S H K : Type 0} (a : Site R H) (b : Site S K) (fits : R → S → Type 0) (stands : H → K → Type 0) (holds : S → Type 0) (follows : Follows a b fits stands) (keeps : IsInvariant b holds) (s : S) (u : Uid) → follows.asked s u → (with_invariant a b fits stands holds follows keeps).asked s u
+unfolding with_invariant
+invariant_asks a b fits stands holds follows keeps s u asked = asked

@@ -18,7 +18,7 @@ use Rattle.cast_history.proofs.Rules.Views.{install_follows, installed_follows}
 module _ {R S H K : Type 0} (a : Site R H) (b : Site S K) (fits : R → S → Type 0) (stands : H → K → Type 0) (all : FollowsAll a b fits stands) where
   frame_follows : (r : R) (s : S) → fits r s → (h : H) (k : K) → stands h k → (from : SiteNo) (x : SiteFrame) → b.place s (group_of x) ≡ Some k → IsTypedFrame x → fits (on_frame a r h from x) (on_frame b s k from x)
   frame_follows r s f h k at from (frame.Data m) there typed = data_follows a b fits stands all r s f h k at from m there typed
-  frame_follows r s f h k at from (frame.Ack u) there typed = ack_follows a b fits stands all.follows r s f h k at from u
+  frame_follows r s f h k at from (frame.Ack u) there typed = ack_follows a b fits stands all.follows r s f h k at from u (all.used s k from u there)
   frame_follows r s f h k at from (frame.Stable u) there typed = stable_follows a b fits stands all.follows r s f h k at from u
   frame_follows r s f h k at from (frame.Ask g number what p) there typed = ask_follows a b fits stands all r s f h k at from number what p
   frame_follows r s f h k at from (frame.Asked g number full) there typed = asked_follows a b fits stands all r s f h k at from number full

@@ -12,7 +12,7 @@ use Rattle.cast_history.proofs.Rules.Views.{lead_follows}
 
 -- beside all that other rules ask and do: both have the same serials, and stand for each other after all deliveries of one process, and
 -- after what the holder of one group lists
-pub record FollowsToRest {R S H K : Type 0} (a : Site R H) (b : Site S K) (x : Resting R H) (y : Resting S K) (fits : R → S → Type 0) (stands : H → K → Type 0) : Type 0 where
+pub record FollowsToRest {R S H K : Type 0} (a : Site R H) (b : Site S K) (x : Resting R H) (y : Resting S K) (fits : R → S → Type 0) (stands : H → K → Type 0) : Type 1 where
   pub all : FollowsAll a b fits stands
   pub serials : (r : R) (s : S) → fits r s → x.serials r ≡ y.serials s
   pub same_serials : (s : S) (k : ℕ) → y.serials (deliver_all b y s k) ≡ y.serials s

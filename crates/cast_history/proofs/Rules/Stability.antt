@@ -13,7 +13,7 @@ use Rattle.cast_model.specs.Group.{is_current}
 use Rattle.cast_history.specs.Rules.Keys.{message_key}
 use Rattle.cast_history.specs.Rules.Interface.{Site}
 use Rattle.cast_history.specs.Rules.Stability.{is_used_ack, with_ack, tell_stable, tell_more, on_ack, on_stable}
-use Rattle.cast_history.proofs.Rules.Follows.{Follows, choose, each, IsInvariant, AlsoHolds, SamePlace, follows_itself}
+use Rattle.cast_history.proofs.Rules.Follows.{Follows, choose, each, IsInvariant, AlsoHolds, SamePlace, follows_itself, itself_asks}
 
 module _ {R S H K : Type 0} (a : Site R H) (b : Site S K) (fits : R → S → Type 0) (stands : H → K → Type 0) (follows : Follows a b fits stands) where
   -- a choice that changes nothing
@@ -39,12 +39,12 @@ module _ {R S H K : Type 0} (a : Site R H) (b : Site S K) (fits : R → S → Ty
       (λ _. each fits (tell_stable a u m) (tell_stable b u m) (tell_follows u m) (y ∷ ys) r s f)
       (λ _. f))
 
-  tell_more_follows : (r : R) (s : S) → fits r s → (u : Uid) (before after : ℕ) → before ≡ after → fits (tell_more a u before r) (tell_more b u after s)
-  tell_more_follows r s f u before after same =
-      tell_where_more r s f u before after (a.stable_upto r u) (b.stable_upto s u) (a.others r u.group) (b.others s u.group) same (follows.others r s f u.group) (follows.stable_upto r s f u)
+  tell_more_follows : (r : R) (s : S) → fits r s → (u : Uid) → follows.asked s u → (before after : ℕ) → before ≡ after → fits (tell_more a u before r) (tell_more b u after s)
+  tell_more_follows r s f u asked before after same =
+      tell_where_more r s f u before after (a.stable_upto r u) (b.stable_upto s u) (a.others r u.group) (b.others s u.group) same (follows.others r s f u.group) (follows.stable_upto r s f u asked)
 
-  pub ack_follows : (r : R) (s : S) → fits r s → (h : H) (k : K) → stands h k → (from : SiteNo) (u : Uid) → fits (on_ack a r h from u) (on_ack b s k from u)
-  ack_follows r s f h k at from u =
+  pub ack_follows : (r : R) (s : S) → fits r s → (h : H) (k : K) → stands h k → (from : SiteNo) (u : Uid) → (is_used_ack b s k from u ≡ true → follows.asked s u) → fits (on_ack a r h from u) (on_ack b s k from u)
+  ack_follows r s f h k at from u is_asked =
       let same : is_used_ack a r h from u ≡ is_used_ack b s k from u = (λ j.
       is_current (follows.group r s f h k at j) u.view
       && (nat_lt 0 u.count && (site_eq u.proc.site (follows.here r s f j) && is_among site_eq from (follows.others r s f u.group j)))) in
@@ -54,13 +54,16 @@ module _ {R S H K : Type 0} (a : Site R H) (b : Site S K) (fits : R → S → Ty
       let counted = and_parts (nat_lt 0 u.count) _ current.1 in
       let other = (and_parts (site_eq u.proc.site (b.here s)) (is_among site_eq from (b.others s u.group)) counted.1).1 in
       let key = message_key kinds.Data u from in
+      let asked = is_asked used in
+      let paid = (follows.still_asked u).pay s asked key in
+      let asked_now : follows.asked (with_ack b s from u) u = (follows.still_asked u).note_ack (b.pay s key) paid from u in
       let known : fits (with_ack a r from u) (with_ack b s from u) = follows.note_ack (a.pay r key) (b.pay s key) (follows.pay r s f key) from u in
-      let n = follows.stable_upto r s f u (λ none. false≢true (ap (is_among site_eq from) (sym none) ∙ other)) in
+      let n = follows.stable_upto r s f u asked (λ none. false≢true (ap (is_among site_eq from) (sym none) ∙ other)) in
       choose fits (nat_le u.count (a.stable_upto r u)) (nat_le u.count (b.stable_upto s u)) (tell_stable a u (a.stable_upto r u) (with_ack a r from u) from) (tell_more a u (a.stable_upto r u) (with_ack a r from u)) (tell_stable b u (b.stable_upto s u) (with_ack b s from u) from) (tell_more b u (b.stable_upto s u) (with_ack b s from u))
       (ap (nat_le u.count) n)
       (λ _. subst (λ x. fits (tell_stable a u x (with_ack a r from u) from) (tell_stable b u (b.stable_upto s u) (with_ack b s from u) from)) (sym n)
       (tell_follows u (b.stable_upto s u) (with_ack a r from u) (with_ack b s from u) from known))
-      (λ _. tell_more_follows (with_ack a r from u) (with_ack b s from u) known u (a.stable_upto r u) (b.stable_upto s u) n))
+      (λ _. tell_more_follows (with_ack a r from u) (with_ack b s from u) known u asked_now (a.stable_upto r u) (b.stable_upto s u) n))
       (λ _. f)
 
   pub stable_follows : (r : R) (s : S) → fits r s → (h : H) (k : K) → stands h k → (from : SiteNo) (u : Uid) → fits (on_stable a r h from u) (on_stable b s k from u)
@@ -74,7 +77,7 @@ module _ {R S H K : Type 0} (a : Site R H) (b : Site S K) (fits : R → S → Ty
 -- an invariant of the moves holds after each of these rules
 module _ {S H : Type 0} (d : Site S H) (holds : S → Type 0) (keeps : IsInvariant d holds) where
   pub ack_keeps : (s : S) → holds s → (h : H) (from : SiteNo) (u : Uid) → holds (on_ack d s h from u)
-  ack_keeps s l h from u = (ack_follows d d (AlsoHolds holds) SamePlace (follows_itself d holds keeps) s s (refl, l) h h refl from u).1
+  ack_keeps s l h from u = (ack_follows d d (AlsoHolds holds) SamePlace (follows_itself d holds keeps) s s (refl, l) h h refl from u (λ _. itself_asks d holds keeps s u)).1
 
   pub stable_keeps : (s : S) → holds s → (h : H) (from : SiteNo) (u : Uid) → holds (on_stable d s h from u)
   stable_keeps s l h from u = (stable_follows d d (AlsoHolds holds) SamePlace (follows_itself d holds keeps) s s (refl, l) h h refl from u).1

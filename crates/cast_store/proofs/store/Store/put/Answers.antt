@@ -4,7 +4,8 @@ use Rattle.std.proofs.lemmas.Result.{on_ok_weaker, on_err_weaker}
 use Rattle.cast_message.specs.declared.message.Received.{Received}
 use Rattle.cast_message.specs.Receipts.{message_under}
 use Rattle.cast_store.specs.Store.{Shelf, is_of, kept_in, next_in, with_message}
-use Rattle.cast_store.proofs.Shelves.{empty, kept_at, next_at, kept_absent, next_absent, kept_changed, next_changed, others_changed, kept_pushed, next_pushed, others_pushed, either_way, ok_both}
+use Rattle.cast_types.proofs.Results.{either_way}
+use Rattle.cast_store.proofs.Shelves.{empty, kept_at, next_at, kept_absent, next_absent, kept_changed, next_changed, others_changed, kept_pushed, next_pushed, others_pushed, ok_both}
 use Rattle.cast_store.proofs.store.Store.put.Goals as goal
 
 -- a domain with a shelf

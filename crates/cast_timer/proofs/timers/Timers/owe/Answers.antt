@@ -6,7 +6,8 @@ use Rattle.cast_timer.specs.declared.key.Owed.{Owed}
 use Rattle.cast_timer.specs.declared.timers.Row.{Row}
 use Rattle.cast_timer.specs.Owed.{owed_cmp, with_owed}
 use Rattle.cast_timer.specs.Rows.{is_of, owed_in}
-use Rattle.cast_timer.proofs.Rows.{owed_updated, others_updated, owed_absent, owed_pushed, others_pushed, either_way}
+use Rattle.cast_types.proofs.Results.{either_way}
+use Rattle.cast_timer.proofs.Rows.{owed_updated, others_updated, owed_absent, owed_pushed, others_pushed}
 use Rattle.cast_timer.proofs.timers.Timers.owe.Goals as goal
 
 pub returns-in-Some-clause-own : goal.returns-in-Some-clause-own
