@@ -5,6 +5,7 @@ pub mod Loops
 pub mod Logs
 pub mod LogSteps
 pub mod Shares
+pub mod Rows
 pub mod Standing
 pub mod Ordering
 pub mod Owings
