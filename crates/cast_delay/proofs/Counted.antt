@@ -8,9 +8,9 @@ use Rattle.cast_types.specs.declared.names.Uid.{Uid}
 use Rattle.cast_types.specs.Names.{Entry, uid_eq, named}
 use Rattle.cast_types.proofs.Orders.{same_uid, uid_itself}
 use Rattle.cast_delay.specs.declared.row.Row.{Row}
-use Rattle.cast_delay.specs.Ready.{Process, first_of, covered, has_delivered}
+use Rattle.cast_delay.specs.Ready.{Process, Gate, first_of, covered, has_delivered}
 use Rattle.cast_delay.specs.Rows.{done_in, needed, has_past}
-use Rattle.cast_delay.specs.Fits.{RowFits}
+use Rattle.cast_delay.specs.Fits.{HasNotEnded, RowFits}
 use Rattle.cast_delay.proofs.Listed.{list_all-filter, list_all-map, list_all-flat_map, list_all_agree, range_holds, holds_range}
 use Rattle.cast_types.proofs.Bools.{same_bools}
 
@@ -66,7 +66,7 @@ module _ (p : Process) (id : Uid) (h : GroupNo) (v : ℕ) where
       ∙ list_all_agree (λ e. list_all (λ f. passes (named h v f)) (first_of e)) (λ e. list_all (λ k. passes (named h v (e.0, k))) (range_with_len 1 e.1))
       (λ e. list_all-map (λ f. passes (named h v f)) (λ k. (e.0, k)) (range_with_len 1 e.1)) c
 
-module _ (p : Process) (row : Row) (fits : RowFits p row) (id : Uid) (h : GroupNo) (v : ℕ) where
+module _ (gate : GroupNo → Gate) (p : Process) (row : Row) (fits : RowFits gate p row) (id : Uid) (h : GroupNo) (v : ℕ) (stands : HasNotEnded gate h v) where
   -- what is needed of an entry is delivered exactly if all of its ids pass
   entry_counted : (e : Entry) → nat_le (needed id h v e) (done_in row h v e.0) ≡ list_all (λ k. passes p id h v (named h v (e.0, k))) (range_with_len 1 e.1)
   entry_counted e = same_bools (nat_le (needed id h v e) (done_in row h v e.0)) (list_all (λ k. passes p id h v (named h v (e.0, k))) (range_with_len 1 e.1)) there back
@@ -79,7 +79,7 @@ module _ (p : Process) (row : Row) (fits : RowFits p row) (id : Uid) (h : GroupN
             | inr other ↦
                 let reaches = needed_reaches id h v e k (omega arith) other in
                 let enough = leb-true (needed id h v e) (done_in row h v e.0) counted in
-                or_right (uid_eq id u) (has_delivered p u) ((fits.counts u).1 (omega arith, omega (arith, reaches, enough)))
+                or_right (uid_eq id u) (has_delivered p u) ((fits.counts u stands).1 (omega arith, omega (arith, reaches, enough)))
           ])
 
       back : list_all (λ k. passes p id h v (named h v (e.0, k))) (range_with_len 1 e.1) ≡ true → nat_le (needed id h v e) (done_in row h v e.0) ≡ true
@@ -89,7 +89,7 @@ module _ (p : Process) (row : Row) (fits : RowFits p row) (id : Uid) (h : GroupN
             let within : needed id h v e ≤ e.1 = within_entry id h v e in
             elim (or_cases (uid_eq id u) (has_delivered p u) (range_holds (λ k. passes p id h v (named h v (e.0, k))) e.1 1 all (needed id h v e) (omega arith) (omega (arith, within)))) [
               | inl own ↦ absurd (needed_apart id h v e some own)
-              | inr done ↦ ((fits.counts u).0 done).1
+              | inr done ↦ ((fits.counts u stands).0 done).1
             ]
         | inr none ↦ omega (arith, none)
       ])

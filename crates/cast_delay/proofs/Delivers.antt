@@ -19,24 +19,24 @@ use Rattle.cast_types.specs.declared.source.Source.{Source}
 use Rattle.cast_delay.specs.declared.row.Row.{Row}
 use Rattle.cast_delay.specs.declared.row.Fact.{Fact}
 use Rattle.cast_delay.specs.declared.row.Fact.TheVariants as fact
-use Rattle.cast_delay.specs.Ready.{Process, is_member, has_delivered}
+use Rattle.cast_delay.specs.Ready.{Process, Gate, is_member, has_delivered}
 use Rattle.cast_types.specs.Sources.{source, source_cmp}
 use Rattle.cast_delay.specs.Rows.{number_of, standing_in, done_in, needed, has_past, row_allows, all_allow, is_causally_ready_row, delivered_row, told_row}
-use Rattle.cast_delay.specs.Fits.{RowFits, IsSound, told, delivering}
+use Rattle.cast_delay.specs.Fits.{HasNotEnded, RowFits, IsSound, told, delivering}
 use Rattle.cast_delay.proofs.Listed.{list_any-append}
 use Rattle.cast_delay.proofs.Counted.{needed_own, within_entry}
 use Rattle.cast_delay.proofs.Finds.{put_at_group}
 use Rattle.cast_types.proofs.Sources.{source_total, source_exact}
 
 -- a row takes in a fact as the process does
-pub told_fits : (p : Process) (row : Row) → RowFits p row → (f : Fact) → RowFits (told f p) (told_row f row)
-told_fits p row fits (fact.Standing g s) = record {
+pub told_fits : (gate : GroupNo → Gate) (p : Process) (row : Row) → RowFits gate p row → (f : Fact) → RowFits gate (told f p) (told_row f row)
+told_fits gate p row fits (fact.Standing g s) = record {
   standing = λ h. put_at_group row.standings g h s Outside ∙ ap (λ old. if group_eq g h then s else old) (fits.standing h);
   in_order = sorted-put group_cmp group_total g s row.standings fits.in_order;
   time = fits.time;
   counts = fits.counts;
 }
-told_fits p row fits (fact.Time time) = record {
+told_fits gate p row fits (fact.Time time) = record {
   standing = fits.standing;
   in_order = fits.in_order;
   time = refl;
@@ -70,7 +70,7 @@ ready_parts numbers row id times ready =
       room = d.1;
     }
 
-module _ (p : Process) (row : Row) (fits : RowFits p row) (m : Message) (sound : IsSound m) (numbers : List (GroupNo × ℕ)) (ready : RowReady numbers row m.id m.times) where
+module _ (gate : GroupNo → Gate) (p : Process) (row : Row) (fits : RowFits gate p row) (m : Message) (sound : IsSound m) (numbers : List (GroupNo × ℕ)) (ready : RowReady numbers row m.id m.times) where
   -- what was delivered of the message's sender
   abbrev before : ℕ
   before = done_in row m.id.group m.id.view m.id.proc
@@ -131,28 +131,28 @@ module _ (p : Process) (row : Row) (fits : RowFits p row) (m : Message) (sound :
   own_now : (u : Uid) → u ≡ m.id → has_delivered (delivering m p) u ≡ true
   own_now u same = has_now u ∙ or_right (has_delivered p u) (uid_eq u m.id || false) (or_left (uid_eq u m.id) false (ap (λ w. uid_eq u w) (sym same) ∙ uid_itself u))
 
-  counts_now : (u : Uid) → (has_delivered (delivering m p) u ≡ true) ↔ ((0 < u.count) × (u.count ≤ done_in after u.group u.view u.proc))
-  counts_now u = elim (cases_Bool (eq_by_cmp source_cmp (source_of u) (source_of m.id))) [
+  counts_now : (u : Uid) → HasNotEnded gate u.group u.view → (has_delivered (delivering m p) u ≡ true) ↔ ((0 < u.count) × (u.count ≤ done_in after u.group u.view u.proc))
+  counts_now u stands = elim (cases_Bool (eq_by_cmp source_cmp (source_of u) (source_of m.id))) [
     | inl tie ↦
         let same : source_of u ≡ source_of m.id = tie_same source_exact (source_of u) (source_of m.id) tie in
         let is = after_own u tie in
         let was : done_in row u.group u.view u.proc ≡ before = ap (λ (s : Source). done_in row s.group s.view s.process) same in (
           λ has. elim (old_or_own u has) [
-            | inl old ↦ let o = (fits.counts u).0 old in (o.0, omega (arith, o.1, is, was, ready.fresh))
+            | inl old ↦ let o = (fits.counts u stands).0 old in (o.0, omega (arith, o.1, is, was, ready.fresh))
             | inr own ↦ let c = ap (λ (x : Uid). x.count) own in (omega (arith, sound.from_one, c), omega (arith, c, is))
           ],
           λ b. elim (cases_eq u.count m.id.count) [
             | inl c ↦ own_now u (λ i. record { group = (same i).group; view = (same i).view; proc = (same i).process; count = c i })
-            | inr differ ↦ still u ((fits.counts u).1 (b.0, omega (arith, b.1, is, was, enough, differ)))
+            | inr differ ↦ still u ((fits.counts u stands).1 (b.0, omega (arith, b.1, is, was, enough, differ)))
           ],
         )
     | inr apart ↦
         let is = after_other u apart in (
           λ has. elim (old_or_own u has) [
-            | inl old ↦ let o = (fits.counts u).0 old in (o.0, omega (arith, o.1, is))
+            | inl old ↦ let o = (fits.counts u stands).0 old in (o.0, omega (arith, o.1, is))
             | inr own ↦ absurd (false≢true (sym apart ∙ tie_self source_total (source_of u) (source_of m.id) (ap source_of own)))
           ],
-          λ b. still u ((fits.counts u).1 (b.0, omega (arith, b.1, is))),
+          λ b. still u ((fits.counts u stands).1 (b.0, omega (arith, b.1, is))),
         )
   ]
 
@@ -162,5 +162,5 @@ module _ (p : Process) (row : Row) (fits : RowFits p row) (m : Message) (sound :
       ∙ ap (λ t. join t m.times) fits.time
 
   -- a row takes in a delivery as the process does
-  pub delivered_fits : RowFits (delivering m p) after
+  pub delivered_fits : RowFits gate (delivering m p) after
   delivered_fits = record { standing = fits.standing; in_order = fits.in_order; time = time_now; counts = counts_now }

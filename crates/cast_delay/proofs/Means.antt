@@ -3,7 +3,7 @@ use Rattle.std.proofs.Common.{◌≡◌, ℕ, ◌<◌, Bool, true, false, not, �
 use Rattle.std.specs.Prelude.{nat_lt, nat_le, ◌==◌}
 use Rattle.std.specs.List.{list_all}
 use Rattle.std.specs.FinMap.Entries.{is_sorted}
-use Rattle.std.proofs.lemmas.Bool.{or_cases, false≢true, ltb-true, lt-ltb, leb-true, le-leb, cases_lt, not_from_false, not-true, false_from_ne_true, and_parts, and_from}
+use Rattle.std.proofs.lemmas.Bool.{or_cases, false≢true, ltb-true, lt-ltb, eqb-true, leb-true, le-leb, cases_lt, not_from_false, not-true, false_from_ne_true, and_parts, and_from}
 use Rattle.cast_types.specs.declared.names.GroupNo.{GroupNo}
 use Rattle.cast_types.specs.declared.names.Uid.{Uid}
 use Rattle.cast_types.specs.declared.names.Standing.{Standing}
@@ -15,10 +15,11 @@ use Rattle.cast_clock.specs.Times.{clock_of, view_of, join, has_room}
 use Rattle.cast_clock.proofs.Entries.{found_or, each_found, list_all_of, as_T}
 use Rattle.cast_message.specs.declared.message.Message.{Message}
 use Rattle.cast_delay.specs.declared.row.Row.{Row}
-use Rattle.cast_delay.specs.Ready.{Process, Gate, is_member, is_outside, has_delivered, awaits, group_allows, is_causally_ready}
-use Rattle.cast_delay.specs.Rows.{number_of, standing_in, done_in, row_allows, all_allow, is_causally_ready_row, has_delivered_in, awaits_row}
-use Rattle.cast_delay.specs.Fits.{RowFits, IsSound}
+use Rattle.cast_delay.specs.Ready.{Process, Gate, past_in, is_member, is_outside, has_delivered, awaits, group_allows, is_causally_ready}
+use Rattle.cast_delay.specs.Rows.{number_of, standing_in, done_in, row_allows, all_allow, has_past, is_causally_ready_row, has_delivered_in, awaits_row}
+use Rattle.cast_delay.specs.Fits.{HasNotEnded, RowFits, IsSound}
 use Rattle.cast_delay.proofs.Counted.{past_counted}
+use Rattle.cast_delay.proofs.Turns.{and_agree}
 use Rattle.cast_types.proofs.Bools.{same_bools}
 
 -- what holds of all items of a list holds of one that is among them
@@ -32,48 +33,52 @@ among_holds t (h ∷ gs) g all among =
     ]
 
 -- delivered, by its count
-pub delivered_means : (p : Process) (row : Row) → RowFits p row → (u : Uid) → has_delivered_in row u ≡ has_delivered p u
-delivered_means p row fits u = same_bools (has_delivered_in row u) (has_delivered p u) there back
+pub delivered_means : (gate : GroupNo → Gate) (p : Process) (row : Row) → RowFits gate p row → (u : Uid) → HasNotEnded gate u.group u.view → has_delivered_in row u ≡ has_delivered p u
+delivered_means gate p row fits u stands = same_bools (has_delivered_in row u) (has_delivered p u) there back
   where
     there : has_delivered_in row u ≡ true → has_delivered p u ≡ true
     there within =
         let parts = and_parts (nat_lt 0 u.count) (nat_le u.count (done_in row u.group u.view u.proc)) within in
-        (fits.counts u).1 (ltb-true 0 u.count parts.0, leb-true u.count (done_in row u.group u.view u.proc) parts.1)
+        (fits.counts u stands).1 (ltb-true 0 u.count parts.0, leb-true u.count (done_in row u.group u.view u.proc) parts.1)
 
     back : has_delivered p u ≡ true → has_delivered_in row u ≡ true
     back has =
-        let bounds = (fits.counts u).0 has in
+        let bounds = (fits.counts u stands).0 has in
         and_from (nat_lt 0 u.count) (nat_le u.count (done_in row u.group u.view u.proc)) (lt-ltb 0 u.count bounds.0) (le-leb u.count (done_in row u.group u.view u.proc) bounds.1)
 
-module _ (p : Process) (row : Row) (fits : RowFits p row) (id : Uid) (from_one : 0 < id.count) where
+module _ (gate : GroupNo → Gate) (p : Process) (row : Row) (fits : RowFits gate p row) (id : Uid) (stands : HasNotEnded gate id.group id.view) (from_one : 0 < id.count) where
   -- not delivered, by its count
   pub undelivered_means : nat_lt (done_in row id.group id.view id.proc) id.count ≡ not (has_delivered p id)
   undelivered_means = same_bools (nat_lt (done_in row id.group id.view id.proc) id.count) (not (has_delivered p id)) there back
     where
       there : nat_lt (done_in row id.group id.view id.proc) id.count ≡ true → not (has_delivered p id) ≡ true
       there lt = not_from_false (has_delivered p id) (false_from_ne_true (has_delivered p id) (λ has.
-          omega (arith, ltb-true (done_in row id.group id.view id.proc) id.count lt, ((fits.counts id).0 has).1)))
+          omega (arith, ltb-true (done_in row id.group id.view id.proc) id.count lt, ((fits.counts id stands).0 has).1)))
 
       back : not (has_delivered p id) ≡ true → nat_lt (done_in row id.group id.view id.proc) id.count ≡ true
       back hasnt = elim (cases_lt (done_in row id.group id.view id.proc) id.count) [
         | inl lt ↦ lt-ltb (done_in row id.group id.view id.proc) id.count lt
-        | inr le ↦ absurd (false≢true (sym (not-true (has_delivered p id) hasnt) ∙ (fits.counts id).1 (from_one, le)))
+        | inr le ↦ absurd (false≢true (sym (not-true (has_delivered p id) hasnt) ∙ (fits.counts id stands).1 (from_one, le)))
       ]
 
   -- and so whether it is awaited
   pub awaits_means : awaits_row row id ≡ awaits p id
   awaits_means = let undelivered = undelivered_means in λ i. is_member (fits.standing id.group i) && undelivered i
 
-module _ (p : Process) (row : Row) (fits : RowFits p row) (m : Message) where
+module _ (gate : GroupNo → Gate) (p : Process) (row : Row) (fits : RowFits gate p row) (m : Message) where
   -- a group allows it by the row as it does by the ids
-  group_means : (gate : Gate) (number : ℕ) → number ≡ gate.number → (h : GroupNo) (s : Standing) → row_allows row number m.id m.times h s ≡ group_allows s p gate m h
-  group_means gate number is h Outside = refl
-  group_means gate number is h (Joining request heard) = refl
-  group_means gate number is h Member =
-      let past = past_counted p row fits m.id h (view_of m.times h) (clock_of m.times h).counts in
-      λ i. nat_lt (view_of m.times h) (is i) || ((view_of m.times h == is i) && past i)
+  group_means : (h : GroupNo) (number : ℕ) → number ≡ (gate h).number → (s : Standing) → row_allows row number m.id m.times h s ≡ group_allows s p (gate h) m h
+  group_means h number is Outside = refl
+  group_means h number is (Joining request heard) = refl
+  group_means h number is Member =
+      let v = view_of m.times h in
+      let counted : Bool = has_past row m.id h v (clock_of m.times h).counts in
+      let all : Bool = list_all (has_delivered p) (past_in m h) in
+      (λ i. nat_lt v (is i) || ((v == is i) && counted))
+      ∙ ap (λ b. nat_lt v (gate h).number || b) (and_agree (v == (gate h).number) counted all
+      (λ same. past_counted gate p row fits m.id h v (let at = eqb-true v (gate h).number same in omega (arith, at)) (clock_of m.times h).counts))
 
-  module _ (groups : List GroupNo) (gate : GroupNo → Gate) (numbers : List (GroupNo × ℕ)) (numbered : (g : GroupNo) → number_of numbers g ≡ (gate g).number) where
+  module _ (groups : List GroupNo) (numbers : List (GroupNo × ℕ)) (numbered : (g : GroupNo) → number_of numbers g ≡ (gate g).number) where
     abbrev allows : GroupNo → Standing → Bool
     allows h s = row_allows row (number_of numbers h) m.id m.times h s
 
@@ -86,7 +91,7 @@ module _ (p : Process) (row : Row) (fits : RowFits p row) (m : Message) where
       rule h = group_allows (p.standing h) p (gate h) m h
 
       rule_at : (h : GroupNo) → allows h (standing_in row h) ≡ rule h
-      rule_at h = ap (λ s. allows h s) (fits.standing h) ∙ group_means (gate h) (number_of numbers h) (numbered h) h (p.standing h)
+      rule_at h = ap (λ s. allows h s) (fits.standing h) ∙ group_means h (number_of numbers h) (numbered h) (p.standing h)
 
       -- a group that is not the domain's holds nothing back
       rule_outside : (h : GroupNo) (s : Standing) → (is_outside s ≡ false → group_allows s p (gate h) m h ≡ true) → group_allows s p (gate h) m h ≡ true
@@ -106,9 +111,13 @@ module _ (p : Process) (row : Row) (fits : RowFits p row) (m : Message) where
       -- the counts tell whether the message is ready
       pub row_means : IsSound m → is_causally_ready_row numbers row m.id m.times ≡ is_causally_ready groups gate p m
       row_means sound =
-          let fresh = undelivered_means p row fits m.id sound.from_one in
-          λ i. is_member (fits.standing m.id.group i)
-          && ((m.id.view == numbered m.id.group i)
-          && (fresh i
+          let g = m.id.group in
+          let counted : Bool = nat_lt (done_in row g m.id.view m.id.proc) m.id.count in
+          let rest : Bool = list_all rule groups && has_room (join p.time m.times) in
+          (λ i. is_member (fits.standing g i)
+          && ((m.id.view == numbered g i)
+          && (counted
           && (all_means i
-          && has_room (join (fits.time i) m.times))))
+          && has_room (join (fits.time i) m.times)))))
+          ∙ ap (λ b. is_member (p.standing g) && b) (and_agree (m.id.view == (gate g).number) (counted && rest) (not (has_delivered p m.id) && rest)
+          (λ same. ap (λ b. b && rest) (undelivered_means gate p row fits m.id (let at = eqb-true m.id.view (gate g).number same in omega (arith, at)) sound.from_one)))

@@ -1,10 +1,10 @@
 -- The queue names the first message that is ready, and keeps its meaning.
-use Rattle.std.proofs.Common.{◌≡◌, ◌↔◌, ℕ, ◌+◌, ◌<◌, Bool, true, false, cond, not, ◌&&◌, List, length, take, [], ◌∷◌, ◌++◌, filter, Contains, Option, Some, None, unwrap_or, refl, sym, ap, subst, ◌∙◌, inl, inr, arith}
-use Rattle.std.specs.Prelude.{if◌then◌else◌, nat_lt, nat_le, slice_get}
+use Rattle.std.proofs.Common.{◌≡◌, ◌↔◌, ℕ, ◌<◌, ◌≤◌, Bool, true, false, cond, not, ◌&&◌, List, length, take, [], ◌∷◌, ◌++◌, filter, Contains, Option, Some, None, unwrap_or, refl, sym, ap, subst, ◌∙◌, inl, inr, arith}
+use Rattle.std.specs.Prelude.{if◌then◌else◌, slice_get}
 use Rattle.std.specs.List as list
 use Rattle.std.specs.Option.{IsSome, option_map, option_map_or, option_and_then}
 use Rattle.std.specs.FinMap.Entries.{put}
-use Rattle.std.proofs.lemmas.Bool.{cases_Bool, false≢true, false_from_ne_true, not-false, and_parts, ltb-true, lt-ltb, leb-true, eqb-true, eq-eqb, ne_eqb}
+use Rattle.std.proofs.lemmas.Bool.{cases_Bool, false≢true, false_from_ne_true, not-false, and_parts, eqb-true, eq-eqb, ne_eqb}
 use Rattle.std.proofs.lemmas.List.{map-append}
 use Rattle.std.proofs.lemmas.List.Folds.{find_at}
 use Rattle.std.proofs.lemmas.List.Elements.{Contains-push_cases}
@@ -12,13 +12,15 @@ use Rattle.cast_types.specs.declared.names.GroupNo.{GroupNo}
 use Rattle.cast_types.specs.declared.names.Proc.{Proc}
 use Rattle.cast_types.specs.declared.names.Key.{Key}
 use Rattle.cast_types.specs.declared.names.Uid.{Uid}
+use Rattle.cast_types.specs.declared.names.Standing.{Standing}
+use Rattle.cast_types.specs.declared.names.Standing.TheVariants.{Outside}
 use Rattle.cast_types.specs.Names.{Entry, group_cmp, group_eq, proc_eq, named}
 use Rattle.cast_types.specs.Sets.{is_among, set_at}
 use Rattle.cast_types.proofs.Orders.{same_group}
 use Rattle.cast_clock.proofs.Entries.{option_cases}
 use Rattle.cast_message.specs.declared.message.Message.{Message}
 use Rattle.cast_message.specs.declared.message.Received.{Received}
-use Rattle.cast_message.specs.Receipts.{key_eq, message_under}
+use Rattle.cast_message.specs.Receipts.{key_eq, messages, message_under}
 use Rattle.cast_message.proofs.Places.{position_or_len_found}
 use Rattle.cast_delay.specs.declared.turn.Turn.{Turn}
 use Rattle.cast_delay.specs.declared.row.Row.{Row}
@@ -28,13 +30,13 @@ use Rattle.cast_delay.specs.declared.offered.Offered.{Offered}
 use Rattle.cast_delay.specs.Ready.{Process, Gate, is_member, is_outside, has_delivered, awaits, turn_in, is_causally_ready, is_ready}
 use Rattle.cast_delay.specs.Rows.{number_of, standing_in, is_causally_ready_row, is_ready_row, has_delivered_in, passed_by, awaits_row, delivered_row, told_row}
 use Rattle.cast_delay.specs.Queue.{Queue, new_row, row_of, change_row, first_for, offered_under, next_key, delivered_in, passed_in, but_offered, is_awaited, HasOneRowEach, after_delivery}
-use Rattle.cast_delay.specs.Fits.{IsSound, RowFits, row_for, offer_of, Fits, FirstReady, HasTurns, IsAwaited, set_process, told, delivering, FactFits}
+use Rattle.cast_delay.specs.Fits.{IsSound, HasNotEnded, RowFits, StandsFor, HasNotBegun, offer_of, Fits, FirstReady, HasTurns, IsAwaited, set_process, told, delivering, FactFits}
 use Rattle.cast_delay.specs.Laws.{NewFits}
 use Rattle.cast_delay.proofs.Means.{row_means, awaits_means, delivered_means}
-use Rattle.cast_delay.proofs.Turns.{in_turn, same_turns}
+use Rattle.cast_delay.proofs.Turns.{in_turn, same_turns, causally_member}
 use Rattle.cast_delay.proofs.Finds.{found_in, find_agree, find_mapped, never_found, find-append_some, find-append_none, find_kept, none_before, kept_parts, filter_mapped, any_in, found_any, put_at_group}
 use Rattle.cast_delay.proofs.Delivers.{told_fits, delivered_fits, ready_parts}
-use Rattle.cast_delay.proofs.Rows.{some_row, rows_changed, row_admitted}
+use Rattle.cast_delay.proofs.Rows.{some_row, rows_changed, row_admitted, stands_later}
 
 no_message : (m : Message) → None ≡ Some m → ⊥
 no_message m e = cc
@@ -71,62 +73,41 @@ after_at : (offered : List Offered) (p : Proc) (key : Key) (rows : List Row) (o 
 after_at offered p key rows o at =
     ap (λ (x : Option Offered). elim x as (λ _. List Row) [ Some y ↦ change_row p (delivered_row y.id y.times) rows | None ↦ rows ]) at
 
--- what was not admitted has delivered nothing
-nothing_done : (n : ℕ) → (nat_lt 0 n && nat_le n 0) ≡ false
-nothing_done n = false_from_ne_true (nat_lt 0 n && nat_le n 0) (λ both.
-    let parts = and_parts (nat_lt 0 n) (nat_le n 0) both in
-    omega (arith, ltb-true 0 n parts.0, leb-true n 0 parts.1))
-
--- a first item that passes stands at place 0
-first_place : (t : Entry → Bool) (e : Entry) (ids : List Entry) → t e ≡ true → unwrap_or (list.position t (e ∷ ids)) (length (e ∷ ids)) ≡ 0
-first_place t e ids passes =
-    ap (λ b. unwrap_or (cond (nat_lt (cond (not b) (1 + list.position_or_len t ids) 0) (length (e ∷ ids))) (Some (cond (not b) (1 + list.position_or_len t ids) 0)) None) (length (e ∷ ids))) passes
-    ∙ ap (λ b. unwrap_or (cond b (Some 0) None) (length (e ∷ ids))) (lt-ltb 0 (length (e ∷ ids)) (omega arith))
-
-nothing_passed : (p : Proc) (g : GroupNo) (view : ℕ) (ids : List Entry) → passed_by (new_row p) g view ids ≡ 0
-nothing_passed p g view [] = refl
-nothing_passed p g view (e ∷ ids) = first_place (λ d. not (has_delivered_in (new_row p) (named g view d))) e ids (ap not (nothing_done e.1))
+-- of a process that is in no group no message is ready
+never_ready : (groups : List GroupNo) (gate : GroupNo → Gate) (turn : GroupNo → Turn) (v : Process) → ((g : GroupNo) → v.standing g ≡ Outside) → (m : Message) → is_ready groups gate turn v m ≡ false
+never_ready groups gate turn v outside m = false_from_ne_true (is_ready groups gate turn v m) (λ ready.
+    let causally : is_causally_ready groups gate v m ≡ true = (and_parts (is_causally_ready groups gate v m) (in_turn turn m) ready).0 in
+    false≢true (sym (ap is_member (outside m.id.group)) ∙ causally_member groups gate v m causally))
 
 module _ (groups : List GroupNo) (gate : GroupNo → Gate) (processes : Proc → Process) (received : List Received) (q : Queue) (fits : Fits groups gate processes received q) where
-  -- the row that a process stands for means the rule
-  pub stands_for : (p : Proc) (m : Message) → IsSound m → is_causally_ready_row q.numbers (row_for q.rows p) m.id m.times ≡ is_causally_ready groups gate (processes p) m
-  stands_for p m sound = row_means (processes p) (row_for q.rows p) (fits.rows p) m groups gate q.numbers fits.numbers (fits.groups_known p) sound
+  row_at : (p : Proc) (row : Row) → row_of q.rows p ≡ Some row → RowFits gate (processes p) row
+  row_at p row at = subst (λ (o : Option Row). StandsFor gate (processes p) o) at (fits.rows p)
 
+  -- a process without a row is in no group
+  outside_at : (p : Proc) → row_of q.rows p ≡ None → (g : GroupNo) → (processes p).standing g ≡ Outside
+  outside_at p none = subst (λ (o : Option Row). StandsFor gate (processes p) o) none (fits.rows p)
+
+  -- the row of a process means the rule
   pub row_rules : (p : Proc) (row : Row) (m : Message) → row_of q.rows p ≡ Some row → IsSound m → is_causally_ready_row q.numbers row m.id m.times ≡ is_causally_ready groups gate (processes p) m
-  row_rules p row m at sound = ap (λ (o : Option Row). is_causally_ready_row q.numbers (unwrap_or o (new_row p)) m.id m.times) (sym at) ∙ stands_for p m sound
+  row_rules p row m at sound = row_means gate (processes p) row (row_at p row at) m groups q.numbers fits.numbers (fits.groups_known p) sound
 
   module _ (p : Proc) (turns : List (GroupNo × Turn)) where
-    -- a process that was not admitted is named no message, as a row of no group would be
-    next_is : next_key turns q p ≡ option_map (λ o. o.key) (first_for turns q.numbers q.offered (row_for q.rows p))
-    next_is = elim (option_cases (row_of q.rows p)) [
-      | inl none ↦
-          ap (λ (o : Option Row). option_map (λ x. x.key) (option_and_then (first_for turns q.numbers q.offered) o)) none
-          ∙ ap (λ (o : Option Offered). option_map (λ x. x.key) o) (sym (never_found (is_ready_row turns q.numbers (new_row p)) q.offered (λ o. refl)))
-          ∙ ap (λ (o : Option Row). option_map (λ x. x.key) (first_for turns q.numbers q.offered (unwrap_or o (new_row p)))) (sym none)
-      | inr (row, some) ↦
-          ap (λ (o : Option Row). option_map (λ x. x.key) (option_and_then (first_for turns q.numbers q.offered) o)) some
-          ∙ ap (λ (o : Option Row). option_map (λ x. x.key) (first_for turns q.numbers q.offered (unwrap_or o (new_row p)))) (sym some)
-    ]
-
     module _ (turn : GroupNo → Turn) (agree : HasTurns (processes p) turns turn) where
       -- and with the turns of its groups
-      pub turn_stands : (r : Received) → IsSound r.message → is_ready_row turns q.numbers (row_for q.rows p) (offer_of r) ≡ is_ready groups gate turn (processes p) r.message
-      turn_stands r sound =
-          ap (λ b. b && in_turn (turn_in turns) r.message) (stands_for p r.message sound)
-          ∙ same_turns groups gate (processes p) (turn_in turns) turn agree r.message
-
       pub turn_rules : (row : Row) (r : Received) → row_of q.rows p ≡ Some row → IsSound r.message → is_ready_row turns q.numbers row (offer_of r) ≡ is_ready groups gate turn (processes p) r.message
-      turn_rules row r at sound = ap (λ (o : Option Row). is_ready_row turns q.numbers (unwrap_or o (new_row p)) (offer_of r)) (sym at) ∙ turn_stands r sound
+      turn_rules row r at sound =
+          ap (λ b. b && in_turn (turn_in turns) r.message) (row_rules p row r.message at sound)
+          ∙ same_turns groups gate (processes p) (turn_in turns) turn agree r.message
 
       abbrev ready_at : Received → Bool
       ready_at r = is_ready groups gate turn (processes p) r.message
 
-      -- the first that is ready by the rows is the first that is ready
-      first_is : first_for turns q.numbers q.offered (row_for q.rows p) ≡ option_map offer_of (list.find ready_at received)
-      first_is =
-          ap (λ os. first_for turns q.numbers os (row_for q.rows p)) fits.offered
-          ∙ find_mapped offer_of (is_ready_row turns q.numbers (row_for q.rows p)) received
-          ∙ ap (λ (o : Option Received). option_map offer_of o) (find_agree (λ r. is_ready_row turns q.numbers (row_for q.rows p) (offer_of r)) ready_at received (λ r in_it. turn_stands r (fits.sound r in_it)))
+      -- the first that is ready by a row is the first that is ready
+      first_is : (row : Row) → row_of q.rows p ≡ Some row → first_for turns q.numbers q.offered row ≡ option_map offer_of (list.find ready_at received)
+      first_is row at =
+          ap (λ os. first_for turns q.numbers os row) fits.offered
+          ∙ find_mapped offer_of (is_ready_row turns q.numbers row) received
+          ∙ ap (λ (o : Option Received). option_map offer_of o) (find_agree (λ r. is_ready_row turns q.numbers row (offer_of r)) ready_at received (λ r in_it. turn_rules row r at (fits.sound r in_it)))
 
       first_from : (f : Option Received) → list.find ready_at received ≡ f → FirstReady groups gate turn (processes p) received (option_map (λ o. o.key) (option_map offer_of f))
       first_from None is = find_mapped (λ r. r.message) (is_ready groups gate turn (processes p)) received ∙ ap (λ (o : Option Received). option_map (λ r. r.message) o) is
@@ -136,24 +117,29 @@ module _ (groups : List GroupNo) (gate : GroupNo → Gate) (processes : Proc →
         find_mapped (λ x. x.message) (is_ready groups gate turn (processes p)) received ∙ ap (λ (o : Option Received). option_map (λ x. x.message) o) is,
       )
 
-      -- the queue names the first message that is ready
+      -- the queue names the first message that is ready, and none for a process without a row, which is in no group
       pub next_rules : FirstReady groups gate turn (processes p) received (next_key turns q p)
-      next_rules =
-          subst (λ k. FirstReady groups gate turn (processes p) received k) (sym (next_is ∙ ap (λ (o : Option Offered). option_map (λ x. x.key) o) first_is)) (first_from (list.find ready_at received) refl)
+      next_rules = elim (option_cases (row_of q.rows p)) [
+        | inl none ↦
+            subst (λ k. FirstReady groups gate turn (processes p) received k) (sym (ap (λ (o : Option Row). option_map (λ x. x.key) (option_and_then (first_for turns q.numbers q.offered) o)) none))
+            (never_found (is_ready groups gate turn (processes p)) (messages received) (never_ready groups gate turn (processes p) (outside_at p none)))
+        | inr (row, some) ↦
+            let next_is : next_key turns q p ≡ option_map (λ o. o.key) (option_map offer_of (list.find ready_at received)) =
+            ap (λ (o : Option Row). option_map (λ x. x.key) (option_and_then (first_for turns q.numbers q.offered) o)) some
+            ∙ ap (λ (o : Option Offered). option_map (λ x. x.key) o) (first_is row some) in
+            subst (λ k. FirstReady groups gate turn (processes p) received k) (sym next_is) (first_from (list.find ready_at received) refl)
+      ]
 
-  -- a process that is admitted means what it meant
-  pub admit_fits : (p : Proc) → Fits groups gate processes received (record q { rows = q.rows ++ new_row p ∷ [] })
-  admit_fits p = record {
+  -- a process that is admitted has not begun, or had a row
+  pub admit_fits : (p : Proc) → (row_of q.rows p ≡ None → HasNotBegun (processes p)) → Fits groups gate processes received (record q { rows = q.rows ++ new_row p ∷ [] })
+  admit_fits p fresh = record {
     numbers = fits.numbers;
-    rows = λ x. subst (λ row. RowFits (processes x) row) (sym (row_admitted q.rows p x)) (fits.rows x);
+    rows = row_admitted gate processes q.rows p fresh fits.rows;
     groups_known = fits.groups_known;
     offered = fits.offered;
     named = fits.named;
     sound = fits.sound;
   }
-
-  row_at : (p : Proc) (row : Row) → row_of q.rows p ≡ Some row → RowFits (processes p) row
-  row_at p row at = subst (λ (o : Option Row). RowFits (processes p) (unwrap_or o (new_row p))) at (fits.rows p)
 
   -- groups are known still where one process changes to one whose groups are known
   known_still : (p : Proc) (v : Process) → ((g : GroupNo) → is_outside (v.standing g) ≡ false → is_among group_eq g groups ≡ true) → (x : Proc) (g : GroupNo) → is_outside ((set_process processes p v x).standing g) ≡ false → is_among group_eq g groups ≡ true
@@ -174,78 +160,64 @@ module _ (groups : List GroupNo) (gate : GroupNo → Gate) (processes : Proc →
   told_keeps (fact.Standing h s) r = refl
   told_keeps (fact.Time time) r = refl
 
-  -- a process awaits a message by its row as it does by what it delivered
-  pub awaited_by : (p : Proc) (row : Row) → row_of q.rows p ≡ Some row → (id : Uid) → 0 < id.count → awaits_row row id ≡ awaits (processes p) id
-  awaited_by p row at id from_one = awaits_means (processes p) row (row_at p row at) id from_one
+  -- a process awaits a message of a view that has not ended by its row as it does by what it delivered
+  pub awaited_by : (p : Proc) (row : Row) → row_of q.rows p ≡ Some row → (id : Uid) → HasNotEnded gate id.group id.view → 0 < id.count → awaits_row row id ≡ awaits (processes p) id
+  awaited_by p row at id stands from_one = awaits_means gate (processes p) row (row_at p row at) id stands from_one
 
   -- and has delivered one by its row as it did by what it delivered
-  pub delivered_by : (p : Proc) (row : Row) → row_of q.rows p ≡ Some row → (id : Uid) → has_delivered_in row id ≡ has_delivered (processes p) id
-  delivered_by p row at id = delivered_means (processes p) row (row_at p row at) id
+  pub delivered_by : (p : Proc) (row : Row) → row_of q.rows p ≡ Some row → (id : Uid) → HasNotEnded gate id.group id.view → has_delivered_in row id ≡ has_delivered (processes p) id
+  delivered_by p row at id stands = delivered_means gate (processes p) row (row_at p row at) id stands
 
-  pub delivered_rules : (p : Proc) (id : Uid) → delivered_in q p id ≡ has_delivered (processes p) id
-  delivered_rules p id = elim (option_cases (row_of q.rows p)) [
-    | inl none ↦
-        ap (λ (o : Option Row). option_map_or (λ row. has_delivered_in row id) o false) none
-        ∙ sym (nothing_done id.count)
-        ∙ ap (λ (o : Option Row). has_delivered_in (unwrap_or o (new_row p)) id) (sym none)
-        ∙ delivered_means (processes p) (row_for q.rows p) (fits.rows p) id
-    | inr (row, some) ↦
-        ap (λ (o : Option Row). option_map_or (λ r. has_delivered_in r id) o false) some
-        ∙ delivered_by p row some id
-  ]
+  pub delivered_rules : (p : Proc) (id : Uid) → IsSome (row_of q.rows p) → HasNotEnded gate id.group id.view → delivered_in q p id ≡ has_delivered (processes p) id
+  delivered_rules p id admitted stands =
+      let (row, at) = some_row (row_of q.rows p) admitted in
+      ap (λ (o : Option Row). option_map_or (λ r. has_delivered_in r id) o false) at
+      ∙ delivered_by p row at id stands
 
   -- a process has passed the ids that it delivered, up to the first that it did not
-  passed_as : (p : Proc) (row : Row) → RowFits (processes p) row → (g : GroupNo) (view : ℕ) (ids : List Entry) → passed_by row g view ids ≡ unwrap_or (list.position (λ e. not (has_delivered (processes p) (named g view e))) ids) (length ids)
-  passed_as p row fit g view ids = λ i. unwrap_or (list.position (λ e. not (delivered_means (processes p) row fit (named g view e) i)) ids) (length ids)
+  passed_as : (p : Proc) (row : Row) → row_of q.rows p ≡ Some row → (g : GroupNo) (view : ℕ) → HasNotEnded gate g view → (ids : List Entry) → passed_by row g view ids ≡ unwrap_or (list.position (λ e. not (has_delivered (processes p) (named g view e))) ids) (length ids)
+  passed_as p row at g view stands ids = λ i. unwrap_or (list.position (λ e. not (delivered_by p row at (named g view e) stands i)) ids) (length ids)
 
-  pub passed_rules : (p : Proc) (g : GroupNo) (view : ℕ) (ids : List Entry) → passed_in q p g view ids ≡ unwrap_or (list.position (λ e. not (has_delivered (processes p) (named g view e))) ids) (length ids)
-  passed_rules p g view ids = elim (option_cases (row_of q.rows p)) [
-    | inl none ↦
-        ap (λ (o : Option Row). option_map_or (λ row. passed_by row g view ids) o 0) none
-        ∙ sym (nothing_passed p g view ids)
-        ∙ ap (λ (o : Option Row). passed_by (unwrap_or o (new_row p)) g view ids) (sym none)
-        ∙ passed_as p (row_for q.rows p) (fits.rows p) g view ids
-    | inr (row, some) ↦
-        ap (λ (o : Option Row). option_map_or (λ r. passed_by r g view ids) o 0) some
-        ∙ passed_as p row (row_at p row some) g view ids
-  ]
+  pub passed_rules : (p : Proc) (g : GroupNo) (view : ℕ) (ids : List Entry) → IsSome (row_of q.rows p) → HasNotEnded gate g view → passed_in q p g view ids ≡ unwrap_or (list.position (λ e. not (has_delivered (processes p) (named g view e))) ids) (length ids)
+  passed_rules p g view ids admitted stands =
+      let (row, at) = some_row (row_of q.rows p) admitted in
+      ap (λ (o : Option Row). option_map_or (λ r. passed_by r g view ids) o 0) at
+      ∙ passed_as p row at g view stands ids
 
   -- the ids that it has passed it delivered
-  pub passed_delivered : (p : Proc) (g : GroupNo) (view : ℕ) (ids : List Entry) → list.find (λ e. not (has_delivered (processes p) (named g view e))) (take (passed_in q p g view ids) ids) ≡ None
-  passed_delivered p g view ids =
+  pub passed_delivered : (p : Proc) (g : GroupNo) (view : ℕ) (ids : List Entry) → IsSome (row_of q.rows p) → HasNotEnded gate g view → list.find (λ e. not (has_delivered (processes p) (named g view e))) (take (passed_in q p g view ids) ids) ≡ None
+  passed_delivered p g view ids admitted stands =
       let missing : Entry → Bool = λ e. not (has_delivered (processes p) (named g view e)) in
-      ap (λ n. list.find missing (take n ids)) (passed_rules p g view ids ∙ position_or_len_found missing ids)
+      ap (λ n. list.find missing (take n ids)) (passed_rules p g view ids admitted stands ∙ position_or_len_found missing ids)
       ∙ none_before missing ids
 
   -- and what stands there is the first that it did not
-  pub passed_next : (p : Proc) (g : GroupNo) (view : ℕ) (ids : List Entry) → list.find (λ e. not (has_delivered (processes p) (named g view e))) ids ≡ slice_get ids (passed_in q p g view ids)
-  passed_next p g view ids =
+  pub passed_next : (p : Proc) (g : GroupNo) (view : ℕ) (ids : List Entry) → IsSome (row_of q.rows p) → HasNotEnded gate g view → list.find (λ e. not (has_delivered (processes p) (named g view e))) ids ≡ slice_get ids (passed_in q p g view ids)
+  passed_next p g view ids admitted stands =
       let missing : Entry → Bool = λ e. not (has_delivered (processes p) (named g view e)) in
       find_at missing ids
-      ∙ ap (λ n. slice_get ids n) (sym (passed_rules p g view ids ∙ position_or_len_found missing ids))
+      ∙ ap (λ n. slice_get ids n) (sym (passed_rules p g view ids admitted stands ∙ position_or_len_found missing ids))
 
-  -- who awaits a message was admitted
-  awaits_admitted : (p : Proc) (id : Uid) → awaits (processes p) id ≡ true → (row : Row) × (row_of q.rows p ≡ Some row)
-  awaits_admitted p id waits = elim (option_cases (row_of q.rows p)) [
-    | inl none ↦
-        let member = (and_parts (is_member ((processes p).standing id.group)) (not (has_delivered (processes p) id)) waits).0 in
-        absurd (false≢true (ap (λ (o : Option Row). is_member (standing_in (unwrap_or o (new_row p)) id.group)) (sym none) ∙ ap is_member ((fits.rows p).standing id.group) ∙ member))
+  -- who is a member of a group was admitted
+  pub member_admitted : (p : Proc) (g : GroupNo) → is_member ((processes p).standing g) ≡ true → (row : Row) × (row_of q.rows p ≡ Some row)
+  member_admitted p g member = elim (option_cases (row_of q.rows p)) [
+    | inl none ↦ absurd (false≢true (sym (ap is_member (outside_at p none g)) ∙ member))
     | inr some ↦ some
   ]
 
   -- some row awaits a message exactly if some process does
-  pub awaited_rules : HasOneRowEach q.rows → (id : Uid) → 0 < id.count → (is_awaited q.rows id ≡ true) ↔ IsAwaited processes id
-  awaited_rules one id from_one = (there, back)
+  pub awaited_rules : HasOneRowEach q.rows → (id : Uid) → HasNotEnded gate id.group id.view → 0 < id.count → (is_awaited q.rows id ≡ true) ↔ IsAwaited processes id
+  awaited_rules one id stands from_one = (there, back)
     where
       there : is_awaited q.rows id ≡ true → IsAwaited processes id
       there some =
           let (row, (in_it, waits)) = any_in (λ r. awaits_row r id) q.rows some in
-          (row.process, sym (awaited_by row.process row (one row in_it) id from_one) ∙ waits)
+          (row.process, sym (awaited_by row.process row (one row in_it) id stands from_one) ∙ waits)
 
       back : IsAwaited processes id → is_awaited q.rows id ≡ true
       back (p, waits) =
-          let (row, at) = awaits_admitted p id waits in
-          found_any (λ r. awaits_row r id) (λ r. proc_eq r.process p) q.rows row at (awaited_by p row at id from_one ∙ waits)
+          let (row, at) = member_admitted p id.group (and_parts (is_member ((processes p).standing id.group)) (not (has_delivered (processes p) id)) waits).0 in
+          found_any (λ r. awaits_row r id) (λ r. proc_eq r.process p) q.rows row at (awaited_by p row at id stands from_one ∙ waits)
 
   -- a fact is taken in as the process takes it in
   pub tell_fits : (p : Proc) (f : Fact) → IsSome (row_of q.rows p) → FactFits groups f → Fits groups gate (set_process processes p (told f (processes p))) received (record q { rows = change_row p (told_row f) q.rows })
@@ -253,18 +225,18 @@ module _ (groups : List GroupNo) (gate : GroupNo → Gate) (processes : Proc →
       let (row, at) = some_row (row_of q.rows p) admitted in
       record {
         numbers = fits.numbers;
-        rows = rows_changed p (told_row f) (told_keeps f) processes (told f (processes p)) q.rows row at (told_fits (processes p) row (row_at p row at) f) fits.rows;
+        rows = rows_changed p (told_row f) (told_keeps f) gate processes (told f (processes p)) q.rows row at (told_fits gate (processes p) row (row_at p row at) f) fits.rows;
         groups_known = known_still p (told f (processes p)) (known_told p f ok);
         offered = fits.offered;
         named = fits.named;
         sound = fits.sound;
       }
 
-  -- and the number of a view
-  pub view_fits : (g : GroupNo) (number : ℕ) → Fits groups (set_at group_eq gate g (record { number = number })) processes received (record q { numbers = put group_cmp g number q.numbers })
-  view_fits g number = record {
+  -- and the number of a later view
+  pub view_fits : (g : GroupNo) (number : ℕ) → (gate g).number ≤ number → Fits groups (set_at group_eq gate g (record { number = number })) processes received (record q { numbers = put group_cmp g number q.numbers })
+  view_fits g number rise = record {
     numbers = λ h. put_at_group q.numbers g h number 0 ∙ numbered h;
-    rows = fits.rows;
+    rows = λ p. stands_later gate (set_at group_eq gate g (record { number = number })) rises (processes p) (row_of q.rows p) (fits.rows p);
     groups_known = fits.groups_known;
     offered = fits.offered;
     named = fits.named;
@@ -274,13 +246,16 @@ module _ (groups : List GroupNo) (gate : GroupNo → Gate) (processes : Proc →
       numbered : (h : GroupNo) → (if group_eq g h then number else number_of q.numbers h) ≡ (set_at group_eq gate g (record { number = number }) h).number
       numbered h = elim (group_eq g h) as (λ b. (if b then number else number_of q.numbers h) ≡ (if b then record { number = number } else gate h).number) [ true ↦ refl | false ↦ fits.numbers h ]
 
+      rises : (h : GroupNo) → (gate h).number ≤ (set_at group_eq gate g (record { number = number }) h).number
+      rises h = risen (group_eq g h) (λ same. same_group g h same)
+        where
+          risen : (b : Bool) → (b ≡ true → g ≡ h) → (gate h).number ≤ (if b then record { number = number } else gate h).number
+          risen true same = subst (λ k. (gate k).number ≤ number) (same refl) rise
+          risen false other = omega arith
+
   -- a process for which a message is ready was admitted
-  ready_row : (p : Proc) (m : Message) → IsSound m → is_causally_ready groups gate (processes p) m ≡ true → (row : Row) × (row_of q.rows p ≡ Some row)
-  ready_row p m sound ready = elim (option_cases (row_of q.rows p)) [
-    | inl none ↦
-        absurd (false≢true (ap (λ (o : Option Row). is_causally_ready_row q.numbers (unwrap_or o (new_row p)) m.id m.times) (sym none) ∙ stands_for p m sound ∙ ready))
-    | inr some ↦ some
-  ]
+  ready_row : (p : Proc) (m : Message) → is_causally_ready groups gate (processes p) m ≡ true → (row : Row) × (row_of q.rows p ≡ Some row)
+  ready_row p m ready = member_admitted p m.id.group (causally_member groups gate (processes p) m ready)
 
   -- a message under a key of its own is the last one received
   pub offer_fits : (r : Received) → IsSound r.message → message_under received r.key ≡ None → Fits groups gate processes (received ++ r ∷ []) (record q { offered = q.offered ++ offer_of r ∷ [] })
@@ -334,7 +309,7 @@ module _ (groups : List GroupNo) (gate : GroupNo → Gate) (processes : Proc →
   delivery_fits p key m at ready =
       let (r, found, same) = received_under received key m at in
       let sound : IsSound m = subst IsSound same (fits.sound r (found_in (λ x. key_eq x.key key) received r found)) in
-      let (row, here) = ready_row p m sound ready in
+      let (row, here) = ready_row p m ready in
       let offer : offered_under q.offered key ≡ Some (offer_of r) =
       ap (λ os. offered_under os key) fits.offered ∙ find_mapped offer_of (λ o. key_eq o.key key) received ∙ ap (λ (o : Option Received). option_map offer_of o) found in
       let after : after_delivery q.offered p key q.rows ≡ change_row p (delivered_row m.id m.times) q.rows =
@@ -342,8 +317,8 @@ module _ (groups : List GroupNo) (gate : GroupNo → Gate) (processes : Proc →
       let parts = ready_parts q.numbers row m.id m.times (row_rules p row m here sound ∙ ready) in
       record {
         numbers = fits.numbers;
-        rows = subst (λ rows. (x : Proc) → RowFits (set_process processes p (delivering m (processes p)) x) (row_for rows x)) (sym after)
-            (rows_changed p (delivered_row m.id m.times) (λ _. refl) processes (delivering m (processes p)) q.rows row here (delivered_fits (processes p) row (row_at p row here) m sound q.numbers parts) fits.rows);
+        rows = subst (λ rows. (x : Proc) → StandsFor gate (set_process processes p (delivering m (processes p)) x) (row_of rows x)) (sym after)
+            (rows_changed p (delivered_row m.id m.times) (λ _. refl) gate processes (delivering m (processes p)) q.rows row here (delivered_fits gate (processes p) row (row_at p row here) m sound q.numbers parts) fits.rows);
         groups_known = known_still p (delivering m (processes p)) (fits.groups_known p);
         offered = fits.offered;
         named = fits.named;
@@ -354,7 +329,7 @@ module _ (groups : List GroupNo) (gate : GroupNo → Gate) (processes : Proc →
 pub new_fits : NewFits
 new_fits groups = record {
   numbers = λ g. refl;
-  rows = λ p. record { standing = λ g. refl; in_order = refl; time = refl; counts = λ u. (λ has. absurd (false≢true has), λ b. absurd (omega (arith, b.0, b.1))) };
+  rows = λ p g. refl;
   groups_known = λ p g inside. absurd (false≢true (sym inside));
   offered = refl;
   named = λ r in_it. absurd (omega (arith, in_it.1));
@@ -365,11 +340,30 @@ new_fits groups = record {
 pub next_means : (turns : List (GroupNo × Turn)) (q : Queue) (p : Proc) (k : Option Key) → k ≡ next_key turns q p → (groups : List GroupNo) (gate : GroupNo → Gate) (processes : Proc → Process) (received : List Received) → Fits groups gate processes received q → (turn : GroupNo → Turn) → HasTurns (processes p) turns turn → FirstReady groups gate turn (processes p) received k
 next_means turns q p k is groups gate processes received fits turn agree = subst (λ x. FirstReady groups gate turn (processes p) received x) (sym is) (next_rules groups gate processes received q fits p turns turn agree)
 
-pub delivered_is : (q : Queue) (p : Proc) (id : Uid) (b : Bool) → b ≡ delivered_in q p id → (groups : List GroupNo) (gate : GroupNo → Gate) (processes : Proc → Process) (received : List Received) → Fits groups gate processes received q → b ≡ has_delivered (processes p) id
-delivered_is q p id b is groups gate processes received fits = is ∙ delivered_rules groups gate processes received q fits p id
+pub delivered_is : (q : Queue) (p : Proc) (id : Uid) (b : Bool) → b ≡ delivered_in q p id → (groups : List GroupNo) (gate : GroupNo → Gate) (processes : Proc → Process) (received : List Received) → Fits groups gate processes received q → IsSome (row_of q.rows p) → HasNotEnded gate id.group id.view → b ≡ has_delivered (processes p) id
+delivered_is q p id b is groups gate processes received fits admitted stands = is ∙ delivered_rules groups gate processes received q fits p id admitted stands
 
-pub passed_is : (q : Queue) (p : Proc) (g : GroupNo) (view : ℕ) (ids : List Entry) (n : ℕ) → n ≡ passed_in q p g view ids → (groups : List GroupNo) (gate : GroupNo → Gate) (processes : Proc → Process) (received : List Received) → Fits groups gate processes received q → n ≡ unwrap_or (list.position (λ e. not (has_delivered (processes p) (named g view e))) ids) (length ids)
-passed_is q p g view ids n is groups gate processes received fits = is ∙ passed_rules groups gate processes received q fits p g view ids
+pub passed_is : (q : Queue) (p : Proc) (g : GroupNo) (view : ℕ) (ids : List Entry) (n : ℕ) → n ≡ passed_in q p g view ids → (groups : List GroupNo) (gate : GroupNo → Gate) (processes : Proc → Process) (received : List Received) → Fits groups gate processes received q → IsSome (row_of q.rows p) → HasNotEnded gate g view → n ≡ unwrap_or (list.position (λ e. not (has_delivered (processes p) (named g view e))) ids) (length ids)
+passed_is q p g view ids n is groups gate processes received fits admitted stands = is ∙ passed_rules groups gate processes received q fits p g view ids admitted stands
 
-pub awaited_means : (q : Queue) (id : Uid) (b : Bool) → b ≡ is_awaited q.rows id → (groups : List GroupNo) (gate : GroupNo → Gate) (processes : Proc → Process) (received : List Received) → Fits groups gate processes received q → 0 < id.count → HasOneRowEach q.rows → (b ≡ true) ↔ IsAwaited processes id
-awaited_means q id b is groups gate processes received fits from_one one = subst (λ x. (x ≡ true) ↔ IsAwaited processes id) (sym is) (awaited_rules groups gate processes received q fits one id from_one)
+pub awaited_means : (q : Queue) (id : Uid) (b : Bool) → b ≡ is_awaited q.rows id → (groups : List GroupNo) (gate : GroupNo → Gate) (processes : Proc → Process) (received : List Received) → Fits groups gate processes received q → HasNotEnded gate id.group id.view → 0 < id.count → HasOneRowEach q.rows → (b ≡ true) ↔ IsAwaited processes id
+awaited_means q id b is groups gate processes received fits stands from_one one = subst (λ x. (x ≡ true) ↔ IsAwaited processes id) (sym is) (awaited_rules groups gate processes received q fits one id stands from_one)
+
+-- a row that is there has the time of its process
+pub time_is : (q : Queue) (p : Proc) (row : Row) → row_of q.rows p ≡ Some row → (groups : List GroupNo) (gate : GroupNo → Gate) (processes : Proc → Process) (received : List Received) → Fits groups gate processes received q → row.time ≡ (processes p).time
+time_is q p row at groups gate processes received fits = (row_at groups gate processes received q fits p row at).time
+
+-- and where none is the process is in no group
+pub no_row_is : (q : Queue) (p : Proc) → row_of q.rows p ≡ None → (groups : List GroupNo) (gate : GroupNo → Gate) (processes : Proc → Process) (received : List Received) → Fits groups gate processes received q → (g : GroupNo) → (processes p).standing g ≡ Outside
+no_row_is q p none groups gate processes received fits = outside_at groups gate processes received q fits p none
+
+-- what a process is in a group stands in its row, and without one it is in none
+pub standing_is : (q : Queue) (p : Proc) (g : GroupNo) (s : Standing) → s ≡ option_map_or (λ row. standing_in row g) (row_of q.rows p) Outside → (groups : List GroupNo) (gate : GroupNo → Gate) (processes : Proc → Process) (received : List Received) → Fits groups gate processes received q → s ≡ (processes p).standing g
+standing_is q p g s is groups gate processes received fits = is ∙ elim (option_cases (row_of q.rows p)) [
+  | inl none ↦
+      ap (λ (o : Option Row). option_map_or (λ row. standing_in row g) o Outside) none
+      ∙ sym (outside_at groups gate processes received q fits p none g)
+  | inr (row, some) ↦
+      ap (λ (o : Option Row). option_map_or (λ r. standing_in r g) o Outside) some
+      ∙ (row_at groups gate processes received q fits p row some).standing g
+]

@@ -1,16 +1,19 @@
 -- The rows of a queue, where the row of one process changes or one is added.
-use Rattle.std.proofs.Common.{◌≡◌, Bool, true, false, cond, List, [], ◌∷◌, ◌++◌, Option, Some, None, unwrap_or, refl, sym, ap, subst, ◌∙◌, inl, inr}
+use Rattle.std.proofs.Common.{◌≡◌, ◌≤◌, Bool, true, false, cond, List, [], ◌∷◌, ◌++◌, Option, Some, None, refl, sym, ap, subst, ◌∙◌, inl, inr, arith}
 use Rattle.std.specs.Prelude.{if◌then◌else◌}
 use Rattle.std.specs.Option.{IsSome, option_map}
 use Rattle.std.proofs.lemmas.Bool.{cases_Bool, false≢true}
+use Rattle.cast_types.specs.declared.names.GroupNo.{GroupNo}
 use Rattle.cast_types.specs.declared.names.Proc.{Proc}
-use Rattle.cast_types.specs.Names.{proc_eq}
+use Rattle.cast_types.specs.declared.names.Standing.TheVariants.{Outside}
+use Rattle.cast_types.specs.Names.{proc_eq, uid_eq}
+use Rattle.cast_types.specs.Sets.{is_among}
 use Rattle.cast_types.proofs.Orders.{same_proc}
 use Rattle.cast_clock.proofs.Entries.{option_cases}
 use Rattle.cast_delay.specs.declared.row.Row.{Row}
-use Rattle.cast_delay.specs.Ready.{Process}
+use Rattle.cast_delay.specs.Ready.{Process, Gate}
 use Rattle.cast_delay.specs.Queue.{new_row, row_of, change_row}
-use Rattle.cast_delay.specs.Fits.{RowFits, row_for, set_process}
+use Rattle.cast_delay.specs.Fits.{RowFits, StandsFor, HasNotBegun, set_process}
 use Rattle.cast_delay.proofs.Finds.{find-append_some, find-append_none}
 
 pub some_row : (o : Option Row) → IsSome o → (row : Row) × (o ≡ Some row)
@@ -48,31 +51,50 @@ module _ (p : Proc) (f : Row → Row) (keeps : (r : Row) → (f r).process ≡ r
       ]
 
   -- a change of one row that fits the change of its process
-  pub rows_changed : (processes : Proc → Process) (v : Process) (rows : List Row) (row : Row) → row_of rows p ≡ Some row → RowFits v (f row) → ((q : Proc) → RowFits (processes q) (row_for rows q)) → (q : Proc) → RowFits (set_process processes p v q) (row_for (change_row p f rows) q)
-  rows_changed processes v rows row at fits all q = elim (cases_Bool (proc_eq p q)) [
+  pub rows_changed : (gate : GroupNo → Gate) (processes : Proc → Process) (v : Process) (rows : List Row) (row : Row) → row_of rows p ≡ Some row → RowFits gate v (f row) → ((q : Proc) → StandsFor gate (processes q) (row_of rows q)) → (q : Proc) → StandsFor gate (set_process processes p v q) (row_of (change_row p f rows) q)
+  rows_changed gate processes v rows row at fits all q = elim (cases_Bool (proc_eq p q)) [
     | inl same ↦
-        let here : row_for (change_row p f rows) p ≡ f row = ap (λ (o : Option Row). unwrap_or o (new_row p)) (changed_own rows ∙ ap (λ (o : Option Row). option_map f o) at) in
-        let there : row_for (change_row p f rows) q ≡ f row = ap (λ x. row_for (change_row p f rows) x) (sym (same_proc p q same)) ∙ here in
-        subst (λ r. RowFits (set_process processes p v q) r) (sym there)
-        (subst (λ x. RowFits x (f row)) (sym (ap (λ b. if b then v else processes q) same)) fits)
+        let here : row_of (change_row p f rows) p ≡ Some (f row) = changed_own rows ∙ ap (λ (o : Option Row). option_map f o) at in
+        let there : row_of (change_row p f rows) q ≡ Some (f row) = ap (λ x. row_of (change_row p f rows) x) (sym (same_proc p q same)) ∙ here in
+        subst (λ o. StandsFor gate (set_process processes p v q) o) (sym there)
+        (subst (λ x. RowFits gate x (f row)) (sym (ap (λ b. if b then v else processes q) same)) fits)
     | inr other ↦
-        let there : row_for (change_row p f rows) q ≡ row_for rows q = ap (λ (o : Option Row). unwrap_or o (new_row q)) (changed_other q other rows) in
-        subst (λ r. RowFits (set_process processes p v q) r) (sym there)
-        (subst (λ x. RowFits x (row_for rows q)) (sym (ap (λ b. if b then v else processes q) other)) (all q))
+        subst (λ o. StandsFor gate (set_process processes p v q) o) (sym (changed_other q other rows))
+        (subst (λ x. StandsFor gate x (row_of rows q)) (sym (ap (λ b. if b then v else processes q) other)) (all q))
   ]
 
--- a process that is admitted has the row that it stood for
-pub row_admitted : (rows : List Row) (p q : Proc) → row_for (rows ++ new_row p ∷ []) q ≡ row_for rows q
-row_admitted rows p q = elim (option_cases (row_of rows q)) [
+-- a new row tells of a process that is in no group and has not begun
+new_row_fits : (gate : GroupNo → Gate) (v : Process) (p : Proc) → ((g : GroupNo) → v.standing g ≡ Outside) → HasNotBegun v → RowFits gate v (new_row p)
+new_row_fits gate v p outside fresh = record {
+  standing = λ g. sym (outside g);
+  in_order = refl;
+  time = sym fresh.time;
+  counts = λ u stands. (λ has. absurd (false≢true (ap (λ us. is_among uid_eq u us) (sym fresh.delivered) ∙ has)), λ b. absurd (omega (arith, b.0, b.1)));
+}
+
+-- a process that is admitted has a row then, and no other one changes
+pub row_admitted : (gate : GroupNo → Gate) (processes : Proc → Process) (rows : List Row) (p : Proc) → (row_of rows p ≡ None → HasNotBegun (processes p)) → ((q : Proc) → StandsFor gate (processes q) (row_of rows q)) → (q : Proc) → StandsFor gate (processes q) (row_of (rows ++ new_row p ∷ []) q)
+row_admitted gate processes rows p fresh all q = elim (option_cases (row_of rows q)) [
   | inl none ↦
-      ap (λ (o : Option Row). unwrap_or o (new_row q)) (find-append_none (λ r. proc_eq r.process q) rows (new_row p ∷ []) none)
-      ∙ new_one (proc_eq p q) refl
-      ∙ sym (ap (λ (o : Option Row). unwrap_or o (new_row q)) none)
+      let outside : (g : GroupNo) → (processes q).standing g ≡ Outside = subst (λ o. StandsFor gate (processes q) o) none (all q) in
+      subst (λ o. StandsFor gate (processes q) o) (sym (find-append_none (λ r. proc_eq r.process q) rows (new_row p ∷ []) none)) (new_one none outside (proc_eq p q) refl)
   | inr (row, some) ↦
-      ap (λ (o : Option Row). unwrap_or o (new_row q)) (find-append_some (λ r. proc_eq r.process q) rows (new_row p ∷ []) row some)
-      ∙ sym (ap (λ (o : Option Row). unwrap_or o (new_row q)) some)
+      subst (λ o. StandsFor gate (processes q) o) (sym (find-append_some (λ r. proc_eq r.process q) rows (new_row p ∷ []) row some))
+      (subst (λ o. StandsFor gate (processes q) o) some (all q))
 ]
   where
-    new_one : (b : Bool) → proc_eq p q ≡ b → unwrap_or (cond b (Some (new_row p)) None) (new_row q) ≡ new_row q
-    new_one true same = ap new_row (same_proc p q same)
-    new_one false other = refl
+    new_one : row_of rows q ≡ None → ((g : GroupNo) → (processes q).standing g ≡ Outside) → (b : Bool) → proc_eq p q ≡ b → StandsFor gate (processes q) (cond b (Some (new_row p)) None)
+    new_one none outside true same =
+        let is : p ≡ q = same_proc p q same in
+        new_row_fits gate (processes q) p outside (subst (λ x. HasNotBegun (processes x)) is (fresh (ap (row_of rows) is ∙ none)))
+    new_one none outside false other = outside
+
+-- in later views of groups a row tells of fewer ids
+pub stands_later : (gate later : GroupNo → Gate) → ((g : GroupNo) → (gate g).number ≤ (later g).number) → (v : Process) (o : Option Row) → StandsFor gate v o → StandsFor later v o
+stands_later gate later rises v None outside = outside
+stands_later gate later rises v (Some row) fits = record {
+  standing = fits.standing;
+  in_order = fits.in_order;
+  time = fits.time;
+  counts = λ u stands. fits.counts u (let rise = rises u.group in omega (arith, rise, stands));
+}

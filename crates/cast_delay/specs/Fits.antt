@@ -1,13 +1,14 @@
 -- What the queue keeps means: processes with all that they delivered, and all messages received.
-use Rattle.std.specs.Prelude.{◌≡◌, ◌<◌, ◌≤◌, true, false, IsTrue, ◌↔◌, List, [], ◌∷◌, ◌++◌, map, Contains, Option, Some, None, unwrap_or}
+use Rattle.std.specs.Prelude.{◌≡◌, ℕ, ◌<◌, ◌≤◌, true, false, IsTrue, ◌↔◌, List, [], ◌∷◌, ◌++◌, map, Contains, Option, Some, None}
 use Rattle.std.specs.FinMap.Entries.{is_sorted}
 use Rattle.cast_types.specs.declared.names.GroupNo.{GroupNo}
 use Rattle.cast_types.specs.declared.names.Proc.{Proc}
 use Rattle.cast_types.specs.declared.names.Key.{Key}
 use Rattle.cast_types.specs.declared.names.Uid.{Uid}
+use Rattle.cast_types.specs.declared.names.Standing.TheVariants.{Outside}
 use Rattle.cast_types.specs.Names.{group_cmp, group_eq, proc_eq, is_atomic}
 use Rattle.cast_types.specs.Sets.{is_among, set_at}
-use Rattle.cast_clock.specs.Times.{view_of, count_in, join}
+use Rattle.cast_clock.specs.Times.{no_time, view_of, count_in, join}
 use Rattle.cast_message.specs.declared.message.Message.{Message}
 use Rattle.cast_message.specs.declared.message.Received.{Received}
 use Rattle.cast_message.specs.Bodies.{kind_of}
@@ -19,7 +20,7 @@ use Rattle.cast_delay.specs.declared.row.Fact.{Fact}
 use Rattle.cast_delay.specs.declared.row.Fact.TheVariants as fact
 use Rattle.cast_delay.specs.Ready.{Process, Gate, is_member, is_outside, has_delivered, awaits, turn_in, first_ready}
 use Rattle.cast_delay.specs.Rows.{number_of, standing_in, done_in}
-use Rattle.cast_delay.specs.Queue.{Queue, new_row, row_of}
+use Rattle.cast_delay.specs.Queue.{Queue, row_of}
 
 -- the message's time has its own view and its own count, from 1 on
 pub record IsSound (m : Message) : Type 0 where
@@ -27,16 +28,27 @@ pub record IsSound (m : Message) : Type 0 where
   pub view : view_of m.times m.id.group ≡ m.id.view
   pub count : count_in m.times m.id.group m.id.proc ≡ m.id.count
 
--- the row tells of the process: the counts are those of all that it delivered
-pub record RowFits (p : Process) (row : Row) : Type 0 where
+-- the group's view of this number has not ended: it is the one that stands, or one to come
+abbrev pub HasNotEnded : (GroupNo → Gate) → GroupNo → ℕ → Type 0
+HasNotEnded gate g view = (gate g).number ≤ view
+
+-- the row tells of the process: in views that have not ended the counts are those of all that it delivered
+pub record RowFits (gate : GroupNo → Gate) (p : Process) (row : Row) : Type 0 where
   pub standing : (g : GroupNo) → standing_in row g ≡ p.standing g
   pub in_order : IsTrue (is_sorted group_cmp row.standings)
   pub time : row.time ≡ p.time
-  pub counts : (u : Uid) → (has_delivered p u ≡ true) ↔ ((0 < u.count) × (u.count ≤ done_in row u.group u.view u.proc))
+  pub counts : (u : Uid) → HasNotEnded gate u.group u.view →
+      (has_delivered p u ≡ true) ↔ ((0 < u.count) × (u.count ≤ done_in row u.group u.view u.proc))
 
--- the row of a process; one that was not admitted is in no group, and has delivered nothing
-abbrev pub row_for : List Row → Proc → Row
-row_for rows p = unwrap_or (row_of rows p) (new_row p)
+-- the row of a process tells of it; a process without a row is in no group, and nothing else is told of it
+abbrev pub StandsFor : (GroupNo → Gate) → Process → Option Row → Type 0
+StandsFor gate p (Some row) = RowFits gate p row
+StandsFor gate p None = (g : GroupNo) → p.standing g ≡ Outside
+
+-- a process that has no time yet and delivered nothing
+pub record HasNotBegun (p : Process) : Type 0 where
+  pub time : p.time ≡ no_time
+  pub delivered : p.delivered ≡ []
 
 abbrev pub offer_of : Received → Offered
 offer_of r = record { key = r.key; id = r.message.id; atomic = is_atomic (kind_of r.message.body); times = r.message.times }
@@ -44,7 +56,7 @@ offer_of r = record { key = r.key; id = r.message.id; atomic = is_atomic (kind_o
 -- the queue tells of these groups, processes and messages in order of receipt
 pub record Fits (groups : List GroupNo) (gate : GroupNo → Gate) (processes : Proc → Process) (received : List Received) (q : Queue) : Type 0 where
   pub numbers : (g : GroupNo) → number_of q.numbers g ≡ (gate g).number
-  pub rows : (p : Proc) → RowFits (processes p) (row_for q.rows p)
+  pub rows : (p : Proc) → StandsFor gate (processes p) (row_of q.rows p)
   pub groups_known : (p : Proc) (g : GroupNo) → is_outside ((processes p).standing g) ≡ false → is_among group_eq g groups ≡ true
   pub offered : q.offered ≡ map offer_of received
   pub named : (r : Received) → Contains received r → message_under received r.key ≡ Some r.message

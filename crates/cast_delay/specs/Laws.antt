@@ -1,5 +1,5 @@
 -- The queue keeps its meaning: what changes it changes what it means in the same way.
-use Rattle.std.specs.Prelude.{◌≡◌, ℕ, ◌<◌, true, not, List, [], ◌∷◌, ◌++◌, filter, Some, None}
+use Rattle.std.specs.Prelude.{◌≡◌, ℕ, ◌<◌, ◌≤◌, true, not, List, [], ◌∷◌, ◌++◌, filter, Some, None}
 use Rattle.std.specs.Option.{IsSome}
 use Rattle.std.specs.FinMap.Entries.{put}
 use Rattle.cast_types.specs.declared.names.GroupNo.{GroupNo}
@@ -19,7 +19,7 @@ use Rattle.cast_delay.specs.declared.row.Fact.{Fact}
 use Rattle.cast_delay.specs.Ready.{Process, Gate, has_delivered, awaits, is_causally_ready, is_ready}
 use Rattle.cast_delay.specs.Rows.{told_row, is_causally_ready_row, is_ready_row, has_delivered_in, awaits_row}
 use Rattle.cast_delay.specs.Queue.{Queue, new_row, row_of, change_row, next_key, but_offered, after_delivery}
-use Rattle.cast_delay.specs.Fits.{Fits, FirstReady, HasTurns, IsSound, offer_of, set_process, told, delivering, FactFits}
+use Rattle.cast_delay.specs.Fits.{Fits, FirstReady, HasTurns, IsSound, HasNotEnded, HasNotBegun, offer_of, set_process, told, delivering, FactFits}
 
 -- by what the queue keeps of a process, a message is causally ready exactly if it is by what the process delivered
 abbrev pub RowMeansTheRule : Type 0
@@ -38,20 +38,20 @@ TurnMeansTheRule =
     → row_of q.rows p ≡ Some row → IsSound r.message
     → is_ready_row turns q.numbers row (offer_of r) ≡ is_ready groups gate turn (processes p) r.message
 
--- by what the queue keeps of a process, it has delivered a message exactly if that is among what it delivered
+-- by what the queue keeps of a process, it has delivered a message of a view that has not ended exactly if that is among what it delivered
 abbrev pub DeliveredIsTheRule : Type 0
 DeliveredIsTheRule =
     (groups : List GroupNo) (gate : GroupNo → Gate) (processes : Proc → Process) (received : List Received) (q : Queue)
     → Fits groups gate processes received q → (p : Proc) (row : Row)
-    → row_of q.rows p ≡ Some row → (id : Uid)
+    → row_of q.rows p ≡ Some row → (id : Uid) → HasNotEnded gate id.group id.view
     → has_delivered_in row id ≡ has_delivered (processes p) id
 
--- by what the queue keeps of a process, it awaits a message exactly if it does by what it delivered
+-- by what the queue keeps of a process, it awaits a message of a view that has not ended exactly if it does by what it delivered
 abbrev pub AwaitedIsTheRule : Type 0
 AwaitedIsTheRule =
     (groups : List GroupNo) (gate : GroupNo → Gate) (processes : Proc → Process) (received : List Received) (q : Queue)
     → Fits groups gate processes received q → (p : Proc) (row : Row)
-    → row_of q.rows p ≡ Some row → (id : Uid) → 0 < id.count
+    → row_of q.rows p ≡ Some row → (id : Uid) → HasNotEnded gate id.group id.view → 0 < id.count
     → awaits_row row id ≡ awaits (processes p) id
 
 -- the queue names the first message that is ready, by the turns of the groups that the process is a member of
@@ -69,10 +69,12 @@ NewFits =
     → Fits groups (λ g. record { number = 0 }) (λ p. record { time = no_time; standing = λ g. Outside; delivered = [] }) []
     (record { numbers = []; offered = []; rows = [] })
 
+-- a process gets a row; one that had none has not begun
 abbrev pub AdmitKeepsMeaning : Type 0
 AdmitKeepsMeaning =
     (groups : List GroupNo) (gate : GroupNo → Gate) (processes : Proc → Process) (received : List Received) (q : Queue)
     → Fits groups gate processes received q → (p : Proc)
+    → (row_of q.rows p ≡ None → HasNotBegun (processes p))
     → Fits groups gate processes received (record q { rows = q.rows ++ new_row p ∷ [] })
 
 abbrev pub TellKeepsMeaning : Type 0
@@ -83,10 +85,11 @@ TellKeepsMeaning =
     → Fits groups gate (set_process processes p (told f (processes p))) received
     (record q { rows = change_row p (told_row f) q.rows })
 
+-- a group has a later view
 abbrev pub ViewKeepsMeaning : Type 0
 ViewKeepsMeaning =
     (groups : List GroupNo) (gate : GroupNo → Gate) (processes : Proc → Process) (received : List Received) (q : Queue)
-    → Fits groups gate processes received q → (g : GroupNo) (number : ℕ)
+    → Fits groups gate processes received q → (g : GroupNo) (number : ℕ) → (gate g).number ≤ number
     → Fits groups (set_at group_eq gate g (record { number = number })) processes received
     (record q { numbers = put group_cmp g number q.numbers })
 

@@ -1,19 +1,18 @@
 ghost use Rattle.std.specs.Prelude.{◌≡◌, ◌<◌, ◌↔◌, ◌&&◌, ◌++◌, ◌∷◌, [], List, OnOk, IsTrue, MatchOption, nat_lt, not, filter, length, unwrap_or, true};
 ghost use Rattle.std.specs.List.{list_any, position};
-ghost use Rattle.std.specs.Option.{option_copied, option_map, option_map_or};
+ghost use Rattle.std.specs.Option.{IsSome, option_copied, option_map, option_map_or};
 ghost use Rattle.std.specs.FinMap.Entries.{put};
 ghost use Rattle.cast_types.specs.Names.{group_cmp, named};
 ghost use Rattle.cast_types.specs.declared.names.GroupNo.{GroupNo};
 ghost use Rattle.cast_types.specs.declared.names.Proc.{Proc};
 ghost use Rattle.cast_types.specs.declared.names.Standing.TheVariants.{Outside};
-ghost use Rattle.cast_clock.specs.Times.{no_time};
 ghost use Rattle.cast_message.specs.declared.message.Received.{Received};
 ghost use Rattle.cast_message.specs.Receipts.{key_eq};
 ghost use Rattle.cast_delay.specs.declared.turn.Turn.{Turn};
 ghost use Rattle.cast_delay.specs.Ready.{Process, Gate, is_member, has_delivered, turn_in};
 ghost use Rattle.cast_delay.specs.Rows.{told_row, standing_in, done_in};
 ghost use Rattle.cast_delay.specs.Queue.{new_row, row_of, change_row, first_for, offered_under, next_key, delivered_in, passed_in, but_offered, is_awaited, HasOneRowEach, after_delivery};
-ghost use Rattle.cast_delay.specs.Fits.{Fits, FirstReady, IsAwaited, offer_of};
+ghost use Rattle.cast_delay.specs.Fits.{Fits, HasNotEnded, FirstReady, IsAwaited, offer_of};
 
 use crate::offered::Offered;
 use crate::row::{Fact, Row};
@@ -98,12 +97,13 @@ impl Delay {
         forget_in(&mut self.offered, key);
     }
 
-    /// Whether some process that is a member of a message's group has not delivered the message, whose count is from 1
-    /// on. Takes no memory.
+    /// Whether some process that is a member of a message's group has not delivered the message, whose view has not
+    /// ended and whose count is from 1 on. Takes no memory.
     pub fn is_awaited(&self, id: Uid) -> bool
         ensures value { result ≡ list_any (λ row. is_member (standing_in row id.group) && nat_lt (done_in row id.group id.view id.proc) id.count) self.now.rows }
         ensures meaning { (groups : List GroupNo) (gate : GroupNo → Gate) (processes : Proc → Process) (received : List Received) →
-            Fits groups gate processes received self.now → 0 < id.count → HasOneRowEach self.now.rows → IsTrue result ↔ IsAwaited processes id }
+            Fits groups gate processes received self.now → HasNotEnded gate id.group id.view → 0 < id.count → HasOneRowEach self.now.rows →
+            IsTrue result ↔ IsAwaited processes id }
     {
         awaited_in(&self.rows, id)
     }
@@ -123,11 +123,12 @@ impl Delay {
         Some(offered.key)
     }
 
-    /// Whether the process has delivered a message. Takes no memory.
+    /// Whether the process, which was admitted, has delivered a message of a view that has not ended. Takes no memory.
     pub fn has_delivered(&self, process: Proc, id: Uid) -> bool
         ensures value { result ≡ delivered_in self.now process id }
         ensures meaning { (groups : List GroupNo) (gate : GroupNo → Gate) (processes : Proc → Process) (received : List Received) →
-            Fits groups gate processes received self.now → result ≡ has_delivered (processes process) id }
+            Fits groups gate processes received self.now → IsSome (row_of self.now.rows process) → HasNotEnded gate id.group id.view →
+            result ≡ has_delivered (processes process) id }
     {
         match row_in(&self.rows, process) {
             Some(row) => row.has_delivered(id),
@@ -135,12 +136,12 @@ impl Delay {
         }
     }
 
-    /// How many of these ids, which are of a view of a group, the process has delivered before the first that it has
-    /// not: 0 to their number. Takes no memory.
+    /// How many of these ids, which are of a view of a group that has not ended, the process, which was admitted, has
+    /// delivered before the first that it has not: 0 to their number. Takes no memory.
     pub fn passed(&self, process: Proc, group: GroupNo, view: u32, ids: &[(Proc, u32)]) -> usize
         ensures value { result ≡ passed_in self.now process group view ids.now }
         ensures meaning { (groups : List GroupNo) (gate : GroupNo → Gate) (processes : Proc → Process) (received : List Received) →
-            Fits groups gate processes received self.now →
+            Fits groups gate processes received self.now → IsSome (row_of self.now.rows process) → HasNotEnded gate group view →
             result ≡ unwrap_or (position (λ e. not (has_delivered (processes process) (named group view e))) ids.now) (length ids.now) }
     {
         match row_in(&self.rows, process) {
@@ -161,7 +162,8 @@ impl Delay {
     pub fn time(&self, process: Proc) -> Option<&Times>
         ensures value { option_copied result ≡ option_map (λ r. r.time) (row_of self.now.rows process) }
         ensures meaning { (groups : List GroupNo) (gate : GroupNo → Gate) (processes : Proc → Process) (received : List Received) →
-            Fits groups gate processes received self.now → MatchOption result ((processes process).time ≡ no_time) (λ t. t.now ≡ (processes process).time) }
+            Fits groups gate processes received self.now →
+            MatchOption result ((g : GroupNo) → (processes process).standing g ≡ Outside) (λ t. t.now ≡ (processes process).time) }
     {
         match row_in(&self.rows, process) {
             Some(row) => Some(&row.time),

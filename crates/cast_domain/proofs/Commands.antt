@@ -1,5 +1,5 @@
 -- What a session asks for changes a domain's records as it changes their history.
-use Rattle.std.proofs.Common.{◌≡◌, ℕ, ◌<◌, Bool, true, false, not, ◌&&◌, ◌||◌, List, [], ◌∷◌, Some, refl, sym, ap, subst, ◌∙◌, inl, inr, arith}
+use Rattle.std.proofs.Common.{◌≡◌, ℕ, ◌<◌, ◌≤◌, Bool, true, false, not, ◌&&◌, ◌||◌, List, [], ◌∷◌, Some, refl, sym, ap, subst, ◌∙◌, inl, inr, arith}
 use Rattle.std.specs.Prelude.{◌==◌, slice_get}
 use Rattle.std.specs.List.{fold, list_any}
 use Rattle.std.proofs.lemmas.Bool.{false≢true, false_from_ne_true, and_parts, eqb-true, eq-eqb}
@@ -19,6 +19,7 @@ use Rattle.cast_delay.specs.Queue.{delivered_in}
 use Rattle.cast_delay.specs.declared.row.Fact.TheVariants as fact
 use Rattle.cast_delay.specs.Fits.{IsSound}
 use Rattle.cast_delay.proofs.Queues.{delivered_rules}
+use Rattle.cast_delay.proofs.Turns.{and_agree}
 use Rattle.cast_order.specs.Log.{Log, log_of}
 use Rattle.cast_history.specs.Rules.Sending.{send_data}
 use Rattle.cast_history.proofs.Rules.Follows.{sent_here}
@@ -27,12 +28,12 @@ use Rattle.cast_history.specs.State.{State, local, others_of, gate_of, was_given
 use Rattle.cast_history.specs.History.{history}
 use Rattle.cast_history.specs.Effects.{next_message}
 use Rattle.cast_domain.specs.Records.{Records}
-use Rattle.cast_domain.specs.Calls.{tell_in, records, receive_in, is_own_in, awaits_own_in}
+use Rattle.cast_domain.specs.Calls.{standing_of, tell_in, records, receive_in, is_current_in, is_own_in, awaits_own_in}
 use Rattle.cast_history.specs.Lawful.{IsSpent, AreKept, IsLawful}
 use Rattle.cast_domain.specs.Fits.{process_named, LogFits, Fits}
 use Rattle.cast_domain.proofs.Following.{asked_of, fits_sends}
 use Rattle.cast_domain.proofs.Standing.{record_there, standing_there, time_there, fits_sent, process_here, fits_receive, fits_receive_with}
-use Rattle.cast_domain.proofs.Releases.{current_same}
+use Rattle.cast_domain.proofs.Releases.{current_same, current_stands}
 use Rattle.cast_types.proofs.Bools.{same_bools, and_none}
 
 -- the records with the parts that the history has, as it has them
@@ -57,20 +58,24 @@ same_tests a b v n o true d seen same = ap (λ x. a && (b && (x && d))) (ap (λ 
 same_tests a b v n o false d seen same = ap (λ x. a && (b && x)) (and_none (v && n) ∙ sym (and_none o))
 
 -- one message is awaited on both sides, or on neither
-own_same : (r : Records) (s : State) → Fits r s → IsLawful s → (k : ℕ) (m : Message) → is_own_in r (local s k) m ≡ own_of s k m
-own_same r s f l k m =
+own_same : (r : Records) (s : State) → Fits r s → IsLawful s → (k : ℕ) → was_given s.used k ≡ true → (m : Message) → is_own_in r (local s k) m ≡ own_of s k m
+own_same r s f l k given m =
     let g : GroupNo = m.id.group in
-    (λ j. is_atomic (kind_of m.body) && (proc_eq m.id.proc (local s k) && (current_same r s f l m.id j
-    && (is_member (standing_there r s f k g j) && not (delivered_there j)))))
+    let fresh : Bool = not (has_delivered (s.process k) m.id) in
+    ap (λ b. is_atomic (kind_of m.body) && (proc_eq m.id.proc (local s k) && b))
+    (and_agree (is_current_in r m.id) (is_member (standing_of r.delay (local s k) g) && not (delivered_in r.delay (local s k) m.id)) (is_member (standing_of r.delay (local s k) g) && fresh)
+    (λ is. ap (λ b. is_member (standing_of r.delay (local s k) g) && not b) (delivered_there (current_stands (s.group g) m.id.view (sym (current_same r s f l m.id) ∙ is)))))
+    ∙ (λ j. is_atomic (kind_of m.body) && (proc_eq m.id.proc (local s k) && (current_same r s f l m.id j
+    && (is_member (standing_there r s f k g j) && fresh))))
     ∙ same_tests (is_atomic (kind_of m.body)) (proc_eq m.id.proc (local s k)) (has_view (s.group g)) ((s.group g).number == m.id.view) (m.id.view == (s.group g).number) (is_member ((s.process k).standing g)) (not (has_delivered (s.process k) m.id))
     (l.viewed k g)
     (same_bools ((s.group g).number == m.id.view) (m.id.view == (s.group g).number)
     (λ e. eq-eqb m.id.view (s.group g).number (sym (eqb-true (s.group g).number m.id.view e)))
     (λ e. eq-eqb (s.group g).number m.id.view (sym (eqb-true m.id.view (s.group g).number e))))
   where
-    delivered_there : delivered_in r.delay (local s k) m.id ≡ has_delivered (s.process k) m.id
-    delivered_there =
-        delivered_rules s.config.groups (gate_of s) (process_named s) r.part.kept r.delay f.processes.delay (local s k) m.id
+    delivered_there : (s.group m.id.group).number ≤ m.id.view → delivered_in r.delay (local s k) m.id ≡ has_delivered (s.process k) m.id
+    delivered_there stands =
+        delivered_rules s.config.groups (gate_of s) (process_named s) r.part.kept r.delay f.processes.delay (local s k) m.id (f.processes.admitted k given) stands
         ∙ ap (λ p. has_delivered p m.id) (process_here s k)
 
 -- what is spent passes no test, so that it is enough to look among what is kept
@@ -102,7 +107,7 @@ pub awaits_own_there : (r : Records) (s : State) → Fits r s → IsLawful s →
 awaits_own_there r s f l k given =
     any_message (is_own_in r (local s k)) r.part.kept
     ∙ ap (list_any (is_own_in r (local s k))) f.messages.kept_in
-    ∙ any_same (is_own_in r (local s k)) (own_of s k) (own_same r s f l k) s.kept
+    ∙ any_same (is_own_in r (local s k)) (own_of s k) (own_same r s f l k given) s.kept
     ∙ kept_any (IsSpent s) (own_of s k) (spent_own s k given) s.got s.kept l.spent
 
 -- Messages that are sent
@@ -135,11 +140,12 @@ fits_sent_here r s f l k given i g at content plain member =
         let p : Proc = local s k in
         let there = record_there x s w i g at in
         let m : Message = next_message s g k content in
+        let row = w.processes.admitted k given in
         let now : State = noting_sent s k m in
         let same : sent_here records x i k g content ≡ receive_in (tell_in x p (fact.Time m.times)) m = (λ j.
-        receive_in (tell_in x p (fact.Time (bumped (time_there x s w k j) g p))) (record {
-          id = record { group = g; view = (there j).here.number; proc = p; count = count_in (bumped (time_there x s w k j) g p) g p };
-          times = bumped (time_there x s w k j) g p;
+        receive_in (tell_in x p (fact.Time (bumped (time_there x s w k row j) g p))) (record {
+          id = record { group = g; view = (there j).here.number; proc = p; count = count_in (bumped (time_there x s w k row j) g p) g p };
+          times = bumped (time_there x s w k row j) g p;
           body = content;
         })) in
         subst (λ y. Fits y (receiving now m)) (sym same)

@@ -241,7 +241,7 @@ module _ (g : GroupNo) (n : ℕ) (members : Membership) (request : ℕ) (t : Sta
       let r2 : Records = tell_in r1 p (fact.Standing g Member) in
       let u2 : State = set_standing u1 k g Member in
       let f2 : Fits r2 u2 = fits_told r1 u1 f1 k (still_in p (told_row (fact.Time time)) (λ _. refl) p r.delay.rows row) (fact.Standing g Member) (λ _. listed) in
-      subst (λ x. Fits (push_in (tell_in (tell_in r p (fact.Time (entering x g n))) p (fact.Standing g Member)) k view) (entered (λ j. e j || (k == j)))) (sym (time_there r u f k))
+      subst (λ x. Fits (push_in (tell_in (tell_in r p (fact.Time (entering x g n))) p (fact.Standing g Member)) k view) (entered (λ j. e j || (k == j)))) (sym (time_there r u f k row))
       (subst (λ x. Fits (push_in r2 k view) x) (enter_one e k fresh) (fits_push r2 u2 f2 k view))
 
   -- a process of this site is taken in or not

@@ -148,7 +148,7 @@ module _ (groups : List GroupNo) where
         stable_meant (past_of (receiving s m)) (receive_in r m).acks (fits_taken r s f.0.0 g from m taken).acks m.id (taken_live s g from m taken) (taken_counted s g from m taken);
     is_open = λ r s f k. ap (λ n. was_given n k) (ap (λ c. c.used) f.0.0.core) ∙ sym (f.0.0.opened.all_open k);
     standing = λ r s f k g. ap (λ t. standing_of r.delay (record { site = t; serial = k }) g) (ap (λ c. c.site) f.0.0.core) ∙ standing_there r s f.0.0 k g;
-    time = λ r s f k. ap (λ t. time_of r.delay (record { site = t; serial = k })) (ap (λ c. c.site) f.0.0.core) ∙ time_there r s f.0.0 k;
+    time = λ r s f k given. ap (λ t. time_of r.delay (record { site = t; serial = k })) (ap (λ c. c.site) f.0.0.core) ∙ time_there r s f.0.0 k (f.0.0.processes.admitted k (sym (f.0.0.opened.all_open k) ∙ given));
     awaits_own = λ r s f k given. ap (λ t. awaits_own_in r (record { site = t; serial = k })) (ap (λ c. c.site) f.0.0.core) ∙ awaits_own_there r s f.0.0 f.1 k (sym (f.0.0.opened.all_open k) ∙ given);
     push = λ r s f k p. ((fits_push r s f.0.0 k p, ap (λ c. c.groups) (same_pushing s k p).config ∙ f.0.1), all_lawful.push s f.1 k p);
     note_joining = λ r s f k given g h at number heard. (

@@ -6,6 +6,7 @@ pub mod Logs
 pub mod LogSteps
 pub mod Shares
 pub mod Receipts
+pub mod Rows
 pub mod Standing
 pub mod Ordering
 pub mod Owings

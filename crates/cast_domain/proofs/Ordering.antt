@@ -3,7 +3,7 @@
 use Rattle.std.proofs.Common.{◌≡◌, ℕ, ◌+◌, ◌≤◌, Bool, true, false, cond, not, List, [], ◌∷◌, ◌++◌, length, map, Contains, Option, Some, None, refl, sym, ap, ◌∙◌, inl, inr, arith}
 use Rattle.std.specs.Prelude.{◌*◌, ◌&&◌, ◌⊎◌, nat_lt, nat_le, if◌then◌else◌, filter, slice_get}
 use Rattle.std.specs.List.{find}
-use Rattle.std.specs.Option.{option_map_or}
+use Rattle.std.specs.Option.{option_map_or, IsSome}
 use Rattle.std.proofs.lemmas.Bool.{cases_Bool, false≢true, or_cases, le-leb, lt-ltb, or_right}
 use Rattle.std.proofs.lemmas.List.{length-append, length-map}
 use Rattle.cast_types.specs.declared.names.SiteNo.{SiteNo}
@@ -20,7 +20,7 @@ use Rattle.cast_stable.proofs.Meanings.{upto_meant}
 use Rattle.cast_delay.specs.declared.turn.Turn.{Turn}
 use Rattle.cast_delay.specs.declared.turn.Turn.TheVariants.{Holding, Following}
 use Rattle.cast_delay.specs.Ready.{has_delivered, turn_in}
-use Rattle.cast_delay.specs.Queue.{passed_in}
+use Rattle.cast_delay.specs.Queue.{row_of, passed_in}
 use Rattle.cast_types.proofs.Contains.{contains_here, contains_later}
 use Rattle.cast_delay.proofs.Queues.{passed_next}
 use Rattle.cast_order.specs.Order.{listed_ids, still_to_list, ids_to_list, place_after}
@@ -31,7 +31,7 @@ use Rattle.cast_history.specs.History.{history}
 use Rattle.cast_domain.specs.declared.record.GroupRecord.{GroupRecord}
 use Rattle.cast_model.specs.Group.{holder_of, is_process, members_of}
 use Rattle.cast_model.specs.Home.{is_empty}
-use Rattle.cast_history.specs.State.{State, local, is_group, others_of}
+use Rattle.cast_history.specs.State.{State, local, is_group, gate_of, others_of}
 use Rattle.cast_history.specs.Order.{facts_in, order_of, holds, lists_of, abcasts_delivered, unlisted, unsettled, has_place, has_room_for_order, turn_of}
 use Rattle.cast_domain.specs.Records.{Records}
 use Rattle.cast_domain.specs.Calls.{place_in, record_at, records, holds_in, settled_in, turn_at, turns_in}
@@ -122,18 +122,18 @@ room_there r s f g k here =
     ∙ (λ i. order_room_there r s f i && (nat_lt (unsettled_there s g k l fits here i) MAX_UNSETTLED && nat_lt (total i) MAX_POSITION))
 
 -- the next id that a process has not delivered
-next_there : (r : Records) (s : State) → Fits r s → (g : GroupNo) (k : ℕ) → slice_get (next_in (log_of r.orders g) (local s k)) (passed_in r.delay (local s k) g (s.group g).number (next_in (log_of r.orders g) (local s k))) ≡ find (λ e. not (has_delivered (s.process k) (named g (s.group g).number e))) (order_of s g)
-next_there r s f g k =
+next_there : (r : Records) (s : State) → Fits r s → (g : GroupNo) (k : ℕ) → IsSome (row_of r.delay.rows (local s k)) → slice_get (next_in (log_of r.orders g) (local s k)) (passed_in r.delay (local s k) g (s.group g).number (next_in (log_of r.orders g) (local s k))) ≡ find (λ e. not (has_delivered (s.process k) (named g (s.group g).number e))) (order_of s g)
+next_there r s f g k row =
     let l : Log = log_of r.orders g in
     let p : Proc = local s k in
     let fits = f.orders g in
-    sym (passed_next s.config.groups _ (process_named s) r.part.kept r.delay f.processes.delay p g (s.group g).number (next_in l p))
+    sym (passed_next s.config.groups (gate_of s) (process_named s) r.part.kept r.delay f.processes.delay p g (s.group g).number (next_in l p) row (omega arith))
     ∙ sym (order_next_rules (facts_in s g) (told_here s g) (lists_here s g) (has_passed s g) fits.stable l fits.fits p)
     ∙ ap (λ x. find (λ e. not (has_delivered x (named g (s.group g).number e))) (order_of s g)) (process_here s k)
 
 -- the turn of a process in a group
-pub turn_there : (r : Records) (s : State) → Fits r s → (g : GroupNo) (k : ℕ) → turn_at r (local s k) (record_for s g) ≡ turn_of s k g
-turn_there r s f g k =
+pub turn_there : (r : Records) (s : State) → Fits r s → (g : GroupNo) (k : ℕ) → IsSome (row_of r.delay.rows (local s k)) → turn_at r (local s k) (record_for s g) ≡ turn_of s k g
+turn_there r s f g k row =
     elim (cases_Bool (holds s g k)) [
       | inl here ↦
           ap (λ b. if b then Holding (may_order records r && has_room_in (settled_in r g (s.group g).number (local s k)) (log_of r.orders g)) else following) here
@@ -141,7 +141,7 @@ turn_there r s f g k =
           ∙ sym (ap (λ b. if b then Holding (has_room_for_order s g k) else Following (find (λ e. not (has_delivered (s.process k) (named g (s.group g).number e))) (order_of s g))) here)
       | inr away ↦
           ap (λ b. if b then Holding (may_order records r && has_room_in (settled_in r g (s.group g).number (local s k)) (log_of r.orders g)) else following) away
-          ∙ ap Following (next_there r s f g k)
+          ∙ ap Following (next_there r s f g k row)
           ∙ sym (ap (λ b. if b then Holding (has_room_for_order s g k) else Following (find (λ e. not (has_delivered (s.process k) (named g (s.group g).number e))) (order_of s g))) away)
     ]
   where
@@ -168,13 +168,13 @@ map_map : {A B C : Type 0} (f : A → B) (h : B → C) (xs : List A) → map h (
 map_map f h [] = refl
 map_map f h (x ∷ xs) = ap (λ ys. h (f x) ∷ ys) (map_map f h xs)
 
-pub turns_there : (r : Records) (s : State) → Fits r s → (k : ℕ) (g : GroupNo) → is_group s g ≡ true → turn_in (turns_in r (local s k)) g ≡ turn_of s k g
-turns_there r s f k g listed =
+pub turns_there : (r : Records) (s : State) → Fits r s → (k : ℕ) → IsSome (row_of r.delay.rows (local s k)) → (g : GroupNo) → is_group s g ≡ true → turn_in (turns_in r (local s k)) g ≡ turn_of s k g
+turns_there r s f k row g listed =
     let at : List GroupRecord → Turn = λ xs. option_map_or (λ (t : GroupNo × Turn). t.1) (find (λ t. group_eq t.0 g) (map (λ (x : GroupRecord). (x.name, turn_at r (local s k) x)) xs)) (Following None) in
     ap at f.groups
     ∙ ap (λ ts. option_map_or (λ (t : GroupNo × Turn). t.1) (find (λ t. group_eq t.0 g) ts) (Following None)) (map_map (record_for s) (λ x. (x.name, turn_at r (local s k) x)) s.config.groups)
     ∙ find_turn (λ h. turn_at r (local s k) (record_for s h)) g s.config.groups listed
-    ∙ turn_there r s f g k
+    ∙ turn_there r s f g k row
 
 -- the places that the holder's next set-order message sets
 pub places_there : (r : Records) (s : State) → Fits r s → (g : GroupNo) (k : ℕ) → holds s g k ≡ true → next_places (log_of r.orders g) ≡ (if not (is_empty (unlisted s g k)) && has_place (order_of s g) then Some (record { first = place_after (order_of s g); ids = ids_to_list (unlisted s g k) }) else None)

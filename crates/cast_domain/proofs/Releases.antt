@@ -1,5 +1,5 @@
 -- What a domain's records let go is what the history lets go that they stand for.
-use Rattle.std.proofs.Common.{◌≡◌, ℕ, zero, suc, ◌+◌, ◌<◌, ◌≤◌, Bool, true, false, cond, not, ◌&&◌, ◌||◌, List, [], ◌∷◌, map, Contains, Option, Some, None, unwrap_or, refl, sym, ap, subst, ◌∙◌, inl, inr, arith}
+use Rattle.std.proofs.Common.{◌≡◌, ℕ, zero, suc, ◌+◌, ◌<◌, ◌≤◌, Bool, true, false, cond, not, ◌&&◌, ◌||◌, List, [], ◌∷◌, map, Contains, Some, None, refl, sym, ap, subst, ◌∙◌, inl, inr, arith}
 use Rattle.std.specs.Prelude.{◌==◌, nat_lt, filter}
 use Rattle.std.specs.List.{fold, find, list_any, list_all, range_with_len}
 use Rattle.std.specs.Option.{option_map, option_map_or}
@@ -10,8 +10,6 @@ use Rattle.cast_types.specs.declared.names.GroupNo.{GroupNo}
 use Rattle.cast_types.specs.declared.names.Proc.{Proc}
 use Rattle.cast_types.specs.declared.names.Key.{Key}
 use Rattle.cast_types.specs.declared.names.Uid.{Uid}
-use Rattle.cast_types.specs.Names.{site_eq, proc_eq}
-use Rattle.cast_types.proofs.Orders.{proc_itself}
 use Rattle.cast_message.specs.declared.message.Message.{Message}
 use Rattle.cast_message.specs.declared.message.Received.{Received}
 use Rattle.cast_message.specs.Receipts.{key_eq, messages, message_under}
@@ -19,13 +17,15 @@ use Rattle.cast_delay.specs.declared.row.Row.{Row}
 use Rattle.cast_delay.specs.declared.offered.Offered.{Offered}
 use Rattle.cast_delay.specs.Ready.{Process, Gate, is_member, has_delivered}
 use Rattle.cast_delay.specs.Rows.{standing_in, done_in}
-use Rattle.cast_delay.specs.Queue.{Queue, new_row, row_of, is_awaited}
-use Rattle.cast_delay.specs.Fits.{Fits as QueueFits}
-use Rattle.cast_delay.proofs.Queues.{forget_fits, awaited_by}
+use Rattle.cast_delay.specs.Queue.{Queue, row_of, is_awaited}
+use Rattle.cast_delay.specs.Fits.{HasNotEnded, Fits as QueueFits}
+use Rattle.cast_delay.proofs.Queues.{forget_fits, awaited_by, no_row_is}
+use Rattle.cast_delay.proofs.Turns.{and_agree}
 use Rattle.cast_stable.proofs.Meanings.{stable_meant}
 use Rattle.cast_domain.specs.declared.record.GroupRecord.{GroupRecord}
+use Rattle.cast_model.specs.declared.group.Group.{Group}
 use Rattle.cast_model.specs.Group.{has_view, is_current}
-use Rattle.cast_history.specs.State.{State, local, local_members, gate_of, is_stable}
+use Rattle.cast_history.specs.State.{State, local, local_members, gate_of, is_stable, others_of, is_delivered}
 use Rattle.cast_history.specs.Rest.{is_free, let_go}
 use Rattle.cast_domain.specs.Records.{Records}
 use Rattle.cast_history.specs.Rules.Release as release
@@ -33,61 +33,12 @@ use Rattle.cast_domain.specs.Calls.{place_in, record_at, is_current_in, release_
 use Rattle.cast_history.specs.Lawful.{IsLawful, IsSpent, AreKept}
 use Rattle.cast_domain.specs.Fits.{process_named, Fits, is_live, past_of}
 use Rattle.cast_history.proofs.Totals.{In}
+use Rattle.cast_domain.proofs.Rows.{names_of, serial_of, row_found, row_none}
 use Rattle.cast_domain.proofs.Standing.{orders_same, record_there, place_some, place_none, process_here}
 use Rattle.cast_types.proofs.Bools.{neither}
 use Rattle.cast_domain.proofs.Receipts.{live_now}
 use Rattle.cast_stable.specs.Ledger.{source_of, is_stable_in}
 use Rattle.cast_types.proofs.Contains.{contains_here, contains_later}
-
--- Rows and serials
-
-abbrev pub names_of : List Row → List Proc
-names_of rows = map (λ row. row.process) rows
-
-serial_of : (s : State) (a b : ℕ) → local s a ≡ local s b → a ≡ b
-serial_of s a b same = ap (λ (p : Proc). p.serial) same
-
-other_name : (s : State) (row : Row) (a k : ℕ) → row.process ≡ local s a → a < k → proc_eq row.process (local s k) ≡ false
-other_name s row a k is below =
-    ap (λ p. proc_eq p (local s k)) is
-    ∙ false_from_ne_true (proc_eq (local s a) (local s k)) (λ same. let serials = eqb-true a k (and_parts (site_eq s.here s.here) (a == k) same).1 in absurd (omega (arith, serials, below)))
-
--- where the rows are those of serials in order, each is the first of its process
-pub row_found : (s : State) (rows : List Row) (a n : ℕ) → names_of rows ≡ map (local s) (range_with_len a n) → (row : Row) → In row rows → (k : ℕ) × (a ≤ k) × (row.process ≡ local s k) × (row_of rows (local s k) ≡ Some row)
-row_found s [] a n names row at = absurd at
-row_found s (x ∷ rows) a zero names row at = absurd (no_names names)
-  where
-    no_names : x.process ∷ names_of rows ≡ [] → ⊥
-    no_names e = cc
-row_found s (x ∷ rows) a (suc n) names row (inl here) =
-    let first : x.process ≡ local s a = cc in (
-      a,
-      omega arith,
-      ap (λ (y : Row). y.process) here ∙ first,
-      ap (λ b. cond b (Some x) (row_of rows (local s a))) (ap (λ p. proc_eq p (local s a)) first ∙ proc_itself (local s a)) ∙ ap Some (sym here),
-    )
-row_found s (x ∷ rows) a (suc n) names row (inr there) =
-    let first : x.process ≡ local s a = cc in
-    let rest : names_of rows ≡ map (local s) (range_with_len (a + 1) n) = cc in
-    let found = row_found s rows (a + 1) n rest row there in (
-      found.0,
-      omega (arith, found.1),
-      found.2,
-      ap (λ b. cond b (Some x) (row_of rows (local s found.0))) (other_name s x a found.0 first (omega (arith, found.1))) ∙ found.3,
-    )
-
--- no row is that of a serial that comes later
-pub row_none : (s : State) (rows : List Row) (a n k : ℕ) → names_of rows ≡ map (local s) (range_with_len a n) → a + n ≤ k → row_of rows (local s k) ≡ None
-row_none s [] a n k names past = refl
-row_none s (x ∷ rows) a zero k names past = absurd (no_names names)
-  where
-    no_names : x.process ∷ names_of rows ≡ [] → ⊥
-    no_names e = cc
-row_none s (x ∷ rows) a (suc n) k names past =
-    let first : x.process ≡ local s a = cc in
-    let rest : names_of rows ≡ map (local s) (range_with_len (a + 1) n) = cc in
-    ap (λ b. cond b (Some x) (row_of rows (local s k))) (other_name s x a k first (omega (arith, past)))
-    ∙ row_none s rows (a + 1) n k rest (omega (arith, past))
 
 -- Who awaits a message
 
@@ -95,9 +46,9 @@ abbrev awaits : Uid → Row → Bool
 awaits u row = is_member (standing_in row u.group) && nat_lt (done_in row u.group u.view u.proc) u.count
 
 -- a row awaits what its process is to deliver
-awaits_as : (r : Records) (s : State) → Fits r s → (u : Uid) → 0 < u.count → (row : Row) (k : ℕ) → row_of r.delay.rows (local s k) ≡ Some row → awaits u row ≡ (is_member ((s.process k).standing u.group) && not (has_delivered (s.process k) u))
-awaits_as r s fits u counted row k at =
-    awaited_by s.config.groups (gate_of s) (process_named s) r.part.kept r.delay fits.processes.delay (local s k) row at u counted
+awaits_as : (r : Records) (s : State) → Fits r s → (u : Uid) → HasNotEnded (gate_of s) u.group u.view → 0 < u.count → (row : Row) (k : ℕ) → row_of r.delay.rows (local s k) ≡ Some row → awaits u row ≡ (is_member ((s.process k).standing u.group) && not (has_delivered (s.process k) u))
+awaits_as r s fits u stands counted row k at =
+    awaited_by s.config.groups (gate_of s) (process_named s) r.part.kept r.delay fits.processes.delay (local s k) row at u stands counted
     ∙ ap (λ p. is_member (p.standing u.group) && not (has_delivered p u)) (process_here s k)
 
 one_less : (m d some rest : Bool) (a b : List ℕ) (k : ℕ) (test : ℕ → Bool) → test k ≡ d → not some ≡ list_all test a → not ((m && not d) || some) ≡ list_all test (cond m (k ∷ a) a)
@@ -106,27 +57,27 @@ one_less true false some rest a b k test is same = sym (ap (λ x. x && list_all 
 one_less false d some rest a b k test is same = same
 
 -- no row awaits a message where each local member has delivered it
-awaited_rows : (r : Records) (s : State) → Fits r s → (u : Uid) → 0 < u.count → (rows : List Row) (a n : ℕ) → names_of rows ≡ map (local s) (range_with_len a n) → ((row : Row) → In row rows → (k : ℕ) → row.process ≡ local s k → row_of r.delay.rows (local s k) ≡ Some row) → not (list_any (awaits u) rows) ≡ list_all (λ k. has_delivered (s.process k) u) (filter (λ k. is_member ((s.process k).standing u.group)) (range_with_len a n))
-awaited_rows r s fits u counted [] a zero names at = refl
-awaited_rows r s fits u counted [] a (suc n) names at = absurd (no_names names)
+awaited_rows : (r : Records) (s : State) → Fits r s → (u : Uid) → HasNotEnded (gate_of s) u.group u.view → 0 < u.count → (rows : List Row) (a n : ℕ) → names_of rows ≡ map (local s) (range_with_len a n) → ((row : Row) → In row rows → (k : ℕ) → row.process ≡ local s k → row_of r.delay.rows (local s k) ≡ Some row) → not (list_any (awaits u) rows) ≡ list_all (λ k. has_delivered (s.process k) u) (filter (λ k. is_member ((s.process k).standing u.group)) (range_with_len a n))
+awaited_rows r s fits u stands counted [] a zero names at = refl
+awaited_rows r s fits u stands counted [] a (suc n) names at = absurd (no_names names)
   where
     no_names : [] ≡ local s a ∷ map (local s) (range_with_len (a + 1) n) → ⊥
     no_names e = cc
-awaited_rows r s fits u counted (x ∷ rows) a zero names at = absurd (no_names names)
+awaited_rows r s fits u stands counted (x ∷ rows) a zero names at = absurd (no_names names)
   where
     no_names : x.process ∷ names_of rows ≡ [] → ⊥
     no_names e = cc
-awaited_rows r s fits u counted (x ∷ rows) a (suc n) names at =
+awaited_rows r s fits u stands counted (x ∷ rows) a (suc n) names at =
     let first : x.process ≡ local s a = cc in
     let rest : names_of rows ≡ map (local s) (range_with_len (a + 1) n) = cc in
-    ap (λ b. not (b || list_any (awaits u) rows)) (awaits_as r s fits u counted x a (at x (inl refl) a first))
+    ap (λ b. not (b || list_any (awaits u) rows)) (awaits_as r s fits u stands counted x a (at x (inl refl) a first))
     ∙ one_less (is_member ((s.process a).standing u.group)) (has_delivered (s.process a) u) (list_any (awaits u) rows) true
     (filter (λ k. is_member ((s.process k).standing u.group)) (range_with_len (a + 1) n)) [] a (λ k. has_delivered (s.process k) u) refl
-    (awaited_rows r s fits u counted rows (a + 1) n rest (λ row there. at row (inr there)))
+    (awaited_rows r s fits u stands counted rows (a + 1) n rest (λ row there. at row (inr there)))
 
-pub awaited_same : (r : Records) (s : State) → Fits r s → (u : Uid) → 0 < u.count → not (is_awaited r.delay.rows u) ≡ list_all (λ k. has_delivered (s.process k) u) (local_members s u.group)
-awaited_same r s fits u counted =
-    awaited_rows r s fits u counted r.delay.rows 1 s.used fits.processes.rows
+pub awaited_same : (r : Records) (s : State) → Fits r s → (u : Uid) → HasNotEnded (gate_of s) u.group u.view → 0 < u.count → not (is_awaited r.delay.rows u) ≡ list_all (λ k. has_delivered (s.process k) u) (local_members s u.group)
+awaited_same r s fits u stands counted =
+    awaited_rows r s fits u stands counted r.delay.rows 1 s.used fits.processes.rows
     (λ row there k is.
     let found = row_found s r.delay.rows 1 s.used fits.processes.rows row there in
     let same : found.0 ≡ k = serial_of s found.0 k (sym found.2 ∙ is) in
@@ -138,8 +89,7 @@ unborn r s fits g =
     let p : Proc = local s (s.used + 1) in
     let none = row_none s r.delay.rows 1 s.used (s.used + 1) fits.processes.rows (omega arith) in
     ap (λ q. is_member (q.standing g)) (sym (process_here s (s.used + 1)))
-    ∙ ap is_member (sym ((fits.processes.delay.rows p).standing g))
-    ∙ ap (λ (o : Option Row). is_member (standing_in (unwrap_or o (new_row p)) g)) none
+    ∙ ap is_member (no_row_is r.delay p none s.config.groups (gate_of s) (process_named s) r.part.kept fits.processes.delay g)
 
 -- What is free
 
@@ -151,16 +101,17 @@ current_same r s fits l u =
       | None ↦ λ is. sym (ap (λ b. b && ((s.group u.group).number == u.view)) (false_from_ne_true (has_view (s.group u.group)) (λ seen. false≢true (sym (place_none r s fits u.group is) ∙ l.listed u.group seen))))
     ] refl
 
+-- the current view has not ended
+pub current_stands : (x : Group) (view : ℕ) → is_current x view ≡ true → x.number ≤ view
+current_stands x view is = let same = eqb-true x.number view (and_parts (has_view x) (x.number == view) is).1 in omega (arith, same)
+
 pub free_same : (r : Records) (s : State) → Fits r s → IsLawful s → (u : Uid) → 0 < u.count → (is_current (s.group u.group) u.view ≡ true → is_live s (source_of u) ≡ true) → release.is_free records resting_records r u ≡ is_free s u
 free_same r s fits l u counted live =
-    ap (λ b. b && (is_stable_in r.acks u && not (is_awaited r.delay.rows u))) (current_same r s fits l u)
-    ∙ elim (cases_Bool (is_current (s.group u.group) u.view)) [
-      | inl current ↦ λ i.
-          is_current (s.group u.group) u.view && (stable_meant (past_of s) r.acks fits.acks u (live current) counted i && awaited_same r s fits u counted i)
-      | inr ended ↦
-          ap (λ b. b && (is_stable_in r.acks u && not (is_awaited r.delay.rows u))) ended
-          ∙ sym (ap (λ b. b && (is_stable s u && list_all (λ k. has_delivered (s.process k) u) (local_members s u.group))) ended)
-    ]
+    let current : Bool = is_current (s.group u.group) u.view in
+    let waiting : Bool = not (is_awaited r.delay.rows u) in
+    ap (λ b. b && (is_stable_in r.acks u && waiting)) (current_same r s fits l u)
+    ∙ and_agree current (is_stable_in r.acks u && waiting) (is_stable s u && is_delivered s u)
+    (λ is i. stable_meant (past_of s) r.acks fits.acks u (live is) counted i && awaited_same r s fits u (current_stands (s.group u.group) u.view is) counted i)
 
 -- what is kept was received
 kept_got : (P : Message → Type 0) (got kept : List Message) → AreKept P got kept → (m : Message) → In m kept → Contains got m
@@ -321,6 +272,7 @@ fits_let_go r s fits l =
         delay = forgets keys s.config.groups (gate_of s) (process_named s) r.part.kept r.delay fits.processes.delay;
         admitted = fits.processes.admitted;
         rows = fits.processes.rows;
+        idle = fits.processes.idle;
       };
       acks = fits.acks;
       orders = orders_same s (let_go s) r.orders refl refl refl refl refl refl fits.orders;

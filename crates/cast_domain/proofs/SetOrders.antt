@@ -1,9 +1,8 @@
 -- Set-order messages of the records are those of the history that they stand for.
-use Rattle.std.proofs.Common.{◌≡◌, ℕ, zero, suc, ◌+◌, ◌<◌, ◌≤◌, Bool, true, false, cond, not, List, [], ◌∷◌, map, Option, Some, None, unwrap_or, refl, sym, ap, subst, ◌∙◌, inl, inr, arith}
-use Rattle.std.specs.Prelude.{◌&&◌, ◌==◌, nat_lt, nat_le, if◌then◌else◌, slice_get}
-use Rattle.std.specs.List.{range_with_len}
-use Rattle.std.specs.Option.{option_map_or}
-use Rattle.std.proofs.lemmas.Bool.{cases_Bool, cases_lt, false≢true, false_from_ne_true, and_parts, and_from, ltb-true, lt-ltb, le-leb, eqb-true, eq-eqb}
+use Rattle.std.proofs.Common.{◌≡◌, ℕ, ◌≤◌, Bool, true, false, not, List, Option, Some, None, refl, sym, ap, subst, ◌∙◌, inl, inr, arith}
+use Rattle.std.specs.Prelude.{◌&&◌, ◌==◌, nat_lt, if◌then◌else◌, slice_get, is_some}
+use Rattle.std.specs.Option.{IsSome, option_map_or}
+use Rattle.std.proofs.lemmas.Bool.{cases_Bool, and_parts, and_from, ltb-true, eq-eqb}
 use Rattle.std.proofs.lemmas.Option.{none-some, same_Some}
 use Rattle.cast_types.specs.declared.names.GroupNo.{GroupNo}
 use Rattle.cast_types.specs.declared.names.Proc.{Proc}
@@ -16,11 +15,9 @@ use Rattle.cast_clock.proofs.Raised.{bump_raises}
 use Rattle.cast_message.specs.declared.message.Body.TheVariants as body
 use Rattle.cast_message.specs.declared.message.Message.{Message}
 use Rattle.cast_message.specs.Sequence.{Sequence}
-use Rattle.cast_delay.specs.declared.row.Row.{Row}
 use Rattle.cast_delay.specs.declared.row.Fact.TheVariants as fact
 use Rattle.cast_delay.specs.Ready.{is_member}
-use Rattle.cast_delay.specs.Rows.{standing_in}
-use Rattle.cast_delay.specs.Queue.{new_row, row_of}
+use Rattle.cast_delay.specs.Queue.{row_of}
 use Rattle.cast_order.specs.Log.{Log, log_of, change_log, assigned, next_places}
 use Rattle.cast_history.specs.Rules.Room.{may_order}
 use Rattle.cast_history.specs.History.{history}
@@ -28,7 +25,7 @@ use Rattle.cast_history.specs.Rules.Sending.{send_message, may_raise}
 use Rattle.cast_domain.specs.declared.record.GroupRecord.{GroupRecord}
 use Rattle.cast_model.specs.Group.{holder_of, is_process, holder_at}
 use Rattle.cast_model.specs.Home.{is_empty}
-use Rattle.cast_history.specs.State.{State, local, was_given, noting_sent}
+use Rattle.cast_history.specs.State.{State, local, gate_of, was_given, noting_sent}
 use Rattle.cast_history.specs.Order.{order_of, holds, unlisted, has_place, is_of_view}
 use Rattle.cast_history.specs.Effects.{next_message, sending}
 use Rattle.cast_history.specs.Rest.{set_order_by, let_go}
@@ -39,13 +36,15 @@ use Rattle.cast_domain.specs.Calls.{standing_of, time_of, records, resting_recor
 use Rattle.cast_history.specs.Resting.{places_of}
 use Rattle.cast_history.specs.Rules.Order as order
 use Rattle.cast_history.specs.Lawful.{IsLawful}
-use Rattle.cast_domain.specs.Fits.{record_for, Fits}
+use Rattle.cast_domain.specs.Fits.{process_named, record_for, Fits}
 use Rattle.cast_history.proofs.Alikes.{alike_sending}
 use Rattle.cast_history.proofs.LawfulSteps.{lawful_order_sent}
 use Rattle.cast_domain.proofs.LogSteps.{logs_place}
 use Rattle.cast_domain.proofs.Ordering.{order_room_there, settled_there, settled_of_holder, places_there}
 use Rattle.cast_domain.proofs.Standing.{record_there, process_here, standing_there, time_there, fits_sent}
-use Rattle.cast_domain.proofs.Releases.{row_none, fits_let_go}
+use Rattle.cast_delay.proofs.Queues.{member_admitted}
+use Rattle.cast_domain.proofs.Rows.{row_given}
+use Rattle.cast_domain.proofs.Releases.{fits_let_go}
 use Rattle.cast_domain.proofs.Commands.{next_sound, fits_send_message_with}
 use Rattle.cast_domain.proofs.Turns.{Kept, kept_self, kept_if}
 use Rattle.cast_domain.proofs.Receipts.{live_now}
@@ -54,37 +53,11 @@ use Rattle.cast_stable.specs.Ledger.{source_of}
 
 -- Members
 
--- no row is that of a serial that came before
-row_early : (s : State) (rows : List Row) (a n k : ℕ) → map (λ (row : Row). row.process) rows ≡ map (local s) (range_with_len a n) → k < a → row_of rows (local s k) ≡ None
-row_early s [] a n k names early = refl
-row_early s (x ∷ rows) a zero k names early = absurd (no_names names)
-  where
-    no_names : x.process ∷ map (λ (row : Row). row.process) rows ≡ [] → ⊥
-    no_names e = cc
-row_early s (x ∷ rows) a (suc n) k names early =
-    let first : x.process ≡ local s a = cc in
-    let rest : map (λ (row : Row). row.process) rows ≡ map (local s) (range_with_len (a + 1) n) = cc in
-    let apart : proc_eq x.process (local s k) ≡ false =
-    ap (λ p. proc_eq p (local s k)) first
-    ∙ false_from_ne_true (proc_eq (local s a) (local s k)) (λ same. let serials = eqb-true a k (and_parts (site_eq s.here s.here) (a == k) same).1 in absurd (omega (arith, serials, early))) in
-    ap (λ b. cond b (Some x) (row_of rows (local s k))) apart ∙ row_early s rows (a + 1) n k rest (omega (arith, early))
-
--- who has no row is no member
-no_member : (r : Records) (s : State) → Fits r s → (k : ℕ) (g : GroupNo) → row_of r.delay.rows (local s k) ≡ None → is_member ((s.process k).standing g) ≡ false
-no_member r s f k g none =
-    ap (λ q. is_member (q.standing g)) (sym (process_here s k))
-    ∙ ap is_member (sym ((f.processes.delay.rows (local s k)).standing g))
-    ∙ ap (λ (o : Option Row). is_member (standing_in (unwrap_or o (new_row (local s k))) g)) none
-
 -- a member's serial was given
 pub member_given : (r : Records) (s : State) → Fits r s → (k : ℕ) (g : GroupNo) → is_member ((s.process k).standing g) ≡ true → was_given s.used k ≡ true
-member_given r s f k g member = elim (cases_lt s.used k) [
-  | inl later ↦ absurd (false≢true (sym (no_member r s f k g (row_none s r.delay.rows 1 s.used k f.processes.rows (omega (arith, later)))) ∙ member))
-  | inr within ↦ elim (cases_lt 0 k) [
-    | inl from_one ↦ and_from (nat_lt 0 k) (nat_le k s.used) (lt-ltb 0 k from_one) (le-leb k s.used (omega (arith, within)))
-    | inr none ↦ absurd (false≢true (sym (no_member r s f k g (row_early s r.delay.rows 1 s.used k f.processes.rows (omega (arith, none)))) ∙ member))
-  ]
-]
+member_given r s f k g member =
+    let (row, at) = member_admitted s.config.groups (gate_of s) (process_named s) r.part.kept r.delay f.processes.delay (local s k) g (ap (λ p. is_member (p.standing g)) (process_here s k) ∙ member) in
+    row_given s r.delay.rows s.used k f.processes.rows (ap is_some at)
 
 -- The message
 
@@ -131,13 +104,16 @@ fits_places r s f l k g here member raised q next =
         let below = ltb-true (count_in (s.process k).time g p) MAX_NUMBER (and_parts (nat_lt (count_in (s.process k).time g p) MAX_NUMBER) _ raised).0 in
         subst (λ n. n ≤ MAX_NUMBER) (sym (bump_raises (s.process k).time g p)) (omega (arith, below))
 
+    row : IsSome (row_of r.delay.rows p)
+    row = f.processes.admitted k (member_given r s f k g member)
+
     same : sent_at r p (record_for s g) q ≡ send_message records (tell_in (record r { orders = noted }) p (fact.Time m.times)) m
     same = λ j.
         send_message records
-        (tell_in (record r { orders = change_log g (assigned (count_in (bumped (time_there r s f k j) g p) g p) settled) r.orders }) p (fact.Time (bumped (time_there r s f k j) g p)))
+        (tell_in (record r { orders = change_log g (assigned (count_in (bumped (time_there r s f k row j) g p) g p) settled) r.orders }) p (fact.Time (bumped (time_there r s f k row j) g p)))
         (record {
-          id = record { group = g; view = (s.group g).number; proc = p; count = count_in (bumped (time_there r s f k j) g p) g p };
-          times = bumped (time_there r s f k j) g p;
+          id = record { group = g; view = (s.group g).number; proc = p; count = count_in (bumped (time_there r s f k row j) g p) g p };
+          times = bumped (time_there r s f k row j) g p;
           body = body.Order q;
         })
 
@@ -182,11 +158,22 @@ fits_set_order_by r s f l i g at k here =
     raised : Bool
     raised = may_raise (s.process k).time g p
 
+    -- where the holder may list
+    at_hand : Records
+    at_hand = option_map_or (λ q. if may_raise (time_of r.delay p) g p then release.let_go records resting_records (sent_at r p (record_for s g) q) else r) (next_places (log_in r g)) r
+
     tested : set_at_hand r p (record_for s g) ≡ (if member && room then option_map_or (λ q. if raised then release.let_go records resting_records (sent_at r p (record_for s g) q) else r) (if some && place then Some (places_of s g k) else None) r else r)
-    tested = λ j.
-        if is_member (standing_there r s f k g j) && order_room_there r s f j
-        then option_map_or (λ q. if may_raise (time_there r s f k j) g p then release.let_go records resting_records (sent_at r p (record_for s g) q) else r) (places_there r s f g k here j) r
-        else r
+    tested = elim (cases_Bool member) [
+      | inl is ↦
+          let row = f.processes.admitted k (member_given r s f k g is) in
+          (λ j.
+          if is_member (standing_there r s f k g j) && order_room_there r s f j
+          then option_map_or (λ q. if may_raise (time_there r s f k row j) g p then release.let_go records resting_records (sent_at r p (record_for s g) q) else r) (places_there r s f g k here j) r
+          else r)
+      | inr away ↦
+          ap (λ b. if b && may_order records r then at_hand else r) (ap is_member (standing_there r s f k g) ∙ away)
+          ∙ sym (ap (λ b. if b && room then option_map_or (λ q. if raised then release.let_go records resting_records (sent_at r p (record_for s g) q) else r) (if some && place then Some (places_of s g k) else None) r else r) away)
+    ]
 
     sets : member ≡ true → room ≡ true → some ≡ true → place ≡ true → raised ≡ true → Fits (release.let_go records resting_records (sent_at r p (record_for s g) (places_of s g k))) (let_go (sending s g k (body.Order (places_of s g k))))
     sets a b c d e =

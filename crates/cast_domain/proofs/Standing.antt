@@ -16,6 +16,7 @@ use Rattle.cast_types.specs.Places.{update}
 use Rattle.cast_types.specs.Sets.{is_among, set_at}
 use Rattle.cast_types.specs.Stamps.{ClockList}
 use Rattle.cast_types.proofs.Orders.{same_group, same_site, group_itself, site_itself, proc_itself}
+use Rattle.cast_clock.specs.Times.{no_time}
 use Rattle.cast_clock.proofs.Entries.{option_cases}
 use Rattle.cast_message.specs.declared.message.Message.{Message}
 use Rattle.cast_message.specs.declared.site.SiteFrame.{SiteFrame}
@@ -26,15 +27,16 @@ use Rattle.cast_delay.specs.declared.row.Row.{Row}
 use Rattle.cast_delay.specs.declared.row.Fact.{Fact}
 use Rattle.cast_delay.specs.declared.row.Fact.TheVariants as fact
 use Rattle.cast_delay.specs.Ready.{Process, Gate, is_outside, has_delivered}
-use Rattle.cast_delay.specs.Rows.{standing_in, told_row}
+use Rattle.cast_delay.specs.Rows.{told_row}
 use Rattle.cast_delay.specs.Queue.{new_row, row_of, change_row}
 use Rattle.cast_message.specs.declared.message.Received.{Received}
 use Rattle.cast_message.specs.Receipts.{key_eq, message_under}
 use Rattle.cast_stable.specs.Ledger.{new_ledger, told_ledger, received_ledger}
 use Rattle.cast_stable.specs.Fits.{Fits as AcksFits}
 use Rattle.cast_stable.proofs.Meanings.{new_fits as acks_new_fits, tell_fits as acks_tell_fits, receive_fits as acks_receive_fits}
-use Rattle.cast_delay.specs.Fits.{IsSound, FactFits, Fits as QueueFits, set_process as set_named, told as told_of}
-use Rattle.cast_delay.proofs.Queues.{new_fits, admit_fits, tell_fits, view_fits, offer_fits}
+use Rattle.cast_delay.specs.Fits.{IsSound, HasNotBegun, FactFits, Fits as QueueFits, set_process as set_named, told as told_of}
+use Rattle.cast_delay.proofs.Queues.{new_fits, admit_fits, tell_fits, view_fits, offer_fits, standing_is, time_is}
+use Rattle.cast_delay.proofs.Rows.{some_row}
 use Rattle.cast_delay.proofs.Finds.{find-append_some, find-append_none}
 use Rattle.cast_order.specs.Log.{Log, log_of, but_log}
 use Rattle.cast_order.proofs.Meanings.{new_fits as order_new_fits}
@@ -56,6 +58,7 @@ use Rattle.cast_domain.specs.Calls.{place_among, local_in, place_in, no_record, 
 use Rattle.cast_history.specs.Lawful.{IsLawful}
 use Rattle.cast_domain.specs.Fits.{process_named, record_for, session_in, is_live, past_of, LogFits, Fits}
 use Rattle.cast_domain.proofs.Receipts.{group_same, others_told, past_same, was_live}
+use Rattle.cast_domain.proofs.Rows.{row_given}
 use Rattle.cast_domain.proofs.Logs.{log_alike, settled_same, logs_receive, logs_view}
 use Rattle.cast_history.proofs.Rules.Follows.{choose}
 use Rattle.cast_history.proofs.Spots.{update_own, update_other, push_last, push_other, update_mapped}
@@ -179,22 +182,22 @@ process_set s k v = λ i p. at_name p i
         at_tests (site_eq p.site s.here) (k == p.serial) (s.process p.serial) no_process
         ∙ ap (λ b. if b && (k == p.serial) then v else process_named s p) (site_turned p.site s.here)
 
--- of a process with no row holds what holds of a new row
-row_or : {A : Type 0} (f : Row → A) (o : Option Row) (row : Row) → option_map_or f o (f row) ≡ f (unwrap_or o row)
-row_or f None row = refl
-row_or f (Some x) row = refl
+-- where the process of a serial that was given changes, those without a serial do not begin
+pub still_idle : (s : State) (k : ℕ) (v : Process) → was_given s.used k ≡ true → ((j : ℕ) → was_given s.used j ≡ false → HasNotBegun (process_named s (local s j))) → (j : ℕ) → was_given s.used j ≡ false → HasNotBegun (process_named (set_process s k v) (local s j))
+still_idle s k v given idle j none =
+    subst HasNotBegun (process_here s j ∙ sym (process_here (set_process s k v) j ∙ ap (λ b. if b then v else s.process j) (ne_eqb k j (λ same. false≢true (sym none ∙ ap (was_given s.used) (sym same) ∙ given))))) (idle j none)
 
--- the queue knows the standing and the time of each local process
+-- the queue knows the standing of each local process, and the time of each that was admitted
 pub standing_there : (r : Records) (s : State) → Fits r s → (k : ℕ) (g : GroupNo) → standing_of r.delay (local s k) g ≡ (s.process k).standing g
 standing_there r s fits k g =
-    row_or (λ row. standing_in row g) (row_of r.delay.rows (local s k)) (new_row (local s k))
-    ∙ (fits.processes.delay.rows (local s k)).standing g
+    standing_is r.delay (local s k) g (standing_of r.delay (local s k) g) refl s.config.groups (gate_of s) (process_named s) r.part.kept fits.processes.delay
     ∙ ap (λ (p : Process). p.standing g) (process_here s k)
 
-pub time_there : (r : Records) (s : State) → Fits r s → (k : ℕ) → time_of r.delay (local s k) ≡ (s.process k).time
-time_there r s fits k =
-    row_or (λ row. row.time) (row_of r.delay.rows (local s k)) (new_row (local s k))
-    ∙ (fits.processes.delay.rows (local s k)).time
+pub time_there : (r : Records) (s : State) → Fits r s → (k : ℕ) → IsSome (row_of r.delay.rows (local s k)) → time_of r.delay (local s k) ≡ (s.process k).time
+time_there r s fits k admitted =
+    let (row, at) = some_row (row_of r.delay.rows (local s k)) admitted in
+    ap (λ (o : Option Row). option_map_or (λ x. x.time) o no_time) at
+    ∙ time_is r.delay (local s k) row at s.config.groups (gate_of s) (process_named s) r.part.kept fits.processes.delay
     ∙ ap (λ (p : Process). p.time) (process_here s k)
 
 -- What is sent and pushed
@@ -317,6 +320,7 @@ fits_here r s fits lawful i g at change same seen = record {
     delay = subst (λ gate. QueueFits s.config.groups gate (process_named s) r.part.kept r.delay) (gate_same s g (change (s.group g)) same) fits.processes.delay;
     admitted = fits.processes.admitted;
     rows = fits.processes.rows;
+    idle = fits.processes.idle;
   };
   acks = subst (λ past. AcksFits past r.acks) (past_same s g (change (s.group g)) same seen) fits.acks;
   orders = orders_group s g (change (s.group g)) r.orders same seen fits.orders;
@@ -335,9 +339,10 @@ fits_view r s fits lawful i g at n members newer = record {
     delay = subst (λ h. QueueFits s.config.groups (gate_of (set_group s g (with_view s.here n members (s.group g)))) (process_named s) r.part.kept (record r.delay { numbers = put group_cmp h n r.delay.numbers }))
         (sym (ap (λ (x : GroupRecord). x.name) (record_there r s fits i g at)))
         (subst (λ gate. QueueFits s.config.groups gate (process_named s) r.part.kept (record r.delay { numbers = put group_cmp g n r.delay.numbers })) (gate_told s g (with_view s.here n members (s.group g)))
-        (view_fits s.config.groups (gate_of s) (process_named s) r.part.kept r.delay fits.processes.delay g n));
+        (view_fits s.config.groups (gate_of s) (process_named s) r.part.kept r.delay fits.processes.delay g n (omega (arith, newer))));
     admitted = fits.processes.admitted;
     rows = fits.processes.rows;
+    idle = fits.processes.idle;
   };
   acks = subst (λ others. AcksFits (record (past_of (set_group s g (with_view s.here n members (s.group g)))) { others = others }) (view_in r i n members).acks) (others_told s g (with_view s.here n members (s.group g)))
       (subst (λ l. AcksFits (record (past_of (set_group s g (with_view s.here n members (s.group g)))) { others = set_at group_eq (others_of s) g (other_sites s.here (members_of (with_view s.here n members (s.group g)))) }) l)
@@ -419,6 +424,7 @@ fits_told r s fits k row f ok = record {
         (tell_fits s.config.groups (gate_of s) (process_named s) r.part.kept r.delay fits.processes.delay (local s k) f row ok);
     admitted = λ j was. still_in (local s k) (told_row f) (told_keeps f) (local s j) r.delay.rows (fits.processes.admitted j was);
     rows = same_names (local s k) (told_row f) (told_keeps f) r.delay.rows ∙ fits.processes.rows;
+    idle = still_idle s k (told_of f (s.process k)) (row_given s r.delay.rows s.used k fits.processes.rows row) fits.processes.idle;
   };
   acks = fits.acks;
   orders = orders_process s k (told_of f (s.process k)) r.orders (told_delivered f (s.process k)) fits.orders;
@@ -480,6 +486,7 @@ fits_receive_with r s fits m sound orders logs = record {
     delay = offer_fits s.config.groups (gate_of s) (process_named s) r.part.kept r.delay fits.processes.delay (record { key = record { 0 = r.part.next }; message = m }) sound (fits.messages.fresh r.part.next (omega arith));
     admitted = fits.processes.admitted;
     rows = fits.processes.rows;
+    idle = fits.processes.idle;
   };
   acks = subst (λ ids. AcksFits (record (past_of s) { received = ids }) (received_ledger r.acks m.id)) (sym (map-append (λ (x : Message). x.id) s.got (m ∷ [])))
       (acks_receive_fits (past_of s) r.acks fits.acks m.id);
@@ -497,6 +504,18 @@ given_more : (used k : ℕ) → (used + 1 ≡ k → ⊥) → was_given used k �
 given_more used k other = ap (λ b. nat_lt 0 k && b) (same_bools (nat_le k used) (nat_le k (used + 1))
     (λ e. le-leb k (used + 1) (omega (arith, leb-true k used e)))
     (λ e. le-leb k used (omega (arith, leb-true k (used + 1) e, other))))
+
+-- a serial that is not given after one more was not before, and the next one was not
+given_before : (used k : ℕ) → was_given (used + 1) k ≡ false → was_given used k ≡ false
+given_before used k none = false_from_ne_true (was_given used k) (λ was.
+    let parts = and_parts (nat_lt 0 k) (nat_le k used) was in
+    let within = leb-true k used parts.1 in
+    false≢true (sym none ∙ and_from (nat_lt 0 k) (nat_le k (used + 1)) parts.0 (le-leb k (used + 1) (omega (arith, within)))))
+
+given_later : (used : ℕ) → was_given used (used + 1) ≡ false
+given_later used = false_from_ne_true (was_given used (used + 1)) (λ was.
+    let within = leb-true (used + 1) used (and_parts (nat_lt 0 (used + 1)) (nat_le (used + 1) used) was).1 in
+    omega (arith, within))
 
 last_serial : (n : ℕ) → n + 1 ≡ 1 + n
 last_serial n = omega arith
@@ -521,12 +540,14 @@ fits_open r s fits = record {
   groups = fits.groups;
   messages = fits.messages;
   processes = record {
-    delay = admit_fits s.config.groups (gate_of s) (process_named s) r.part.kept r.delay fits.processes.delay named;
+    delay = admit_fits s.config.groups (gate_of s) (process_named s) r.part.kept r.delay fits.processes.delay named
+        (λ _. subst (λ p. HasNotBegun (process_named s p)) (λ i. record { site = (sym fits.core i).site; serial = (sym fits.core i).used + 1 }) (fits.processes.idle (s.used + 1) (given_later s.used)));
     admitted = admitted_now;
     rows =
         map-append (λ (x : Row). x.process) r.delay.rows (new_row named ∷ [])
         ∙ (λ i. fits.processes.rows i ++ record { site = (fits.core i).site; serial = (ap (λ c. c.used + 1) fits.core ∙ last_serial s.used) i } ∷ [])
         ∙ sym (ap (λ n. map (local s) (range_with_len 1 n)) (one_more s.used) ∙ ap (map (local s)) (range_push 1 s.used) ∙ map-append (local s) (range_with_len 1 s.used) ((1 + s.used) ∷ []));
+    idle = λ k none. fits.processes.idle k (given_before s.used k none);
   };
   acks = fits.acks;
   orders = orders_same s (opening_next s) r.orders refl refl refl refl refl refl fits.orders;
@@ -594,6 +615,7 @@ fits_before here config = record {
     delay = subst (λ ps. QueueFits config.groups (λ g. record { number = 0 }) ps [] (record { numbers = []; offered = []; rows = [] })) (λ i p. idle p i) (new_fits config.groups);
     admitted = λ k was. absurd (false≢true (sym (none_given k) ∙ was));
     rows = refl;
+    idle = λ k none. subst HasNotBegun (idle (record { site = here; serial = k })) (record { time = refl; delivered = refl });
   };
   acks = acks_new_fits here (is_live (before_event (opening here config)));
   orders = λ g. record { stable = 0; reached = omega arith; fits = order_new_fits g (λ p e. has_delivered (process_named (before_event (opening here config)) p) (named g 0 e)); counted = λ x in_it. absurd (omega (arith, in_it.1)) };

@@ -1,25 +1,30 @@
 -- Records that a pass leaves as they are stand for a history at rest.
-use Rattle.std.proofs.Common.{◌≡◌, ℕ, zero, suc, ◌+◌, ◌*◌, Bool, true, false, not, List, [], ◌∷◌, ◌++◌, length, map, Option, Some, None, refl, sym, ap, subst, ◌∙◌, inl, inr, arith}
-use Rattle.std.specs.Prelude.{◌&&◌, ◌==◌, if◌then◌else◌, filter}
+use Rattle.std.proofs.Common.{◌≡◌, ℕ, zero, suc, ◌+◌, ◌*◌, ◌<◌, Bool, true, false, not, List, [], ◌∷◌, ◌++◌, length, map, Option, Some, None, refl, sym, ap, subst, ◌∙◌, inl, inr, arith}
+use Rattle.std.specs.Prelude.{◌&&◌, ◌||◌, ◌==◌, if◌then◌else◌, filter}
 use Rattle.std.specs.List.{fold, find, range_with_len}
+use Rattle.std.proofs.lemmas.Bool.{cases_Bool, cases_lt, and_parts, eqb-true, false_from_ne_true}
 use Rattle.std.proofs.lemmas.List.{append_assoc, append-nil, length-append}
 use Rattle.cast_types.specs.declared.names.GroupNo.{GroupNo}
 use Rattle.cast_types.specs.declared.names.Proc.{Proc}
 use Rattle.cast_types.specs.declared.names.Uid.{Uid}
-use Rattle.cast_types.specs.Names.{group_eq, is_atomic}
+use Rattle.cast_types.specs.Names.{group_eq, uid_eq, is_atomic}
+use Rattle.cast_types.specs.Sets.{is_among}
+use Rattle.cast_types.proofs.Orders.{same_uid}
 use Rattle.cast_types.specs.Repeat.{iterate}
 use Rattle.cast_message.specs.declared.message.Body.{Body}
 use Rattle.cast_message.specs.declared.message.Body.TheVariants as body
 use Rattle.cast_message.specs.declared.message.Message.{Message}
 use Rattle.cast_message.specs.Bodies.{kind_of}
-use Rattle.cast_delay.specs.declared.row.Row.{Row}
-use Rattle.cast_delay.specs.Ready.{has_delivered}
-use Rattle.cast_delay.specs.Fits.{RowFits, row_for}
+use Rattle.cast_delay.specs.Ready.{Process, is_member, has_delivered}
+use Rattle.cast_delay.specs.Queue.{row_of}
+use Rattle.cast_delay.proofs.Listed.{list_any-append}
+use Rattle.cast_delay.proofs.Rows.{some_row}
+use Rattle.cast_delay.proofs.Queues.{delivered_by}
 use Rattle.cast_order.specs.Log.{log_of}
 use Rattle.cast_history.specs.History.{history}
 use Rattle.cast_domain.specs.declared.record.GroupRecord.{GroupRecord}
 use Rattle.cast_model.specs.Group.{holder_at}
-use Rattle.cast_history.specs.State.{State, local, serials}
+use Rattle.cast_history.specs.State.{State, local, serials, gate_of, was_given}
 use Rattle.cast_history.specs.Rules.Requests.{is_home}
 use Rattle.cast_history.specs.Order.{unlisted, is_ready_for}
 use Rattle.cast_history.specs.Effects.{sending, next_message}
@@ -31,19 +36,19 @@ use Rattle.cast_history.specs.Endings.{total, one_if, left, rank, ranks, undeliv
 use Rattle.cast_domain.specs.Records.{Records}
 use Rattle.cast_domain.specs.Fits.{record_for, process_named, Fits}
 use Rattle.cast_history.proofs.Alikes.{alike_sending}
-use Rattle.cast_history.proofs.Settles.{delivering_one, delivers}
+use Rattle.cast_history.proofs.Settles.{Delivers, delivering_one, delivers, ready_causally}
+use Rattle.cast_history.proofs.Spots.{found_passes}
 use Rattle.cast_history.proofs.Rests.{moves_pass}
 use Rattle.cast_history.proofs.Totals.{total_same}
 use Rattle.cast_history.proofs.LawfulSteps.{same_decide}
 use Rattle.cast_domain.proofs.Standing.{process_here}
 use Rattle.cast_domain.proofs.Ordering.{waiting_there}
 use Rattle.cast_domain.proofs.SetOrders.{holder_local}
-use Rattle.cast_types.proofs.Bools.{same_bools}
 
 -- What a pass receives comes last
 
 -- a list goes on as another
-abbrev GoesOn : List Message → List Message → Type 0
+abbrev pub GoesOn : List Message → List Message → Type 0
 GoesOn before after = (more : List Message) × (after ≡ before ++ more)
 
 same_on : (before after : List Message) → after ≡ before → GoesOn before after
@@ -52,54 +57,107 @@ same_on before after same = ([], same ∙ sym (append-nil before))
 on_then : (a b c : List Message) → GoesOn a b → GoesOn b c → GoesOn a c
 on_then a b c (x, first) (y, second) = (x ++ y, second ∙ ap (λ ms. ms ++ y) first ∙ append_assoc a x y)
 
-got_first : (k : ℕ) (s : State) → (deliver_first k s).got ≡ s.got
-got_first k s = got_found (find (is_ready_for s k) s.got)
+-- what a pass leaves: the messages received go on, groups stay in their views, and so does what was delivered of views that ended
+pub record Goes (s t : State) : Type 0 where
+  pub got : GoesOn s.got t.got
+  pub number : (g : GroupNo) → (t.group g).number ≡ (s.group g).number
+  pub ended : (k : ℕ) (u : Uid) → u.view < (s.group u.group).number → has_delivered (t.process k) u ≡ has_delivered (s.process k) u
+
+goes_self : (s : State) → Goes s s
+goes_self s = record { got = same_on s.got s.got refl; number = λ g. refl; ended = λ k u old. refl }
+
+goes_then : (s t x : State) → Goes s t → Goes t x → Goes s x
+goes_then s t x a b = record {
+  got = on_then s.got t.got x.got a.got b.got;
+  number = λ g. b.number g ∙ a.number g;
+  ended = λ k u old. b.ended k u (subst (λ n. u.view < n) (sym (a.number u.group)) old) ∙ a.ended k u old;
+}
+
+goes_fold : {X : Type 0} (f : State → X → State) → ((s : State) (x : X) → Goes s (f s x)) → (xs : List X) (s : State) → Goes s (fold f s xs)
+goes_fold f h [] s = goes_self s
+goes_fold f h (x ∷ xs) s = goes_then s (f s x) (fold f (f s x) xs) (h s x) (goes_fold f h xs (f s x))
+
+or_neither : (a b : Bool) → b ≡ false → (a || (b || false)) ≡ a
+or_neither true b none = refl
+or_neither false b none = ap (λ x. x || false) none
+
+-- what is delivered is of the current view of its group
+goes_delivery : (s : State) (k : ℕ) (m : Message) → is_ready_for s k m ≡ true → Goes s (delivering_one s k m)
+goes_delivery s k m ready = record {
+  got = same_on s.got (delivering_one s k m).got d.got;
+  number = λ g i. (d.group i g).number;
+  ended = λ j u old. ap (is_among uid_eq u) (d.delivered j) ∙ still j u old (k == j) refl;
+}
   where
-    got_found : (o : Option Message) → (elim o as (λ _. State) [ Some m ↦ delivering_one s k m | None ↦ s ]).got ≡ s.got
-    got_found (Some m) = (delivers s k m).got
-    got_found None = refl
+    d : Delivers k m s (delivering_one s k m)
+    d = delivers s k m
 
-got_iterate : (n k : ℕ) (s : State) → (iterate n (deliver_first k) s).got ≡ s.got
-got_iterate zero k s = refl
-got_iterate (suc n) k s = got_iterate n k (deliver_first k s) ∙ got_first k s
+    current : m.id.view ≡ (s.group m.id.group).number
+    current =
+        let a = and_parts (is_member ((s.process k).standing m.id.group)) _ (ready_causally s k m ready) in
+        eqb-true m.id.view (s.group m.id.group).number (and_parts (m.id.view == (s.group m.id.group).number) _ a.1).0
 
-got_settle : (ks : List ℕ) (s : State) → (fold deliver_all s ks).got ≡ s.got
-got_settle [] s = refl
-got_settle (k ∷ ks) s = got_settle ks (deliver_all s k) ∙ got_iterate (length s.got) k s
+    other : (u : Uid) → u.view < (s.group u.group).number → uid_eq u m.id ≡ false
+    other u old = false_from_ne_true (uid_eq u m.id) (λ same.
+        let is = same_uid u m.id same in
+        let view = ap (λ (x : Uid). x.view) is in
+        let number = ap (λ (x : Uid). (s.group x.group).number) is in
+        omega (arith, view, number, old, current))
 
-got_order : (s : State) (g : GroupNo) → GoesOn s.got (set_order s g).got
-got_order s g = held (holder_at s.here (s.group g))
+    still : (j : ℕ) (u : Uid) → u.view < (s.group u.group).number → (b : Bool) → (k == j) ≡ b → is_among uid_eq u (if b then (s.process k).delivered ++ m.id ∷ [] else (s.process j).delivered) ≡ has_delivered (s.process j) u
+    still j u old true same =
+        list_any-append (uid_eq u) (s.process k).delivered (m.id ∷ [])
+        ∙ or_neither (has_delivered (s.process k) u) (uid_eq u m.id) (other u old)
+        ∙ ap (λ i. has_delivered (s.process i) u) (eqb-true k j same)
+    still j u old false differ = refl
+
+goes_first : (k : ℕ) (s : State) → Goes s (deliver_first k s)
+goes_first k s = found (find (is_ready_for s k) s.got) refl
   where
-    sent : (k : ℕ) (content : Body) → GoesOn s.got (sending s g k content).got
-    sent k content = (next_message s g k content ∷ [], (alike_sending s g k content).got)
+    found : (o : Option Message) → find (is_ready_for s k) s.got ≡ o → Goes s (elim o as (λ _. State) [ Some m ↦ delivering_one s k m | None ↦ s ])
+    found (Some m) is = goes_delivery s k m (found_passes (is_ready_for s k) s.got m is)
+    found None is = goes_self s
 
-    held : (o : Option Proc) → GoesOn s.got (elim o as (λ _. State) [ Some p ↦ set_order_by s g p.serial | None ↦ s ]).got
-    held None = same_on s.got s.got refl
+goes_iterate : (n k : ℕ) (s : State) → Goes s (iterate n (deliver_first k) s)
+goes_iterate zero k s = goes_self s
+goes_iterate (suc n) k s = goes_then s (deliver_first k s) (iterate n (deliver_first k) (deliver_first k s)) (goes_first k s) (goes_iterate n k (deliver_first k s))
+
+goes_order : (s : State) (g : GroupNo) → Goes s (set_order s g)
+goes_order s g = held (holder_at s.here (s.group g))
+  where
+    sent : (k : ℕ) (content : Body) → Goes s (let_go (sending s g k content))
+    sent k content = let a = alike_sending s g k content in record {
+      got = (next_message s g k content ∷ [], a.got);
+      number = λ h i. (a.group i h).number;
+      ended = λ j u old. ap (is_among uid_eq u) (a.delivered j);
+    }
+
+    held : (o : Option Proc) → Goes s (elim o as (λ _. State) [ Some p ↦ set_order_by s g p.serial | None ↦ s ])
+    held None = goes_self s
     held (Some p) =
         let content : Body = body.Order (places_of s g p.serial) in
-        subst (λ t. GoesOn s.got t.got) (sym (set_order_is s g p.serial))
-        (elim (may_set_order s g p.serial) as (λ b. GoesOn s.got (if b then let_go (sending s g p.serial content) else s).got) [
+        subst (Goes s) (sym (set_order_is s g p.serial))
+        (elim (may_set_order s g p.serial) as (λ b. Goes s (if b then let_go (sending s g p.serial content) else s)) [
           | true ↦ sent p.serial content
-          | false ↦ same_on s.got s.got refl
+          | false ↦ goes_self s
         ])
 
-got_orders : (gs : List GroupNo) (s : State) → GoesOn s.got (fold set_order s gs).got
-got_orders [] s = same_on s.got s.got refl
-got_orders (g ∷ gs) s = on_then s.got (set_order s g).got (fold set_order (set_order s g) gs).got (got_order s g) (got_orders gs (set_order s g))
+goes_decide : (s : State) (g : GroupNo) → Goes s (decide history s g)
+goes_decide s g = let a = same_decide s g in record {
+  got = same_on s.got (decide history s g).got a.got;
+  number = a.number;
+  ended = λ k u old. ap (λ p. has_delivered p u) (a.process k);
+}
 
-got_decides : (gs : List GroupNo) (s : State) → (fold (decide history) s gs).got ≡ s.got
-got_decides [] s = refl
-got_decides (g ∷ gs) s = got_decides gs (decide history s g) ∙ (same_decide s g).got
+goes_lead : (s : State) → Goes s (lead history s)
+goes_lead s = elim (is_home history s) as (λ b. Goes s (if b then fold (decide history) s s.config.groups else s)) [ true ↦ goes_fold (decide history) goes_decide s.config.groups s | false ↦ goes_self s ]
 
-got_lead : (s : State) → (lead history s).got ≡ s.got
-got_lead s = elim (is_home history s) as (λ b. (if b then fold (decide history) s s.config.groups else s).got ≡ s.got) [ true ↦ got_decides s.config.groups s | false ↦ refl ]
-
-got_pass : (s : State) → GoesOn s.got (pass s).got
-got_pass s =
+goes_pass : (s : State) → Goes s (pass s)
+goes_pass s =
     let t : State = settle s in
     let u : State = set_orders t in
-    on_then s.got t.got (lead history u).got (same_on s.got t.got (got_settle (serials s) s))
-    (on_then t.got u.got (lead history u).got (got_orders t.config.groups t) (same_on u.got (lead history u).got (got_lead u)))
+    goes_then s t (lead history u) (goes_fold deliver_all (λ x k. goes_iterate (length x.got) k x) (serials s) s)
+    (goes_then t u (lead history u) (goes_fold set_order goes_order t.config.groups t) (goes_lead u))
 
 -- what goes on no longer is the same
 no_more : (before after : List Message) → GoesOn before after → length after ≡ length before → after ≡ before
@@ -111,9 +169,9 @@ no_more before after (more, is) same = is ∙ at more (let long = ap length is �
 
 -- Histories of the same messages and records
 
--- they have the same to do
-pub same_to_do : (r : Records) (s t : State) → Fits r s → Fits r t → t.got ≡ s.got → to_do t ≡ to_do s
-same_to_do r s t a b got = λ i. undelivered_same i + ranks_same i + (used_same i + 1) * lists_same i
+-- they have the same to do, where one goes on from the other
+pub same_to_do : (r : Records) (s t : State) → Fits r s → Fits r t → Goes s t → t.got ≡ s.got → to_do t ≡ to_do s
+same_to_do r s t a b goes got = λ i. undelivered_same i + ranks_same i + (used_same i + 1) * lists_same i
   where
     here_same : t.here ≡ s.here
     here_same = sym (ap (λ c. c.site) b.core) ∙ (ap (λ c. c.site) a.core)
@@ -121,18 +179,28 @@ same_to_do r s t a b got = λ i. undelivered_same i + ranks_same i + (used_same 
     used_same : t.used ≡ s.used
     used_same = sym (ap (λ c. c.used) b.core) ∙ (ap (λ c. c.used) a.core)
 
-    -- the same row tells what either process delivered
+    named_same : (k : ℕ) → process_named t (local s k) ≡ t.process k
+    named_same k = ap (λ h. process_named t (record { site = h; serial = k })) (sym here_same) ∙ process_here t k
+
+    -- the same row tells what either process delivered in views that have not ended, and what it delivered before stays; who has no
+    -- serial delivered nothing
     has_same : (k : ℕ) (u : Uid) → has_delivered (t.process k) u ≡ has_delivered (s.process k) u
-    has_same k u =
-        let row : Row = row_for r.delay.rows (local s k) in
-        let now : RowFits (process_named t (local s k)) row = b.processes.delay.rows (local s k) in
-        let was : RowFits (process_named s (local s k)) row = a.processes.delay.rows (local s k) in
-        ap (λ p. has_delivered p u) (sym (process_here t k))
-        ∙ ap (λ h. has_delivered (process_named t (record { site = h; serial = k })) u) here_same
-        ∙ same_bools (has_delivered (process_named t (local s k)) u) (has_delivered (process_named s (local s k)) u)
-        (λ e. (was.counts u).1 ((now.counts u).0 e))
-        (λ e. (now.counts u).1 ((was.counts u).0 e))
-        ∙ ap (λ p. has_delivered p u) (process_here s k)
+    has_same k u = elim (cases_Bool (was_given s.used k)) [
+      | inl given ↦ elim (cases_lt u.view (s.group u.group).number) [
+        | inl old ↦ goes.ended k u old
+        | inr stands ↦
+            let (row, at) = some_row (row_of r.delay.rows (local s k)) (a.processes.admitted k given) in
+            let number = goes.number u.group in
+            ap (λ p. has_delivered p u) (sym (named_same k))
+            ∙ sym (delivered_by t.config.groups (gate_of t) (process_named t) r.part.kept r.delay b.processes.delay (local s k) row at u (omega (arith, stands, number)))
+            ∙ delivered_by s.config.groups (gate_of s) (process_named s) r.part.kept r.delay a.processes.delay (local s k) row at u (omega (arith, stands))
+            ∙ ap (λ p. has_delivered p u) (process_here s k)
+      ]
+      | inr none ↦
+          let now : (t.process k).delivered ≡ [] = ap (λ (p : Process). p.delivered) (sym (process_here t k)) ∙ (b.processes.idle k (ap (λ n. was_given n k) used_same ∙ none)).delivered in
+          let was : (s.process k).delivered ≡ [] = ap (λ (p : Process). p.delivered) (sym (process_here s k)) ∙ (a.processes.idle k none).delivered in
+          ap (is_among uid_eq u) (now ∙ sym was)
+    ]
 
     left_same : (k : ℕ) (got : List Message) → left (t.process k).delivered got ≡ left (s.process k).delivered got
     left_same k [] = refl
@@ -199,6 +267,7 @@ pub still_pass : (r : Records) (s : State) → Fits r s → Fits r (pass s) → 
 still_pass r s before after = elim (moves_pass s).way [
   | inl same ↦ same
   | inr less ↦
-      let got : (pass s).got ≡ s.got = no_more s.got (pass s).got (got_pass s) (sym after.messages.counted ∙ before.messages.counted) in
-      let same = same_to_do r s (pass s) before after got in absurd (omega (arith, less, same))
+      let goes : Goes s (pass s) = goes_pass s in
+      let got : (pass s).got ≡ s.got = no_more s.got (pass s).got goes.got (sym after.messages.counted ∙ before.messages.counted) in
+      let same = same_to_do r s (pass s) before after goes got in absurd (omega (arith, less, same))
 ]

@@ -50,7 +50,7 @@ use Rattle.cast_history.proofs.LawfulSteps.{lawful_first}
 use Rattle.cast_domain.proofs.Releases.{fits_let_go}
 use Rattle.cast_delay.proofs.Finds.{found_in}
 use Rattle.cast_types.proofs.Iterates.{iterate_still}
-use Rattle.cast_domain.proofs.Standing.{fits_push, process_here, named_set, still_in, same_names}
+use Rattle.cast_domain.proofs.Standing.{fits_push, process_here, named_set, still_in, same_names, still_idle}
 
 -- What the turns leave as it is
 
@@ -156,11 +156,13 @@ fits_turn r s fits l k given key m under ready = record {
     delay = delay_now;
     admitted = λ j was. still_after r.delay.offered (local s k) key (local s j) r.delay.rows (fits.processes.admitted j was);
     rows = names_after r.delay.offered (local s k) key r.delay.rows ∙ fits.processes.rows;
+    idle = still_idle s k (delivering_to m (s.process k)) given fits.processes.idle;
   };
   acks = fits.acks;
   orders = logs_deliver s k m (passing r s k key m) r.orders l.traced fits.orders (ready_new s k m ready) (ready_current s k m ready)
       (subst (λ v. find (λ e. not (has_delivered (process_named (with_delivery s k m) (local s k)) (named m.id.group v e))) (take (passing r s k key m) ids) ≡ None) view
-      (passed_delivered s.config.groups (gate_of s) (process_named (with_delivery s k m)) r.part.kept (turned r s k key m).delay delay_now (local s k) m.id.group m.id.view ids));
+      (passed_delivered s.config.groups (gate_of s) (process_named (with_delivery s k m)) r.part.kept (turned r s k key m).delay delay_now (local s k) m.id.group m.id.view ids
+      (still_after r.delay.offered (local s k) key (local s k) r.delay.rows (fits.processes.admitted k given)) (omega (arith, view))));
   frames = fits.frames;
   delivered = (λ i. fits.delivered i ++ ((fits.core i).config.domain, local s k, m.id) ∷ []) ∙ sym (map-append (λ (x : Proc × Uid). (s.config.domain, x.0, x.1)) s.deliveries ((local s k, m.id) ∷ []));
 }
@@ -245,7 +247,7 @@ fits_first r s fits l k given =
   where
     -- the turns of the groups that it is a member of
     turns : HasTurns (process_named s (local s k)) (turns_in r (local s k)) (turn_of s k)
-    turns g member = turns_there r s fits k g (l.known k g (ap is_outside (only_member ((s.process k).standing g) (ap (λ p. is_member (p.standing g)) (sym (process_here s k)) ∙ member))))
+    turns g member = turns_there r s fits k (fits.processes.admitted k given) g (l.known k g (ap is_outside (only_member ((s.process k).standing g) (ap (λ p. is_member (p.standing g)) (sym (process_here s k)) ∙ member))))
 
     found_is : first_ready s.config.groups (gate_of s) (turn_of s k) (process_named s (local s k)) (messages r.part.kept) ≡ find (is_ready_for s k) s.got
     found_is = (λ i. find (is_ready s.config.groups (gate_of s) (turn_of s k) (process_here s k i)) (fits.messages.kept_in i)) ∙ sym (ready_kept s k given l)

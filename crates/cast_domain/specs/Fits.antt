@@ -1,5 +1,5 @@
 -- When a domain's records stand for a history.
-use Rattle.std.specs.Prelude.{◌≡◌, ℕ, zero, suc, ◌≤◌, Bool, ◌&&◌, ◌||◌, ◌==◌, true, nat_lt, if◌then◌else◌, List, [], length, map, Contains, slice_get, unwrap_or, None}
+use Rattle.std.specs.Prelude.{◌≡◌, ℕ, zero, suc, ◌≤◌, Bool, ◌&&◌, ◌||◌, ◌==◌, true, nat_lt, if◌then◌else◌, List, [], length, map, Contains, slice_get, unwrap_or, None, false}
 use Rattle.std.specs.Option.{IsSome, option_map_or}
 use Rattle.std.specs.List.{range_with_len}
 use Rattle.cast_types.specs.declared.names.DomainNo.{DomainNo}
@@ -10,7 +10,7 @@ use Rattle.cast_types.specs.declared.limits.TheConstants.{MAX_NUMBER}
 use Rattle.cast_types.specs.Names.{Entry, site_eq, named}
 use Rattle.cast_delay.specs.Ready.{Process, Gate, has_delivered}
 use Rattle.cast_delay.specs.Queue.{Queue, row_of}
-use Rattle.cast_delay.specs.Fits.{Fits as QueueFits}
+use Rattle.cast_delay.specs.Fits.{HasNotBegun, Fits as QueueFits}
 use Rattle.cast_message.specs.Receipts.{messages, message_under}
 use Rattle.cast_message.specs.declared.message.Message.{Message}
 use Rattle.cast_message.specs.declared.message.Received.{Received}
@@ -120,11 +120,12 @@ pub record MessagesFit (received : List Received) (next : ℕ) (kept got : List 
   pub fresh : (n : ℕ) → next ≤ n → message_under received (record { 0 = n }) ≡ None
   pub counted : next ≡ length got
 
--- processes and what they await; the queue has one row for each serial
+-- processes and what they await; the queue has one row for each serial, and a process without a serial has not begun
 pub record ProcessesFit (s : SiteNo) (used : ℕ) (groups : List GroupNo) (gate : GroupNo → Gate) (processes : Proc → Process) (received : List Received) (q : Queue) : Type 0 where
   pub delay : QueueFits groups gate processes received q
   pub admitted : (k : ℕ) → was_given used k ≡ true → IsSome (row_of q.rows (record { site = s; serial = k }))
   pub rows : map (λ row. row.process) q.rows ≡ map (λ k. record { site = s; serial = k }) (range_with_len 1 used)
+  pub idle : (k : ℕ) → was_given used k ≡ false → HasNotBegun (processes (record { site = s; serial = k }))
 
 -- the records stand for the state
 pub record Fits (r : Records) (s : State) : Type 0 where

@@ -59,7 +59,7 @@ module _ {R S H K : Type 0} (a : Site R H) (b : Site S K) (fits : R → S → Ty
       at_place : (h : H) (l : K) → stands h l → b.place s g ≡ Some l → Attempts (join_at a r k g h) (join_at b s k g l)
       at_place h l at there =
           let group = all.follows.group r s f h l at in
-          let time = all.time r s f k in
+          let time = all.time r s f k given in
           let here = all.follows.here r s f in
           let number : ℕ = (b.group s l).asked + 1 in
           let heard : ℕ = view_of (b.time s k) g in
@@ -87,7 +87,7 @@ module _ {R S H K : Type 0} (a : Site R H) (b : Site S K) (fits : R → S → Ty
           let now : fits t u = all.sends r s f h l at k g content sent in
           let id : Uid = (message_sent b s k g l content).id in
           let group = all.follows.group r s f h l at in
-          let time = all.time r s f k in
+          let time = all.time r s f k given in
           let here = all.follows.here r s f in
           let same : (message_sent a r k g h content).id ≡ id = (λ j. record {
             group = g;
@@ -103,7 +103,7 @@ module _ {R S H K : Type 0} (a : Site R H) (b : Site S K) (fits : R → S → Ty
       at_place : (h : H) (l : K) → stands h l → b.place s g ≡ Some l → Attempts (cast_at a r k g kind payload h) (cast_at b s k g kind payload l)
       at_place h l at there =
           let here = all.follows.here r s f in
-          let time = all.time r s f k in
+          let time = all.time r s f k given in
           let standing = all.standing r s f k g in
           choose Attempts (nat_lt MAX_PAYLOAD (length payload)) (nat_lt MAX_PAYLOAD (length payload)) (r, Some TooLong) _ (s, Some TooLong) _ refl
           (λ _. (f, refl))

@@ -120,7 +120,7 @@ pub record FollowsAll {R S H K : Type 0} (a : Site R H) (b : Site S K) (fits : R
   pub is_stable : (r : R) (s : S) → fits r s → (k : K) (from : SiteNo) (m : Message) → IsTaken b s k from m → a.is_stable (a.receive r m) m.id ≡ b.is_stable (b.receive s m) m.id
   pub is_open : (r : R) (s : S) → fits r s → (k : ℕ) → a.is_open r k ≡ b.is_open s k
   pub standing : (r : R) (s : S) → fits r s → (k : ℕ) (g : GroupNo) → a.standing r k g ≡ b.standing s k g
-  pub time : (r : R) (s : S) → fits r s → (k : ℕ) → a.time r k ≡ b.time s k
+  pub time : (r : R) (s : S) → fits r s → (k : ℕ) → b.is_open s k ≡ true → a.time r k ≡ b.time s k
   pub awaits_own : (r : R) (s : S) → fits r s → (k : ℕ) → b.is_open s k ≡ true → a.awaits_own r k ≡ b.awaits_own s k
   pub push : (r : R) (s : S) → fits r s → (k : ℕ) (p : Push) → fits (a.push r k p) (b.push s k p)
   pub note_joining : (r : R) (s : S) → fits r s → (k : ℕ) → b.is_open s k ≡ true → (g : GroupNo) (h : K) → b.place s g ≡ Some h → (number heard : ℕ) → fits (a.note_joining r k g number heard) (b.note_joining s k g number heard)
@@ -251,7 +251,7 @@ follows_itself_in_all d holds keeps = record {
   is_stable = λ r s f k from m taken. λ i. d.is_stable (d.receive (f.0 i) m) m.id;
   is_open = λ r s f k. λ i. d.is_open (f.0 i) k;
   standing = λ r s f k g. λ i. d.standing (f.0 i) k g;
-  time = λ r s f k. λ i. d.time (f.0 i) k;
+  time = λ r s f k given. λ i. d.time (f.0 i) k;
   awaits_own = λ r s f k given. λ i. d.awaits_own (f.0 i) k;
   push = λ r s f k p. (λ i. d.push (f.0 i) k p, keeps.push s f.1 k p);
   note_joining = λ r s f k given g h at number heard. (λ i. d.note_joining (f.0 i) k g number heard, keeps.note_joining s f.1 k given g h at number heard);
