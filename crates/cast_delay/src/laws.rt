@@ -12,8 +12,8 @@ pub fn readiness_is_the_rule_in_words()
 
 /// By what the queue keeps, a message is ready for a process, causally and with the turns of its groups, exactly if the
 /// delivery rule over all that the process delivered says so, and the queue names the first message in order of receipt
-/// that is ready; a process awaits a message exactly if it is a member of its group that has not delivered it; and it
-/// has delivered a message exactly if that is among what it delivered.
+/// that is ready. Of a message of a view that has not ended: a process awaits it exactly if it is a member of its group
+/// that has not delivered it, and has delivered it exactly if it is among what it delivered.
 pub fn queue_means_the_rule()
     ensures row { RowMeansTheRule }
     ensures turn { TurnMeansTheRule }
@@ -22,8 +22,9 @@ pub fn queue_means_the_rule()
     ensures delivered { DeliveredIsTheRule }
 {}
 
-/// What each call does to the queue it does to what the queue means: a process takes in a fact, a group has a view of
-/// another number, a message is received, one is let go, and a process delivers a message that is causally ready for it.
+/// What each call does to the queue it does to what the queue means: a process that has not begun is admitted, one takes
+/// in a fact, a group has a later view, a message is received, one is let go, and a process delivers a message that is
+/// causally ready for it.
 pub fn queue_keeps_its_meaning()
     ensures new { NewFits }
     ensures admit { AdmitKeepsMeaning }

@@ -120,7 +120,7 @@ pub record MessagesFit (received : List Received) (next : ℕ) (kept got : List 
   pub fresh : (n : ℕ) → next ≤ n → message_under received (record { 0 = n }) ≡ None
   pub counted : next ≡ length got
 
--- processes and what they await; the queue has one row for each serial, and a process without a serial has not begun
+-- processes and what they await; the queue has one row for each serial that was given, and the process of another one has not begun
 pub record ProcessesFit (s : SiteNo) (used : ℕ) (groups : List GroupNo) (gate : GroupNo → Gate) (processes : Proc → Process) (received : List Received) (q : Queue) : Type 0 where
   pub delay : QueueFits groups gate processes received q
   pub admitted : (k : ℕ) → was_given used k ≡ true → IsSome (row_of q.rows (record { site = s; serial = k }))
