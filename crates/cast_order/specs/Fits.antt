@@ -12,7 +12,8 @@ use Rattle.cast_order.specs.Log.{Log, length_of, place_of, ids_above}
 -- the log tells of these facts; of these ABCASTs that the holder here delivered in the view, in its order; of these
 -- set-order messages of its, of which those up to a count were stable when the last one was made; and of what each
 -- local process that goes on through the order delivered. The last ids, as many as a tail has, are never forgotten
-pub record Fits (facts : Facts) (delivered : List Entry) (listed : Listing) (goes_on : Proc → Bool) (has_passed : Proc → Entry → Bool) (stable : ℕ) (l : Log) : Type 0 where
+pub record Fits (facts : Facts) (delivered : List Entry) (listed : Listing) (goes_on : Proc → Bool) (has_passed : Proc → Entry → Bool)
+    (stable : ℕ) (l : Log) : Type 0 where
   pub window : l.window ≡ drop l.base (known_order facts)
   pub forgotten : l.base ≤ length (known_order facts) - MAX_TAIL
   pub later : (place : ℕ) → length_of l < place → place ≤ MAX_POSITION → id_at l.later place ≡ id_at facts place

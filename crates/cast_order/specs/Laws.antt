@@ -146,7 +146,8 @@ TellKeepsClosed =
 -- from where a process stands on, the first id that it has not delivered is that of the whole closed order
 abbrev pub NextIsOfTheClosed : Type 0
 NextIsOfTheClosed =
-    (order : List Entry) (goes_on : Proc → Bool) (has_passed : Proc → Entry → Bool) (l : Log) → FitsClosed order goes_on has_passed l → (p : Proc) → goes_on p ≡ true
+    (order : List Entry) (goes_on : Proc → Bool) (has_passed : Proc → Entry → Bool) (l : Log) → FitsClosed order goes_on has_passed l
+    → (p : Proc) → goes_on p ≡ true
     → next_of (has_passed p) order ≡ next_of (has_passed p) (next_in l p)
 
 -- a change of one group's log, which keeps the group that it is of, changes no other

@@ -11,10 +11,10 @@ use Rattle.cast_message.specs.Sequence.{Sequence}
 use Rattle.cast_order.specs.Order.{Facts, facts_of, id_at, order_from, ids_to_list}
 
 -- base: how many of the first ids known are forgotten; window: the ids known behind them; later: facts of places past a
--- gap, in order of receipt; places: how many of the first ids known each local process has passed, none where it has
--- passed no more than is forgotten; waiting: ABCASTs that the holder here delivered and has not listed, in its order;
--- lists: its set-order messages that were not stable when the last one was made, each by its count and how many ids;
--- closed: whether the order is closed, so that nothing more is learnt
+-- gap, in order of receipt; places: how many of the first ids known local processes have passed, each at least those that
+-- are forgotten; waiting: ABCASTs that the holder here delivered and has not listed, in its order; lists: its set-order
+-- messages that were not stable when the last one was made, each by its count and how many ids; closed: whether the order
+-- is closed, so that nothing more is learnt
 pub record Log : Type 0 where
   pub group : GroupNo
   pub base : ℕ
@@ -28,7 +28,7 @@ pub record Log : Type 0 where
 abbrev pub new_log : GroupNo → Log
 new_log g = record { group = g; base = 0; window = []; later = []; places = []; waiting = []; lists = []; closed = false }
 
--- how many ids are known
+-- how many ids are known, with those that are forgotten
 abbrev pub length_of : Log → ℕ
 length_of l = l.base + length l.window
 
@@ -66,9 +66,13 @@ abbrev pub with_facts : ℕ → Facts → Facts → Facts
 with_facts known facts [] = facts
 with_facts known facts (f ∷ more) = with_facts known (with_fact known facts f.0 f.1) more
 
+-- ids that stand behind so many, with what facts tell of the places behind them
+abbrev pub with_next : ℕ → List Entry → Facts → List Entry
+with_next base ids facts = ids ++ order_from (MAX_POSITION - (base + length ids)) (base + length ids + 1) facts
+
 -- the ids kept of the order known with what later facts add to them, and the facts past a place
 abbrev pub longer : Log → List Entry
-longer l = l.window ++ order_from (MAX_POSITION - length_of l) (length_of l + 1) l.later
+longer l = with_next l.base l.window l.later
 
 abbrev pub past : ℕ → Facts → Facts
 past known facts = filter (λ f. nat_lt known f.0) facts

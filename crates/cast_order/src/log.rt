@@ -1,9 +1,8 @@
-ghost use Rattle.std.specs.Prelude.{◌≡◌, ◌+◌, ◌-◌, ◌++◌, min, max, nat_lt, filter, length, take, drop, OnOk, IfOk};
+ghost use Rattle.std.specs.Prelude.{◌≡◌, ◌+◌, min, nat_lt, filter, take, drop, OnOk, IfOk};
 ghost use Rattle.std.specs.List.{enumerate_from};
 ghost use Rattle.cast_types.specs.Counts.{is_within};
-ghost use Rattle.cast_types.specs.declared.limits.TheConstants.{MAX_POSITION};
-ghost use Rattle.cast_order.specs.Order.{id_at, order_from};
-ghost use Rattle.cast_order.specs.Log.{length_of, new_log, with_fact, with_facts, past, settled, learnt, place_of, next_in, passed, told, waits_in, next_places, assigned, ids_above, has_room_in, tail_start_in, tail_ids_in, closed_by, forgot};
+ghost use Rattle.cast_order.specs.Order.{id_at};
+ghost use Rattle.cast_order.specs.Log.{length_of, new_log, with_fact, with_facts, with_next, past, settled, learnt, place_of, next_in, passed, told, waits_in, next_places, assigned, ids_above, has_room_in, tail_start_in, tail_ids_in, closed_by, forgot};
 
 use cast_message::{Placement, Tail};
 use cast_types::limits::{MAX_PLACED, MAX_POSITION, MAX_TAIL, MAX_UNSETTLED};
@@ -273,7 +272,7 @@ fn extend(
     base: u32,
     facts: &[(usize, (Proc, u32))],
 ) -> Result<(), NoMemory>
-    ensures { OnOk result (window.new.items ≡ window.old.items ++ order_from (MAX_POSITION - (base + length window.old.items)) (base + length window.old.items + 1) facts.now) }
+    ensures { OnOk result (window.new.items ≡ with_next base window.old.items facts.now) }
 {
     for place in base as usize + window.len() + 1..MAX_POSITION as usize + 1 {
         let Some(id) = id_at(facts, place) else {
