@@ -329,8 +329,8 @@ tail_rules facts delivered listed goes_on has_passed stable l fits =
     let at : l.base + (tail_start_in l - l.base) ≡ tail_start order = omega (arith, start) in (
       start,
       ap (drop (tail_start_in l - l.base)) (whole_rules facts delivered listed goes_on has_passed stable l fits)
-      ∙ drop-drop (tail_start_in l - l.base) l.base order
-      ∙ ap (λ k. drop k order) at,
+          ∙ drop-drop (tail_start_in l - l.base) l.base order
+          ∙ ap (λ k. drop k order) at,
     )
 
 -- First ids are forgotten

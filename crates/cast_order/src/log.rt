@@ -83,7 +83,8 @@ impl OrderLog {
         ensures { OnOk result (self.new ≡ closed_by (is_within cut.now) tail.now.start tail.now.ids self.old) }
     {
         let start = tail.start();
-        self.window.truncate(start.saturating_sub(self.base) as usize);
+        let kept = start.saturating_sub(self.base) as usize;
+        self.window.truncate(kept);
         self.window.extend_from_slice(tail.ids())?;
         keep_within(&mut self.window, cut);
         self.base = self.base.min(start);
@@ -179,7 +180,8 @@ impl OrderLog {
         ensures { result ≡ has_room_in stable self.now }
     {
         let unsettled = unsettled(self.waiting.len(), &self.lists, stable);
-        unsettled < MAX_UNSETTLED && self.length().saturating_add(self.waiting.len()) < MAX_POSITION as usize
+        unsettled < MAX_UNSETTLED
+            && self.length().saturating_add(self.waiting.len()) < MAX_POSITION as usize
     }
 
     /// How many ids stand before the tail of the whole order, and its ids, as far as they are kept.
