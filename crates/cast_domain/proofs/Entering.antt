@@ -1,5 +1,5 @@
 -- Processes enter a view one by one, and in the history at once.
-use Rattle.std.proofs.Common.{◌≡◌, ℕ, zero, suc, ◌+◌, ◌<◌, ◌≤◌, Bool, true, false, ◌&&◌, ◌||◌, List, [], ◌∷◌, Option, Some, None, ◌⊎◌, refl, sym, ap, subst, ◌∙◌, inl, inr, arith}
+use Rattle.std.proofs.Common.{◌≡◌, ℕ, zero, suc, ◌+◌, ◌-◌, ◌<◌, ◌≤◌, Bool, true, false, ◌&&◌, ◌||◌, List, [], ◌∷◌, length, Option, Some, None, ◌⊎◌, refl, sym, ap, subst, ◌∙◌, inl, inr, arith}
 use Rattle.std.specs.Prelude.{◌==◌, nat_lt, nat_le, if◌then◌else◌, filter, slice_get}
 use Rattle.std.specs.List.{fold, list_any, list_all, range_with_len}
 use Rattle.std.specs.Option.{IsSome, option_map_or}
@@ -11,8 +11,9 @@ use Rattle.cast_types.specs.declared.names.Proc.{Proc}
 use Rattle.cast_types.specs.declared.names.Standing.{Standing}
 use Rattle.cast_types.specs.declared.names.Standing.TheVariants.{Outside, Joining, Member}
 use Rattle.cast_types.specs.Names.{site_eq, group_eq, proc_eq, proc_cmp}
+use Rattle.cast_types.specs.Places.{update}
 use Rattle.cast_types.specs.Sets.{is_among, set_at}
-use Rattle.cast_types.proofs.Orders.{proc_total, same_site, same_proc, site_itself, proc_itself}
+use Rattle.cast_types.proofs.Orders.{proc_total, group_itself, same_site, same_proc, site_itself, proc_itself}
 use Rattle.cast_clock.specs.Times.{entering}
 use Rattle.cast_types.specs.Counts.{CountList}
 use Rattle.cast_message.specs.declared.client.Push.{Push}
@@ -25,6 +26,8 @@ use Rattle.cast_delay.specs.Ready.{Process, is_outside}
 use Rattle.cast_delay.specs.Rows.{standing_in, told_row}
 use Rattle.cast_delay.specs.Queue.{row_of}
 use Rattle.cast_domain.specs.declared.record.GroupRecord.{GroupRecord}
+use Rattle.cast_order.specs.Log.{new_log, log_of, but_log}
+use Rattle.cast_order.proofs.Logs.{log_of_forget}
 use Rattle.cast_model.specs.declared.session.Session.{Session}
 use Rattle.cast_model.specs.Session.{is_open, pushed_to, told}
 use Rattle.cast_model.specs.Group.{with_view, is_taken_in}
@@ -32,10 +35,10 @@ use Rattle.cast_history.specs.Acts.{Act}
 use Rattle.cast_history.specs.State.{State, local, serials, is_group, set_session, set_process, set_group, set_standing, was_given, pushing}
 use Rattle.cast_history.specs.Entering.{enters, in_view, push_view, completing, all_in_view}
 use Rattle.cast_domain.specs.Records.{Records}
-use Rattle.cast_domain.specs.Calls.{record_at, standing_of, push_in, tell_in, enter_in, take_in, view_in, complete_in}
+use Rattle.cast_domain.specs.Calls.{record_at, standing_of, time_of, push_in, tell_in, enter_in, take_in, view_in, complete_in}
 use Rattle.cast_history.specs.Lawful.{IsLawful}
 use Rattle.cast_domain.specs.Fits.{Fits}
-use Rattle.cast_domain.proofs.Standing.{fits_told, fits_if, record_there, standing_there, time_there, fits_push, fits_view, still_in, fits_acts}
+use Rattle.cast_domain.proofs.Standing.{fits_told, fits_member, fits_if, record_there, standing_there, time_there, fits_push, fits_view, still_in, fits_acts}
 use Rattle.cast_types.proofs.Bools.{and_none}
 
 -- Small truths of tests
@@ -227,9 +230,23 @@ module _ (g : GroupNo) (n : ℕ) (members : Membership) (request : ℕ) (t : Sta
   standing_now : (r : Records) (e : ℕ → Bool) → Fits r (entered e) → (k : ℕ) → e k ≡ false → standing_of r.delay (local t k) g ≡ (t.process k).standing g
   standing_now r e f k fresh = standing_there r (entered e) f k g ∙ ap (λ b. (if b then in_view g n (t.process k) else t.process k).standing g) fresh
 
+  -- what is kept of orders stays
+  push_orders : (r : Records) (k : ℕ) (p : Push) → (push_in r k p).orders ≡ r.orders
+  push_orders r k p = elim (was_given (length r.sessions) k) as (λ b. (if b then record r { sessions = update r.sessions (k - 1) (told p) } else r).orders ≡ r.orders) [ true ↦ refl | false ↦ refl ]
+
+  take_orders : (r : Records) (p : Proc) → (take r p).orders ≡ r.orders
+  take_orders r p = elim (site_eq p.site r.site && is_taken_in request (standing_of r.delay p g)) as (λ b. (if b then enter_in g n members r p else r).orders ≡ r.orders) [
+    | true ↦ push_orders (tell_in (tell_in r p (fact.Time (entering (time_of r.delay p) g n))) p (fact.Standing g Member)) p.serial (push.View g n members)
+    | false ↦ refl
+  ]
+
+  -- nothing is kept of the group's order yet
+  abbrev IsNew : Records → Type 0
+  IsNew r = log_of r.orders g ≡ new_log g
+
   -- among the records: a process enters
-  fits_enter : (r : Records) (e : ℕ → Bool) → Fits r (entered e) → is_group t g ≡ true → (k : ℕ) → e k ≡ false → taken k ≡ true → Fits (enter_in g n members r (local t k)) (entered (λ j. e j || (k == j)))
-  fits_enter r e f listed k fresh in_it =
+  fits_enter : (r : Records) (e : ℕ → Bool) → Fits r (entered e) → IsNew r → is_group t g ≡ true → (k : ℕ) → e k ≡ false → taken k ≡ true → Fits (enter_in g n members r (local t k)) (entered (λ j. e j || (k == j)))
+  fits_enter r e f new listed k fresh in_it =
       let u : State = entered e in
       let p : Proc = local t k in
       let view : Push = push.View g n members in
@@ -237,16 +254,16 @@ module _ (g : GroupNo) (n : ℕ) (members : Membership) (request : ℕ) (t : Sta
       let row : IsSome (row_of r.delay.rows p) = has_row (row_of r.delay.rows p) g (ap is_outside (standing_now r e f k fresh) ∙ taken_inside request ((t.process k).standing g) in_it) in
       let r1 : Records = tell_in r p (fact.Time time) in
       let u1 : State = set_process u k (record (u.process k) { time = time }) in
-      let f1 : Fits r1 u1 = fits_told r u f k row (fact.Time time) tt in
+      let f1 : Fits r1 u1 = fits_told r u f k row (fact.Time time) tt tt in
       let r2 : Records = tell_in r1 p (fact.Standing g Member) in
       let u2 : State = set_standing u1 k g Member in
-      let f2 : Fits r2 u2 = fits_told r1 u1 f1 k (still_in p (told_row (fact.Time time)) (λ _. refl) p r.delay.rows row) (fact.Standing g Member) (λ _. listed) in
+      let f2 : Fits r2 u2 = fits_member r1 u1 f1 k (still_in p (told_row (fact.Time time)) (λ _. refl) p r.delay.rows row) g listed new in
       subst (λ x. Fits (push_in (tell_in (tell_in r p (fact.Time (entering x g n))) p (fact.Standing g Member)) k view) (entered (λ j. e j || (k == j)))) (sym (time_there r u f k row))
       (subst (λ x. Fits (push_in r2 k view) x) (enter_one e k fresh) (fits_push r2 u2 f2 k view))
 
   -- a process of this site is taken in or not
-  fits_take_here : (r : Records) (e : ℕ → Bool) → Fits r (entered e) → is_group t g ≡ true → (k : ℕ) → e k ≡ false → Fits (take r (local t k)) (entered (λ j. e j || (taken k && (k == j))))
-  fits_take_here r e f listed k fresh =
+  fits_take_here : (r : Records) (e : ℕ → Bool) → Fits r (entered e) → IsNew r → is_group t g ≡ true → (k : ℕ) → e k ≡ false → Fits (take r (local t k)) (entered (λ j. e j || (taken k && (k == j))))
+  fits_take_here r e f new listed k fresh =
       let p : Proc = local t k in
       let here : site_eq t.here r.site ≡ true = ap (λ x. site_eq t.here x) (ap (λ c. c.site) f.core) ∙ site_itself t.here in
       let same : (site_eq t.here r.site && is_taken_in request (standing_of r.delay p g)) ≡ taken k =
@@ -256,18 +273,18 @@ module _ (g : GroupNo) (n : ℕ) (members : Membership) (request : ℕ) (t : Sta
       elim (taken k) as (λ b. (if b then more else entered e) ≡ entered (λ j. e j || (b && (k == j)))) [ true ↦ refl | false ↦ λ i. entered (λ j. sym (or_none (e j)) i) ] in
       subst (λ x. Fits (take r p) x) known
       (fits_if (site_eq t.here r.site && is_taken_in request (standing_of r.delay p g)) (taken k) (enter_in g n members r p) r more (entered e) same
-      (λ is. fits_enter r e f listed k fresh (sym same ∙ is))
+      (λ is. fits_enter r e f new listed k fresh (sym same ∙ is))
       (λ _. f))
 
   -- one of any site
-  fits_take : (r : Records) (e : ℕ → Bool) → Fits r (entered e) → is_group t g ≡ true → (p : Proc) → ((k : ℕ) → proc_eq (local t k) p ≡ true → e k ≡ false) → Fits (take r p) (entered (λ j. e j || (taken j && proc_eq (local t j) p)))
-  fits_take r e f listed p fresh = elim (cases_Bool (site_eq p.site t.here)) [
+  fits_take : (r : Records) (e : ℕ → Bool) → Fits r (entered e) → IsNew r → is_group t g ≡ true → (p : Proc) → ((k : ℕ) → proc_eq (local t k) p ≡ true → e k ≡ false) → Fits (take r p) (entered (λ j. e j || (taken j && proc_eq (local t j) p)))
+  fits_take r e f new listed p fresh = elim (cases_Bool (site_eq p.site t.here)) [
     | inl here ↦
         let q : local t p.serial ≡ p = (λ i. record { site = sym (same_site p.site t.here here) i; serial = p.serial }) in
         let own : proc_eq (local t p.serial) p ≡ true = subst (λ x. proc_eq (local t p.serial) x ≡ true) q (proc_itself (local t p.serial)) in
         subst (λ x. Fits (take r x) (entered (λ j. e j || (taken j && proc_eq (local t j) x)))) q
         (subst (λ x. Fits (take r (local t p.serial)) (entered x)) (λ i j. e j || one p.serial j (cases_eq p.serial j) i)
-        (fits_take_here r e f listed p.serial (fresh p.serial own)))
+        (fits_take_here r e f new listed p.serial (fresh p.serial own)))
     | inr other ↦
         subst (λ b. Fits (if b && is_taken_in request (standing_of r.delay p g) then enter_in g n members r p else r) (entered (λ j. e j || (taken j && proc_eq (local t j) p)))) (sym (ap (λ x. site_eq p.site x) (ap (λ c. c.site) f.core) ∙ other))
         (subst (λ x. Fits r (entered x)) (λ i j. none other j i) f)
@@ -289,16 +306,16 @@ module _ (g : GroupNo) (n : ℕ) (members : Membership) (request : ℕ) (t : Sta
           sym (ap (λ b. e j || (taken j && (b && (j == p.serial)))) apart ∙ ap (λ b. e j || b) (and_none (taken j)) ∙ or_none (e j))
 
   -- all that a view names
-  fits_take_all : (ps : List Proc) (r : Records) (e : ℕ → Bool) → Fits r (entered e) → is_group t g ≡ true → is_rising proc_cmp ps ≡ true → ((k : ℕ) → is_among proc_eq (local t k) ps ≡ true → e k ≡ false) → Fits (fold take r ps) (entered (λ k. e k || (taken k && is_among proc_eq (local t k) ps)))
-  fits_take_all [] r e f listed rising fresh = subst (λ x. Fits r (entered x)) (λ i j. sym (ap (λ b. e j || b) (and_none (taken j)) ∙ or_none (e j)) i) f
-  fits_take_all (p ∷ ps) r e f listed rising fresh =
+  fits_take_all : (ps : List Proc) (r : Records) (e : ℕ → Bool) → Fits r (entered e) → IsNew r → is_group t g ≡ true → is_rising proc_cmp ps ≡ true → ((k : ℕ) → is_among proc_eq (local t k) ps ≡ true → e k ≡ false) → Fits (fold take r ps) (entered (λ k. e k || (taken k && is_among proc_eq (local t k) ps)))
+  fits_take_all [] r e f new listed rising fresh = subst (λ x. Fits r (entered x)) (λ i j. sym (ap (λ b. e j || b) (and_none (taken j)) ∙ or_none (e j)) i) f
+  fits_take_all (p ∷ ps) r e f new listed rising fresh =
       let parts = and_parts (list_all (λ q. is_lt (proc_cmp p q)) ps) (is_rising proc_cmp ps) rising in
       let next : ℕ → Bool = λ k. e k || (taken k && proc_eq (local t k) p) in
-      let step : Fits (take r p) (entered next) = fits_take r e f listed p (λ k own. fresh k (or_left (proc_eq (local t k) p) (is_among proc_eq (local t k) ps) own)) in
+      let step : Fits (take r p) (entered next) = fits_take r e f new listed p (λ k own. fresh k (or_left (proc_eq (local t k) p) (is_among proc_eq (local t k) ps) own)) in
       let apart : (k : ℕ) → is_among proc_eq (local t k) ps ≡ true → proc_eq (local t k) p ≡ false =
       (λ k later. false_from_ne_true (proc_eq (local t k) p) (λ own. below_none p ps parts.0 (subst (λ x. is_among proc_eq x ps ≡ true) (same_proc (local t k) p own) later))) in
       subst (λ x. Fits (fold take (take r p) ps) (entered x)) (λ i k. either_of (e k) (taken k) (proc_eq (local t k) p) (is_among proc_eq (local t k) ps) i)
-      (fits_take_all ps (take r p) next step listed parts.1
+      (fits_take_all ps (take r p) next step (ap (λ orders. log_of orders g) (take_orders r p) ∙ new) listed parts.1
       (λ k later. or_from (e k) (taken k && proc_eq (local t k) p) (fresh k (or_right (proc_eq (local t k) p) (is_among proc_eq (local t k) ps) later)) (ap (λ b. taken k && b) (apart k later) ∙ and_none (taken k))))
 
 -- a view is complete
@@ -310,7 +327,9 @@ fits_complete r s f l i g at listed n members request cut typed newer =
     let first : Records = view_in r i n members in
     let f0 : Fits first now = fits_acts first viewed (fits_view r s f l i g at n members newer) acts in
     let rising = (and_parts (is_rising proc_cmp members.list) _ typed).0 in
-    let all = fits_take_all g n members request now members.list first (λ k. false) f0 listed rising (λ k _. refl) in
-    let one_by_one = subst (λ x. Fits (fold (take_in g n members request) first members.list) x) (sym (at_once g n members request now (enters s g members request) f0.opened.all_open)) all in
     let name : (record_at r.groups i).name ≡ g = ap (λ (x : GroupRecord). x.name) (record_there r s f i g at) in
+    let new : log_of first.orders g ≡ new_log g =
+    ap (λ h. log_of (but_log h r.orders) g) name ∙ log_of_forget r.orders g g ∙ ap (λ b. if b then new_log g else log_of r.orders g) (group_itself g) in
+    let all = fits_take_all g n members request now members.list first (λ k. false) f0 new listed rising (λ k _. refl) in
+    let one_by_one = subst (λ x. Fits (fold (take_in g n members request) first members.list) x) (sym (at_once g n members request now (enters s g members request) f0.opened.all_open)) all in
     subst (λ h. Fits (fold (take_in h n members request) first members.list) (completing s g n members request cut)) (sym name) one_by_one

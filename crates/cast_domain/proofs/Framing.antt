@@ -154,7 +154,7 @@ module _ (groups : List GroupNo) where
     note_joining = λ r s f k given g h at number heard. (
       (
         subst (λ t. Fits (tell_in r (record { site = t; serial = k }) (fact.Standing g (Joining number heard))) (set_standing s k g (Joining number heard))) (sym (ap (λ c. c.site) f.0.0.core))
-            (fits_standing r s f.0.0 k (sym (f.0.0.opened.all_open k) ∙ given) g (Joining number heard) (λ _. (placed_at s g h at).0)),
+            (fits_standing r s f.0.0 k (sym (f.0.0.opened.all_open k) ∙ given) g (Joining number heard) (λ _. (placed_at s g h at).0) refl),
         f.0.1,
       ),
       all_lawful.note_joining s f.1 k given g h at number heard,

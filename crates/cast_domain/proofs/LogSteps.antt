@@ -20,7 +20,7 @@ use Rattle.cast_message.specs.declared.message.Body.TheVariants as body
 use Rattle.cast_message.specs.declared.message.Message.{Message}
 use Rattle.cast_message.specs.Bodies.{kind_of}
 use Rattle.cast_message.specs.Sequence.{Sequence}
-use Rattle.cast_delay.specs.Ready.{Process, has_delivered}
+use Rattle.cast_delay.specs.Ready.{Process, is_member, has_delivered}
 use Rattle.cast_order.specs.Order.{facts_of}
 use Rattle.cast_order.specs.Log.{Log, log_of, change_log, learnt, next_in, next_places, passed, told, assigned}
 use Rattle.cast_order.proofs.Meanings.{learnt_group, learn_fits, tell_fits, assign_fits, pass_fits, more_fits}
@@ -29,8 +29,8 @@ use Rattle.cast_model.specs.Group.{holder_of, is_process, holder_at}
 use Rattle.cast_history.specs.State.{State, no_process, local, receiving, abcasts_with, with_delivery}
 use Rattle.cast_history.specs.Order.{told_by, is_of_view, facts_in, holds, abcasts_delivered}
 use Rattle.cast_history.specs.Lawful.{IsTraced}
-use Rattle.cast_domain.specs.Fits.{process_named, told_here, lists_here, settled_here, LogFits}
-use Rattle.cast_domain.proofs.Logs.{has_passed, sets, list_in, lists_by, filter_skips, filter_takes, facts_push, log_made, log_alike, log_apart, other_group}
+use Rattle.cast_domain.specs.Fits.{process_named, told_here, lists_here, settled_here, goes_on, LogFits}
+use Rattle.cast_domain.proofs.Logs.{has_passed, WereMembers, sets, list_in, lists_by, filter_skips, filter_takes, facts_push, log_made, log_alike, log_apart, other_group}
 
 -- The holder
 
@@ -75,6 +75,21 @@ more_delivered s k m p u = at (site_eq p.site s.here)
         ∙ or_left (is_among uid_eq u (s.process k).delivered) (is_among uid_eq u (m.id ∷ [])) (ap (λ j. has_delivered (s.process j) u) (eqb-true k p.serial same) ∙ is)
 
     at : (b : Bool) → has_delivered (if b then s.process p.serial else no_process) u ≡ true → has_delivered (if b then (with_delivery s k m).process p.serial else no_process) u ≡ true
+    at true is = now (k == p.serial) refl is
+    at false is = is
+
+-- the members are the same
+same_standing : (s : State) (k : ℕ) (m : Message) (g : GroupNo) → WereMembers s (with_delivery s k m) g
+same_standing s k m g p = at (site_eq p.site s.here)
+  where
+    v : Process
+    v = record (s.process k) { time = join (s.process k).time m.times; delivered = (s.process k).delivered ++ m.id ∷ [] }
+
+    now : (b : Bool) → (k == p.serial) ≡ b → is_member ((if b then v else s.process p.serial).standing g) ≡ true → is_member ((s.process p.serial).standing g) ≡ true
+    now false other is = is
+    now true same is = ap (λ j. is_member ((s.process j).standing g)) (sym (eqb-true k p.serial same)) ∙ is
+
+    at : (b : Bool) → is_member ((if b then (with_delivery s k m).process p.serial else no_process).standing g) ≡ true → is_member ((if b then s.process p.serial else no_process).standing g) ≡ true
     at true is = now (k == p.serial) refl is
     at false is = is
 
@@ -167,7 +182,7 @@ logs_deliver s k m n orders traced fits fresh current passes h = at (is_atomic (
     stays x same =
         let f = fits x in
         log_made t x (log_of orders x) (facts_in s x) (told_here s x) (lists_here s x) refl same refl f.stable f.reached
-        (more_fits (facts_in s x) (told_here s x) (lists_here s x) (has_passed s x) f.stable (log_of orders x) f.fits (has_passed t x) f.stable
+        (more_fits (facts_in s x) (told_here s x) (lists_here s x) (goes_on s x) (has_passed s x) f.stable (log_of orders x) f.fits (goes_on t x) (has_passed t x) f.stable (same_standing s k m x)
         (λ p e is. more_delivered s k m p (named x (s.group x).number e) is) (omega arith))
         f.counted
 
@@ -191,22 +206,22 @@ logs_deliver s k m n orders traced fits fresh current passes h = at (is_atomic (
         let unlisted : is_among entry_eq (entry_of m.id) (told_here s g) ≡ false =
         ap (λ o. is_among entry_eq (entry_of m.id) (option_map_or (λ p. abcasts_delivered s g p.serial) o [])) (holder_is s g k here) ∙ not_noted s g m.id (s.abcasts k) current unnoted in
         log_made t g (told (entry_of m.id) (log_of orders g)) (facts_in s g) (told_here s g ++ entry_of m.id ∷ []) (lists_here s g) refl (told_more s k m atomic current here) refl f.stable f.reached
-        (more_fits (facts_in s g) (told_here s g ++ entry_of m.id ∷ []) (lists_here s g) (has_passed s g) f.stable (told (entry_of m.id) (log_of orders g))
-        (tell_fits (facts_in s g) (told_here s g) (lists_here s g) (has_passed s g) f.stable (log_of orders g) f.fits (entry_of m.id) unlisted)
-        (has_passed t g) f.stable (λ p e is. more_delivered s k m p (named g (s.group g).number e) is) (omega arith))
+        (more_fits (facts_in s g) (told_here s g ++ entry_of m.id ∷ []) (lists_here s g) (goes_on s g) (has_passed s g) f.stable (told (entry_of m.id) (log_of orders g))
+        (tell_fits (facts_in s g) (told_here s g) (lists_here s g) (goes_on s g) (has_passed s g) f.stable (log_of orders g) f.fits (entry_of m.id) unlisted)
+        (goes_on t g) (has_passed t g) f.stable (same_standing s k m g) (λ p e is. more_delivered s k m p (named g (s.group g).number e) is) (omega arith))
         f.counted
 
     passes_on : holds s g k ≡ false → LogFits t g (passed (local s k) n (log_of orders g))
     passes_on away =
         let f = stays g (told_same s k m g (λ p is same. absurd (false≢true (sym (holder_not s g k away p is) ∙ same)))) in
         log_made t g (passed (local s k) n (log_of orders g)) (facts_in t g) (told_here t g) (lists_here t g) refl refl refl f.stable f.reached
-        (pass_fits (facts_in t g) (told_here t g) (lists_here t g) (has_passed t g) f.stable (log_of orders g) f.fits (local s k) n
+        (pass_fits (facts_in t g) (told_here t g) (lists_here t g) (goes_on t g) (has_passed t g) f.stable (log_of orders g) f.fits (local s k) n
         (none_left (has_passed t g (local s k)) (take n (next_in (log_of orders g) (local s k))) passes))
         f.counted
 
     at : (b : Bool) → is_atomic (kind_of m.body) ≡ b → (c : Bool) → holds s g k ≡ c → LogFits t h (log_of (if b then (if c then change_log g (told (entry_of m.id)) orders else change_log g (passed (local s k) n) orders) else orders) h)
     at false plain c held =
-        log_alike s t h (log_of orders h) refl refl refl refl (λ j. ap (λ b. (if b then set_at (λ x y. x == y) s.abcasts k (s.abcasts k ++ m.id ∷ []) else s.abcasts) j) plain) (omega arith) (more_delivered s k m) (fits h)
+        log_alike s t h (log_of orders h) refl refl refl refl (λ j. ap (λ b. (if b then set_at (λ x y. x == y) s.abcasts k (s.abcasts k ++ m.id ∷ []) else s.abcasts) j) plain) (omega arith) (same_standing s k m h) (more_delivered s k m) (fits h)
     at true atomic true held = changed (told (entry_of m.id)) (λ l. refl) (tells atomic held) apart_stays
     at true atomic false held = changed (passed (local s k) n) (λ l. refl) (passes_on held) apart_stays
 
@@ -254,8 +269,8 @@ logs_place s k m q n orders fits here current own is next settled most h =
         let reached = f.reached in
         log_made t g (learnt q (assigned m.id.count n (log_of orders g))) (facts_in s g ++ facts_of q) (told_here s g) (lists_here s g ++ (m.id.count, q.ids) ∷ [])
         (facts_push s g m current ∙ ap (λ b. facts_in s g ++ told_by b) is) refl lists n (omega (arith, settled))
-        (learn_fits (facts_in s g) (told_here s g) (lists_here s g ++ (m.id.count, q.ids) ∷ []) (has_passed s g) n (assigned m.id.count n (log_of orders g))
-        (assign_fits (facts_in s g) (told_here s g) (lists_here s g) (has_passed s g) f.stable (log_of orders g) f.fits m.id.count n q next (omega (arith, reached, settled)))
+        (learn_fits (facts_in s g) (told_here s g) (lists_here s g ++ (m.id.count, q.ids) ∷ []) (goes_on s g) (has_passed s g) n (assigned m.id.count n (log_of orders g))
+        (assign_fits (facts_in s g) (told_here s g) (lists_here s g) (goes_on s g) (has_passed s g) f.stable (log_of orders g) f.fits m.id.count n q next (omega (arith, reached, settled)))
         q)
         (λ x in_it. elim (Contains-push_cases (lists_here s g) (m.id.count, q.ids) x in_it) [
           | inl before ↦ f.counted x before

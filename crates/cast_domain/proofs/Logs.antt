@@ -27,9 +27,9 @@ use Rattle.cast_stable.proofs.Greatest.{stable_greatest}
 use Rattle.cast_delay.specs.Ready.{has_delivered}
 use Rattle.cast_types.proofs.Contains.{contains_here, contains_later}
 use Rattle.cast_order.specs.Order.{Facts, facts_of, Listing}
-use Rattle.cast_order.specs.Log.{Log, new_log, log_of, but_log, learnt}
+use Rattle.cast_order.specs.Log.{Log, new_log, log_of, but_log, learnt, place_of}
 use Rattle.cast_order.specs.Fits.{Fits as OrderFits}
-use Rattle.cast_order.proofs.Meanings.{new_fits as order_new_fits, learnt_group, learn_fits, more_fits}
+use Rattle.cast_order.proofs.Meanings.{new_fits as order_new_fits, learnt_group, learn_fits, more_fits, at_start}
 use Rattle.cast_order.proofs.Logs.{log_of_change, log_of_forget}
 use Rattle.cast_model.specs.declared.group.Group.{Group}
 use Rattle.cast_model.specs.Group.{no_group, holder_at, members_of, other_sites, with_view}
@@ -38,7 +38,7 @@ use Rattle.cast_history.specs.State.{State, local, others_of, noting_ack, set_gr
 use Rattle.cast_history.specs.Order.{told_by, ids_told, is_of_view, facts_in}
 use Rattle.cast_domain.specs.Calls.{learn_in}
 use Rattle.cast_history.specs.Lawful.{IsTraced}
-use Rattle.cast_domain.specs.Fits.{process_named, told_here, lists_here, settled_of, settled_here, LogFits}
+use Rattle.cast_domain.specs.Fits.{process_named, told_here, lists_here, settled_of, settled_here, goes_on, LogFits}
 
 -- Parts of a history that the order of a view is made of
 
@@ -73,23 +73,42 @@ abbrev lists_as : SiteNo → Option Membership → ℕ → GroupNo → List Mess
 lists_as here view n g got = option_map_or (λ p. lists_by here n g got p.serial) (holder_at here (viewing view)) []
 
 -- a log tells of these facts, these ABCASTs and these lists, if they are those of the history
-pub log_made : (t : State) (g : GroupNo) (l : Log) (facts : Facts) (told : List Entry) (lists : Listing) → facts_in t g ≡ facts → told_here t g ≡ told → lists_here t g ≡ lists → (stable : ℕ) → stable ≤ settled_here t g → OrderFits facts told lists (has_passed t g) stable l → ((x : ℕ × List Entry) → Contains lists x → x.0 ≤ MAX_NUMBER) → LogFits t g l
+pub log_made : (t : State) (g : GroupNo) (l : Log) (facts : Facts) (told : List Entry) (lists : Listing) → facts_in t g ≡ facts → told_here t g ≡ told → lists_here t g ≡ lists → (stable : ℕ) → stable ≤ settled_here t g → OrderFits facts told lists (goes_on t g) (has_passed t g) stable l → ((x : ℕ × List Entry) → Contains lists x → x.0 ≤ MAX_NUMBER) → LogFits t g l
 log_made t g l facts told lists at_facts at_told at_lists stable reached fits counted = record {
   stable = stable;
   reached = reached;
-  fits = subst (λ (a : Facts × List Entry × Listing). OrderFits a.0 a.1 a.2 (has_passed t g) stable l) (λ i. (sym at_facts i, sym at_told i, sym at_lists i)) fits;
+  fits = subst (λ (a : Facts × List Entry × Listing). OrderFits a.0 a.1 a.2 (goes_on t g) (has_passed t g) stable l) (λ i. (sym at_facts i, sym at_told i, sym at_lists i)) fits;
   counted = λ x in_it. counted x (subst (λ ls. Contains ls x) at_lists in_it);
 }
 
--- a history that has the same of a group's order, where processes may have delivered more, and more may be stable
-pub log_alike : (s t : State) (g : GroupNo) (l : Log) → t.here ≡ s.here → (t.group g).view ≡ (s.group g).view → (t.group g).number ≡ (s.group g).number → t.got ≡ s.got → ((k : ℕ) → t.abcasts k ≡ s.abcasts k) → settled_here s g ≤ settled_here t g → ((p : Proc) (u : Uid) → has_delivered (process_named s p) u ≡ true → has_delivered (process_named t p) u ≡ true) → LogFits s g l → LogFits t g l
-log_alike s t g l here view number got abcasts settled more f =
+-- a member of a group here was one before
+abbrev pub WereMembers : State → State → GroupNo → Type 0
+WereMembers s t g = (p : Proc) → goes_on t g p ≡ true → goes_on s g p ≡ true
+
+-- a history that has the same of a group's order, where processes may have delivered more, none is a member that was not,
+-- and more may be stable
+pub log_alike : (s t : State) (g : GroupNo) (l : Log) → t.here ≡ s.here → (t.group g).view ≡ (s.group g).view → (t.group g).number ≡ (s.group g).number → t.got ≡ s.got → ((k : ℕ) → t.abcasts k ≡ s.abcasts k) → settled_here s g ≤ settled_here t g → WereMembers s t g → ((p : Proc) (u : Uid) → has_delivered (process_named s p) u ≡ true → has_delivered (process_named t p) u ≡ true) → LogFits s g l → LogFits t g l
+log_alike s t g l here view number got abcasts settled were more f =
     log_made t g l (facts_in s g) (told_here s g) (lists_here s g)
     (λ i. facts_as (number i) g (got i))
     (λ i. told_as (here i) (view i) (number i) g (λ k. abcasts k i))
     (λ i. lists_as (here i) (view i) (number i) g (got i))
     f.stable (let reached = f.reached in omega (arith, reached, settled))
-    (more_fits (facts_in s g) (told_here s g) (lists_here s g) (has_passed s g) f.stable l f.fits (has_passed t g) f.stable
+    (more_fits (facts_in s g) (told_here s g) (lists_here s g) (goes_on s g) (has_passed s g) f.stable l f.fits (goes_on t g) (has_passed t g) f.stable were
+    (λ p e is. ap (λ n. has_delivered (process_named t p) (named g n e)) number ∙ more p (named g (s.group g).number e) is) (omega arith))
+    f.counted
+
+-- or where any may be a member, if each is to go through all of the order
+pub log_starts : (s t : State) (g : GroupNo) (l : Log) → t.here ≡ s.here → (t.group g).view ≡ (s.group g).view → (t.group g).number ≡ (s.group g).number → t.got ≡ s.got → ((k : ℕ) → t.abcasts k ≡ s.abcasts k) → settled_here s g ≤ settled_here t g → ((p : Proc) → place_of l p ≡ 0) → ((p : Proc) (u : Uid) → has_delivered (process_named s p) u ≡ true → has_delivered (process_named t p) u ≡ true) → LogFits s g l → LogFits t g l
+log_starts s t g l here view number got abcasts settled none more f =
+    log_made t g l (facts_in s g) (told_here s g) (lists_here s g)
+    (λ i. facts_as (number i) g (got i))
+    (λ i. told_as (here i) (view i) (number i) g (λ k. abcasts k i))
+    (λ i. lists_as (here i) (view i) (number i) g (got i))
+    f.stable (let reached = f.reached in omega (arith, reached, settled))
+    (more_fits (facts_in s g) (told_here s g) (lists_here s g) (goes_on t g) (has_passed s g) f.stable l
+    (at_start (facts_in s g) (told_here s g) (lists_here s g) (goes_on s g) (has_passed s g) f.stable l f.fits none (goes_on t g))
+    (goes_on t g) (has_passed t g) f.stable (λ p is. is)
     (λ p e is. ap (λ n. has_delivered (process_named t p) (named g n e)) number ∙ more p (named g (s.group g).number e) is) (omega arith))
     f.counted
 
@@ -159,7 +178,7 @@ log_learns s m q l is current foreign f =
     let g : GroupNo = m.id.group in
     log_made (receiving s m) g (learnt q l) (facts_in s g ++ facts_of q) (told_here s g) (lists_here s g)
     (facts_push s g m current ∙ ap (λ b. facts_in s g ++ told_by b) is) refl (lists_skip s g m foreign)
-    f.stable f.reached (learn_fits (facts_in s g) (told_here s g) (lists_here s g) (has_passed s g) f.stable l f.fits q) f.counted
+    f.stable f.reached (learn_fits (facts_in s g) (told_here s g) (lists_here s g) (goes_on s g) (has_passed s g) f.stable l f.fits q) f.counted
 
 -- each log tells of its order still once a message of the current view of its group is received, which is no set-order
 -- message of the holder here
@@ -208,7 +227,7 @@ old_view s h n u reached later = false_from_ne_true (is_in n h u) (λ is.
     omega (arith, here, same, reached, later))
 
 -- of a later view nothing was told, delivered or listed
-log_new : (s t : State) (h : GroupNo) (l : Log) → IsTraced s → t.got ≡ s.got → ((k : ℕ) → t.abcasts k ≡ s.abcasts k) → (s.group h).number < (t.group h).number → OrderFits [] [] [] (has_passed t h) 0 l → LogFits t h l
+log_new : (s t : State) (h : GroupNo) (l : Log) → IsTraced s → t.got ≡ s.got → ((k : ℕ) → t.abcasts k ≡ s.abcasts k) → (s.group h).number < (t.group h).number → OrderFits [] [] [] (goes_on t h) (has_passed t h) 0 l → LogFits t h l
 log_new s t h l traced got noted later fits =
     let n : ℕ = (t.group h).number in
     log_made t h l [] [] []
@@ -241,13 +260,13 @@ logs_view s g n members orders traced later fits h =
           let number : (t.group h).number ≡ n = ap (λ b. (if b then w else s.group h).number) same in
           let before : (s.group h).number < n = subst (λ x. (s.group x).number < n) (same_group g h same) later in
           subst (LogFits t h) (sym (ap (λ b. if b then new_log g else log_of orders h) same))
-          (log_new s t h (new_log g) traced refl (λ k. refl) (omega (arith, number, before)) (order_new_fits g (has_passed t h)))
+          (log_new s t h (new_log g) traced refl (λ k. refl) (omega (arith, number, before)) (order_new_fits g (goes_on t h) (has_passed t h)))
       | inr apart ↦
           let view : (t.group h).view ≡ (s.group h).view = ap (λ b. (if b then w else s.group h).view) apart in
           let number : (t.group h).number ≡ (s.group h).number = ap (λ b. (if b then w else s.group h).number) apart in
           let settled = settled_same s t h refl view number refl in
           subst (LogFits t h) (sym (ap (λ b. if b then new_log g else log_of orders h) apart))
-          (log_alike s t h (log_of orders h) refl view number refl (λ k. refl) (omega (arith, settled)) (λ p u is. is) (fits h))
+          (log_alike s t h (log_of orders h) refl view number refl (λ k. refl) (omega (arith, settled)) (λ p is. is) (λ p u is. is) (fits h))
     ])
 
 -- Acknowledgements
@@ -269,7 +288,7 @@ upto_grows acks x others g v p some =
     ]
 
 pub logs_ack : (s : State) (from : SiteNo) (u : Uid) (h : GroupNo) (l : Log) → LogFits s h l → LogFits (noting_ack s from u) h l
-logs_ack s from u h l f = log_alike s (noting_ack s from u) h l refl refl refl refl (λ k. refl) (grows (holder_at s.here (s.group h))) (λ p v is. is) f
+logs_ack s from u h l f = log_alike s (noting_ack s from u) h l refl refl refl refl (λ k. refl) (grows (holder_at s.here (s.group h))) (λ p is. is) (λ p v is. is) f
   where
     grown : (others : List SiteNo) (p : Proc) → (if is_empty others then MAX_NUMBER else stable_upto s.acks others h (s.group h).number p) ≤ (if is_empty others then MAX_NUMBER else stable_upto (s.acks ++ (from, u) ∷ []) others h (s.group h).number p)
     grown [] p = omega arith

@@ -19,13 +19,13 @@ use Rattle.cast_stable.specs.Ledger.{upto_in}
 use Rattle.cast_stable.proofs.Meanings.{upto_meant}
 use Rattle.cast_delay.specs.declared.turn.Turn.{Turn}
 use Rattle.cast_delay.specs.declared.turn.Turn.TheVariants.{Holding, Following}
-use Rattle.cast_delay.specs.Ready.{has_delivered, turn_in}
+use Rattle.cast_delay.specs.Ready.{has_delivered, turn_in, is_member}
 use Rattle.cast_delay.specs.Queue.{row_of, passed_in}
 use Rattle.cast_types.proofs.Contains.{contains_here, contains_later}
 use Rattle.cast_delay.proofs.Queues.{passed_next}
 use Rattle.cast_order.specs.Order.{listed_ids, still_to_list, ids_to_list, place_after}
-use Rattle.cast_order.specs.Log.{Log, log_of, next_in, next_places, unsettled_in, has_room_in}
-use Rattle.cast_order.proofs.Meanings.{next_rules as order_next_rules, unsettled_rules, assign_rules}
+use Rattle.cast_order.specs.Log.{Log, length_of, log_of, next_in, next_places, unsettled_in, has_room_in}
+use Rattle.cast_order.proofs.Meanings.{next_rules as order_next_rules, length_rules, unsettled_rules, assign_rules}
 use Rattle.cast_history.specs.Rules.Room.{may_order}
 use Rattle.cast_history.specs.History.{history}
 use Rattle.cast_domain.specs.declared.record.GroupRecord.{GroupRecord}
@@ -35,7 +35,7 @@ use Rattle.cast_history.specs.State.{State, local, is_group, gate_of, others_of}
 use Rattle.cast_history.specs.Order.{facts_in, order_of, holds, lists_of, abcasts_delivered, unlisted, unsettled, has_place, has_room_for_order, turn_of}
 use Rattle.cast_domain.specs.Records.{Records}
 use Rattle.cast_domain.specs.Calls.{place_in, record_at, records, holds_in, settled_in, turn_at, turns_in}
-use Rattle.cast_domain.specs.Fits.{record_for, told_here, lists_here, settled_of, settled_here, process_named, Fits, LogFits, is_live, past_of}
+use Rattle.cast_domain.specs.Fits.{record_for, told_here, lists_here, settled_of, settled_here, process_named, Fits, LogFits, is_live, past_of, goes_on}
 use Rattle.cast_domain.proofs.Logs.{has_passed}
 use Rattle.cast_domain.proofs.LogSteps.{holder_is}
 use Rattle.cast_domain.proofs.Standing.{record_there, place_some, place_none, process_here}
@@ -104,7 +104,7 @@ unsettled_there s g k l f here =
     let n : ℕ = settled_of s g (local s k) in
     let reached = f.reached in
     let settled = settled_of_holder s g k here in
-    unsettled_rules (facts_in s g) (told_here s g) (lists_here s g) (has_passed s g) f.stable l f.fits n (omega (arith, reached, settled))
+    unsettled_rules (facts_in s g) (told_here s g) (lists_here s g) (goes_on s g) (has_passed s g) f.stable l f.fits n (omega (arith, reached, settled))
     ∙ ap (λ ls. length (still_to_list (told_here s g) (listed_ids ls))) (filter_agree (λ x. nat_le x.0 n) (λ x. is_known_stable s.here (others_of s g) s.acks s.told (named g (s.group g).number (local s k, x.0))) (lists_here s g) (λ x in_it. stable_settled s g k x.0 (f.counted x in_it)))
     ∙ (λ i. length (still_to_list (told_of_holder s g k here i) (listed_ids (filter (λ x. is_known_stable s.here (others_of s g) s.acks s.told (named g (s.group g).number (local s k, x.0))) (lists_of_holder s g k here i)))))
 
@@ -117,23 +117,24 @@ room_there : (r : Records) (s : State) → Fits r s → (g : GroupNo) (k : ℕ) 
 room_there r s f g k here =
     let l : Log = log_of r.orders g in
     let fits = f.orders g in
-    let total : length l.known + length l.waiting ≡ length (order_of s g ++ unlisted s g k) = (λ i. length (fits.fits.known i) + length (waiting_there s g k l fits here i)) ∙ sym (length-append (order_of s g) (unlisted s g k)) in
+    let known : length_of l ≡ length (order_of s g) = length_rules (facts_in s g) (told_here s g) (lists_here s g) (goes_on s g) (has_passed s g) fits.stable l fits.fits in
+    let total : length_of l + length l.waiting ≡ length (order_of s g ++ unlisted s g k) = (λ i. known i + length (waiting_there s g k l fits here i)) ∙ sym (length-append (order_of s g) (unlisted s g k)) in
     ap (λ n. may_order records r && has_room_in n l) (settled_there r s f g (local s k) (site_itself s.here))
     ∙ (λ i. order_room_there r s f i && (nat_lt (unsettled_there s g k l fits here i) MAX_UNSETTLED && nat_lt (total i) MAX_POSITION))
 
--- the next id that a process has not delivered
-next_there : (r : Records) (s : State) → Fits r s → (g : GroupNo) (k : ℕ) → IsSome (row_of r.delay.rows (local s k)) → slice_get (next_in (log_of r.orders g) (local s k)) (passed_in r.delay (local s k) g (s.group g).number (next_in (log_of r.orders g) (local s k))) ≡ find (λ e. not (has_delivered (s.process k) (named g (s.group g).number e))) (order_of s g)
-next_there r s f g k row =
+-- the next id that a member has not delivered
+next_there : (r : Records) (s : State) → Fits r s → (g : GroupNo) (k : ℕ) → IsSome (row_of r.delay.rows (local s k)) → is_member ((process_named s (local s k)).standing g) ≡ true → slice_get (next_in (log_of r.orders g) (local s k)) (passed_in r.delay (local s k) g (s.group g).number (next_in (log_of r.orders g) (local s k))) ≡ find (λ e. not (has_delivered (s.process k) (named g (s.group g).number e))) (order_of s g)
+next_there r s f g k row member =
     let l : Log = log_of r.orders g in
     let p : Proc = local s k in
     let fits = f.orders g in
     sym (passed_next s.config.groups (gate_of s) (process_named s) r.part.kept r.delay f.processes.delay p g (s.group g).number (next_in l p) row (omega arith))
-    ∙ sym (order_next_rules (facts_in s g) (told_here s g) (lists_here s g) (has_passed s g) fits.stable l fits.fits p)
+    ∙ sym (order_next_rules (facts_in s g) (told_here s g) (lists_here s g) (goes_on s g) (has_passed s g) fits.stable l fits.fits p member)
     ∙ ap (λ x. find (λ e. not (has_delivered x (named g (s.group g).number e))) (order_of s g)) (process_here s k)
 
--- the turn of a process in a group
-pub turn_there : (r : Records) (s : State) → Fits r s → (g : GroupNo) (k : ℕ) → IsSome (row_of r.delay.rows (local s k)) → turn_at r (local s k) (record_for s g) ≡ turn_of s k g
-turn_there r s f g k row =
+-- the turn of a member in a group
+pub turn_there : (r : Records) (s : State) → Fits r s → (g : GroupNo) (k : ℕ) → IsSome (row_of r.delay.rows (local s k)) → is_member ((process_named s (local s k)).standing g) ≡ true → turn_at r (local s k) (record_for s g) ≡ turn_of s k g
+turn_there r s f g k row member =
     elim (cases_Bool (holds s g k)) [
       | inl here ↦
           ap (λ b. if b then Holding (may_order records r && has_room_in (settled_in r g (s.group g).number (local s k)) (log_of r.orders g)) else following) here
@@ -141,7 +142,7 @@ turn_there r s f g k row =
           ∙ sym (ap (λ b. if b then Holding (has_room_for_order s g k) else Following (find (λ e. not (has_delivered (s.process k) (named g (s.group g).number e))) (order_of s g))) here)
       | inr away ↦
           ap (λ b. if b then Holding (may_order records r && has_room_in (settled_in r g (s.group g).number (local s k)) (log_of r.orders g)) else following) away
-          ∙ ap Following (next_there r s f g k row)
+          ∙ ap Following (next_there r s f g k row member)
           ∙ sym (ap (λ b. if b then Holding (has_room_for_order s g k) else Following (find (λ e. not (has_delivered (s.process k) (named g (s.group g).number e))) (order_of s g))) away)
     ]
   where
@@ -168,13 +169,13 @@ map_map : {A B C : Type 0} (f : A → B) (h : B → C) (xs : List A) → map h (
 map_map f h [] = refl
 map_map f h (x ∷ xs) = ap (λ ys. h (f x) ∷ ys) (map_map f h xs)
 
-pub turns_there : (r : Records) (s : State) → Fits r s → (k : ℕ) → IsSome (row_of r.delay.rows (local s k)) → (g : GroupNo) → is_group s g ≡ true → turn_in (turns_in r (local s k)) g ≡ turn_of s k g
-turns_there r s f k row g listed =
+pub turns_there : (r : Records) (s : State) → Fits r s → (k : ℕ) → IsSome (row_of r.delay.rows (local s k)) → (g : GroupNo) → is_group s g ≡ true → is_member ((process_named s (local s k)).standing g) ≡ true → turn_in (turns_in r (local s k)) g ≡ turn_of s k g
+turns_there r s f k row g listed member =
     let at : List GroupRecord → Turn = λ xs. option_map_or (λ (t : GroupNo × Turn). t.1) (find (λ t. group_eq t.0 g) (map (λ (x : GroupRecord). (x.name, turn_at r (local s k) x)) xs)) (Following None) in
     ap at f.groups
     ∙ ap (λ ts. option_map_or (λ (t : GroupNo × Turn). t.1) (find (λ t. group_eq t.0 g) ts) (Following None)) (map_map (record_for s) (λ x. (x.name, turn_at r (local s k) x)) s.config.groups)
     ∙ find_turn (λ h. turn_at r (local s k) (record_for s h)) g s.config.groups listed
-    ∙ turn_there r s f g k row
+    ∙ turn_there r s f g k row member
 
 -- the places that the holder's next set-order message sets
 pub places_there : (r : Records) (s : State) → Fits r s → (g : GroupNo) (k : ℕ) → holds s g k ≡ true → next_places (log_of r.orders g) ≡ (if not (is_empty (unlisted s g k)) && has_place (order_of s g) then Some (record { first = place_after (order_of s g); ids = ids_to_list (unlisted s g k) }) else None)
@@ -182,7 +183,7 @@ places_there r s f g k here =
     let l : Log = log_of r.orders g in
     let fits = f.orders g in
     let still : still_to_list (told_here s g) (listed_ids (lists_here s g)) ≡ unlisted s g k = (λ i. still_to_list (told_of_holder s g k here i) (listed_ids (lists_of_holder s g k here i))) in
-    assign_rules (facts_in s g) (told_here s g) (lists_here s g) (has_passed s g) fits.stable l fits.fits
+    assign_rules (facts_in s g) (told_here s g) (lists_here s g) (goes_on s g) (has_passed s g) fits.stable l fits.fits
     ∙ ap (λ ids. if nat_lt 0 (length ids) && nat_lt (length (order_of s g)) MAX_POSITION then Some (record { first = place_after (order_of s g); ids = ids_to_list ids }) else None) still
     ∙ ap (λ b. if b && has_place (order_of s g) then Some (record { first = place_after (order_of s g); ids = ids_to_list (unlisted s g k) }) else None) (some (unlisted s g k))
   where

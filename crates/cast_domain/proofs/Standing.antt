@@ -11,6 +11,8 @@ use Rattle.cast_types.specs.declared.names.SiteNo.{SiteNo}
 use Rattle.cast_types.specs.declared.names.GroupNo.{GroupNo}
 use Rattle.cast_types.specs.declared.names.Proc.{Proc}
 use Rattle.cast_types.specs.declared.names.Standing.{Standing}
+use Rattle.cast_types.specs.declared.names.Standing.TheVariants.{Member}
+use Rattle.cast_types.specs.declared.names.Uid.{Uid}
 use Rattle.cast_types.specs.Names.{site_eq, group_cmp, group_eq, proc_eq, uid_eq, is_order, named}
 use Rattle.cast_types.specs.Places.{update}
 use Rattle.cast_types.specs.Sets.{is_among, set_at}
@@ -26,8 +28,8 @@ use Rattle.cast_message.specs.Membership.{Membership}
 use Rattle.cast_delay.specs.declared.row.Row.{Row}
 use Rattle.cast_delay.specs.declared.row.Fact.{Fact}
 use Rattle.cast_delay.specs.declared.row.Fact.TheVariants as fact
-use Rattle.cast_delay.specs.Ready.{Process, Gate, is_outside, has_delivered}
-use Rattle.cast_delay.specs.Rows.{told_row}
+use Rattle.cast_delay.specs.Ready.{Process, Gate, is_outside, has_delivered, is_member}
+use Rattle.cast_delay.specs.Rows.{told_row, standing_in}
 use Rattle.cast_delay.specs.Queue.{new_row, row_of, change_row}
 use Rattle.cast_message.specs.declared.message.Received.{Received}
 use Rattle.cast_message.specs.Receipts.{key_eq, message_under}
@@ -38,7 +40,7 @@ use Rattle.cast_delay.specs.Fits.{IsSound, HasNotBegun, FactFits, Fits as QueueF
 use Rattle.cast_delay.proofs.Queues.{new_fits, admit_fits, tell_fits, view_fits, offer_fits, standing_is, time_is}
 use Rattle.cast_delay.proofs.Rows.{some_row}
 use Rattle.cast_delay.proofs.Finds.{find-append_some, find-append_none}
-use Rattle.cast_order.specs.Log.{Log, log_of, but_log}
+use Rattle.cast_order.specs.Log.{Log, new_log, log_of, but_log, place_of}
 use Rattle.cast_order.proofs.Meanings.{new_fits as order_new_fits}
 use Rattle.cast_model.specs.declared.config.DomainConfig.{DomainConfig}
 use Rattle.cast_domain.specs.declared.record.GroupRecord.{GroupRecord}
@@ -56,10 +58,10 @@ use Rattle.cast_domain.specs.Shared.{no_part}
 use Rattle.cast_domain.specs.Records.{Records}
 use Rattle.cast_domain.specs.Calls.{place_among, local_in, place_in, no_record, record_at, standing_of, time_of, send_in, push_in, tell_in, open_in, learn_in, receive_in, view_in}
 use Rattle.cast_history.specs.Lawful.{IsLawful}
-use Rattle.cast_domain.specs.Fits.{process_named, record_for, session_in, is_live, past_of, LogFits, Fits}
+use Rattle.cast_domain.specs.Fits.{process_named, record_for, session_in, is_live, past_of, LogFits, Fits, goes_on}
 use Rattle.cast_domain.proofs.Receipts.{group_same, others_told, past_same, was_live}
 use Rattle.cast_domain.proofs.Rows.{row_given}
-use Rattle.cast_domain.proofs.Logs.{log_alike, settled_same, logs_receive, logs_view}
+use Rattle.cast_domain.proofs.Logs.{log_alike, settled_same, logs_receive, logs_view, log_starts}
 use Rattle.cast_history.proofs.Rules.Follows.{choose}
 use Rattle.cast_history.proofs.Spots.{update_own, update_other, push_last, push_other, update_mapped}
 use Rattle.cast_types.proofs.Updates.{length_update}
@@ -79,16 +81,23 @@ orders_same s t orders here group process got abcasts acks fits g =
     let settled = settled_same s t g here (λ i. (group i g).view) (λ i. (group i g).number) acks in
     log_alike s t g (log_of orders g) here (λ i. (group i g).view) (λ i. (group i g).number) got (λ k i. abcasts i k)
     (omega (arith, settled))
+    (λ p is. (λ i. is_member ((if site_eq p.site (sym here i) then sym process i p.serial else no_process).standing g)) ∙ is)
     (λ p u is. (λ i. has_delivered (if site_eq p.site (here i) then process i p.serial else no_process) u) ∙ is)
     (fits g)
 
--- or where a process changed that has delivered the same
-pub orders_process : (s : State) (k : ℕ) (v : Process) (orders : List Log) → v.delivered ≡ (s.process k).delivered → ((g : GroupNo) → LogFits s g (log_of orders g)) → (g : GroupNo) → LogFits (set_process s k v) g (log_of orders g)
-orders_process s k v orders same fits g =
+-- or where a process changed that has delivered the same, and is a member of no group of which it was none
+pub orders_process : (s : State) (k : ℕ) (v : Process) (orders : List Log) → v.delivered ≡ (s.process k).delivered → ((g : GroupNo) → is_member (v.standing g) ≡ true → is_member ((s.process k).standing g) ≡ true) → ((g : GroupNo) → LogFits s g (log_of orders g)) → (g : GroupNo) → LogFits (set_process s k v) g (log_of orders g)
+orders_process s k v orders same were fits g =
     log_alike s (set_process s k v) g (log_of orders g) refl refl refl refl (λ j. refl) (omega arith)
+    (λ p is. was p (site_eq p.site s.here) (k == p.serial) (eqb-true k p.serial) is)
     (λ p u is. ap (is_among uid_eq u) (at p (site_eq p.site s.here) (k == p.serial) (eqb-true k p.serial)) ∙ is)
     (fits g)
   where
+    was : (p : Proc) (a b : Bool) → (b ≡ true → k ≡ p.serial) → is_member ((if a then (if b then v else s.process p.serial) else no_process).standing g) ≡ true → is_member ((if a then s.process p.serial else no_process).standing g) ≡ true
+    was p true true is member = ap (λ n. is_member ((s.process n).standing g)) (sym (is refl)) ∙ were g member
+    was p true false is member = member
+    was p false b is member = member
+
     at : (p : Proc) (a b : Bool) → (b ≡ true → k ≡ p.serial) → (if a then (if b then v else s.process p.serial) else no_process).delivered ≡ (if a then s.process p.serial else no_process).delivered
     at p true true is = same ∙ ap (λ n. (s.process n).delivered) (is refl)
     at p true false is = refl
@@ -100,7 +109,7 @@ orders_group s g v orders number view fits h =
     let views = group_same (λ x. x.view) s g v view h in
     let numbers = group_same (λ x. x.number) s g v number h in
     let settled = settled_same s (set_group s g v) h refl views numbers refl in
-    log_alike s (set_group s g v) h (log_of orders h) refl views numbers refl (λ k. refl) (omega (arith, settled)) (λ p u is. is) (fits h)
+    log_alike s (set_group s g v) h (log_of orders h) refl views numbers refl (λ k. refl) (omega (arith, settled)) (λ p is. is) (λ p u is. is) (fits h)
 
 -- Groups
 
@@ -412,9 +421,22 @@ told_delivered : (f : Fact) (p : Process) → (told_of f p).delivered ≡ p.deli
 told_delivered (fact.Standing g v) p = refl
 told_delivered (fact.Time t) p = refl
 
--- a process that was admitted is told of a fact
-pub fits_told : (r : Records) (s : State) → Fits r s → (k : ℕ) → IsSome (row_of r.delay.rows (local s k)) → (f : Fact) → FactFits s.config.groups f → Fits (tell_in r (local s k) f) (set_process s k (told_of f (s.process k)))
-fits_told r s fits k row f ok = record {
+-- a fact that makes nobody a member
+abbrev pub MakesNoMember : Fact → Type 0
+MakesNoMember (fact.Standing g v) = is_member v ≡ false
+MakesNoMember (fact.Time t) = Unit {0}
+
+-- it leaves no more members
+told_members : (f : Fact) (p : Process) → MakesNoMember f → (g : GroupNo) → is_member ((told_of f p).standing g) ≡ true → is_member (p.standing g) ≡ true
+told_members (fact.Standing h v) p none g = elim (group_eq h g) as (λ b. is_member (if b then v else p.standing g) ≡ true → is_member (p.standing g) ≡ true) [
+  | true ↦ λ is. absurd (false≢true (sym none ∙ is))
+  | false ↦ λ is. is
+]
+told_members (fact.Time t) p none g = λ is. is
+
+-- a process that was admitted is told of a fact, and the logs tell of that
+pub fits_told_with : (r : Records) (s : State) → Fits r s → (k : ℕ) → IsSome (row_of r.delay.rows (local s k)) → (f : Fact) → FactFits s.config.groups f → ((g : GroupNo) → LogFits (set_process s k (told_of f (s.process k))) g (log_of r.orders g)) → Fits (tell_in r (local s k) f) (set_process s k (told_of f (s.process k)))
+fits_told_with r s fits k row f ok logs = record {
   core = fits.core;
   opened = fits.opened;
   groups = fits.groups;
@@ -427,20 +449,60 @@ fits_told r s fits k row f ok = record {
     idle = still_idle s k (told_of f (s.process k)) (row_given s r.delay.rows s.used k fits.processes.rows row) fits.processes.idle;
   };
   acks = fits.acks;
-  orders = orders_process s k (told_of f (s.process k)) r.orders (told_delivered f (s.process k)) fits.orders;
+  orders = logs;
   frames = fits.frames;
   delivered = fits.delivered;
 }
 
--- each given serial has a row
-pub fits_tell : (r : Records) (s : State) → Fits r s → (k : ℕ) → was_given s.used k ≡ true → (f : Fact) → FactFits s.config.groups f → Fits (tell_in r (local s k) f) (set_process s k (told_of f (s.process k)))
-fits_tell r s fits k given f ok = fits_told r s fits k (fits.processes.admitted k given) f ok
+-- a fact that makes nobody a member
+pub fits_told : (r : Records) (s : State) → Fits r s → (k : ℕ) → IsSome (row_of r.delay.rows (local s k)) → (f : Fact) → FactFits s.config.groups f → MakesNoMember f → Fits (tell_in r (local s k) f) (set_process s k (told_of f (s.process k)))
+fits_told r s fits k row f ok none =
+    fits_told_with r s fits k row f ok
+    (orders_process s k (told_of f (s.process k)) r.orders (told_delivered f (s.process k)) (told_members f (s.process k) none) fits.orders)
 
-pub fits_standing : (r : Records) (s : State) → Fits r s → (k : ℕ) → was_given s.used k ≡ true → (g : GroupNo) (v : Standing) → (is_outside v ≡ false → is_group s g ≡ true) → Fits (tell_in r (local s k) (fact.Standing g v)) (set_standing s k g v)
-fits_standing r s fits k given g v ok = fits_tell r s fits k given (fact.Standing g v) ok
+-- a process enters the view of a group of whose order nothing is kept yet
+pub fits_member : (r : Records) (s : State) → Fits r s → (k : ℕ) → IsSome (row_of r.delay.rows (local s k)) → (g : GroupNo) → is_group s g ≡ true → log_of r.orders g ≡ new_log g → Fits (tell_in r (local s k) (fact.Standing g Member)) (set_standing s k g Member)
+fits_member r s fits k row g listed new = fits_told_with r s fits k row (fact.Standing g Member) (λ _. listed) logs
+  where
+    t : State
+    t = set_standing s k g Member
+
+    delivered : (p : Proc) (u : Uid) (a b : Bool) → (b ≡ true → k ≡ p.serial) → has_delivered (if a then s.process p.serial else no_process) u ≡ true → has_delivered (if a then (if b then told_of (fact.Standing g Member) (s.process k) else s.process p.serial) else no_process) u ≡ true
+    delivered p u true true is was = ap (λ n. has_delivered (s.process n) u) (is refl) ∙ was
+    delivered p u true false is was = was
+    delivered p u false b is was = was
+
+    same : (p : Proc) (h : GroupNo) → group_eq g h ≡ false → (a b : Bool) → (b ≡ true → k ≡ p.serial) → is_member ((if a then (if b then told_of (fact.Standing g Member) (s.process k) else s.process p.serial) else no_process).standing h) ≡ true → is_member ((if a then s.process p.serial else no_process).standing h) ≡ true
+    same p h apart true true is member =
+        ap (λ n. is_member ((s.process n).standing h)) (sym (is refl))
+        ∙ sym (ap (λ b. is_member (if b then Member else (s.process k).standing h)) apart) ∙ member
+    same p h apart true false is member = member
+    same p h apart false b is member = member
+
+    logs : (h : GroupNo) → LogFits t h (log_of r.orders h)
+    logs h = elim (cases_Bool (group_eq g h)) [
+      | inl here ↦ subst (λ x. LogFits t x (log_of r.orders x)) (same_group g h here) own
+      | inr apart ↦
+          log_alike s t h (log_of r.orders h) refl refl refl refl (λ j. refl) (omega arith)
+          (λ p is. same p h apart (site_eq p.site s.here) (k == p.serial) (eqb-true k p.serial) is)
+          (λ p u is. delivered p u (site_eq p.site s.here) (k == p.serial) (eqb-true k p.serial) is)
+          (fits.orders h)
+    ]
+      where
+        own : LogFits t g (log_of r.orders g)
+        own = log_starts s t g (log_of r.orders g) refl refl refl refl (λ j. refl) (omega arith) (λ p. ap (λ l. place_of l p) new)
+            (λ p u is. delivered p u (site_eq p.site s.here) (k == p.serial) (eqb-true k p.serial) is)
+            (fits.orders g)
+
+-- each given serial has a row
+pub fits_tell : (r : Records) (s : State) → Fits r s → (k : ℕ) → was_given s.used k ≡ true → (f : Fact) → FactFits s.config.groups f → MakesNoMember f → Fits (tell_in r (local s k) f) (set_process s k (told_of f (s.process k)))
+fits_tell r s fits k given f ok none = fits_told r s fits k (fits.processes.admitted k given) f ok none
+
+pub fits_standing : (r : Records) (s : State) → Fits r s → (k : ℕ) → was_given s.used k ≡ true → (g : GroupNo) (v : Standing) → (is_outside v ≡ false → is_group s g ≡ true) → is_member v ≡ false → Fits (tell_in r (local s k) (fact.Standing g v)) (set_standing s k g v)
+fits_standing r s fits k given g v ok none = fits_tell r s fits k given (fact.Standing g v) ok none
 
 pub fits_time : (r : Records) (s : State) → Fits r s → (k : ℕ) → was_given s.used k ≡ true → (t : ClockList) → Fits (tell_in r (local s k) (fact.Time t)) (set_process s k (record (s.process k) { time = t }))
-fits_time r s fits k given t = fits_tell r s fits k given (fact.Time t) tt
+fits_time r s fits k given t = fits_tell r s fits k given (fact.Time t) tt tt
 
 -- what processes did is the history's alone
 pub fits_acts : (r : Records) (s : State) → Fits r s → (acts : ℕ → List Act) → Fits r (record s { acts = acts })
@@ -618,7 +680,7 @@ fits_before here config = record {
     idle = λ k none. subst HasNotBegun (idle (record { site = here; serial = k })) (record { time = refl; delivered = refl });
   };
   acks = acks_new_fits here (is_live (before_event (opening here config)));
-  orders = λ g. record { stable = 0; reached = omega arith; fits = order_new_fits g (λ p e. has_delivered (process_named (before_event (opening here config)) p) (named g 0 e)); counted = λ x in_it. absurd (omega (arith, in_it.1)) };
+  orders = λ g. record { stable = 0; reached = omega arith; fits = order_new_fits g (goes_on (before_event (opening here config)) g) (λ p e. has_delivered (process_named (before_event (opening here config)) p) (named g 0 e)); counted = λ x in_it. absurd (omega (arith, in_it.1)) };
   frames = refl;
   delivered = refl;
 }

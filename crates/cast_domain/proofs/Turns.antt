@@ -247,7 +247,7 @@ fits_first r s fits l k given =
   where
     -- the turns of the groups that it is a member of
     turns : HasTurns (process_named s (local s k)) (turns_in r (local s k)) (turn_of s k)
-    turns g member = turns_there r s fits k (fits.processes.admitted k given) g (l.known k g (ap is_outside (only_member ((s.process k).standing g) (ap (λ p. is_member (p.standing g)) (sym (process_here s k)) ∙ member))))
+    turns g member = turns_there r s fits k (fits.processes.admitted k given) g (l.known k g (ap is_outside (only_member ((s.process k).standing g) (ap (λ p. is_member (p.standing g)) (sym (process_here s k)) ∙ member)))) member
 
     found_is : first_ready s.config.groups (gate_of s) (turn_of s k) (process_named s (local s k)) (messages r.part.kept) ≡ find (is_ready_for s k) s.got
     found_is = (λ i. find (is_ready s.config.groups (gate_of s) (turn_of s k) (process_here s k i)) (fits.messages.kept_in i)) ∙ sym (ready_kept s k given l)

@@ -8,7 +8,7 @@ use Rattle.cast_types.specs.declared.names.GroupNo.{GroupNo}
 use Rattle.cast_types.specs.declared.names.Proc.{Proc}
 use Rattle.cast_types.specs.declared.limits.TheConstants.{MAX_NUMBER}
 use Rattle.cast_types.specs.Names.{Entry, site_eq, named}
-use Rattle.cast_delay.specs.Ready.{Process, Gate, has_delivered}
+use Rattle.cast_delay.specs.Ready.{Process, Gate, is_member, has_delivered}
 use Rattle.cast_delay.specs.Queue.{Queue, row_of}
 use Rattle.cast_delay.specs.Fits.{HasNotBegun, Fits as QueueFits}
 use Rattle.cast_message.specs.Receipts.{messages, message_under}
@@ -84,12 +84,17 @@ settled_of s g p = if is_empty (others_of s g) then MAX_NUMBER else upto s (name
 abbrev pub settled_here : State → GroupNo → ℕ
 settled_here s g = option_map_or (settled_of s g) (holder_at s.here (s.group g)) 0
 
+-- a member of the group here goes on through the order of its view
+abbrev pub goes_on : State → GroupNo → Proc → Bool
+goes_on s g p = is_member ((process_named s p).standing g)
+
 -- a group's log tells of the order of its view, as it was told, delivered and listed here
 pub record LogFits (s : State) (g : GroupNo) (l : Log) : Type 0 where
   -- so many messages of the holder were stable when it listed last
   pub stable : ℕ
   pub reached : stable ≤ settled_here s g
-  pub fits : OrderFits (facts_in s g) (told_here s g) (lists_here s g) (λ p e. has_delivered (process_named s p) (named g (s.group g).number e)) stable l
+  pub fits : OrderFits (facts_in s g) (told_here s g) (lists_here s g) (goes_on s g)
+      (λ p e. has_delivered (process_named s p) (named g (s.group g).number e)) stable l
   pub counted : (x : ℕ × List Entry) → Contains (lists_here s g) x → x.0 ≤ MAX_NUMBER
 
 -- The records of a step so far, beside a state

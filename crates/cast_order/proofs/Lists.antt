@@ -1,8 +1,8 @@
 -- Lists of entries: what a test finds and keeps, and what is among them.
-use Rattle.std.proofs.Common.{◌≡◌, ℕ, zero, suc, ◌+◌, ◌-◌, Bool, true, false, cond, not, List, [], ◌∷◌, ◌++◌, length, take, drop, Option, Some, None, refl, sym, ap, subst, ◌∙◌, inl, inr, arith}
+use Rattle.std.proofs.Common.{◌≡◌, ℕ, zero, suc, ◌+◌, ◌-◌, ◌≤◌, Bool, true, false, cond, not, List, [], ◌∷◌, ◌++◌, length, take, drop, Option, Some, None, refl, sym, ap, subst, ◌∙◌, inl, inr, arith}
 use Rattle.std.specs.List.{find, filter, list_all}
 use Rattle.std.specs.Option.{option_or}
-use Rattle.std.proofs.lemmas.Bool.{cases_Bool, false≢true, false_from_ne_true, and_parts, or_cases, or_left, or_right}
+use Rattle.std.proofs.lemmas.Bool.{cases_Bool, false≢true, false_from_ne_true, and_parts, and_from, or_cases, or_left, or_right}
 use Rattle.cast_types.specs.Names.{Entry, entry_eq}
 use Rattle.cast_types.specs.Sets.{is_among}
 use Rattle.cast_types.proofs.Orders.{same_entry, entry_itself}
@@ -113,3 +113,30 @@ drop_on zero (x ∷ xs) ys = let e : 0 ≡ zero - suc (length xs) = omega arith 
 drop_on (suc n) (x ∷ xs) ys =
     let e : n - length xs ≡ suc n - suc (length xs) = omega arith in
     drop_on n xs ys ∙ ap (λ k. drop n xs ++ drop k ys) e
+
+-- a test that all of a list pass keeps it, and all of its first ones pass
+pub all_kept : {A : Type 0} (t : A → Bool) (xs : List A) → list_all t xs ≡ true → filter t xs ≡ xs
+all_kept t [] all = refl
+all_kept t (x ∷ xs) all =
+    let parts = and_parts (t x) (list_all t xs) all in
+    ap (λ b. cond b (x ∷ filter t xs) (filter t xs)) parts.0 ∙ ap (λ rest. x ∷ rest) (all_kept t xs parts.1)
+
+pub all_first : {A : Type 0} (t : A → Bool) (n m : ℕ) (xs : List A) → n ≤ m → list_all t (take m xs) ≡ true → list_all t (take n xs) ≡ true
+all_first t zero m xs le all = refl
+all_first t (suc n) zero xs le all = absurd (omega arith)
+all_first t (suc n) (suc m) [] le all = refl
+all_first t (suc n) (suc m) (x ∷ xs) le all =
+    let parts = and_parts (t x) (list_all t (take m xs)) all in
+    and_from (t x) (list_all t (take n xs)) parts.0 (all_first t n m xs (omega arith) parts.1)
+
+-- where nothing is found among the first of a list, nothing is among fewer
+pub none_first : {A : Type 0} (t : A → Bool) (n m : ℕ) (xs : List A) → n ≤ m → find t (take m xs) ≡ None → find t (take n xs) ≡ None
+none_first t zero m xs le none = refl
+none_first t (suc n) zero xs le none = absurd (omega arith)
+none_first t (suc n) (suc m) [] le none = refl
+none_first t (suc n) (suc m) (x ∷ xs) le none = elim (cases_Bool (t x)) [
+  | inl passes ↦ let some : Some x ≡ None = subst (λ b. cond b (Some x) (find t (take m xs)) ≡ None) passes none in cc
+  | inr fails ↦
+      let rest : find t (take m xs) ≡ None = subst (λ b. cond b (Some x) (find t (take m xs)) ≡ None) fails none in
+      ap (λ b. cond b (Some x) (find t (take n xs))) fails ∙ none_first t n m xs (omega arith) rest
+]

@@ -1,16 +1,17 @@
 -- The logs of all groups: what one group has while its own or another's changes or goes.
-use Rattle.std.proofs.Common.{◌≡◌, Bool, true, false, cond, not, ◌||◌, List, [], ◌∷◌, ◌++◌, Some, None, unwrap_or, refl, sym, ap, ◌∙◌, inl, inr}
+use Rattle.std.proofs.Common.{◌≡◌, ℕ, ◌-◌, min, max, Bool, true, false, cond, not, ◌||◌, List, [], ◌∷◌, ◌++◌, drop, Some, None, unwrap_or, refl, sym, ap, ◌∙◌, inl, inr, arith}
 use Rattle.std.specs.Prelude.{if◌then◌else◌}
 use Rattle.std.specs.List.{find, list_any}
 use Rattle.std.specs.Option.{option_or}
 use Rattle.std.proofs.lemmas.Bool.{cases_Bool, false≢true, or_parts}
 use Rattle.std.proofs.lemmas.List.{map-append}
 use Rattle.std.proofs.lemmas.List.Folds.{find-append}
+use Rattle.cast_types.specs.declared.limits.TheConstants.{MAX_POSITION}
 use Rattle.cast_types.specs.declared.names.GroupNo.{GroupNo}
 use Rattle.cast_types.specs.Names.{group_eq}
 use Rattle.cast_types.proofs.Orders.{same_group, group_itself}
-use Rattle.cast_order.specs.Log.{Log, new_log, log_of, change_in, opened, change_log, but_log}
-use Rattle.cast_order.specs.Laws.{ChangeIsOfOneGroup, ForgetIsOfOneGroup}
+use Rattle.cast_order.specs.Log.{Log, new_log, length_of, log_of, change_in, opened, change_log, but_log, forgot}
+use Rattle.cast_order.specs.Laws.{ChangeIsOfOneGroup, ForgetFirstIsOfOneGroup, ForgetIsOfOneGroup}
 use Rattle.cast_order.proofs.Lists.{or_none}
 
 abbrev of_group : GroupNo → Log → Bool
@@ -118,6 +119,32 @@ log_of_change logs g h f keeps = elim (cases_Bool (group_eq g h)) [
   | inr other ↦
       change_other g h f keeps other logs
       ∙ ap (λ b. cond b (f (log_of logs g)) (log_of logs h)) (sym other)
+]
+
+-- a new log has no ids to forget
+new_forgets : (g : GroupNo) (count : ℕ) → forgot count (new_log g) ≡ new_log g
+new_forgets g count =
+    let upto : ℕ = min MAX_POSITION (min count (length_of (new_log g))) in
+    let none : upto ≡ 0 = omega arith in
+    λ i. record (new_log g) { base = max 0 (none i); window = drop (none i - 0) [] }
+
+none_forgets : (g h : GroupNo) (count : ℕ) (logs : List Log) → list_any (of_group g) logs ≡ false → log_of (change_in g (forgot count) logs) h ≡ (if group_eq g h then forgot count (log_of logs g) else log_of logs h)
+none_forgets g h count logs none = ap (λ ls. log_of ls h) (sym (none_changes g (forgot count) logs none)) ∙ elim (cases_Bool (group_eq g h)) [
+  | inl same ↦
+      let lost : log_of logs g ≡ new_log g = ap (λ o. unwrap_or o (new_log g)) (none_found g logs none) in
+      ap (log_of logs) (sym (same_group g h same))
+      ∙ lost ∙ sym (new_forgets g count) ∙ ap (forgot count) (sym lost)
+      ∙ ap (λ b. cond b (forgot count (log_of logs g)) (log_of logs h)) (sym same)
+  | inr other ↦ ap (λ b. cond b (forgot count (log_of logs g)) (log_of logs h)) (sym other)
+]
+
+-- what each group has after one's first ids are forgotten
+pub log_of_forget_first : ForgetFirstIsOfOneGroup
+log_of_forget_first logs g h count = elim (cases_Bool (list_any (of_group g) logs)) [
+  | inl some ↦
+      ap (λ b. log_of (cond b (change_in g (forgot count) logs) (logs ++ forgot count (new_log g) ∷ [])) h) (sym some)
+      ∙ log_of_change logs g h (forgot count) (λ l. refl)
+  | inr none ↦ none_forgets g h count logs none
 ]
 
 -- a forgotten log is not found, and each other one is

@@ -1,22 +1,24 @@
 -- What a site keeps of a group's order, as contracts see it, and what each call does to it.
-use Rattle.std.specs.Prelude.{ℕ, ◌+◌, ◌-◌, Bool, true, false, not, ◌&&◌, nat_lt, nat_le, min, if◌then◌else◌, List, [], ◌∷◌, ◌++◌, length, drop, map, filter, Option, Some, None, unwrap_or}
+use Rattle.std.specs.Prelude.{ℕ, ◌+◌, ◌-◌, Bool, true, false, not, ◌&&◌, nat_lt, nat_le, min, max, if◌then◌else◌, List, [], ◌∷◌, ◌++◌, length, take, drop, map, filter, Option, Some, None, unwrap_or}
 use Rattle.std.specs.List.{find, list_any, sum_by}
 use Rattle.std.specs.Option.{is_none}
 use Rattle.std.specs.FinMap.Entries.{find as find_key, put}
-use Rattle.cast_types.specs.declared.limits.TheConstants.{MAX_PLACED, MAX_UNSETTLED, MAX_POSITION}
+use Rattle.cast_types.specs.declared.limits.TheConstants.{MAX_PLACED, MAX_TAIL, MAX_UNSETTLED, MAX_POSITION}
 use Rattle.cast_types.specs.declared.names.GroupNo.{GroupNo}
 use Rattle.cast_types.specs.declared.names.Proc.{Proc}
 use Rattle.cast_types.specs.Names.{Entry, proc_cmp, group_eq}
 use Rattle.cast_message.specs.Sequence.{Sequence}
-use Rattle.cast_order.specs.Order.{Facts, facts_of, id_at, order_from, ids_to_list, place_after, closed_order}
+use Rattle.cast_order.specs.Order.{Facts, facts_of, id_at, order_from, ids_to_list}
 
--- known: the order known; later: facts of places past a gap, in order of receipt; places: how many of the first ids
--- known each local process has passed; waiting: ABCASTs that the holder here delivered and has not listed, in its order;
--- lists: its set-order messages that were not stable when the last one was made, each by its count and how many ids;
--- closed: whether the order is closed, so that nothing more is learnt
+-- base: how many of the first ids known are forgotten; window: the ids known behind them; later: facts of places past a
+-- gap, in order of receipt; places: how many of the first ids known local processes have passed, each at least those that
+-- are forgotten; waiting: ABCASTs that the holder here delivered and has not listed, in its order; lists: its set-order
+-- messages that were not stable when the last one was made, each by its count and how many ids; closed: whether the order
+-- is closed, so that nothing more is learnt
 pub record Log : Type 0 where
   pub group : GroupNo
-  pub known : List Entry
+  pub base : ℕ
+  pub window : List Entry
   pub later : Facts
   pub places : List (Proc × ℕ)
   pub waiting : List Entry
@@ -24,7 +26,11 @@ pub record Log : Type 0 where
   pub closed : Bool
 
 abbrev pub new_log : GroupNo → Log
-new_log g = record { group = g; known = []; later = []; places = []; waiting = []; lists = []; closed = false }
+new_log g = record { group = g; base = 0; window = []; later = []; places = []; waiting = []; lists = []; closed = false }
+
+-- how many ids are known, with those that are forgotten
+abbrev pub length_of : Log → ℕ
+length_of l = l.base + length l.window
 
 -- The logs of all groups, at most one of each
 
@@ -60,26 +66,32 @@ abbrev pub with_facts : ℕ → Facts → Facts → Facts
 with_facts known facts [] = facts
 with_facts known facts (f ∷ more) = with_facts known (with_fact known facts f.0 f.1) more
 
--- the order known with what later facts add to it, and the facts past that
+-- ids that stand behind so many, with what facts tell of the places behind them
+abbrev pub with_next : ℕ → List Entry → Facts → List Entry
+with_next base ids facts = ids ++ order_from (MAX_POSITION - (base + length ids)) (base + length ids + 1) facts
+
+-- the ids kept of the order known with what later facts add to them, and the facts past a place
 abbrev pub longer : Log → List Entry
-longer l = l.known ++ order_from (MAX_POSITION - length l.known) (length l.known + 1) l.later
+longer l = with_next l.base l.window l.later
 
 abbrev pub past : ℕ → Facts → Facts
 past known facts = filter (λ f. nat_lt known f.0) facts
 
 abbrev pub settled : Log → Log
-settled l = record l { known = longer l; later = past (length (longer l)) l.later }
+settled l = record l { window = longer l; later = past (l.base + length (longer l)) l.later }
 
 -- a set-order message is taken in, unless the order is closed
 abbrev pub learnt : Sequence → Log → Log
 learnt s l =
-    if l.closed then l else settled (record l { later = with_facts (length l.known) l.later (facts_of s) })
+    if l.closed then l else settled (record l { later = with_facts (length_of l) l.later (facts_of s) })
 
--- the end of the order is told: the order known is the closed one, and nothing else is kept
+-- the end of the order is told, from a place on: the order known becomes the first ids up to there, and behind them those
+-- that are told, all that are kept without ids beyond the cut; what is forgotten stays so up to there; nothing else is kept
 abbrev pub closed_by : (Entry → Bool) → ℕ → List Entry → Log → Log
 closed_by is_within start ids l = record {
   group = l.group;
-  known = closed_order is_within start ids l.known;
+  base = min l.base start;
+  window = filter is_within (take (start - l.base) l.window ++ ids);
   later = [];
   places = [];
   waiting = [];
@@ -87,13 +99,20 @@ closed_by is_within start ids l = record {
   closed = true;
 }
 
+-- the first ids up to a place are forgotten, at most all that are known, and none past the last place
+abbrev pub forgot : ℕ → Log → Log
+forgot count l =
+    let upto : ℕ = min MAX_POSITION (min count (length_of l)) in
+    record l { base = max l.base upto; window = drop (upto - l.base) l.window }
+
 -- What local processes deliver
 
+-- each passed all that is forgotten
 abbrev pub place_of : Log → Proc → ℕ
-place_of l p = unwrap_or (find_key proc_cmp p l.places) 0
+place_of l p = max l.base (unwrap_or (find_key proc_cmp p l.places) 0)
 
 abbrev pub next_in : Log → Proc → List Entry
-next_in l p = drop (place_of l p) l.known
+next_in l p = drop (place_of l p - l.base) l.window
 
 -- a process passed the next n ids, at most all that are known
 abbrev pub passed : Proc → ℕ → Log → Log
@@ -110,8 +129,8 @@ waits_in l = nat_lt 0 (length l.waiting)
 -- the places that the next set-order message sets, none where nothing waits or no place is left
 abbrev pub next_places : Log → Option Sequence
 next_places l =
-    if waits_in l && nat_lt (length l.known) MAX_POSITION
-    then Some (record { first = place_after l.known; ids = ids_to_list l.waiting }) else None
+    if waits_in l && nat_lt (length_of l) MAX_POSITION
+    then Some (record { first = length_of l + 1; ids = ids_to_list l.waiting }) else None
 
 -- a set-order message of this count lists what is next, and the holder's messages up to a count are stable
 abbrev pub assigned : ℕ → ℕ → Log → Log
@@ -132,8 +151,15 @@ unsettled_in stable l = length l.waiting + ids_above stable l.lists
 -- whether the holder may deliver one more: by their number, and by the places left
 abbrev pub has_room_in : ℕ → Log → Bool
 has_room_in stable l =
-    nat_lt (unsettled_in stable l) MAX_UNSETTLED && nat_lt (length l.known + length l.waiting) MAX_POSITION
+    nat_lt (unsettled_in stable l) MAX_UNSETTLED && nat_lt (length_of l + length l.waiting) MAX_POSITION
 
--- the order known, and behind it what waits to be listed
-abbrev pub whole_order : Log → List Entry
-whole_order l = l.known ++ l.waiting
+-- what is kept of the order known, and behind it what waits to be listed
+abbrev pub whole_kept : Log → List Entry
+whole_kept l = l.window ++ l.waiting
+
+-- how many ids stand before the tail of the order known and what waits, and its ids, as far as they are kept
+abbrev pub tail_start_in : Log → ℕ
+tail_start_in l = max l.base (length_of l + length l.waiting - MAX_TAIL)
+
+abbrev pub tail_ids_in : Log → List Entry
+tail_ids_in l = drop (tail_start_in l - l.base) (whole_kept l)

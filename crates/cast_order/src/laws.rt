@@ -1,5 +1,5 @@
 ghost use Rattle.cast_order.specs.Order.{KnownOrderInWords};
-ghost use Rattle.cast_order.specs.Laws.{NewFits, LearnKeepsMeaning, TellKeepsMeaning, AssignKeepsMeaning, PassKeepsMeaning, MoreKeepsMeaning, NextIsTheRule, UnsettledIsTheRule, AssignIsTheRule, WholeIsTheRule, CloseEndsTheOrder, ClosedLearnsNothing, PassKeepsClosed, MoreKeepsClosed, TellKeepsClosed, NextIsOfTheClosed, ChangeIsOfOneGroup, ForgetIsOfOneGroup};
+ghost use Rattle.cast_order.specs.Laws.{NewFits, LearnKeepsMeaning, TellKeepsMeaning, AssignKeepsMeaning, PassKeepsMeaning, MoreKeepsMeaning, ForgetKeepsMeaning, NextIsTheRule, LengthIsTheRule, UnsettledIsTheRule, AssignIsTheRule, WholeIsTheRule, TailIsTheRule, CloseEndsTheOrder, ClosedLearnsNothing, PassKeepsClosed, MoreKeepsClosed, TellKeepsClosed, NextIsOfTheClosed, ChangeIsOfOneGroup, ForgetFirstIsOfOneGroup, ForgetIsOfOneGroup};
 
 /// The known order says what the rule says in words: each place has the first id told for it, and the order ends only
 /// before a place of which nothing was told, or at the last place.
@@ -7,18 +7,22 @@ pub fn order_is_the_rule_in_words()
     ensures { KnownOrderInWords }
 {}
 
-/// By what a site keeps, the first id that a process has not delivered is that of the whole order known; as many ABCASTs
-/// are unsettled as the holder delivered beyond those that its stable set-order messages list; its next one sets the
-/// places behind the order known, of what it delivered and has not listed; and that makes up the whole order.
+/// By what a site keeps, the first id that a process which goes on through the order has not delivered is that of the whole
+/// order known; as many ids are known as that has; as many ABCASTs are unsettled as the holder delivered beyond those that
+/// its stable set-order messages list; its next one sets the places behind the order known, of what it delivered and has
+/// not listed; that makes up the whole order, of which all but the first ids are kept; and the tail is that of it.
 pub fn log_means_the_rule()
     ensures next { NextIsTheRule }
+    ensures length { LengthIsTheRule }
     ensures unsettled { UnsettledIsTheRule }
     ensures assign { AssignIsTheRule }
     ensures whole { WholeIsTheRule }
+    ensures tail { TailIsTheRule }
 {}
 
 /// What each call does to what is kept it does to what that means: a set-order message is received, the holder
-/// delivers an ABCAST and lists what is next, and processes deliver what the order names.
+/// delivers an ABCAST and lists what is next, processes deliver what the order names, and first ids are forgotten that
+/// each process which goes on has passed and that are not of the tail.
 pub fn log_keeps_its_meaning()
     ensures new { NewFits }
     ensures learn { LearnKeepsMeaning }
@@ -26,11 +30,12 @@ pub fn log_keeps_its_meaning()
     ensures assign { AssignKeepsMeaning }
     ensures pass { PassKeepsMeaning }
     ensures more { MoreKeepsMeaning }
+    ensures forget { ForgetKeepsMeaning }
 {}
 
-/// When the end of a view's order is told, the order known becomes the closed one. Then nothing is learnt, processes
-/// deliver what the closed order names, the holder may still deliver, and the first id that a process has not delivered
-/// is that of the whole closed order.
+/// When the end of a view's order is told, whose cut leaves out none of the ids that are forgotten, the order known becomes
+/// the closed one. Then nothing is learnt, processes deliver what the closed order names, the holder may still deliver, and
+/// the first id that a process which goes on has not delivered is that of the whole closed order.
 pub fn a_closed_order_stays()
     ensures close { CloseEndsTheOrder }
     ensures learn { ClosedLearnsNothing }
@@ -43,5 +48,6 @@ pub fn a_closed_order_stays()
 /// A call about one group changes what is kept of no other.
 pub fn groups_do_not_mix()
     ensures change { ChangeIsOfOneGroup }
+    ensures forget_first { ForgetFirstIsOfOneGroup }
     ensures forget { ForgetIsOfOneGroup }
 {}

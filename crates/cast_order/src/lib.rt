@@ -4,14 +4,16 @@
 //! and lists them in set-order messages, each of which tells the ids at a place and at those after it. So in Birman,
 //! Schiper and Stephenson, "Lightweight Causal and Atomic Group Multicast", ACM TOCS 9(3), 1991.
 //!
-//! Promised: `known` is the order as far as set-order messages told it without a gap, where the first id told for a place
-//! counts; `next` begins so that its first id which the process has not delivered is that of the whole order; `assign`
-//! names the places that the holder's next set-order message sets, of ids that it delivered and has listed in none,
-//! each once and in its order; and `has_room` counts exactly what the holder delivered beyond what its stable set-order
-//! messages list, all of it for all that was ever told of the view (`Fits`); each call does to the records what it does
-//! to that (`laws`). `close` makes of the order known the one that a view has when it ends, and nothing more is learnt of
-//! that view. `known`, `next`, `has_room`, `waits` and `forget` take no memory. Where memory is refused, the orders are of
-//! no further use.
+//! Promised: the order is known as far as set-order messages told it without a gap, where the first id told for a place
+//! counts, and `length` is how many ids that has; `next` begins so that its first id which the process has not delivered
+//! is that of the whole order; `assign` names the places that the holder's next set-order message sets, of ids that it
+//! delivered and has listed in none, each once and in its order; `tail` gives the last ids of the whole order; and
+//! `has_room` counts exactly what the holder delivered beyond what its stable set-order messages list, all of it for all
+//! that was ever told of the view (`Fits`); each call does to the records what it does to that (`laws`). `forget_first`
+//! lets go of the first ids known: that changes nothing of this for a process that has passed them, and nothing of the
+//! tail. `close` makes of the order known the one that a view has when it ends, and nothing more is learnt of that view.
+//! `length`, `next`, `has_room`, `waits`, `forget_first` and `forget` take no memory. Where memory is refused, the orders
+//! are of no further use.
 //!
 //! The definitions are in `specs/`: `Order` has the rule over all that was told, as a function and in words, `Log` what a
 //! site keeps and does, exactly, `Fits` when that tells of given facts, deliveries and messages, and `Laws` that it goes

@@ -1,21 +1,21 @@
-ghost use Rattle.std.specs.Prelude.{◌≡◌, ◌+◌, ◌-◌, ◌++◌, min, nat_lt, filter, length, take, drop, OnOk, IfOk};
+ghost use Rattle.std.specs.Prelude.{◌≡◌, ◌+◌, min, nat_lt, filter, take, drop, OnOk, IfOk};
 ghost use Rattle.std.specs.List.{enumerate_from};
 ghost use Rattle.cast_types.specs.Counts.{is_within};
-ghost use Rattle.cast_types.specs.declared.limits.TheConstants.{MAX_POSITION};
-ghost use Rattle.cast_order.specs.Order.{id_at, order_from, tail_start, tail_ids};
-ghost use Rattle.cast_order.specs.Log.{new_log, with_fact, with_facts, past, settled, learnt, place_of, next_in, passed, told, waits_in, next_places, assigned, ids_above, has_room_in, whole_order, closed_by};
+ghost use Rattle.cast_order.specs.Order.{id_at};
+ghost use Rattle.cast_order.specs.Log.{length_of, new_log, with_fact, with_facts, with_next, past, settled, learnt, place_of, next_in, passed, told, waits_in, next_places, assigned, ids_above, has_room_in, tail_start_in, tail_ids_in, closed_by, forgot};
 
 use cast_message::{Placement, Tail};
 use cast_types::limits::{MAX_PLACED, MAX_POSITION, MAX_TAIL, MAX_UNSETTLED};
 use cast_types::{Counts, GroupNo, Keyed, Listed, NoMemory, Proc};
-use std::alloc::Global;
+use std::alloc::{AllocError, Global};
 use std::marker::Model;
 
 /// What a site keeps of one group's order. Contracts see a `Log`.
 #[derive(Drop)]
 pub struct OrderLog {
     pub group: GroupNo,
-    known: Vec<(Proc, u32)>,
+    base: u32,
+    window: Vec<(Proc, u32)>,
     later: Vec<(usize, (Proc, u32))>,
     places: Keyed<Proc, usize>,
     waiting: Vec<(Proc, u32)>,
@@ -28,7 +28,7 @@ impl Model for OrderLog {
 
     ghost Value = { Log };
 
-    ghost view = { λ l. record { group = l.group; known = l.known.items; later = l.later.items; places = l.places; waiting = l.waiting.items; lists = l.lists.items; closed = l.closed } };
+    ghost view = { λ l. record { group = l.group; base = l.base; window = l.window.items; later = l.later.items; places = l.places; waiting = l.waiting.items; lists = l.lists.items; closed = l.closed } };
 }
 
 impl OrderLog {
@@ -38,7 +38,8 @@ impl OrderLog {
     {
         OrderLog {
             group,
-            known: Vec::new(alloc),
+            base: 0,
+            window: Vec::new(alloc),
             later: Vec::new(alloc),
             places: Keyed::new(alloc),
             waiting: Vec::new(alloc),
@@ -54,7 +55,7 @@ impl OrderLog {
         if self.closed {
             return Ok(());
         }
-        let known = self.known.len();
+        let known = self.length();
         add_facts(&mut self.later, known, placement.first(), placement.ids())?;
         self.settle()?;
         Ok(())
@@ -64,47 +65,62 @@ impl OrderLog {
     fn settle(&mut self) -> Result<(), NoMemory>
         ensures { OnOk result (self.new ≡ settled self.old) }
     {
-        extend(&mut self.known, &self.later)?;
-        keep_past(&mut self.later, self.known.len());
+        extend(&mut self.window, self.base, &self.later)?;
+        let known = self.length();
+        keep_past(&mut self.later, known);
         Ok(())
     }
 
-    /// Closes the order: it becomes its first ids and those of the tail, all without ids beyond the cut.
+    /// How many ids are known, with those that are forgotten.
+    pub fn length(&self) -> usize
+        ensures { result ≡ length_of self.now }
+    {
+        self.base as usize + self.window.len()
+    }
+
+    /// Closes the order: it becomes its first ids and those of the tail, all that are kept without ids beyond the cut.
     pub fn close(&mut self, tail: &Tail, cut: &Counts) -> Result<(), NoMemory>
         ensures { OnOk result (self.new ≡ closed_by (is_within cut.now) tail.now.start tail.now.ids self.old) }
     {
-        self.known.truncate(tail.start() as usize);
-        self.known.extend_from_slice(tail.ids())?;
-        keep_within(&mut self.known, cut);
+        let start = tail.start();
+        let kept = start.saturating_sub(self.base) as usize;
+        self.window.truncate(kept);
+        self.window.extend_from_slice(tail.ids())?;
+        keep_within(&mut self.window, cut);
+        self.base = self.base.min(start);
         self.later.clear();
-        self.places = Keyed::new(*self.known.allocator());
+        self.places = Keyed::new(*self.window.allocator());
         self.waiting.clear();
         self.lists.clear();
         self.closed = true;
         Ok(())
     }
 
-    /// The order known.
-    pub fn known(&self) -> &[(Proc, u32)]
-        ensures { result.now ≡ self.now.known }
+    /// Forgets the first ids up to a place, at most all that are known.
+    pub fn forget_first(&mut self, count: usize)
+        ensures { self.new ≡ forgot count self.old }
     {
-        &self.known
+        let upto = count.min(self.length()).min(MAX_POSITION as usize);
+        let more = upto.saturating_sub(self.base as usize);
+        remove_first(&mut self.window, more);
+        self.base = self.base.max(upto as u32);
     }
 
     /// The ids that a process has not passed.
     pub fn next(&self, process: Proc) -> &[(Proc, u32)]
         ensures { result.now ≡ next_in self.now process }
     {
-        past_first(&self.known, self.place(process))
+        past_first(&self.window, self.place(process) - self.base as usize)
     }
 
-    // How many of the first ids a process has passed.
+    // How many of the first ids a process has passed, with those that are forgotten.
     fn place(&self, process: Proc) -> usize
         ensures { result ≡ place_of self.now process }
     {
+        let base = self.base as usize;
         match self.places.get(&process) {
-            Some(place) => *place,
-            None => 0,
+            Some(place) => base.max(*place),
+            None => base,
         }
     }
 
@@ -112,9 +128,9 @@ impl OrderLog {
     pub fn pass(&mut self, process: Proc, count: usize) -> Result<(), NoMemory>
         ensures { OnOk result (self.new ≡ passed process count self.old) }
     {
-        let more = count.min(self.next(process).len());
-        let place = self.place(process) + more;
-        self.places.put(process, place)?;
+        let place = self.place(process);
+        let more = count.min(self.length().saturating_sub(place));
+        self.places.put(process, place + more)?;
         Ok(())
     }
 
@@ -137,10 +153,10 @@ impl OrderLog {
     pub fn assign(&self) -> Result<Option<Placement>, NoMemory>
         ensures { IfOk result (λ q. q ≡ next_places self.now) }
     {
-        if !self.waits() || MAX_POSITION as usize <= self.known.len() {
+        if !self.waits() || MAX_POSITION as usize <= self.length() {
             return Ok(None);
         }
-        let first = self.known.len() as u32 + 1;
+        let first = self.length() as u32 + 1;
         let ids = Vec::from_slice(
             *self.waiting.allocator(),
             first_ids(&self.waiting, MAX_PLACED),
@@ -164,17 +180,23 @@ impl OrderLog {
         ensures { result ≡ has_room_in stable self.now }
     {
         let unsettled = unsettled(self.waiting.len(), &self.lists, stable);
-        unsettled < MAX_UNSETTLED && self.known.len() + self.waiting.len() < MAX_POSITION as usize
+        unsettled < MAX_UNSETTLED
+            && self.length().saturating_add(self.waiting.len()) < MAX_POSITION as usize
     }
 
-    /// How many ids stand before the tail of the whole order, and its ids.
+    /// How many ids stand before the tail of the whole order, and its ids, as far as they are kept.
     pub fn tail(&self) -> Result<(usize, Listed<(Proc, u32)>), NoMemory>
-        ensures { IfOk result (λ t. t ≡ (tail_start (whole_order self.now), tail_ids (whole_order self.now))) }
+        ensures { IfOk result (λ t. t ≡ (tail_start_in self.now, tail_ids_in self.now)) }
     {
-        let known = self.known.len();
-        let start = (known + self.waiting.len()).saturating_sub(MAX_TAIL);
-        let alloc = *self.known.allocator();
-        let mut ids = Vec::from_slice(alloc, past_first(&self.known, start))?;
+        let known = self.length();
+        // No memory holds more ids than a number counts.
+        let Some(whole) = known.checked_add(self.waiting.len()) else {
+            return Err(AllocError);
+        };
+        let base = self.base as usize;
+        let start = base.max(whole.saturating_sub(MAX_TAIL));
+        let alloc = *self.window.allocator();
+        let mut ids = Vec::from_slice(alloc, past_first(&self.window, start - base))?;
         ids.extend_from_slice(past_first(&self.waiting, start.saturating_sub(known)))?;
         Ok((start, Listed::from_vec(ids)))
     }
@@ -246,15 +268,19 @@ fn add_facts(
     Ok(())
 }
 
-// Adds to the order known what the facts tell of the places behind it, up to a gap.
-fn extend(known: &mut Vec<(Proc, u32)>, facts: &[(usize, (Proc, u32))]) -> Result<(), NoMemory>
-    ensures { OnOk result (known.new.items ≡ known.old.items ++ order_from (MAX_POSITION - length known.old.items) (length known.old.items + 1) facts.now) }
+// Adds to the ids known behind the first ones what the facts tell of the places behind them, up to a gap.
+fn extend(
+    window: &mut Vec<(Proc, u32)>,
+    base: u32,
+    facts: &[(usize, (Proc, u32))],
+) -> Result<(), NoMemory>
+    ensures { OnOk result (window.new.items ≡ with_next base window.old.items facts.now) }
 {
-    for place in known.len() + 1..MAX_POSITION as usize + 1 {
+    for place in base as usize + window.len() + 1..MAX_POSITION as usize + 1 {
         let Some(id) = id_at(facts, place) else {
             break;
         };
-        known.push(id)?;
+        window.push(id)?;
     }
     Ok(())
 }

@@ -3,8 +3,7 @@ ghost use Rattle.std.specs.List.{find, list_any};
 ghost use Rattle.std.specs.Option.{option_copied};
 ghost use Rattle.cast_types.specs.Counts.{is_within};
 ghost use Rattle.cast_types.specs.Names.{group_eq};
-ghost use Rattle.cast_order.specs.Order.{tail_start, tail_ids};
-ghost use Rattle.cast_order.specs.Log.{log_of, change_in, opened, change_log, but_log, learnt, next_in, passed, told, waits_in, next_places, assigned, has_room_in, whole_order, closed_by};
+ghost use Rattle.cast_order.specs.Log.{length_of, log_of, change_in, opened, change_log, but_log, learnt, next_in, passed, told, waits_in, next_places, assigned, has_room_in, tail_start_in, tail_ids_in, closed_by, forgot};
 
 use crate::log::OrderLog;
 use cast_message::{Placement, Tail};
@@ -48,19 +47,19 @@ impl Orders {
         Ok(())
     }
 
-    /// The order of a group as far as it is known without a gap, from place 1 on: ids of ABCASTs, each a process and a
-    /// count. Takes no memory.
-    pub fn known(&self, group: GroupNo) -> &[(Proc, u32)]
-        ensures { result.now ≡ (log_of self.now group).known }
+    /// How many ids of a group's order are known without a gap, from place 1 on, with those that are forgotten. Takes no
+    /// memory.
+    pub fn length(&self, group: GroupNo) -> usize
+        ensures { result ≡ length_of (log_of self.now group) }
     {
         match log_in(&self.logs, group) {
-            Some(log) => log.known(),
-            None => &[],
+            Some(log) => log.length(),
+            None => 0,
         }
     }
 
-    /// The ids known from the process's place on: its next position is that of the first of them that it has not
-    /// delivered. Takes no memory.
+    /// The ids known from the process's place on, each a process and a count: its next position is that of the first of
+    /// them that it has not delivered. Takes no memory.
     pub fn next(&self, group: GroupNo, process: Proc) -> &[(Proc, u32)]
         ensures { result.now ≡ next_in (log_of self.now group) process }
     {
@@ -136,10 +135,10 @@ impl Orders {
         }
     }
 
-    /// The last ids of the order known and, behind it, of what waits to be listed, at most 512, and how many stand before
-    /// them.
+    /// The last ids of the order known and, behind it, of what waits to be listed, at most 512 and none that is forgotten,
+    /// and how many stand before them.
     pub fn tail(&self, group: GroupNo) -> Result<(usize, Listed<(Proc, u32)>), NoMemory>
-        ensures { IfOk result (λ t. t ≡ (tail_start (whole_order (log_of self.now group)), tail_ids (whole_order (log_of self.now group)))) }
+        ensures { IfOk result (λ t. t ≡ (tail_start_in (log_of self.now group), tail_ids_in (log_of self.now group))) }
     {
         match log_in(&self.logs, group) {
             Some(log) => log.tail(),
@@ -147,10 +146,10 @@ impl Orders {
         }
     }
 
-    /// Closes the order of a group's view, which has ended: `known` becomes the first ids known, as many as the tail says
-    /// stand before it, all where fewer are known, and behind them the tail's ids, all without ids beyond the cut.
-    /// Nothing more is learnt of it then, nothing waits to be listed, and each process is to go through it from its first
-    /// place on.
+    /// Closes the order of a group's view, which has ended: it becomes the first ids known, as many as the tail says stand
+    /// before it, all where fewer are known, and behind them the tail's ids, all that are kept without ids beyond the cut:
+    /// so the cut is to leave out none that is forgotten. Nothing more is learnt of it then, nothing waits to be listed,
+    /// and each process is to go through it from the first place on that is not forgotten.
     #[tactic(auto, using(crate::proofs::Logs::change_opened))]
     pub fn close(&mut self, group: GroupNo, tail: &Tail, cut: &Counts) -> Result<(), NoMemory>
         ensures { OnOk result (self.new ≡ change_log group (closed_by (is_within cut.now) tail.now.start tail.now.ids) self.old) }
@@ -158,6 +157,14 @@ impl Orders {
         open_in(&mut self.logs, group)?;
         close_in(&mut self.logs, group, tail, cut)?;
         Ok(())
+    }
+
+    /// Forgets the first ids of a group's order up to a place, at most all that are known: each process is to have passed
+    /// them, and none of them is to be of the tail. Takes no memory.
+    pub fn forget_first(&mut self, group: GroupNo, count: usize)
+        ensures { self.new ≡ change_in group (forgot count) self.old }
+    {
+        forget_first_in(&mut self.logs, group, count);
     }
 
     /// Forgets all of a group's order: a new view has an empty one. Takes no memory.
@@ -267,6 +274,17 @@ fn close_in(
         }
     }
     Ok(())
+}
+
+// Each log of the group forgets its first ids.
+fn forget_first_in(logs: &mut Vec<OrderLog>, group: GroupNo, count: usize)
+    ensures { logs.new.items ≡ change_in group (forgot count) logs.old.items }
+{
+    for log in logs.iter_mut() {
+        if log.group == group {
+            log.forget_first(count);
+        }
+    }
 }
 
 // Keeps the logs of other groups.

@@ -13,6 +13,7 @@ const HERE: Proc = Proc {
     serial: 1,
 };
 
+// It passes none.
 const NEXT: Proc = Proc {
     site: SiteNo(1),
     serial: 2,
@@ -154,8 +155,10 @@ fn has_long_tail(orders: &Orders, start: usize, run: (usize, u32, u32)) -> Resul
 // Whether the orders are as a step says that changes nothing and takes no memory.
 fn shows(orders: &Orders, step: Step<'_>) -> bool {
     match step {
-        Step::Known(group, counts) => are(orders.known(group), counts),
-        Step::CountKnown(count) => orders.known(GROUP).len() == count,
+        Step::Known(group, counts) => {
+            are(orders.next(group, NEXT), counts) && orders.length(group) == counts.len()
+        }
+        Step::CountKnown(count) => orders.length(GROUP) == count,
         Step::Next(process, counts) => are(orders.next(GROUP, process), counts),
         Step::Waits(waits) => orders.waits(GROUP) == waits,
         Step::HasRoom(group, stable, has_room) => orders.has_room(group, stable) == has_room,

@@ -7,7 +7,7 @@ use Rattle.cast_order.proofs.log.extend.Goals as goal
 
 pub loop-place-preserved : goal.loop-place-preserved
 loop-place-preserved c =
-    let known = c.loop-place.known.items in
+    let known = c.loop-place.window.items in
     let place = c.loop-place.place in
     let facts = c.args.facts.now in
     let told : id_at facts place ≡ Some c.in-Some.id = sym c.id_at.ensures ∙ c.in-Some.is in
@@ -21,4 +21,4 @@ loop-place-preserved c =
 
 pub returns-in_default : goal.returns-in_default
 returns-in_default c =
-    no_more c.args.facts.now c.loop-place.known.items _ (MAX_POSITION + 1 - c.loop-place.place) c.loop-place.place (sym c.id_at.ensures ∙ c.in_default.is) c.loop-place.invariant.rest
+    no_more c.args.facts.now c.loop-place.window.items _ (MAX_POSITION + 1 - c.loop-place.place) c.loop-place.place (sym c.id_at.ensures ∙ c.in_default.is) c.loop-place.invariant.rest

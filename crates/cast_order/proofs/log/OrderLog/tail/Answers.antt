@@ -1,22 +1,23 @@
-use Rattle.std.proofs.Common.{◌≡◌, ℕ, ◌+◌, ◌-◌, ◌++◌, List, length, drop, ap, ◌∙◌, arith}
-use Rattle.cast_types.specs.declared.limits.TheConstants.{MAX_TAIL}
+use Rattle.std.proofs.Common.{◌≡◌, ℕ, ◌+◌, ◌-◌, ◌++◌, List, length, drop, ap, ◌∙◌, rules, arith}
 use Rattle.cast_types.specs.Names.{Entry}
-use Rattle.cast_order.specs.Order.{tail_start, tail_ids}
-use Rattle.cast_order.specs.Log.{Log, whole_order}
+use Rattle.cast_order.specs.Log.{Log, length_of, tail_start_in, tail_ids_in}
 use Rattle.cast_order.proofs.Steps.{tail_are}
 use Rattle.cast_order.proofs.log.OrderLog.tail.Goals as goal
 
 pub returns : goal.returns
 returns c =
-    let known = c.self.inside.known.items in
-    let waiting = c.self.inside.waiting.items in
-    let start = c.saturating_sub-start.result in
-    let at : start ≡ length known + length waiting - MAX_TAIL = omega arith in
-    let behind : c.saturating_sub.result ≡ start - length known = omega arith in
-    let front : c.in_ok-ids.ids.items ≡ drop start known = c.in_ok-ids.ensures.items ∙ c.past_first.ensures ∙ ap (drop start) c.deref.ensures.value in
-    let back : c.past_first-2.result.now ≡ drop (start - length known) waiting =
+    let was = c.self.inside in
+    let l : Log = record { group = was.group; base = was.base; window = was.window.items; later = was.later.items; places = was.places; waiting = was.waiting.items; lists = was.lists.items; closed = was.closed } in
+    let start = c.max-start.result in
+    let same : length_of l ≡ length_of c.args.self.now = ap length_of c.self.view_is in
+    let known = c.length-known.ensures in
+    let whole : c.in-Some.whole ≡ length_of l + length was.waiting.items = search (rules, same, known) in
+    let at : start ≡ tail_start_in l = omega (arith, whole) in
+    let behind : c.saturating_sub-2.result ≡ start - length_of l = omega (arith, same, known) in
+    let front : c.in_ok-ids.ids.items ≡ drop (start - was.base) was.window.items = c.in_ok-ids.ensures.items ∙ c.past_first.ensures ∙ ap (drop (start - was.base)) c.deref.ensures.value in
+    let back : c.past_first-2.result.now ≡ drop (start - length_of l) was.waiting.items =
     c.past_first-2.ensures ∙ (λ i. drop (behind i) (c.deref-2.ensures.value i)) in
-    let ids : c.from_vec.result ≡ drop start known ++ drop (start - length known) waiting =
+    let ids : c.from_vec.result ≡ drop (start - was.base) was.window.items ++ drop (start - length_of l) was.waiting.items =
     c.from_vec.ensures ∙ c.in_ok-extend_from_slice.ensures.items ∙ (λ i. front i ++ back i) in
-    tail_are known waiting c.from_vec.result start at ids
-    ∙ ap {B = ℕ × List Entry} (λ (l : Log). (tail_start (whole_order l), tail_ids (whole_order l))) c.self.view_is
+    tail_are l start c.from_vec.result at ids
+    ∙ ap {B = ℕ × List Entry} (λ (x : Log). (tail_start_in x, tail_ids_in x)) c.self.view_is

@@ -1,0 +1,9 @@
+use Rattle.std.proofs.Common.{◌≡◌, ◌++◌, take, drop}
+use Rattle.cast_order.specs.Log.{change_in, forgot}
+use Rattle.cast_order.proofs.orders.forget_first_in.Given as goal
+
+-- the logs that were passed are changed, and the others will be
+abbrev pub invariant-loop-log : goal.invariant-loop-log
+invariant-loop-log l =
+    take l.log-index l.log-items ++ change_in l.group (forgot l.count) (drop l.log-index l.log-items)
+    ≡ change_in l.group (forgot l.count) l.fn.logs.items
