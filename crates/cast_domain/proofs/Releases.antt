@@ -25,7 +25,7 @@ use Rattle.cast_stable.proofs.Meanings.{stable_meant}
 use Rattle.cast_domain.specs.declared.record.GroupRecord.{GroupRecord}
 use Rattle.cast_model.specs.declared.group.Group.{Group}
 use Rattle.cast_model.specs.Group.{has_view, is_current}
-use Rattle.cast_history.specs.State.{State, local, local_members, gate_of, is_stable, others_of, is_delivered}
+use Rattle.cast_history.specs.State.{State, local, local_members, gate_of, is_stable, is_delivered}
 use Rattle.cast_history.specs.Rest.{is_free, let_go}
 use Rattle.cast_domain.specs.Records.{Records}
 use Rattle.cast_history.specs.Rules.Release as release

@@ -29,7 +29,7 @@ use Rattle.cast_delay.specs.declared.row.Row.{Row}
 use Rattle.cast_delay.specs.declared.row.Fact.{Fact}
 use Rattle.cast_delay.specs.declared.row.Fact.TheVariants as fact
 use Rattle.cast_delay.specs.Ready.{Process, Gate, is_outside, has_delivered, is_member}
-use Rattle.cast_delay.specs.Rows.{told_row, standing_in}
+use Rattle.cast_delay.specs.Rows.{told_row}
 use Rattle.cast_delay.specs.Queue.{new_row, row_of, change_row}
 use Rattle.cast_message.specs.declared.message.Received.{Received}
 use Rattle.cast_message.specs.Receipts.{key_eq, message_under}

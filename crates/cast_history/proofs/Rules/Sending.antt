@@ -24,9 +24,9 @@ module _ {R S H K : Type 0} (a : Site R H) (b : Site S K) (fits : R → S → Ty
   send_data_follows : (u : Uid) → nat_lt 0 u.count ≡ true → (r : R) (s : S) (to : SiteNo) → fits r s × follows.asked s u → fits (send_data a u r to) (send_data b u s to) × follows.asked (send_data b u s to) u
   send_data_follows u counted r s to f = (
     choose fits (a.has_acked r u to) (b.has_acked s u to) (send_for a r (message_key kinds.Data u to)) (owe a r (message_key kinds.Data u to)) (send_for b s (message_key kinds.Data u to)) (owe b s (message_key kinds.Data u to))
-    (follows.has_acked r s f.0 u f.1 counted to)
-    (λ _. send_for_follows a b fits stands follows r s f.0 (message_key kinds.Data u to))
-    (λ _. owe_follows a b fits stands follows r s f.0 (message_key kinds.Data u to)),
+        (follows.has_acked r s f.0 u f.1 counted to)
+        (λ _. send_for_follows a b fits stands follows r s f.0 (message_key kinds.Data u to))
+        (λ _. owe_follows a b fits stands follows r s f.0 (message_key kinds.Data u to)),
     send_data_keeps b (λ x. follows.asked x u) (follows.still_asked u) u s f.1 to,
   )
 
