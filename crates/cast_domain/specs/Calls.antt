@@ -45,6 +45,7 @@ use Rattle.cast_domain.specs.Shared.{part_with, part_without, part_owing, part_r
 use Rattle.cast_history.specs.Rules.Interface.{Site, Serials, Resting}
 use Rattle.cast_history.specs.Rules.Rest.{tell, told_of}
 use Rattle.cast_history.specs.Rules.Room.{may_order}
+use Rattle.cast_history.specs.Rules.Sending.{may_raise}
 use Rattle.cast_history.specs.State.{was_given}
 use Rattle.cast_domain.specs.Records.{Records}
 
@@ -73,6 +74,10 @@ standing_of q p g = option_map_or (λ row. standing_in row g) (row_of q.rows p) 
 
 abbrev pub time_of : Queue → Proc → ClockList
 time_of q p = option_map_or (λ row. row.time) (row_of q.rows p) no_time
+
+-- the time of a process with one more message of its own, and the stamp of that; none where the count cannot be raised
+abbrev pub raised_in : Queue → Proc → GroupNo → Option (ClockList × ClockList)
+raised_in q p g = if may_raise (time_of q p) g p then Some (bumped (time_of q p) g p, bumped (time_of q p) g p) else None
 
 -- Changes of one part
 

@@ -388,7 +388,7 @@ impl Domain {
         request: u32,
     ) -> Result<(), NoMemory>
         ensures same { Keeps self.old self.new }
-        ensures made { OnOk result ((o : Outs) (part : Part) → records_of self.new part o ≡ fold (take_in group view members.now request) (records_of self.old part o) members.now.list) }
+        ensures made { OnOk result ((o : Outs) (p : Part) → records_of self.new p o ≡ fold (take_in group view members.now request) (records_of self.old p o) members.now.list) }
     {
         for process in members.list() {
             self.take_in(*process, group, view, members, request)?;

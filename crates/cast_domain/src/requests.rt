@@ -21,14 +21,13 @@ use cast_types::{GroupNo, NoMemory, Proc, Refusal, SiteNo, Stamp, Standing, Uid}
 use std::alloc::AllocError;
 
 impl Domain {
-    ghost use Rattle.cast_clock.specs.Times.{bumped, view_of};
+    ghost use Rattle.cast_clock.specs.Times.{view_of};
     ghost use Rattle.cast_model.specs.declared.event.Outs.{Outs};
     ghost use Rattle.cast_history.specs.State.{was_given};
     ghost use Rattle.cast_domain.specs.Records.{IsAttempt, Keeps, records_in, records_of};
     ghost use Rattle.cast_domain.specs.Shared.{LeavesOthers, Part};
     ghost use Rattle.cast_history.specs.Rules.Events.{opened};
-    ghost use Rattle.cast_history.specs.Rules.Sending.{may_raise};
-    ghost use Rattle.cast_domain.specs.Calls.{records, records_serials, receive_in, time_of};
+    ghost use Rattle.cast_domain.specs.Calls.{raised_in, records, records_serials, receive_in, time_of};
 
     // A program connects.
     pub(crate) fn open(&mut self) -> Result<Taken, NoMemory>
@@ -225,10 +224,10 @@ impl Domain {
         }
     }
 
-    // Casts to the group at a place.
+    // Casts to the group at this place.
     fn cast_at(
         &mut self,
-        place: usize,
+        at: usize,
         serial: u32,
         group: GroupNo,
         kind: CastKind,
@@ -236,10 +235,10 @@ impl Domain {
         shared: &mut Shared,
         outs: &mut Outs,
     ) -> Result<Option<Refusal>, NoMemory>
-        requires { place < vec_len self.old.groups }
+        requires { at < vec_len self.old.groups }
         ensures same { Keeps self.old self.new }
         ensures others { LeavesOthers self.old.config.domain shared.old shared.new }
-        ensures made { IfOk result (IsAttempt (records_in self.new shared.new outs.new) (cast_at records (records_in self.old shared.old outs.old) serial group kind payload.now place)) }
+        ensures made { IfOk result (IsAttempt (records_in self.new shared.new outs.new) (cast_at records (records_in self.old shared.old outs.old) serial group kind payload.now at)) }
     {
         let process = self.process(serial);
         if payload.len() > MAX_PAYLOAD {
@@ -264,7 +263,7 @@ impl Domain {
         let message = Message {
             id: Uid {
                 group,
-                view: self.record(place).here.number,
+                view: self.record(at).here.number,
                 proc: process,
                 count: time.count(group, process),
             },
@@ -283,9 +282,7 @@ impl Domain {
         process: Proc,
         group: GroupNo,
     ) -> Result<Option<(Times, Stamp)>, NoMemory>
-        ensures { IfOk result (λ r. r ≡ (if may_raise (time_of self.now.delay process) group process
-            then Some (bumped (time_of self.now.delay process) group process, bumped (time_of self.now.delay process) group process)
-            else None)) }
+        ensures { IfOk result (λ r. r ≡ raised_in self.now.delay process group) }
     {
         let Some(time) = self.delay.time(process) else {
             return Ok(None);

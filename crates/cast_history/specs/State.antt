@@ -153,8 +153,8 @@ abcasts_with s k m =
 abbrev pub with_delivery : State → ℕ → Message → State
 with_delivery s k m =
     let p : Process = s.process k in
-    record (set_process s k (record p { time = join p.time m.times; delivered = p.delivered ++ m.id ∷ [] })) {
-      acts = set_at (λ i j. i == j) s.acts k (s.acts k ++ Delivered m ∷ []);
+    let now : State = set_process s k (record p { time = join p.time m.times; delivered = p.delivered ++ m.id ∷ [] }) in
+    record (noting_act now k (Delivered m)) {
       abcasts = abcasts_with s k m;
       deliveries = s.deliveries ++ (local s k, m.id) ∷ [];
     }
