@@ -1,11 +1,11 @@
 -- What the spellings of frames between a program and its daemon promise.
-use Rattle.std.specs.Prelude.{ℕ, ◌≡◌, ◌≤◌, ◌<◌, ◌-◌, nat_lt, if◌then◌else◌, IsTrue, List, ◌++◌, length, take, Ok, Err}
+use Rattle.std.specs.Prelude.{ℕ, ◌≡◌, ◌≤◌, ◌<◌, ◌-◌, IsTrue, List, ◌++◌, length, take, Ok, Err}
 use Rattle.cast_field.specs.declared.fault.FrameFault.{FrameFault}
 use Rattle.cast_message.specs.declared.client.ClientFrame.{ClientFrame}
 use Rattle.cast_client.specs.declared.front.ClientRead.TheVariants.{Frame, More}
 use Rattle.cast_client.specs.Spelling.{spelled_client}
 use Rattle.cast_client.specs.Reading.{client_of}
-use Rattle.cast_client.specs.Spelled.{IsClient}
+use Rattle.cast_client.specs.Spelled.{IsClient, wanting}
 use Rattle.cast_message.specs.Fitting.{client_fits}
 
 -- a frame is read from its spelling, whatever comes behind it
@@ -24,7 +24,7 @@ ClientSpellingsDiffer =
 abbrev pub PartWantsTheRest : Type 0
 PartWantsTheRest =
     (f : ClientFrame) (k : ℕ) → IsClient f → k < length (spelled_client f)
-    → client_of (take k (spelled_client f)) ≡ Ok (More (if nat_lt k 4 then 4 - k else length (spelled_client f) - k))
+    → client_of (take k (spelled_client f)) ≡ Ok (More (wanting f k))
 
 -- a frame that was read stays read when more bytes come
 abbrev pub FrameStays : Type 0

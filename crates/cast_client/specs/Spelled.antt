@@ -1,6 +1,6 @@
 -- The frames between a program and its daemon that have a spelling: every number is in its range, and the whole frame is
 -- not too long.
-use Rattle.std.specs.Prelude.{ℕ, ◌≡◌, ◌≤◌, ◌+◌, ◌⊎◌, List, ◌++◌, length, Ok}
+use Rattle.std.specs.Prelude.{ℕ, ◌≡◌, ◌≤◌, ◌+◌, ◌-◌, ◌⊎◌, nat_lt, if◌then◌else◌, List, ◌++◌, length, Ok}
 use Rattle.cast_message.specs.declared.client.Request.{Request}
 use Rattle.cast_message.specs.declared.client.Request.TheVariants.{Join, Leave, Cast}
 use Rattle.cast_message.specs.declared.client.Push.{Push}
@@ -47,6 +47,10 @@ abbrev pub Wants : List ℕ → ℕ → Type 0
 Wants bytes n =
     (1 ≤ n)
     × ((4 ≡ length bytes + n) ⊎ ((said : ℕ) × (length_at bytes ≡ Ok said) × (said ≡ length bytes + n)))
+
+-- so many bytes the first k of a frame's spelling want: the rest of its length, and then the rest of itself
+abbrev pub wanting : ClientFrame → ℕ → ℕ
+wanting f k = if nat_lt k 4 then 4 - k else length (spelled_client f) - k
 
 -- what was read is what stands at the front
 abbrev pub IsFront : List ℕ → ClientRead → Type 0

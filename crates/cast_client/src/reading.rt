@@ -1,9 +1,9 @@
-ghost use Rattle.std.specs.Prelude.{◌≡◌, ◌++◌, ◌≤◌, ◌<◌, ◌-◌, nat_lt, if◌then◌else◌, IfOk, Ok, length, take, List, ℕ};
+ghost use Rattle.std.specs.Prelude.{◌≡◌, ◌++◌, ◌≤◌, ◌<◌, ◌-◌, IfOk, Ok, length, take, List, ℕ};
 ghost use Rattle.cast_client.specs.declared.front.ClientRead.TheVariants.{Frame, More};
 ghost use Rattle.cast_message.specs.declared.client.ClientFrame.{ClientFrame};
 ghost use Rattle.cast_field.specs.Reading.{Gives, GivesField};
 ghost use Rattle.cast_client.specs.Reading.{cast_at, cast_kind_at, client_frame_of, client_of, closed_at, deliver_at, denied_at, ejected_at, end_at, frame_of_length, join_at, leave_at, length_at, length_of, opened_at, parts_at, refusal_at, replied_at, reply_at, short_end_at, tag_at, view_at};
-ghost use Rattle.cast_client.specs.Spelled.{IsClient, IsFront};
+ghost use Rattle.cast_client.specs.Spelled.{IsClient, IsFront, wanting};
 ghost use Rattle.cast_client.specs.Spelling.{spelled_client};
 
 use crate::front::{ClientRead, LENGTH_BYTES, MIN_CLIENT_FRAME};
@@ -267,7 +267,7 @@ pub fn decode_client(alloc: Global, bytes: &[u8]) -> Result<ClientRead, FrameFau
         → Gives result (Ok (Frame f (length (spelled_client f)))) }
     // A part of a frame wants the rest of its length, and then the rest of itself.
     ensures more { (f : ClientFrame) (k : ℕ) → IsClient f → k < length (spelled_client f) → bytes.now ≡ take k (spelled_client f)
-        → Gives result (Ok (More (if nat_lt k 4 then 4 - k else length (spelled_client f) - k))) }
+        → Gives result (Ok (More (wanting f k))) }
 {
     read_front(alloc, bytes)
 }

@@ -2,5 +2,6 @@ pub mod Ready
 pub mod Rows
 pub mod Queue
 pub mod Fits
+pub mod Says
 pub mod Rule
 pub mod Laws

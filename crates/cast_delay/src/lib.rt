@@ -18,8 +18,8 @@
 //! no further use.
 //!
 //! The definitions are in `specs/`: `Ready` has the rule over delivered ids as a test and `Rule` in words, `Rows` and
-//! `Queue` what the queue keeps and does, exactly, `Fits` when it tells of given processes, groups and messages, and
-//! `Laws` that it goes on so.
+//! `Queue` what the queue keeps and does, exactly, `Fits` when it tells of given processes, groups and messages,
+//! `Says` what its answers say of these, and `Laws` that it goes on so.
 #![tactic(auto)]
 
 pub mod laws;

@@ -1,18 +1,18 @@
-ghost use Rattle.std.specs.Prelude.{◌≡◌, ◌<◌, ◌↔◌, ◌&&◌, ◌++◌, ◌∷◌, [], List, OnOk, IsTrue, MatchOption, nat_lt, not, filter, length, unwrap_or, true};
-ghost use Rattle.std.specs.List.{list_any, position};
-ghost use Rattle.std.specs.Option.{IsSome, option_copied, option_map, option_map_or};
+ghost use Rattle.std.specs.Prelude.{◌≡◌, ◌<◌, ◌&&◌, ◌++◌, ◌∷◌, [], OnOk, nat_lt, not, filter};
+ghost use Rattle.std.specs.List.{list_any};
+ghost use Rattle.std.specs.Option.{option_copied, option_map, option_map_or};
 ghost use Rattle.std.specs.FinMap.Entries.{put};
-ghost use Rattle.cast_types.specs.Names.{group_cmp, named};
+ghost use Rattle.cast_types.specs.Names.{group_cmp};
 ghost use Rattle.cast_types.specs.declared.names.GroupNo.{GroupNo};
 ghost use Rattle.cast_types.specs.declared.names.Proc.{Proc};
 ghost use Rattle.cast_types.specs.declared.names.Standing.TheVariants.{Outside};
-ghost use Rattle.cast_message.specs.declared.message.Received.{Received};
 ghost use Rattle.cast_message.specs.Receipts.{key_eq};
 ghost use Rattle.cast_delay.specs.declared.turn.Turn.{Turn};
-ghost use Rattle.cast_delay.specs.Ready.{Process, Gate, is_member, has_delivered, turn_in};
+ghost use Rattle.cast_delay.specs.Ready.{is_member, has_delivered};
 ghost use Rattle.cast_delay.specs.Rows.{told_row, standing_in, done_in};
-ghost use Rattle.cast_delay.specs.Queue.{new_row, row_of, change_row, first_for, offered_under, next_key, delivered_in, passed_in, but_offered, is_awaited, HasOneRowEach, after_delivery};
-ghost use Rattle.cast_delay.specs.Fits.{Fits, HasNotEnded, FirstReady, IsAwaited, offer_of};
+ghost use Rattle.cast_delay.specs.Queue.{new_row, row_of, change_row, first_for, offered_under, next_key, delivered_in, passed_in, but_offered, is_awaited, after_delivery};
+ghost use Rattle.cast_delay.specs.Fits.{offer_of};
+ghost use Rattle.cast_delay.specs.Says.{SaysAwaited, SaysFirstReady, SaysDelivered, SaysPassed, SaysTime, SaysStanding};
 
 use crate::offered::Offered;
 use crate::row::{Fact, Row};
@@ -101,9 +101,7 @@ impl Delay {
     /// ended and whose count is from 1 on. Takes no memory.
     pub fn is_awaited(&self, id: Uid) -> bool
         ensures value { result ≡ list_any (λ row. is_member (standing_in row id.group) && nat_lt (done_in row id.group id.view id.proc) id.count) self.now.rows }
-        ensures meaning { (groups : List GroupNo) (gate : GroupNo → Gate) (processes : Proc → Process) (received : List Received) →
-            Fits groups gate processes received self.now → HasNotEnded gate id.group id.view → 0 < id.count → HasOneRowEach self.now.rows →
-            IsTrue result ↔ IsAwaited processes id }
+        ensures meaning { SaysAwaited self.now id result }
     {
         awaited_in(&self.rows, id)
     }
@@ -113,10 +111,7 @@ impl Delay {
     /// Takes no memory.
     pub fn next_ready(&self, process: Proc, turns: &[(GroupNo, Turn)]) -> Option<Key>
         ensures value { result ≡ next_key turns.now self.now process }
-        ensures meaning { (groups : List GroupNo) (gate : GroupNo → Gate) (processes : Proc → Process) (received : List Received) →
-            Fits groups gate processes received self.now → (turn : GroupNo → Turn) →
-            ((g : GroupNo) → is_member ((processes process).standing g) ≡ true → turn_in turns.now g ≡ turn g) →
-            FirstReady groups gate turn (processes process) received result }
+        ensures meaning { SaysFirstReady self.now process turns.now result }
     {
         let row = row_in(&self.rows, process)?;
         let offered = first_in(turns, &self.numbers, &self.offered, row)?;
@@ -126,9 +121,7 @@ impl Delay {
     /// Whether the process, which was admitted, has delivered a message of a view that has not ended. Takes no memory.
     pub fn has_delivered(&self, process: Proc, id: Uid) -> bool
         ensures value { result ≡ delivered_in self.now process id }
-        ensures meaning { (groups : List GroupNo) (gate : GroupNo → Gate) (processes : Proc → Process) (received : List Received) →
-            Fits groups gate processes received self.now → IsSome (row_of self.now.rows process) → HasNotEnded gate id.group id.view →
-            result ≡ has_delivered (processes process) id }
+        ensures meaning { SaysDelivered self.now process id result }
     {
         match row_in(&self.rows, process) {
             Some(row) => row.has_delivered(id),
@@ -140,9 +133,7 @@ impl Delay {
     /// delivered before the first that it has not: 0 to their number. Takes no memory.
     pub fn passed(&self, process: Proc, group: GroupNo, view: u32, ids: &[(Proc, u32)]) -> usize
         ensures value { result ≡ passed_in self.now process group view ids.now }
-        ensures meaning { (groups : List GroupNo) (gate : GroupNo → Gate) (processes : Proc → Process) (received : List Received) →
-            Fits groups gate processes received self.now → IsSome (row_of self.now.rows process) → HasNotEnded gate group view →
-            result ≡ unwrap_or (position (λ e. not (has_delivered (processes process) (named group view e))) ids.now) (length ids.now) }
+        ensures meaning { SaysPassed self.now process group view ids.now result }
     {
         match row_in(&self.rows, process) {
             Some(row) => row.passed(group, view, ids),
@@ -161,9 +152,7 @@ impl Delay {
     /// The time of a process, `None` of one that was not admitted.
     pub fn time(&self, process: Proc) -> Option<&Times>
         ensures value { option_copied result ≡ option_map (λ r. r.time) (row_of self.now.rows process) }
-        ensures meaning { (groups : List GroupNo) (gate : GroupNo → Gate) (processes : Proc → Process) (received : List Received) →
-            Fits groups gate processes received self.now →
-            MatchOption result ((g : GroupNo) → (processes process).standing g ≡ Outside) (λ t. t.now ≡ (processes process).time) }
+        ensures meaning { SaysTime self.now process (λ t. t.now) result }
     {
         match row_in(&self.rows, process) {
             Some(row) => Some(&row.time),
@@ -174,8 +163,7 @@ impl Delay {
     /// What a process is in a group.
     pub fn standing(&self, process: Proc, group: GroupNo) -> Standing
         ensures value { result ≡ option_map_or (λ r. standing_in r group) (row_of self.now.rows process) Outside }
-        ensures meaning { (groups : List GroupNo) (gate : GroupNo → Gate) (processes : Proc → Process) (received : List Received) →
-            Fits groups gate processes received self.now → result ≡ (processes process).standing group }
+        ensures meaning { SaysStanding self.now process group result }
     {
         match row_in(&self.rows, process) {
             Some(row) => row.standing(group),

@@ -1,6 +1,6 @@
 -- What a site keeps of receipts means: the other sites of each group's view, and of what rules may still ask of the messages
 -- received, acknowledged and told to be stable.
-use Rattle.std.specs.Prelude.{◌≡◌, ◌<◌, Bool, true, nat_le, List}
+use Rattle.std.specs.Prelude.{◌≡◌, ◌<◌, ℕ, Bool, true, nat_le, List}
 use Rattle.cast_types.specs.declared.names.SiteNo.{SiteNo}
 use Rattle.cast_types.specs.declared.names.GroupNo.{GroupNo}
 use Rattle.cast_types.specs.declared.names.Uid.{Uid}
@@ -8,7 +8,7 @@ use Rattle.cast_types.specs.declared.source.Source.{Source}
 use Rattle.cast_types.specs.Names.{uid_eq}
 use Rattle.cast_types.specs.Sets.{is_among}
 use Rattle.cast_stable.specs.Runs.{is_run}
-use Rattle.cast_stable.specs.Stable.{Acked, has_acked, was_told}
+use Rattle.cast_stable.specs.Stable.{Acked, has_acked, was_told, stable_upto, is_known_stable}
 use Rattle.cast_stable.specs.Ledger.{Ledger, source_of, others_in, acked_run, told_count, is_received_in, has_acked_in}
 
 -- what a site was ever told of: the site itself, the other sites of each group's view, the sources of which a rule may
@@ -20,6 +20,13 @@ pub record Past : Type 0 where
   pub received : List Uid
   pub acks : List Acked
   pub told : List Uid
+
+-- by that past: how many messages of the id's source are stable, in a view that has another site, and whether it is known to be
+abbrev pub upto_by : Past → Uid → ℕ
+upto_by past u = stable_upto past.acks (past.others u.group) u.group u.view u.proc
+
+abbrev pub is_stable_by : Past → Uid → Bool
+is_stable_by past u = is_known_stable past.here (past.others u.group) past.acks past.told u
 
 -- the ledger tells of that site and of those views and, for counts from 1 on of live sources, of those messages; of other
 -- sources it may have forgotten all

@@ -6,9 +6,8 @@ use Rattle.cast_types.specs.declared.names.Uid.{Uid}
 use Rattle.cast_types.specs.declared.source.Source.{Source}
 use Rattle.cast_types.specs.Names.{group_eq}
 use Rattle.cast_types.specs.Sets.{set_at}
-use Rattle.cast_stable.specs.Stable.{stable_upto, is_known_stable}
 use Rattle.cast_stable.specs.Ledger.{Ledger, source_of, upto_in, is_stable_in, new_ledger, told_ledger, received_ledger, acked_ledger, learnt_ledger}
-use Rattle.cast_stable.specs.Fits.{Past, Fits}
+use Rattle.cast_stable.specs.Fits.{Past, upto_by, is_stable_by, Fits}
 
 -- a new ledger means no views and no messages
 abbrev pub NewFits : Type 0
@@ -42,10 +41,10 @@ LearnKeepsMeaning =
 abbrev pub UptoIsTheRule : Type 0
 UptoIsTheRule =
     (past : Past) (l : Ledger) → Fits past l → (u : Uid) → past.is_live (source_of u) ≡ true → past.others u.group ≢ []
-    → upto_in l u ≡ stable_upto past.acks (past.others u.group) u.group u.view u.proc
+    → upto_in l u ≡ upto_by past u
 
 -- and a message is stable by one exactly if it is by the other
 abbrev pub StableIsTheRule : Type 0
 StableIsTheRule =
     (past : Past) (l : Ledger) → Fits past l → (u : Uid) → past.is_live (source_of u) ≡ true → 0 < u.count
-    → is_stable_in l u ≡ is_known_stable past.here (past.others u.group) past.acks past.told u
+    → is_stable_in l u ≡ is_stable_by past u

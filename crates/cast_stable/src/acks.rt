@@ -3,8 +3,8 @@ ghost use Rattle.std.specs.List.{reduce};
 ghost use Rattle.std.specs.Option.{option_copied};
 ghost use Rattle.cast_types.specs.Names.{uid_eq};
 ghost use Rattle.cast_types.specs.Sets.{is_among};
-ghost use Rattle.cast_stable.specs.Stable.{has_acked, stable_upto, is_known_stable};
-ghost use Rattle.cast_stable.specs.Fits.{Past, Fits};
+ghost use Rattle.cast_stable.specs.Stable.{has_acked, stable_upto};
+ghost use Rattle.cast_stable.specs.Fits.{Past, upto_by, is_stable_by, Fits};
 ghost use Rattle.cast_stable.specs.Runs.{no_counts, contains, inserted};
 ghost use Rattle.cast_stable.specs.Ledger.{new_ledger, source_of, others_in, acked_run, told_count, told_ledger, received_ledger, acked_ledger, learnt_ledger, is_received_in, has_acked_in, upto_in, is_stable_in};
 
@@ -107,8 +107,7 @@ impl Acks {
     /// view of the counts that each acknowledged without a gap, 0 where there is no other site. Takes no memory.
     pub fn stable_upto(&self, id: Uid) -> u32
         ensures value { result ≡ upto_in self.now id }
-        ensures meaning { (past : Past) → Fits past self.now → past.is_live (source_of id) ≡ true → past.others id.group ≢ [] →
-            result ≡ stable_upto past.acks (past.others id.group) id.group id.view id.proc }
+        ensures meaning { (past : Past) → Fits past self.now → past.is_live (source_of id) ≡ true → past.others id.group ≢ [] → result ≡ upto_by past id }
     {
         self.least_acked(source_of(id), self.others(id.group))
             .unwrap_or(0)
@@ -130,8 +129,7 @@ impl Acks {
     /// the acknowledgements of all other sites; another by what its site told. Takes no memory.
     pub fn is_stable(&self, id: Uid) -> bool
         ensures value { result ≡ is_stable_in self.now id }
-        ensures meaning { (past : Past) → Fits past self.now → past.is_live (source_of id) ≡ true → 0 < id.count →
-            result ≡ is_known_stable past.here (past.others id.group) past.acks past.told id }
+        ensures meaning { (past : Past) → Fits past self.now → past.is_live (source_of id) ≡ true → 0 < id.count → result ≡ is_stable_by past id }
     {
         if self.others(id.group).is_empty() {
             return true;
@@ -146,8 +144,7 @@ impl Acks {
     /// memory.
     pub fn may_free(&self, id: Uid, is_awaited: bool) -> bool
         ensures value { result ≡ (is_stable_in self.now id && not is_awaited) }
-        ensures meaning { (past : Past) → Fits past self.now → past.is_live (source_of id) ≡ true → 0 < id.count →
-            result ≡ (is_known_stable past.here (past.others id.group) past.acks past.told id && not is_awaited) }
+        ensures meaning { (past : Past) → Fits past self.now → past.is_live (source_of id) ≡ true → 0 < id.count → result ≡ (is_stable_by past id && not is_awaited) }
     {
         self.is_stable(id) && !is_awaited
     }

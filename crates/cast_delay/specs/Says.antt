@@ -1,0 +1,60 @@
+-- What the queue's answers say of groups, processes and messages, whichever it tells of.
+use Rattle.std.specs.Prelude.{◌≡◌, ◌<◌, ◌↔◌, ℕ, Bool, true, not, IsTrue, List, length, Option, MatchOption, unwrap_or}
+use Rattle.std.specs.List.{position}
+use Rattle.std.specs.Option.{IsSome}
+use Rattle.cast_types.specs.declared.names.GroupNo.{GroupNo}
+use Rattle.cast_types.specs.declared.names.Proc.{Proc}
+use Rattle.cast_types.specs.declared.names.Key.{Key}
+use Rattle.cast_types.specs.declared.names.Uid.{Uid}
+use Rattle.cast_types.specs.declared.names.Standing.{Standing}
+use Rattle.cast_types.specs.declared.names.Standing.TheVariants.{Outside}
+use Rattle.cast_types.specs.Names.{Entry, named}
+use Rattle.cast_types.specs.Stamps.{ClockList}
+use Rattle.cast_message.specs.declared.message.Received.{Received}
+use Rattle.cast_delay.specs.declared.turn.Turn.{Turn}
+use Rattle.cast_delay.specs.Ready.{Process, Gate, is_member, has_delivered, turn_in}
+use Rattle.cast_delay.specs.Queue.{Queue, row_of, HasOneRowEach}
+use Rattle.cast_delay.specs.Fits.{Fits, HasNotEnded, FirstReady, IsAwaited}
+
+-- whether a member of its group has not delivered a message, whose view has not ended and whose count is from 1 on
+abbrev pub SaysAwaited : Queue → Uid → Bool → Type 0
+SaysAwaited q id result =
+    (groups : List GroupNo) (gate : GroupNo → Gate) (processes : Proc → Process) (received : List Received)
+    → Fits groups gate processes received q → HasNotEnded gate id.group id.view → 0 < id.count → HasOneRowEach q.rows
+    → IsTrue result ↔ IsAwaited processes id
+
+-- the key of the first message in order of receipt that is ready for a process, where the list has its turns in the groups
+-- that it is a member of, and none only where there is none
+abbrev pub SaysFirstReady : Queue → Proc → List (GroupNo × Turn) → Option Key → Type 0
+SaysFirstReady q p turns result =
+    (groups : List GroupNo) (gate : GroupNo → Gate) (processes : Proc → Process) (received : List Received)
+    → Fits groups gate processes received q → (turn : GroupNo → Turn)
+    → ((g : GroupNo) → is_member ((processes p).standing g) ≡ true → turn_in turns g ≡ turn g)
+    → FirstReady groups gate turn (processes p) received result
+
+-- whether a process that has a row has delivered a message, whose view has not ended
+abbrev pub SaysDelivered : Queue → Proc → Uid → Bool → Type 0
+SaysDelivered q p id result =
+    (groups : List GroupNo) (gate : GroupNo → Gate) (processes : Proc → Process) (received : List Received)
+    → Fits groups gate processes received q → IsSome (row_of q.rows p) → HasNotEnded gate id.group id.view
+    → result ≡ has_delivered (processes p) id
+
+-- how many of these ids, of a view that has not ended, a process that has a row has delivered before the first that it has not
+abbrev pub SaysPassed : Queue → Proc → GroupNo → ℕ → List Entry → ℕ → Type 0
+SaysPassed q p group view ids result =
+    (groups : List GroupNo) (gate : GroupNo → Gate) (processes : Proc → Process) (received : List Received)
+    → Fits groups gate processes received q → IsSome (row_of q.rows p) → HasNotEnded gate group view
+    → result ≡ unwrap_or (position (λ e. not (has_delivered (processes p) (named group view e))) ids) (length ids)
+
+-- the time of a process, and none only of one that is in no group
+abbrev pub SaysTime : {X : Type 0} → Queue → Proc → (X → ClockList) → Option X → Type 0
+SaysTime q p time result =
+    (groups : List GroupNo) (gate : GroupNo → Gate) (processes : Proc → Process) (received : List Received)
+    → Fits groups gate processes received q
+    → MatchOption result ((g : GroupNo) → (processes p).standing g ≡ Outside) (λ t. time t ≡ (processes p).time)
+
+-- what a process is in a group
+abbrev pub SaysStanding : Queue → Proc → GroupNo → Standing → Type 0
+SaysStanding q p group result =
+    (groups : List GroupNo) (gate : GroupNo → Gate) (processes : Proc → Process) (received : List Received)
+    → Fits groups gate processes received q → result ≡ (processes p).standing group
