@@ -4,6 +4,8 @@ use Rattle.std.specs.Io.KnownBytes.{Appends}
 use Rattle.std.specs.Fmt.{decimal}
 use Rattle.std.specs.Str.{IsUtf8}
 use Rattle.cast_script.specs.Readings.{script_of}
+use Rattle.cast_device.specs.declared.watched.Watched.{Watched}
+use Rattle.cast_device.specs.Watching.{HasFailedOrStalled}
 use Rattle.cast_device.specs.Writing.{WrotePart}
 use Rattle.cast_script.specs.declared.script.ScriptFault.{ScriptFault}
 use Rattle.cast_script.specs.declared.script.ScriptFault.TheVariants as script
@@ -62,3 +64,12 @@ IsTold old new bytes Failed = Appends old new bytes ⊎ (WrotePart old new bytes
 abbrev pub IsToldOf : Option (List ℕ) → Option (List ℕ) → List ℕ → Result (List ℕ) RunFault → Type 0 → Type 0
 IsToldOf old new name (Ok text) Failed = IsTold old new [] Failed
 IsToldOf old new name (Err fault) Failed = IsTold old new (fault_text name fault) Failed ⊎ IsTold old new (fault_text name NoMemory) Failed
+
+-- the program had this end: its status says so, its log was written, and the writer of errors was told; contents say what each
+-- writer holds, before and after
+abbrev pub IsEnd : {O E : Type 0} → (O → Option (List ℕ)) → Watched O → Watched O → (E → Option (List ℕ)) → Watched E → Watched E
+    → List ℕ → ℕ → Result (List ℕ) RunFault → Type 0
+IsEnd out_contents out out_now err_contents err err_now name status end =
+    (status ≡ status_of end)
+    × IsTold (out_contents out.device) (out_contents out_now.device) (output_of end) (HasFailedOrStalled out_now)
+    × IsToldOf (err_contents err.device) (err_contents err_now.device) name end (HasFailedOrStalled err_now)

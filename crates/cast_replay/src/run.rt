@@ -4,7 +4,7 @@ ghost use Rattle.std.specs.String.{string_bytes};
 ghost use Rattle.std.specs.declared.result.Result.{Result};
 ghost use Rattle.cast_device.specs.Watching.{HasFailedOrStalled};
 ghost use Rattle.cast_script.specs.declared.script.ScriptFault.{ScriptFault};
-ghost use Rattle.cast_replay.specs.Ends.{Ends, EndsAs, EndsOn, IsTold, IsToldOf, fault_text, faulted, output_of, status_of};
+ghost use Rattle.cast_replay.specs.Ends.{Ends, EndsAs, EndsOn, IsEnd, IsTold, IsToldOf, fault_text, faulted, status_of};
 ghost use Rattle.cast_replay.specs.declared.run.RunFault.TheVariants.{NoMemory, Unreadable};
 
 use cast_device::{Watched, write_whole};
@@ -127,9 +127,7 @@ pub fn run_script<O: Write, E: Write>(
     err: &mut Watched<E>,
 ) -> u8
     // The log, the status and the errors are those of one end.
-    ensures ended { (end : Result (List ℕ) RunFault) × Ends bytes.now end × (result ≡ status_of end)
-        × IsTold (O.contents out.old.device) (O.contents out.new.device) (output_of end) (HasFailedOrStalled out.new)
-        × IsToldOf (E.contents err.old.device) (E.contents err.new.device) name.now end (HasFailedOrStalled err.new) }
+    ensures ended { (end : Result (List ℕ) RunFault) × Ends bytes.now end × IsEnd O.contents out.old out.new E.contents err.old err.new name.now result end }
     // And no writer is called that has nothing to write.
     ensures done { result ≡ 0 → err.new.device ≡ err.old.device }
     ensures failed { result ≢ 0 → out.new.device ≡ out.old.device }
@@ -154,9 +152,7 @@ pub fn replay_file<R: Files + AllocGlobal, O: Write, E: Write>(
     err: &mut Watched<E>,
 ) -> u8
     // There are bytes, of which all that was written is the end; or they cannot be read, and that was said.
-    ensures ended { (bytes : Option (List ℕ)) × (end : Result (List ℕ) RunFault) × EndsOn bytes end × (result ≡ status_of end)
-        × IsTold (O.contents out.old.device) (O.contents out.new.device) (output_of end) (HasFailedOrStalled out.new)
-        × IsToldOf (E.contents err.old.device) (E.contents err.new.device) name.now end (HasFailedOrStalled err.new) }
+    ensures ended { (read : Option (List ℕ)) × (end : Result (List ℕ) RunFault) × EndsOn read end × IsEnd O.contents out.old out.new E.contents err.old err.new name.now result end }
     ensures done { result ≡ 0 → err.new.device ≡ err.old.device }
     ensures failed { result ≢ 0 → out.new.device ≡ out.old.device }
 {
