@@ -37,6 +37,8 @@ enum Step<'a> {
     Closes,
     // The order of the group is forgotten.
     Forgets,
+    // Its first ids are, so many.
+    ForgetsFirst(usize),
     // The first of the places that the next set-order message sets, 0 where it sets none.
     Assigns(u32),
     // How many ids stand before the tail, and the counts of the tail.
@@ -49,6 +51,8 @@ enum Step<'a> {
     CountKnown(usize),
     // The counts that come next for a process.
     Next(Proc, &'a [u32]),
+    // The same of many.
+    LongNext(Proc, (usize, u32, u32)),
     // Whether ABCASTs wait to be listed.
     Waits(bool),
     // Whether the holder of a group may deliver one more, where its messages up to a count are stable.
@@ -160,6 +164,7 @@ fn shows(orders: &Orders, step: Step<'_>) -> bool {
         }
         Step::CountKnown(count) => orders.length(GROUP) == count,
         Step::Next(process, counts) => are(orders.next(GROUP, process), counts),
+        Step::LongNext(process, run) => is_run(orders.next(GROUP, process), run),
         Step::Waits(waits) => orders.waits(GROUP) == waits,
         Step::HasRoom(group, stable, has_room) => orders.has_room(group, stable) == has_room,
         _ => false,
@@ -198,6 +203,10 @@ fn does(alloc: Global, orders: &mut Orders, step: Step<'_>) -> Result<bool, NoMe
         Step::Closes => closes(alloc, orders),
         Step::Forgets => {
             orders.forget(GROUP);
+            Ok(())
+        }
+        Step::ForgetsFirst(count) => {
+            orders.forget_first(GROUP, count);
             Ok(())
         }
         _ => return finds(orders, step),
@@ -266,6 +275,32 @@ fn the_holder_waits_for_its_messages_to_be_stable(rt: HostRuntime) -> Result<(),
             Step::Sends(7, 0),
             Step::HasRoom(GROUP, 6, false),
             Step::HasRoom(GROUP, 7, true),
+        ],
+    )
+}
+
+#[test]
+fn first_ids_are_forgotten_but_for_the_tail(rt: HostRuntime) -> Result<(), Fail> {
+    goes(
+        rt.alloc(),
+        &[
+            Step::Tells(1, 577),
+            Step::Lists(1, 0, 1, (64, 1, 64)),
+            Step::Lists(2, 1, 65, (64, 65, 128)),
+            Step::Lists(3, 2, 129, (64, 129, 192)),
+            Step::Lists(4, 3, 193, (64, 193, 256)),
+            Step::Lists(5, 4, 257, (64, 257, 320)),
+            Step::Lists(6, 5, 321, (64, 321, 384)),
+            Step::Lists(7, 6, 385, (64, 385, 448)),
+            Step::Lists(8, 7, 449, (64, 449, 512)),
+            Step::Lists(9, 8, 513, (64, 513, 576)),
+            Step::Passes(64),
+            Step::LongNext(NEXT, (576, 1, 576)),
+            Step::ForgetsFirst(64),
+            Step::CountKnown(576),
+            Step::LongNext(HERE, (512, 65, 576)),
+            Step::LongNext(NEXT, (512, 65, 576)),
+            Step::LongTail(64, (512, 65, 576)),
         ],
     )
 }
