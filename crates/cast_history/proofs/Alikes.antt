@@ -22,6 +22,9 @@ use Rattle.cast_history.specs.Owing.{noting_owed, noting_resent, paying, paying_
 use Rattle.cast_history.specs.Rules.Sending.{send_data}
 use Rattle.cast_history.specs.History.{history}
 use Rattle.cast_history.proofs.Rules.Follows.{IsInvariant}
+use Rattle.cast_timer.specs.declared.key.OwedKey.{OwedKey}
+use Rattle.cast_history.specs.Rules.Owing.{owe}
+use Rattle.cast_history.proofs.Rules.Owing.{owe_keeps}
 use Rattle.cast_history.proofs.Rules.Sending.{send_data_keeps}
 use Rattle.cast_history.specs.Effects.{next_message, sending}
 
@@ -101,6 +104,9 @@ moves_alike s = record {
   note_ack = λ t a from u. alike_then s t (noting_ack t from u) a (alike_known t (noting_ack t from u).acks t.told t.moment);
   note_stable = λ t a u. alike_then s t (noting_stable t u) a (alike_known t t.acks (noting_stable t u).told t.moment);
 }
+
+pub alike_owe : (s : State) (key : OwedKey) → Alike s (owe history s key)
+alike_owe s key = owe_keeps history (Alike s) (moves_alike s) s (alike_self s) key
 
 alike_send_data : (u : Uid) (s : State) (to : SiteNo) → Alike s (send_data history u s to)
 alike_send_data u s to = send_data_keeps history (Alike s) (moves_alike s) u s (alike_self s) to

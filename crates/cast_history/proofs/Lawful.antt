@@ -41,8 +41,7 @@ use Rattle.cast_model.specs.declared.session.Session.{Session}
 use Rattle.cast_model.specs.Session.{is_open, pushed_to}
 use Rattle.cast_model.specs.declared.group.Group.{Group}
 use Rattle.cast_model.specs.Group.{no_group, has_view, members_of, is_at, is_current, with_request, with_view, is_taken_in}
-use Rattle.cast_model.specs.declared.home.Home.{Home}
-use Rattle.cast_model.specs.Home.{is_empty}
+use Rattle.cast_view.specs.Home.{Home, is_empty}
 use Rattle.cast_model.specs.declared.config.DomainConfig.{DomainConfig}
 use Rattle.cast_history.specs.State.{State, opening, local, serials, is_group, may_speak, set_session, set_process, set_group, set_home, set_standing, emitted, others_of, noting_ack, noting_stable, gate_of, local_members, is_stable, was_given, pushing, receiving, with_delivery, noting_act, noting_sent}
 use Rattle.cast_history.specs.Acts.{Act}
@@ -413,19 +412,19 @@ lawful_process s k v l placed member more = lawful_from s (set_process s k v) l 
       | false ↦ λ _ is. is
     ] refl
 
--- a process begins to join a configured group
-pub lawful_standing : (s : State) (k : ℕ) (g : GroupNo) (request heard : ℕ) → IsLawful s → is_group s g ≡ true → IsLawful (set_standing s k g (Joining request heard))
-lawful_standing s k g request heard l listed = lawful_process s k (record (s.process k) { standing = set_at group_eq (s.process k).standing g (Joining request heard) }) l
-    (λ h. elim (group_eq g h) as (λ b. group_eq g h ≡ b → Placed (is_group s h) (if b then Joining request heard else (s.process k).standing h) (view_of (s.process k).time h) (s.group h)) [
+-- a process is no member of a group from then on, and in no other way of one that is not configured
+pub lawful_standing : (s : State) (k : ℕ) (g : GroupNo) (v : Standing) → is_member v ≡ false → IsLawful s → (is_outside v ≡ false → is_group s g ≡ true) → IsLawful (set_standing s k g v)
+lawful_standing s k g v none l listed = lawful_process s k (record (s.process k) { standing = set_at group_eq (s.process k).standing g v }) l
+    (λ h. elim (group_eq g h) as (λ b. group_eq g h ≡ b → Placed (is_group s h) (if b then v else (s.process k).standing h) (view_of (s.process k).time h) (s.group h)) [
       | true ↦ λ is. record {
-        known = λ _. subst (λ x. is_group s x ≡ true) (same_group g h is) listed;
-        current = λ no_member. absurd (false≢true no_member);
-        viewed = λ no_member. absurd (false≢true no_member);
+        known = λ inside. subst (λ x. is_group s x ≡ true) (same_group g h is) (listed inside);
+        current = λ member. absurd (false≢true (sym none ∙ member));
+        viewed = λ member. absurd (false≢true (sym none ∙ member));
       }
       | false ↦ λ _. placed_of s l k h
     ] refl)
-    (λ h. elim (group_eq g h) as (λ b. is_member (if b then Joining request heard else (s.process k).standing h) ≡ true → is_member ((s.process k).standing h) ≡ true) [
-      | true ↦ λ no_member. absurd (false≢true no_member)
+    (λ h. elim (group_eq g h) as (λ b. is_member (if b then v else (s.process k).standing h) ≡ true → is_member ((s.process k).standing h) ≡ true) [
+      | true ↦ λ member. absurd (false≢true (sym none ∙ member))
       | false ↦ λ is. is
     ])
     (λ u is. is)

@@ -1,7 +1,7 @@
 -- What holds of each history that events lead to is kept by each event, and until the state rests.
 use Rattle.std.proofs.Common.{◌≡◌, ℕ, ◌+◌, ◌<◌, zero, suc, Bool, true, false, not, length, Some, None, refl, sym, ap, subst, ◌∙◌, inl, inr, arith}
 use Rattle.std.specs.Prelude.{◌&&◌, ◌==◌, nat_lt, nat_le, if◌then◌else◌}
-use Rattle.std.specs.List.{fold, find}
+use Rattle.std.specs.List.{find}
 use Rattle.std.specs.FinMap.Entries.{is_sorted}
 use Rattle.std.proofs.lemmas.Bool.{cases_eq, eqb-true, false≢true, and_parts, and_from, or_left, leb-true, le-leb, not-true}
 use Rattle.std.proofs.lemmas.Bool.Decides.{nat_tests}
@@ -9,6 +9,7 @@ use Rattle.std.proofs.lemmas.Option.{none-some, same_Some}
 use Rattle.cast_types.specs.declared.names.SiteNo.{SiteNo}
 use Rattle.cast_types.specs.declared.names.GroupNo.{GroupNo}
 use Rattle.cast_types.specs.declared.names.Proc.{Proc}
+use Rattle.cast_types.specs.declared.names.Standing.TheVariants.{Outside, Joining}
 use Rattle.cast_types.specs.declared.limits.TheConstants.{MAX_NUMBER}
 use Rattle.cast_types.specs.Names.{group_cmp, site_eq, proc_eq}
 use Rattle.cast_types.specs.Repeat.{iterate}
@@ -24,9 +25,8 @@ use Rattle.cast_delay.specs.Ready.{is_member}
 use Rattle.cast_delay.proofs.Finds.{found_in}
 use Rattle.cast_model.specs.declared.group.Group.{Group}
 use Rattle.cast_model.specs.declared.group.Verdict.TheVariants.{Again, Completes, Ignored}
-use Rattle.cast_model.specs.Group.{members_of, with_request, holder_at, has_view, with_answer, verdict_of, sites_of}
-use Rattle.cast_model.specs.declared.home.Home.{Home}
-use Rattle.cast_model.specs.Home.{is_empty, after_request, after_installed, may_decide, decided}
+use Rattle.cast_model.specs.Group.{members_of, with_request, holder_at, has_view, with_answer, verdict_of}
+use Rattle.cast_view.specs.Home.{HomeMove, is_empty, moved}
 use Rattle.cast_model.specs.declared.event.Event.{Event}
 use Rattle.cast_model.specs.declared.event.Event.TheVariants as event
 use Rattle.cast_clock.proofs.Raised.{bump_leaves_views}
@@ -39,7 +39,7 @@ use Rattle.cast_history.proofs.Rules.Owing.{tick_keeps}
 use Rattle.cast_history.specs.Effects.{next_message, sending, delivering}
 use Rattle.cast_history.specs.Rules.Sending.{may_raise}
 use Rattle.cast_history.specs.Step.{opening_next, acted}
-use Rattle.cast_history.specs.Rules.Views.{install_frame, send_install, decide}
+use Rattle.cast_history.specs.Rules.Views.{start, decide, lead}
 use Rattle.cast_history.specs.Rest.{deliver_first, deliver_all, settle, set_order_by, set_order, set_orders, pass, RestsAt, let_go}
 use Rattle.cast_history.proofs.Setting.{may_set_order, set_order_is}
 use Rattle.cast_history.specs.Resting.{places_of}
@@ -49,9 +49,9 @@ use Rattle.cast_history.specs.History.{history}
 use Rattle.cast_history.proofs.Rules.Follows.{IsTaken, IsEntered, IsInvariantOfAll}
 use Rattle.cast_history.proofs.Rules.Data.{used_current, used_from_its_site, used_of_another, used_of_member}
 use Rattle.cast_history.proofs.Rules.Commands.{commanded_keeps}
-use Rattle.cast_history.proofs.Rules.Views.{decide_keeps, lead_keeps}
+use Rattle.cast_history.proofs.Rules.Views.{start_keeps, decide_keeps, lead_keeps}
 use Rattle.cast_history.proofs.Rules.Frames.{framed_keeps}
-use Rattle.cast_history.proofs.Lawful.{SameLaw, same_self, same_then, same_if, same_fold, same_home, same_emitted, same_group_set, moves_same, invariant_by_same, kept_map, lawful_same, lawful_pushing, lawful_sent_here, local_speaks, lawful_if, lawful_fold, lawful_standing, lawful_receiving, lawful_let_go, lawful_sending, lawful_delivering, lawful_completing}
+use Rattle.cast_history.proofs.Lawful.{SameLaw, same_self, same_then, same_home, same_group_set, moves_same, invariant_by_same, kept_map, lawful_same, lawful_pushing, lawful_sent_here, local_speaks, lawful_if, lawful_fold, lawful_standing, lawful_receiving, lawful_let_go, lawful_sending, lawful_delivering, lawful_completing}
 
 -- a stamp is in order
 stamp_sorted : (t : ClockList) → is_stamp t ≡ true → is_sorted group_cmp t ≡ true
@@ -121,7 +121,8 @@ pub all_lawful : IsInvariantOfAll history IsLawful
 all_lawful = record {
   keeps = invariant_by_same IsLawful lawful_same;
   push = λ s l k p. lawful_pushing s k p l;
-  note_joining = λ s l k given g h at number heard. lawful_standing s k g number heard l (placed_at s g h at).0;
+  note_joining = λ s l k given g h at number heard. lawful_standing s k g (Joining number heard) refl l (λ _. (placed_at s g h at).0);
+  note_denied = λ s l k g is. lawful_standing s k g Outside refl l (λ inside. absurd (false≢true (sym inside)));
   sends = λ s l h k g content sent. let there = placed_at s g h sent.at in
       let same : message_sent history s k g h content ≡ next_message s g k content = ap (λ x. message_sent history s k g x content) (sym there.1) in
       subst (λ m. IsLawful (receiving (noting_sent s k m) m)) (sym same)
@@ -129,9 +130,7 @@ all_lawful = record {
   receive = λ s l h from m taken. let same = taken_current s h from m taken in lawful_receiving s m l (stamp_sorted m.times taken.typed.0) (omega (arith, same)) (taken_speaks s h from m taken);
   note_request = λ s l g what p. lawful_same s _ (same_group_set s g (with_request (s.group g) what p) refl refl) l;
   note_answer = λ s l g. lawful_same s _ (same_group_set s g (with_answer (s.group g)) refl refl) l;
-  note_applied = λ s l g from number p. lawful_same s _ (same_home s g (after_request (s.home g) from number p)) l;
-  note_installed = λ s l g from n. lawful_same s _ (same_home s g (after_installed (s.home g) from n)) l;
-  note_decided = λ s l g. lawful_same s _ (same_home s g (decided (s.home g))) l;
+  move_home = λ s l g move. lawful_same s _ (same_home s g (moved move (s.home g))) l;
   enter_view = λ s l h g n members request cut is. let e = entered s h g n members is in lawful_completing s h n members request cut l e.listed e.unseen e.later;
 }
 
@@ -231,22 +230,25 @@ lawful_set_orders s l = lawful_fold set_order lawful_set_order s.config.groups s
 
 -- The home
 
-pub same_decide : (s : State) (g : GroupNo) → SameLaw s (decide history s g)
-same_decide s g =
-    let h : Home = decided (s.home g) in
-    let now : State = set_home s g h in
-    let sent : State = fold (send_install history g) now (sites_of (s.home g).joins) in
-    same_if s sent s (may_decide (s.home g))
-    (same_then s now sent (same_home s g h) (same_fold (send_install history g) (λ t to. same_emitted t to (install_frame g (t.home g) to)) (sites_of (s.home g).joins) now))
-    (same_self s)
+-- its rules change nothing that a lawful history is about
+moves_home_same : (s t : State) → SameLaw s t → (g : GroupNo) (move : HomeMove) → SameLaw s (set_home t g (moved move (t.home g)))
+moves_home_same s t a g move = same_then s t _ a (same_home t g (moved move (t.home g)))
 
-pub lawful_decide : (s : State) (g : GroupNo) → IsLawful s → IsLawful (decide history s g)
-lawful_decide s g l = decide_keeps history IsLawful all_lawful s l g
+pub same_start : (s : State) (g : GroupNo) → SameLaw s (start history s g)
+same_start s g = start_keeps history (SameLaw s) (moves_same s) (moves_home_same s) s (same_self s) g
+
+pub same_decide : (s : State) (g : GroupNo) → SameLaw s (decide history s g)
+same_decide s g = decide_keeps history (SameLaw s) (moves_same s) (moves_home_same s) s (same_self s) g
+
+pub same_lead : (s : State) → SameLaw s (lead history s)
+same_lead s = lead_keeps history (SameLaw s) (moves_same s) (moves_home_same s) s (same_self s)
 
 -- The whole
 
 pub lawful_pass : (s : State) → IsLawful s → IsLawful (pass s)
-lawful_pass s l = lead_keeps history IsLawful all_lawful (set_orders (settle s)) (lawful_set_orders (settle s) (lawful_settle s l))
+lawful_pass s l =
+    let t : State = set_orders (settle s) in
+    lawful_same t (pass s) (same_lead t) (lawful_set_orders (settle s) (lawful_settle s l))
 
 pub lawful_rests : (s t : State) → IsLawful s → RestsAt s t → IsLawful t
 lawful_rests s t l rests = subst IsLawful rests.1 (lawful_iterate rests.0 pass lawful_pass s l)

@@ -37,7 +37,7 @@ use Rattle.cast_history.specs.Rest.{deliver_first, set_order_by, set_order, let_
 use Rattle.cast_history.specs.Rules.Commands.{message_sent}
 use Rattle.cast_history.specs.Rules.Sending.{send_data}
 use Rattle.cast_history.specs.Rules.Rest.{told_of, tell}
-use Rattle.cast_history.specs.Raising.{opens, begins, acts, lets_go, delivers, orders, decides}
+use Rattle.cast_history.specs.Raising.{opens, begins, acts, lets_go, delivers, orders, starts, decides}
 use Rattle.cast_history.specs.Noted.{sent_by, delivered_by, abcasts_by, IsNoted, ActsAreNoted}
 use Rattle.cast_history.proofs.Setting.{may_set_order, set_order_is}
 use Rattle.cast_history.proofs.Rules.Follows.{IsInvariant, IsInvariantOfAll}
@@ -45,7 +45,7 @@ use Rattle.cast_history.proofs.Rules.Sending.{send_data_keeps}
 use Rattle.cast_history.proofs.Rules.Owing.{tick_keeps}
 use Rattle.cast_history.proofs.Rules.Commands.{commanded_keeps}
 use Rattle.cast_history.proofs.Rules.Frames.{framed_keeps}
-use Rattle.cast_history.proofs.Rules.Views.{decide_keeps}
+use Rattle.cast_history.proofs.Rules.Views.{start_keeps, decide_keeps}
 use Rattle.cast_history.proofs.LawfulSteps.{taken_foreign}
 
 -- What acts say, one after another
@@ -208,13 +208,12 @@ all_noted = record {
   keeps = noted_moves;
   push = noted_pushing;
   note_joining = λ s n k given g h at number heard. noted_process s n k _ refl;
+  note_denied = λ s n k g is. noted_process s n k _ refl;
   sends = λ s n h k g content sent. noted_sent s n k (message_sent history s k g h content) refl;
   receive = λ s n h from m taken. noted_receiving s n m (taken_foreign s h from m taken);
   note_request = λ s n g what p. record { sent = n.sent; delivered = n.delivered; abcasts = n.abcasts };
   note_answer = λ s n g. record { sent = n.sent; delivered = n.delivered; abcasts = n.abcasts };
-  note_applied = λ s n g from number p. record { sent = n.sent; delivered = n.delivered; abcasts = n.abcasts };
-  note_installed = λ s n g from v. record { sent = n.sent; delivered = n.delivered; abcasts = n.abcasts };
-  note_decided = λ s n g. record { sent = n.sent; delivered = n.delivered; abcasts = n.abcasts };
+  move_home = λ s n g move. record { sent = n.sent; delivered = n.delivered; abcasts = n.abcasts };
   enter_view = λ s n h g v members request cut is. noted_completing s n h v members request cut;
 }
 
@@ -270,4 +269,5 @@ acts_are_noted here config s (acts t e typed p) = noted_acted t e (acts_are_note
 acts_are_noted here config s (lets_go t p) = noted_let_go t (acts_are_noted here config t p)
 acts_are_noted here config s (delivers t k p) = noted_first t k (acts_are_noted here config t p)
 acts_are_noted here config s (orders t g p) = noted_set_order t g (acts_are_noted here config t p)
-acts_are_noted here config s (decides t g p) = decide_keeps history IsNoted all_noted t (acts_are_noted here config t p) g
+acts_are_noted here config s (starts t g p) = start_keeps history IsNoted noted_moves all_noted.move_home t (acts_are_noted here config t p) g
+acts_are_noted here config s (decides t g p) = decide_keeps history IsNoted noted_moves all_noted.move_home t (acts_are_noted here config t p) g

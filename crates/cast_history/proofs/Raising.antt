@@ -161,13 +161,13 @@ counts_process s k v c time delivered members placed = record {
   opened = c.opened;
 }
 
--- a process of a serial that was given begins to join a group
-pub counts_standing : (s : State) (k : ℕ) (g : GroupNo) (request heard : ℕ) → CountsMembers s → was_given s.used k ≡ true → CountsMembers (set_standing s k g (Joining request heard))
-counts_standing s k g request heard c given =
+-- a process of a serial that was given is no member of a group from then on
+pub counts_standing : (s : State) (k : ℕ) (g : GroupNo) (v : Standing) → is_member v ≡ false → CountsMembers s → was_given s.used k ≡ true → CountsMembers (set_standing s k g v)
+counts_standing s k g v none c given =
     let p : Process = s.process k in
-    counts_process s k (record p { standing = set_at group_eq p.standing g (Joining request heard) }) c (c.times k) (c.delivered k)
-    (λ h. elim (group_eq g h) as (λ b. is_member (if b then Joining request heard else p.standing h) ≡ true → IsAmongMembers (s.group h) (local s k) (clock_of p.time h).counts) [
-      | true ↦ λ none. absurd (false≢true none)
+    counts_process s k (record p { standing = set_at group_eq p.standing g v }) c (c.times k) (c.delivered k)
+    (λ h. elim (group_eq g h) as (λ b. is_member (if b then v else p.standing h) ≡ true → IsAmongMembers (s.group h) (local s k) (clock_of p.time h).counts) [
+      | true ↦ λ member. absurd (false≢true (sym none ∙ member))
       | false ↦ c.members k h
     ])
     (λ h _. given)

@@ -20,7 +20,8 @@ use Rattle.cast_delay.specs.Ready.{is_member}
 use Rattle.cast_delay.proofs.Finds.{found_in}
 use Rattle.cast_model.specs.declared.config.DomainConfig.{DomainConfig}
 use Rattle.cast_model.specs.Group.{holder_at, members_of, with_request, with_answer}
-use Rattle.cast_model.specs.Home.{after_request, after_installed, decided}
+use Rattle.cast_types.specs.declared.names.Standing.TheVariants.{Outside, Joining}
+use Rattle.cast_view.specs.Home.{moved}
 use Rattle.cast_model.specs.declared.event.Event.{Event}
 use Rattle.cast_model.specs.declared.event.Event.TheVariants as event
 use Rattle.cast_model.specs.declared.event.Taken.{Taken}
@@ -34,18 +35,18 @@ use Rattle.cast_history.specs.Step.{opening_next, acted}
 use Rattle.cast_history.specs.Rest.{deliver_first, deliver_all, settle, set_order_by, set_order, set_orders, pass, let_go}
 use Rattle.cast_history.specs.Resting.{places_of}
 use Rattle.cast_history.proofs.Setting.{may_set_order, set_order_is}
-use Rattle.cast_history.specs.Rules.Views.{decide, lead}
+use Rattle.cast_history.specs.Rules.Views.{start, decide, lead_group, lead}
 use Rattle.cast_history.specs.Run.{before_event, after_event, IsRun}
 use Rattle.cast_history.specs.Lawful.{IsLawful, IsTyped}
 use Rattle.cast_history.specs.History.{history}
-use Rattle.cast_history.specs.Raising.{IsTimeOf, IsFromMember, CountsMembers, IsPassed, opens, begins, acts, lets_go, delivers, orders, decides, CountsCanBeRaised, CountsCanBeRaisedWithin, MembersAreCounted, RunsArePassed}
+use Rattle.cast_history.specs.Raising.{IsTimeOf, IsFromMember, CountsMembers, IsPassed, opens, begins, acts, lets_go, delivers, orders, starts, decides, CountsCanBeRaised, CountsCanBeRaisedWithin, MembersAreCounted, RunsArePassed}
 use Rattle.cast_history.proofs.Spots.{found_passes}
 use Rattle.cast_history.proofs.Rules.Follows.{IsTaken, IsInvariantOfAll}
 use Rattle.cast_history.proofs.Rules.Data.{used_known, used_of_member}
 use Rattle.cast_history.proofs.Rules.Commands.{commanded_keeps}
 use Rattle.cast_history.proofs.Rules.Frames.{framed_keeps}
 use Rattle.cast_history.proofs.Lawful.{same_home, same_group_set, invariant_by_same, lawful_same, same_pushing, lawful_opening, lawful_before, lawful_let_go}
-use Rattle.cast_history.proofs.LawfulSteps.{same_tick, same_decide, placed_at, taken_current, entered, all_lawful, lawful_acted, lawful_first, lawful_set_order, lawful_decide}
+use Rattle.cast_history.proofs.LawfulSteps.{same_tick, same_start, same_decide, placed_at, taken_current, entered, all_lawful, lawful_acted, lawful_first, lawful_set_order}
 use Rattle.cast_history.proofs.Counting.{is_clock_of, all_both}
 use Rattle.cast_history.proofs.Raising.{counts_same, counts_let_go, counts_before, counts_opening, counts_standing, counts_receiving, counts_sent_here, counts_sending, counts_delivering, counts_completing, counts_opened, next_unborn, can_raise}
 
@@ -84,7 +85,8 @@ all_counted : IsInvariantOfAll history IsCounted
 all_counted = record {
   keeps = invariant_by_same IsCounted (λ s t a c. (lawful_same s t a c.0, counts_same s t a c.1));
   push = λ s c k p. (all_lawful.push s c.0 k p, counts_same s _ (same_pushing s k p) c.1);
-  note_joining = λ s c k given g h at number heard. (all_lawful.note_joining s c.0 k given g h at number heard, counts_standing s k g number heard c.1 (c.1.opened k given));
+  note_joining = λ s c k given g h at number heard. (all_lawful.note_joining s c.0 k given g h at number heard, counts_standing s k g (Joining number heard) refl c.1 (c.1.opened k given));
+  note_denied = λ s c k g is. (all_lawful.note_denied s c.0 k g is, counts_standing s k g Outside refl c.1 (c.1.placed k g is));
   sends = λ s c h k g content sent. let there = placed_at s g h sent.at in
       let same : message_sent history s k g h content ≡ next_message s g k content = ap (λ x. message_sent history s k g x content) (sym there.1) in (
         all_lawful.sends s c.0 h k g content sent,
@@ -93,9 +95,7 @@ all_counted = record {
   receive = λ s c h from m taken. (all_lawful.receive s c.0 h from m taken, counts_receiving s m c.1 (taken_time s h from m taken) (taken_from s h from m taken));
   note_request = λ s c g what p. (all_lawful.note_request s c.0 g what p, counts_same s _ (same_group_set s g (with_request (s.group g) what p) refl refl) c.1);
   note_answer = λ s c g. (all_lawful.note_answer s c.0 g, counts_same s _ (same_group_set s g (with_answer (s.group g)) refl refl) c.1);
-  note_applied = λ s c g from number p. (all_lawful.note_applied s c.0 g from number p, counts_same s _ (same_home s g (after_request (s.home g) from number p)) c.1);
-  note_installed = λ s c g from n. (all_lawful.note_installed s c.0 g from n, counts_same s _ (same_home s g (after_installed (s.home g) from n)) c.1);
-  note_decided = λ s c g. (all_lawful.note_decided s c.0 g, counts_same s _ (same_home s g (decided (s.home g))) c.1);
+  move_home = λ s c g move. (all_lawful.move_home s c.0 g move, counts_same s _ (same_home s g (moved move (s.home g))) c.1);
   enter_view = λ s c h g n members request cut is. let e = entered s h g n members is in
       (all_lawful.enter_view s c.0 h g n members request cut is, counts_completing s h n members request cut c.0 c.1 e.listed is.typed e.unseen e.later);
 }
@@ -136,6 +136,9 @@ counts_set_order s g l c =
       | None ↦ c
     ]
 
+pub counts_start : (s : State) (g : GroupNo) → CountsMembers s → CountsMembers (start history s g)
+counts_start s g c = counts_same s (start history s g) (same_start s g) c
+
 pub counts_decide : (s : State) (g : GroupNo) → CountsMembers s → CountsMembers (decide history s g)
 counts_decide s g c = counts_same s (decide history s g) (same_decide s g) c
 
@@ -158,9 +161,12 @@ passed_counts here config rising few s (delivers t k p) =
 passed_counts here config rising few s (orders t g p) =
     let h = passed_counts here config rising few t p in
     (lawful_set_order t g h.0, counts_set_order t g h.0 h.1)
+passed_counts here config rising few s (starts t g p) =
+    let h = passed_counts here config rising few t p in
+    (lawful_same t (start history t g) (same_start t g) h.0, counts_start t g h.1)
 passed_counts here config rising few s (decides t g p) =
     let h = passed_counts here config rising few t p in
-    (lawful_decide t g h.0, counts_decide t g h.1)
+    (lawful_same t (decide history t g) (same_decide t g) h.0, counts_decide t g h.1)
 
 module _ (here : SiteNo) (config : DomainConfig) where
   abbrev Passed : State → Type 0
@@ -178,8 +184,8 @@ module _ (here : SiteNo) (config : DomainConfig) where
   passed_settle s p = passed_fold deliver_all (λ t k q. passed_iterate (length t.got) (deliver_first k) (λ u r. delivers u k r) t q) (serials s) s p
 
   passed_lead : (s : State) → Passed s → Passed (lead history s)
-  passed_lead s p = elim (is_home history s) as (λ b. Passed (if b then fold (decide history) s s.config.groups else s)) [
-    | true ↦ passed_fold (decide history) (λ t g q. decides t g q) s.config.groups s p
+  passed_lead s p = elim (is_home history s) as (λ b. Passed (if b then fold (lead_group history) s s.config.groups else s)) [
+    | true ↦ passed_fold (lead_group history) (λ t g q. decides (start history t g) g (starts t g q)) s.config.groups s p
     | false ↦ p
   ]
 

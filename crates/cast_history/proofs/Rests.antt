@@ -1,10 +1,9 @@
 -- Each pass that changes something lowers what is to be done, so the rest ends.
 use Rattle.std.proofs.Common.{◌≡◌, ℕ, ◌+◌, ◌*◌, ◌<◌, ◌≤◌, ◌⊎◌, zero, suc, Bool, true, false, not, List, [], ◌∷◌, ◌++◌, length, Some, None, refl, sym, ap, subst, ◌∙◌, inl, inr, arith}
-use Rattle.std.specs.Prelude.{◌==◌, if◌then◌else◌}
-use Rattle.std.specs.List.{fold, find, range_with_len}
+use Rattle.std.specs.Prelude.{◌&&◌, ◌==◌, nat_lt, if◌then◌else◌, filter}
+use Rattle.std.specs.List.{fold, find, list_any, range_with_len}
 use Rattle.std.proofs.Math.Nat.{mul-le-mul_left, mul-suc}
-use Rattle.std.proofs.lemmas.Bool.{and_parts, eqb-true, eq-eqb}
-use Rattle.std.proofs.lemmas.Bool.Decides.{nat_tests}
+use Rattle.std.proofs.lemmas.Bool.{and_parts, eqb-true, eq-eqb, true≢false}
 use Rattle.std.proofs.lemmas.List.FromFn.{length-range_with_len}
 use Rattle.cast_types.specs.declared.names.GroupNo.{GroupNo}
 use Rattle.cast_types.specs.declared.names.Proc.{Proc}
@@ -16,21 +15,30 @@ use Rattle.cast_types.proofs.Iterates.{iterate_still}
 use Rattle.cast_types.proofs.Orders.{same_group, group_itself}
 use Rattle.cast_message.specs.declared.message.Message.{Message}
 use Rattle.cast_delay.specs.Ready.{is_member}
-use Rattle.cast_model.specs.declared.home.Home.{Home}
-use Rattle.cast_model.specs.Phase.{is_idle}
-use Rattle.cast_model.specs.Group.{holder_at, sites_of}
-use Rattle.cast_model.specs.Home.{is_empty, may_decide, decided}
+use Rattle.cast_types.specs.declared.names.SiteNo.{SiteNo}
+use Rattle.cast_types.specs.declared.limits.TheConstants.{MAX_NUMBER}
+use Rattle.cast_types.specs.Names.{site_eq, site_cmp}
+use Rattle.cast_types.specs.Sets.{with_items}
+use Rattle.cast_timer.specs.declared.key.OwedKind.{OwedKind}
+use Rattle.cast_timer.specs.declared.key.OwedKind.TheVariants.{Prepare, Install}
+use Rattle.cast_view.specs.declared.phase.Phase.{Phase}
+use Rattle.cast_view.specs.declared.phase.Phase.TheVariants.{Idle, Gathering, Installing}
+use Rattle.cast_view.specs.declared.phase.Decision.{Decision}
+use Rattle.cast_view.specs.Home.{Home, HomeMove, moved, is_empty, is_idle, is_suspected, may_start, sites_to_await, awaited_of, waiting_of, may_decide_in, may_decide, decided_list, decision_of, decided_phase, decided, installing, sites_of}
+use Rattle.cast_view.specs.Home.HomeMove.{Started, Decided}
+use Rattle.cast_history.specs.Rules.Keys.{home_key}
+use Rattle.cast_model.specs.Group.{holder_at}
 use Rattle.cast_history.specs.State.{State, serials, set_home, receiving, with_delivery}
 use Rattle.cast_history.specs.Rules.Requests.{is_home}
 use Rattle.cast_history.specs.History.{history}
 use Rattle.cast_history.specs.Rules.Room.{may_order}
 use Rattle.cast_history.specs.Order.{unlisted, is_ready_for}
 use Rattle.cast_history.specs.Effects.{sending_message}
-use Rattle.cast_history.specs.Rules.Views.{install_frame, send_install, decide, lead}
+use Rattle.cast_history.specs.Rules.Views.{owe_of_home, start, decide, lead_group, lead}
 use Rattle.cast_history.specs.Rest.{deliver_first, deliver_all, settle, set_order_by, set_order, set_orders, pass, RestsAt, let_go}
 use Rattle.cast_history.proofs.Setting.{may_set_order, set_order_is}
-use Rattle.cast_history.specs.Endings.{total, one_if, left, rank, ranks, undelivered, to_list_in, to_list, to_do, Moves, PassMoves, EachComesToRest, RestIsOne}
-use Rattle.cast_history.proofs.Alikes.{Alike, alike_then, alike_fold, alike_emitted, alike_let_go, alike_sending}
+use Rattle.cast_history.specs.Endings.{total, left, rank_of, rank, ranks, undelivered, to_list_in, to_list, to_do, Moves, PassMoves, EachComesToRest, RestIsOne}
+use Rattle.cast_history.proofs.Alikes.{Alike, alike_then, alike_fold, alike_owe, alike_let_go, alike_sending}
 use Rattle.cast_history.proofs.Totals.{In, total_le, total_lt, total_more, left_push, left_found, left_more}
 use Rattle.cast_history.proofs.Settles.{delivering_one, alike_delivering, delivered_at, ready_new, delivered_first, delivered_none, iterate_twice}
 use Rattle.cast_history.proofs.Listings.{order_message, to_list_delivered, to_list_received, to_list_ordered}
@@ -199,31 +207,80 @@ home_less s g h at less =
     plus_less : (a x y b : ℕ) → x < y → a + x + b < a + y + b
     plus_less a x y b h = omega arith
 
--- a decided view has a number
-numbered : (n : ℕ) → one_if (n + 1 == 0) ≡ 0
-numbered n = grind (arith, nat_tests)
+started_rank : (p : Phase) (calm none : Bool) → is_idle p ≡ true → not none ≡ true → ◌<◌ (if calm then 1 else 3) (rank_of p calm none)
+started_rank Idle calm true idle some = absurd (true≢false (sym some))
+started_rank Idle true false idle some = omega arith
+started_rank Idle false false idle some = omega arith
+started_rank (Gathering awaited reports bodies) calm none idle some = absurd (true≢false (sym idle))
+started_rank (Installing waiting decision bodies) calm none idle some = absurd (true≢false (sym idle))
 
-decided_less : (h : Home) → may_decide h ≡ true → rank (decided h) < rank h
-decided_less h e =
-    let a = and_parts (is_idle h.phase) _ e in
-    let b = and_parts (h.number == 0) _ a.1 in
-    let was : ◌≡◌ {A = ℕ} (rank h) 1 = ap one_if b.0 in
-    let is : ◌≡◌ {A = ℕ} (rank (decided h)) 0 = numbered h.number in
-    omega arith
+started_less : (h : Home) → may_start h ≡ true → rank (moved Started h) < rank h
+started_less h may =
+    let a = and_parts (is_idle h.phase) _ may in
+    let b = and_parts (nat_lt h.number MAX_NUMBER) _ a.1 in
+    subst (λ c. rank (if c then record h { phase = Gathering (sites_to_await h) [] [] } else h) < rank h) (sym may)
+    (started_rank h.phase (is_empty h.suspected) (is_empty h.joins && (is_empty h.leavings && is_empty h.suspected)) a.0 b.1)
+
+-- a decision has the phase after it, or none where no site is waited for
+decided_rank : (sites : List SiteNo) (d : Decision) (bodies : List Message) (calm empty : Bool) → (calm ≡ true → empty ≡ true) → rank_of (installing sites d bodies) true (empty && true) < (if calm then 1 else 3)
+decided_rank [] d bodies true empty left_none = subst (λ b. ◌<◌ (if b && true then 0 else 2) 1) (sym (left_none refl)) (omega arith)
+decided_rank [] d bodies false true left_none = omega arith
+decided_rank [] d bodies false false left_none = omega arith
+decided_rank (s ∷ sites) d bodies true empty left_none = omega arith
+decided_rank (s ∷ sites) d bodies false empty left_none = omega arith
+
+none_suspected : (suspected : List SiteNo) (joins : List Proc) → is_empty suspected ≡ true → is_empty (filter (λ p. list_any (site_eq p.site) suspected) joins) ≡ true
+none_suspected (s ∷ suspected) joins e = absurd (true≢false (sym e))
+none_suspected [] [] e = refl
+none_suspected [] (p ∷ joins) e = none_suspected [] joins e
+
+decided_less : (g : GroupNo) (h : Home) → may_decide g h ≡ true → rank (decided h) < rank h
+decided_less g h may = of_phase h.phase may
+  where
+    calm : Bool
+    calm = is_empty h.suspected
+
+    empty : Bool
+    empty = is_empty (filter (λ p. is_suspected h p.site) h.joins)
+
+    of_phase : (p : Phase) → may_decide_in g h p ≡ true → rank_of (decided_phase h (decided_list h) p) true (empty && true) < rank_of p calm (is_empty h.joins && (is_empty h.leavings && calm))
+    of_phase Idle e = absurd (true≢false (sym e))
+    of_phase (Gathering awaited reports bodies) e =
+        decided_rank (with_items site_cmp (sites_of (decided_list h)) awaited) (decision_of h reports) bodies calm empty (none_suspected h.suspected h.joins)
+    of_phase (Installing waiting decision bodies) e = absurd (true≢false (sym e))
+
+-- the home moves on, and owes frames
+moves_led : (s : State) (g : GroupNo) (move : HomeMove) (kind : OwedKind) (sites : List SiteNo) → In g s.config.groups → rank (moved move (s.home g)) < rank (s.home g) → Moves s (fold (owe_of_home history kind g) (set_home s g (moved move (s.home g))) sites)
+moves_led s g move kind sites at less =
+    let t : State = set_home s g (moved move (s.home g)) in
+    let u : State = fold (owe_of_home history kind g) t sites in
+    let a : Alike t u = alike_fold (owe_of_home history kind g) (λ x to. alike_owe x (home_key kind g to)) sites t in
+    record { config = a.config; used = a.used; way = inr (subst (λ n. n < to_do s) (sym (to_do_alike t u a)) (home_less s g (moved move (s.home g)) at less)) }
+
+moves_start : (s : State) (g : GroupNo) → In g s.config.groups → Moves s (start history s g)
+moves_start s g at =
+    let h : Home = moved Started (s.home g) in
+    moves_if s (fold (owe_of_home history Prepare g) (set_home s g h) (awaited_of ((set_home s g h).home g).phase)) s (may_start (s.home g))
+    (λ e. moves_led s g Started Prepare (awaited_of ((set_home s g h).home g).phase) at (started_less (s.home g) e))
+    (moves_self s)
 
 moves_decide : (s : State) (g : GroupNo) → In g s.config.groups → Moves s (decide history s g)
 moves_decide s g at =
-    let t : State = set_home s g (decided (s.home g)) in
-    let u : State = fold (send_install history g) t (sites_of (s.home g).joins) in
-    let a : Alike t u = alike_fold (send_install history g) (λ x to. alike_emitted x to (install_frame g (x.home g) to)) (sites_of (s.home g).joins) t in
-    moves_if s u s (may_decide (s.home g))
-    (λ e. record { config = a.config; used = a.used; way = inr (subst (λ n. n < to_do s) (sym (to_do_alike t u a)) (home_less s g (decided (s.home g)) at (decided_less (s.home g) e))) })
+    let h : Home = moved Decided (s.home g) in
+    moves_if s (fold (owe_of_home history Install g) (set_home s g h) (waiting_of ((set_home s g h).home g).phase)) s (may_decide g (s.home g))
+    (λ e. moves_led s g Decided Install (waiting_of ((set_home s g h).home g).phase) at (decided_less g (s.home g) e))
     (moves_self s)
+
+moves_lead_group : (s : State) (g : GroupNo) → In g s.config.groups → Moves s (lead_group history s g)
+moves_lead_group s g at =
+    let a : Moves s (start history s g) = moves_start s g at in
+    moves_then s (start history s g) (lead_group history s g) a
+    (moves_decide (start history s g) g (subst (λ c. In g c.groups) (sym a.config) at))
 
 moves_lead : (s : State) → Moves s (lead history s)
 moves_lead s =
-    moves_if s (fold (decide history) s s.config.groups) s (is_home history s)
-    (λ _. moves_fold s (decide history) s.config.groups (λ g at t u c. moves_decide t g (subst (λ x. In g x.groups) (sym c) at)) s refl refl)
+    moves_if s (fold (lead_group history) s s.config.groups) s (is_home history s)
+    (λ _. moves_fold s (lead_group history) s.config.groups (λ g at t u c. moves_lead_group t g (subst (λ x. In g x.groups) (sym c) at)) s refl refl)
     (moves_self s)
 
 pub moves_pass : PassMoves

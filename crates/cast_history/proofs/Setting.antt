@@ -6,7 +6,7 @@ use Rattle.cast_types.specs.declared.names.GroupNo.{GroupNo}
 use Rattle.cast_message.specs.declared.message.Body.TheVariants as body
 use Rattle.cast_message.specs.Sequence.{Sequence}
 use Rattle.cast_delay.specs.Ready.{is_member}
-use Rattle.cast_model.specs.Home.{is_empty}
+use Rattle.cast_view.specs.Home.{is_empty}
 use Rattle.cast_history.specs.State.{State, local}
 use Rattle.cast_history.specs.History.{history}
 use Rattle.cast_history.specs.Order.{order_of, unlisted, has_place}

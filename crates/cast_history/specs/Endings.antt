@@ -1,5 +1,5 @@
 -- The rest after an event comes to an end: what each change of a pass lowers, and the laws that follow.
-use Rattle.std.specs.Prelude.{◌≡◌, ℕ, ◌+◌, ◌*◌, ◌<◌, ◌⊎◌, Bool, not, ◌&&◌, ◌==◌, if◌then◌else◌, List, [], ◌∷◌, length, filter, Some, None}
+use Rattle.std.specs.Prelude.{◌≡◌, ℕ, ◌+◌, ◌*◌, ◌<◌, ◌⊎◌, Bool, not, ◌&&◌, if◌then◌else◌, List, [], ◌∷◌, length, filter, Some, None}
 use Rattle.std.specs.List.{list_any, find}
 use Rattle.cast_types.specs.declared.names.GroupNo.{GroupNo}
 use Rattle.cast_types.specs.declared.names.Uid.{Uid}
@@ -8,7 +8,9 @@ use Rattle.cast_types.specs.Repeat.{iterate}
 use Rattle.cast_message.specs.declared.message.Message.{Message}
 use Rattle.cast_message.specs.Bodies.{kind_of}
 use Rattle.cast_delay.specs.Ready.{has_delivered}
-use Rattle.cast_model.specs.declared.home.Home.{Home}
+use Rattle.cast_view.specs.declared.phase.Phase.{Phase}
+use Rattle.cast_view.specs.declared.phase.Phase.TheVariants.{Idle, Gathering, Installing}
+use Rattle.cast_view.specs.Home.{Home, is_empty}
 use Rattle.cast_model.specs.Group.{holder_at}
 use Rattle.cast_history.specs.State.{State, serials}
 use Rattle.cast_history.specs.Order.{is_of_view, unlisted, is_ready_for}
@@ -31,9 +33,15 @@ left ids (m ∷ got) = one_if (not (list_any (uid_eq m.id) ids)) + left ids got
 abbrev pub undelivered : State → ℕ
 undelivered s = total (λ k. left (s.process k).delivered s.got) (serials s)
 
--- the decision that a group's home can still come to
+-- how many more starts and decisions a group's home can come to at the most, where no site is suspected and nothing else is to
+-- change: a decision leaves no site suspected, and joins only where one was
+abbrev pub rank_of : Phase → Bool → Bool → ℕ
+rank_of Idle calm none = if none then 0 else if calm then 2 else 4
+rank_of (Gathering awaited reports bodies) calm none = if calm then 1 else 3
+rank_of (Installing waiting decision bodies) calm none = 0
+
 abbrev pub rank : Home → ℕ
-rank h = one_if (h.number == 0)
+rank h = rank_of h.phase (is_empty h.suspected) (is_empty h.joins && (is_empty h.leavings && is_empty h.suspected))
 
 abbrev pub ranks : State → ℕ
 ranks s = total (λ g. rank (s.home g)) s.config.groups

@@ -2,11 +2,11 @@
 use Rattle.std.specs.Prelude.{if◌then◌else◌, Some, None}
 use Rattle.cast_types.specs.declared.names.GroupNo.{GroupNo}
 use Rattle.cast_stable.specs.Stable.{has_acked}
-use Rattle.cast_types.specs.declared.names.Standing.TheVariants.{Joining}
+use Rattle.cast_types.specs.declared.names.Standing.TheVariants.{Outside, Joining}
 use Rattle.cast_model.specs.Session.{is_open}
 use Rattle.cast_timer.specs.Owed.{is_owed, due_at}
 use Rattle.cast_model.specs.Group.{with_request, with_answer}
-use Rattle.cast_model.specs.Home.{after_request, after_installed, decided}
+use Rattle.cast_view.specs.Home.{moved}
 use Rattle.cast_history.specs.State.{State, is_group, set_group, set_home, set_standing, emitted, pushing, receiving, noting_sent, awaits_own, is_received, held, message_of, others_of, is_stable, upto, noting_ack, noting_stable}
 use Rattle.cast_history.specs.Owing.{noting_owed, noting_resent, paying, paying_upto, at_moment}
 use Rattle.cast_history.specs.Entering.{completing}
@@ -45,12 +45,11 @@ history = record {
   note_stable = noting_stable;
   push = pushing;
   note_joining = λ s k g number heard. set_standing s k g (Joining number heard);
+  note_denied = λ s k g. set_standing s k g Outside;
   note_sent = noting_sent;
   receive = receiving;
   note_request = λ s g what p. set_group s g (with_request (s.group g) what p);
   note_answer = λ s g. set_group s g (with_answer (s.group g));
-  note_applied = λ s g from number p. set_home s g (after_request (s.home g) from number p);
-  note_installed = λ s g from n. set_home s g (after_installed (s.home g) from n);
-  note_decided = λ s g. set_home s g (decided (s.home g));
+  move_home = λ s g move. set_home s g (moved move (s.home g));
   enter_view = completing;
 }

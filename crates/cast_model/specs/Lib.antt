@@ -2,5 +2,3 @@ pub mod Events
 pub mod Outs
 pub mod Session
 pub mod Group
-pub mod Phase
-pub mod Home

@@ -40,8 +40,11 @@ first_home = record { number = 0; members = no_members; joins = []; leavings = [
 -- Requests
 
 -- the last request of a site that was applied, first number 0
+abbrev pub answer_in : List (SiteNo × Answer) → SiteNo → Answer
+answer_in answers s = unwrap_or (find site_cmp s answers) (record { number = 0; full = false })
+
 abbrev pub answer_of : Home → SiteNo → Answer
-answer_of h s = unwrap_or (find site_cmp s h.answers) (record { number = 0; full = false })
+answer_of h s = answer_in h.answers s
 
 abbrev pub is_leaving : Home → Proc → Bool
 is_leaving h p = is_among proc_eq p h.leavings
@@ -119,6 +122,18 @@ abbrev pub is_idle : Phase → Bool
 is_idle Idle = true
 is_idle (Gathering awaited reports bodies) = false
 is_idle (Installing waiting decision bodies) = false
+
+-- the sites whose reports are awaited
+abbrev pub awaited_of : Phase → List SiteNo
+awaited_of Idle = []
+awaited_of (Gathering awaited reports bodies) = awaited
+awaited_of (Installing waiting decision bodies) = []
+
+-- the sites that are to install the view that is decided
+abbrev pub waiting_of : Phase → List SiteNo
+waiting_of Idle = []
+waiting_of (Gathering awaited reports bodies) = []
+waiting_of (Installing waiting decision bodies) = waiting
 
 -- a flush is wanted, and may start
 abbrev pub may_start : Home → Bool
@@ -262,6 +277,33 @@ takes_installed h s n = (n == h.number) && awaits_installed h.phase s
 
 abbrev pub after_installed : Home → SiteNo → ℕ → Home
 after_installed h s n = if takes_installed h s n then record h { phase = phase_without s h.phase } else h
+
+-- All that changes a group at the home
+
+pub data HomeMove : Type 0 where
+  -- a site's request comes
+  Asked : (from : SiteNo) (number : ℕ) (what : Change) (p : Proc) → HomeMove
+  -- a site is suspected
+  Suspected : (site : SiteNo) → HomeMove
+  -- a flush starts
+  Started : HomeMove
+  -- a site reports what it has of a view
+  Reported : (from : SiteNo) (view : ℕ) (report : Report) → HomeMove
+  -- a message comes that some sites lack
+  Brought : (message : Message) → HomeMove
+  -- the next view is decided
+  Decided : HomeMove
+  -- a site has installed a view
+  Installed : (from : SiteNo) (view : ℕ) → HomeMove
+
+abbrev pub moved : HomeMove → Home → Home
+moved (Asked from number what p) h = after_ask h from number what p
+moved (Suspected site) h = after_suspicion h site
+moved Started h = after_start h
+moved (Reported from view report) h = after_reply h from view report
+moved (Brought message) h = after_body h message
+moved Decided h = decided h
+moved (Installed from view) h = after_installed h from view
 
 -- What holds at all times: the next views have room for whom they are to have, and a flush runs only where a number is
 -- left for the next view

@@ -2,7 +2,7 @@ ghost use Rattle.std.specs.Prelude.{◌≡◌, ◌++◌, ◌∷◌, [], not, fil
 ghost use Rattle.cast_types.specs.Names.{site_eq, site_cmp};
 ghost use Rattle.cast_types.specs.Sets.{is_among, without};
 ghost use Rattle.std.specs.FinMap.Entries.{put};
-ghost use Rattle.cast_view.specs.Home.{is_idle, installing, phase_without, awaits_report, phase_with_report, phase_with_body, awaits_installed};
+ghost use Rattle.cast_view.specs.Home.{answer_in, awaited_of, waiting_of, is_idle, installing, phase_without, awaits_report, phase_with_report, phase_with_body, awaits_installed};
 
 use cast_flush::{Report, has_report};
 use cast_message::{Message, Tail};
@@ -15,6 +15,19 @@ pub struct Answer {
     pub number: u32,
     /// Whether it was refused because the group was full.
     pub full: bool,
+}
+
+/// The last request of a site among answers that stand in rising order of their sites, number 0 where there is none.
+pub(crate) fn answer_in(answers: &[(SiteNo, Answer)], site: SiteNo) -> Answer
+    ensures { result ≡ answer_in answers.now site }
+{
+    match sorted::find(answers, &site) {
+        Some(answer) => *answer,
+        None => Answer {
+            number: 0,
+            full: false,
+        },
+    }
 }
 
 /// What is decided beside the members of the next view.
@@ -53,6 +66,15 @@ pub enum Phase {
     },
 }
 
+impl Decision {
+    /// The last request of a site that was applied before the decision, number 0 where none was.
+    pub fn last_answer(&self, site: SiteNo) -> Answer
+        ensures { result ≡ answer_in self.now.answers site }
+    {
+        answer_in(self.answers.as_slice(), site)
+    }
+}
+
 impl Phase {
     /// Whether no flush runs.
     pub fn is_idle(&self) -> bool
@@ -61,6 +83,26 @@ impl Phase {
         match self {
             Phase::Idle => true,
             Phase::Gathering { .. } | Phase::Installing { .. } => false,
+        }
+    }
+
+    /// The sites whose reports are awaited, in rising order; none where no reports are gathered.
+    pub fn awaited(&self) -> &[SiteNo]
+        ensures { result.now ≡ awaited_of self.now }
+    {
+        match self {
+            Phase::Gathering { awaited, .. } => awaited.as_slice(),
+            Phase::Idle | Phase::Installing { .. } => &[],
+        }
+    }
+
+    /// The sites that are still to install the view that is decided, in rising order; none where none is.
+    pub fn waiting(&self) -> &[SiteNo]
+        ensures { result.now ≡ waiting_of self.now }
+    {
+        match self {
+            Phase::Installing { waiting, .. } => waiting.as_slice(),
+            Phase::Idle | Phase::Gathering { .. } => &[],
         }
     }
 

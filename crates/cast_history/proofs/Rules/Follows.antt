@@ -15,7 +15,8 @@ use Rattle.cast_message.specs.declared.message.Body.{Body}
 use Rattle.cast_message.specs.declared.message.Message.{Message}
 use Rattle.cast_message.specs.Bodies.{kind_of}
 use Rattle.cast_message.specs.declared.client.Push.{Push}
-use Rattle.cast_delay.specs.Ready.{is_member}
+use Rattle.cast_delay.specs.Ready.{is_member, is_outside}
+use Rattle.cast_view.specs.Home.{HomeMove}
 use Rattle.cast_message.specs.declared.site.Change.{Change}
 use Rattle.cast_message.specs.declared.site.SiteFrame.{SiteFrame}
 use Rattle.cast_message.specs.declared.site.SiteFrame.TheVariants as frame
@@ -64,6 +65,7 @@ pub record Follows {R S H K : Type 0} (a : Site R H) (b : Site S K) (fits : R �
   pub config : (r : R) (s : S) → fits r s → a.config r ≡ b.config s
   pub place : (r : R) (s : S) → fits r s → (g : GroupNo) → AtBoth stands (a.place r g) (b.place s g)
   pub group : (r : R) (s : S) → fits r s → (h : H) (k : K) → stands h k → a.group r h ≡ b.group s k
+  pub home : (r : R) (s : S) → fits r s → (h : H) (k : K) → stands h k → a.home r h ≡ b.home s k
   pub others : (r : R) (s : S) → fits r s → (g : GroupNo) → a.others r g ≡ b.others s g
   pub stable_upto : (r : R) (s : S) → fits r s → (u : Uid) → asked s u → (b.others s u.group ≡ [] → ⊥) → a.stable_upto r u ≡ b.stable_upto s u
   pub has_acked : (r : R) (s : S) → fits r s → (u : Uid) → asked s u → nat_lt 0 u.count ≡ true → (to : SiteNo) → a.has_acked r u to ≡ b.has_acked s u to
@@ -114,7 +116,6 @@ pub record FollowsAll {R S H K : Type 0} (a : Site R H) (b : Site S K) (fits : R
   pub sent : (s : S) (l : K) (k : ℕ) (g : GroupNo) (content : Body) → IsSent b s l k g content → follows.asked (sent_here b s l k g content) (message_sent b s k g l content).id
   pub name : (r : R) (s : S) → fits r s → (h : H) (k : K) → stands h k → a.name r h ≡ b.name s k
   pub places : (r : R) (s : S) → fits r s → AllAt stands (a.places r) (b.places s)
-  pub home : (r : R) (s : S) → fits r s → (h : H) (k : K) → stands h k → a.home r h ≡ b.home s k
   pub held : (r : R) (s : S) → fits r s → a.held r ≡ b.held s
   pub is_received : (r : R) (s : S) → fits r s → (k : K) (from : SiteNo) (m : Message) → IsTaken b s k from m → a.is_received r m.id ≡ b.is_received s m.id
   pub is_stable : (r : R) (s : S) → fits r s → (k : K) (from : SiteNo) (m : Message) → IsTaken b s k from m → a.is_stable (a.receive r m) m.id ≡ b.is_stable (b.receive s m) m.id
@@ -124,13 +125,12 @@ pub record FollowsAll {R S H K : Type 0} (a : Site R H) (b : Site S K) (fits : R
   pub awaits_own : (r : R) (s : S) → fits r s → (k : ℕ) → b.is_open s k ≡ true → a.awaits_own r k ≡ b.awaits_own s k
   pub push : (r : R) (s : S) → fits r s → (k : ℕ) (p : Push) → fits (a.push r k p) (b.push s k p)
   pub note_joining : (r : R) (s : S) → fits r s → (k : ℕ) → b.is_open s k ≡ true → (g : GroupNo) (h : K) → b.place s g ≡ Some h → (number heard : ℕ) → fits (a.note_joining r k g number heard) (b.note_joining s k g number heard)
+  pub note_denied : (r : R) (s : S) → fits r s → (k : ℕ) (g : GroupNo) → is_outside (b.standing s k g) ≡ false → fits (a.note_denied r k g) (b.note_denied s k g)
   pub sends : (r : R) (s : S) → fits r s → (h : H) (l : K) → stands h l → (k : ℕ) (g : GroupNo) (content : Body) → IsSent b s l k g content → fits (sent_here a r h k g content) (sent_here b s l k g content)
   pub receive : (r : R) (s : S) → fits r s → (k : K) (from : SiteNo) (m : Message) → IsTaken b s k from m → fits (a.receive r m) (b.receive s m)
   pub note_request : (r : R) (s : S) → fits r s → (h : H) (k : K) → stands h k → (what : Change) (p : Proc) → fits (a.note_request r h what p) (b.note_request s k what p)
   pub note_answer : (r : R) (s : S) → fits r s → (h : H) (k : K) → stands h k → fits (a.note_answer r h) (b.note_answer s k)
-  pub note_applied : (r : R) (s : S) → fits r s → (h : H) (k : K) → stands h k → (from : SiteNo) (number : ℕ) (p : Proc) → fits (a.note_applied r h from number p) (b.note_applied s k from number p)
-  pub note_installed : (r : R) (s : S) → fits r s → (h : H) (k : K) → stands h k → (from : SiteNo) (n : ℕ) → fits (a.note_installed r h from n) (b.note_installed s k from n)
-  pub note_decided : (r : R) (s : S) → fits r s → (h : H) (k : K) → stands h k → fits (a.note_decided r h) (b.note_decided s k)
+  pub move_home : (r : R) (s : S) → fits r s → (h : H) (k : K) → stands h k → (move : HomeMove) → fits (a.move_home r h move) (b.move_home s k move)
   pub enter_view : (r : R) (s : S) → fits r s → (h : H) (k : K) → stands h k → (g : GroupNo) (n : ℕ) (members : Membership) (request : ℕ) (cut : CountList) → IsEntered b s k g n members → fits (a.enter_view r h n members request cut) (b.enter_view s k n members request cut)
 
 -- What rules are made of
@@ -169,13 +169,12 @@ pub record IsInvariantOfAll {S H : Type 0} (d : Site S H) (holds : S → Type 0)
   pub keeps : IsInvariant d holds
   pub push : (s : S) → holds s → (k : ℕ) (p : Push) → holds (d.push s k p)
   pub note_joining : (s : S) → holds s → (k : ℕ) → d.is_open s k ≡ true → (g : GroupNo) (h : H) → d.place s g ≡ Some h → (number heard : ℕ) → holds (d.note_joining s k g number heard)
+  pub note_denied : (s : S) → holds s → (k : ℕ) (g : GroupNo) → is_outside (d.standing s k g) ≡ false → holds (d.note_denied s k g)
   pub sends : (s : S) → holds s → (h : H) (k : ℕ) (g : GroupNo) (content : Body) → IsSent d s h k g content → holds (sent_here d s h k g content)
   pub receive : (s : S) → holds s → (h : H) (from : SiteNo) (m : Message) → IsTaken d s h from m → holds (d.receive s m)
   pub note_request : (s : S) → holds s → (h : H) (what : Change) (p : Proc) → holds (d.note_request s h what p)
   pub note_answer : (s : S) → holds s → (h : H) → holds (d.note_answer s h)
-  pub note_applied : (s : S) → holds s → (h : H) (from : SiteNo) (number : ℕ) (p : Proc) → holds (d.note_applied s h from number p)
-  pub note_installed : (s : S) → holds s → (h : H) (from : SiteNo) (n : ℕ) → holds (d.note_installed s h from n)
-  pub note_decided : (s : S) → holds s → (h : H) → holds (d.note_decided s h)
+  pub move_home : (s : S) → holds s → (h : H) (move : HomeMove) → holds (d.move_home s h move)
   pub enter_view : (s : S) → holds s → (h : H) (g : GroupNo) (n : ℕ) (members : Membership) (request : ℕ) (cut : CountList) → IsEntered d s h g n members → holds (d.enter_view s h n members request cut)
 
 -- a site follows itself, in the same state, of which an invariant holds
@@ -217,6 +216,7 @@ follows_itself d holds keeps = record {
   config = λ r s f. ap d.config f.0;
   place = λ r s f g. at_itself (d.place r g) (d.place s g) (λ i. d.place (f.0 i) g);
   group = λ r s f h k at. λ i. d.group (f.0 i) (at i);
+  home = λ r s f h k at. λ i. d.home (f.0 i) (at i);
   others = λ r s f g. λ i. d.others (f.0 i) g;
   stable_upto = λ r s f u asked some. λ i. d.stable_upto (f.0 i) u;
   has_acked = λ r s f u asked counted to. λ i. d.has_acked (f.0 i) u to;
@@ -245,7 +245,6 @@ follows_itself_in_all d holds keeps = record {
   sent = λ s l k g content is_sent. itself_asks d holds keeps.keeps (sent_here d s l k g content) (message_sent d s k g l content).id;
   name = λ r s f h k at. λ i. d.name (f.0 i) (at i);
   places = λ r s f. all_at_themselves (d.places r) (d.places s) (ap d.places f.0);
-  home = λ r s f h k at. λ i. d.home (f.0 i) (at i);
   held = λ r s f. ap d.held f.0;
   is_received = λ r s f k from m taken. λ i. d.is_received (f.0 i) m.id;
   is_stable = λ r s f k from m taken. λ i. d.is_stable (d.receive (f.0 i) m) m.id;
@@ -255,13 +254,12 @@ follows_itself_in_all d holds keeps = record {
   awaits_own = λ r s f k given. λ i. d.awaits_own (f.0 i) k;
   push = λ r s f k p. (λ i. d.push (f.0 i) k p, keeps.push s f.1 k p);
   note_joining = λ r s f k given g h at number heard. (λ i. d.note_joining (f.0 i) k g number heard, keeps.note_joining s f.1 k given g h at number heard);
+  note_denied = λ r s f k g is. (λ i. d.note_denied (f.0 i) k g, keeps.note_denied s f.1 k g is);
   sends = λ r s f h l at k g content sent. (λ i. sent_here d (f.0 i) (at i) k g content, keeps.sends s f.1 l k g content sent);
   receive = λ r s f k from m taken. (λ i. d.receive (f.0 i) m, keeps.receive s f.1 k from m taken);
   note_request = λ r s f h k at what p. (λ i. d.note_request (f.0 i) (at i) what p, keeps.note_request s f.1 k what p);
   note_answer = λ r s f h k at. (λ i. d.note_answer (f.0 i) (at i), keeps.note_answer s f.1 k);
-  note_applied = λ r s f h k at from number p. (λ i. d.note_applied (f.0 i) (at i) from number p, keeps.note_applied s f.1 k from number p);
-  note_installed = λ r s f h k at from n. (λ i. d.note_installed (f.0 i) (at i) from n, keeps.note_installed s f.1 k from n);
-  note_decided = λ r s f h k at. (λ i. d.note_decided (f.0 i) (at i), keeps.note_decided s f.1 k);
+  move_home = λ r s f h k at move. (λ i. d.move_home (f.0 i) (at i) move, keeps.move_home s f.1 k move);
   enter_view = λ r s f h k at g n members request cut entered. (λ i. d.enter_view (f.0 i) (at i) n members request cut, keeps.enter_view s f.1 k g n members request cut entered);
 }
 
@@ -274,6 +272,7 @@ with_invariant a b fits stands holds follows keeps = record {
   config = λ r s f. follows.config r s f.0;
   place = λ r s f. follows.place r s f.0;
   group = λ r s f. follows.group r s f.0;
+  home = λ r s f. follows.home r s f.0;
   others = λ r s f. follows.others r s f.0;
   stable_upto = λ r s f. follows.stable_upto r s f.0;
   has_acked = λ r s f. follows.has_acked r s f.0;

@@ -9,9 +9,10 @@ use Rattle.cast_timer.specs.declared.key.OwedKind.{OwedKind}
 use Rattle.cast_timer.specs.declared.key.OwedKind.TheVariants.{Ask, Data, Prepare, Want, Install, Ack}
 use Rattle.cast_model.specs.declared.group.Group.{Group}
 use Rattle.cast_model.specs.Group.{first_asking}
+use Rattle.cast_view.specs.Home.{Home}
 use Rattle.cast_history.specs.Rules.Keys.{id_in}
 use Rattle.cast_history.specs.Rules.Interface.{Site}
-use Rattle.cast_history.specs.Rules.Owing.{ask_frame, frame_of_kind, frame_for, send_for, owe, resend, resend_due, tick}
+use Rattle.cast_history.specs.Rules.Owing.{ask_frame, install_frame, frame_of_kind, frame_for, send_for, owe, resend, resend_due, tick}
 use Rattle.cast_history.proofs.Rules.Follows.{Follows, AtBoth, choose, each, IsInvariant, AlsoHolds, SamePlace, follows_itself}
 
 module _ {R S H K : Type 0} (a : Site R H) (b : Site S K) (fits : R → S → Type 0) (stands : H → K → Type 0) (follows : Follows a b fits stands) where
@@ -20,9 +21,9 @@ module _ {R S H K : Type 0} (a : Site R H) (b : Site S K) (fits : R → S → Ty
   kind_same r s f h k at key Data =
       ap (λ (x : Group). option_map frame.Data (a.message r (id_in x.number key))) (follows.group r s f h k at)
       ∙ ap (option_map frame.Data) (follows.message r s f (id_in (b.group s k).number key))
-  kind_same r s f h k at key Prepare = refl
+  kind_same r s f h k at key Prepare = ap (λ (x : Home). Some (frame.Prepare key.group x.number)) (follows.home r s f h k at)
   kind_same r s f h k at key Want = refl
-  kind_same r s f h k at key Install = refl
+  kind_same r s f h k at key Install = ap (λ (x : Home). install_frame key.group x key.site x.phase) (follows.home r s f h k at)
   kind_same r s f h k at key Ack = ap (λ (x : Group). Some (frame.Ack (id_in x.number key))) (follows.group r s f h k at)
 
   -- a key stands for the same frame

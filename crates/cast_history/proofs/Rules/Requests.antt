@@ -1,22 +1,29 @@
 -- By the rules of requests a site that follows another goes on standing for it.
-use Rattle.std.proofs.Common.{◌≡◌, ℕ, ◌+◌, Bool, true, false, not, ◌&&◌, Option, Some, None, sym, ap, subst}
-use Rattle.std.specs.Prelude.{◌==◌, nat_le, if◌then◌else◌}
+use Rattle.std.proofs.Common.{◌≡◌, ℕ, Bool, true, false, ◌&&◌, Option, Some, None, refl, sym, ap, subst, ◌∙◌}
+use Rattle.std.specs.Prelude.{◌==◌, if◌then◌else◌}
 use Rattle.cast_types.specs.declared.names.SiteNo.{SiteNo}
 use Rattle.cast_types.specs.declared.names.Proc.{Proc}
 use Rattle.cast_types.specs.Names.{site_eq}
 use Rattle.cast_message.specs.declared.site.Change.{Change}
-use Rattle.cast_message.specs.declared.site.Change.TheVariants as change
 use Rattle.cast_message.specs.declared.site.SiteFrame.{SiteFrame}
 use Rattle.cast_message.specs.declared.site.SiteFrame.TheVariants as frame
 use Rattle.cast_timer.specs.declared.key.OwedKey.{OwedKey}
 use Rattle.cast_model.specs.declared.group.Asking.{Asking}
 use Rattle.cast_model.specs.declared.group.Group.{Group}
 use Rattle.cast_model.specs.Group.{first_asking}
-use Rattle.cast_model.specs.Home.{is_empty, applied_of}
+use Rattle.cast_view.specs.Home.{is_empty, answer_to}
+use Rattle.cast_view.specs.Home.HomeMove.{Asked}
+use Rattle.cast_types.specs.declared.names.GroupNo.{GroupNo}
+use Rattle.cast_types.specs.declared.names.Standing.{Standing}
+use Rattle.cast_types.specs.declared.names.Standing.TheVariants.{Outside, Joining, Member}
+use Rattle.cast_types.specs.declared.refusal.Refusal.TheVariants.{GroupFull}
+use Rattle.cast_message.specs.declared.client.Push.TheVariants as push
+use Rattle.cast_delay.specs.Ready.{is_outside}
+use Rattle.std.proofs.lemmas.Bool.{false≢true}
 use Rattle.cast_history.specs.Rules.Keys.{ask_key}
 use Rattle.cast_history.specs.Rules.Interface.{Site}
 use Rattle.cast_history.specs.Rules.Owing.{owe}
-use Rattle.cast_history.specs.Rules.Requests.{is_home, is_from_home, ask_home, request, on_ask, on_asked}
+use Rattle.cast_history.specs.Rules.Requests.{is_home, is_from_home, ask_home, request, answer_ask, on_ask, is_joining_by, deny, take_answer, on_asked}
 use Rattle.cast_history.proofs.Rules.Follows.{FollowsAll, choose}
 use Rattle.cast_history.proofs.Rules.Owing.{owe_follows}
 
@@ -53,47 +60,62 @@ module _ {R S H K : Type 0} (a : Site R H) (b : Site S K) (fits : R → S → Ty
       (λ _. ask_home_follows next after now h k at)
       (λ _. now)
 
+  answer_follows : (r : R) (s : S) → fits r s → (h : H) (k : K) → stands h k → (from : SiteNo) (number : ℕ) (full : Option Bool) → fits (answer_ask a r h from number full) (answer_ask b s k from number full)
+  answer_follows r s f h k at from number None = f
+  answer_follows r s f h k at from number (Some full) =
+      send_as r s f from (frame.Asked (a.name r h) number full) (frame.Asked (b.name s k) number full)
+      (ap (λ g. frame.Asked g number full) (all.name r s f h k at))
+
   pub ask_follows : (r : R) (s : S) → fits r s → (h : H) (k : K) → stands h k → (from : SiteNo) (number : ℕ) (what : Change) (p : Proc) → fits (on_ask a r h from number what p) (on_ask b s k from number what p)
-  ask_follows r s f h k at from number change.Join p =
-      let applied : applied_of (a.home r h) from ≡ applied_of (b.home s k) from = ap (λ x. applied_of x from) (all.home r s f h k at) in
-      let x : SiteFrame = frame.Asked (a.name r h) number false in
-      let y : SiteFrame = frame.Asked (b.name s k) number false in
-      let same : x ≡ y = ap (λ g. frame.Asked g number false) (all.name r s f h k at) in
-      let next : R = a.note_applied r h from number p in
-      let after : S = b.note_applied s k from number p in
-      choose fits (not (is_home a r)) (not (is_home b s)) r _ s _ (ap not (home_same r s f))
+  ask_follows r s f h k at from number what p =
+      let next : R = a.move_home r h (Asked from number what p) in
+      let after : S = b.move_home s k (Asked from number what p) in
+      choose fits (is_home a r) (is_home b s) _ r _ s (home_same r s f)
+      (λ _. subst (λ x. fits (answer_ask a next h from number (answer_to x from number what p)) (answer_ask b after k from number (answer_to (b.home s k) from number what p))) (sym (all.follows.home r s f h k at))
+      (answer_follows next after (all.move_home r s f h k at (Asked from number what p)) h k at from number (answer_to (b.home s k) from number what p)))
       (λ _. f)
-      (λ _. choose fits (number == applied_of (a.home r h) from + 1) (number == applied_of (b.home s k) from + 1) (a.send next from x) _ (b.send after from y) _
-      (ap (λ n. number == n + 1) applied)
-      (λ _. send_as next after (all.note_applied r s f h k at from number p) from x y same)
-      (λ _. choose fits (nat_le number (applied_of (a.home r h) from)) (nat_le number (applied_of (b.home s k) from)) (a.send r from x) r (b.send s from y) s
-      (ap (nat_le number) applied)
-      (λ _. send_as r s f from x y same)
-      (λ _. f)))
-  ask_follows r s f h k at from number change.Leave p = f
+
+  -- who still joins is not outside
+  joining_inside : (v : Standing) (number : ℕ) → is_joining_by v number ≡ true → is_outside v ≡ false
+  joining_inside Outside number is = absurd (false≢true is)
+  joining_inside (Joining request heard) number is = refl
+  joining_inside Member number is = refl
+
+  deny_follows : (r : R) (s : S) → fits r s → (h : H) (k : K) → stands h k → (x : Asking) → fits (deny a r h x) (deny b s k x)
+  deny_follows r s f h k at x =
+      let p : ℕ = x.proc.serial in
+      let g : GroupNo = b.name s k in
+      let name : a.name r h ≡ g = all.name r s f h k at in
+      choose fits (is_joining_by (a.standing r p (a.name r h)) x.number) (is_joining_by (b.standing s p g) x.number) _ r _ s
+      (ap (λ y. is_joining_by (a.standing r p y) x.number) name ∙ ap (λ v. is_joining_by v x.number) (all.standing r s f p g))
+      (λ joins. subst (λ y. fits (a.push (a.note_denied r p y) p (push.Denied y GroupFull)) (b.push (b.note_denied s p g) p (push.Denied g GroupFull))) (sym name)
+      (all.push (a.note_denied r p g) (b.note_denied s p g) (all.note_denied r s f p g (joining_inside (b.standing s p g) x.number joins)) p (push.Denied g GroupFull)))
+      (λ _. f)
+
+  take_answer_follows : (r : R) (s : S) → fits r s → (h : H) (k : K) → stands h k → fits (take_answer a r h) (take_answer b s k)
+  take_answer_follows r s f h k at =
+      let key : OwedKey = ask_key (b.name s k) (b.config s).home in
+      subst (λ x. fits (ask_home a (a.note_answer (a.pay r x) h) h) (take_answer b s k)) (sym (key_same r s f h k at))
+      (ask_home_follows (a.note_answer (a.pay r key) h) (b.note_answer (b.pay s key) k)
+      (all.note_answer (a.pay r key) (b.pay s key) (all.follows.pay r s f key) h k at) h k at)
 
   pub asked_follows : (r : R) (s : S) → fits r s → (h : H) (k : K) → stands h k → (from : SiteNo) (number : ℕ) (full : Bool) → fits (on_asked a r h from number full) (on_asked b s k from number full)
-  asked_follows r s f h k at from number true = f
-  asked_follows r s f h k at from number false =
-      let key : OwedKey = ask_key (b.name s k) (b.config s).home in
-      let paid : R → OwedKey → R = λ x y. ask_home a (a.note_answer (a.pay x y) h) h in
-      let next : R = paid r (ask_key (a.name r h) (a.config r).home) in
-      let after : S = ask_home b (b.note_answer (b.pay s key) k) k in
-      let now : fits (paid r key) after =
-      ask_home_follows (a.note_answer (a.pay r key) h) (b.note_answer (b.pay s key) k)
-      (all.note_answer (a.pay r key) (b.pay s key) (all.follows.pay r s f key) h k at) h k at in
-      let moved : fits next after = subst (λ x. fits (paid r x) after) (sym (key_same r s f h k at)) now in
-      first (first_asking (a.group r h).requests) (first_asking (b.group s k).requests) (ap (λ (x : Group). first_asking x.requests) (all.follows.group r s f h k at)) next after moved
+  asked_follows r s f h k at from number full =
+      subst (λ o. fits (elim o [ Some x ↦ (if is_from_home a r from && (x.number == number) then (if full then deny a (take_answer a r h) h x else take_answer a r h) else r) | None ↦ r ]) (on_asked b s k from number full))
+      (sym (ap (λ (x : Group). first_asking x.requests) (all.follows.group r s f h k at)))
+      (first (first_asking (b.group s k).requests))
     where
-      answered : (o : Option Asking) (next : R) (after : S) → fits next after → fits (elim o [ Some x ↦ (if is_from_home a r from && (x.number == number) then next else r) | None ↦ r ]) (elim o [ Some x ↦ (if is_from_home b s from && (x.number == number) then after else s) | None ↦ s ])
-      answered (Some x) next after moved =
-          choose fits (is_from_home a r from && (x.number == number)) (is_from_home b s from && (x.number == number)) next r after s
-          (ap (λ c. c && (x.number == number)) (from_home_same r s f from))
-          (λ _. moved)
-          (λ _. f)
-      answered None next after moved = f
+      now : fits (take_answer a r h) (take_answer b s k)
+      now = take_answer_follows r s f h k at
 
-      first : (o p : Option Asking) → o ≡ p → (next : R) (after : S) → fits next after → fits (elim o [ Some x ↦ (if is_from_home a r from && (x.number == number) then next else r) | None ↦ r ]) (elim p [ Some x ↦ (if is_from_home b s from && (x.number == number) then after else s) | None ↦ s ])
-      first o p same next after moved =
-          subst (λ x. fits (elim x [ Some y ↦ (if is_from_home a r from && (y.number == number) then next else r) | None ↦ r ]) (elim p [ Some y ↦ (if is_from_home b s from && (y.number == number) then after else s) | None ↦ s ])) (sym same)
-          (answered p next after moved)
+      answered : (x : Asking) (c : Bool) → fits (if c then deny a (take_answer a r h) h x else take_answer a r h) (if c then deny b (take_answer b s k) k x else take_answer b s k)
+      answered x true = deny_follows (take_answer a r h) (take_answer b s k) now h k at x
+      answered x false = now
+
+      first : (o : Option Asking) → fits (elim o [ Some x ↦ (if is_from_home a r from && (x.number == number) then (if full then deny a (take_answer a r h) h x else take_answer a r h) else r) | None ↦ r ]) (elim o [ Some x ↦ (if is_from_home b s from && (x.number == number) then (if full then deny b (take_answer b s k) k x else take_answer b s k) else s) | None ↦ s ])
+      first (Some x) =
+          choose fits (is_from_home a r from && (x.number == number)) (is_from_home b s from && (x.number == number)) ((if full then deny a (take_answer a r h) h x else take_answer a r h)) r ((if full then deny b (take_answer b s k) k x else take_answer b s k)) s
+          (ap (λ c. c && (x.number == number)) (from_home_same r s f from))
+          (λ _. answered x full)
+          (λ _. f)
+      first None = f

@@ -18,7 +18,7 @@ use Rattle.cast_message.specs.Sequence.{Sequence}
 use Rattle.cast_timer.specs.declared.key.OwedKey.{OwedKey}
 use Rattle.cast_model.specs.declared.config.DomainConfig.{DomainConfig}
 use Rattle.cast_model.specs.declared.group.Group.{Group}
-use Rattle.cast_model.specs.declared.home.Home.{Home}
+use Rattle.cast_view.specs.Home.{Home, HomeMove}
 
 -- an S is what is known of the domain, and an H says where a group stands in it; first comes what a rule asks, and from `send` on what it does
 pub record Site (S H : Type 0) : Type 0 where
@@ -78,6 +78,8 @@ pub record Site (S H : Type 0) : Type 0 where
   pub push : S → ℕ → Push → S
   -- a local process joins a group by a request of this number, and had heard of views up to one
   pub note_joining : S → ℕ → GroupNo → ℕ → ℕ → S
+  -- a local process joins a group no more
+  pub note_denied : S → ℕ → GroupNo → S
   -- a local process has sent a message, and has its time
   pub note_sent : S → ℕ → Message → S
   -- a message is received
@@ -86,12 +88,8 @@ pub record Site (S H : Type 0) : Type 0 where
   pub note_request : S → H → Change → Proc → S
   -- the first request of a group is answered
   pub note_answer : S → H → S
-  -- the home applies a request of a site to join
-  pub note_applied : S → H → SiteNo → ℕ → Proc → S
-  -- the home awaits a site no more that has installed a view
-  pub note_installed : S → H → SiteNo → ℕ → S
-  -- the home decides the view that is due
-  pub note_decided : S → H → S
+  -- the home of a group moves on
+  pub move_home : S → H → HomeMove → S
   -- a group has a new view, with these members; the local processes that it takes in enter it, and are told: a member, and one whose request to
   -- join was applied, by the number of the last one of this site that was; the last argument is the Install's cut
   pub enter_view : S → H → ℕ → Membership → ℕ → CountList → S

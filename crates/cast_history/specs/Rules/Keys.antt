@@ -7,7 +7,7 @@ use Rattle.cast_types.specs.declared.names.Uid.{Uid}
 use Rattle.cast_timer.specs.declared.key.OwedKey.{OwedKey}
 use Rattle.cast_timer.specs.declared.key.OwedKind.{OwedKind}
 use Rattle.cast_timer.specs.declared.key.OwedKind.TheVariants.{Ask}
-use Rattle.cast_timer.specs.declared.key.Side.TheVariants.{Site}
+use Rattle.cast_timer.specs.declared.key.Side.TheVariants.{Site, Home}
 
 abbrev pub nobody : Proc
 nobody = record { site = record { 0 = 0 }; serial = 0 }
@@ -15,6 +15,10 @@ nobody = record { site = record { 0 = 0 }; serial = 0 }
 -- the first request of a group is owed to the home
 abbrev pub ask_key : GroupNo → SiteNo → OwedKey
 ask_key g home = record { kind = Ask; group = g; proc = nobody; count = 0; site = home; side = Site }
+
+-- a frame of this kind about a group alone is owed to a site by the home
+abbrev pub home_key : OwedKind → GroupNo → SiteNo → OwedKey
+home_key kind g to = record { kind = kind; group = g; proc = nobody; count = 0; site = to; side = Home }
 
 -- a frame of this kind about a message is owed to a site
 abbrev pub message_key : OwedKind → Uid → SiteNo → OwedKey

@@ -2,12 +2,16 @@
 use Rattle.std.specs.Prelude.{ℕ, if◌then◌else◌, Option, Some, None}
 use Rattle.std.specs.List.{fold}
 use Rattle.std.specs.Option.{option_map, option_map_or, option_and_then}
+use Rattle.cast_types.specs.declared.names.SiteNo.{SiteNo}
 use Rattle.cast_types.specs.declared.names.GroupNo.{GroupNo}
 use Rattle.cast_message.specs.declared.site.SiteFrame.{SiteFrame}
 use Rattle.cast_message.specs.declared.site.SiteFrame.TheVariants as frame
 use Rattle.cast_timer.specs.declared.key.OwedKey.{OwedKey}
 use Rattle.cast_timer.specs.declared.key.OwedKind.{OwedKind}
 use Rattle.cast_timer.specs.declared.key.OwedKind.TheVariants.{Ask, Data, Prepare, Want, Install, Ack}
+use Rattle.cast_view.specs.declared.phase.Phase.{Phase}
+use Rattle.cast_view.specs.declared.phase.Phase.TheVariants.{Idle, Gathering, Installing}
+use Rattle.cast_view.specs.Home.{Home, answer_in}
 use Rattle.cast_model.specs.declared.group.Asking.{Asking}
 use Rattle.cast_model.specs.Group.{first_asking}
 use Rattle.cast_history.specs.Rules.Keys.{id_in}
@@ -17,14 +21,21 @@ use Rattle.cast_history.specs.Rules.Interface.{Site}
 abbrev pub ask_frame : GroupNo → Asking → SiteFrame
 ask_frame g a = frame.Ask g a.number a.change a.proc
 
+-- the view that the home decided as a site is to install it, with the last request of the site that had been applied
+abbrev pub install_frame : GroupNo → Home → SiteNo → Phase → Option SiteFrame
+install_frame g home to Idle = None
+install_frame g home to (Gathering awaited reports bodies) = None
+install_frame g home to (Installing waiting decision bodies) =
+    Some (frame.Install g home.number home.members (answer_in decision.answers to).number decision.cut decision.tail)
+
 module _ {S H : Type 0} (d : Site S H) where
-  -- the frame that a key of this kind stands for, of the group that stands at h; of the kinds without a rule nothing is owed yet
+  -- the frame that a key of this kind stands for, of the group that stands at h. There is no rule for Wants yet, so none is owed
   abbrev pub frame_of_kind : S → H → OwedKey → OwedKind → Option SiteFrame
   frame_of_kind s h key Ask = option_map (ask_frame key.group) (first_asking (d.group s h).requests)
   frame_of_kind s h key Data = option_map frame.Data (d.message s (id_in (d.group s h).number key))
-  frame_of_kind s h key Prepare = None
+  frame_of_kind s h key Prepare = Some (frame.Prepare key.group (d.home s h).number)
   frame_of_kind s h key Want = None
-  frame_of_kind s h key Install = None
+  frame_of_kind s h key Install = install_frame key.group (d.home s h) key.site (d.home s h).phase
   frame_of_kind s h key Ack = Some (frame.Ack (id_in (d.group s h).number key))
 
   -- the frame that a key of a configured group stands for

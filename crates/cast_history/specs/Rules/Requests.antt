@@ -1,16 +1,27 @@
 -- The rules of requests: a site asks the home for one after another, and the home applies each once.
-use Rattle.std.specs.Prelude.{ℕ, ◌+◌, Bool, true, false, not, ◌&&◌, ◌==◌, nat_le, if◌then◌else◌, Some, None}
+use Rattle.std.specs.Prelude.{ℕ, Bool, false, ◌&&◌, ◌==◌, if◌then◌else◌, Option, Some, None}
 use Rattle.cast_types.specs.declared.names.SiteNo.{SiteNo}
 use Rattle.cast_types.specs.declared.names.Proc.{Proc}
 use Rattle.cast_types.specs.Names.{site_eq}
 use Rattle.cast_message.specs.declared.site.Change.{Change}
-use Rattle.cast_message.specs.declared.site.Change.TheVariants as change
 use Rattle.cast_message.specs.declared.site.SiteFrame.TheVariants as frame
 use Rattle.cast_model.specs.Group.{first_asking}
-use Rattle.cast_model.specs.Home.{is_empty, applied_of}
+use Rattle.cast_view.specs.Home.{is_empty, answer_to}
+use Rattle.cast_view.specs.Home.HomeMove.{Asked}
+use Rattle.cast_message.specs.declared.client.Push.TheVariants as push
+use Rattle.cast_types.specs.declared.refusal.Refusal.TheVariants.{GroupFull}
+use Rattle.cast_types.specs.declared.names.Standing.{Standing}
+use Rattle.cast_types.specs.declared.names.Standing.TheVariants.{Outside, Joining, Member}
+use Rattle.cast_model.specs.declared.group.Asking.{Asking}
 use Rattle.cast_history.specs.Rules.Keys.{ask_key}
 use Rattle.cast_history.specs.Rules.Interface.{Site}
 use Rattle.cast_history.specs.Rules.Owing.{owe}
+
+-- a process that still joins by a request
+abbrev pub is_joining_by : Standing → ℕ → Bool
+is_joining_by Outside number = false
+is_joining_by (Joining request heard) number = request == number
+is_joining_by Member number = false
 
 -- each rule is of the group that stands at h
 module _ {S H : Type 0} (d : Site S H) where
@@ -30,23 +41,35 @@ module _ {S H : Type 0} (d : Site S H) where
   request s h what p =
       if is_empty (d.group s h).requests then ask_home (d.note_request s h what p) h else d.note_request s h what p
 
-  -- at the home the request after the last one is applied; that one and lower ones are answered again. There is no rule for leaves yet
-  abbrev pub on_ask : S → H → SiteNo → ℕ → Change → Proc → S
-  on_ask s h from number change.Join p =
-      if not (is_home s) then s
-      else if number == applied_of (d.home s h) from + 1
-      then d.send (d.note_applied s h from number p) from (frame.Asked (d.name s h) number false)
-      else if nat_le number (applied_of (d.home s h) from) then d.send s from (frame.Asked (d.name s h) number false) else s
-  on_ask s h from number change.Leave p = s
+  -- a site's request that is answered, the group being full or not
+  abbrev pub answer_ask : S → H → SiteNo → ℕ → Option Bool → S
+  answer_ask s h from number None = s
+  answer_ask s h from number (Some full) = d.send s from (frame.Asked (d.name s h) number full)
 
-  -- the first request is answered: the next one is asked. There is no rule for a full group yet
+  -- at the home a request is taken in, and answered where it is the next one of its site or was answered before
+  abbrev pub on_ask : S → H → SiteNo → ℕ → Change → Proc → S
+  on_ask s h from number what p =
+      if is_home s
+      then answer_ask (d.move_home s h (Asked from number what p)) h from number (answer_to (d.home s h) from number what p)
+      else s
+
+  -- a process whose join is refused is outside, if it still joins by that request, and its program is told
+  abbrev pub deny : S → H → Asking → S
+  deny s h a =
+      if is_joining_by (d.standing s a.proc.serial (d.name s h)) a.number
+      then d.push (d.note_denied s a.proc.serial (d.name s h)) a.proc.serial (push.Denied (d.name s h) GroupFull)
+      else s
+
+  -- the first request is answered: it is taken off, and the next one is asked
+  abbrev pub take_answer : S → H → S
+  take_answer s h = ask_home (d.note_answer (d.pay s (ask_key (d.name s h) (d.config s).home)) h) h
+
   abbrev pub on_asked : S → H → SiteNo → ℕ → Bool → S
-  on_asked s h from number true = s
-  on_asked s h from number false =
+  on_asked s h from number full =
       elim (first_asking (d.group s h).requests) [
         | Some a ↦
             (if is_from_home s from && (a.number == number)
-            then ask_home (d.note_answer (d.pay s (ask_key (d.name s h) (d.config s).home)) h) h
+            then (if full then deny (take_answer s h) h a else take_answer s h)
             else s)
         | None ↦ s
       ]
