@@ -95,6 +95,7 @@ records_follow groups = record {
   config = λ r s f. (ap (λ c. c.config) f.0.core);
   place = place_both groups;
   group = λ r s f i g at. ap (λ (x : GroupRecord). x.here) (record_there r s f.0 i g (ap (λ l. slice_get l i) f.1 ∙ at));
+  home = λ r s f i g at. ap (λ (x : GroupRecord). x.home) (record_there r s f.0 i g (ap (λ l. slice_get l i) f.1 ∙ at));
   others = λ r s f. f.0.acks.views;
   stable_upto = λ r s f. upto_meant (past_of s) r.acks f.0.acks;
   has_acked = λ r s f u asked counted to. f.0.acks.acked to u asked (ltb-true 0 u.count counted);

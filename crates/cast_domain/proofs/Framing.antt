@@ -1,5 +1,5 @@
 -- What a rule changes of a domain's records it changes of their history.
-use Rattle.std.proofs.Common.{◌≡◌, ◌<◌, true, false, ◌&&◌, ◌||◌, List, [], ◌∷◌, length, map, filter, ℕ, zero, suc, ◌+◌, Some, refl, sym, ap, subst, ◌∙◌, arith}
+use Rattle.std.proofs.Common.{◌≡◌, ◌<◌, true, false, ◌&&◌, ◌||◌, List, [], ◌∷◌, length, map, filter, ℕ, zero, suc, ◌+◌, Some, refl, sym, ap, subst, ◌∙◌, Option, None, arith}
 use Rattle.std.specs.Prelude.{◌==◌, nat_lt, slice_get}
 use Rattle.std.specs.List.{list_any, range_with_len}
 use Rattle.std.proofs.lemmas.Bool.{and_parts, eqb-true, eq-eqb, ltb-true, or_right}
@@ -7,7 +7,7 @@ use Rattle.std.proofs.lemmas.List.{length-map}
 use Rattle.cast_types.specs.declared.names.SiteNo.{SiteNo}
 use Rattle.cast_types.specs.declared.names.GroupNo.{GroupNo}
 use Rattle.cast_types.specs.declared.names.Uid.{Uid}
-use Rattle.cast_types.specs.declared.names.Standing.TheVariants.{Joining}
+use Rattle.cast_types.specs.declared.names.Standing.TheVariants.{Outside, Joining}
 use Rattle.cast_types.specs.Names.{site_eq, proc_eq, uid_eq, is_order}
 use Rattle.cast_types.specs.Sets.{is_among}
 use Rattle.cast_types.proofs.Bools.{same_bools, and_none}
@@ -23,11 +23,16 @@ use Rattle.cast_message.specs.Bodies.{kind_of}
 use Rattle.cast_message.specs.Membership.{Membership}
 use Rattle.cast_stable.specs.Ledger.{is_received_in, source_of}
 use Rattle.cast_stable.proofs.Meanings.{stable_meant}
-use Rattle.cast_delay.specs.Fits.{IsSound}
+use Rattle.std.specs.Prelude.{IsSome}
+use Rattle.std.proofs.lemmas.Bool.{false≢true}
+use Rattle.cast_delay.specs.Ready.{Process, is_outside}
+use Rattle.cast_delay.specs.declared.row.Row.{Row}
+use Rattle.cast_delay.specs.Queue.{row_of}
+use Rattle.cast_delay.specs.Fits.{IsSound, StandsFor}
 use Rattle.cast_delay.specs.declared.row.Fact.TheVariants as fact
 use Rattle.cast_model.specs.Group.{with_request, with_answer, with_view, has_view, is_current, members_of}
-use Rattle.cast_model.specs.Home.{after_request, after_installed, decided}
-use Rattle.cast_history.specs.State.{State, local, serials, was_given, set_group, set_standing, is_received, receiving, others_of, noting_sent}
+use Rattle.cast_view.specs.Home.{moved}
+use Rattle.cast_history.specs.State.{State, gate_of, local, serials, was_given, set_group, set_standing, is_received, receiving, others_of, noting_sent}
 use Rattle.cast_history.specs.Effects.{next_message}
 use Rattle.cast_history.specs.Entering.{enters, all_in_view, push_view, completing}
 use Rattle.cast_history.specs.History.{history}
@@ -44,8 +49,8 @@ use Rattle.cast_history.proofs.LawfulSteps.{placed_at, taken_current, entered, a
 use Rattle.cast_domain.specs.declared.record.GroupRecord.{GroupRecord}
 use Rattle.cast_domain.specs.Records.{Records}
 use Rattle.cast_domain.specs.Calls.{standing_of, time_of, tell_in, receive_in, awaits_own_in, records}
-use Rattle.cast_domain.specs.Fits.{record_for, Fits, past_of}
-use Rattle.cast_domain.proofs.Standing.{record_there, standing_there, time_there, fits_push, fits_standing, fits_here, fits_home, fits_receive}
+use Rattle.cast_domain.specs.Fits.{process_named, record_for, Fits, past_of}
+use Rattle.cast_domain.proofs.Standing.{process_here, record_there, standing_there, time_there, fits_push, fits_standing, fits_told, fits_here, fits_home, fits_receive}
 use Rattle.cast_domain.proofs.Following.{records_ask, FitsIn, IsAt, records_follow, asked_of}
 use Rattle.cast_domain.proofs.Entering.{fits_complete}
 use Rattle.cast_domain.proofs.Commands.{awaits_own_there, fits_sent_here}
@@ -103,6 +108,14 @@ fits_taken r s f g from m taken =
     (eq-eqb m.id.view (s.group m.id.group).number (taken_current s g from m taken))
     (none_ours s m (taken_foreign s g from m taken))
 
+-- who is in a group, or joins it, has a row
+placed_row : (r : Records) (s : State) → Fits r s → (k : ℕ) (g : GroupNo) → is_outside ((s.process k).standing g) ≡ false → IsSome (row_of r.delay.rows (local s k))
+placed_row r s f k g inside = of_row (row_of r.delay.rows (local s k)) (f.processes.delay.rows (local s k))
+  where
+    of_row : (o : Option Row) → StandsFor (gate_of s) (process_named s (local s k)) o → IsSome o
+    of_row (Some row) told = refl
+    of_row None none = absurd (false≢true (sym inside ∙ ap is_outside (sym (ap (λ (p : Process). p.standing g) (process_here s k)) ∙ none g)))
+
 -- the configuration stays as a view is entered
 completing_config : (s : State) (g : GroupNo) (n : ℕ) (members : Membership) (request : ℕ) (cut : CountList) → (completing s g n members request cut).config ≡ s.config
 completing_config s g n members request cut =
@@ -136,7 +149,6 @@ module _ (groups : List GroupNo) where
     places = λ r s f.
         subst (λ n. AllAt (IsAt groups) (range_with_len 0 n) s.config.groups) (sym (ap length f.0.0.groups ∙ length-map s.config.groups (record_for s)))
         (places_from s.config.groups 0 (λ i g at. subst (λ j. slice_get groups j ≡ Some g) (omega arith) (sym (ap (λ l. slice_get l i) f.0.1) ∙ at)));
-    home = λ r s f i g at. ap (λ (x : GroupRecord). x.home) (record_there r s f.0.0 i g (there r s f i g at));
     held = λ r s f. sym (length-map r.part.kept (λ (x : Received). x.message)) ∙ ap length f.0.0.messages.kept_in;
     used = λ s g from u at is_used. asks s u (used_live s g from u at is_used);
     sent = λ s h k g content is_sent.
@@ -159,6 +171,14 @@ module _ (groups : List GroupNo) where
       ),
       all_lawful.note_joining s f.1 k given g h at number heard,
     );
+    note_denied = λ r s f k g is. (
+      (
+        subst (λ t. Fits (tell_in r (record { site = t; serial = k }) (fact.Standing g Outside)) (set_standing s k g Outside)) (sym (ap (λ c. c.site) f.0.0.core))
+            (fits_told r s f.0.0 k (placed_row r s f.0.0 k g is) (fact.Standing g Outside) (λ inside. absurd (false≢true (sym inside))) refl),
+        f.0.1,
+      ),
+      all_lawful.note_denied s f.1 k g is,
+    );
     sends = λ r s f i h at k g content sent. let placed = placed_at s g h sent.at in
         let same : message_sent history s k g h content ≡ next_message s g k content = ap (λ x. message_sent history s k g x content) (sym placed.1) in (
           (
@@ -173,11 +193,7 @@ module _ (groups : List GroupNo) where
         ((fits_here r s f.0.0 f.1 i g (there r s f i g at) (λ x. with_request x what p) refl refl, f.0.1), all_lawful.note_request s f.1 g what p);
     note_answer = λ r s f i g at.
         ((fits_here r s f.0.0 f.1 i g (there r s f i g at) with_answer refl refl, f.0.1), all_lawful.note_answer s f.1 g);
-    note_applied = λ r s f i g at from number p.
-        ((fits_home r s f.0.0 f.1 i g (there r s f i g at) (λ h. after_request h from number p), f.0.1), all_lawful.note_applied s f.1 g from number p);
-    note_installed = λ r s f i g at from n.
-        ((fits_home r s f.0.0 f.1 i g (there r s f i g at) (λ h. after_installed h from n), f.0.1), all_lawful.note_installed s f.1 g from n);
-    note_decided = λ r s f i g at. ((fits_home r s f.0.0 f.1 i g (there r s f i g at) decided, f.0.1), all_lawful.note_decided s f.1 g);
+    move_home = λ r s f i g at move. ((fits_home r s f.0.0 f.1 i g (there r s f i g at) (moved move), f.0.1), all_lawful.move_home s f.1 g move);
     enter_view = λ r s f i g at h n members request cut is. let e = entered s g h n members is in (
       (
         fits_complete r s f.0.0 f.1 i g (there r s f i g at) e.listed n members request cut is.typed e.later,

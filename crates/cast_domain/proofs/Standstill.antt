@@ -31,7 +31,7 @@ use Rattle.cast_history.specs.Effects.{sending, next_message}
 use Rattle.cast_history.specs.Rest.{deliver_first, deliver_all, settle, set_order_by, set_order, set_orders, pass, let_go}
 use Rattle.cast_history.proofs.Setting.{may_set_order, set_order_is}
 use Rattle.cast_history.specs.Resting.{places_of}
-use Rattle.cast_history.specs.Rules.Views.{decide, lead}
+use Rattle.cast_history.specs.Rules.Views.{lead}
 use Rattle.cast_history.specs.Endings.{total, one_if, left, rank, ranks, undelivered, is_to_come, to_list_by, to_list_in, to_list, to_do}
 use Rattle.cast_domain.specs.Records.{Records}
 use Rattle.cast_domain.specs.Fits.{record_for, process_named, Fits}
@@ -40,7 +40,7 @@ use Rattle.cast_history.proofs.Settles.{Delivers, delivering_one, delivers, read
 use Rattle.cast_history.proofs.Spots.{found_passes}
 use Rattle.cast_history.proofs.Rests.{moves_pass}
 use Rattle.cast_history.proofs.Totals.{total_same}
-use Rattle.cast_history.proofs.LawfulSteps.{same_decide}
+use Rattle.cast_history.proofs.LawfulSteps.{same_lead}
 use Rattle.cast_domain.proofs.Standing.{process_here}
 use Rattle.cast_domain.proofs.Ordering.{waiting_there}
 use Rattle.cast_domain.proofs.SetOrders.{holder_local}
@@ -142,15 +142,12 @@ goes_order s g = held (holder_at s.here (s.group g))
           | false ↦ goes_self s
         ])
 
-goes_decide : (s : State) (g : GroupNo) → Goes s (decide history s g)
-goes_decide s g = let a = same_decide s g in record {
-  got = same_on s.got (decide history s g).got a.got;
+goes_lead : (s : State) → Goes s (lead history s)
+goes_lead s = let a = same_lead s in record {
+  got = same_on s.got (lead history s).got a.got;
   number = a.number;
   ended = λ k u old. ap (λ p. has_delivered p u) (a.process k);
 }
-
-goes_lead : (s : State) → Goes s (lead history s)
-goes_lead s = elim (is_home history s) as (λ b. Goes s (if b then fold (decide history) s s.config.groups else s)) [ true ↦ goes_fold (decide history) goes_decide s.config.groups s | false ↦ goes_self s ]
 
 goes_pass : (s : State) → Goes s (pass s)
 goes_pass s =

@@ -40,7 +40,7 @@ use Rattle.cast_message.specs.Receipts.{key_eq, message_under}
 use Rattle.cast_domain.specs.declared.record.GroupRecord.{GroupRecord}
 use Rattle.cast_model.specs.Session.{first_session, told as told_session}
 use Rattle.cast_model.specs.Group.{no_group, members_of, holder_of, is_process, other_sites, is_current, with_request, with_answer, with_view, is_taken_in}
-use Rattle.cast_model.specs.Home.{first_home, is_empty, after_request, after_installed, decided}
+use Rattle.cast_view.specs.Home.{HomeMove, first_home, is_empty, moved}
 use Rattle.cast_domain.specs.Shared.{part_with, part_without, part_owing, part_renewing, part_paying, part_paying_upto}
 use Rattle.cast_history.specs.Rules.Interface.{Site, Serials, Resting}
 use Rattle.cast_history.specs.Rules.Rest.{tell, told_of}
@@ -147,19 +147,20 @@ note_request_in r i what p = record r { groups = update r.groups i (λ x. record
 abbrev pub note_answer_in : Records → ℕ → Records
 note_answer_in r i = record r { groups = update r.groups i (λ x. record x { here = with_answer x.here }) }
 
-abbrev pub note_applied_in : Records → ℕ → SiteNo → ℕ → Proc → Records
-note_applied_in r i from number p = record r { groups = update r.groups i (λ x. record x { home = after_request x.home from number p }) }
+-- the home of a group moves on
+abbrev pub moved_home : HomeMove → GroupRecord → GroupRecord
+moved_home move x = record x { home = moved move x.home }
 
-abbrev pub note_installed_in : Records → ℕ → SiteNo → ℕ → Records
-note_installed_in r i from n = record r { groups = update r.groups i (λ x. record x { home = after_installed x.home from n }) }
-
-abbrev pub note_decided_in : Records → ℕ → Records
-note_decided_in r i = record r { groups = update r.groups i (λ x. record x { home = decided x.home }) }
+abbrev pub move_home_in : Records → ℕ → HomeMove → Records
+move_home_in r i move = record r { groups = update r.groups i (moved_home move) }
 
 -- Processes
 
 abbrev pub note_joining_in : Records → ℕ → GroupNo → ℕ → ℕ → Records
 note_joining_in r k g number heard = tell_in r (local_in r k) (fact.Standing g (Joining number heard))
+
+abbrev pub note_denied_in : Records → ℕ → GroupNo → Records
+note_denied_in r k g = tell_in r (local_in r k) (fact.Standing g Outside)
 
 abbrev pub note_sent_in : Records → ℕ → Message → Records
 note_sent_in r k m = tell_in r (local_in r k) (fact.Time m.times)
@@ -239,13 +240,12 @@ records = record {
   note_stable = note_stable_in;
   push = push_in;
   note_joining = note_joining_in;
+  note_denied = note_denied_in;
   note_sent = note_sent_in;
   receive = receive_in;
   note_request = note_request_in;
   note_answer = note_answer_in;
-  note_applied = note_applied_in;
-  note_installed = note_installed_in;
-  note_decided = note_decided_in;
+  move_home = move_home_in;
   enter_view = λ r i n members request cut. complete_in r i n members request;
 }
 

@@ -26,7 +26,7 @@ use Rattle.cast_model.specs.declared.config.DomainConfig.{DomainConfig}
 use Rattle.cast_model.specs.declared.session.Session.{Session}
 use Rattle.cast_model.specs.Session.{no_session, is_open}
 use Rattle.cast_model.specs.Group.{holder_at}
-use Rattle.cast_model.specs.Home.{is_empty}
+use Rattle.cast_view.specs.Home.{is_empty}
 use Rattle.cast_history.specs.Lawful.{IsLawful}
 use Rattle.cast_history.specs.State.{State, no_process, gate_of, others_of, may_speak, upto, was_given}
 use Rattle.cast_history.specs.Order.{facts_in, abcasts_delivered, lists_of}

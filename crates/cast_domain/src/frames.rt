@@ -3,25 +3,23 @@ ghost use Rattle.std.specs.List.{fold, list_all};
 ghost use Rattle.cast_types.specs.Names.{group_eq, proc_eq};
 ghost use Rattle.cast_types.specs.Counts.{is_counts};
 ghost use Rattle.cast_types.specs.Sets.{is_among};
-ghost use Rattle.cast_message.specs.declared.site.Change.TheVariants as change;
-ghost use Rattle.cast_message.specs.declared.site.SiteFrame.TheVariants as asked_frame;
 ghost use Rattle.cast_history.specs.Lawful.{IsTypedFrame};
 ghost use Rattle.cast_history.specs.Rules.Data.{counts_itself, is_used, is_well_formed, on_data, use_data};
 ghost use Rattle.cast_history.specs.Rules.Frames.{framed, group_of, on_frame};
-ghost use Rattle.cast_history.specs.Rules.Requests.{on_ask, on_asked};
-ghost use Rattle.cast_history.specs.Rules.Views.{on_install, on_installed};
+ghost use Rattle.cast_history.specs.Rules.Requests.{deny, deny_if, is_joining_by, on_asked, take_answer};
+ghost use Rattle.cast_history.specs.Rules.Views.{on_install};
 
 use crate::domain::Domain;
 use crate::owing::ask_key;
-use crate::record::{answer_at, apply_at, installed_at, view_at};
+use crate::record::{answer_at, view_at};
 use crate::shared::Shared;
 use cast_clock::Times;
 use cast_delay::Fact;
-use cast_message::{Change, Members, Message, Push, SiteFrame};
+use cast_message::{Members, Message, Push, SiteFrame};
 use cast_model::group::is_taken_in;
-use cast_model::home::{is_among, other_sites};
-use cast_model::{Outs, Verdict};
-use cast_types::{Clock, GroupNo, NoMemory, Proc, SiteNo, Standing, Uid};
+use cast_model::sites::{is_among, other_sites};
+use cast_model::{Asking, Outs, Verdict};
+use cast_types::{Clock, GroupNo, NoMemory, Proc, Refusal, SiteNo, Standing, Uid};
 
 // What the types of a time's clocks promise of their counts, for the proofs: nothing is done.
 fn promised_by_counts(clocks: &[(GroupNo, Clock)])
@@ -133,7 +131,7 @@ impl Domain {
                 request,
                 ..
             } => self.install(place, from, *view, members, *request, outs),
-            SiteFrame::Installed { view, .. } => self.installed(place, from, *view),
+            SiteFrame::Installed { view, .. } => self.installed(place, from, *view, shared),
             SiteFrame::Ack(id) => self.ack(place, from, *id, shared, outs),
             SiteFrame::Stable(id) => self.stable(place, from, *id, shared),
             SiteFrame::Prepare { .. }
@@ -217,73 +215,7 @@ impl Domain {
         are_known(self.config.groups.as_slice(), message.times.clocks())
     }
 
-    // Ask: a request to join is the home's. No site asks for a process to leave.
-    fn asked_of_home(
-        &mut self,
-        place: usize,
-        from: SiteNo,
-        number: u32,
-        change: Change,
-        process: Proc,
-        outs: &mut Outs,
-    ) -> Result<(), NoMemory>
-        requires { place < vec_len self.old.groups }
-        ensures same { Keeps self.old self.new }
-        ensures made { OnOk result ((part : Part) → records_of self.new part outs.new ≡ on_ask records (records_of self.old part outs.old) place from number change process) }
-    {
-        match change {
-            Change::Join => self.join_asked_of_home(place, from, number, process, outs),
-            Change::Leave => Ok(()),
-        }
-    }
-
-    // Ask to join: at the home the request after the last one is applied. That one and lower ones are answered again.
-    fn join_asked_of_home(
-        &mut self,
-        place: usize,
-        from: SiteNo,
-        number: u32,
-        process: Proc,
-        outs: &mut Outs,
-    ) -> Result<(), NoMemory>
-        requires { place < vec_len self.old.groups }
-        ensures same { Keeps self.old self.new }
-        ensures made { OnOk result ((part : Part) → records_of self.new part outs.new ≡ on_ask records (records_of self.old part outs.old) place from number change.Join process) }
-    {
-        if !self.is_home() {
-            return Ok(());
-        }
-        let group = self.record(place).name;
-        let applied = self.record(place).home.last_applied(from);
-        if number > applied {
-            if number - applied > 1 {
-                return Ok(());
-            }
-            apply_at(&mut self.groups, place, from, number, process)?;
-            return self.answer_request(group, from, number, outs);
-        }
-        self.answer_request(group, from, number, outs)
-    }
-
-    // Answers a request of a site that was applied.
-    fn answer_request(
-        &self,
-        group: GroupNo,
-        to: SiteNo,
-        number: u32,
-        outs: &mut Outs,
-    ) -> Result<(), NoMemory>
-        ensures { OnOk result ((part : Part) → records_of self.now part outs.new ≡ send_in (records_of self.now part outs.old) to (asked_frame.Asked group number false)) }
-    {
-        let frame = SiteFrame::Asked {
-            group,
-            number,
-            full: false,
-        };
-        self.send(outs, to, frame)
-    }
-
-    // Asked: the first request is answered, and the next one is asked.
+    // Asked: the first request is answered, and the next one is asked. Where the group was full its process is told.
     fn answered(
         &mut self,
         place: usize,
@@ -298,21 +230,66 @@ impl Domain {
         ensures others { LeavesOthers self.old.config.domain shared.old shared.new }
         ensures made { OnOk result (records_in self.new shared.new outs.new ≡ on_asked records (records_in self.old shared.old outs.old) place from number full) }
     {
-        if full {
-            return Ok(());
-        }
         match self.record(place).here.first_request() {
             Some(asking) => {
                 if self.is_from_home(from) && asking.number == number {
-                    let key = ask_key(self.record(place).name, self.config.home);
-                    self.pay(&key, shared);
-                    answer_at(&mut self.groups, place)?;
-                    self.ask_home(place, shared, outs)?;
+                    self.take_answer(place, shared, outs)?;
+                    self.deny_if(full, place, asking)?;
                 }
                 Ok(())
             }
             None => Ok(()),
         }
+    }
+
+    // Takes the first request off, and asks the next one.
+    fn take_answer(
+        &mut self,
+        place: usize,
+        shared: &mut Shared,
+        outs: &mut Outs,
+    ) -> Result<(), NoMemory>
+        requires { place < vec_len self.old.groups }
+        ensures same { Keeps self.old self.new }
+        ensures others { LeavesOthers self.old.config.domain shared.old shared.new }
+        ensures made { OnOk result (records_in self.new shared.new outs.new ≡ take_answer records (records_in self.old shared.old outs.old) place) }
+        ensures len { vec_len self.new.groups ≡ vec_len self.old.groups }
+    {
+        let key = ask_key(self.record(place).name, self.config.home);
+        self.pay(&key, shared);
+        answer_at(&mut self.groups, place)?;
+        self.ask_home(place, shared, outs)?;
+        Ok(())
+    }
+
+    // The process of a request that was refused is outside, if it still joins by it, and is told.
+    fn deny_if(&mut self, full: bool, place: usize, asking: Asking) -> Result<(), NoMemory>
+        requires { place < vec_len self.old.groups }
+        ensures same { Keeps self.old self.new }
+        ensures made { OnOk result ((o : Outs) (part : Part) → records_of self.new part o ≡ deny_if records full (records_of self.old part o) place asking) }
+    {
+        if full {
+            self.deny(place, asking)?;
+        }
+        Ok(())
+    }
+
+    fn deny(&mut self, place: usize, asking: Asking) -> Result<(), NoMemory>
+        requires { place < vec_len self.old.groups }
+        ensures same { Keeps self.old self.new }
+        ensures made { OnOk result ((o : Outs) (part : Part) → records_of self.new part o ≡ deny records (records_of self.old part o) place asking) }
+    {
+        let group = self.record(place).name;
+        let serial = asking.proc.serial;
+        let process = self.process(serial);
+        if is_joining_by(self.delay.standing(process, group), asking.number) {
+            self.tell(process, Fact::Standing(group, Standing::Outside))?;
+            self.push(serial, Push::Denied {
+                    group,
+                    refusal: Refusal::GroupFull,
+                })?;
+        }
+        Ok(())
     }
 
     // Install: answered again where the site knows its number; else completed where the site has no view. What is kept does
@@ -456,17 +433,15 @@ impl Domain {
         entered.enter(group, view)?;
         Ok(entered)
     }
+}
 
-    // Installed: the home waits for the site no more.
-    fn installed(&mut self, place: usize, from: SiteNo, view: u32) -> Result<(), NoMemory>
-        requires { place < vec_len self.old.groups }
-        ensures same { Keeps self.old self.new }
-        ensures made { OnOk result ((o : Outs) (part : Part) → records_of self.new part o ≡ on_installed records (records_of self.old part o) place from view) }
-    {
-        if self.is_home() {
-            installed_at(&mut self.groups, place, from, view)?;
-        }
-        Ok(())
+// Whether a process still joins by a request.
+fn is_joining_by(standing: Standing, number: u32) -> bool
+    ensures { result ≡ is_joining_by standing number }
+{
+    match standing {
+        Standing::Joining { request, .. } => request == number,
+        Standing::Outside | Standing::Member => false,
     }
 }
 

@@ -15,6 +15,7 @@
 
 mod domain;
 mod frames;
+mod home;
 mod order;
 mod owing;
 mod record;
@@ -24,8 +25,7 @@ mod shared;
 mod stability;
 
 pub use cast_model::{
-    Asking, Config, DomainConfig, Event, Group, Home, Outs, Phase, Procs, Quotas, Session, Status,
-    Taken, Verdict,
+    Asking, Config, DomainConfig, Event, Group, Outs, Quotas, Session, Status, Taken, Verdict,
 };
 pub use domain::Domain;
 pub use shared::Shared;

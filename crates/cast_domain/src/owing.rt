@@ -4,8 +4,8 @@ ghost use Rattle.std.specs.List.{find};
 ghost use Rattle.cast_types.specs.Names.{uid_eq};
 ghost use Rattle.cast_message.specs.declared.site.SiteFrame.TheVariants as frame;
 ghost use Rattle.cast_model.specs.Group.{first_asking};
-ghost use Rattle.cast_history.specs.Rules.Keys.{ask_key, id_in, message_key};
-ghost use Rattle.cast_history.specs.Rules.Owing.{ask_frame, frame_for, frame_of_kind, owe, resend, resend_due, send_for, tick};
+ghost use Rattle.cast_history.specs.Rules.Keys.{ask_key, home_key, id_in, message_key};
+ghost use Rattle.cast_history.specs.Rules.Owing.{ask_frame, install_frame, frame_for, frame_of_kind, owe, resend, resend_due, send_for, tick};
 
 use crate::domain::Domain;
 use crate::shared::Shared;
@@ -13,6 +13,7 @@ use cast_message::{Message, Received, SiteFrame};
 use cast_model::Outs;
 use cast_timer::{OwedKey, OwedKind, Side};
 use cast_types::{GroupNo, NoMemory, Proc, SiteNo, Uid};
+use cast_view::{HomeSide, Phase};
 
 /// The first request of a group, owed to the home.
 pub(crate) fn ask_key(group: GroupNo, home: SiteNo) -> OwedKey
@@ -28,6 +29,44 @@ pub(crate) fn ask_key(group: GroupNo, home: SiteNo) -> OwedKey
         count: 0,
         site: home,
         side: Side::Site,
+    }
+}
+
+/// A frame of a kind about a group alone, which the home owes to a site.
+pub(crate) fn home_key(kind: OwedKind, group: GroupNo, to: SiteNo) -> OwedKey
+    ensures { result ≡ home_key kind group to }
+{
+    OwedKey {
+        kind,
+        group,
+        proc: Proc {
+            site: SiteNo(0),
+            serial: 0,
+        },
+        count: 0,
+        site: to,
+        side: Side::Home,
+    }
+}
+
+// The view that the home decided as a site is to install it, where it is being installed.
+fn install_frame(
+    group: GroupNo,
+    home: &HomeSide,
+    site: SiteNo,
+) -> Result<Option<SiteFrame>, NoMemory>
+    ensures { IfOk result (λ f. f ≡ install_frame group home.now site home.now.phase) }
+{
+    match home.phase() {
+        Phase::Installing { decision, .. } => Ok(Some(SiteFrame::Install {
+            group,
+            view: home.number(),
+            members: home.members().copy()?,
+            request: decision.last_answer(site).number,
+            cut: decision.cut.copy()?,
+            tail: decision.tail.copy()?,
+        })),
+        Phase::Idle | Phase::Gathering { .. } => Ok(None),
     }
 }
 
@@ -143,7 +182,9 @@ impl Domain {
             OwedKind::Ask => Ok(self.ask_frame(place, key.group)),
             OwedKind::Data => self.data_frame(id_in(self.record(place).here.number, key), shared),
             OwedKind::Ack => Ok(Some(SiteFrame::Ack(id_in(self.record(place).here.number, key)))),
-            OwedKind::Prepare | OwedKind::Want | OwedKind::Install => Ok(None),
+            OwedKind::Prepare => Ok(Some(self.prepare_frame(place, key.group))),
+            OwedKind::Install => install_frame(key.group, &self.record(place).home, key.site),
+            OwedKind::Want => Ok(None),
         }
     }
 
@@ -159,6 +200,17 @@ impl Domain {
             change: asking.change,
             proc: asking.proc,
         })
+    }
+
+    // The call for what the sites have of the view of the group at a place.
+    fn prepare_frame(&self, place: usize, group: GroupNo) -> SiteFrame
+        requires { place < vec_len self.now.groups }
+        ensures { result ≡ frame.Prepare group (record_at self.now.groups.items place).home.number }
+    {
+        SiteFrame::Prepare {
+            group,
+            view: self.record(place).home.number(),
+        }
     }
 
     // A kept message as it is sent.

@@ -1,21 +1,23 @@
-ghost use Rattle.std.specs.Prelude.{◌≡◌, ◌<◌, IfOk, IfSome, OnOk, vec_len, length};
+ghost use Rattle.std.specs.Prelude.{◌≡◌, ◌<◌, true, IfOk, IfSome, OnOk, vec_len, length};
 ghost use Rattle.std.specs.List.{position};
 ghost use Rattle.cast_types.specs.Names.{group_eq};
 ghost use Rattle.cast_types.specs.Places.{update};
 ghost use Rattle.cast_model.specs.Group.{with_answer, with_request, with_view};
-ghost use Rattle.cast_model.specs.Home.{after_decision, after_installed, after_request, may_decide};
-ghost use Rattle.cast_domain.specs.Calls.{record_at};
+ghost use Rattle.cast_view.specs.Home.{answer_to, may_decide};
+ghost use Rattle.cast_view.specs.Home.HomeMove.{Asked, Decided, Installed, Started};
+ghost use Rattle.cast_domain.specs.Calls.{moved_home, record_at};
 
 use cast_message::{Change, Members};
-use cast_model::{Group, Home};
+use cast_model::Group;
 use cast_types::{GroupNo, NoMemory, Proc, SiteNo};
+use cast_view::HomeSide;
 
 /// What a domain keeps of a group: the site's side, and, at the home's site, the home's.
 #[derive(Drop)]
 pub(crate) struct GroupRecord {
     pub(crate) name: GroupNo,
     pub(crate) here: Group,
-    pub(crate) home: Home,
+    pub(crate) home: HomeSide,
 }
 
 /// Where a group stands.
@@ -74,48 +76,56 @@ pub(crate) fn view_at(
     Ok(())
 }
 
-/// Applies a site's request to join at the home of the group of a place.
+/// Takes in a site's request at the home of the group of a place, and answers whether it is refused because the group is full; `None`
+/// where it is not to be answered.
 #[tactic(auto, using(cast_types::proofs::Updates::set_update))]
-pub(crate) fn apply_at(
+pub(crate) fn ask_home_at(
     groups: &mut Vec<GroupRecord>,
     place: usize,
     site: SiteNo,
     number: u32,
+    change: Change,
     process: Proc,
-) -> Result<(), NoMemory>
+) -> Result<Option<bool>, NoMemory>
     requires { place < vec_len groups.old }
-    ensures { OnOk result (groups.new.items ≡ update groups.old.items place (λ x. record x { home = after_request x.home site number process })) }
+    ensures value { IfOk result (λ full. full ≡ answer_to (record_at groups.old.items place).home site number change process) }
+    ensures items { OnOk result (groups.new.items ≡ update groups.old.items place (moved_home (Asked site number change process))) }
 {
     let record = &mut groups[place];
-    record.home.apply_join(site, number, process)?;
-    Ok(())
+    record.home.ask(site, number, change, process)
 }
 
 /// Takes in at the home of the group of a place that a site has installed a view.
 #[tactic(auto, using(cast_types::proofs::Updates::set_update))]
-pub(crate) fn installed_at(
-    groups: &mut Vec<GroupRecord>,
-    place: usize,
-    site: SiteNo,
-    number: u32,
-) -> Result<(), NoMemory>
+pub(crate) fn installed_at(groups: &mut Vec<GroupRecord>, place: usize, site: SiteNo, number: u32)
     requires { place < vec_len groups.old }
-    ensures { OnOk result (groups.new.items ≡ update groups.old.items place (λ x. record x { home = after_installed x.home site number })) }
+    ensures { groups.new.items ≡ update groups.old.items place (moved_home (Installed site number)) }
 {
     let record = &mut groups[place];
-    record.home.take_installed(site, number)?;
-    Ok(())
+    record.home.installed(site, number);
 }
 
-/// Lets the home of the group of a place decide, and answers whether it did.
+/// Starts a flush at the home of the group of a place, where one may start.
 #[tactic(auto, using(cast_types::proofs::Updates::set_update))]
-pub(crate) fn decide_at(groups: &mut Vec<GroupRecord>, place: usize) -> Result<bool, NoMemory>
+pub(crate) fn start_at(groups: &mut Vec<GroupRecord>, place: usize) -> Result<(), NoMemory>
     requires { place < vec_len groups.old }
-    ensures value { IfOk result (λ decided. decided ≡ may_decide (record_at groups.old.items place).home) }
-    ensures items { OnOk result (groups.new.items ≡ update groups.old.items place (λ x. record x { home = after_decision x.home })) }
+    ensures items { OnOk result (groups.new.items ≡ update groups.old.items place (moved_home Started)) }
     ensures len { vec_len groups.new ≡ vec_len groups.old }
 {
     let record = &mut groups[place];
-    let decided = record.home.decide()?;
-    Ok(decided)
+    record.home.start()?;
+    Ok(())
+}
+
+/// Decides the next view of the group of a place, where it is to be decided.
+#[tactic(auto, using(cast_types::proofs::Updates::set_update))]
+pub(crate) fn decide_at(groups: &mut Vec<GroupRecord>, place: usize) -> Result<(), NoMemory>
+    requires placed { place < vec_len groups.old }
+    requires due { may_decide (record_at groups.old.items place).name (record_at groups.old.items place).home ≡ true }
+    ensures items { OnOk result (groups.new.items ≡ update groups.old.items place (moved_home Decided)) }
+    ensures len { vec_len groups.new ≡ vec_len groups.old }
+{
+    let record = &mut groups[place];
+    record.home.decide(record.name)?;
+    Ok(())
 }

@@ -3,16 +3,13 @@ ghost use Rattle.std.specs.List.{fold};
 ghost use Rattle.cast_history.specs.Rules.Rest.{told_of, tell, deliver_first, deliver_all, settle, pass};
 
 use crate::domain::Domain;
-use crate::record::decide_at;
 use crate::shared::Shared;
-use cast_message::{Body, CastKind, Message, Push, SiteFrame, Tail};
+use cast_message::{Body, CastKind, Message, Push};
 use cast_model::Outs;
-use cast_model::home::sites_of;
-use cast_types::{Counts, Key, NoMemory, Proc, SiteNo, Uid};
+use cast_types::{Key, NoMemory, Proc, Uid};
 use std::alloc::AllocError;
 
 impl Domain {
-    ghost use Rattle.cast_history.specs.Rules.Views.{decide, install_frame, lead, send_install};
     ghost use Rattle.cast_domain.specs.Records.{Keeps, records_in, records_of};
     ghost use Rattle.cast_domain.specs.Shared.{LeavesOthers, Part};
     ghost use Rattle.cast_domain.specs.Stepped.{IsRested};
@@ -41,7 +38,7 @@ impl Domain {
     {
         let settled = self.settle(shared, outs)?;
         let ordered = self.set_orders(shared, outs)?;
-        let led = self.lead(outs)?;
+        let led = self.lead(shared, outs)?;
         Ok(settled | ordered | led)
     }
 
@@ -162,77 +159,6 @@ impl Domain {
             Some(push) => self.push(process.serial, push),
             None => Ok(()),
         }
-    }
-
-    // The home decides, by group.
-    fn lead(&mut self, outs: &mut Outs) -> Result<bool, NoMemory>
-        ensures same { Keeps self.old self.new }
-        ensures made { OnOk result ((part : Part) → records_of self.new part outs.new ≡ lead records (records_of self.old part outs.old)) }
-        ensures still { IfOk result (λ changed. changed ≡ false → (part : Part) → records_of self.new part outs.new ≡ records_of self.old part outs.old) }
-    {
-        let mut changed = false;
-        if self.is_home() {
-            for place in 0..self.groups.len() {
-                let decided = self.decide(place, outs)?;
-                changed = changed | decided;
-            }
-        }
-        Ok(changed)
-    }
-
-    // The home decides a view, where one is to be decided, and sends it to the sites of its members.
-    fn decide(&mut self, place: usize, outs: &mut Outs) -> Result<bool, NoMemory>
-        requires { place < vec_len self.old.groups }
-        ensures same { Keeps self.old self.new }
-        ensures made { OnOk result ((part : Part) → records_of self.new part outs.new ≡ decide records (records_of self.old part outs.old) place) }
-        ensures still { IfOk result (λ changed. changed ≡ false → (part : Part) → records_of self.new part outs.new ≡ records_of self.old part outs.old) }
-        ensures len { vec_len self.new.groups ≡ vec_len self.old.groups }
-    {
-        if !decide_at(&mut self.groups, place)? {
-            return Ok(false);
-        }
-        let alloc = *self.groups.allocator();
-        let sites = sites_of(alloc, self.record(place).home.members.list())?;
-        self.send_installs(place, sites.as_slice(), outs)?;
-        Ok(true)
-    }
-
-    // Sends the decided view of the group at a place to sites.
-    fn send_installs(&self, place: usize, sites: &[SiteNo], outs: &mut Outs) -> Result<(), NoMemory>
-        requires { place < vec_len self.now.groups }
-        ensures { OnOk result ((part : Part) → records_of self.now part outs.new ≡ fold (send_install records place) (records_of self.now part outs.old) sites.now) }
-    {
-        for site in sites {
-            self.send_install(place, *site, outs)?;
-        }
-        Ok(())
-    }
-
-    // Sends the decided view of the group at a place to a site.
-    fn send_install(&self, place: usize, to: SiteNo, outs: &mut Outs) -> Result<(), NoMemory>
-        requires { place < vec_len self.now.groups }
-        ensures { OnOk result ((part : Part) → records_of self.now part outs.new ≡ send_install records place (records_of self.now part outs.old) to) }
-    {
-        let frame = self.install_for(place, to)?;
-        self.send(outs, to, frame)?;
-        Ok(())
-    }
-
-    // The Install of the decided view of the group at a place for a site.
-    fn install_for(&self, place: usize, site: SiteNo) -> Result<SiteFrame, NoMemory>
-        requires { place < vec_len self.now.groups }
-        ensures { IfOk result (λ f. f ≡ install_frame (record_at self.now.groups.items place).name (record_at self.now.groups.items place).home site) }
-    {
-        let alloc = *self.groups.allocator();
-        let record = self.record(place);
-        Ok(SiteFrame::Install {
-            group: record.name,
-            view: record.home.number,
-            members: record.home.members.copy()?,
-            request: record.home.last_applied(site),
-            cut: Counts::new(alloc),
-            tail: Tail::new(alloc),
-        })
     }
 }
 

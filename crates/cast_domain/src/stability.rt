@@ -7,7 +7,7 @@ use crate::owing::message_key;
 use crate::shared::Shared;
 use cast_message::{Received, SiteFrame};
 use cast_model::Outs;
-use cast_model::home::is_among;
+use cast_model::sites::is_among;
 use cast_timer::OwedKind;
 use cast_types::{Key, NoMemory, SiteNo, Uid};
 

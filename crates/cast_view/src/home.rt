@@ -261,8 +261,8 @@ impl HomeSide {
         Ok(())
     }
 
-    // Whether a flush is wanted, and may start.
-    fn may_start(&self) -> bool
+    /// Whether a flush is wanted, and may start. Takes no memory.
+    pub fn may_start(&self) -> bool
         ensures { result ≡ may_start self.now }
     {
         self.phase.is_idle()
@@ -346,8 +346,8 @@ impl HomeSide {
         Ok(())
     }
 
-    // Whether all reports and all messages are there.
-    fn may_decide(&self, group: GroupNo) -> Result<bool, NoMemory>
+    /// Whether the next view is to be decided: all sites have reported, and no message is wanted.
+    pub fn may_decide(&self, group: GroupNo) -> Result<bool, NoMemory>
         ensures { IfOk result (λ may. may ≡ may_decide group self.now) }
     {
         match &self.phase {
@@ -461,12 +461,19 @@ impl HomeSide {
         Ok(Decision { cut, tail, answers })
     }
 
+    /// Whether it is awaited that a site installs a view of a number. Takes no memory.
+    pub fn takes_installed(&self, site: SiteNo, number: u32) -> bool
+        ensures { result ≡ takes_installed self.now site number }
+    {
+        number == self.number && self.phase.awaits_installed(site)
+    }
+
     /// Takes in that a site has installed a view, and answers whether that was awaited. Takes no memory.
     pub fn installed(&mut self, site: SiteNo, number: u32) -> bool
         ensures value { result ≡ takes_installed self.old site number }
         ensures new { self.new ≡ after_installed self.old site number }
     {
-        if number != self.number || !self.phase.awaits_installed(site) {
+        if !self.takes_installed(site, number) {
             return false;
         }
         let phase = mem::replace(&mut self.phase, Phase::Idle);

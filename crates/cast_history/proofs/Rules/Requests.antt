@@ -23,7 +23,7 @@ use Rattle.std.proofs.lemmas.Bool.{false≢true}
 use Rattle.cast_history.specs.Rules.Keys.{ask_key}
 use Rattle.cast_history.specs.Rules.Interface.{Site}
 use Rattle.cast_history.specs.Rules.Owing.{owe}
-use Rattle.cast_history.specs.Rules.Requests.{is_home, is_from_home, ask_home, request, answer_ask, on_ask, is_joining_by, deny, take_answer, on_asked}
+use Rattle.cast_history.specs.Rules.Requests.{is_home, is_from_home, ask_home, request, answer_ask, on_ask, is_joining_by, deny, deny_if, take_answer, on_asked}
 use Rattle.cast_history.proofs.Rules.Follows.{FollowsAll, choose}
 use Rattle.cast_history.proofs.Rules.Owing.{owe_follows}
 
@@ -101,20 +101,20 @@ module _ {R S H K : Type 0} (a : Site R H) (b : Site S K) (fits : R → S → Ty
 
   pub asked_follows : (r : R) (s : S) → fits r s → (h : H) (k : K) → stands h k → (from : SiteNo) (number : ℕ) (full : Bool) → fits (on_asked a r h from number full) (on_asked b s k from number full)
   asked_follows r s f h k at from number full =
-      subst (λ o. fits (elim o [ Some x ↦ (if is_from_home a r from && (x.number == number) then (if full then deny a (take_answer a r h) h x else take_answer a r h) else r) | None ↦ r ]) (on_asked b s k from number full))
+      subst (λ o. fits (elim o [ Some x ↦ (if is_from_home a r from && (x.number == number) then (deny_if a full (take_answer a r h) h x) else r) | None ↦ r ]) (on_asked b s k from number full))
       (sym (ap (λ (x : Group). first_asking x.requests) (all.follows.group r s f h k at)))
       (first (first_asking (b.group s k).requests))
     where
       now : fits (take_answer a r h) (take_answer b s k)
       now = take_answer_follows r s f h k at
 
-      answered : (x : Asking) (c : Bool) → fits (if c then deny a (take_answer a r h) h x else take_answer a r h) (if c then deny b (take_answer b s k) k x else take_answer b s k)
+      answered : (x : Asking) (c : Bool) → fits (deny_if a c (take_answer a r h) h x) (deny_if b c (take_answer b s k) k x)
       answered x true = deny_follows (take_answer a r h) (take_answer b s k) now h k at x
       answered x false = now
 
-      first : (o : Option Asking) → fits (elim o [ Some x ↦ (if is_from_home a r from && (x.number == number) then (if full then deny a (take_answer a r h) h x else take_answer a r h) else r) | None ↦ r ]) (elim o [ Some x ↦ (if is_from_home b s from && (x.number == number) then (if full then deny b (take_answer b s k) k x else take_answer b s k) else s) | None ↦ s ])
+      first : (o : Option Asking) → fits (elim o [ Some x ↦ (if is_from_home a r from && (x.number == number) then (deny_if a full (take_answer a r h) h x) else r) | None ↦ r ]) (elim o [ Some x ↦ (if is_from_home b s from && (x.number == number) then (deny_if b full (take_answer b s k) k x) else s) | None ↦ s ])
       first (Some x) =
-          choose fits (is_from_home a r from && (x.number == number)) (is_from_home b s from && (x.number == number)) ((if full then deny a (take_answer a r h) h x else take_answer a r h)) r ((if full then deny b (take_answer b s k) k x else take_answer b s k)) s
+          choose fits (is_from_home a r from && (x.number == number)) (is_from_home b s from && (x.number == number)) ((deny_if a full (take_answer a r h) h x)) r ((deny_if b full (take_answer b s k) k x)) s
           (ap (λ c. c && (x.number == number)) (from_home_same r s f from))
           (λ _. answered x full)
           (λ _. f)

@@ -60,6 +60,9 @@ module _ {S H : Type 0} (d : Site S H) where
       then d.push (d.note_denied s a.proc.serial (d.name s h)) a.proc.serial (push.Denied (d.name s h) GroupFull)
       else s
 
+  abbrev pub deny_if : Bool → S → H → Asking → S
+  deny_if full s h a = if full then deny s h a else s
+
   -- the first request is answered: it is taken off, and the next one is asked
   abbrev pub take_answer : S → H → S
   take_answer s h = ask_home (d.note_answer (d.pay s (ask_key (d.name s h) (d.config s).home)) h) h
@@ -68,8 +71,6 @@ module _ {S H : Type 0} (d : Site S H) where
   on_asked s h from number full =
       elim (first_asking (d.group s h).requests) [
         | Some a ↦
-            (if is_from_home s from && (a.number == number)
-            then (if full then deny (take_answer s h) h a else take_answer s h)
-            else s)
+            (if is_from_home s from && (a.number == number) then deny_if full (take_answer s h) h a else s)
         | None ↦ s
       ]

@@ -5,7 +5,7 @@ use Rattle.cast_types.specs.declared.limits.TheConstants.{MAX_NUMBER}
 use Rattle.cast_types.specs.declared.names.SiteNo.{SiteNo}
 use Rattle.cast_types.specs.Names.{named}
 use Rattle.cast_stable.specs.Ledger.{others_in, upto_in}
-use Rattle.cast_model.specs.Home.{is_empty}
+use Rattle.cast_view.specs.Home.{is_empty}
 use Rattle.cast_domain.proofs.domain.Domain.settled.Goals as goal
 
 none_is : (sites : List SiteNo) → (length sites == 0) ≡ is_empty sites
