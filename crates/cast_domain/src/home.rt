@@ -54,11 +54,13 @@ impl Domain {
         match full {
             Some(full) => {
                 let group = self.record(place).name;
-                self.send(outs, to, SiteFrame::Asked {
+                let frame = SiteFrame::Asked {
                     group,
                     number,
                     full,
-                })
+                };
+                self.send(outs, to, frame)?;
+                Ok(())
             }
             None => Ok(()),
         }

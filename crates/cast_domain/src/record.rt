@@ -90,6 +90,7 @@ pub(crate) fn ask_home_at(
     requires { place < vec_len groups.old }
     ensures value { IfOk result (λ full. full ≡ answer_to (record_at groups.old.items place).home site number change process) }
     ensures items { OnOk result (groups.new.items ≡ update groups.old.items place (moved_home (Asked site number change process))) }
+    ensures len { vec_len groups.new ≡ vec_len groups.old }
 {
     let record = &mut groups[place];
     record.home.ask(site, number, change, process)
