@@ -23,8 +23,8 @@ use Rattle.cast_history.specs.Rules.Sending.{send_data}
 use Rattle.cast_history.specs.History.{history}
 use Rattle.cast_history.proofs.Rules.Follows.{IsInvariant}
 use Rattle.cast_timer.specs.declared.key.OwedKey.{OwedKey}
-use Rattle.cast_history.specs.Rules.Owing.{owe}
-use Rattle.cast_history.proofs.Rules.Owing.{owe_keeps}
+use Rattle.cast_history.specs.Rules.Owing.{owe, send_for}
+use Rattle.cast_history.proofs.Rules.Owing.{owe_keeps, send_for_keeps}
 use Rattle.cast_history.proofs.Rules.Sending.{send_data_keeps}
 use Rattle.cast_history.specs.Effects.{next_message, sending}
 
@@ -104,6 +104,12 @@ moves_alike s = record {
   note_ack = λ t a from u. alike_then s t (noting_ack t from u) a (alike_known t (noting_ack t from u).acks t.told t.moment);
   note_stable = λ t a u. alike_then s t (noting_stable t u) a (alike_known t t.acks (noting_stable t u).told t.moment);
 }
+
+pub alike_send_for : (s : State) (key : OwedKey) → Alike s (send_for history s key)
+alike_send_for s key = send_for_keeps history (Alike s) (moves_alike s) s (alike_self s) key
+
+pub alike_noting_owed : (s : State) (key : OwedKey) → Alike s (noting_owed s key)
+alike_noting_owed s key = (moves_alike s).note_owed s (alike_self s) key
 
 pub alike_owe : (s : State) (key : OwedKey) → Alike s (owe history s key)
 alike_owe s key = owe_keeps history (Alike s) (moves_alike s) s (alike_self s) key

@@ -39,7 +39,7 @@ use Rattle.cast_history.proofs.Rules.Owing.{tick_keeps}
 use Rattle.cast_history.specs.Effects.{next_message, sending, delivering}
 use Rattle.cast_history.specs.Rules.Sending.{may_raise}
 use Rattle.cast_history.specs.Step.{opening_next, acted}
-use Rattle.cast_history.specs.Rules.Views.{start, decide, lead}
+use Rattle.cast_history.specs.Rules.Home.{start, want_bodies, decide, lead}
 use Rattle.cast_history.specs.Rest.{deliver_first, deliver_all, settle, set_order_by, set_order, set_orders, pass, RestsAt, let_go}
 use Rattle.cast_history.proofs.Setting.{may_set_order, set_order_is}
 use Rattle.cast_history.specs.Resting.{places_of}
@@ -49,7 +49,7 @@ use Rattle.cast_history.specs.History.{history}
 use Rattle.cast_history.proofs.Rules.Follows.{IsTaken, IsEntered, IsInvariantOfAll}
 use Rattle.cast_history.proofs.Rules.Data.{used_current, used_from_its_site, used_of_another, used_of_member}
 use Rattle.cast_history.proofs.Rules.Commands.{commanded_keeps}
-use Rattle.cast_history.proofs.Rules.Views.{start_keeps, decide_keeps, lead_keeps}
+use Rattle.cast_history.proofs.Rules.Home.{start_keeps, want_bodies_keeps, decide_keeps, lead_keeps}
 use Rattle.cast_history.proofs.Rules.Frames.{framed_keeps}
 use Rattle.cast_history.proofs.Lawful.{SameLaw, same_self, same_then, same_home, same_group_set, moves_same, invariant_by_same, kept_map, lawful_same, lawful_pushing, lawful_sent_here, local_speaks, lawful_if, lawful_fold, lawful_standing, lawful_receiving, lawful_let_go, lawful_sending, lawful_delivering, lawful_completing}
 
@@ -236,6 +236,9 @@ moves_home_same s t a g move = same_then s t _ a (same_home t g (moved move (t.h
 
 pub same_start : (s : State) (g : GroupNo) → SameLaw s (start history s g)
 same_start s g = start_keeps history (SameLaw s) (moves_same s) (moves_home_same s) s (same_self s) g
+
+pub same_want_bodies : (s : State) (g : GroupNo) → SameLaw s (want_bodies history s g)
+same_want_bodies s g = want_bodies_keeps history (SameLaw s) (moves_same s) (moves_home_same s) s (same_self s) g
 
 pub same_decide : (s : State) (g : GroupNo) → SameLaw s (decide history s g)
 same_decide s g = decide_keeps history (SameLaw s) (moves_same s) (moves_home_same s) s (same_self s) g

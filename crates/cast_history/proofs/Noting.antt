@@ -37,7 +37,7 @@ use Rattle.cast_history.specs.Rest.{deliver_first, set_order_by, set_order, let_
 use Rattle.cast_history.specs.Rules.Commands.{message_sent}
 use Rattle.cast_history.specs.Rules.Sending.{send_data}
 use Rattle.cast_history.specs.Rules.Rest.{told_of, tell}
-use Rattle.cast_history.specs.Raising.{opens, begins, acts, lets_go, delivers, orders, starts, decides}
+use Rattle.cast_history.specs.Raising.{opens, begins, acts, lets_go, delivers, orders, starts, wants, decides}
 use Rattle.cast_history.specs.Noted.{sent_by, delivered_by, abcasts_by, IsNoted, ActsAreNoted}
 use Rattle.cast_history.proofs.Setting.{may_set_order, set_order_is}
 use Rattle.cast_history.proofs.Rules.Follows.{IsInvariant, IsInvariantOfAll}
@@ -45,7 +45,7 @@ use Rattle.cast_history.proofs.Rules.Sending.{send_data_keeps}
 use Rattle.cast_history.proofs.Rules.Owing.{tick_keeps}
 use Rattle.cast_history.proofs.Rules.Commands.{commanded_keeps}
 use Rattle.cast_history.proofs.Rules.Frames.{framed_keeps}
-use Rattle.cast_history.proofs.Rules.Views.{start_keeps, decide_keeps}
+use Rattle.cast_history.proofs.Rules.Home.{start_keeps, want_bodies_keeps, decide_keeps}
 use Rattle.cast_history.proofs.LawfulSteps.{taken_foreign}
 
 -- What acts say, one after another
@@ -270,4 +270,5 @@ acts_are_noted here config s (lets_go t p) = noted_let_go t (acts_are_noted here
 acts_are_noted here config s (delivers t k p) = noted_first t k (acts_are_noted here config t p)
 acts_are_noted here config s (orders t g p) = noted_set_order t g (acts_are_noted here config t p)
 acts_are_noted here config s (starts t g p) = start_keeps history IsNoted noted_moves all_noted.move_home t (acts_are_noted here config t p) g
+acts_are_noted here config s (wants t g p) = want_bodies_keeps history IsNoted noted_moves all_noted.move_home t (acts_are_noted here config t p) g
 acts_are_noted here config s (decides t g p) = decide_keeps history IsNoted noted_moves all_noted.move_home t (acts_are_noted here config t p) g

@@ -35,18 +35,18 @@ use Rattle.cast_history.specs.Step.{opening_next, acted}
 use Rattle.cast_history.specs.Rest.{deliver_first, deliver_all, settle, set_order_by, set_order, set_orders, pass, let_go}
 use Rattle.cast_history.specs.Resting.{places_of}
 use Rattle.cast_history.proofs.Setting.{may_set_order, set_order_is}
-use Rattle.cast_history.specs.Rules.Views.{start, decide, lead_group, lead}
+use Rattle.cast_history.specs.Rules.Home.{start, want_bodies, decide, lead_group, lead}
 use Rattle.cast_history.specs.Run.{before_event, after_event, IsRun}
 use Rattle.cast_history.specs.Lawful.{IsLawful, IsTyped}
 use Rattle.cast_history.specs.History.{history}
-use Rattle.cast_history.specs.Raising.{IsTimeOf, IsFromMember, CountsMembers, IsPassed, opens, begins, acts, lets_go, delivers, orders, starts, decides, CountsCanBeRaised, CountsCanBeRaisedWithin, MembersAreCounted, RunsArePassed}
+use Rattle.cast_history.specs.Raising.{IsTimeOf, IsFromMember, CountsMembers, IsPassed, opens, begins, acts, lets_go, delivers, orders, starts, wants, decides, CountsCanBeRaised, CountsCanBeRaisedWithin, MembersAreCounted, RunsArePassed}
 use Rattle.cast_history.proofs.Spots.{found_passes}
 use Rattle.cast_history.proofs.Rules.Follows.{IsTaken, IsInvariantOfAll}
 use Rattle.cast_history.proofs.Rules.Data.{used_known, used_of_member}
 use Rattle.cast_history.proofs.Rules.Commands.{commanded_keeps}
 use Rattle.cast_history.proofs.Rules.Frames.{framed_keeps}
 use Rattle.cast_history.proofs.Lawful.{same_home, same_group_set, invariant_by_same, lawful_same, same_pushing, lawful_opening, lawful_before, lawful_let_go}
-use Rattle.cast_history.proofs.LawfulSteps.{same_tick, same_start, same_decide, placed_at, taken_current, entered, all_lawful, lawful_acted, lawful_first, lawful_set_order}
+use Rattle.cast_history.proofs.LawfulSteps.{same_tick, same_start, same_want_bodies, same_decide, placed_at, taken_current, entered, all_lawful, lawful_acted, lawful_first, lawful_set_order}
 use Rattle.cast_history.proofs.Counting.{is_clock_of, all_both}
 use Rattle.cast_history.proofs.Raising.{counts_same, counts_let_go, counts_before, counts_opening, counts_standing, counts_receiving, counts_sent_here, counts_sending, counts_delivering, counts_completing, counts_opened, next_unborn, can_raise}
 
@@ -164,6 +164,10 @@ passed_counts here config rising few s (orders t g p) =
 passed_counts here config rising few s (starts t g p) =
     let h = passed_counts here config rising few t p in
     (lawful_same t (start history t g) (same_start t g) h.0, counts_start t g h.1)
+passed_counts here config rising few s (wants t g p) =
+    let h = passed_counts here config rising few t p in
+    let same = same_want_bodies t g in
+    (lawful_same t (want_bodies history t g) same h.0, counts_same t (want_bodies history t g) same h.1)
 passed_counts here config rising few s (decides t g p) =
     let h = passed_counts here config rising few t p in
     (lawful_same t (decide history t g) (same_decide t g) h.0, counts_decide t g h.1)
@@ -185,7 +189,7 @@ module _ (here : SiteNo) (config : DomainConfig) where
 
   passed_lead : (s : State) → Passed s → Passed (lead history s)
   passed_lead s p = elim (is_home history s) as (λ b. Passed (if b then fold (lead_group history) s s.config.groups else s)) [
-    | true ↦ passed_fold (lead_group history) (λ t g q. decides (start history t g) g (starts t g q)) s.config.groups s p
+    | true ↦ passed_fold (lead_group history) (λ t g q. decides (want_bodies history (start history t g) g) g (wants (start history t g) g (starts t g q))) s.config.groups s p
     | false ↦ p
   ]
 

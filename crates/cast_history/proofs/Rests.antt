@@ -26,20 +26,30 @@ use Rattle.cast_view.specs.declared.phase.Phase.TheVariants.{Idle, Gathering, In
 use Rattle.cast_view.specs.declared.phase.Decision.{Decision}
 use Rattle.cast_view.specs.Home.{Home, HomeMove, moved, is_empty, is_idle, is_suspected, may_start, sites_to_await, awaited_of, waiting_of, may_decide_in, may_decide, decided_list, decision_of, decided_phase, decided, installing, sites_of}
 use Rattle.cast_view.specs.Home.HomeMove.{Started, Decided}
-use Rattle.cast_history.specs.Rules.Keys.{home_key}
+use Rattle.std.specs.Option.{option_map_or}
+use Rattle.std.proofs.lemmas.Bool.{cases_Bool, false≢true}
+use Rattle.cast_types.specs.Names.{Entry}
+use Rattle.cast_timer.specs.declared.key.OwedKey.{OwedKey}
+use Rattle.cast_timer.specs.declared.key.Owed.{Owed}
+use Rattle.cast_timer.specs.Owed.{is_owed, with_owed, key_eq}
+use Rattle.cast_timer.proofs.Owing.{same_key, key_itself, owing_owes, owing_leaves}
+use Rattle.cast_view.specs.Home.{wants_in}
+use Rattle.cast_history.specs.Owing.{next_due, noting_owed}
+use Rattle.cast_history.specs.Rules.Owing.{frame_for, send_for}
+use Rattle.cast_history.specs.Rules.Keys.{home_key, want_key}
 use Rattle.cast_model.specs.Group.{holder_at}
-use Rattle.cast_history.specs.State.{State, serials, set_home, receiving, with_delivery}
+use Rattle.cast_history.specs.State.{State, serials, emitted, set_home, receiving, with_delivery}
 use Rattle.cast_history.specs.Rules.Requests.{is_home}
 use Rattle.cast_history.specs.History.{history}
 use Rattle.cast_history.specs.Rules.Room.{may_order}
 use Rattle.cast_history.specs.Order.{unlisted, is_ready_for}
 use Rattle.cast_history.specs.Effects.{sending_message}
-use Rattle.cast_history.specs.Rules.Views.{owe_of_home, start, decide, lead_group, lead}
+use Rattle.cast_history.specs.Rules.Home.{owe_of_home, start, wants, want, want_bodies, decide, lead_group, lead}
 use Rattle.cast_history.specs.Rest.{deliver_first, deliver_all, settle, set_order_by, set_order, set_orders, pass, RestsAt, let_go}
 use Rattle.cast_history.proofs.Setting.{may_set_order, set_order_is}
-use Rattle.cast_history.specs.Endings.{total, left, rank_of, rank, ranks, undelivered, to_list_in, to_list, to_do, Moves, PassMoves, EachComesToRest, RestIsOne}
-use Rattle.cast_history.proofs.Alikes.{Alike, alike_then, alike_fold, alike_owe, alike_let_go, alike_sending}
-use Rattle.cast_history.proofs.Totals.{In, total_le, total_lt, total_more, left_push, left_found, left_more}
+use Rattle.cast_history.specs.Endings.{total, one_if, left, rank_of, rank, ranks, undelivered, to_list_in, to_list, to_do, unowed_in, unowed, Falls, Moves, PassMoves, EachComesToRest, RestIsOne}
+use Rattle.cast_history.proofs.Alikes.{Alike, alike_then, alike_fold, alike_owe, alike_send_for, alike_noting_owed, alike_let_go, alike_sending}
+use Rattle.cast_history.proofs.Totals.{In, total_le, total_lt, total_more, one_mono, not_mono, left_push, left_found, left_more}
 use Rattle.cast_history.proofs.Settles.{delivering_one, alike_delivering, delivered_at, ready_new, delivered_first, delivered_none, iterate_twice}
 use Rattle.cast_history.proofs.Listings.{order_message, to_list_delivered, to_list_received, to_list_ordered}
 
@@ -59,11 +69,17 @@ to_do_alike s t a = λ i. to_do (record s {
 moves_self : (s : State) → Moves s s
 moves_self s = record { config = refl; used = refl; way = inl refl }
 
-way_then : (s t u : State) → (t ≡ s) ⊎ (to_do t < to_do s) → (u ≡ t) ⊎ (to_do u < to_do t) → (u ≡ s) ⊎ (to_do u < to_do s)
+falls_then : (s t u : State) → Falls s t → Falls t u → Falls s u
+falls_then s t u (inl a) (inl b) = inl (omega arith)
+falls_then s t u (inl a) (inr b) = let same = b.0 in inl (omega (arith, a, same))
+falls_then s t u (inr a) (inl b) = let same = a.0 in inl (omega (arith, b, same))
+falls_then s t u (inr a) (inr b) = let less = a.1 in let lesser = b.1 in inr (b.0 ∙ a.0, omega (arith, less, lesser))
+
+way_then : (s t u : State) → (t ≡ s) ⊎ Falls s t → (u ≡ t) ⊎ Falls t u → (u ≡ s) ⊎ Falls s u
 way_then s t u (inl a) (inl b) = inl (b ∙ a)
-way_then s t u (inl a) (inr b) = inr (subst (λ x. to_do u < to_do x) a b)
-way_then s t u (inr a) (inl b) = inr (subst (λ x. to_do x < to_do s) (sym b) a)
-way_then s t u (inr a) (inr b) = inr (omega arith)
+way_then s t u (inl a) (inr b) = inr (subst (λ x. Falls x u) a b)
+way_then s t u (inr a) (inl b) = inr (subst (Falls s) (sym b) a)
+way_then s t u (inr a) (inr b) = inr (falls_then s t u a b)
 
 moves_then : (s t u : State) → Moves s t → Moves t u → Moves s u
 moves_then s t u a b = record { config = b.config ∙ a.config; used = b.used ∙ a.used; way = way_then s t u a.way b.way }
@@ -119,7 +135,7 @@ moves_first s k at =
       | Some m ↦ λ e.
           let a : Alike (with_delivery s k m) (delivering_one s k m) = alike_delivering s k m in
           subst (Moves s) (sym (delivered_first s k m e))
-          (record { config = a.config; used = a.used; way = inr (subst (λ n. n < to_do s) (sym (to_do_alike (with_delivery s k m) (delivering_one s k m) a)) (to_do_delivers s k m at e)) })
+          (record { config = a.config; used = a.used; way = inr (inl (subst (λ n. n < to_do s) (sym (to_do_alike (with_delivery s k m) (delivering_one s k m) a)) (to_do_delivers s k m at e))) })
     ] refl
 
 moves_iterate : (n : ℕ) (k : ℕ) (s : State) → In k (serials s) → Moves s (iterate n (deliver_first k) s)
@@ -168,7 +184,7 @@ moves_set_order_by s g p at holder =
     let a : Alike (receiving s m) (let_go t) = alike_then (receiving s m) t (let_go t) (alike_sending s g p.serial m.body) (alike_let_go t) in
     subst (Moves s) (sym (set_order_is s g p.serial))
     (moves_if s (let_go t) s (may_set_order s g p.serial)
-    (λ may. record { config = a.config; used = a.used; way = inr (subst (λ n. n < to_do s) (sym (to_do_alike (receiving s m) (let_go t) a)) (to_do_orders s g p at holder (has_unlisted s g p.serial may))) })
+    (λ may. record { config = a.config; used = a.used; way = inr (inl (subst (λ n. n < to_do s) (sym (to_do_alike (receiving s m) (let_go t) a)) (to_do_orders s g p at holder (has_unlisted s g p.serial may)))) })
     (moves_self s))
 
 moves_set_order : (s : State) (g : GroupNo) → In g s.config.groups → Moves s (set_order s g)
@@ -255,7 +271,7 @@ moves_led s g move kind sites at less =
     let t : State = set_home s g (moved move (s.home g)) in
     let u : State = fold (owe_of_home history kind g) t sites in
     let a : Alike t u = alike_fold (owe_of_home history kind g) (λ x to. alike_owe x (home_key kind g to)) sites t in
-    record { config = a.config; used = a.used; way = inr (subst (λ n. n < to_do s) (sym (to_do_alike t u a)) (home_less s g (moved move (s.home g)) at less)) }
+    record { config = a.config; used = a.used; way = inr (inl (subst (λ n. n < to_do s) (sym (to_do_alike t u a)) (home_less s g (moved move (s.home g)) at less))) }
 
 moves_start : (s : State) (g : GroupNo) → In g s.config.groups → Moves s (start history s g)
 moves_start s g at =
@@ -271,11 +287,77 @@ moves_decide s g at =
     (λ e. moves_led s g Decided Install (waiting_of ((set_home s g h).home g).phase) at (decided_less g (s.home g) e))
     (moves_self s)
 
+-- Wants
+
+-- with a frame sent, the same is owed and at the homes
+sent_owed : (s : State) (key : OwedKey) → (send_for history s key).owed ≡ s.owed
+sent_owed s key = elim (frame_for history s key) as (λ o. (option_map_or (emitted s key.site) o s).owed ≡ s.owed) [ Some f ↦ refl | None ↦ refl ]
+
+still_owed : (owed : List Owed) (key other : OwedKey) (due : ℕ) → is_owed owed other ≡ true → is_owed (with_owed owed key due) other ≡ true
+still_owed owed key other due is = elim (cases_Bool (key_eq other key)) [
+  | inl same ↦ subst (λ k. is_owed (with_owed owed key due) k ≡ true) (sym (same_key other key same)) (owing_owes owed key due)
+  | inr differ ↦ owing_leaves owed key other due (λ same. false≢true (sym differ ∙ ap (λ k. key_eq k key) same ∙ key_itself key)) ∙ is
+]
+
+abbrev missing : List Owed → GroupNo → SiteNo × Entry → ℕ
+missing owed g w = one_if (not (is_owed owed (want_key g w)))
+
+-- of a group's Wants fewer are to be owed, and of the others' no more
+unowed_less : (s : State) (g : GroupNo) (w : SiteNo × Entry) (owed : List Owed) → In g s.config.groups → In w (wants history s g) → owed ≡ with_owed s.owed (want_key g w) (next_due s) → is_owed s.owed (want_key g w) ≡ false → total (λ h. total (missing owed h) (wants history s h)) s.config.groups < unowed s
+unowed_less s g w owed at there is out =
+    total_lt (λ h. total (missing owed h) (wants history s h)) (unowed_in s) s.config.groups g
+    (λ h. total_le (missing owed h) (missing s.owed h) (wants history s h) (no_more h)) at
+    (total_lt (missing owed g) (missing s.owed g) (wants history s g) w (no_more g) there now)
+  where
+    no_more : (h : GroupNo) (v : SiteNo × Entry) → missing owed h v ≤ missing s.owed h v
+    no_more h v = one_mono (not (is_owed owed (want_key h v))) (not (is_owed s.owed (want_key h v)))
+        (not_mono (is_owed s.owed (want_key h v)) (is_owed owed (want_key h v))
+        (λ was. ap (λ o. is_owed o (want_key h v)) is ∙ still_owed s.owed (want_key g w) (want_key h v) (next_due s) was))
+
+    now : missing owed g w < missing s.owed g w
+    now =
+        let after : ◌≡◌ {A = ℕ} (missing owed g w) 0 = ap (λ o. missing o g w) is ∙ ap (λ b. one_if (not b)) (owing_owes s.owed (want_key g w) (next_due s)) in
+        let before : ◌≡◌ {A = ℕ} (missing s.owed g w) 1 = ap (λ b. one_if (not b)) out in
+        omega arith
+
+moves_want : (s : State) (g : GroupNo) (w : SiteNo × Entry) → In g s.config.groups → In w (wants history s g) → Moves s (want history g s w)
+moves_want s g w at there = elim (is_owed s.owed (want_key g w)) as (λ b. is_owed s.owed (want_key g w) ≡ b → Moves s (if b then s else noting_owed (send_for history s (want_key g w)) (want_key g w))) [
+  | true ↦ λ _. moves_self s
+  | false ↦ λ out.
+      let key : OwedKey = want_key g w in
+      let t : State = noting_owed (send_for history s key) key in
+      let a : Alike s t = alike_then s (send_for history s key) t (alike_send_for s key) (alike_noting_owed (send_for history s key) key) in
+      let owed : t.owed ≡ with_owed s.owed key (next_due s) = same_owed s key in
+      let less : total (λ h. total (missing t.owed h) (wants history s h)) s.config.groups < unowed s = unowed_less s g w t.owed at there owed out in
+      let unowed_now : unowed t ≡ total (λ h. total (missing t.owed h) (wants history s h)) s.config.groups =
+      λ i. total (λ h. total (missing t.owed h) (wants_in h (a.home i h) (a.home i h).phase)) (a.config i).groups in
+      record { config = a.config; used = a.used; way = inr (inr (to_do_alike s t a, subst (λ n. n < unowed s) (sym unowed_now) less)) }
+] refl
+  where
+    same_owed : (s : State) (key : OwedKey) → (noting_owed (send_for history s key) key).owed ≡ with_owed s.owed key (next_due s)
+    same_owed s key = elim (frame_for history s key) as (λ o. (noting_owed (option_map_or (emitted s key.site) o s) key).owed ≡ with_owed s.owed key (next_due s)) [ Some f ↦ refl | None ↦ refl ]
+
+-- Wants leave the homes and the configuration as they are
+moves_wanted : (s : State) (g : GroupNo) (ws : List (SiteNo × Entry)) → In g s.config.groups → ((w : SiteNo × Entry) → In w ws → In w (wants history s g)) → Moves s (fold (want history g) s ws)
+moves_wanted s g [] at among = moves_self s
+moves_wanted s g (w ∷ ws) at among =
+    let t : State = want history g s w in
+    let a : Alike s t = alike_owe s (want_key g w) in
+    moves_then s t (fold (want history g) t ws) (moves_want s g w at (among w (inl refl)))
+    (moves_wanted t g ws (subst (λ c. In g c.groups) (sym a.config) at)
+    (λ v there. subst (λ h. In v (wants_in g (h g) (h g).phase)) (sym a.home) (among v (inr there))))
+
+moves_want_bodies : (s : State) (g : GroupNo) → In g s.config.groups → Moves s (want_bodies history s g)
+moves_want_bodies s g at = moves_wanted s g (wants history s g) at (λ w there. there)
+
 moves_lead_group : (s : State) (g : GroupNo) → In g s.config.groups → Moves s (lead_group history s g)
 moves_lead_group s g at =
-    let a : Moves s (start history s g) = moves_start s g at in
-    moves_then s (start history s g) (lead_group history s g) a
-    (moves_decide (start history s g) g (subst (λ c. In g c.groups) (sym a.config) at))
+    let t : State = start history s g in
+    let u : State = want_bodies history t g in
+    let a : Moves s t = moves_start s g at in
+    let b : Moves t u = moves_want_bodies t g (subst (λ c. In g c.groups) (sym a.config) at) in
+    moves_then s t (decide history u g) a
+    (moves_then t u (decide history u g) b (moves_decide u g (subst (λ c. In g c.groups) (sym (b.config ∙ a.config)) at)))
 
 moves_lead : (s : State) → Moves s (lead history s)
 moves_lead s =
@@ -296,12 +378,22 @@ Rests s = (t : State) × RestsAt s t
 one_more : (s : State) → Rests (pass s) → Rests s
 one_more s r = (r.0, (suc r.1.0, r.1.1, r.1.2))
 
+-- as much is to be done while Wants come to be owed
+rests_within : (n : ℕ) → ((s : State) → to_do s < n → Rests s) → (m : ℕ) (s : State) → to_do s ≤ n → unowed s ≤ m → Rests s
+rests_within n less zero s a b = elim (moves_pass s).way [
+  | inl e ↦ (s, (zero, refl, e))
+  | inr (inl f) ↦ one_more s (less (pass s) (omega arith))
+  | inr (inr f) ↦ let none = f.1 in absurd (omega (arith, none))
+]
+rests_within n less (suc m) s a b = elim (moves_pass s).way [
+  | inl e ↦ (s, (zero, refl, e))
+  | inr (inl f) ↦ one_more s (less (pass s) (omega arith))
+  | inr (inr f) ↦ let same = f.0 in let fewer = f.1 in one_more s (rests_within n less m (pass s) (omega (arith, same)) (omega (arith, fewer)))
+]
+
 rests_below : (n : ℕ) (s : State) → to_do s < n → Rests s
 rests_below zero s lt = absurd (omega arith)
-rests_below (suc n) s lt = elim (moves_pass s).way [
-  | inl e ↦ (s, (zero, refl, e))
-  | inr f ↦ one_more s (rests_below n (pass s) (omega arith))
-]
+rests_below (suc n) s lt = rests_within n (rests_below n) (unowed s) s (omega arith) (omega arith)
 
 pub comes_to_rest : EachComesToRest
 comes_to_rest s = rests_below (to_do s + 1) s (omega arith)

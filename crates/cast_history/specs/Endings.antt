@@ -12,6 +12,10 @@ use Rattle.cast_view.specs.declared.phase.Phase.{Phase}
 use Rattle.cast_view.specs.declared.phase.Phase.TheVariants.{Idle, Gathering, Installing}
 use Rattle.cast_view.specs.Home.{Home, is_empty}
 use Rattle.cast_model.specs.Group.{holder_at}
+use Rattle.cast_timer.specs.Owed.{is_owed}
+use Rattle.cast_history.specs.Rules.Keys.{want_key}
+use Rattle.cast_history.specs.Rules.Home.{wants}
+use Rattle.cast_history.specs.History.{history}
 use Rattle.cast_history.specs.State.{State, serials}
 use Rattle.cast_history.specs.Order.{is_of_view, unlisted, is_ready_for}
 use Rattle.cast_history.specs.Rest.{deliver_first, deliver_all, pass, RestsAt}
@@ -65,11 +69,22 @@ to_list s = total (to_list_in s) s.config.groups
 abbrev pub to_do : State → ℕ
 to_do s = undelivered s + ranks s + (s.used + 1) * to_list s
 
+-- how many frames Want that a group's home is to owe are not owed yet
+abbrev pub unowed_in : State → GroupNo → ℕ
+unowed_in s g = total (λ w. one_if (not (is_owed s.owed (want_key g w)))) (wants history s g)
+
+abbrev pub unowed : State → ℕ
+unowed s = total (unowed_in s) s.config.groups
+
+-- less is to be done, or as much, and fewer Wants are still to be owed
+abbrev pub Falls : State → State → Type 0
+Falls s t = (to_do t < to_do s) ⊎ ((to_do t ≡ to_do s) × (unowed t < unowed s))
+
 -- a move of a pass changes nothing, or lowers what is to be done
 pub record Moves (s : State) (t : State) : Type 0 where
   pub config : t.config ≡ s.config
   pub used : t.used ≡ s.used
-  pub way : (t ≡ s) ⊎ (to_do t < to_do s)
+  pub way : (t ≡ s) ⊎ Falls s t
 
 -- a pass changes nothing, or lowers what is to be done
 abbrev pub PassMoves : Type 0

@@ -26,7 +26,7 @@ use Rattle.cast_history.specs.State.{State, opening, local, was_given}
 use Rattle.cast_history.specs.Rules.Sending.{may_raise}
 use Rattle.cast_history.specs.Step.{acted}
 use Rattle.cast_history.specs.History.{history}
-use Rattle.cast_history.specs.Rules.Views.{start, decide}
+use Rattle.cast_history.specs.Rules.Home.{start, want_bodies, decide}
 use Rattle.cast_history.specs.Rest.{deliver_first, set_order, let_go}
 use Rattle.cast_history.specs.Run.{before_event, IsRun}
 use Rattle.cast_history.specs.Lawful.{IsLawful, IsTyped}
@@ -81,6 +81,7 @@ pub data IsPassed (here : SiteNo) (config : DomainConfig) : State → Type 0 whe
   delivers : (s : State) (k : ℕ) → IsPassed here config s → IsPassed here config (deliver_first k s)
   orders : (s : State) (g : GroupNo) → IsPassed here config s → IsPassed here config (set_order s g)
   starts : (s : State) (g : GroupNo) → IsPassed here config s → IsPassed here config (start history s g)
+  wants : (s : State) (g : GroupNo) → IsPassed here config s → IsPassed here config (want_bodies history s g)
   decides : (s : State) (g : GroupNo) → IsPassed here config s → IsPassed here config (decide history s g)
 
 -- whatever events come to a domain of at most 32 groups, after them each member's count may be raised, unless it is the

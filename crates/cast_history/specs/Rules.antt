@@ -7,6 +7,7 @@ pub mod Data
 pub mod Stability
 pub mod Requests
 pub mod Commands
+pub mod Home
 pub mod Views
 pub mod Frames
 pub mod Events

@@ -23,13 +23,13 @@ use Rattle.cast_history.proofs.Rules.Room.{take_same}
 
 -- what a message is that is used
 module _ {S H : Type 0} (d : Site S H) (s : S) (h : H) (from : SiteNo) (m : Message) (used : is_used d s h from m ≡ true) where
-  used_apart : (not (site_eq from (d.here s)) && ((m.id.view == (d.group s h).number) && is_well_formed d s h m)) ≡ true
+  used_apart : (not (site_eq from (d.here s)) && ((m.id.view == (d.group s h).number) && is_well_formed d s (members_of (d.group s h)) m)) ≡ true
   used_apart = (and_parts (site_eq m.id.proc.site from) _ used).1
 
-  used_current_formed : ((m.id.view == (d.group s h).number) && is_well_formed d s h m) ≡ true
+  used_current_formed : ((m.id.view == (d.group s h).number) && is_well_formed d s (members_of (d.group s h)) m) ≡ true
   used_current_formed = (and_parts (not (site_eq from (d.here s))) _ used_apart).1
 
-  used_formed : is_well_formed d s h m ≡ true
+  used_formed : is_well_formed d s (members_of (d.group s h)) m ≡ true
   used_formed = (and_parts (m.id.view == (d.group s h).number) _ used_current_formed).1
 
   used_member_counts : (is_among proc_eq m.id.proc (members_of (d.group s h)) && counts_itself m) ≡ true

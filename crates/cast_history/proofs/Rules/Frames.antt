@@ -13,7 +13,8 @@ use Rattle.cast_history.proofs.Rules.Follows.{FollowsAll, AtBoth, choose, IsInva
 use Rattle.cast_history.proofs.Rules.Data.{data_follows}
 use Rattle.cast_history.proofs.Rules.Stability.{ack_follows, stable_follows}
 use Rattle.cast_history.proofs.Rules.Requests.{ask_follows, asked_follows}
-use Rattle.cast_history.proofs.Rules.Views.{install_follows, installed_follows}
+use Rattle.cast_history.proofs.Rules.Home.{installed_follows, flushed_follows, forward_follows, want_answered_follows}
+use Rattle.cast_history.proofs.Rules.Views.{install_follows}
 
 module _ {R S H K : Type 0} (a : Site R H) (b : Site S K) (fits : R → S → Type 0) (stands : H → K → Type 0) (all : FollowsAll a b fits stands) where
   frame_follows : (r : R) (s : S) → fits r s → (h : H) (k : K) → stands h k → (from : SiteNo) (x : SiteFrame) → b.place s (group_of x) ≡ Some k → IsTypedFrame x → fits (on_frame a r h from x) (on_frame b s k from x)
@@ -23,9 +24,9 @@ module _ {R S H K : Type 0} (a : Site R H) (b : Site S K) (fits : R → S → Ty
   frame_follows r s f h k at from (frame.Ask g number what p) there typed = ask_follows a b fits stands all r s f h k at from number what p
   frame_follows r s f h k at from (frame.Asked g number full) there typed = asked_follows a b fits stands all r s f h k at from number full
   frame_follows r s f h k at from (frame.Prepare g view) there typed = f
-  frame_follows r s f h k at from (frame.Flushed g view counts tail kept) there typed = f
-  frame_follows r s f h k at from (frame.Want u) there typed = f
-  frame_follows r s f h k at from (frame.Forward m) there typed = f
+  frame_follows r s f h k at from (frame.Flushed g view counts tail kept) there typed = flushed_follows a b fits stands all r s f h k at from view (record { counts = counts; tail = tail; kept = kept })
+  frame_follows r s f h k at from (frame.Want u) there typed = want_answered_follows a b fits stands all r s f h k at from u
+  frame_follows r s f h k at from (frame.Forward m) there typed = forward_follows a b fits stands all r s f h k at m
   frame_follows r s f h k at from (frame.Install g view members request cut tail) there typed = install_follows a b fits stands all r s f h k at from g there view members request cut typed
   frame_follows r s f h k at from (frame.Installed g view) there typed = installed_follows a b fits stands all r s f h k at from view
   frame_follows r s f h k at from (frame.Out g view) there typed = f

@@ -22,7 +22,7 @@ module _ {R S H K : Type 0} (a : Site R H) (b : Site S K) (fits : R → S → Ty
       ap (λ (x : Group). option_map frame.Data (a.message r (id_in x.number key))) (follows.group r s f h k at)
       ∙ ap (option_map frame.Data) (follows.message r s f (id_in (b.group s k).number key))
   kind_same r s f h k at key Prepare = ap (λ (x : Home). Some (frame.Prepare key.group x.number)) (follows.home r s f h k at)
-  kind_same r s f h k at key Want = refl
+  kind_same r s f h k at key Want = ap (λ (x : Home). Some (frame.Want (id_in x.number key))) (follows.home r s f h k at)
   kind_same r s f h k at key Install = ap (λ (x : Home). install_frame key.group x key.site x.phase) (follows.home r s f h k at)
   kind_same r s f h k at key Ack = ap (λ (x : Group). Some (frame.Ack (id_in x.number key))) (follows.group r s f h k at)
 

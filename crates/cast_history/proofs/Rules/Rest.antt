@@ -8,7 +8,7 @@ use Rattle.cast_history.specs.Rules.Order.{set_order_by, set_order, set_orders}
 use Rattle.cast_history.specs.Rules.Rest.{deliver_all, settle, pass}
 use Rattle.cast_history.proofs.Totals.{In}
 use Rattle.cast_history.proofs.Rules.Follows.{FollowsAll, each_place}
-use Rattle.cast_history.proofs.Rules.Views.{lead_follows}
+use Rattle.cast_history.proofs.Rules.Home.{lead_follows}
 
 -- beside all that other rules ask and do: both have the same serials, and stand for each other after all deliveries of one process, and
 -- after what the holder of one group lists

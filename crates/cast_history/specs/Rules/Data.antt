@@ -1,7 +1,8 @@
 -- The rules of messages that come from other sites.
-use Rattle.std.specs.Prelude.{Bool, not, ◌&&◌, ◌==◌, nat_lt, if◌then◌else◌}
+use Rattle.std.specs.Prelude.{Bool, List, not, ◌&&◌, ◌==◌, nat_lt, if◌then◌else◌}
 use Rattle.std.specs.List.{list_all}
 use Rattle.cast_types.specs.declared.names.SiteNo.{SiteNo}
+use Rattle.cast_types.specs.declared.names.Proc.{Proc}
 use Rattle.cast_types.specs.declared.names.Uid.{Uid}
 use Rattle.cast_types.specs.Names.{site_eq, group_eq, proc_eq}
 use Rattle.cast_types.specs.Sets.{is_among}
@@ -23,16 +24,15 @@ counts_itself m =
 
 -- each rule is of a message of the group that stands at h
 module _ {S H : Type 0} (d : Site S H) where
-  -- well formed: all groups of its time are configured, its process is one of its group's view, and its own time counts it
-  abbrev pub is_well_formed : S → H → Message → Bool
-  is_well_formed s h m =
-      list_all (λ c. is_among group_eq c.0 (d.config s).groups) m.times
-      && (is_among proc_eq m.id.proc (members_of (d.group s h)) && counts_itself m)
+  -- well formed in a view of these members: all groups of its time are configured, its process is one of them, and its own time counts it
+  abbrev pub is_well_formed : S → List Proc → Message → Bool
+  is_well_formed s members m =
+      list_all (λ c. is_among group_eq c.0 (d.config s).groups) m.times && (is_among proc_eq m.id.proc members && counts_itself m)
 
   -- a message is used that is well formed, of the group's view here, and from its process's own site, which is another
   abbrev pub is_used : S → H → SiteNo → Message → Bool
   is_used s h from m =
-      site_eq m.id.proc.site from && (not (site_eq from (d.here s)) && ((m.id.view == (d.group s h).number) && is_well_formed s h m))
+      site_eq m.id.proc.site from && (not (site_eq from (d.here s)) && ((m.id.view == (d.group s h).number) && is_well_formed s (members_of (d.group s h)) m))
 
   -- the acknowledgement is owed to the message's site, until that has told that the message is stable
   abbrev pub acknowledge : S → SiteNo → Uid → S

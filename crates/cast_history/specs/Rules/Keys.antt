@@ -4,9 +4,10 @@ use Rattle.cast_types.specs.declared.names.SiteNo.{SiteNo}
 use Rattle.cast_types.specs.declared.names.GroupNo.{GroupNo}
 use Rattle.cast_types.specs.declared.names.Proc.{Proc}
 use Rattle.cast_types.specs.declared.names.Uid.{Uid}
+use Rattle.cast_types.specs.Names.{Entry}
 use Rattle.cast_timer.specs.declared.key.OwedKey.{OwedKey}
 use Rattle.cast_timer.specs.declared.key.OwedKind.{OwedKind}
-use Rattle.cast_timer.specs.declared.key.OwedKind.TheVariants.{Ask}
+use Rattle.cast_timer.specs.declared.key.OwedKind.TheVariants.{Ask, Want}
 use Rattle.cast_timer.specs.declared.key.Side.TheVariants.{Site, Home}
 
 abbrev pub nobody : Proc
@@ -19,6 +20,10 @@ ask_key g home = record { kind = Ask; group = g; proc = nobody; count = 0; site 
 -- a frame of this kind about a group alone is owed to a site by the home
 abbrev pub home_key : OwedKind → GroupNo → SiteNo → OwedKey
 home_key kind g to = record { kind = kind; group = g; proc = nobody; count = 0; site = to; side = Home }
+
+-- a message of a group, by its process and its count, is wanted from a site by the home
+abbrev pub want_key : GroupNo → SiteNo × Entry → OwedKey
+want_key g w = record { kind = Want; group = g; proc = w.1.0; count = w.1.1; site = w.0; side = Home }
 
 -- a frame of this kind about a message is owed to a site
 abbrev pub message_key : OwedKind → Uid → SiteNo → OwedKey

@@ -29,12 +29,12 @@ install_frame g home to (Installing waiting decision bodies) =
     Some (frame.Install g home.number home.members (answer_in decision.answers to).number decision.cut decision.tail)
 
 module _ {S H : Type 0} (d : Site S H) where
-  -- the frame that a key of this kind stands for, of the group that stands at h. There is no rule for Wants yet, so none is owed
+  -- the frame that a key of this kind stands for, of the group that stands at h. The home alone owes Wants
   abbrev pub frame_of_kind : S → H → OwedKey → OwedKind → Option SiteFrame
   frame_of_kind s h key Ask = option_map (ask_frame key.group) (first_asking (d.group s h).requests)
   frame_of_kind s h key Data = option_map frame.Data (d.message s (id_in (d.group s h).number key))
   frame_of_kind s h key Prepare = Some (frame.Prepare key.group (d.home s h).number)
-  frame_of_kind s h key Want = None
+  frame_of_kind s h key Want = Some (frame.Want (id_in (d.home s h).number key))
   frame_of_kind s h key Install = install_frame key.group (d.home s h) key.site (d.home s h).phase
   frame_of_kind s h key Ack = Some (frame.Ack (id_in (d.group s h).number key))
 

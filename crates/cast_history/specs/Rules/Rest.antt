@@ -13,7 +13,7 @@ use Rattle.cast_message.specs.declared.client.Push.TheVariants as push
 use Rattle.cast_history.specs.Rules.Interface.{Site, Resting}
 use Rattle.cast_history.specs.Rules.Release.{let_go}
 use Rattle.cast_history.specs.Rules.Order.{set_orders}
-use Rattle.cast_history.specs.Rules.Views.{lead}
+use Rattle.cast_history.specs.Rules.Home.{lead}
 
 -- what a program is told of a message that its process delivers: of a set-order message nothing
 abbrev pub told_of : Uid → Body → Option Push
