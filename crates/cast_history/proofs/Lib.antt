@@ -1,5 +1,6 @@
 pub mod Words
 pub mod FirstCast
+pub mod Leading
 pub mod Waiting
 pub mod Overlapping
 pub mod Ignored
