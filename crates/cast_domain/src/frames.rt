@@ -12,9 +12,9 @@ ghost use Rattle.cast_history.specs.Rules.Requests.{on_ask, on_asked};
 ghost use Rattle.cast_history.specs.Rules.Views.{on_install, on_installed};
 
 use crate::domain::Domain;
+use crate::lent::Lent;
 use crate::owing::ask_key;
 use crate::record::{answer_at, apply_at, installed_at, view_at};
-use crate::shared::Shared;
 use cast_clock::Times;
 use cast_delay::Fact;
 use cast_message::{Change, Members, Message, Push, SiteFrame};
@@ -76,8 +76,8 @@ fn group_of(frame: &SiteFrame) -> GroupNo
 impl Domain {
     ghost use Rattle.cast_model.specs.declared.event.Outs.{Outs};
     ghost use Rattle.cast_model.specs.Group.{is_taken_in};
-    ghost use Rattle.cast_domain.specs.Records.{Keeps, records_in, records_of};
-    ghost use Rattle.cast_domain.specs.Shared.{LeavesOthers, Part};
+    ghost use Rattle.cast_domain.specs.Records.{Keeps, KeepsBeside, records_in, records_of};
+    ghost use Rattle.cast_domain.specs.Shared.{Part};
     ghost use Rattle.cast_domain.specs.Calls.{records, complete_in, enter_in, send_in, standing_of, take_in, time_of, view_in};
     ghost use Rattle.cast_clock.specs.Times.{entering};
 
@@ -86,12 +86,10 @@ impl Domain {
         &mut self,
         from: SiteNo,
         frame: &SiteFrame,
-        shared: &mut Shared,
-        outs: &mut Outs,
+        lent: &mut Lent<'_>,
     ) -> Result<(), NoMemory>
-        ensures same { Keeps self.old self.new }
-        ensures others { LeavesOthers self.old.config.domain shared.old shared.new }
-        ensures made { OnOk result (records_in self.new shared.new outs.new ≡ framed records (records_in self.old shared.old outs.old) from frame.now) }
+        ensures stays { KeepsBeside self.old lent.old self.new lent.new }
+        ensures made { OnOk result (records_in self.new lent.new ≡ framed records (records_in self.old lent.old) from frame.now) }
     {
         if !is_among(from, self.config.sites.as_slice()) {
             return Ok(());
@@ -99,7 +97,7 @@ impl Domain {
         let Some(place) = self.place_of(group_of(frame)) else {
             return Ok(());
         };
-        self.frame_at(place, from, frame, shared, outs)
+        self.frame_at(place, from, frame, lent)
     }
 
     // A frame about the group at a place. One that no rule uses is ignored.
@@ -108,34 +106,32 @@ impl Domain {
         place: usize,
         from: SiteNo,
         frame: &SiteFrame,
-        shared: &mut Shared,
-        outs: &mut Outs,
+        lent: &mut Lent<'_>,
     ) -> Result<(), NoMemory>
         requires { place < vec_len self.old.groups }
-        ensures same { Keeps self.old self.new }
-        ensures others { LeavesOthers self.old.config.domain shared.old shared.new }
-        ensures made { OnOk result (records_in self.new shared.new outs.new ≡ on_frame records (records_in self.old shared.old outs.old) place from frame.now) }
+        ensures stays { KeepsBeside self.old lent.old self.new lent.new }
+        ensures made { OnOk result (records_in self.new lent.new ≡ on_frame records (records_in self.old lent.old) place from frame.now) }
     {
         match frame {
-            SiteFrame::Data(message) => self.data(place, from, message, shared, outs),
+            SiteFrame::Data(message) => self.data(place, from, message, lent),
             SiteFrame::Ask {
                 number,
                 change,
                 proc,
                 ..
-            } => self.asked_of_home(place, from, *number, *change, *proc, outs),
+            } => self.asked_of_home(place, from, *number, *change, *proc, lent.outs),
             SiteFrame::Asked { number, full, .. } => self.answered(
-                place, from, *number, *full, shared, outs,
+                place, from, *number, *full, lent,
             ),
             SiteFrame::Install {
                 view,
                 members,
                 request,
                 ..
-            } => self.install(place, from, *view, members, *request, outs),
+            } => self.install(place, from, *view, members, *request, lent.outs),
             SiteFrame::Installed { view, .. } => self.installed(place, from, *view),
-            SiteFrame::Ack(id) => self.ack(place, from, *id, shared, outs),
-            SiteFrame::Stable(id) => self.stable(place, from, *id, shared),
+            SiteFrame::Ack(id) => self.ack(place, from, *id, lent),
+            SiteFrame::Stable(id) => self.stable(place, from, *id, lent),
             SiteFrame::Prepare { .. }
             | SiteFrame::Flushed { .. }
             | SiteFrame::Want(_)
@@ -150,16 +146,14 @@ impl Domain {
         place: usize,
         from: SiteNo,
         message: &Message,
-        shared: &mut Shared,
-        outs: &mut Outs,
+        lent: &mut Lent<'_>,
     ) -> Result<(), NoMemory>
         requires { place < vec_len self.old.groups }
-        ensures same { Keeps self.old self.new }
-        ensures others { LeavesOthers self.old.config.domain shared.old shared.new }
-        ensures made { OnOk result (records_in self.new shared.new outs.new ≡ on_data records (records_in self.old shared.old outs.old) place from message.now) }
+        ensures stays { KeepsBeside self.old lent.old self.new lent.new }
+        ensures made { OnOk result (records_in self.new lent.new ≡ on_data records (records_in self.old lent.old) place from message.now) }
     {
         if self.is_used(place, from, message) {
-            self.use_data(from, message, shared, outs)?;
+            self.use_data(from, message, lent)?;
         }
         Ok(())
     }
@@ -180,22 +174,20 @@ impl Domain {
         &mut self,
         from: SiteNo,
         message: &Message,
-        shared: &mut Shared,
-        outs: &mut Outs,
+        lent: &mut Lent<'_>,
     ) -> Result<(), NoMemory>
-        ensures same { Keeps self.old self.new }
-        ensures others { LeavesOthers self.old.config.domain shared.old shared.new }
-        ensures made { OnOk result (records_in self.new shared.new outs.new ≡ use_data records (records_in self.old shared.old outs.old) from message.now) }
+        ensures stays { KeepsBeside self.old lent.old self.new lent.new }
+        ensures made { OnOk result (records_in self.new lent.new ≡ use_data records (records_in self.old lent.old) from message.now) }
     {
         if self.acks.is_received(message.id) {
-            self.send(outs, from, SiteFrame::Ack(message.id))?;
+            self.send(lent.outs, from, SiteFrame::Ack(message.id))?;
             return Ok(());
         }
-        if !self.may_take(&message.body, shared) {
+        if !self.may_take(&message.body, lent) {
             return Ok(());
         }
-        self.receive(message.copy()?, shared)?;
-        self.acknowledge(from, message.id, shared, outs)?;
+        self.receive(message.copy()?, lent)?;
+        self.acknowledge(from, message.id, lent)?;
         Ok(())
     }
 
@@ -290,13 +282,11 @@ impl Domain {
         from: SiteNo,
         number: u32,
         full: bool,
-        shared: &mut Shared,
-        outs: &mut Outs,
+        lent: &mut Lent<'_>,
     ) -> Result<(), NoMemory>
         requires { place < vec_len self.old.groups }
-        ensures same { Keeps self.old self.new }
-        ensures others { LeavesOthers self.old.config.domain shared.old shared.new }
-        ensures made { OnOk result (records_in self.new shared.new outs.new ≡ on_asked records (records_in self.old shared.old outs.old) place from number full) }
+        ensures stays { KeepsBeside self.old lent.old self.new lent.new }
+        ensures made { OnOk result (records_in self.new lent.new ≡ on_asked records (records_in self.old lent.old) place from number full) }
     {
         if full {
             return Ok(());
@@ -305,9 +295,9 @@ impl Domain {
             Some(asking) => {
                 if self.is_from_home(from) && asking.number == number {
                     let key = ask_key(self.record(place).name, self.config.home);
-                    self.pay(&key, shared);
+                    self.pay(&key, lent);
                     answer_at(&mut self.groups, place)?;
-                    self.ask_home(place, shared, outs)?;
+                    self.ask_home(place, lent)?;
                 }
                 Ok(())
             }

@@ -15,6 +15,7 @@
 
 mod domain;
 mod frames;
+mod lent;
 mod order;
 mod owing;
 mod record;

@@ -13,7 +13,7 @@ use Rattle.cast_domain.proofs.domain.Domain.answered.Goals as goal
 
 pub returns-in_ok-ask_home-in-Some-clause-made : goal.returns-in_ok-ask_home-in-Some-clause-made
 returns-in_ok-ask_home-in-Some-clause-made c =
-    let r = records_in c.args.self.now c.args.shared.now c.args.outs.now in
+    let r = records_in c.args.self.now c.args.lent.now in
     let i = c.args.place in
     let from = c.args.from in
     let number = c.args.number in
@@ -24,7 +24,7 @@ returns-in_ok-ask_home-in-Some-clause-made c =
     let asked : (site_eq from home && (c.in-Some.asking.number == number)) ≡ true = and_from _ _ (sym c.is_from_home.ensures ∙ c.if-is_from_home.true) (eq-eqb _ _ c.if-asking-number.true) in
     let key : c.ask_key-key.result ≡ ask_key x.name home = c.ask_key-key.ensures ∙ ap (λ y. ask_key y.name home) c.record-then-asking-number.ensures in
     c.in_ok-ask_home-in-Some.ensures.made
-    ∙ (λ j. ask_home records (record ((c.pay.ensures.made c.args.outs.now ∙ ap (pay_in r) key) j) { groups = c.in_ok-answer_at-in-Some.ensures.items j }) i)
+    ∙ (λ j. ask_home records (record ((c.pay.ensures.made ∙ ap (pay_in r) key) j) { groups = c.in_ok-answer_at-in-Some.ensures.items j }) i)
     ∙ sym (ap (λ b. if b then done else r) asked)
     ∙ sym (ap (λ (o : Option Asking). elim o as (λ _. Records) [ Some a ↦ (if site_eq from home && (a.number == number) then done else r) | None ↦ r ]) first)
     ∙ sym (ap (on_asked records r i from number) c.if-full.false)

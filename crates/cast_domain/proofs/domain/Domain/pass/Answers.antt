@@ -9,15 +9,15 @@ use Rattle.cast_domain.proofs.domain.Domain.pass.Goals as goal
 
 pub returns-clause-made : goal.returns-clause-made
 returns-clause-made c =
-    seen_as c.set_orders.new.self c.lead.new.self c.in_ok-led.ensures.same c.set_orders.new.shared c.lead.new.outs
-    ∙ c.in_ok-led.ensures.made (part_of c.set_orders.new.self.config.domain c.set_orders.new.shared)
+    seen_as c.set_orders.new.self c.lead.new.self c.in_ok-led.ensures.same c.set_orders.new.lent.shared.now c.lead.new.outs
+    ∙ c.in_ok-led.ensures.made (part_of c.set_orders.new.self.config.domain c.set_orders.new.lent.shared.now)
     ∙ ap (lead records) (c.in_ok-ordered.ensures.made ∙ ap (set_orders records resting_records) c.in_ok-settled.ensures.made)
 
 pub returns-clause-still : goal.returns-clause-still
 returns-clause-still c e =
     let outer = or_parts _ _ e in
     let inner = or_parts _ _ outer.0 in
-    seen_as c.set_orders.new.self c.lead.new.self c.in_ok-led.ensures.same c.set_orders.new.shared c.lead.new.outs
-    ∙ c.in_ok-led.ensures.still outer.1 (part_of c.set_orders.new.self.config.domain c.set_orders.new.shared)
+    seen_as c.set_orders.new.self c.lead.new.self c.in_ok-led.ensures.same c.set_orders.new.lent.shared.now c.lead.new.outs
+    ∙ c.in_ok-led.ensures.still outer.1 (part_of c.set_orders.new.self.config.domain c.set_orders.new.lent.shared.now)
     ∙ c.in_ok-ordered.ensures.still inner.1
     ∙ c.in_ok-settled.ensures.still inner.0
