@@ -8,10 +8,12 @@ use Rattle.cast_domain.specs.declared.domain.Domain.{Domain}
 use Rattle.cast_domain.specs.declared.record.GroupRecord.{GroupRecord}
 use Rattle.cast_domain.specs.Calls.{record_at}
 use Rattle.cast_model.specs.declared.config.DomainConfig.{DomainConfig}
+use Rattle.cast_types.specs.declared.names.DomainNo.{DomainNo}
+use Rattle.cast_domain.specs.declared.lent.Lent.{Lent}
 use Rattle.cast_domain.specs.declared.shared.Shared.{Shared}
-use Rattle.cast_domain.specs.Shared.{LeavesOthers, part_of}
+use Rattle.cast_domain.specs.Shared.{part_of}
 use Rattle.cast_model.specs.declared.event.Outs.{Outs}
-use Rattle.cast_domain.specs.Records.{Keeps, records_of, records_in}
+use Rattle.cast_domain.specs.Records.{Keeps, GivesBack, KeepsBeside, records_of}
 
 pub keeps_then : (a b c : Domain) → Keeps a b → Keeps b c → Keeps a c
 keeps_then a b c first then = record {
@@ -21,12 +23,27 @@ keeps_then a b c first then = record {
   halted = then.halted ∙ first.halted;
 }
 
--- what others have stays over two changes
-pub others_then : (a b : Domain) (x y z : Shared) → Keeps a b → LeavesOthers a.config.domain x y → LeavesOthers b.config.domain y z → LeavesOthers a.config.domain x z
-others_then a b x y z same first then = subst (λ d. LeavesOthers d y z) (ap (λ (c : DomainConfig). c.domain) same.config) then ∙ first
+-- what is lent is given back over two changes
+pub back_then : (d : DomainNo) (x y z : Lent) → GivesBack d x y → GivesBack d y z → GivesBack d x z
+back_then d x y z first then = record {
+  others = then.others ∙ first.others;
+  shared = then.shared ∙ first.shared;
+  outs = then.outs ∙ first.outs;
+}
+
+-- and all the rest stays
+pub beside_then : {a b c : Domain} {x y z : Lent} → KeepsBeside a x b y → KeepsBeside b y c z → KeepsBeside a x c z
+beside_then {a} {b} {c} {x} {y} {z} first then = record {
+  same = keeps_then a b c first.same then.same;
+  back = back_then a.config.domain x y z first.back (subst (λ (d : DomainConfig). GivesBack d.domain y z) first.same.config then.back);
+}
+
+-- a change of the domain's own beside which something was sent or delivered
+pub beside_outs : {a b : Domain} (l : Lent) (o : Outs) → Keeps a b → KeepsBeside a l b (record l { outs = record l.outs { now = o } })
+beside_outs l o same = record { same = same; back = record { others = refl; shared = refl; outs = refl } }
 
 -- a domain with what is shared, after its own change
-pub seen_as : (a b : Domain) → Keeps a b → (h : Shared) (o : Outs) → records_in b h o ≡ records_of b (part_of a.config.domain h) o
+pub seen_as : (a b : Domain) → Keeps a b → (h : Shared) (o : Outs) → records_of b (part_of b.config.domain h) o ≡ records_of b (part_of a.config.domain h) o
 seen_as a b same h o = ap (λ (c : DomainConfig). records_of b (part_of c.domain h) o) same.config
 
 -- one more of a fold over a list

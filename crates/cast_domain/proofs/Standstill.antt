@@ -31,8 +31,11 @@ use Rattle.cast_history.specs.Effects.{sending, next_message}
 use Rattle.cast_history.specs.Rest.{deliver_first, deliver_all, settle, set_order_by, set_order, set_orders, pass, let_go}
 use Rattle.cast_history.proofs.Setting.{may_set_order, set_order_is}
 use Rattle.cast_history.specs.Resting.{places_of}
-use Rattle.cast_history.specs.Rules.Views.{lead}
-use Rattle.cast_history.specs.Endings.{total, one_if, left, rank, ranks, undelivered, is_to_come, to_list_by, to_list_in, to_list, to_do}
+use Rattle.cast_timer.specs.Owed.{is_owed}
+use Rattle.cast_view.specs.Home.{wants_in}
+use Rattle.cast_history.specs.Rules.Keys.{want_key}
+use Rattle.cast_history.specs.Rules.Home.{lead}
+use Rattle.cast_history.specs.Endings.{total, one_if, left, rank, ranks, undelivered, is_to_come, to_list_by, to_list_in, to_list, to_do, unowed_in, unowed}
 use Rattle.cast_domain.specs.Records.{Records}
 use Rattle.cast_domain.specs.Fits.{record_for, process_named, Fits}
 use Rattle.cast_history.proofs.Alikes.{alike_sending}
@@ -259,12 +262,31 @@ same_to_do r s t a b goes got = λ i. undelivered_same i + ranks_same i + (used_
         (λ i. total (to_list_in t) (config_same i).groups)
         ∙ lists_in s.config.groups ((λ i. map (record_for t) (sym config_same i).groups) ∙ records_same)
 
+-- and as many Wants still to be owed
+same_unowed : (r : Records) (s t : State) → Fits r s → Fits r t → unowed t ≡ unowed s
+same_unowed r s t a b = (λ i. total (unowed_in t) (config_same i).groups) ∙ unowed_groups s.config.groups ((λ i. map (record_for t) (sym config_same i).groups) ∙ (sym b.groups ∙ a.groups))
+  where
+    config_same : t.config ≡ s.config
+    config_same = sym (ap (λ c. c.config) b.core) ∙ (ap (λ c. c.config) a.core)
+
+    owed_same : t.owed ≡ s.owed
+    owed_same = sym (ap (λ c. c.owed) b.core) ∙ (ap (λ c. c.owed) a.core)
+
+    unowed_groups : (gs : List GroupNo) → map (record_for t) gs ≡ map (record_for s) gs → total (unowed_in t) gs ≡ total (unowed_in s) gs
+    unowed_groups [] same = refl
+    unowed_groups (g ∷ gs) same =
+        let first : record_for t g ≡ record_for s g = cc in
+        let rest : map (record_for t) gs ≡ map (record_for s) gs = cc in
+        let home : t.home g ≡ s.home g = ap (λ (x : GroupRecord). x.home) first in
+        λ i. total (λ w. one_if (not (is_owed (owed_same i) (want_key g w)))) (wants_in g (home i) (home i).phase) + unowed_groups gs rest i
+
 -- records that a pass leaves as they are stand at rest
 pub still_pass : (r : Records) (s : State) → Fits r s → Fits r (pass s) → pass s ≡ s
 still_pass r s before after = elim (moves_pass s).way [
   | inl same ↦ same
-  | inr less ↦
+  | inr (inl less) ↦
       let goes : Goes s (pass s) = goes_pass s in
       let got : (pass s).got ≡ s.got = no_more s.got (pass s).got goes.got (sym after.messages.counted ∙ before.messages.counted) in
       let same = same_to_do r s (pass s) before after goes got in absurd (omega (arith, less, same))
+  | inr (inr fewer) ↦ let less = fewer.1 in let same = same_unowed r s (pass s) before after in absurd (omega (arith, less, same))
 ]

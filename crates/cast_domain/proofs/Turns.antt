@@ -1,7 +1,7 @@
 -- The turns of the records' rest are those of the history that they stand for.
 use Rattle.std.proofs.Common.{◌≡◌, ℕ, zero, suc, ◌<◌, ◌≤◌, Bool, true, false, cond, not, List, [], ◌∷◌, ◌++◌, length, map, Option, Some, None, refl, sym, ap, subst, ◌∙◌, inl, inr, arith}
 use Rattle.std.specs.Prelude.{◌&&◌, ◌==◌, if◌then◌else◌, filter, take}
-use Rattle.std.specs.List.{fold, find}
+use Rattle.std.specs.List.{find}
 use Rattle.std.specs.Option.{IsSome, option_map_or}
 use Rattle.std.proofs.lemmas.Bool.{false≢true, false_from_ne_true, and_parts, eqb-true, eq-eqb}
 use Rattle.std.proofs.lemmas.List.{map-append, length-map}
@@ -70,33 +70,15 @@ pub kept_if : (s x y : State) (b : Bool) → Kept s x → Kept s y → Kept s (i
 kept_if s x y true p q = p
 kept_if s x y false p q = q
 
-pub kept_fold : {X : Type 0} (f : State → X → State) → ((s : State) (x : X) → Kept s (f s x)) → (xs : List X) (s : State) → Kept s (fold f s xs)
-kept_fold f h [] s = kept_self s
-kept_fold f h (x ∷ xs) s = kept_then s (f s x) (fold f (f s x) xs) (h s x) (kept_fold f h xs (f s x))
-
 pub kept_iterate : (n : ℕ) (f : State → State) → ((s : State) → Kept s (f s)) → (s : State) → Kept s (iterate n f s)
 kept_iterate zero f h s = kept_self s
 kept_iterate (suc n) f h s = kept_then s (f s) (iterate n f (f s)) (h s) (kept_iterate n f h (f s))
-
-pub kept_pushing : (s : State) (k : ℕ) (p : Push) → Kept s (pushing s k p)
-kept_pushing s k p =
-    kept_if s (set_session s k (pushed_to (s.session k) p)) s (is_open (s.session k)) (record { here = refl; config = refl; used = refl }) (kept_self s)
-
-pub kept_delivering : (s : State) (k : ℕ) (m : Message) → Kept s (delivering s k m)
-kept_delivering s k m = kept_told (told_of m.id m.body)
-  where
-    t : State
-    t = with_delivery s k m
-
-    kept_told : (o : Option Push) → Kept s (elim o [ Some p ↦ pushing t k p | None ↦ t ])
-    kept_told (Some p) = kept_then s t (pushing t k p) (record { here = refl; config = refl; used = refl }) (kept_pushing t k p)
-    kept_told None = record { here = refl; config = refl; used = refl }
 
 pub kept_first : (k : ℕ) (s : State) → Kept s (deliver_first k s)
 kept_first k s = kept_found (find (is_ready_for s k) s.got)
   where
     kept_found : (o : Option Message) → Kept s (elim o [ Some m ↦ delivering_one s k m | None ↦ s ])
-    kept_found (Some m) = kept_then s (delivering s k m) (delivering_one s k m) (kept_delivering s k m) (record { here = refl; config = refl; used = refl })
+    kept_found (Some m) = let d = delivers s k m in record { here = d.here; config = d.config; used = d.used }
     kept_found None = kept_self s
 
 pub kept_all : (s : State) (k : ℕ) → Kept s (deliver_all s k)

@@ -16,8 +16,8 @@ use Rattle.cast_domain.specs.declared.domain.Domain.{Domain}
 use Rattle.cast_domain.specs.declared.record.GroupRecord.{GroupRecord}
 use Rattle.cast_model.specs.declared.session.Session.{Session}
 use Rattle.cast_model.specs.declared.event.Outs.{Outs}
-use Rattle.cast_domain.specs.declared.shared.Shared.{Shared}
-use Rattle.cast_domain.specs.Shared.{Part, part_of}
+use Rattle.cast_domain.specs.declared.lent.Lent.{Lent}
+use Rattle.cast_domain.specs.Shared.{Part, part_of, LeavesOthers}
 use Rattle.cast_model.specs.declared.event.Event.{Event}
 use Rattle.cast_model.specs.declared.event.Event.TheVariants.{Open, Command, Frame, Tick}
 
@@ -54,8 +54,9 @@ records_of d part o =
       delivered = o.delivered;
     }
 
-abbrev pub records_in : Domain → Shared → Outs → Records
-records_in d shared o = records_of d (part_of d.config.domain shared) o
+-- a domain with what it is lent
+abbrev pub records_in : Domain → Lent → Records
+records_in d lent = records_of d (part_of d.config.domain lent.shared.now) lent.outs.now
 
 abbrev pub sessions_of : Domain → List Session
 sessions_of d = d.sessions.items
@@ -77,6 +78,17 @@ pub record Keeps (old : Domain) (new : Domain) : Type 0 where
   pub site : new.site ≡ old.site
   pub config : new.config ≡ old.config
   pub halted : new.halted ≡ old.halted
+
+-- the same is lent as before, and of what is shared the parts of all domains but one stay as they are
+pub record GivesBack (d : DomainNo) (old : Lent) (new : Lent) : Type 0 where
+  pub others : LeavesOthers d old.shared.now new.shared.now
+  pub shared : new.shared.ghost_name ≡ old.shared.ghost_name
+  pub outs : new.outs.ghost_name ≡ old.outs.ghost_name
+
+-- a domain keeps what is its own, and gives back what it is lent
+pub record KeepsBeside (old : Domain) (lent : Lent) (new : Domain) (later : Lent) : Type 0 where
+  pub same : Keeps old new
+  pub back : GivesBack old.config.domain lent later
 
 -- how many serials are given after an event
 abbrev pub used_after : ℕ → Event → ℕ

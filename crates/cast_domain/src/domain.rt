@@ -4,6 +4,7 @@ ghost use Rattle.cast_model.specs.Session.{told};
 ghost use Rattle.cast_history.specs.Rules.Room.{may_receive};
 
 use crate::frames::promised_by_types;
+use crate::lent::Lent;
 use crate::record::{GroupRecord, place_among};
 use crate::shared::Shared;
 use cast_delay::{Delay, Fact};
@@ -97,7 +98,7 @@ impl Domain {
     ghost use Rattle.cast_types.specs.Names.{site_eq};
     ghost use Rattle.cast_model.specs.declared.event.Outs.{Outs};
     ghost use Rattle.cast_model.specs.Events.{domain_of};
-    ghost use Rattle.cast_domain.specs.Records.{Keeps, is_halted, number_of, records_in, records_of, used_after};
+    ghost use Rattle.cast_domain.specs.Records.{GivesBack, Keeps, is_halted, number_of, records_in, records_of, used_after};
     ghost use Rattle.cast_domain.specs.Shared.{LeavesOthers, Part, part_of};
     ghost use Rattle.cast_history.specs.Lawful.{IsTyped};
     ghost use Rattle.cast_history.specs.Rules.Events.{acted, answered};
@@ -174,17 +175,17 @@ impl Domain {
     }
 
     // How many messages the domain keeps.
-    pub(crate) fn held(&self, shared: &Shared) -> usize
-        ensures { result ≡ length (part_of self.now.config.domain shared.now).kept }
+    pub(crate) fn held(&self, lent: &Lent<'_>) -> usize
+        ensures { result ≡ length (part_of self.now.config.domain lent.now.shared.now).kept }
     {
-        shared.store.held(self.config.domain)
+        lent.shared.store.held(self.config.domain)
     }
 
     // Whether one more message may be received beside those that are kept.
-    pub(crate) fn has_room(&self, shared: &Shared) -> bool
-        ensures { (o : Outs) → result ≡ may_receive records (records_in self.now shared.now o) }
+    pub(crate) fn has_room(&self, lent: &Lent<'_>) -> bool
+        ensures { result ≡ may_receive records (records_in self.now lent.now) }
     {
-        self.held(shared) < self.config.quotas.held as usize
+        self.held(lent) < self.config.quotas.held as usize
     }
 
     /// Makes one step: the event, and then what follows from it until nothing changes. What is sent and delivered is
@@ -223,7 +224,7 @@ impl Domain {
         shared: &mut Shared,
         outs: &mut Outs,
     ) -> Result<Taken, NoMemory>
-        ensures answer { IfOk result (λ t. t ≡ answered records records_serials (records_in self.old shared.old outs.old) event.now) }
+        ensures answer { IfOk result (λ t. t ≡ answered records records_serials (records_of self.old (part_of (number_of self.old) shared.old) outs.old) event.now) }
         ensures used { OnOk result (self.new.used ≡ used_after self.old.used event.now) }
         ensures same { (self.new.site ≡ self.old.site) × (self.new.config ≡ self.old.config) × (self.new.halted ≡ self.old.halted) }
         ensures others { LeavesOthers self.old.config.domain shared.old shared.new }
@@ -231,25 +232,24 @@ impl Domain {
         ensures nothing { OnErr result (outs.new ≡ outs.old) }
     {
         let mut step = Outs::new(outs.frames.alloc());
-        let taken = self.act(event, shared, &mut step)?;
-        self.let_go(shared)?;
-        self.rest(shared, &mut step)?;
+        let mut lent = Lent {
+            shared,
+            outs: &mut step,
+        };
+        let taken = self.act(event, &mut lent)?;
+        self.let_go(&mut lent)?;
+        self.rest(&mut lent)?;
         outs.append(step)?;
         Ok(taken)
     }
 
     // What the event does at once.
-    fn act(
-        &mut self,
-        event: &Event,
-        shared: &mut Shared,
-        outs: &mut Outs,
-    ) -> Result<Taken, NoMemory>
-        ensures answer { IfOk result (λ t. t ≡ answered records records_serials (records_in self.old shared.old outs.old) event.now) }
+    fn act(&mut self, event: &Event, lent: &mut Lent<'_>) -> Result<Taken, NoMemory>
+        ensures answer { IfOk result (λ t. t ≡ answered records records_serials (records_in self.old lent.old) event.now) }
         ensures used { OnOk result (self.new.used ≡ used_after self.old.used event.now) }
         ensures same { (self.new.site ≡ self.old.site) × (self.new.config ≡ self.old.config) × (self.new.halted ≡ self.old.halted) }
-        ensures others { LeavesOthers self.old.config.domain shared.old shared.new }
-        ensures made { OnOk result (records_in self.new shared.new outs.new ≡ acted records records_serials (records_in self.old shared.old outs.old) event.now) }
+        ensures back { GivesBack self.old.config.domain lent.old lent.new }
+        ensures made { OnOk result (records_in self.new lent.new ≡ acted records records_serials (records_in self.old lent.old) event.now) }
         ensures typed { IsTyped event.now }
     {
         match event {
@@ -258,14 +258,14 @@ impl Domain {
                 serial,
                 command,
                 ..
-            } => self.command(*serial, command, shared, outs),
+            } => self.command(*serial, command, lent),
             Event::Frame(_, from, frame) => {
                 promised_by_types(frame);
-                self.frame(*from, frame, shared, outs)?;
+                self.frame(*from, frame, lent)?;
                 Ok(Taken::Nothing)
             }
             Event::Tick(millis) => {
-                self.tick(*millis, shared, outs)?;
+                self.tick(*millis, lent)?;
                 Ok(Taken::Nothing)
             }
         }

@@ -10,9 +10,9 @@ ghost use Rattle.cast_history.specs.Rules.Requests.{deny, deny_if, is_joining_by
 ghost use Rattle.cast_history.specs.Rules.Views.{on_install};
 
 use crate::domain::Domain;
+use crate::lent::Lent;
 use crate::owing::ask_key;
 use crate::record::{answer_at, view_at};
-use crate::shared::Shared;
 use cast_clock::Times;
 use cast_delay::Fact;
 use cast_message::{Members, Message, Push, SiteFrame};
@@ -74,8 +74,8 @@ fn group_of(frame: &SiteFrame) -> GroupNo
 impl Domain {
     ghost use Rattle.cast_model.specs.declared.event.Outs.{Outs};
     ghost use Rattle.cast_model.specs.Group.{is_taken_in};
-    ghost use Rattle.cast_domain.specs.Records.{Keeps, records_in, records_of};
-    ghost use Rattle.cast_domain.specs.Shared.{LeavesOthers, Part};
+    ghost use Rattle.cast_domain.specs.Records.{Keeps, KeepsBeside, records_in, records_of};
+    ghost use Rattle.cast_domain.specs.Shared.{Part};
     ghost use Rattle.cast_domain.specs.Calls.{records, complete_in, enter_in, send_in, standing_of, take_in, time_of, view_in};
     ghost use Rattle.cast_clock.specs.Times.{entering};
 
@@ -84,12 +84,10 @@ impl Domain {
         &mut self,
         from: SiteNo,
         frame: &SiteFrame,
-        shared: &mut Shared,
-        outs: &mut Outs,
+        lent: &mut Lent<'_>,
     ) -> Result<(), NoMemory>
-        ensures same { Keeps self.old self.new }
-        ensures others { LeavesOthers self.old.config.domain shared.old shared.new }
-        ensures made { OnOk result (records_in self.new shared.new outs.new ≡ framed records (records_in self.old shared.old outs.old) from frame.now) }
+        ensures stays { KeepsBeside self.old lent.old self.new lent.new }
+        ensures made { OnOk result (records_in self.new lent.new ≡ framed records (records_in self.old lent.old) from frame.now) }
     {
         if !is_among(from, self.config.sites.as_slice()) {
             return Ok(());
@@ -97,7 +95,7 @@ impl Domain {
         let Some(place) = self.place_of(group_of(frame)) else {
             return Ok(());
         };
-        self.frame_at(place, from, frame, shared, outs)
+        self.frame_at(place, from, frame, lent)
     }
 
     // A frame about the group at a place. One that no rule uses is ignored.
@@ -106,39 +104,42 @@ impl Domain {
         place: usize,
         from: SiteNo,
         frame: &SiteFrame,
-        shared: &mut Shared,
-        outs: &mut Outs,
+        lent: &mut Lent<'_>,
     ) -> Result<(), NoMemory>
         requires { place < vec_len self.old.groups }
-        ensures same { Keeps self.old self.new }
-        ensures others { LeavesOthers self.old.config.domain shared.old shared.new }
-        ensures made { OnOk result (records_in self.new shared.new outs.new ≡ on_frame records (records_in self.old shared.old outs.old) place from frame.now) }
+        ensures stays { KeepsBeside self.old lent.old self.new lent.new }
+        ensures made { OnOk result (records_in self.new lent.new ≡ on_frame records (records_in self.old lent.old) place from frame.now) }
     {
         match frame {
-            SiteFrame::Data(message) => self.data(place, from, message, shared, outs),
+            SiteFrame::Data(message) => self.data(place, from, message, lent),
             SiteFrame::Ask {
                 number,
                 change,
                 proc,
                 ..
-            } => self.asked_of_home(place, from, *number, *change, *proc, outs),
+            } => self.asked_of_home(place, from, *number, *change, *proc, lent.outs),
             SiteFrame::Asked { number, full, .. } => self.answered(
-                place, from, *number, *full, shared, outs,
+                place, from, *number, *full, lent,
             ),
             SiteFrame::Install {
                 view,
                 members,
                 request,
                 ..
-            } => self.install(place, from, *view, members, *request, outs),
-            SiteFrame::Installed { view, .. } => self.installed(place, from, *view, shared),
-            SiteFrame::Ack(id) => self.ack(place, from, *id, shared, outs),
-            SiteFrame::Stable(id) => self.stable(place, from, *id, shared),
-            SiteFrame::Prepare { .. }
-            | SiteFrame::Flushed { .. }
-            | SiteFrame::Want(_)
-            | SiteFrame::Forward(_)
-            | SiteFrame::Out { .. } => Ok(()),
+            } => self.install(place, from, *view, members, *request, lent.outs),
+            SiteFrame::Installed { view, .. } => self.installed(place, from, *view, lent),
+            SiteFrame::Ack(id) => self.ack(place, from, *id, lent),
+            SiteFrame::Stable(id) => self.stable(place, from, *id, lent),
+            SiteFrame::Flushed {
+                view,
+                counts,
+                tail,
+                kept,
+                ..
+            } => self.flushed(place, from, *view, counts, tail, kept, lent),
+            SiteFrame::Want(id) => self.wanted(place, from, *id, lent),
+            SiteFrame::Forward(message) => self.forwarded(place, message, lent),
+            SiteFrame::Prepare { .. } | SiteFrame::Out { .. } => Ok(()),
         }
     }
 
@@ -148,16 +149,14 @@ impl Domain {
         place: usize,
         from: SiteNo,
         message: &Message,
-        shared: &mut Shared,
-        outs: &mut Outs,
+        lent: &mut Lent<'_>,
     ) -> Result<(), NoMemory>
         requires { place < vec_len self.old.groups }
-        ensures same { Keeps self.old self.new }
-        ensures others { LeavesOthers self.old.config.domain shared.old shared.new }
-        ensures made { OnOk result (records_in self.new shared.new outs.new ≡ on_data records (records_in self.old shared.old outs.old) place from message.now) }
+        ensures stays { KeepsBeside self.old lent.old self.new lent.new }
+        ensures made { OnOk result (records_in self.new lent.new ≡ on_data records (records_in self.old lent.old) place from message.now) }
     {
         if self.is_used(place, from, message) {
-            self.use_data(from, message, shared, outs)?;
+            self.use_data(from, message, lent)?;
         }
         Ok(())
     }
@@ -170,7 +169,7 @@ impl Domain {
         message.id.proc.site == from
             && !(from == self.site)
             && message.id.view == self.record(place).here.number
-            && self.is_well_formed(place, message)
+            && self.is_well_formed(self.record(place).here.members(), message)
     }
 
     // A message is received once, if there is room for it. One that was received is acknowledged again.
@@ -178,33 +177,29 @@ impl Domain {
         &mut self,
         from: SiteNo,
         message: &Message,
-        shared: &mut Shared,
-        outs: &mut Outs,
+        lent: &mut Lent<'_>,
     ) -> Result<(), NoMemory>
-        ensures same { Keeps self.old self.new }
-        ensures others { LeavesOthers self.old.config.domain shared.old shared.new }
-        ensures made { OnOk result (records_in self.new shared.new outs.new ≡ use_data records (records_in self.old shared.old outs.old) from message.now) }
+        ensures stays { KeepsBeside self.old lent.old self.new lent.new }
+        ensures made { OnOk result (records_in self.new lent.new ≡ use_data records (records_in self.old lent.old) from message.now) }
     {
         if self.acks.is_received(message.id) {
-            self.send(outs, from, SiteFrame::Ack(message.id))?;
+            self.send(lent.outs, from, SiteFrame::Ack(message.id))?;
             return Ok(());
         }
-        if !self.may_take(&message.body, shared) {
+        if !self.may_take(&message.body, lent) {
             return Ok(());
         }
-        self.receive(message.copy()?, shared)?;
-        self.acknowledge(from, message.id, shared, outs)?;
+        self.receive(message.copy()?, lent)?;
+        self.acknowledge(from, message.id, lent)?;
         Ok(())
     }
 
-    // Whether all groups of the message's time are configured, its process is a member of the view, and its own time
-    // counts it.
-    fn is_well_formed(&self, place: usize, message: &Message) -> bool
-        requires { place < vec_len self.now.groups }
-        ensures { (o : Outs) (part : Part) → result ≡ is_well_formed records (records_of self.now part o) place message.now }
+    // Whether all groups of the message's time are configured, its process is one of these members, and its own time counts it.
+    pub(crate) fn is_well_formed(&self, members: &[Proc], message: &Message) -> bool
+        ensures { (o : Outs) (part : Part) → result ≡ is_well_formed records (records_of self.now part o) members.now message.now }
     {
         self.knows_groups(message)
-            && is_member(message.id.proc, self.record(place).here.members())
+            && is_member(message.id.proc, members)
             && counts_itself(message)
     }
 
@@ -222,18 +217,16 @@ impl Domain {
         from: SiteNo,
         number: u32,
         full: bool,
-        shared: &mut Shared,
-        outs: &mut Outs,
+        lent: &mut Lent<'_>,
     ) -> Result<(), NoMemory>
         requires { place < vec_len self.old.groups }
-        ensures same { Keeps self.old self.new }
-        ensures others { LeavesOthers self.old.config.domain shared.old shared.new }
-        ensures made { OnOk result (records_in self.new shared.new outs.new ≡ on_asked records (records_in self.old shared.old outs.old) place from number full) }
+        ensures stays { KeepsBeside self.old lent.old self.new lent.new }
+        ensures made { OnOk result (records_in self.new lent.new ≡ on_asked records (records_in self.old lent.old) place from number full) }
     {
         match self.record(place).here.first_request() {
             Some(asking) => {
                 if self.is_from_home(from) && asking.number == number {
-                    self.take_answer(place, shared, outs)?;
+                    self.take_answer(place, lent)?;
                     self.deny_if(full, place, asking)?;
                 }
                 Ok(())
@@ -243,22 +236,16 @@ impl Domain {
     }
 
     // Takes the first request off, and asks the next one.
-    fn take_answer(
-        &mut self,
-        place: usize,
-        shared: &mut Shared,
-        outs: &mut Outs,
-    ) -> Result<(), NoMemory>
+    fn take_answer(&mut self, place: usize, lent: &mut Lent<'_>) -> Result<(), NoMemory>
         requires { place < vec_len self.old.groups }
-        ensures same { Keeps self.old self.new }
-        ensures others { LeavesOthers self.old.config.domain shared.old shared.new }
-        ensures made { OnOk result (records_in self.new shared.new outs.new ≡ take_answer records (records_in self.old shared.old outs.old) place) }
+        ensures stays { KeepsBeside self.old lent.old self.new lent.new }
+        ensures made { OnOk result (records_in self.new lent.new ≡ take_answer records (records_in self.old lent.old) place) }
         ensures len { vec_len self.new.groups ≡ vec_len self.old.groups }
     {
         let key = ask_key(self.record(place).name, self.config.home);
-        self.pay(&key, shared);
+        self.pay(&key, lent);
         answer_at(&mut self.groups, place)?;
-        self.ask_home(place, shared, outs)?;
+        self.ask_home(place, lent)?;
         Ok(())
     }
 

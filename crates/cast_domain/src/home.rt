@@ -1,20 +1,24 @@
 ghost use Rattle.std.specs.Prelude.{◌≡◌, ◌<◌, false, IfOk, OnOk, vec_len};
-ghost use Rattle.std.specs.List.{fold};
+ghost use Rattle.std.specs.List.{find, fold};
+ghost use Rattle.std.specs.Option.{option_copied};
+ghost use Rattle.cast_types.specs.Names.{entry_eq, entry_of, uid_eq};
 ghost use Rattle.cast_history.specs.Rules.Requests.{answer_ask, on_ask};
-ghost use Rattle.cast_history.specs.Rules.Views.{announce, decide, lead, lead_group, on_installed, owe_of_home, prepare, start};
+ghost use Rattle.cast_history.specs.Rules.Home.{announce, decide, forwardable, is_of_home, lead, lead_group, on_flushed, on_forward, on_installed, on_want, owe_of_home, prepare, start, want, want_bodies, wants};
 
 use crate::domain::Domain;
-use crate::owing::home_key;
-use crate::record::{ask_home_at, decide_at, installed_at, start_at};
-use crate::shared::Shared;
-use cast_message::{Change, SiteFrame};
+use crate::lent::Lent;
+use crate::owing::{home_key, message_among, want_key};
+use crate::record::{ask_home_at, body_at, decide_at, installed_at, report_at, start_at};
+use cast_flush::Report;
+use cast_message::{Change, Kept, Message, SiteFrame, Tail};
 use cast_model::Outs;
 use cast_timer::OwedKind;
-use cast_types::{NoMemory, Proc, SiteNo};
+use cast_types::{Counts, Listed, NoMemory, Proc, SiteNo, Uid};
 
 impl Domain {
-    ghost use Rattle.cast_domain.specs.Records.{Keeps, records_in, records_of};
-    ghost use Rattle.cast_domain.specs.Shared.{LeavesOthers, Part};
+    ghost use Rattle.cast_model.specs.declared.event.Outs.{Outs};
+    ghost use Rattle.cast_domain.specs.Records.{GivesBack, Keeps, KeepsBeside, records_in, records_of};
+    ghost use Rattle.cast_domain.specs.Shared.{Part};
     ghost use Rattle.cast_domain.specs.Calls.{record_at, records};
 
     // Ask: at the home a request is taken in, and answered where it is the next one of its site or was answered before.
@@ -72,76 +76,237 @@ impl Domain {
         place: usize,
         from: SiteNo,
         view: u32,
-        shared: &mut Shared,
+        lent: &mut Lent<'_>,
     ) -> Result<(), NoMemory>
         requires { place < vec_len self.old.groups }
-        ensures same { Keeps self.old self.new }
-        ensures others { LeavesOthers self.old.config.domain shared.old shared.new }
-        ensures made { OnOk result ((o : Outs) → records_in self.new shared.new o ≡ on_installed records (records_in self.old shared.old o) place from view) }
+        ensures stays { KeepsBeside self.old lent.old self.new lent.new }
+        ensures made { OnOk result (records_in self.new lent.new ≡ on_installed records (records_in self.old lent.old) place from view) }
     {
         if self.is_home() && self.record(place).home.takes_installed(from, view) {
             let key = home_key(OwedKind::Install, self.record(place).name, from);
-            self.pay(&key, shared);
+            self.pay(&key, lent);
             installed_at(&mut self.groups, place, from, view);
         }
         Ok(())
     }
 
+    // Flushed: a site's first report of the view that the home flushes counts, and Prepare is owed to it no more.
+    pub(crate) fn flushed(
+        &mut self,
+        place: usize,
+        from: SiteNo,
+        view: u32,
+        counts: &Counts,
+        tail: &Tail,
+        kept: &Kept,
+        lent: &mut Lent<'_>,
+    ) -> Result<(), NoMemory>
+        requires { place < vec_len self.old.groups }
+        ensures stays { KeepsBeside self.old lent.old self.new lent.new }
+        ensures made { OnOk result (records_in self.new lent.new ≡ on_flushed records (records_in self.old lent.old) place from view (record { counts = counts.now; tail = tail.now; kept = kept.now })) }
+    {
+        if self.is_home() && self.record(place).home.takes_report(from, view) {
+            let key = home_key(OwedKind::Prepare, self.record(place).name, from);
+            self.pay(&key, lent);
+            let report = Report {
+                counts: counts.copy()?,
+                tail: tail.copy()?,
+                kept: kept.copy()?,
+            };
+            report_at(&mut self.groups, place, from, view, report)?;
+        }
+        Ok(())
+    }
+
+    // Forward: a message that the home wants, of the view that it flushes, is wanted no more.
+    pub(crate) fn forwarded(
+        &mut self,
+        place: usize,
+        message: &Message,
+        lent: &mut Lent<'_>,
+    ) -> Result<(), NoMemory>
+        requires { place < vec_len self.old.groups }
+        ensures stays { KeepsBeside self.old lent.old self.new lent.new }
+        ensures made { OnOk result (records_in self.new lent.new ≡ on_forward records (records_in self.old lent.old) place message.now) }
+    {
+        let wants = self.wants(place)?;
+        match want_of(wants.as_slice(), message.id) {
+            Some(wanted) => {
+                if self.is_flushed_message(place, message) {
+                    let key = want_key(self.record(place).name, wanted);
+                    self.pay(&key, lent);
+                    body_at(&mut self.groups, place, message.copy()?)?;
+                }
+                Ok(())
+            }
+            None => Ok(()),
+        }
+    }
+
+    // Whether a message is of the view that the home decided last, and well formed in it.
+    fn is_flushed_message(&self, place: usize, message: &Message) -> bool
+        requires { place < vec_len self.now.groups }
+        ensures { (o : Outs) (part : Part) → result ≡ is_of_home records (records_of self.now part o) place message.now }
+    {
+        let home = &self.record(place).home;
+        message.id.view == home.number() && self.is_well_formed(home.members().list(), message)
+    }
+
+    // Want: a message is forwarded that came because some sites lack it, or that is kept. A site sends itself none unless it is the home.
+    pub(crate) fn wanted(
+        &self,
+        place: usize,
+        from: SiteNo,
+        id: Uid,
+        lent: &mut Lent<'_>,
+    ) -> Result<(), NoMemory>
+        requires { place < vec_len self.now.groups }
+        ensures back { GivesBack self.now.config.domain lent.old lent.new }
+        ensures made { OnOk result (records_in self.now lent.new ≡ on_want records (records_in self.now lent.old) place from id) }
+    {
+        if from == self.site && !self.is_home() {
+            return Ok(());
+        }
+        match self.forwardable(place, id, lent)? {
+            Some(message) => {
+                self.send(lent.outs, from, SiteFrame::Forward(message))?;
+                Ok(())
+            }
+            None => Ok(()),
+        }
+    }
+
+    // The message of an id among those that came because some sites lack them, and else among the kept ones.
+    fn forwardable(
+        &self,
+        place: usize,
+        id: Uid,
+        lent: &Lent<'_>,
+    ) -> Result<Option<Message>, NoMemory>
+        requires { place < vec_len self.now.groups }
+        ensures { IfOk result (λ m. m ≡ forwardable records (records_in self.now lent.now) place id) }
+    {
+        let found = match body_of(self.record(place).home.bodies(), id) {
+            Some(message) => Some(message),
+            None => message_among(lent.shared.store.kept(self.config.domain), id),
+        };
+        match found {
+            Some(message) => Ok(Some(message.copy()?)),
+            None => Ok(None),
+        }
+    }
+
     // The home starts flushes and decides views, by group.
-    pub(crate) fn lead(&mut self, shared: &mut Shared, outs: &mut Outs) -> Result<bool, NoMemory>
-        ensures same { Keeps self.old self.new }
-        ensures others { LeavesOthers self.old.config.domain shared.old shared.new }
-        ensures made { OnOk result (records_in self.new shared.new outs.new ≡ lead records (records_in self.old shared.old outs.old)) }
-        ensures still { IfOk result (λ changed. changed ≡ false → records_in self.new shared.new outs.new ≡ records_in self.old shared.old outs.old) }
+    pub(crate) fn lead(&mut self, lent: &mut Lent<'_>) -> Result<bool, NoMemory>
+        ensures stays { KeepsBeside self.old lent.old self.new lent.new }
+        ensures made { OnOk result (records_in self.new lent.new ≡ lead records (records_in self.old lent.old)) }
+        ensures still { IfOk result (λ changed. changed ≡ false → records_in self.new lent.new ≡ records_in self.old lent.old) }
     {
         let mut changed = false;
         if self.is_home() {
             for place in 0..self.groups.len() {
-                let led = self.lead_group(place, shared, outs)?;
+                let led = self.lead_group(place, lent)?;
                 changed = changed | led;
             }
         }
         Ok(changed)
     }
 
-    // The home starts a flush of the group at a place, and decides its next view, where these are due.
+    // The home starts a flush of the group at a place, wants what some sites lack, and decides the next view, where these are due.
     fn lead_group(
         &mut self,
         place: usize,
-        shared: &mut Shared,
-        outs: &mut Outs,
+        lent: &mut Lent<'_>,
     ) -> Result<bool, NoMemory>
         requires { place < vec_len self.old.groups }
-        ensures same { Keeps self.old self.new }
-        ensures others { LeavesOthers self.old.config.domain shared.old shared.new }
-        ensures made { OnOk result (records_in self.new shared.new outs.new ≡ lead_group records (records_in self.old shared.old outs.old) place) }
-        ensures still { IfOk result (λ changed. changed ≡ false → records_in self.new shared.new outs.new ≡ records_in self.old shared.old outs.old) }
+        ensures stays { KeepsBeside self.old lent.old self.new lent.new }
+        ensures made { OnOk result (records_in self.new lent.new ≡ lead_group records (records_in self.old lent.old) place) }
+        ensures still { IfOk result (λ changed. changed ≡ false → records_in self.new lent.new ≡ records_in self.old lent.old) }
         ensures len { vec_len self.new.groups ≡ vec_len self.old.groups }
     {
-        let started = self.start(place, shared, outs)?;
-        let decided = self.decide(place, shared, outs)?;
-        Ok(started | decided)
+        let started = self.start(place, lent)?;
+        let wanted = self.want_bodies(place, lent)?;
+        let decided = self.decide(place, lent)?;
+        Ok(started | wanted | decided)
     }
 
     // The home starts a flush where something is to change, and owes Prepare. Answers whether it did.
     fn start(
         &mut self,
         place: usize,
-        shared: &mut Shared,
-        outs: &mut Outs,
+        lent: &mut Lent<'_>,
     ) -> Result<bool, NoMemory>
         requires { place < vec_len self.old.groups }
-        ensures same { Keeps self.old self.new }
-        ensures others { LeavesOthers self.old.config.domain shared.old shared.new }
-        ensures made { OnOk result (records_in self.new shared.new outs.new ≡ start records (records_in self.old shared.old outs.old) place) }
-        ensures still { IfOk result (λ changed. changed ≡ false → records_in self.new shared.new outs.new ≡ records_in self.old shared.old outs.old) }
+        ensures stays { KeepsBeside self.old lent.old self.new lent.new }
+        ensures made { OnOk result (records_in self.new lent.new ≡ start records (records_in self.old lent.old) place) }
+        ensures still { IfOk result (λ changed. changed ≡ false → records_in self.new lent.new ≡ records_in self.old lent.old) }
         ensures len { vec_len self.new.groups ≡ vec_len self.old.groups }
     {
         if !self.record(place).home.may_start() {
             return Ok(false);
         }
         start_at(&mut self.groups, place)?;
-        self.prepare(place, shared, outs)?;
+        self.prepare(place, lent)?;
+        Ok(true)
+    }
+
+    // The home owes Want for messages that some sites lack. Answers whether one of them was not owed.
+    fn want_bodies(&self, place: usize, lent: &mut Lent<'_>) -> Result<bool, NoMemory>
+        requires { place < vec_len self.now.groups }
+        ensures back { GivesBack self.now.config.domain lent.old lent.new }
+        ensures made { OnOk result (records_in self.now lent.new ≡ want_bodies records (records_in self.now lent.old) place) }
+        ensures still { IfOk result (λ changed. changed ≡ false → records_in self.now lent.new ≡ records_in self.now lent.old) }
+    {
+        let wants = self.wants(place)?;
+        self.want_all(place, wants.as_slice(), lent)
+    }
+
+    // The messages that the home lacks, each with the site that it wants it from.
+    fn wants(&self, place: usize) -> Result<Listed<(SiteNo, (Proc, u32))>, NoMemory>
+        requires { place < vec_len self.now.groups }
+        ensures { IfOk result (λ ws. (o : Outs) (part : Part) → ws ≡ wants records (records_of self.now part o) place) }
+    {
+        let record = self.record(place);
+        record.home.wants(record.name)
+    }
+
+    // Owes Want for messages. Answers whether one of them was not owed.
+    fn want_all(
+        &self,
+        place: usize,
+        wants: &[(SiteNo, (Proc, u32))],
+        lent: &mut Lent<'_>,
+    ) -> Result<bool, NoMemory>
+        requires { place < vec_len self.now.groups }
+        ensures back { GivesBack self.now.config.domain lent.old lent.new }
+        ensures made { OnOk result (records_in self.now lent.new ≡ fold (want records place) (records_in self.now lent.old) wants.now) }
+        ensures still { IfOk result (λ changed. changed ≡ false → records_in self.now lent.new ≡ records_in self.now lent.old) }
+    {
+        let mut changed = false;
+        for wanted in wants {
+            let owed = self.want(place, *wanted, lent)?;
+            changed = changed | owed;
+        }
+        Ok(changed)
+    }
+
+    // Owes Want for a message. Answers whether it was not owed.
+    fn want(
+        &self,
+        place: usize,
+        wanted: (SiteNo, (Proc, u32)),
+        lent: &mut Lent<'_>,
+    ) -> Result<bool, NoMemory>
+        requires { place < vec_len self.now.groups }
+        ensures back { GivesBack self.now.config.domain lent.old lent.new }
+        ensures made { OnOk result (records_in self.now lent.new ≡ want records place (records_in self.now lent.old) wanted) }
+        ensures still { IfOk result (λ changed. changed ≡ false → records_in self.now lent.new ≡ records_in self.now lent.old) }
+    {
+        let key = want_key(self.record(place).name, wanted);
+        if lent.shared.timers.is_owed(self.config.domain, &key) {
+            return Ok(false);
+        }
+        self.owe(key, lent)?;
         Ok(true)
     }
 
@@ -149,14 +314,12 @@ impl Domain {
     fn decide(
         &mut self,
         place: usize,
-        shared: &mut Shared,
-        outs: &mut Outs,
+        lent: &mut Lent<'_>,
     ) -> Result<bool, NoMemory>
         requires { place < vec_len self.old.groups }
-        ensures same { Keeps self.old self.new }
-        ensures others { LeavesOthers self.old.config.domain shared.old shared.new }
-        ensures made { OnOk result (records_in self.new shared.new outs.new ≡ decide records (records_in self.old shared.old outs.old) place) }
-        ensures still { IfOk result (λ changed. changed ≡ false → records_in self.new shared.new outs.new ≡ records_in self.old shared.old outs.old) }
+        ensures stays { KeepsBeside self.old lent.old self.new lent.new }
+        ensures made { OnOk result (records_in self.new lent.new ≡ decide records (records_in self.old lent.old) place) }
+        ensures still { IfOk result (λ changed. changed ≡ false → records_in self.new lent.new ≡ records_in self.old lent.old) }
         ensures len { vec_len self.new.groups ≡ vec_len self.old.groups }
     {
         let record = self.record(place);
@@ -164,7 +327,7 @@ impl Domain {
             return Ok(false);
         }
         decide_at(&mut self.groups, place)?;
-        self.announce(place, shared, outs)?;
+        self.announce(place, lent)?;
         Ok(true)
     }
 
@@ -172,15 +335,14 @@ impl Domain {
     fn prepare(
         &self,
         place: usize,
-        shared: &mut Shared,
-        outs: &mut Outs,
+        lent: &mut Lent<'_>,
     ) -> Result<(), NoMemory>
         requires { place < vec_len self.now.groups }
-        ensures others { LeavesOthers self.now.config.domain shared.old shared.new }
-        ensures made { OnOk result (records_in self.now shared.new outs.new ≡ prepare records (records_in self.now shared.old outs.old) place) }
+        ensures back { GivesBack self.now.config.domain lent.old lent.new }
+        ensures made { OnOk result (records_in self.now lent.new ≡ prepare records (records_in self.now lent.old) place) }
     {
         let home = &self.record(place).home;
-        self.owe_of_home(OwedKind::Prepare, place, home.phase().awaited(), shared, outs)?;
+        self.owe_of_home(OwedKind::Prepare, place, home.phase().awaited(), lent)?;
         Ok(())
     }
 
@@ -188,15 +350,14 @@ impl Domain {
     fn announce(
         &self,
         place: usize,
-        shared: &mut Shared,
-        outs: &mut Outs,
+        lent: &mut Lent<'_>,
     ) -> Result<(), NoMemory>
         requires { place < vec_len self.now.groups }
-        ensures others { LeavesOthers self.now.config.domain shared.old shared.new }
-        ensures made { OnOk result (records_in self.now shared.new outs.new ≡ announce records (records_in self.now shared.old outs.old) place) }
+        ensures back { GivesBack self.now.config.domain lent.old lent.new }
+        ensures made { OnOk result (records_in self.now lent.new ≡ announce records (records_in self.now lent.old) place) }
     {
         let home = &self.record(place).home;
-        self.owe_of_home(OwedKind::Install, place, home.phase().waiting(), shared, outs)?;
+        self.owe_of_home(OwedKind::Install, place, home.phase().waiting(), lent)?;
         Ok(())
     }
 
@@ -206,15 +367,14 @@ impl Domain {
         kind: OwedKind,
         place: usize,
         sites: &[SiteNo],
-        shared: &mut Shared,
-        outs: &mut Outs,
+        lent: &mut Lent<'_>,
     ) -> Result<(), NoMemory>
         requires { place < vec_len self.now.groups }
-        ensures others { LeavesOthers self.now.config.domain shared.old shared.new }
-        ensures made { OnOk result (records_in self.now shared.new outs.new ≡ fold (owe_of_home records kind place) (records_in self.now shared.old outs.old) sites.now) }
+        ensures back { GivesBack self.now.config.domain lent.old lent.new }
+        ensures made { OnOk result (records_in self.now lent.new ≡ fold (owe_of_home records kind place) (records_in self.now lent.old) sites.now) }
     {
         for site in sites {
-            self.owe_to(kind, place, *site, shared, outs)?;
+            self.owe_to(kind, place, *site, lent)?;
         }
         Ok(())
     }
@@ -225,13 +385,27 @@ impl Domain {
         kind: OwedKind,
         place: usize,
         to: SiteNo,
-        shared: &mut Shared,
-        outs: &mut Outs,
+        lent: &mut Lent<'_>,
     ) -> Result<(), NoMemory>
         requires { place < vec_len self.now.groups }
-        ensures others { LeavesOthers self.now.config.domain shared.old shared.new }
-        ensures made { OnOk result (records_in self.now shared.new outs.new ≡ owe_of_home records kind place (records_in self.now shared.old outs.old) to) }
+        ensures back { GivesBack self.now.config.domain lent.old lent.new }
+        ensures made { OnOk result (records_in self.now lent.new ≡ owe_of_home records kind place (records_in self.now lent.old) to) }
     {
-        self.owe(home_key(kind, self.record(place).name, to), shared, outs)
+        self.owe(home_key(kind, self.record(place).name, to), lent)
     }
+}
+
+// The entry of a message among those that are wanted.
+fn want_of(wants: &[(SiteNo, (Proc, u32))], id: Uid) -> Option<(SiteNo, (Proc, u32))>
+    ensures { result ≡ find (λ w. entry_eq w.1 (entry_of id)) wants.now }
+{
+    let wanted = wants.iter().find(|wanted| wanted.1 == (id.proc, id.count))?;
+    Some(*wanted)
+}
+
+// The message of an id.
+fn body_of(bodies: &[Message], id: Uid) -> Option<&Message>
+    ensures { option_copied result ≡ find (λ m. uid_eq m.id id) bodies.now }
+{
+    bodies.iter().find(|message| message.id == id)
 }

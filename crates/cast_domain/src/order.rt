@@ -7,8 +7,8 @@ ghost use Rattle.cast_history.specs.Rules.Room.{may_order, may_take};
 ghost use Rattle.cast_history.specs.Rules.Order.{may_list, send_places, set_order_by, set_order, set_orders};
 
 use crate::domain::Domain;
+use crate::lent::Lent;
 use crate::record::GroupRecord;
-use crate::shared::Shared;
 use cast_clock::Times;
 use cast_delay::{Fact, Turn};
 use cast_message::{Body, Message, Placement, Received};
@@ -19,33 +19,33 @@ use cast_types::{GroupNo, Key, Kind, NoMemory, Proc, Stamp, Standing, Uid};
 
 impl Domain {
     ghost use Rattle.cast_model.specs.declared.event.Outs.{Outs};
-    ghost use Rattle.cast_domain.specs.Records.{Keeps, records_in, records_of};
-    ghost use Rattle.cast_domain.specs.Shared.{LeavesOthers, Part, no_part};
+    ghost use Rattle.cast_domain.specs.Records.{Keeps, KeepsBeside, records_in, records_of};
+    ghost use Rattle.cast_domain.specs.Shared.{Part, no_part};
     ghost use Rattle.cast_domain.specs.Calls.{awaits_own_in, records, resting_records, holds_in, is_own_in, note_delivery_in, ready_key_in, settled_in, raised_at, standing_of, turn_at, turns_in};
 
     // Whether a set-order message may be sent or received beside the messages that are kept, and a holder may deliver
     // an ABCAST.
-    fn has_order_room(&self, shared: &Shared) -> bool
-        ensures { (o : Outs) → result ≡ may_order records (records_in self.now shared.now o) }
+    fn has_order_room(&self, lent: &Lent<'_>) -> bool
+        ensures { result ≡ may_order records (records_in self.now lent.now) }
     {
-        (self.held(shared) as u64) < 2 * u64::from(self.config.quotas.held)
+        (self.held(lent) as u64) < 2 * u64::from(self.config.quotas.held)
     }
 
     // Whether a message of this body may be received from another site.
-    pub(crate) fn may_take(&self, body: &Body, shared: &Shared) -> bool
-        ensures { (o : Outs) → result ≡ may_take records (records_in self.now shared.now o) body.now }
+    pub(crate) fn may_take(&self, body: &Body, lent: &Lent<'_>) -> bool
+        ensures { result ≡ may_take records (records_in self.now lent.now) body.now }
     {
         match body.kind() {
-            Kind::Order => self.has_order_room(shared),
-            Kind::Causal | Kind::Atomic => self.has_room(shared),
+            Kind::Order => self.has_order_room(lent),
+            Kind::Causal | Kind::Atomic => self.has_room(lent),
         }
     }
 
     // Whether a process has not delivered an ABCAST of its own, of the view of a group of which it is a member.
-    pub(crate) fn awaits_own(&self, process: Proc, shared: &Shared) -> bool
-        ensures { (o : Outs) → result ≡ awaits_own_in (records_in self.now shared.now o) process }
+    pub(crate) fn awaits_own(&self, process: Proc, lent: &Lent<'_>) -> bool
+        ensures { result ≡ awaits_own_in (records_in self.now lent.now) process }
     {
-        self.is_own_among(process, shared.store.kept(self.config.domain))
+        self.is_own_among(process, lent.shared.store.kept(self.config.domain))
     }
 
     // Whether one of these messages is such an ABCAST.
@@ -67,33 +67,33 @@ impl Domain {
     }
 
     // The key of the first message that is ready for a process.
-    pub(crate) fn next_ready(&self, process: Proc, shared: &Shared) -> Result<Option<Key>, NoMemory>
-        ensures { IfOk result (λ key. key ≡ ready_key_in (records_in self.now shared.now no_outs) process) }
+    pub(crate) fn next_ready(&self, process: Proc, lent: &Lent<'_>) -> Result<Option<Key>, NoMemory>
+        ensures { IfOk result (λ key. key ≡ ready_key_in (records_in self.now lent.now) process) }
     {
-        let turns = self.turns(process, shared)?;
+        let turns = self.turns(process, lent)?;
         Ok(self.delay.next_ready(process, &turns))
     }
 
     // The turns of a process, by group.
-    fn turns(&self, process: Proc, shared: &Shared) -> Result<Vec<(GroupNo, Turn)>, NoMemory>
-        ensures { IfOk result (λ turns. turns.items ≡ turns_in (records_in self.now shared.now no_outs) process) }
+    fn turns(&self, process: Proc, lent: &Lent<'_>) -> Result<Vec<(GroupNo, Turn)>, NoMemory>
+        ensures { IfOk result (λ turns. turns.items ≡ turns_in (records_in self.now lent.now) process) }
     {
         let alloc = *self.groups.allocator();
         let mut turns = Vec::new(alloc);
         for record in self.groups.as_slice() {
-            turns.push((record.name, self.turn(process, record, shared)))?;
+            turns.push((record.name, self.turn(process, record, lent)))?;
         }
         Ok(turns)
     }
 
     // The turn of a process in a group.
-    fn turn(&self, process: Proc, kept: &GroupRecord, shared: &Shared) -> Turn
-        ensures { result ≡ turn_at (records_in self.now shared.now no_outs) process kept.now }
+    fn turn(&self, process: Proc, kept: &GroupRecord, lent: &Lent<'_>) -> Turn
+        ensures { result ≡ turn_at (records_in self.now lent.now) process kept.now }
     {
         if kept.here.is_held_by(process) {
             let settled = self.settled(kept.name, kept.here.number, process);
             return Turn::Holding(
-                self.has_order_room(shared) && self.orders.has_room(kept.name, settled),
+                self.has_order_room(lent) && self.orders.has_room(kept.name, settled),
             );
         }
         let ids = self.orders.next(kept.name, process);
@@ -140,41 +140,30 @@ impl Domain {
     }
 
     // The holders at this site set orders, by group. Answers whether anything changed.
-    pub(crate) fn set_orders(
-        &mut self,
-        shared: &mut Shared,
-        outs: &mut Outs,
-    ) -> Result<bool, NoMemory>
-        ensures same { Keeps self.old self.new }
-        ensures others { LeavesOthers self.old.config.domain shared.old shared.new }
-        ensures made { OnOk result (records_in self.new shared.new outs.new ≡ set_orders records resting_records (records_in self.old shared.old outs.old)) }
-        ensures still { IfOk result (λ changed. changed ≡ false → records_in self.new shared.new outs.new ≡ records_in self.old shared.old outs.old) }
+    pub(crate) fn set_orders(&mut self, lent: &mut Lent<'_>) -> Result<bool, NoMemory>
+        ensures stays { KeepsBeside self.old lent.old self.new lent.new }
+        ensures made { OnOk result (records_in self.new lent.new ≡ set_orders records resting_records (records_in self.old lent.old)) }
+        ensures still { IfOk result (λ changed. changed ≡ false → records_in self.new lent.new ≡ records_in self.old lent.old) }
     {
         let mut changed = false;
         for place in 0..self.groups.len() {
-            let set = self.set_order(place, shared, outs)?;
+            let set = self.set_order(place, lent)?;
             changed = changed | set;
         }
         Ok(changed)
     }
 
     // The holder of the group at a place sets its order, where it is a process of this site.
-    fn set_order(
-        &mut self,
-        place: usize,
-        shared: &mut Shared,
-        outs: &mut Outs,
-    ) -> Result<bool, NoMemory>
-        ensures same { Keeps self.old self.new }
-        ensures others { LeavesOthers self.old.config.domain shared.old shared.new }
-        ensures made { OnOk result (records_in self.new shared.new outs.new ≡ set_order records resting_records (records_in self.old shared.old outs.old) place) }
-        ensures still { IfOk result (λ changed. changed ≡ false → records_in self.new shared.new outs.new ≡ records_in self.old shared.old outs.old) }
+    fn set_order(&mut self, place: usize, lent: &mut Lent<'_>) -> Result<bool, NoMemory>
+        ensures stays { KeepsBeside self.old lent.old self.new lent.new }
+        ensures made { OnOk result (records_in self.new lent.new ≡ set_order records resting_records (records_in self.old lent.old) place) }
+        ensures still { IfOk result (λ changed. changed ≡ false → records_in self.new lent.new ≡ records_in self.old lent.old) }
     {
         if place >= self.groups.len() {
             return Ok(false);
         }
         match self.record(place).here.holder_at(self.site) {
-            Some(holder) => self.set_order_by(place, holder.serial, shared, outs),
+            Some(holder) => self.set_order_by(place, holder.serial, lent),
             None => Ok(false),
         }
     }
@@ -184,18 +173,16 @@ impl Domain {
         &mut self,
         place: usize,
         serial: u32,
-        shared: &mut Shared,
-        outs: &mut Outs,
+        lent: &mut Lent<'_>,
     ) -> Result<bool, NoMemory>
         requires { place < vec_len self.old.groups }
-        ensures same { Keeps self.old self.new }
-        ensures others { LeavesOthers self.old.config.domain shared.old shared.new }
-        ensures made { OnOk result (records_in self.new shared.new outs.new ≡ set_order_by records resting_records (records_in self.old shared.old outs.old) place serial) }
-        ensures still { IfOk result (λ changed. changed ≡ false → records_in self.new shared.new outs.new ≡ records_in self.old shared.old outs.old) }
+        ensures stays { KeepsBeside self.old lent.old self.new lent.new }
+        ensures made { OnOk result (records_in self.new lent.new ≡ set_order_by records resting_records (records_in self.old lent.old) place serial) }
+        ensures still { IfOk result (λ changed. changed ≡ false → records_in self.new lent.new ≡ records_in self.old lent.old) }
     {
         let holder = self.process(serial);
         let group = self.record(place).name;
-        if !self.may_list(holder, group, shared) {
+        if !self.may_list(holder, group, lent) {
             return Ok(false);
         }
         let Some(places) = self.orders.assign(group)? else {
@@ -204,16 +191,16 @@ impl Domain {
         let Some((time, stamp)) = self.raised(holder, group)? else {
             return Ok(false);
         };
-        self.send_places(place, serial, time, stamp, places, shared, outs)?;
-        self.let_go(shared)?;
+        self.send_places(place, serial, time, stamp, places, lent)?;
+        self.let_go(lent)?;
         Ok(true)
     }
 
     // Whether the holder is a member, and there is room for one more set-order message.
-    fn may_list(&self, holder: Proc, group: GroupNo, shared: &Shared) -> bool
-        ensures { (o : Outs) → result ≡ (is_member (standing_of self.now.delay holder group) && may_order records (records_in self.now shared.now o)) }
+    fn may_list(&self, holder: Proc, group: GroupNo, lent: &Lent<'_>) -> bool
+        ensures { result ≡ (is_member (standing_of self.now.delay holder group) && may_order records (records_in self.now lent.now)) }
     {
-        is_member(self.delay.standing(holder, group)) && self.has_order_room(shared)
+        is_member(self.delay.standing(holder, group)) && self.has_order_room(lent)
     }
 
     // The holder of the group at a place lists ABCASTs in a set-order message.
@@ -224,15 +211,13 @@ impl Domain {
         time: Times,
         stamp: Stamp,
         places: Placement,
-        shared: &mut Shared,
-        outs: &mut Outs,
+        lent: &mut Lent<'_>,
     ) -> Result<(), NoMemory>
         requires placed { place < vec_len self.old.groups }
         requires raised { time ≡ raised_at (records_of self.old no_part no_outs) place serial }
         requires stamped { stamp ≡ time }
-        ensures same { Keeps self.old self.new }
-        ensures others { LeavesOthers self.old.config.domain shared.old shared.new }
-        ensures made { OnOk result (records_in self.new shared.new outs.new ≡ send_places records resting_records (records_in self.old shared.old outs.old) place serial places) }
+        ensures stays { KeepsBeside self.old lent.old self.new lent.new }
+        ensures made { OnOk result (records_in self.new lent.new ≡ send_places records resting_records (records_in self.old lent.old) place serial places) }
     {
         let holder = self.process(serial);
         let group = self.record(place).name;
@@ -251,7 +236,7 @@ impl Domain {
         let settled = self.settled(group, view, holder);
         self.orders.note(group, count, settled)?;
         self.tell(holder, Fact::Time(time))?;
-        self.send_message(message, shared, outs)?;
+        self.send_message(message, lent)?;
         Ok(())
     }
 }

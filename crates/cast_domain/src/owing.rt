@@ -4,13 +4,12 @@ ghost use Rattle.std.specs.List.{find};
 ghost use Rattle.cast_types.specs.Names.{uid_eq};
 ghost use Rattle.cast_message.specs.declared.site.SiteFrame.TheVariants as frame;
 ghost use Rattle.cast_model.specs.Group.{first_asking};
-ghost use Rattle.cast_history.specs.Rules.Keys.{ask_key, home_key, id_in, message_key};
+ghost use Rattle.cast_history.specs.Rules.Keys.{ask_key, home_key, id_in, message_key, want_key};
 ghost use Rattle.cast_history.specs.Rules.Owing.{ask_frame, install_frame, frame_for, frame_of_kind, owe, resend, resend_due, send_for, tick};
 
 use crate::domain::Domain;
-use crate::shared::Shared;
+use crate::lent::Lent;
 use cast_message::{Message, Received, SiteFrame};
-use cast_model::Outs;
 use cast_timer::{OwedKey, OwedKind, Side};
 use cast_types::{GroupNo, NoMemory, Proc, SiteNo, Uid};
 use cast_view::{HomeSide, Phase};
@@ -45,6 +44,21 @@ pub(crate) fn home_key(kind: OwedKind, group: GroupNo, to: SiteNo) -> OwedKey
         },
         count: 0,
         site: to,
+        side: Side::Home,
+    }
+}
+
+/// A message of a group, by its process and its count, which the home wants from a site.
+pub(crate) fn want_key(group: GroupNo, wanted: (SiteNo, (Proc, u32))) -> OwedKey
+    ensures { result ≡ want_key group wanted }
+{
+    let (site, (proc, count)) = wanted;
+    OwedKey {
+        kind: OwedKind::Want,
+        group,
+        proc,
+        count,
+        site,
         side: Side::Home,
     }
 }
@@ -96,8 +110,8 @@ fn id_in(view: u32, key: &OwedKey) -> Uid
     }
 }
 
-// The message of an id among kept ones.
-fn message_among(kept: &[Received], id: Uid) -> Option<&Message>
+/// The message of an id among kept ones.
+pub(crate) fn message_among(kept: &[Received], id: Uid) -> Option<&Message>
     ensures { option_copied result ≡ option_map (λ x. x.message) (find (λ x. uid_eq x.message.id id) kept.now) }
 {
     let received = kept.iter().find(|received| received.message.id == id)?;
@@ -105,35 +119,28 @@ fn message_among(kept: &[Received], id: Uid) -> Option<&Message>
 }
 
 impl Domain {
-    ghost use Rattle.cast_model.specs.declared.event.Outs.{Outs};
-    ghost use Rattle.cast_domain.specs.Records.{Keeps, records_in};
-    ghost use Rattle.cast_domain.specs.Shared.{LeavesOthers};
+    ghost use Rattle.cast_domain.specs.Records.{GivesBack, KeepsBeside, records_in};
     ghost use Rattle.cast_domain.specs.Calls.{message_in, pay_in, record_at, records};
 
     // Sends a frame, and owes it from then on, unless it is owed already.
-    pub(crate) fn owe(
-        &self,
-        key: OwedKey,
-        shared: &mut Shared,
-        outs: &mut Outs,
-    ) -> Result<(), NoMemory>
-        ensures others { LeavesOthers self.now.config.domain shared.old shared.new }
-        ensures made { OnOk result (records_in self.now shared.new outs.new ≡ owe records (records_in self.now shared.old outs.old) key) }
+    pub(crate) fn owe(&self, key: OwedKey, lent: &mut Lent<'_>) -> Result<(), NoMemory>
+        ensures back { GivesBack self.now.config.domain lent.old lent.new }
+        ensures made { OnOk result (records_in self.now lent.new ≡ owe records (records_in self.now lent.old) key) }
     {
-        if shared.timers.is_owed(self.config.domain, &key) {
+        if lent.shared.timers.is_owed(self.config.domain, &key) {
             return Ok(());
         }
-        self.send_for(&key, shared, outs)?;
-        shared.owe(self.config.domain, key, self.next_due())?;
+        self.send_for(&key, lent)?;
+        lent.shared.owe(self.config.domain, key, self.next_due())?;
         Ok(())
     }
 
     // Owes a frame no more.
-    pub(crate) fn pay(&self, key: &OwedKey, shared: &mut Shared)
-        ensures others { LeavesOthers self.now.config.domain shared.old shared.new }
-        ensures made { (o : Outs) → records_in self.now shared.new o ≡ pay_in (records_in self.now shared.old o) key.now }
+    pub(crate) fn pay(&self, key: &OwedKey, lent: &mut Lent<'_>)
+        ensures back { GivesBack self.now.config.domain lent.old lent.new }
+        ensures made { records_in self.now lent.new ≡ pay_in (records_in self.now lent.old) key.now }
     {
-        shared.pay(self.config.domain, key);
+        lent.shared.pay(self.config.domain, key);
     }
 
     // The moment at which what is sent now is due again.
@@ -144,26 +151,22 @@ impl Domain {
     }
 
     // Sends the frame that a key stands for, where there is one.
-    pub(crate) fn send_for(
-        &self,
-        key: &OwedKey,
-        shared: &Shared,
-        outs: &mut Outs,
-    ) -> Result<(), NoMemory>
-        ensures { OnOk result (records_in self.now shared.now outs.new ≡ send_for records (records_in self.now shared.now outs.old) key.now) }
+    pub(crate) fn send_for(&self, key: &OwedKey, lent: &mut Lent<'_>) -> Result<(), NoMemory>
+        ensures back { GivesBack self.now.config.domain lent.old lent.new }
+        ensures made { OnOk result (records_in self.now lent.new ≡ send_for records (records_in self.now lent.old) key.now) }
     {
-        match self.frame_for(key, shared)? {
-            Some(frame) => self.send(outs, key.site, frame),
+        match self.frame_for(key, lent)? {
+            Some(frame) => self.send(lent.outs, key.site, frame),
             None => Ok(()),
         }
     }
 
     // The frame that a key of a configured group stands for.
-    fn frame_for(&self, key: &OwedKey, shared: &Shared) -> Result<Option<SiteFrame>, NoMemory>
-        ensures { IfOk result (λ f. (o : Outs) → f ≡ frame_for records (records_in self.now shared.now o) key.now) }
+    fn frame_for(&self, key: &OwedKey, lent: &Lent<'_>) -> Result<Option<SiteFrame>, NoMemory>
+        ensures { IfOk result (λ f. f ≡ frame_for records (records_in self.now lent.now) key.now) }
     {
         match self.place_of(key.group) {
-            Some(place) => self.frame_at_key(place, key, shared),
+            Some(place) => self.frame_at_key(place, key, lent),
             None => Ok(None),
         }
     }
@@ -173,18 +176,18 @@ impl Domain {
         &self,
         place: usize,
         key: &OwedKey,
-        shared: &Shared,
+        lent: &Lent<'_>,
     ) -> Result<Option<SiteFrame>, NoMemory>
         requires { place < vec_len self.now.groups }
-        ensures { IfOk result (λ f. (o : Outs) → f ≡ frame_of_kind records (records_in self.now shared.now o) place key.now key.now.kind) }
+        ensures { IfOk result (λ f. f ≡ frame_of_kind records (records_in self.now lent.now) place key.now key.now.kind) }
     {
         match key.kind {
             OwedKind::Ask => Ok(self.ask_frame(place, key.group)),
-            OwedKind::Data => self.data_frame(id_in(self.record(place).here.number, key), shared),
+            OwedKind::Data => self.data_frame(id_in(self.record(place).here.number, key), lent),
             OwedKind::Ack => Ok(Some(SiteFrame::Ack(id_in(self.record(place).here.number, key)))),
             OwedKind::Prepare => Ok(Some(self.prepare_frame(place, key.group))),
             OwedKind::Install => install_frame(key.group, &self.record(place).home, key.site),
-            OwedKind::Want => Ok(None),
+            OwedKind::Want => Ok(Some(SiteFrame::Want(id_in(self.record(place).home.number(), key)))),
         }
     }
 
@@ -214,49 +217,43 @@ impl Domain {
     }
 
     // A kept message as it is sent.
-    fn data_frame(&self, id: Uid, shared: &Shared) -> Result<Option<SiteFrame>, NoMemory>
-        ensures { IfOk result (λ f. (o : Outs) → f ≡ option_map frame.Data (message_in (records_in self.now shared.now o) id)) }
+    fn data_frame(&self, id: Uid, lent: &Lent<'_>) -> Result<Option<SiteFrame>, NoMemory>
+        ensures { IfOk result (λ f. f ≡ option_map frame.Data (message_in (records_in self.now lent.now) id)) }
     {
-        match message_among(shared.store.kept(self.config.domain), id) {
+        match message_among(lent.shared.store.kept(self.config.domain), id) {
             Some(message) => Ok(Some(SiteFrame::Data(message.copy()?))),
             None => Ok(None),
         }
     }
 
     // Time passes: the moment is at least this one, and what is due is sent again.
-    pub(crate) fn tick(
-        &mut self,
-        millis: u64,
-        shared: &mut Shared,
-        outs: &mut Outs,
-    ) -> Result<(), NoMemory>
-        ensures same { Keeps self.old self.new }
-        ensures others { LeavesOthers self.old.config.domain shared.old shared.new }
-        ensures made { OnOk result (records_in self.new shared.new outs.new ≡ tick records (records_in self.old shared.old outs.old) millis) }
+    pub(crate) fn tick(&mut self, millis: u64, lent: &mut Lent<'_>) -> Result<(), NoMemory>
+        ensures stays { KeepsBeside self.old lent.old self.new lent.new }
+        ensures made { OnOk result (records_in self.new lent.new ≡ tick records (records_in self.old lent.old) millis) }
     {
         self.moment.reach(millis);
-        self.resend_due(shared, outs)
+        self.resend_due(lent)
     }
 
     // Sends all frames that are due again, in their order.
-    fn resend_due(&self, shared: &mut Shared, outs: &mut Outs) -> Result<(), NoMemory>
-        ensures others { LeavesOthers self.now.config.domain shared.old shared.new }
-        ensures made { OnOk result (records_in self.now shared.new outs.new ≡ resend_due records (records_in self.now shared.old outs.old)) }
+    fn resend_due(&self, lent: &mut Lent<'_>) -> Result<(), NoMemory>
+        ensures back { GivesBack self.now.config.domain lent.old lent.new }
+        ensures made { OnOk result (records_in self.now lent.new ≡ resend_due records (records_in self.now lent.old)) }
     {
         let now = self.moment.millis();
-        for key in shared.timers.due(self.config.domain, now)? {
-            self.resend(key, shared, outs)?;
+        for key in lent.shared.timers.due(self.config.domain, now)? {
+            self.resend(key, lent)?;
         }
         Ok(())
     }
 
     // Sends a frame that is due again.
-    fn resend(&self, key: OwedKey, shared: &mut Shared, outs: &mut Outs) -> Result<(), NoMemory>
-        ensures others { LeavesOthers self.now.config.domain shared.old shared.new }
-        ensures made { OnOk result (records_in self.now shared.new outs.new ≡ resend records (records_in self.now shared.old outs.old) key) }
+    fn resend(&self, key: OwedKey, lent: &mut Lent<'_>) -> Result<(), NoMemory>
+        ensures back { GivesBack self.now.config.domain lent.old lent.new }
+        ensures made { OnOk result (records_in self.now lent.new ≡ resend records (records_in self.now lent.old) key) }
     {
-        self.send_for(&key, shared, outs)?;
-        shared.renew(self.config.domain, key, self.next_due())?;
+        self.send_for(&key, lent)?;
+        lent.shared.renew(self.config.domain, key, self.next_due())?;
         Ok(())
     }
 }

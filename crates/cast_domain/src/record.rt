@@ -4,10 +4,11 @@ ghost use Rattle.cast_types.specs.Names.{group_eq};
 ghost use Rattle.cast_types.specs.Places.{update};
 ghost use Rattle.cast_model.specs.Group.{with_answer, with_request, with_view};
 ghost use Rattle.cast_view.specs.Home.{answer_to, may_decide};
-ghost use Rattle.cast_view.specs.Home.HomeMove.{Asked, Decided, Installed, Started};
+ghost use Rattle.cast_view.specs.Home.HomeMove.{Asked, Brought, Decided, Installed, Reported, Started};
 ghost use Rattle.cast_domain.specs.Calls.{moved_home, record_at};
 
-use cast_message::{Change, Members};
+use cast_flush::Report;
+use cast_message::{Change, Members, Message};
 use cast_model::Group;
 use cast_types::{GroupNo, NoMemory, Proc, SiteNo};
 use cast_view::HomeSide;
@@ -104,6 +105,38 @@ pub(crate) fn installed_at(groups: &mut Vec<GroupRecord>, place: usize, site: Si
 {
     let record = &mut groups[place];
     record.home.installed(site, number);
+}
+
+/// Takes in at the home of the group of a place what a site reports of a view.
+#[tactic(auto, using(cast_types::proofs::Updates::set_update))]
+pub(crate) fn report_at(
+    groups: &mut Vec<GroupRecord>,
+    place: usize,
+    site: SiteNo,
+    view: u32,
+    report: Report,
+) -> Result<(), NoMemory>
+    requires { place < vec_len groups.old }
+    ensures { OnOk result (groups.new.items ≡ update groups.old.items place (moved_home (Reported site view report))) }
+{
+    let record = &mut groups[place];
+    record.home.reply(site, view, report)?;
+    Ok(())
+}
+
+/// Takes in at the home of the group of a place a message that some sites lack.
+#[tactic(auto, using(cast_types::proofs::Updates::set_update))]
+pub(crate) fn body_at(
+    groups: &mut Vec<GroupRecord>,
+    place: usize,
+    message: Message,
+) -> Result<(), NoMemory>
+    requires { place < vec_len groups.old }
+    ensures { OnOk result (groups.new.items ≡ update groups.old.items place (moved_home (Brought message))) }
+{
+    let record = &mut groups[place];
+    record.home.body(message)?;
+    Ok(())
 }
 
 /// Starts a flush at the home of the group of a place, where one may start.

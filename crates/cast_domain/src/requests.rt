@@ -6,10 +6,10 @@ ghost use Rattle.cast_history.specs.Rules.Sending.{send_data, send_message};
 ghost use Rattle.cast_history.specs.Rules.Requests.{ask_home, request};
 
 use crate::domain::Domain;
+use crate::lent::Lent;
 use crate::order::learn;
 use crate::owing::{ask_key, message_key};
 use crate::record::ask_at;
-use crate::shared::Shared;
 use bytes::Bytes;
 use cast_clock::{ClockFault, Times};
 use cast_delay::Fact;
@@ -24,8 +24,8 @@ impl Domain {
     ghost use Rattle.cast_clock.specs.Times.{view_of};
     ghost use Rattle.cast_model.specs.declared.event.Outs.{Outs};
     ghost use Rattle.cast_history.specs.State.{was_given};
-    ghost use Rattle.cast_domain.specs.Records.{IsAttempt, Keeps, records_in, records_of};
-    ghost use Rattle.cast_domain.specs.Shared.{LeavesOthers, Part};
+    ghost use Rattle.cast_domain.specs.Records.{GivesBack, IsAttempt, KeepsBeside, records_in, records_of};
+    ghost use Rattle.cast_domain.specs.Shared.{Part};
     ghost use Rattle.cast_history.specs.Rules.Events.{opened};
     ghost use Rattle.cast_domain.specs.Calls.{raised_in, records, records_serials, receive_in, time_of};
 
@@ -53,19 +53,17 @@ impl Domain {
         &mut self,
         serial: u32,
         command: &Command,
-        shared: &mut Shared,
-        outs: &mut Outs,
+        lent: &mut Lent<'_>,
     ) -> Result<Taken, NoMemory>
         ensures answer { IfOk result (λ t. t ≡ (if was_given self.old.used serial then Taken.Nothing else Taken.Refused Refusal.NotOpen)) }
-        ensures same { Keeps self.old self.new }
-        ensures others { LeavesOthers self.old.config.domain shared.old shared.new }
-        ensures made { OnOk result (records_in self.new shared.new outs.new ≡ commanded records (records_in self.old shared.old outs.old) serial command.now) }
+        ensures stays { KeepsBeside self.old lent.old self.new lent.new }
+        ensures made { OnOk result (records_in self.new lent.new ≡ commanded records (records_in self.old lent.old) serial command.now) }
     {
         if serial == 0 || serial > self.used {
             return Ok(Taken::Refused(Refusal::NotOpen));
         }
         match command {
-            Command::Request(request) => self.request(serial, request, shared, outs)?,
+            Command::Request(request) => self.request(serial, request, lent)?,
             Command::Bad => {}
         }
         Ok(Taken::Nothing)
@@ -76,16 +74,14 @@ impl Domain {
         &mut self,
         serial: u32,
         request: &Request,
-        shared: &mut Shared,
-        outs: &mut Outs,
+        lent: &mut Lent<'_>,
     ) -> Result<(), NoMemory>
-        ensures same { Keeps self.old self.new }
-        ensures others { LeavesOthers self.old.config.domain shared.old shared.new }
-        ensures made { OnOk result (records_in self.new shared.new outs.new ≡ requested records (records_in self.old shared.old outs.old) serial request.now) }
+        ensures stays { KeepsBeside self.old lent.old self.new lent.new }
+        ensures made { OnOk result (records_in self.new lent.new ≡ requested records (records_in self.old lent.old) serial request.now) }
     {
         match request {
             Request::Join { tag, group } => {
-                let refusal = self.join(serial, *group, shared, outs)?;
+                let refusal = self.join(serial, *group, lent)?;
                 self.push(serial, Push::Reply { tag: *tag, refusal })
             }
             Request::Cast {
@@ -94,7 +90,7 @@ impl Domain {
                 kind,
                 payload,
             } => {
-                let refusal = self.cast(serial, *group, *kind, payload, shared, outs)?;
+                let refusal = self.cast(serial, *group, *kind, payload, lent)?;
                 self.push(serial, Push::Reply { tag: *tag, refusal })
             }
             Request::Leave { .. } => Ok(()),
@@ -106,15 +102,13 @@ impl Domain {
         &mut self,
         serial: u32,
         group: GroupNo,
-        shared: &mut Shared,
-        outs: &mut Outs,
+        lent: &mut Lent<'_>,
     ) -> Result<Option<Refusal>, NoMemory>
-        ensures same { Keeps self.old self.new }
-        ensures others { LeavesOthers self.old.config.domain shared.old shared.new }
-        ensures made { IfOk result (λ refusal. (records_in self.new shared.new outs.new, refusal) ≡ join records (records_in self.old shared.old outs.old) serial group) }
+        ensures stays { KeepsBeside self.old lent.old self.new lent.new }
+        ensures made { IfOk result (λ refusal. (records_in self.new lent.new, refusal) ≡ join records (records_in self.old lent.old) serial group) }
     {
         match self.place_of(group) {
-            Some(place) => self.join_at(place, serial, group, shared, outs),
+            Some(place) => self.join_at(place, serial, group, lent),
             None => Ok(Some(Refusal::NoGroup)),
         }
     }
@@ -125,13 +119,11 @@ impl Domain {
         place: usize,
         serial: u32,
         group: GroupNo,
-        shared: &mut Shared,
-        outs: &mut Outs,
+        lent: &mut Lent<'_>,
     ) -> Result<Option<Refusal>, NoMemory>
         requires { place < vec_len self.old.groups }
-        ensures same { Keeps self.old self.new }
-        ensures others { LeavesOthers self.old.config.domain shared.old shared.new }
-        ensures made { IfOk result (IsAttempt (records_in self.new shared.new outs.new) (join_at records (records_in self.old shared.old outs.old) serial group place)) }
+        ensures stays { KeepsBeside self.old lent.old self.new lent.new }
+        ensures made { IfOk result (IsAttempt (records_in self.new lent.new) (join_at records (records_in self.old lent.old) serial group place)) }
     {
         let process = self.process(serial);
         match self.delay.standing(process, group) {
@@ -149,7 +141,7 @@ impl Domain {
             heard: self.heard(process, group),
         };
         self.tell(process, Fact::Standing(group, standing))?;
-        self.ask(place, Change::Join, process, shared, outs)?;
+        self.ask(place, Change::Join, process, lent)?;
         Ok(None)
     }
 
@@ -169,39 +161,32 @@ impl Domain {
         place: usize,
         change: Change,
         process: Proc,
-        shared: &mut Shared,
-        outs: &mut Outs,
+        lent: &mut Lent<'_>,
     ) -> Result<(), NoMemory>
         requires placed { place < vec_len self.old.groups }
         requires numbered { (record_at self.old.groups.items place).here.asked < 4294967295 }
-        ensures same { Keeps self.old self.new }
-        ensures others { LeavesOthers self.old.config.domain shared.old shared.new }
-        ensures made { OnOk result (records_in self.new shared.new outs.new ≡ request records (records_in self.old shared.old outs.old) place change process) }
+        ensures stays { KeepsBeside self.old lent.old self.new lent.new }
+        ensures made { OnOk result (records_in self.new lent.new ≡ request records (records_in self.old lent.old) place change process) }
     {
         let is_first = self.record(place).here.requests.is_empty();
         ask_at(&mut self.groups, place, change, process)?;
         if is_first {
-            return self.ask_home(place, shared, outs);
+            return self.ask_home(place, lent);
         }
         Ok(())
     }
 
     // The first request of the group at a place, where there is one, is owed to the home.
-    pub(crate) fn ask_home(
-        &self,
-        place: usize,
-        shared: &mut Shared,
-        outs: &mut Outs,
-    ) -> Result<(), NoMemory>
+    pub(crate) fn ask_home(&self, place: usize, lent: &mut Lent<'_>) -> Result<(), NoMemory>
         requires { place < vec_len self.now.groups }
-        ensures others { LeavesOthers self.now.config.domain shared.old shared.new }
-        ensures made { OnOk result (records_in self.now shared.new outs.new ≡ ask_home records (records_in self.now shared.old outs.old) place) }
+        ensures back { GivesBack self.now.config.domain lent.old lent.new }
+        ensures made { OnOk result (records_in self.now lent.new ≡ ask_home records (records_in self.now lent.old) place) }
     {
         let record = self.record(place);
         if record.here.requests.is_empty() {
             return Ok(());
         }
-        self.owe(ask_key(record.name, self.config.home), shared, outs)
+        self.owe(ask_key(record.name, self.config.home), lent)
     }
 
     // Casts for a process, or says why not.
@@ -211,15 +196,13 @@ impl Domain {
         group: GroupNo,
         kind: CastKind,
         payload: &Bytes,
-        shared: &mut Shared,
-        outs: &mut Outs,
+        lent: &mut Lent<'_>,
     ) -> Result<Option<Refusal>, NoMemory>
-        ensures same { Keeps self.old self.new }
-        ensures others { LeavesOthers self.old.config.domain shared.old shared.new }
-        ensures made { IfOk result (IsAttempt (records_in self.new shared.new outs.new) (cast records (records_in self.old shared.old outs.old) serial group kind payload.now)) }
+        ensures stays { KeepsBeside self.old lent.old self.new lent.new }
+        ensures made { IfOk result (IsAttempt (records_in self.new lent.new) (cast records (records_in self.old lent.old) serial group kind payload.now)) }
     {
         match self.place_of(group) {
-            Some(place) => self.cast_at(place, serial, group, kind, payload, shared, outs),
+            Some(place) => self.cast_at(place, serial, group, kind, payload, lent),
             None => Ok(Some(Refusal::NoGroup)),
         }
     }
@@ -232,13 +215,11 @@ impl Domain {
         group: GroupNo,
         kind: CastKind,
         payload: &Bytes,
-        shared: &mut Shared,
-        outs: &mut Outs,
+        lent: &mut Lent<'_>,
     ) -> Result<Option<Refusal>, NoMemory>
         requires { at < vec_len self.old.groups }
-        ensures same { Keeps self.old self.new }
-        ensures others { LeavesOthers self.old.config.domain shared.old shared.new }
-        ensures made { IfOk result (IsAttempt (records_in self.new shared.new outs.new) (cast_at records (records_in self.old shared.old outs.old) serial group kind payload.now at)) }
+        ensures stays { KeepsBeside self.old lent.old self.new lent.new }
+        ensures made { IfOk result (IsAttempt (records_in self.new lent.new) (cast_at records (records_in self.old lent.old) serial group kind payload.now at)) }
     {
         let process = self.process(serial);
         if payload.len() > MAX_PAYLOAD {
@@ -250,10 +231,10 @@ impl Domain {
                 return Ok(Some(Refusal::NotMember));
             }
         }
-        if self.awaits_own(process, shared) {
+        if self.awaits_own(process, lent) {
             return Ok(Some(Refusal::OwnAbcast));
         }
-        if !self.has_room(shared) {
+        if !self.has_room(lent) {
             return Ok(Some(Refusal::HeldFull));
         }
         let Some((time, stamp)) = self.raised(process, group)? else {
@@ -271,7 +252,7 @@ impl Domain {
             body: body_of(kind, content),
         };
         self.tell(process, Fact::Time(time))?;
-        self.send_message(message, shared, outs)?;
+        self.send_message(message, lent)?;
         Ok(None)
     }
 
@@ -306,65 +287,50 @@ impl Domain {
     pub(crate) fn send_message(
         &mut self,
         message: Message,
-        shared: &mut Shared,
-        outs: &mut Outs,
+        lent: &mut Lent<'_>,
     ) -> Result<(), NoMemory>
-        ensures same { Keeps self.old self.new }
-        ensures others { LeavesOthers self.old.config.domain shared.old shared.new }
-        ensures made { OnOk result (records_in self.new shared.new outs.new ≡ send_message records (records_in self.old shared.old outs.old) message) }
+        ensures stays { KeepsBeside self.old lent.old self.new lent.new }
+        ensures made { OnOk result (records_in self.new lent.new ≡ send_message records (records_in self.old lent.old) message) }
     {
         let id = message.id;
-        self.receive(message, shared)?;
-        self.send_data(id, self.acks.others(id.group), shared, outs)?;
+        self.receive(message, lent)?;
+        self.send_data(id, self.acks.others(id.group), lent)?;
         Ok(())
     }
 
     // Sends an own message to sites.
-    fn send_data(
-        &self,
-        id: Uid,
-        sites: &[SiteNo],
-        shared: &mut Shared,
-        outs: &mut Outs,
-    ) -> Result<(), NoMemory>
-        ensures others { LeavesOthers self.now.config.domain shared.old shared.new }
-        ensures made { OnOk result (records_in self.now shared.new outs.new ≡ fold (send_data records id) (records_in self.now shared.old outs.old) sites.now) }
+    fn send_data(&self, id: Uid, sites: &[SiteNo], lent: &mut Lent<'_>) -> Result<(), NoMemory>
+        ensures back { GivesBack self.now.config.domain lent.old lent.new }
+        ensures made { OnOk result (records_in self.now lent.new ≡ fold (send_data records id) (records_in self.now lent.old) sites.now) }
     {
         for site in sites {
-            self.send_data_to(id, *site, shared, outs)?;
+            self.send_data_to(id, *site, lent)?;
         }
         Ok(())
     }
 
     // Sends an own message to a site, and owes it until that has acknowledged it, as it may have done before.
-    fn send_data_to(
-        &self,
-        id: Uid,
-        to: SiteNo,
-        shared: &mut Shared,
-        outs: &mut Outs,
-    ) -> Result<(), NoMemory>
-        ensures others { LeavesOthers self.now.config.domain shared.old shared.new }
-        ensures made { OnOk result (records_in self.now shared.new outs.new ≡ send_data records id (records_in self.now shared.old outs.old) to) }
+    fn send_data_to(&self, id: Uid, to: SiteNo, lent: &mut Lent<'_>) -> Result<(), NoMemory>
+        ensures back { GivesBack self.now.config.domain lent.old lent.new }
+        ensures made { OnOk result (records_in self.now lent.new ≡ send_data records id (records_in self.now lent.old) to) }
     {
         let key = message_key(OwedKind::Data, id, to);
         if self.acks.has_acked(to, id) {
-            return self.send_for(&key, shared, outs);
+            return self.send_for(&key, lent);
         }
-        self.owe(key, shared, outs)
+        self.owe(key, lent)
     }
 
     // Receives a message: it is the last one in order of receipt.
-    pub(crate) fn receive(&mut self, message: Message, shared: &mut Shared) -> Result<(), NoMemory>
-        ensures same { Keeps self.old self.new }
-        ensures others { LeavesOthers self.old.config.domain shared.old shared.new }
-        ensures made { OnOk result ((o : Outs) → records_in self.new shared.new o ≡ receive_in (records_in self.old shared.old o) message) }
+    pub(crate) fn receive(&mut self, message: Message, lent: &mut Lent<'_>) -> Result<(), NoMemory>
+        ensures stays { KeepsBeside self.old lent.old self.new lent.new }
+        ensures made { OnOk result (records_in self.new lent.new ≡ receive_in (records_in self.old lent.old) message) }
     {
-        let key = shared.store.next_key(self.config.domain);
+        let key = lent.shared.store.next_key(self.config.domain);
         self.delay.offer(key, &message)?;
         self.acks.receive(message.id)?;
         learn(&mut self.orders, &message)?;
-        shared.put(self.config.domain, message)?;
+        lent.shared.put(self.config.domain, message)?;
         Ok(())
     }
 }

@@ -3,26 +3,25 @@ ghost use Rattle.std.specs.List.{fold};
 ghost use Rattle.cast_history.specs.Rules.Rest.{told_of, tell, deliver_first, deliver_all, settle, pass};
 
 use crate::domain::Domain;
-use crate::shared::Shared;
+use crate::lent::Lent;
 use cast_message::{Body, CastKind, Message, Push};
 use cast_model::Outs;
 use cast_types::{Key, NoMemory, Proc, Uid};
 use std::alloc::AllocError;
 
 impl Domain {
-    ghost use Rattle.cast_domain.specs.Records.{Keeps, records_in, records_of};
-    ghost use Rattle.cast_domain.specs.Shared.{LeavesOthers, Part};
+    ghost use Rattle.cast_domain.specs.Records.{Keeps, KeepsBeside, records_in, records_of};
+    ghost use Rattle.cast_domain.specs.Shared.{Part};
     ghost use Rattle.cast_domain.specs.Stepped.{IsRested};
     ghost use Rattle.cast_domain.specs.Calls.{deliver_under, note_if_in, record_at, records, resting_records, take_delivery_in};
 
     // What follows from an event, until nothing changes. No run makes 2^64 passes.
-    pub(crate) fn rest(&mut self, shared: &mut Shared, outs: &mut Outs) -> Result<(), NoMemory>
-        ensures same { Keeps self.old self.new }
-        ensures others { LeavesOthers self.old.config.domain shared.old shared.new }
-        ensures rests { OnOk result (IsRested (records_in self.old shared.old outs.old) (records_in self.new shared.new outs.new)) }
+    pub(crate) fn rest(&mut self, lent: &mut Lent<'_>) -> Result<(), NoMemory>
+        ensures stays { KeepsBeside self.old lent.old self.new lent.new }
+        ensures rests { OnOk result (IsRested (records_in self.old lent.old) (records_in self.new lent.new)) }
     {
         for _turn in 0..u64::MAX {
-            if !self.pass(shared, outs)? {
+            if !self.pass(lent)? {
                 return Ok(());
             }
         }
@@ -30,48 +29,40 @@ impl Domain {
     }
 
     // Deliveries by serial; then by group set-order messages; then by group the home. Answers whether anything changed.
-    fn pass(&mut self, shared: &mut Shared, outs: &mut Outs) -> Result<bool, NoMemory>
-        ensures same { Keeps self.old self.new }
-        ensures others { LeavesOthers self.old.config.domain shared.old shared.new }
-        ensures made { OnOk result (records_in self.new shared.new outs.new ≡ pass records resting_records (records_in self.old shared.old outs.old)) }
-        ensures still { IfOk result (λ changed. changed ≡ false → records_in self.new shared.new outs.new ≡ records_in self.old shared.old outs.old) }
+    fn pass(&mut self, lent: &mut Lent<'_>) -> Result<bool, NoMemory>
+        ensures stays { KeepsBeside self.old lent.old self.new lent.new }
+        ensures made { OnOk result (records_in self.new lent.new ≡ pass records resting_records (records_in self.old lent.old)) }
+        ensures still { IfOk result (λ changed. changed ≡ false → records_in self.new lent.new ≡ records_in self.old lent.old) }
     {
-        let settled = self.settle(shared, outs)?;
-        let ordered = self.set_orders(shared, outs)?;
-        let led = self.lead(shared, outs)?;
+        let settled = self.settle(lent)?;
+        let ordered = self.set_orders(lent)?;
+        let led = self.lead(lent)?;
         Ok(settled | ordered | led)
     }
 
     // Each process delivers until nothing is ready for it.
-    fn settle(&mut self, shared: &mut Shared, outs: &mut Outs) -> Result<bool, NoMemory>
-        ensures same { Keeps self.old self.new }
-        ensures others { LeavesOthers self.old.config.domain shared.old shared.new }
-        ensures made { OnOk result (records_in self.new shared.new outs.new ≡ settle records resting_records (records_in self.old shared.old outs.old)) }
-        ensures still { IfOk result (λ changed. changed ≡ false → records_in self.new shared.new outs.new ≡ records_in self.old shared.old outs.old) }
+    fn settle(&mut self, lent: &mut Lent<'_>) -> Result<bool, NoMemory>
+        ensures stays { KeepsBeside self.old lent.old self.new lent.new }
+        ensures made { OnOk result (records_in self.new lent.new ≡ settle records resting_records (records_in self.old lent.old)) }
+        ensures still { IfOk result (λ changed. changed ≡ false → records_in self.new lent.new ≡ records_in self.old lent.old) }
     {
         let mut changed = false;
         for earlier in 0..self.used {
-            let delivered = self.deliver_all(earlier + 1, shared, outs)?;
+            let delivered = self.deliver_all(earlier + 1, lent)?;
             changed = changed | delivered;
         }
         Ok(changed)
     }
 
     // A process delivers until nothing is ready for it. It delivers no message twice.
-    fn deliver_all(
-        &mut self,
-        serial: u32,
-        shared: &mut Shared,
-        outs: &mut Outs,
-    ) -> Result<bool, NoMemory>
-        ensures same { Keeps self.old self.new }
-        ensures others { LeavesOthers self.old.config.domain shared.old shared.new }
-        ensures made { OnOk result (records_in self.new shared.new outs.new ≡ deliver_all records resting_records (records_in self.old shared.old outs.old) serial) }
-        ensures still { IfOk result (λ changed. changed ≡ false → records_in self.new shared.new outs.new ≡ records_in self.old shared.old outs.old) }
+    fn deliver_all(&mut self, serial: u32, lent: &mut Lent<'_>) -> Result<bool, NoMemory>
+        ensures stays { KeepsBeside self.old lent.old self.new lent.new }
+        ensures made { OnOk result (records_in self.new lent.new ≡ deliver_all records resting_records (records_in self.old lent.old) serial) }
+        ensures still { IfOk result (λ changed. changed ≡ false → records_in self.new lent.new ≡ records_in self.old lent.old) }
     {
         let mut changed = false;
-        for _turn in 0..self.held(shared) {
-            if !self.deliver_first(serial, shared, outs)? {
+        for _turn in 0..self.held(lent) {
+            if !self.deliver_first(serial, lent)? {
                 return Ok(changed);
             }
             changed = true;
@@ -80,26 +71,20 @@ impl Domain {
     }
 
     // A process delivers the first message that is ready for it, and what is free then is let go. Answers whether there was one.
-    fn deliver_first(
-        &mut self,
-        serial: u32,
-        shared: &mut Shared,
-        outs: &mut Outs,
-    ) -> Result<bool, NoMemory>
-        ensures same { Keeps self.old self.new }
-        ensures others { LeavesOthers self.old.config.domain shared.old shared.new }
-        ensures made { OnOk result (records_in self.new shared.new outs.new ≡ deliver_first records resting_records serial (records_in self.old shared.old outs.old)) }
-        ensures still { IfOk result (λ delivered. delivered ≡ false → records_in self.new shared.new outs.new ≡ records_in self.old shared.old outs.old) }
+    fn deliver_first(&mut self, serial: u32, lent: &mut Lent<'_>) -> Result<bool, NoMemory>
+        ensures stays { KeepsBeside self.old lent.old self.new lent.new }
+        ensures made { OnOk result (records_in self.new lent.new ≡ deliver_first records resting_records serial (records_in self.old lent.old)) }
+        ensures still { IfOk result (λ delivered. delivered ≡ false → records_in self.new lent.new ≡ records_in self.old lent.old) }
     {
         let process = self.process(serial);
-        let Some(key) = self.next_ready(process, shared)? else {
+        let Some(key) = self.next_ready(process, lent)? else {
             return Ok(false);
         };
-        let Some(message) = shared.store.get(self.config.domain, key) else {
+        let Some(message) = lent.shared.store.get(self.config.domain, key) else {
             return Ok(false);
         };
-        self.deliver(process, key, message, outs)?;
-        self.let_go(shared)?;
+        self.deliver(process, key, message, lent.outs)?;
+        self.let_go(lent)?;
         Ok(true)
     }
 

@@ -3,8 +3,8 @@ ghost use Rattle.std.specs.List.{fold};
 ghost use Rattle.cast_history.specs.Rules.Data.{acknowledge};
 
 use crate::domain::Domain;
+use crate::lent::Lent;
 use crate::owing::message_key;
-use crate::shared::Shared;
 use cast_message::{Received, SiteFrame};
 use cast_model::Outs;
 use cast_model::sites::is_among;
@@ -16,8 +16,8 @@ impl Domain {
     ghost use Rattle.cast_model.specs.Outs.{no_outs};
     ghost use Rattle.cast_history.specs.Rules.Release.{is_free, let_go};
     ghost use Rattle.cast_history.specs.Rules.Stability.{is_used_ack, on_ack, on_stable, tell_more, tell_stable, with_ack};
-    ghost use Rattle.cast_domain.specs.Records.{Keeps, records_in, records_of};
-    ghost use Rattle.cast_domain.specs.Shared.{LeavesOthers, Part, no_part};
+    ghost use Rattle.cast_domain.specs.Records.{GivesBack, Keeps, KeepsBeside, records_in, records_of};
+    ghost use Rattle.cast_domain.specs.Shared.{Part, no_part};
     ghost use Rattle.cast_domain.specs.Calls.{is_current_in, records, resting_records, release_in};
 
     // Acknowledges a received message: its site is owed that until it tells that the message is stable.
@@ -25,16 +25,15 @@ impl Domain {
         &self,
         to: SiteNo,
         id: Uid,
-        shared: &mut Shared,
-        outs: &mut Outs,
+        lent: &mut Lent<'_>,
     ) -> Result<(), NoMemory>
-        ensures others { LeavesOthers self.now.config.domain shared.old shared.new }
-        ensures made { OnOk result (records_in self.now shared.new outs.new ≡ acknowledge records (records_in self.now shared.old outs.old) to id) }
+        ensures back { GivesBack self.now.config.domain lent.old lent.new }
+        ensures made { OnOk result (records_in self.now lent.new ≡ acknowledge records (records_in self.now lent.old) to id) }
     {
         if self.acks.is_stable(id) {
-            return self.send(outs, to, SiteFrame::Ack(id));
+            return self.send(lent.outs, to, SiteFrame::Ack(id));
         }
-        self.owe(message_key(OwedKind::Ack, id, to), shared, outs)
+        self.owe(message_key(OwedKind::Ack, id, to), lent)
     }
 
     // Ack: another site of the view has an own message, and is owed it no more. Where more messages are stable now, all
@@ -44,23 +43,21 @@ impl Domain {
         place: usize,
         from: SiteNo,
         id: Uid,
-        shared: &mut Shared,
-        outs: &mut Outs,
+        lent: &mut Lent<'_>,
     ) -> Result<(), NoMemory>
         requires { place < vec_len self.old.groups }
-        ensures same { Keeps self.old self.new }
-        ensures others { LeavesOthers self.old.config.domain shared.old shared.new }
-        ensures made { OnOk result (records_in self.new shared.new outs.new ≡ on_ack records (records_in self.old shared.old outs.old) place from id) }
+        ensures stays { KeepsBeside self.old lent.old self.new lent.new }
+        ensures made { OnOk result (records_in self.new lent.new ≡ on_ack records (records_in self.old lent.old) place from id) }
     {
         if !self.is_used_ack(place, from, id) {
             return Ok(());
         }
         let before = self.acks.stable_upto(id);
-        self.take_ack(from, id, shared)?;
+        self.take_ack(from, id, lent)?;
         if id.count <= before {
-            return self.tell_stable(id, before, from, outs);
+            return self.tell_stable(id, before, from, lent.outs);
         }
-        self.tell_more(id, before, outs)
+        self.tell_more(id, before, lent.outs)
     }
 
     // Whether an acknowledgement is of a message of the current view of a local process, and from another site of it.
@@ -75,12 +72,11 @@ impl Domain {
     }
 
     // Takes in that a site has an own message.
-    fn take_ack(&mut self, from: SiteNo, id: Uid, shared: &mut Shared) -> Result<(), NoMemory>
-        ensures same { Keeps self.old self.new }
-        ensures others { LeavesOthers self.old.config.domain shared.old shared.new }
-        ensures made { OnOk result ((o : Outs) → records_in self.new shared.new o ≡ with_ack records (records_in self.old shared.old o) from id) }
+    fn take_ack(&mut self, from: SiteNo, id: Uid, lent: &mut Lent<'_>) -> Result<(), NoMemory>
+        ensures stays { KeepsBeside self.old lent.old self.new lent.new }
+        ensures made { OnOk result (records_in self.new lent.new ≡ with_ack records (records_in self.old lent.old) from id) }
     {
-        self.pay(&message_key(OwedKind::Data, id, from), shared);
+        self.pay(&message_key(OwedKind::Data, id, from), lent);
         self.acks.ack(from, id)?;
         Ok(())
     }
@@ -125,30 +121,28 @@ impl Domain {
         place: usize,
         from: SiteNo,
         id: Uid,
-        shared: &mut Shared,
+        lent: &mut Lent<'_>,
     ) -> Result<(), NoMemory>
         requires { place < vec_len self.old.groups }
-        ensures same { Keeps self.old self.new }
-        ensures others { LeavesOthers self.old.config.domain shared.old shared.new }
-        ensures made { OnOk result ((o : Outs) → records_in self.new shared.new o ≡ on_stable records (records_in self.old shared.old o) place from id) }
+        ensures stays { KeepsBeside self.old lent.old self.new lent.new }
+        ensures made { OnOk result (records_in self.new lent.new ≡ on_stable records (records_in self.old lent.old) place from id) }
     {
         if self.record(place).here.is_current(id.view) && id.proc.site == from {
             let key = message_key(OwedKind::Ack, id, from);
-            shared.pay_upto(self.config.domain, &key);
+            lent.shared.pay_upto(self.config.domain, &key);
             self.acks.learn_stable(id)?;
         }
         Ok(())
     }
 
     // Lets go of all free messages.
-    pub(crate) fn let_go(&mut self, shared: &mut Shared) -> Result<(), NoMemory>
-        ensures same { Keeps self.old self.new }
-        ensures others { LeavesOthers self.old.config.domain shared.old shared.new }
-        ensures made { OnOk result ((o : Outs) → records_in self.new shared.new o ≡ let_go records resting_records (records_in self.old shared.old o)) }
+    pub(crate) fn let_go(&mut self, lent: &mut Lent<'_>) -> Result<(), NoMemory>
+        ensures stays { KeepsBeside self.old lent.old self.new lent.new }
+        ensures made { OnOk result (records_in self.new lent.new ≡ let_go records resting_records (records_in self.old lent.old)) }
     {
-        let free = self.free_keys(shared.store.kept(self.config.domain))?;
+        let free = self.free_keys(lent.shared.store.kept(self.config.domain))?;
         for key in free.as_slice() {
-            self.release(*key, shared);
+            self.release(*key, lent);
         }
         Ok(())
     }
@@ -182,12 +176,11 @@ impl Domain {
     }
 
     // Keeps the message under a key no longer.
-    fn release(&mut self, key: Key, shared: &mut Shared)
-        ensures same { Keeps self.old self.new }
-        ensures others { LeavesOthers self.old.config.domain shared.old shared.new }
-        ensures made { (o : Outs) → records_in self.new shared.new o ≡ release_in (records_in self.old shared.old o) key }
+    fn release(&mut self, key: Key, lent: &mut Lent<'_>)
+        ensures stays { KeepsBeside self.old lent.old self.new lent.new }
+        ensures made { records_in self.new lent.new ≡ release_in (records_in self.old lent.old) key }
     {
-        shared.remove(self.config.domain, key);
+        lent.shared.remove(self.config.domain, key);
         self.delay.forget(key);
     }
 }

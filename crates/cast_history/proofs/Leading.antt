@@ -1,7 +1,5 @@
 -- A home takes requests, ends views by a flush, and decides the next ones: what it sends.
-use Rattle.std.specs.Prelude.{◌≡◌, ℕ, Bool, true, false, List, [], ◌∷◌, refl}
-use Rattle.cast_types.specs.declared.names.SiteNo.{SiteNo}
-use Rattle.cast_types.specs.declared.names.Proc.{Proc}
+use Rattle.std.specs.Prelude.{◌≡◌, ℕ, Bool, false, List, [], ◌∷◌, refl}
 use Rattle.cast_types.specs.Names.{Entry}
 use Rattle.cast_message.specs.declared.site.Change.TheVariants as change
 use Rattle.cast_message.specs.declared.site.SiteFrame.{SiteFrame}
@@ -11,7 +9,7 @@ use Rattle.cast_view.specs.declared.phase.Phase.TheVariants.{Idle, Gathering}
 use Rattle.cast_view.specs.Home.{Home}
 use Rattle.cast_history.specs.State.{opening}
 use Rattle.cast_history.specs.Run.{Ran, run_of, run_in}
-use Rattle.cast_history.proofs.Words.{site, group, proc, uid, alone, members, config, comes, install, p11, p21}
+use Rattle.cast_history.proofs.Words.{site, group, uid, alone, members, config, comes, install, p11, p21}
 
 -- a report: how many messages of each process the site has had, and which it keeps, marked where it knows no place for an ABCAST
 flushed : ℕ → List Entry → List (Entry × Bool) → SiteFrame

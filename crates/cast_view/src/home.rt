@@ -288,13 +288,20 @@ impl HomeSide {
         Ok(true)
     }
 
+    /// Whether a report of a site counts: it is the first one of this view, and the site is awaited. Takes no memory.
+    pub fn takes_report(&self, site: SiteNo, view: u32) -> bool
+        ensures { result ≡ takes_report self.now site view }
+    {
+        view == self.number && self.phase.awaits_report(site)
+    }
+
     /// Takes in what a site reports of a view, and answers whether it counts: it is the first report of this view from a
     /// site that is awaited.
     pub fn reply(&mut self, site: SiteNo, view: u32, report: Report) -> Result<bool, NoMemory>
         ensures value { IfOk result (λ taken. taken ≡ takes_report self.old site view) }
         ensures new { OnOk result (self.new ≡ after_reply self.old site view report) }
     {
-        if view != self.number || !self.phase.awaits_report(site) {
+        if !self.takes_report(site, view) {
             return Ok(false);
         }
         let phase = mem::replace(&mut self.phase, Phase::Idle);

@@ -1,6 +1,6 @@
 -- The rules of the home: it asks what the sites of a view have of it, fetches what some of them lack, decides the next view, and has it
 -- installed.
-use Rattle.std.specs.Prelude.{ℕ, not, ◌&&◌, ◌==◌, if◌then◌else◌, List, Option, Some, None}
+use Rattle.std.specs.Prelude.{ℕ, Bool, not, ◌&&◌, ◌==◌, if◌then◌else◌, List, Option, Some, None}
 use Rattle.std.specs.List.{fold, find}
 use Rattle.std.specs.Option.{option_or, option_map_or}
 use Rattle.cast_types.specs.declared.names.SiteNo.{SiteNo}
@@ -72,14 +72,16 @@ module _ {S H : Type 0} (d : Site S H) where
       then d.move_home (d.pay s (home_key Prepare (d.name s h) from)) h (Reported from view report)
       else s
 
-  -- a message that the home wants, of the view that it flushes: it is wanted no more
+  -- a message of the view that the home decided last, and well formed in it
+  abbrev pub is_of_home : S → H → Message → Bool
+  is_of_home s h m = (m.id.view == (d.home s h).number) && is_well_formed d s (d.home s h).members.list m
+
+  -- one that the home wants comes, and is wanted no more
   abbrev pub on_forward : S → H → Message → S
   on_forward s h m =
       elim (find (λ w. entry_eq w.1 (entry_of m.id)) (wants s h)) [
         | Some w ↦
-            (if (m.id.view == (d.home s h).number) && is_well_formed d s (d.home s h).members.list m
-            then d.move_home (d.pay s (want_key (d.name s h) w)) h (Brought m)
-            else s)
+            (if is_of_home s h m then d.move_home (d.pay s (want_key (d.name s h) w)) h (Brought m) else s)
         | None ↦ s
       ]
 

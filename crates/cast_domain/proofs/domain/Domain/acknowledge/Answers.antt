@@ -12,7 +12,7 @@ use Rattle.cast_domain.proofs.domain.Domain.acknowledge.Goals as goal
 
 pub returns-then-is_stable-clause-made : goal.returns-then-is_stable-clause-made
 returns-then-is_stable-clause-made c =
-    let r = records_in c.args.self.now c.args.shared.now c.args.outs.now in
+    let r = records_in c.args.self.now c.args.lent.now in
     let u = c.args.id in
     let to = c.args.to in
     let stable : is_stable_in r.acks u ≡ true = sym c.is_stable.ensures.value ∙ c.if-is_stable.true in

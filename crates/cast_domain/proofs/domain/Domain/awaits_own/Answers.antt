@@ -7,6 +7,6 @@ use Rattle.cast_domain.specs.Calls.{is_own_in}
 use Rattle.cast_domain.proofs.domain.Domain.awaits_own.Goals as goal
 
 pub returns : goal.returns
-returns c o =
+returns c =
     let r = records_of c.args.self.now no_part no_outs in
     c.is_own_among.ensures ∙ ap (list_any (λ x. is_own_in r c.args.process x.message)) c.kept.ensures.value

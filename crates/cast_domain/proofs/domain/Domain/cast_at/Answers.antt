@@ -16,25 +16,25 @@ use Rattle.cast_domain.proofs.domain.Domain.cast_at.Goals as goal
 
 pub returns-then-not-has_room-clause-made : goal.returns-then-not-has_room-clause-made
 returns-then-not-has_room-clause-made c =
-    let r = records_in c.args.self.now c.args.shared.now c.args.outs.now in
+    let r = records_in c.args.self.now c.args.lent.now in
     let short : nat_lt MAX_PAYLOAD (length c.args.payload.now) ≡ false = grind (arith, nat_tests) in
     let member : is_member (standing_of r.delay (local_in r c.args.serial) c.args.group) ≡ true =
     ap is_member (sym (c.standing.ensures.value ∙ ap (λ x. standing_of r.delay x c.args.group) c.process-process.ensures) ∙ c.in-Member.is) in
-    let own_is : c.awaits_own.result ≡ awaits_own_in r (local_in r c.args.serial) = c.awaits_own.ensures c.args.outs.now ∙ ap (awaits_own_in r) c.process-process.ensures in
-    sym (cast_full r c.args.serial c.args.group c.args.kind c.args.payload.now c.args.at short member (sym own_is ∙ c.if-awaits_own.false) (sym (c.has_room.ensures c.args.outs.now) ∙ c.if-not-has_room.true))
+    let own_is : c.awaits_own.result ≡ awaits_own_in r (local_in r c.args.serial) = c.awaits_own.ensures ∙ ap (awaits_own_in r) c.process-process.ensures in
+    sym (cast_full r c.args.serial c.args.group c.args.kind c.args.payload.now c.args.at short member (sym own_is ∙ c.if-awaits_own.false) (sym c.has_room.ensures ∙ c.if-not-has_room.true))
 
 pub returns-then-awaits_own-clause-made : goal.returns-then-awaits_own-clause-made
 returns-then-awaits_own-clause-made c =
-    let r = records_in c.args.self.now c.args.shared.now c.args.outs.now in
+    let r = records_in c.args.self.now c.args.lent.now in
     let short : nat_lt MAX_PAYLOAD (length c.args.payload.now) ≡ false = grind (arith, nat_tests) in
     let member : is_member (standing_of r.delay (local_in r c.args.serial) c.args.group) ≡ true =
     ap is_member (sym (c.standing.ensures.value ∙ ap (λ x. standing_of r.delay x c.args.group) c.process-process.ensures) ∙ c.in-Member.is) in
-    let own_is : c.awaits_own.result ≡ awaits_own_in r (local_in r c.args.serial) = c.awaits_own.ensures c.args.outs.now ∙ ap (awaits_own_in r) c.process-process.ensures in
+    let own_is : c.awaits_own.result ≡ awaits_own_in r (local_in r c.args.serial) = c.awaits_own.ensures ∙ ap (awaits_own_in r) c.process-process.ensures in
     sym (cast_owned r c.args.serial c.args.group c.args.kind c.args.payload.now c.args.at short member (sym own_is ∙ c.if-awaits_own.true))
 
 pub returns-in_default-clause-made : goal.returns-in_default-clause-made
 returns-in_default-clause-made c =
-    let r = records_in c.args.self.now c.args.shared.now c.args.outs.now in
+    let r = records_in c.args.self.now c.args.lent.now in
     let k = c.args.serial in
     let g = c.args.group in
     let p : c.process-process.result ≡ local_in r k = c.process-process.ensures in
@@ -42,14 +42,14 @@ returns-in_default-clause-made c =
     let short : nat_lt MAX_PAYLOAD (length c.args.payload.now) ≡ false = grind (arith, nat_tests) in
     let member : is_member (standing_of r.delay (local_in r k) g) ≡ true =
     ap is_member (sym (c.standing.ensures.value ∙ ap (λ x. standing_of r.delay x g) p) ∙ c.in-Member.is) in
-    let own : awaits_own_in r (local_in r k) ≡ false = sym (c.awaits_own.ensures c.args.outs.now ∙ ap (awaits_own_in r) p) ∙ c.if-awaits_own.false in
-    let room : may_receive records r ≡ true = sym (c.has_room.ensures c.args.outs.now) ∙ c.if-not-has_room.false in
+    let own : awaits_own_in r (local_in r k) ≡ false = sym (c.awaits_own.ensures ∙ ap (awaits_own_in r) p) ∙ c.if-awaits_own.false in
+    let room : may_receive records r ≡ true = sym c.has_room.ensures ∙ c.if-not-has_room.false in
     let may : may_raise (time_of r.delay q) g q ≡ false = raised_none (may_raise (time_of r.delay q) g q) (bumped (time_of r.delay q) g q) (sym c.in_default.is ∙ c.in_ok-time.ensures) in
     sym (cast_unraised r k g c.args.kind c.args.payload.now c.args.at short member own room (ap (λ x. may_raise (time_of r.delay x) g x) (sym p) ∙ may))
 
 pub returns-clause-made : goal.returns-clause-made
 returns-clause-made c =
-    let r = records_in c.args.self.now c.args.shared.now c.args.outs.now in
+    let r = records_in c.args.self.now c.args.lent.now in
     let k = c.args.serial in
     let i = c.args.at in
     let g = c.args.group in
@@ -64,13 +64,13 @@ returns-clause-made c =
     let short : nat_lt MAX_PAYLOAD (length c.args.payload.now) ≡ false = grind (arith, nat_tests) in
     let member : is_member (standing_of r.delay (local_in r k) g) ≡ true =
     ap is_member (sym (c.standing.ensures.value ∙ ap (λ x. standing_of r.delay x g) p) ∙ c.in-Member.is) in
-    let room : may_receive records r ≡ true = sym (c.has_room.ensures c.args.outs.now) ∙ c.if-not-has_room.false in
-    let own : awaits_own_in r (local_in r k) ≡ false = sym (c.awaits_own.ensures c.args.outs.now ∙ ap (awaits_own_in r) p) ∙ c.if-awaits_own.false in
+    let room : may_receive records r ≡ true = sym c.has_room.ensures ∙ c.if-not-has_room.false in
+    let own : awaits_own_in r (local_in r k) ≡ false = sym (c.awaits_own.ensures ∙ ap (awaits_own_in r) p) ∙ c.if-awaits_own.false in
     let may : may_raise (time_of r.delay (local_in r k)) g (local_in r k) ≡ true = ap (λ x. may_raise (time_of r.delay x) g x) (sym p) ∙ raised.0 in
     ◌∙◌ {b = (sent r k g c.args.kind c.args.payload.now i, None)}
     (ap (λ x. (x, None))
     (c.in_ok-send_message.ensures.made
-    ∙ (λ j. send_message records ((seen_as c.args.self.now c.tell.new.self c.in_ok-tell.ensures.kept c.args.shared.now c.args.outs.now ∙ c.in_ok-tell.ensures.made c.args.outs.now r.part) j) (record {
+    ∙ (λ j. send_message records ((seen_as c.args.self.now c.tell.new.self c.in_ok-tell.ensures.kept c.args.lent.now.shared.now c.args.lent.now.outs.now ∙ c.in_ok-tell.ensures.made c.args.lent.now.outs.now r.part) j) (record {
       id = record { group = g; view = c.record.result.now.here.number; proc = q; count = c.count.result };
       times = c.in-Some.stamp;
       body = (c.body_of.ensures ∙ ap (body_of c.args.kind) c.in_ok-content.ensures) j;

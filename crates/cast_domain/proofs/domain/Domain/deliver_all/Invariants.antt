@@ -2,15 +2,14 @@ use Rattle.std.proofs.Common.{◌≡◌, ◌-◌, false, length}
 use Rattle.cast_types.specs.Repeat.{iterate}
 use Rattle.cast_history.specs.Rules.Rest.{deliver_first, deliver_all}
 use Rattle.cast_domain.specs.Calls.{records, resting_records}
-use Rattle.cast_domain.specs.Records.{Keeps, records_in}
-use Rattle.cast_domain.specs.Shared.{LeavesOthers, part_of}
+use Rattle.cast_domain.specs.Records.{KeepsBeside, records_in}
+use Rattle.cast_domain.specs.Shared.{part_of}
 use Rattle.cast_domain.proofs.domain.Domain.deliver_all.Given as goal
 
 -- the turns that are left lead to the same records
 abbrev pub invariant-loop-turn : goal.invariant-loop-turn
 invariant-loop-turn l = record {
-  same : Keeps l.fn.self l.self;
-  others : LeavesOthers l.fn.self.config.domain l.fn.shared l.shared;
-  left : iterate (length (part_of l.fn.self.config.domain l.fn.shared).kept - l._turn) (deliver_first records resting_records l.serial) (records_in l.self l.shared l.outs) ≡ deliver_all records resting_records (records_in l.fn.self l.fn.shared l.fn.outs) l.serial;
-  still : l.changed ≡ false → records_in l.self l.shared l.outs ≡ records_in l.fn.self l.fn.shared l.fn.outs;
+  stays : KeepsBeside l.fn.self l.fn.lent l.self l.lent;
+  left : iterate (length (part_of l.fn.self.config.domain l.fn.lent.shared.now).kept - l._turn) (deliver_first records resting_records l.serial) (records_in l.self l.lent) ≡ deliver_all records resting_records (records_in l.fn.self l.fn.lent) l.serial;
+  still : l.changed ≡ false → records_in l.self l.lent ≡ records_in l.fn.self l.fn.lent;
 }

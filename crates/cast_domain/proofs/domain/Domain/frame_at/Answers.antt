@@ -10,8 +10,8 @@ use Rattle.cast_domain.proofs.domain.Domain.frame_at.Goals as goal
 pub returns-in-Install-clause-made : goal.returns-in-Install-clause-made
 returns-in-Install-clause-made c =
     let here = c.args.self.now in
-    let shared = c.args.shared.now in
-    let r = records_in here shared c.args.outs.now in
+    let shared = c.args.lent.now.shared.now in
+    let r = records_in here c.args.lent.now in
     on_ok_weaker c.install.result
     (λ made.
     (λ j. records_of c.install.new.self (part_of (c.install.ensures.same.config j).domain shared) c.install.new.outs)

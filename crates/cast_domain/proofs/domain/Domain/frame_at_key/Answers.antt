@@ -12,8 +12,8 @@ pub returns-in-Data : goal.returns-in-Data
 returns-in-Data c =
     let key = c.args.key.now in
     let about = c.id_in.ensures ∙ ap (λ x. id_in x.here.number key) c.record.ensures in
-    IfOk-weaker c.data_frame.result _ _ (λ f made o.
-    let r = records_in c.args.self.now c.args.shared.now o in
-    made o
+    IfOk-weaker c.data_frame.result _ _ (λ f made.
+    let r = records_in c.args.self.now c.args.lent.now in
+    made
     ∙ ap (λ u. option_map frame.Data (message_in r u)) about
     ∙ ap (frame_of_kind records r c.args.place key) (sym c.in-Data.is)) c.data_frame.ensures

@@ -9,6 +9,6 @@ use Rattle.cast_domain.proofs.domain.Domain.frame_for.Goals as goal
 pub returns-in-Some : goal.returns-in-Some
 returns-in-Some c =
     let key = c.args.key.now in
-    IfOk-weaker c.frame_at_key.result _ _ (λ f made o.
-    let r = records_in c.args.self.now c.args.shared.now o in
-    made o ∙ ap (λ (p : Option ℕ). option_and_then (λ i. frame_of_kind records r i key key.kind) p) (sym c.in-Some.is ∙ c.place_of.ensures.place)) c.frame_at_key.ensures
+    IfOk-weaker c.frame_at_key.result _ _ (λ f made.
+    let r = records_in c.args.self.now c.args.lent.now in
+    made ∙ ap (λ (p : Option ℕ). option_and_then (λ i. frame_of_kind records r i key key.kind) p) (sym c.in-Some.is ∙ c.place_of.ensures.place)) c.frame_at_key.ensures

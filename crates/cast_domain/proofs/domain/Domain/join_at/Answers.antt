@@ -16,7 +16,7 @@ use Rattle.cast_domain.proofs.domain.Domain.join_at.Goals as goal
 
 pub returns-clause-made : goal.returns-clause-made
 returns-clause-made c =
-    let r = records_in c.args.self.now c.args.shared.now c.args.outs.now in
+    let r = records_in c.args.self.now c.args.lent.now in
     let k = c.args.serial in
     let i = c.args.place in
     let g = c.args.group in
@@ -28,6 +28,6 @@ returns-clause-made c =
     ap is_outside (sym (c.standing.ensures.value ∙ ap (λ q. standing_of r.delay q g) p) ∙ c.in-Outside.is) in
     ap (λ x. (x, None))
     (c.in_ok-ask.ensures.made
-    ∙ ap (λ x. request records x i change.Join c.process-process.result) (seen_as c.args.self.now c.tell.new.self c.in_ok-tell.ensures.kept c.args.shared.now c.args.outs.now ∙ c.in_ok-tell.ensures.made c.args.outs.now r.part)
+    ∙ ap (λ x. request records x i change.Join c.process-process.result) (seen_as c.args.self.now c.tell.new.self c.in_ok-tell.ensures.kept c.args.lent.now.shared.now c.args.lent.now.outs.now ∙ c.in_ok-tell.ensures.made c.args.lent.now.outs.now r.part)
     ∙ λ j. request records (tell_in r (p j) (fact.Standing g (Joining (asked j + 1) (heard j)))) i change.Join (p j))
     ∙ sym (join_made r k g i outside (sym (ap (λ n. n == MAX_NUMBER) asked) ∙ below))

@@ -1,16 +1,13 @@
 use Rattle.std.proofs.Common.{◌≡◌, drop}
 use Rattle.std.specs.List.{fold}
-use Rattle.cast_model.specs.declared.event.Outs.{Outs}
-use Rattle.cast_domain.specs.Shared.{LeavesOthers}
 use Rattle.cast_history.specs.Rules.Release as release
 use Rattle.cast_domain.specs.Calls.{release_in, records, resting_records}
-use Rattle.cast_domain.specs.Records.{Keeps, records_in}
+use Rattle.cast_domain.specs.Records.{KeepsBeside, records_in}
 use Rattle.cast_domain.proofs.domain.Domain.let_go.Given as goal
 
 -- the keys that are left lead to the same records
 abbrev pub invariant-loop-key : goal.invariant-loop-key
 invariant-loop-key l = record {
-  same : Keeps l.fn.self l.self;
-  others : LeavesOthers l.fn.self.config.domain l.fn.shared l.shared;
-  left : (o : Outs) → fold release_in (records_in l.self l.shared o) (drop l.key-index l.key-items) ≡ release.let_go records resting_records (records_in l.fn.self l.fn.shared o);
+  stays : KeepsBeside l.fn.self l.fn.lent l.self l.lent;
+  left : fold release_in (records_in l.self l.lent) (drop l.key-index l.key-items) ≡ release.let_go records resting_records (records_in l.fn.self l.fn.lent);
 }

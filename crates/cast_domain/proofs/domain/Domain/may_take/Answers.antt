@@ -8,15 +8,15 @@ use Rattle.cast_domain.specs.Calls.{records}
 use Rattle.cast_domain.proofs.domain.Domain.may_take.Goals as goal
 
 pub returns-in-Order : goal.returns-in-Order
-returns-in-Order c o =
-    let r = records_in c.args.self.now c.args.shared.now o in
-    c.has_order_room.ensures o ∙ sym (ap (λ k. if is_order k then may_order records r else may_receive records r) (sym c.kind.ensures ∙ c.in-Order.is))
+returns-in-Order c =
+    let r = records_in c.args.self.now c.args.lent.now in
+    c.has_order_room.ensures ∙ sym (ap (λ k. if is_order k then may_order records r else may_receive records r) (sym c.kind.ensures ∙ c.in-Order.is))
 
 pub returns-in-Causal : goal.returns-in-Causal
-returns-in-Causal c o =
-    let r = records_in c.args.self.now c.args.shared.now o in
+returns-in-Causal c =
+    let r = records_in c.args.self.now c.args.lent.now in
     let other : is_order (kind_of c.args.body.now) ≡ false = elim c.in-Causal.is [
       | inl causal ↦ ap is_order (sym c.kind.ensures ∙ causal)
       | inr atomic ↦ ap is_order (sym c.kind.ensures ∙ atomic)
     ] in
-    c.has_room.ensures o ∙ sym (ap (λ b. if b then may_order records r else may_receive records r) other)
+    c.has_room.ensures ∙ sym (ap (λ b. if b then may_order records r else may_receive records r) other)

@@ -1,14 +1,13 @@
 use Rattle.std.proofs.Common.{◌≡◌, drop}
 use Rattle.std.specs.List.{fold}
-use Rattle.cast_history.specs.Rules.Views.{owe_of_home}
-use Rattle.cast_domain.specs.Shared.{LeavesOthers}
+use Rattle.cast_history.specs.Rules.Home.{owe_of_home}
 use Rattle.cast_domain.specs.Calls.{records}
-use Rattle.cast_domain.specs.Records.{records_in}
+use Rattle.cast_domain.specs.Records.{GivesBack, records_in}
 use Rattle.cast_domain.proofs.domain.Domain.owe_of_home.Given as goal
 
 -- what is left to owe leads to the same records
 abbrev pub invariant-loop-site : goal.invariant-loop-site
 invariant-loop-site l = record {
-  others : LeavesOthers l.self.config.domain l.fn.shared l.shared;
-  left : fold (owe_of_home records l.kind l.place) (records_in l.self l.shared l.outs) (drop l.site-index l.sites) ≡ fold (owe_of_home records l.kind l.place) (records_in l.self l.fn.shared l.fn.outs) l.sites;
+  back : GivesBack l.self.config.domain l.fn.lent l.lent;
+  left : fold (owe_of_home records l.kind l.place) (records_in l.self l.lent) (drop l.site-index l.sites) ≡ fold (owe_of_home records l.kind l.place) (records_in l.self l.fn.lent) l.sites;
 }

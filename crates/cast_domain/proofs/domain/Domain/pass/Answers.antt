@@ -1,6 +1,6 @@
 use Rattle.std.proofs.Common.{◌∙◌, ap}
 use Rattle.std.proofs.lemmas.Bool.{or_parts}
-use Rattle.cast_history.specs.Rules.Views.{lead}
+use Rattle.cast_history.specs.Rules.Home.{lead}
 use Rattle.cast_history.specs.Rules.Order.{set_orders}
 use Rattle.cast_domain.specs.Calls.{records, resting_records}
 use Rattle.cast_domain.proofs.domain.Domain.pass.Goals as goal

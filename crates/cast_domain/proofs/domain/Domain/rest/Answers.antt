@@ -1,20 +1,19 @@
 use Rattle.cast_domain.specs.Records.{records_in}
-use Rattle.cast_domain.proofs.Loops.{keeps_then, others_then}
+use Rattle.cast_domain.proofs.Loops.{beside_then}
 use Rattle.cast_domain.proofs.Passes.{led_pass, led_end}
 use Rattle.cast_domain.proofs.domain.Domain.rest.Goals as goal
 
 pub returns-then-not-branch-clause-rests : goal.returns-then-not-branch-clause-rests
 returns-then-not-branch-clause-rests c s fits lawful =
-    let before = records_in c.loop-turn.self c.loop-turn.shared c.loop-turn.outs in
-    let after = records_in c.pass.new.self c.pass.new.shared c.pass.new.outs in
+    let before = records_in c.loop-turn.self c.loop-turn.lent in
+    let after = records_in c.pass.new.self c.pass.new.lent in
     led_end before after c.in_ok-pass.ensures.made (c.in_ok-pass.ensures.still c.if-not-branch.true) s (c.loop-turn.invariant.led s fits lawful)
 
 pub loop-turn-preserved : goal.loop-turn-preserved
 loop-turn-preserved c =
-    let before = records_in c.loop-turn.self c.loop-turn.shared c.loop-turn.outs in
-    let after = records_in c.pass.new.self c.pass.new.shared c.pass.new.outs in
+    let before = records_in c.loop-turn.self c.loop-turn.lent in
+    let after = records_in c.pass.new.self c.pass.new.lent in
     record {
-      same = keeps_then _ _ _ c.loop-turn.invariant.same c.in_ok-pass.ensures.same;
-      others = others_then c.args.self.now c.loop-turn.self _ _ _ c.loop-turn.invariant.same c.loop-turn.invariant.others c.in_ok-pass.ensures.others;
+      stays = beside_then c.loop-turn.invariant.stays c.in_ok-pass.ensures.stays;
       led = λ s fits lawful. led_pass before after c.in_ok-pass.ensures.made s (c.loop-turn.invariant.led s fits lawful);
     }

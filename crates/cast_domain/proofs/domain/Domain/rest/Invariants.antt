@@ -2,8 +2,7 @@ use Rattle.cast_history.specs.State.{State}
 use Rattle.cast_history.specs.Rest.{pass}
 use Rattle.cast_history.specs.Lawful.{IsLawful}
 use Rattle.cast_domain.specs.Fits.{Fits}
-use Rattle.cast_domain.specs.Records.{Keeps, records_in}
-use Rattle.cast_domain.specs.Shared.{LeavesOthers}
+use Rattle.cast_domain.specs.Records.{KeepsBeside, records_in}
 use Rattle.cast_types.proofs.Iterates.{Led}
 use Rattle.cast_domain.proofs.Passes.{Stands}
 use Rattle.cast_domain.proofs.domain.Domain.rest.Given as goal
@@ -11,7 +10,6 @@ use Rattle.cast_domain.proofs.domain.Domain.rest.Given as goal
 -- some number of passes has led to what the records stand for
 abbrev pub invariant-loop-turn : goal.invariant-loop-turn
 invariant-loop-turn l = record {
-  same : Keeps l.fn.self l.self;
-  others : LeavesOthers l.fn.self.config.domain l.fn.shared l.shared;
-  led : (s : State) → Fits (records_in l.fn.self l.fn.shared l.fn.outs) s → IsLawful s → Led Stands pass (records_in l.self l.shared l.outs) s;
+  stays : KeepsBeside l.fn.self l.fn.lent l.self l.lent;
+  led : (s : State) → Fits (records_in l.fn.self l.fn.lent) s → IsLawful s → Led Stands pass (records_in l.self l.lent) s;
 }

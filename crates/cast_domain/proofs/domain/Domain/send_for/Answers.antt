@@ -6,14 +6,14 @@ use Rattle.cast_domain.specs.Records.{records_in}
 use Rattle.cast_domain.specs.Calls.{send_in}
 use Rattle.cast_domain.proofs.domain.Domain.send_for.Goals as goal
 
-pub returns-in-Some : goal.returns-in-Some
-returns-in-Some c =
-    let r = records_in c.args.self.now c.args.shared.now c.args.outs.now in
+pub returns-in-Some-clause-made : goal.returns-in-Some-clause-made
+returns-in-Some-clause-made c =
+    let r = records_in c.args.self.now c.args.lent.now in
     on_ok_weaker c.send.result (λ made.
     made r.part
-    ∙ ap (λ (f : Option SiteFrame). option_map_or (send_in r c.args.key.now.site) f r) (sym c.in-Some.is ∙ c.in_ok-frame.ensures c.args.outs.now)) c.send.ensures
+    ∙ ap (λ (f : Option SiteFrame). option_map_or (send_in r c.args.key.now.site) f r) (sym c.in-Some.is ∙ c.in_ok-frame.ensures)) c.send.ensures
 
-pub returns-in-None : goal.returns-in-None
-returns-in-None c =
-    let r = records_in c.args.self.now c.args.shared.now c.args.outs.now in
-    ap (λ (f : Option SiteFrame). option_map_or (send_in r c.args.key.now.site) f r) (sym c.in-None.is ∙ c.in_ok-frame.ensures c.args.outs.now)
+pub returns-in-None-clause-made : goal.returns-in-None-clause-made
+returns-in-None-clause-made c =
+    let r = records_in c.args.self.now c.args.lent.now in
+    ap (λ (f : Option SiteFrame). option_map_or (send_in r c.args.key.now.site) f r) (sym c.in-None.is ∙ c.in_ok-frame.ensures)

@@ -8,8 +8,8 @@ use Rattle.cast_domain.proofs.domain.Domain.send_message.Goals as goal
 
 pub returns-clause-made : goal.returns-clause-made
 returns-clause-made c =
-    let r = records_in c.args.self.now c.args.shared.now c.args.outs.now in
+    let r = records_in c.args.self.now c.args.lent.now in
     let m = c.args.message in
-    let received : records_in c.receive.new.self c.receive.new.shared c.args.outs.now ≡ receive_in r m = c.in_ok-receive.ensures.made c.args.outs.now in
+    let received : records_in c.receive.new.self c.receive.new.lent ≡ receive_in r m = c.in_ok-receive.ensures.made in
     let others : c.others.result.now ≡ others_in r.acks m.id.group = c.others.ensures ∙ ap (λ x. others_in x.acks m.id.group) received in
     c.in_ok-send_data.ensures.made ∙ λ j. fold (send_data records m.id) (received j) (others j)

@@ -12,8 +12,8 @@ use Rattle.cast_domain.proofs.domain.Domain.send_places.Goals as goal
 pub returns-clause-made : goal.returns-clause-made
 returns-clause-made c =
     let d = c.args.self.now in
-    let o = c.args.outs.now in
-    let r = records_in d c.args.shared.now o in
+    let lent = c.args.lent.now in
+    let r = records_in d lent in
     let k = c.args.serial in
     let p = local_in r k in
     let own : c.process-holder.result ≡ p = c.process-holder.ensures in
@@ -22,11 +22,11 @@ returns-clause-made c =
     let view : c.record-2.result.now.here.number ≡ (record_at r.groups i).here.number = ap (λ x. x.here.number) c.record-2.ensures in
     let time : c.args.time ≡ bumped (time_of r.delay p) (record_at r.groups i).name p = c.requires.raised in
     let count : c.count-count.result ≡ count_in (bumped (time_of r.delay p) (record_at r.groups i).name p) (record_at r.groups i).name p = c.count-count.ensures ∙ λ j. count_in (time j) (name j) (own j) in
-    let settled : c.settled-settled.result ≡ settled_in r (record_at r.groups i).name (record_at r.groups i).here.number p = c.settled-settled.ensures o r.part ∙ λ j. settled_in r (name j) (view j) (own j) in
+    let settled : c.settled-settled.result ≡ settled_in r (record_at r.groups i).name (record_at r.groups i).here.number p = c.settled-settled.ensures lent.outs.now r.part ∙ λ j. settled_in r (name j) (view j) (own j) in
     let noted : c.note.new.self ≡ change_log (record_at r.groups i).name (assigned (count_in (bumped (time_of r.delay p) (record_at r.groups i).name p) (record_at r.groups i).name p) (settled_in r (record_at r.groups i).name (record_at r.groups i).here.number p)) r.orders =
     c.in_ok-note.ensures ∙ λ j. change_log (name j) (assigned (count j) (settled j)) r.orders in
-    let told : records_in c.tell.new.self c.args.shared.now o ≡ tell_in (record r { orders = c.note.new.self }) c.process-holder.result (fact.Time c.args.time) =
-    seen_as (record d { orders = c.note.new.self }) c.tell.new.self c.in_ok-tell.ensures.kept c.args.shared.now o ∙ c.in_ok-tell.ensures.made o r.part in
+    let told : records_in c.tell.new.self lent ≡ tell_in (record r { orders = c.note.new.self }) c.process-holder.result (fact.Time c.args.time) =
+    seen_as (record d { orders = c.note.new.self }) c.tell.new.self c.in_ok-tell.ensures.kept lent.shared.now lent.outs.now ∙ c.in_ok-tell.ensures.made lent.outs.now r.part in
     c.in_ok-send_message.ensures.made
     ∙ (λ j. send_message records (told j) (record {
       id = record { group = c.record.result.now.name; view = c.record-2.result.now.here.number; proc = c.process-holder.result; count = c.count-count.result };

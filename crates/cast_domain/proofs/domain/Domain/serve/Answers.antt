@@ -1,13 +1,21 @@
 use Rattle.cast_history.specs.Rest.{let_go}
-use Rattle.std.proofs.Common.{◌≡◌, ◌++◌, ◌∙◌, sym, ap, subst}
+use Rattle.std.proofs.Common.{rules, ◌≡◌, ◌++◌, ◌∙◌, sym, ap, subst}
 use Rattle.cast_model.specs.declared.config.DomainConfig.{DomainConfig}
 use Rattle.cast_history.specs.Run.{before_event}
 use Rattle.cast_history.specs.Step.{acted}
 use Rattle.cast_domain.specs.Shared.{part_of}
 use Rattle.cast_model.specs.Outs.{no_outs, outs_then}
 use Rattle.cast_domain.specs.Records.{records_in, records_of}
-use Rattle.cast_domain.specs.Stepped.{step_outs}
-use Rattle.cast_history.specs.Rules.Events as rules
+use Rattle.cast_domain.specs.Stepped.{IsStepOf}
+use Rattle.cast_types.specs.declared.names.DomainNo.{DomainNo}
+use Rattle.cast_model.specs.declared.event.Event.{Event}
+use Rattle.cast_model.specs.declared.event.Outs.{Outs}
+use Rattle.cast_model.specs.declared.event.Taken.{Taken}
+use Rattle.cast_history.specs.State.{State}
+use Rattle.cast_domain.specs.declared.domain.Domain.{Domain}
+use Rattle.cast_domain.specs.declared.lent.Lent.{Lent}
+use Rattle.cast_domain.specs.declared.shared.Shared.{Shared}
+use Rattle.cast_history.specs.Rules.Events as ruled
 use Rattle.cast_domain.specs.Calls.{records, records_serials}
 use Rattle.cast_history.specs.Lawful.{IsLawful}
 use Rattle.cast_domain.specs.Fits.{Fits}
@@ -17,6 +25,11 @@ use Rattle.cast_domain.proofs.Events.{fits_acted, answer_acted}
 use Rattle.cast_domain.proofs.Passes.{fits_between}
 use Rattle.cast_domain.proofs.Releases.{unborn, fits_let_go}
 use Rattle.cast_domain.proofs.domain.Domain.serve.Goals as goal
+
+-- what is shared in the end, and what was added, is what the last call left
+ended : (s : State) (e : Event) (answer : Taken) (new : Domain) (d : DomainNo) (before after : Outs) (last : Lent) {later : Shared} → later ≡ last.shared.now → after ≡ outs_then before last.outs.now → IsStepOf s e answer new (part_of d last.shared.now) before (outs_then before last.outs.now) → IsStepOf s e answer new (part_of d later) before after
+ended s e answer new d before after last left added step =
+    subst (λ h. IsStepOf s e answer new (part_of d h) before after) (sym left) (subst (λ o. IsStepOf s e answer new (part_of d last.shared.now) before o) (sym added) step)
 
 pub returns-clause-steps : goal.returns-clause-steps
 returns-clause-steps c s means =
@@ -28,31 +41,30 @@ returns-clause-steps c s means =
     let b = before_event s in
     let typed = c.in_ok-taken.ensures.typed in
     let lawful = lawful_before s means.lawful in
-    let acted_records = records_in c.act.new.self c.act.new.shared c.act.new.outs in
-    let made : acted_records ≡ rules.acted records records_serials r e = c.in_ok-taken.ensures.made ∙ ap (λ o. rules.acted records records_serials (records_of here part o) e) c.new-step.ensures in
+    let acted_records = records_in c.act.new.self c.act.new.lent in
+    let made : acted_records ≡ ruled.acted records records_serials r e = c.in_ok-taken.ensures.made ∙ ap (λ o. ruled.acted records records_serials (records_of here part o) e) c.new-step.ensures in
     let acts : Fits acted_records (acted b e) = subst (λ x. Fits x (acted b e)) (sym made) (fits_acted r b e means.fits lawful typed) in
     let acts_lawful : IsLawful (acted b e) = lawful_acted b e lawful (unborn r b means.fits) typed in
-    let after : Fits (records_in c.let_go.new.self c.let_go.new.shared c.act.new.outs) (let_go (acted b e)) =
-    subst (λ x. Fits x (let_go (acted b e))) (sym (c.in_ok-let_go.ensures.made c.act.new.outs)) (fits_let_go acted_records (acted b e) acts acts_lawful) in
+    let after : Fits (records_in c.let_go.new.self c.let_go.new.lent) (let_go (acted b e)) =
+    subst (λ x. Fits x (let_go (acted b e))) (sym c.in_ok-let_go.ensures.made) (fits_let_go acted_records (acted b e) acts acts_lawful) in
     let after_lawful = lawful_let_go (acted b e) acts_lawful in
     let rested = c.in_ok-rest.ensures.rests (let_go (acted b e)) after after_lawful in
     let t = rested.0 in
     let fits = rested.2 in
-    let added : outs_then before c.rest.new.outs ≡ outs_then before (step_outs t) =
-    (λ j. record before { frames = before.frames ++ fits.frames j; delivered = before.delivered ++ fits.delivered j }) in
-    let last = part_of here.config.domain c.rest.new.shared in
-    let same : c.rest.new.self.config.domain ≡ here.config.domain = ap (λ (k : DomainConfig). k.domain) (c.in_ok-rest.ensures.same.config ∙ c.in_ok-let_go.ensures.same.config ∙ c.in_ok-taken.ensures.same.1) in
-    let fits_last : Fits (records_of c.rest.new.self last c.rest.new.outs) t =
-    subst (λ d. Fits (records_of c.rest.new.self (part_of d c.rest.new.shared) c.rest.new.outs) t) same fits in
-    record {
+    let lent = c.rest.new.lent in
+    let added : c.append.new.self ≡ outs_then before lent.outs.now = search rules in
+    let same : c.rest.new.self.config.domain ≡ here.config.domain = ap (λ (k : DomainConfig). k.domain) (c.in_ok-rest.ensures.stays.same.config ∙ c.in_ok-let_go.ensures.stays.same.config ∙ c.in_ok-taken.ensures.same.1) in
+    let fits_last : Fits (records_of c.rest.new.self (part_of here.config.domain lent.shared.now) lent.outs.now) t =
+    subst (λ d. Fits (records_of c.rest.new.self (part_of d lent.shared.now) lent.outs.now) t) same fits in
+    ended s e _ c.rest.new.self here.config.domain before c.append.new.self lent (search rules) added (record {
       end = t;
       steps = record {
         answers = c.in_ok-taken.ensures.answer ∙ answer_acted r b e means.fits;
         rests = rested.1;
       };
       means = record {
-        fits = fits_between (records_of c.rest.new.self last c.rest.new.outs) t fits_last;
+        fits = fits_between (records_of c.rest.new.self (part_of here.config.domain lent.shared.now) lent.outs.now) t fits_last;
         lawful = lawful_rests (let_go (acted b e)) t after_lawful rested.1;
       };
-      outs = c.in_ok-append.ensures.ok ∙ added;
-    }
+      outs = λ j. record before { frames = before.frames ++ fits.frames j; delivered = before.delivered ++ fits.delivered j };
+    })

@@ -14,32 +14,32 @@ use Rattle.cast_domain.proofs.domain.Domain.set_order_by.Goals as goal
 
 pub returns-then-not-may_list-clause-made : goal.returns-then-not-may_list-clause-made
 returns-then-not-may_list-clause-made c =
-    let r = records_in c.args.self.now c.args.shared.now c.args.outs.now in
+    let r = records_in c.args.self.now c.args.lent.now in
     let p = c.process-holder.ensures in
     let name : c.record.result.now.name ≡ (record_at r.groups c.args.place).name = ap (λ x. x.name) c.record.ensures in
     sym (places_none r c.args.place c.args.serial
-    ((λ j. is_member (standing_of r.delay (sym p j) (sym name j)) && may_order records r) ∙ sym (c.may_list.ensures c.args.outs.now) ∙ c.if-not-may_list.true))
+    ((λ j. is_member (standing_of r.delay (sym p j) (sym name j)) && may_order records r) ∙ sym c.may_list.ensures ∙ c.if-not-may_list.true))
 
 pub returns-in_default-clause-made : goal.returns-in_default-clause-made
 returns-in_default-clause-made c =
-    let r = records_in c.args.self.now c.args.shared.now c.args.outs.now in
+    let r = records_in c.args.self.now c.args.lent.now in
     let p = c.process-holder.ensures in
     let i = c.args.place in
     let name : c.record.result.now.name ≡ (record_at r.groups i).name = ap (λ x. x.name) c.record.ensures in
     let may : may_list records resting_records r i c.args.serial ≡ true =
-    (λ j. is_member (standing_of r.delay (sym p j) (sym name j)) && may_order records r) ∙ sym (c.may_list.ensures c.args.outs.now) ∙ c.if-not-may_list.false in
+    (λ j. is_member (standing_of r.delay (sym p j) (sym name j)) && may_order records r) ∙ sym c.may_list.ensures ∙ c.if-not-may_list.false in
     sym (places_missing r i c.args.serial may (ap (λ g. next_places (log_of r.orders g)) (sym name) ∙ sym c.in_ok-places.ensures ∙ c.in_default.is))
 
 pub returns-in_default-2-clause-made : goal.returns-in_default-2-clause-made
 returns-in_default-2-clause-made c =
-    let r = records_in c.args.self.now c.args.shared.now c.args.outs.now in
+    let r = records_in c.args.self.now c.args.lent.now in
     let p = c.process-holder.ensures in
     let i = c.args.place in
     let h = c.record.result.now.name in
     let holder = c.process-holder.result in
     let name : h ≡ (record_at r.groups i).name = ap (λ x. x.name) c.record.ensures in
     let may : may_list records resting_records r i c.args.serial ≡ true =
-    (λ j. is_member (standing_of r.delay (sym p j) (sym name j)) && may_order records r) ∙ sym (c.may_list.ensures c.args.outs.now) ∙ c.if-not-may_list.false in
+    (λ j. is_member (standing_of r.delay (sym p j) (sym name j)) && may_order records r) ∙ sym c.may_list.ensures ∙ c.if-not-may_list.false in
     let next : next_places (log_of r.orders (record_at r.groups i).name) ≡ Some c.in-Some.places =
     ap (λ g. next_places (log_of r.orders g)) (sym name) ∙ sym c.in_ok-places.ensures ∙ c.in-Some.is in
     let raised = raised_none (may_raise (time_of r.delay holder) h holder) (bumped (time_of r.delay holder) h holder) (sym c.in_default-2.is ∙ c.in_ok-time.ensures) in
@@ -47,24 +47,24 @@ returns-in_default-2-clause-made c =
 
 pub returns-clause-made : goal.returns-clause-made
 returns-clause-made c =
-    let r = records_in c.args.self.now c.args.shared.now c.args.outs.now in
+    let r = records_in c.args.self.now c.args.lent.now in
     let p = c.process-holder.ensures in
     let i = c.args.place in
     let h = c.record.result.now.name in
     let holder = c.process-holder.result in
     let name : h ≡ (record_at r.groups i).name = ap (λ x. x.name) c.record.ensures in
     let may : may_list records resting_records r i c.args.serial ≡ true =
-    (λ j. is_member (standing_of r.delay (sym p j) (sym name j)) && may_order records r) ∙ sym (c.may_list.ensures c.args.outs.now) ∙ c.if-not-may_list.false in
+    (λ j. is_member (standing_of r.delay (sym p j) (sym name j)) && may_order records r) ∙ sym c.may_list.ensures ∙ c.if-not-may_list.false in
     let next : next_places (log_of r.orders (record_at r.groups i).name) ≡ Some c.in-Some.places =
     ap (λ g. next_places (log_of r.orders g)) (sym name) ∙ sym c.in_ok-places.ensures ∙ c.in-Some.is in
     let raised = raised_some (may_raise (time_of r.delay holder) h holder) (bumped (time_of r.delay holder) h holder) c.in-Some-2.time c.in-Some-2.stamp (sym c.in-Some-2.is ∙ c.in_ok-time.ensures) in
-    c.in_ok-let_go.ensures.made c.send_places.new.outs
+    c.in_ok-let_go.ensures.made
     ∙ ap (release.let_go records resting_records) c.in_ok-send_places.ensures.made
     ∙ sym (places_made r i c.args.serial c.in-Some.places may next ((λ j. may_raise (time_of r.delay (sym p j)) (sym name j) (sym p j)) ∙ raised.0))
 
 pub send_places-requires-clause-raised : goal.send_places-requires-clause-raised
 send_places-requires-clause-raised c =
-    let r = records_in c.args.self.now c.args.shared.now c.args.outs.now in
+    let r = records_in c.args.self.now c.args.lent.now in
     let p = c.process-holder.ensures in
     let holder = c.process-holder.result in
     let h = c.record.result.now.name in

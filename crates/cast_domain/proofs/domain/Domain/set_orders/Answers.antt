@@ -4,18 +4,17 @@ use Rattle.std.proofs.lemmas.Bool.{or_parts}
 use Rattle.cast_domain.specs.Records.{records_in}
 use Rattle.cast_history.specs.Rules.Order.{set_order}
 use Rattle.cast_domain.specs.Calls.{records, resting_records}
-use Rattle.cast_domain.proofs.Loops.{keeps_then, others_then, fold_more}
+use Rattle.cast_domain.proofs.Loops.{beside_then, fold_more}
 use Rattle.cast_domain.proofs.domain.Domain.set_orders.Goals as goal
 
 pub loop-place-preserved : goal.loop-place-preserved
 loop-place-preserved c =
-    let r = records_in c.loop-place.self c.loop-place.shared c.loop-place.outs in
+    let r = records_in c.loop-place.self c.loop-place.lent in
     let i = c.loop-place.place in
     let n = length c.args.self.now.groups.items in
     let within : i < n = omega arith in
     record {
-      same = keeps_then _ _ _ c.loop-place.invariant.same c.in_ok-set.ensures.same;
-      others = others_then c.args.self.now c.loop-place.self _ _ _ c.loop-place.invariant.same c.loop-place.invariant.others c.in_ok-set.ensures.others;
+      stays = beside_then c.loop-place.invariant.stays c.in_ok-set.ensures.stays;
       left =
           ap (λ x. fold (set_order records resting_records) x (range_with_len (i + 1) (n - (i + 1)))) c.in_ok-set.ensures.made
           ∙ fold_more (set_order records resting_records) r i n within ∙ c.loop-place.invariant.left;

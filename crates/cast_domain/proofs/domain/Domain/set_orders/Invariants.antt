@@ -2,15 +2,13 @@ use Rattle.std.proofs.Common.{◌≡◌, ◌-◌, false, length}
 use Rattle.std.specs.List.{fold, range_with_len}
 use Rattle.cast_history.specs.Rules.Order.{set_order, set_orders}
 use Rattle.cast_domain.specs.Calls.{records, resting_records}
-use Rattle.cast_domain.specs.Records.{Keeps, records_in}
-use Rattle.cast_domain.specs.Shared.{LeavesOthers}
+use Rattle.cast_domain.specs.Records.{KeepsBeside, records_in}
 use Rattle.cast_domain.proofs.domain.Domain.set_orders.Given as goal
 
 -- the places that are left lead to the same records
 abbrev pub invariant-loop-place : goal.invariant-loop-place
 invariant-loop-place l = record {
-  same : Keeps l.fn.self l.self;
-  others : LeavesOthers l.fn.self.config.domain l.fn.shared l.shared;
-  left : fold (set_order records resting_records) (records_in l.self l.shared l.outs) (range_with_len l.place (length l.fn.self.groups.items - l.place)) ≡ set_orders records resting_records (records_in l.fn.self l.fn.shared l.fn.outs);
-  still : l.changed ≡ false → records_in l.self l.shared l.outs ≡ records_in l.fn.self l.fn.shared l.fn.outs;
+  stays : KeepsBeside l.fn.self l.fn.lent l.self l.lent;
+  left : fold (set_order records resting_records) (records_in l.self l.lent) (range_with_len l.place (length l.fn.self.groups.items - l.place)) ≡ set_orders records resting_records (records_in l.fn.self l.fn.lent);
+  still : l.changed ≡ false → records_in l.self l.lent ≡ records_in l.fn.self l.fn.lent;
 }

@@ -4,6 +4,6 @@ use Rattle.cast_domain.specs.Calls.{pay_in}
 use Rattle.cast_domain.proofs.domain.Domain.take_ack.Goals as goal
 
 pub returns-clause-made : goal.returns-clause-made
-returns-clause-made c o =
-    let r = records_in c.args.self.now c.args.shared.now o in
-    λ j. record ((c.pay.ensures.made o ∙ ap (pay_in r) c.message_key.ensures) j) { acks = c.in_ok-ack.ensures.ok j }
+returns-clause-made c =
+    let r = records_in c.args.self.now c.args.lent.now in
+    λ j. record ((c.pay.ensures.made ∙ ap (pay_in r) c.message_key.ensures) j) { acks = c.in_ok-ack.ensures.ok j }

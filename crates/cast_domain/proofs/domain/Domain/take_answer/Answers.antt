@@ -7,9 +7,9 @@ use Rattle.cast_domain.proofs.domain.Domain.take_answer.Goals as goal
 
 pub returns-clause-made : goal.returns-clause-made
 returns-clause-made c =
-    let r = records_in c.args.self.now c.args.shared.now c.args.outs.now in
+    let r = records_in c.args.self.now c.args.lent.now in
     let i = c.args.place in
     let home = r.config.home in
     let key : c.ask_key-key.result ≡ ask_key (record_at r.groups i).name home = c.ask_key-key.ensures ∙ ap (λ y. ask_key y.name home) c.record.ensures in
     c.in_ok-ask_home.ensures.made
-    ∙ (λ j. ask_home records (record ((c.pay.ensures.made c.args.outs.now ∙ ap (pay_in r) key) j) { groups = c.in_ok-answer_at.ensures.items j }) i)
+    ∙ (λ j. ask_home records (record ((c.pay.ensures.made ∙ ap (pay_in r) key) j) { groups = c.in_ok-answer_at.ensures.items j }) i)

@@ -4,35 +4,31 @@ use Rattle.cast_delay.specs.declared.turn.Turn.TheVariants.{Holding, Following}
 use Rattle.cast_delay.specs.Queue.{passed_in}
 use Rattle.cast_order.specs.Log.{log_of, next_in, has_room_in}
 use Rattle.cast_model.specs.Group.{holder_of, is_process}
-use Rattle.cast_model.specs.Outs.{no_outs}
 use Rattle.cast_history.specs.Rules.Room.{may_order}
 use Rattle.cast_domain.specs.Records.{records_in}
-use Rattle.cast_domain.specs.Shared.{part_of}
 use Rattle.cast_domain.specs.Calls.{records, settled_in}
 use Rattle.cast_domain.proofs.domain.Domain.turn.Goals as goal
 
 pub returns-then-has_order_room : goal.returns-then-has_order_room
 returns-then-has_order_room c =
-    let o = no_outs in
     let d = c.args.self.now in
-    let r = records_in d c.args.shared.now o in
+    let r = records_in d c.args.lent.now in
     let x = c.args.kept.now in
     let p = c.args.process in
     let holds : is_process p (holder_of x.here) ≡ true = sym c.is_held_by.ensures ∙ c.if-is_held_by.true in
-    let room : may_order records r ≡ true = sym (c.has_order_room.ensures o) ∙ c.if-has_order_room.true in
-    ap Holding (c.has_room.ensures ∙ ap (λ n. has_room_in n (log_of d.orders x.name)) (c.settled-settled.ensures o (part_of d.config.domain c.args.shared.now)))
+    let room : may_order records r ≡ true = sym c.has_order_room.ensures ∙ c.if-has_order_room.true in
+    ap Holding (c.has_room.ensures ∙ ap (λ n. has_room_in n (log_of d.orders x.name)) (c.settled-settled.ensures c.args.lent.now.outs.now r.part))
     ∙ sym (ap (λ b. Holding (b && has_room_in (settled_in r x.name x.here.number p) (log_of d.orders x.name))) room)
     ∙ sym (ap (λ b. if b then Holding (may_order records r && has_room_in (settled_in r x.name x.here.number p) (log_of d.orders x.name)) else Following (slice_get (next_in (log_of d.orders x.name) p) (passed_in d.delay p x.name x.here.number (next_in (log_of d.orders x.name) p)))) holds)
 
 pub returns-else-has_order_room : goal.returns-else-has_order_room
 returns-else-has_order_room c =
-    let o = no_outs in
     let d = c.args.self.now in
-    let r = records_in d c.args.shared.now o in
+    let r = records_in d c.args.lent.now in
     let x = c.args.kept.now in
     let p = c.args.process in
     let holds : is_process p (holder_of x.here) ≡ true = sym c.is_held_by.ensures ∙ c.if-is_held_by.true in
-    let full : may_order records r ≡ false = sym (c.has_order_room.ensures o) ∙ c.if-has_order_room.false in
+    let full : may_order records r ≡ false = sym c.has_order_room.ensures ∙ c.if-has_order_room.false in
     ap Holding c.if-has_order_room.false
     ∙ sym (ap (λ b. Holding (b && has_room_in (settled_in r x.name x.here.number p) (log_of d.orders x.name))) full)
     ∙ sym (ap (λ b. if b then Holding (may_order records r && has_room_in (settled_in r x.name x.here.number p) (log_of d.orders x.name)) else Following (slice_get (next_in (log_of d.orders x.name) p) (passed_in d.delay p x.name x.here.number (next_in (log_of d.orders x.name) p)))) holds)

@@ -3,14 +3,13 @@ use Rattle.std.proofs.lemmas.List.{map-append, take_more}
 use Rattle.cast_types.specs.declared.names.GroupNo.{GroupNo}
 use Rattle.cast_delay.specs.declared.turn.Turn.{Turn}
 use Rattle.cast_domain.specs.declared.record.GroupRecord.{GroupRecord}
-use Rattle.cast_model.specs.Outs.{no_outs}
 use Rattle.cast_domain.specs.Records.{records_in}
 use Rattle.cast_domain.specs.Calls.{turn_at}
 use Rattle.cast_domain.proofs.domain.Domain.turns.Goals as goal
 
 pub loop-record-preserved : goal.loop-record-preserved
 loop-record-preserved c =
-    let f : GroupRecord → GroupNo × Turn = λ x. (x.name, turn_at (records_in c.args.self.now c.args.shared.now no_outs) c.args.process x) in
+    let f : GroupRecord → GroupNo × Turn = λ x. (x.name, turn_at (records_in c.args.self.now c.args.lent.now) c.args.process x) in
     let i = c.loop-record.record-index in
     let items = c.as_slice-record-items.result.now in
     let x = c.record-item.result in

@@ -10,7 +10,7 @@ use Rattle.cast_domain.proofs.domain.Domain.use_data.Goals as goal
 
 pub returns-then-is_received-clause-made : goal.returns-then-is_received-clause-made
 returns-then-is_received-clause-made c =
-    let r = records_in c.args.self.now c.args.shared.now c.args.outs.now in
+    let r = records_in c.args.self.now c.args.lent.now in
     let m = c.args.message.now in
     let new : Records = if may_take records r m.body then acknowledge records (receive_in r m) c.args.from m.id else r in
     let received : is_received_in r.acks m.id ≡ true = sym c.is_received.ensures.value ∙ c.if-is_received.true in
@@ -18,22 +18,22 @@ returns-then-is_received-clause-made c =
 
 pub returns-then-not-may_take-clause-made : goal.returns-then-not-may_take-clause-made
 returns-then-not-may_take-clause-made c =
-    let r = records_in c.args.self.now c.args.shared.now c.args.outs.now in
+    let r = records_in c.args.self.now c.args.lent.now in
     let m = c.args.message.now in
     let first : Records = acknowledge records (receive_in r m) c.args.from m.id in
     let received : is_received_in r.acks m.id ≡ false = sym c.is_received.ensures.value ∙ c.if-is_received.false in
-    let full : may_take records r m.body ≡ false = sym (c.may_take.ensures c.args.outs.now) ∙ c.if-not-may_take.true in
+    let full : may_take records r m.body ≡ false = sym c.may_take.ensures ∙ c.if-not-may_take.true in
     sym (ap (λ b. if b then first else r) full)
     ∙ sym (ap (λ b. if b then send_in r c.args.from (frame.Ack m.id) else (if may_take records r m.body then first else r)) received)
 
 pub returns-clause-made : goal.returns-clause-made
 returns-clause-made c =
-    let r = records_in c.args.self.now c.args.shared.now c.args.outs.now in
+    let r = records_in c.args.self.now c.args.lent.now in
     let m = c.args.message.now in
     let first : Records = acknowledge records (receive_in r m) c.args.from m.id in
     let received : is_received_in r.acks m.id ≡ false = sym c.is_received.ensures.value ∙ c.if-is_received.false in
-    let room : may_take records r m.body ≡ true = sym (c.may_take.ensures c.args.outs.now) ∙ c.if-not-may_take.false in
+    let room : may_take records r m.body ≡ true = sym c.may_take.ensures ∙ c.if-not-may_take.false in
     c.in_ok-acknowledge.ensures.made
-    ∙ ap (λ x. acknowledge records x c.args.from m.id) (c.in_ok-receive.ensures.made c.args.outs.now ∙ ap (receive_in r) c.in_ok-copy.ensures)
+    ∙ ap (λ x. acknowledge records x c.args.from m.id) (c.in_ok-receive.ensures.made ∙ ap (receive_in r) c.in_ok-copy.ensures)
     ∙ sym (ap (λ b. if b then first else r) room)
     ∙ sym (ap (λ b. if b then send_in r c.args.from (frame.Ack m.id) else (if may_take records r m.body then first else r)) received)

@@ -1,0 +1,14 @@
+use Rattle.std.proofs.Common.{◌≡◌, false, drop}
+use Rattle.std.specs.List.{fold}
+use Rattle.cast_history.specs.Rules.Home.{want}
+use Rattle.cast_domain.specs.Calls.{records}
+use Rattle.cast_domain.specs.Records.{GivesBack, records_in}
+use Rattle.cast_domain.proofs.domain.Domain.want_all.Given as goal
+
+-- what is left to want leads to the same records
+abbrev pub invariant-loop-wanted : goal.invariant-loop-wanted
+invariant-loop-wanted l = record {
+  back : GivesBack l.self.config.domain l.fn.lent l.lent;
+  left : fold (want records l.place) (records_in l.self l.lent) (drop l.wanted-index l.wants) ≡ fold (want records l.place) (records_in l.self l.fn.lent) l.wants;
+  still : l.changed ≡ false → records_in l.self l.lent ≡ records_in l.self l.fn.lent;
+}
