@@ -1,7 +1,7 @@
-ghost use Rattle.std.specs.Prelude.{◌≡◌, ◌<◌, false, IfOk, OnOk, vec_len};
+ghost use Rattle.std.specs.Prelude.{◌≡◌, ◌<◌, ◌&&◌, not, false, IfOk, OnOk, vec_len};
 ghost use Rattle.std.specs.List.{find, fold};
 ghost use Rattle.std.specs.Option.{option_copied};
-ghost use Rattle.cast_types.specs.Names.{entry_eq, entry_of, uid_eq};
+ghost use Rattle.cast_types.specs.Names.{entry_eq, entry_of, site_eq, uid_eq};
 ghost use Rattle.cast_history.specs.Rules.Requests.{answer_ask, on_ask};
 ghost use Rattle.cast_history.specs.Rules.Home.{announce, decide, forwardable, is_of_home, lead, lead_group, on_flushed, on_forward, on_installed, on_want, owe_of_home, prepare, start, want, want_bodies, wants};
 
@@ -129,18 +129,36 @@ impl Domain {
         ensures stays { KeepsBeside self.old lent.old self.new lent.new }
         ensures made { OnOk result (records_in self.new lent.new ≡ on_forward records (records_in self.old lent.old) place message.now) }
     {
-        let wants = self.wants(place)?;
-        match want_of(wants.as_slice(), message.id) {
-            Some(wanted) => {
-                if self.is_flushed_message(place, message) {
-                    let key = want_key(self.record(place).name, wanted);
-                    self.pay(&key, lent);
-                    body_at(&mut self.groups, place, message.copy()?)?;
-                }
-                Ok(())
-            }
-            None => Ok(()),
+        let Some(wanted) = self.want_for(place, message.id)? else {
+            return Ok(());
+        };
+        if !self.is_flushed_message(place, message) {
+            return Ok(());
         }
+        let key = want_key(self.record(place).name, wanted);
+        self.pay(&key, lent);
+        body_at(&mut self.groups, place, message.copy()?)?;
+        Ok(())
+    }
+
+    // From which site the home wants a message, where it wants it.
+    fn want_for(
+        &self,
+        place: usize,
+        id: Uid,
+    ) -> Result<Option<(SiteNo, (Proc, u32))>, NoMemory>
+        requires { place < vec_len self.now.groups }
+        ensures { IfOk result (λ w. (o : Outs) (part : Part) → w ≡ find (λ x. entry_eq x.1 (entry_of id)) (wants records (records_of self.now part o) place)) }
+    {
+        let wants = self.wants(place)?;
+        Ok(want_of(wants.as_slice(), id).copied())
+    }
+
+    // Whether a Want is from this site itself, which is not the home.
+    fn is_own_want(&self, from: SiteNo) -> bool
+        ensures { result ≡ (site_eq from self.now.site && not (site_eq self.now.site self.now.config.home)) }
+    {
+        from == self.site && !self.is_home()
     }
 
     // Whether a message is of the view that the home decided last, and well formed in it.
@@ -164,7 +182,7 @@ impl Domain {
         ensures back { GivesBack self.now.config.domain lent.old lent.new }
         ensures made { OnOk result (records_in self.now lent.new ≡ on_want records (records_in self.now lent.old) place from id) }
     {
-        if from == self.site && !self.is_home() {
+        if self.is_own_want(from) {
             return Ok(());
         }
         match self.forwardable(place, id, lent)? {
@@ -258,7 +276,8 @@ impl Domain {
         ensures still { IfOk result (λ changed. changed ≡ false → records_in self.now lent.new ≡ records_in self.now lent.old) }
     {
         let wants = self.wants(place)?;
-        self.want_all(place, wants.as_slice(), lent)
+        let changed = self.want_all(place, wants.as_slice(), lent)?;
+        Ok(changed)
     }
 
     // The messages that the home lacks, each with the site that it wants it from.
@@ -396,11 +415,10 @@ impl Domain {
 }
 
 // The entry of a message among those that are wanted.
-fn want_of(wants: &[(SiteNo, (Proc, u32))], id: Uid) -> Option<(SiteNo, (Proc, u32))>
-    ensures { result ≡ find (λ w. entry_eq w.1 (entry_of id)) wants.now }
+fn want_of(wants: &[(SiteNo, (Proc, u32))], id: Uid) -> Option<&(SiteNo, (Proc, u32))>
+    ensures { option_copied result ≡ find (λ w. entry_eq w.1 (entry_of id)) wants.now }
 {
-    let wanted = wants.iter().find(|wanted| wanted.1 == (id.proc, id.count))?;
-    Some(*wanted)
+    wants.iter().find(|wanted| wanted.1 == (id.proc, id.count))
 }
 
 // The message of an id.

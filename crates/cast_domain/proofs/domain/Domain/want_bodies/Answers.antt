@@ -1,0 +1,14 @@
+use Rattle.std.proofs.Common.{◌∙◌, ap}
+use Rattle.std.specs.List.{fold}
+use Rattle.cast_history.specs.Rules.Home.{want}
+use Rattle.cast_domain.specs.Shared.{part_of}
+use Rattle.cast_domain.specs.Records.{records_in}
+use Rattle.cast_domain.specs.Calls.{records}
+use Rattle.cast_domain.proofs.domain.Domain.want_bodies.Goals as goal
+
+pub returns-clause-made : goal.returns-clause-made
+returns-clause-made c =
+    let d = c.args.self.now in
+    let lent = c.args.lent.now in
+    c.in_ok-changed.ensures.made
+    ∙ ap (fold (want records c.args.place) (records_in d lent)) (c.as_slice.ensures ∙ c.in_ok-wants.ensures lent.outs.now (part_of d.config.domain lent.shared.now))
