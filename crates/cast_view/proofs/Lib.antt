@@ -2,3 +2,6 @@ pub mod Among
 pub mod Rooms
 pub mod Flushes
 pub mod Flushing
+pub mod Sides
+pub mod Counting
+pub mod Installing
