@@ -9,16 +9,16 @@
 //! old one. A site that a view skipped puts its members out first.
 //!
 //! Promised: each call of `HomeSide` does to a group at the home, and each call of `MemberSide` to a group at a site, exactly
-//! what the definition says, and answers by it. A decided view has at most 64 members; and the next view has whoever stays or
-//! joins, and nobody else (`laws`). At a site only a view is frozen; an Install waits only in a frozen view, is the next one,
-//! and is the first that came; and the requests that are not answered have numbers without a gap, the last one's being how
-//! many there were. Where memory is refused, a `MemberSide` stays as it was, and a `HomeSide` is of no further use. No domain
-//! calls this crate yet.
+//! what the definition says, and answers by it. A decided view has at most 64 members, and the next view has whoever stays or
+//! joins, and nobody else (`laws`). At a site only a view is frozen; an Install waits only in a frozen view, and is the next
+//! one; what the home tells a site again changes nothing (`laws`); and the requests that are not answered have numbers
+//! without a gap, up to how many there were. Where memory is refused, a `MemberSide` stays as it was, and a `HomeSide` is of
+//! no further use. No domain calls this crate yet.
 //!
 //! The definitions are in `specs/`: `Home` has the group at the home with its requests, suspicions and flush, over
 //! `Reports` and `Decisions` of `cast_flush`; `MemberSide` the group at a site with its view, its part in a flush and its
-//! requests; `Sites` the sites of processes, and views as a site has them; and `Laws` says in words whom the next view has.
-//! `proofs/Flushing` has worked examples of the home, and `proofs/Installing` of a site.
+//! requests; `Sites` the sites of processes, and views as a site has them; and `Laws` says in words whom the next view has,
+//! and what comes to a site again. `proofs/Flushing` has worked examples of the home, and `proofs/Installing` of a site.
 #![tactic(auto)]
 
 mod home;
