@@ -67,7 +67,8 @@ fn is_so(alloc: Global, side: &mut MemberSide, row: &Row) -> Result<bool, Fail> 
         Row::Prepare(view, answers) => Ok(side.prepare(*view) == *answers),
         Row::Flushed(sent, reported) => flushed(alloc, side, *sent, *reported),
         Row::Install(number, named, verdict) => {
-            Ok(installed(alloc, side, *number, *named)? == *verdict)
+            let told = side.verdict(*number);
+            Ok(installed(alloc, side, *number, *named)? == *verdict && told == *verdict)
         }
         Row::Complete(number, named) => completed(alloc, side, *number, *named),
         Row::Out(number, counts) => Ok(side.out(*number) == *counts),
