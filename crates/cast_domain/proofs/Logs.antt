@@ -32,7 +32,8 @@ use Rattle.cast_order.specs.Fits.{Fits as OrderFits}
 use Rattle.cast_order.proofs.Meanings.{new_fits as order_new_fits, learnt_group, learn_fits, more_fits, at_start}
 use Rattle.cast_order.proofs.Logs.{log_of_change, log_of_forget}
 use Rattle.cast_model.specs.declared.group.Group.{Group}
-use Rattle.cast_model.specs.Group.{no_group, holder_at, members_of, other_sites, with_view}
+use Rattle.cast_model.specs.Group.{no_group, holder_at, members_of, with_view}
+use Rattle.cast_view.specs.Sites.{other_sites}
 use Rattle.cast_view.specs.Home.{is_empty}
 use Rattle.cast_history.specs.State.{State, local, others_of, noting_ack, set_group, receiving}
 use Rattle.cast_history.specs.Order.{told_by, ids_told, is_of_view, facts_in}

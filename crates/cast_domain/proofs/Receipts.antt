@@ -9,7 +9,8 @@ use Rattle.cast_types.specs.Names.{site_eq, group_eq, proc_eq}
 use Rattle.cast_types.specs.Sets.{is_among, set_at}
 use Rattle.cast_types.proofs.Orders.{same_group}
 use Rattle.cast_model.specs.declared.group.Group.{Group}
-use Rattle.cast_model.specs.Group.{no_group, members_of, other_sites}
+use Rattle.cast_model.specs.Group.{no_group, members_of}
+use Rattle.cast_view.specs.Sites.{other_sites}
 use Rattle.cast_history.specs.State.{State, set_group, others_of, may_speak}
 use Rattle.cast_domain.specs.Fits.{is_live, past_of}
 

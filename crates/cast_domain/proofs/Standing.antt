@@ -48,7 +48,8 @@ use Rattle.cast_model.specs.declared.session.Session.{Session}
 use Rattle.cast_model.specs.declared.group.Group.{Group}
 use Rattle.cast_view.specs.Home.{Home}
 use Rattle.cast_model.specs.Session.{no_session, first_session, is_open, pushed_to, told}
-use Rattle.cast_model.specs.Group.{members_of, other_sites, with_view}
+use Rattle.cast_model.specs.Group.{members_of, with_view}
+use Rattle.cast_view.specs.Sites.{other_sites}
 use Rattle.cast_history.specs.State.{State, opening, no_process, local, is_group, gate_of, others_of, set_session, set_process, set_group, set_home, set_standing, emitted, was_given, pushing, receiving, noting_act, noting_sent}
 use Rattle.cast_history.specs.Acts.{Act}
 use Rattle.cast_history.specs.Acts.Act.{Sent}

@@ -25,7 +25,6 @@ use Rattle.cast_history.specs.History.{history}
 use Rattle.cast_domain.specs.declared.record.GroupRecord.{GroupRecord}
 use Rattle.cast_model.specs.Group.{holder_at}
 use Rattle.cast_history.specs.State.{State, local, serials, gate_of, was_given}
-use Rattle.cast_history.specs.Rules.Requests.{is_home}
 use Rattle.cast_history.specs.Order.{unlisted, is_ready_for}
 use Rattle.cast_history.specs.Effects.{sending, next_message}
 use Rattle.cast_history.specs.Rest.{deliver_first, deliver_all, settle, set_order_by, set_order, set_orders, pass, let_go}

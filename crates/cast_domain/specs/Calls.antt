@@ -39,7 +39,8 @@ use Rattle.cast_timer.specs.Owed.{is_owed, due_at}
 use Rattle.cast_message.specs.Receipts.{key_eq, message_under}
 use Rattle.cast_domain.specs.declared.record.GroupRecord.{GroupRecord}
 use Rattle.cast_model.specs.Session.{first_session, told as told_session}
-use Rattle.cast_model.specs.Group.{no_group, members_of, holder_of, is_process, other_sites, is_current, with_request, with_answer, with_view, is_taken_in}
+use Rattle.cast_model.specs.Group.{no_group, members_of, holder_of, is_process, is_current, with_request, with_answer, with_view, is_taken_in}
+use Rattle.cast_view.specs.Sites.{other_sites}
 use Rattle.cast_view.specs.Home.{HomeMove, first_home, is_empty, moved}
 use Rattle.cast_domain.specs.Shared.{part_with, part_without, part_owing, part_renewing, part_paying, part_paying_upto}
 use Rattle.cast_history.specs.Rules.Interface.{Site, Serials, Resting}

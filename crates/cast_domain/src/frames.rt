@@ -17,9 +17,9 @@ use cast_clock::Times;
 use cast_delay::Fact;
 use cast_message::{Members, Message, Push, SiteFrame};
 use cast_model::group::is_taken_in;
-use cast_model::sites::{is_among, other_sites};
 use cast_model::{Asking, Outs, Verdict};
 use cast_types::{Clock, GroupNo, NoMemory, Proc, Refusal, SiteNo, Standing, Uid};
+use cast_view::{is_among, other_sites};
 
 // What the types of a time's clocks promise of their counts, for the proofs: nothing is done.
 fn promised_by_counts(clocks: &[(GroupNo, Clock)])
@@ -198,9 +198,7 @@ impl Domain {
     pub(crate) fn is_well_formed(&self, members: &[Proc], message: &Message) -> bool
         ensures { (o : Outs) (part : Part) → result ≡ is_well_formed records (records_of self.now part o) members.now message.now }
     {
-        self.knows_groups(message)
-            && is_member(message.id.proc, members)
-            && counts_itself(message)
+        self.knows_groups(message) && is_member(message.id.proc, members) && counts_itself(message)
     }
 
     // Whether all groups of the message's time are configured.
@@ -271,10 +269,13 @@ impl Domain {
         let process = self.process(serial);
         if is_joining_by(self.delay.standing(process, group), asking.number) {
             self.tell(process, Fact::Standing(group, Standing::Outside))?;
-            self.push(serial, Push::Denied {
+            self.push(
+                serial,
+                Push::Denied {
                     group,
                     refusal: Refusal::GroupFull,
-                })?;
+                },
+            )?;
         }
         Ok(())
     }

@@ -142,11 +142,7 @@ impl Domain {
     }
 
     // From which site the home wants a message, where it wants it.
-    fn want_for(
-        &self,
-        place: usize,
-        id: Uid,
-    ) -> Result<Option<(SiteNo, (Proc, u32))>, NoMemory>
+    fn want_for(&self, place: usize, id: Uid) -> Result<Option<(SiteNo, (Proc, u32))>, NoMemory>
         requires { place < vec_len self.now.groups }
         ensures { IfOk result (λ w. (o : Outs) (part : Part) → w ≡ find (λ x. entry_eq x.1 (entry_of id)) (wants records (records_of self.now part o) place)) }
     {
@@ -231,11 +227,7 @@ impl Domain {
     }
 
     // The home starts a flush of the group at a place, wants what some sites lack, and decides the next view, where these are due.
-    fn lead_group(
-        &mut self,
-        place: usize,
-        lent: &mut Lent<'_>,
-    ) -> Result<bool, NoMemory>
+    fn lead_group(&mut self, place: usize, lent: &mut Lent<'_>) -> Result<bool, NoMemory>
         requires { place < vec_len self.old.groups }
         ensures stays { KeepsBeside self.old lent.old self.new lent.new }
         ensures made { OnOk result (records_in self.new lent.new ≡ lead_group records (records_in self.old lent.old) place) }
@@ -249,11 +241,7 @@ impl Domain {
     }
 
     // The home starts a flush where something is to change, and owes Prepare. Answers whether it did.
-    fn start(
-        &mut self,
-        place: usize,
-        lent: &mut Lent<'_>,
-    ) -> Result<bool, NoMemory>
+    fn start(&mut self, place: usize, lent: &mut Lent<'_>) -> Result<bool, NoMemory>
         requires { place < vec_len self.old.groups }
         ensures stays { KeepsBeside self.old lent.old self.new lent.new }
         ensures made { OnOk result (records_in self.new lent.new ≡ start records (records_in self.old lent.old) place) }
@@ -330,11 +318,7 @@ impl Domain {
     }
 
     // The home decides the next view, where it is due, and owes Install. Answers whether it did.
-    fn decide(
-        &mut self,
-        place: usize,
-        lent: &mut Lent<'_>,
-    ) -> Result<bool, NoMemory>
+    fn decide(&mut self, place: usize, lent: &mut Lent<'_>) -> Result<bool, NoMemory>
         requires { place < vec_len self.old.groups }
         ensures stays { KeepsBeside self.old lent.old self.new lent.new }
         ensures made { OnOk result (records_in self.new lent.new ≡ decide records (records_in self.old lent.old) place) }
@@ -351,11 +335,7 @@ impl Domain {
     }
 
     // Owes Prepare to each site whose report the home awaits.
-    fn prepare(
-        &self,
-        place: usize,
-        lent: &mut Lent<'_>,
-    ) -> Result<(), NoMemory>
+    fn prepare(&self, place: usize, lent: &mut Lent<'_>) -> Result<(), NoMemory>
         requires { place < vec_len self.now.groups }
         ensures back { GivesBack self.now.config.domain lent.old lent.new }
         ensures made { OnOk result (records_in self.now lent.new ≡ prepare records (records_in self.now lent.old) place) }
@@ -366,11 +346,7 @@ impl Domain {
     }
 
     // Owes Install to each site that is to install the view.
-    fn announce(
-        &self,
-        place: usize,
-        lent: &mut Lent<'_>,
-    ) -> Result<(), NoMemory>
+    fn announce(&self, place: usize, lent: &mut Lent<'_>) -> Result<(), NoMemory>
         requires { place < vec_len self.now.groups }
         ensures back { GivesBack self.now.config.domain lent.old lent.new }
         ensures made { OnOk result (records_in self.now lent.new ≡ announce records (records_in self.now lent.old) place) }

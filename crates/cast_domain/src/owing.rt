@@ -187,7 +187,10 @@ impl Domain {
             OwedKind::Ack => Ok(Some(SiteFrame::Ack(id_in(self.record(place).here.number, key)))),
             OwedKind::Prepare => Ok(Some(self.prepare_frame(place, key.group))),
             OwedKind::Install => install_frame(key.group, &self.record(place).home, key.site),
-            OwedKind::Want => Ok(Some(SiteFrame::Want(id_in(self.record(place).home.number(), key)))),
+            OwedKind::Want => Ok(Some(SiteFrame::Want(id_in(
+                self.record(place).home.number(),
+                key,
+            )))),
         }
     }
 

@@ -7,9 +7,9 @@ use crate::lent::Lent;
 use crate::owing::message_key;
 use cast_message::{Received, SiteFrame};
 use cast_model::Outs;
-use cast_model::sites::is_among;
 use cast_timer::OwedKind;
 use cast_types::{Key, NoMemory, SiteNo, Uid};
+use cast_view::is_among;
 
 impl Domain {
     ghost use Rattle.cast_model.specs.declared.event.Outs.{Outs};

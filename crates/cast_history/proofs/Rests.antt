@@ -24,8 +24,9 @@ use Rattle.cast_timer.specs.declared.key.OwedKind.TheVariants.{Prepare, Install}
 use Rattle.cast_view.specs.declared.phase.Phase.{Phase}
 use Rattle.cast_view.specs.declared.phase.Phase.TheVariants.{Idle, Gathering, Installing}
 use Rattle.cast_view.specs.declared.phase.Decision.{Decision}
-use Rattle.cast_view.specs.Home.{Home, HomeMove, moved, is_empty, is_idle, is_suspected, may_start, sites_to_await, awaited_of, waiting_of, may_decide_in, may_decide, decided_list, decision_of, decided_phase, decided, installing, sites_of}
+use Rattle.cast_view.specs.Home.{Home, HomeMove, moved, is_empty, is_idle, is_suspected, may_start, sites_to_await, awaited_of, waiting_of, may_decide_in, may_decide, decided_list, decision_of, decided_phase, decided, installing}
 use Rattle.cast_view.specs.Home.HomeMove.{Started, Decided}
+use Rattle.cast_view.specs.Sites.{sites_of}
 use Rattle.std.specs.Option.{option_map_or}
 use Rattle.std.proofs.lemmas.Bool.{cases_Bool, false≢true}
 use Rattle.cast_types.specs.Names.{Entry}

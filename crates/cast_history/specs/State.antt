@@ -22,7 +22,8 @@ use Rattle.cast_model.specs.declared.session.Session.{Session}
 use Rattle.cast_message.specs.declared.client.Push.{Push}
 use Rattle.cast_model.specs.Session.{no_session, is_open, pushed_to}
 use Rattle.cast_model.specs.declared.group.Group.{Group}
-use Rattle.cast_model.specs.Group.{no_group, members_of, other_sites}
+use Rattle.cast_model.specs.Group.{no_group, members_of}
+use Rattle.cast_view.specs.Sites.{other_sites}
 use Rattle.cast_view.specs.Home.{Home, first_home}
 use Rattle.cast_model.specs.declared.config.DomainConfig.{DomainConfig}
 

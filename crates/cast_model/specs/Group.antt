@@ -1,13 +1,12 @@
 -- A group at one site: the number of the last view that the site knows of; that view, while a member of it is at this
 -- site; how many requests there were; and those that the home has not answered, in order.
-use Rattle.std.specs.Prelude.{ℕ, ◌+◌, Bool, true, false, not, ◌&&◌, ◌==◌, nat_le, if◌then◌else◌, List, [], ◌∷◌, ◌++◌, map, filter, drop, Option, Some, None}
+use Rattle.std.specs.Prelude.{ℕ, ◌+◌, Bool, true, false, ◌&&◌, ◌==◌, nat_le, if◌then◌else◌, List, [], ◌∷◌, ◌++◌, drop, Option, Some, None}
 use Rattle.std.specs.List.{list_any}
 use Rattle.cast_types.specs.declared.names.SiteNo.{SiteNo}
 use Rattle.cast_types.specs.declared.names.Proc.{Proc}
 use Rattle.cast_types.specs.declared.names.Standing.{Standing}
 use Rattle.cast_types.specs.declared.names.Standing.TheVariants.{Outside, Joining, Member}
-use Rattle.cast_types.specs.Names.{site_eq, site_cmp, proc_eq}
-use Rattle.cast_types.specs.Sets.{set_of}
+use Rattle.cast_types.specs.Names.{site_eq, proc_eq}
 use Rattle.cast_message.specs.declared.site.Change.{Change}
 use Rattle.cast_message.specs.Membership.{Membership}
 use Rattle.cast_model.specs.declared.group.Asking.{Asking}
@@ -39,13 +38,6 @@ has_view g = elim g.view [ Some m ↦ true | None ↦ false ]
 -- the site has a view, and it has this number
 abbrev pub is_current : Group → ℕ → Bool
 is_current g view = has_view g && (g.number == view)
-
--- the sites of processes, in order
-abbrev pub sites_of : List Proc → List SiteNo
-sites_of procs = set_of site_cmp (map (λ p. p.site) procs)
-
-abbrev pub other_sites : SiteNo → List Proc → List SiteNo
-other_sites here procs = filter (λ s. not (site_eq here s)) (sites_of procs)
 
 abbrev pub is_at : SiteNo → Proc → Bool
 is_at s p = site_eq p.site s

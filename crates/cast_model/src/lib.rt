@@ -17,7 +17,6 @@ pub mod group;
 pub mod log;
 pub mod moment;
 pub mod session;
-pub mod sites;
 
 pub use config::{Config, DomainConfig, Quotas};
 pub use event::{Event, Outs, Taken};

@@ -20,7 +20,8 @@ use Rattle.cast_view.specs.declared.phase.Phase.{Phase}
 use Rattle.cast_view.specs.declared.phase.Phase.TheVariants.{Idle, Gathering, Installing}
 use Rattle.cast_flush.specs.Reports.{cut_from}
 use Rattle.cast_flush.specs.Decisions.{order_from}
-use Rattle.cast_view.specs.Home.{Home, expected, stays, is_leaving, is_suspected, is_crowded, is_refused, is_sound, has_next_number, installing, sites_of, decided_list, decided_phase, decided, marked_leaving}
+use Rattle.cast_view.specs.Sites.{sites_of}
+use Rattle.cast_view.specs.Home.{Home, expected, stays, is_leaving, is_suspected, is_crowded, is_refused, is_sound, has_next_number, installing, decided_list, decided_phase, decided, marked_leaving}
 use Rattle.cast_types.proofs.Rising.{rising_kept, rising-with_items}
 use Rattle.cast_view.proofs.Among.{among_kept, among_with_item, among_set_of}
 use Rattle.cast_flush.proofs.Each.{length_filter}

@@ -1,5 +1,5 @@
 -- A group at the home: its last decided view, what is to change, and the flush that runs.
-use Rattle.std.specs.Prelude.{ℕ, ◌+◌, Bool, true, false, not, ◌&&◌, ◌==◌, nat_lt, nat_le, if◌then◌else◌, List, [], ◌∷◌, ◌++◌, length, map, filter, Option, Some, None, unwrap_or}
+use Rattle.std.specs.Prelude.{ℕ, ◌+◌, Bool, true, false, not, ◌&&◌, ◌==◌, nat_lt, nat_le, if◌then◌else◌, List, [], ◌∷◌, ◌++◌, length, filter, Option, Some, None, unwrap_or}
 use Rattle.std.specs.FinMap.Entries.{find, put}
 use Rattle.cast_types.specs.declared.limits.TheConstants.{MAX_MEMBERS, MAX_NUMBER}
 use Rattle.cast_types.specs.declared.names.SiteNo.{SiteNo}
@@ -12,6 +12,7 @@ use Rattle.cast_message.specs.declared.site.Change.{Change}
 use Rattle.cast_message.specs.declared.site.Change.TheVariants as change
 use Rattle.cast_message.specs.Membership.{Membership}
 use Rattle.cast_flush.specs.declared.report.Report.{Report}
+use Rattle.cast_view.specs.Sites.{sites_of}
 use Rattle.cast_view.specs.declared.phase.Answer.{Answer}
 use Rattle.cast_view.specs.declared.phase.Decision.{Decision}
 use Rattle.cast_view.specs.declared.phase.Phase.{Phase}
@@ -109,10 +110,6 @@ answer_to h s number what p =
     else if nat_lt number (answer_of h s).number then Some false else None
 
 -- The flush
-
--- the sites of processes, in order
-abbrev pub sites_of : List Proc → List SiteNo
-sites_of procs = set_of site_cmp (map (λ p. p.site) procs)
 
 abbrev pub is_empty : {A : Type 0} → List A → Bool
 is_empty [] = true

@@ -1,2 +1,4 @@
+pub mod Sites
 pub mod Home
+pub mod MemberSide
 pub mod Laws

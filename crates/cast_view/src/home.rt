@@ -1,15 +1,15 @@
 ghost use Rattle.std.specs.Prelude.{◌≡◌, ◌+◌, ◌<◌, ◌≤◌, false, IfOk, OnOk, IsTrue, length};
 ghost use Rattle.cast_types.specs.declared.limits.TheConstants.{MAX_NUMBER};
-ghost use Rattle.cast_types.specs.Names.{proc_cmp, proc_eq, site_cmp, site_eq};
-ghost use Rattle.cast_types.specs.Sets.{with_item, with_items, without, apart_from};
+ghost use Rattle.cast_types.specs.Names.{proc_cmp, proc_eq};
+ghost use Rattle.cast_types.specs.Sets.{with_item, without};
 ghost use Rattle.cast_message.specs.Membership.{is_held};
 ghost use Rattle.cast_flush.specs.Reports.{cut_from, wanting};
 ghost use Rattle.cast_flush.specs.Decisions.{order_from};
-ghost use Rattle.cast_view.specs.Home.{sites_of, least_of};
+ghost use Rattle.cast_view.specs.Home.{least_of};
 
-use crate::phase::{Answer, Decision, Phase, installing, is_among};
+use crate::phase::{Answer, Decision, Phase, installing};
 use crate::procs::{Procs, is_listed};
-use crate::sets::insert_site;
+use crate::sites::{apart_from, insert_site, is_among, sites_and, sites_of};
 use cast_flush::{Report, cut_from, is_complete, order_from, wanting, wants_of};
 use cast_message::{Change, Members, Message};
 use cast_types::limits::{MAX_MEMBERS, MAX_NUMBER};
@@ -487,41 +487,6 @@ impl HomeSide {
         self.set_phase(phase.without(site));
         true
     }
-}
-
-// The sites of processes, each once, in rising order.
-fn sites_of(alloc: Global, processes: &[Proc]) -> Result<Listed<SiteNo>, NoMemory>
-    ensures { IfOk result (λ l. l ≡ sites_of processes.now) }
-{
-    let mut sites = Vec::new(alloc);
-    for process in processes {
-        insert_site(&mut sites, process.site)?;
-    }
-    Ok(Listed::from_vec(sites))
-}
-
-// The sites of processes, and other sites, each once, in rising order.
-fn sites_and(
-    alloc: Global,
-    processes: &[Proc],
-    others: &[SiteNo],
-) -> Result<Listed<SiteNo>, NoMemory>
-    ensures { IfOk result (λ l. l ≡ with_items site_cmp (sites_of processes.now) others.now) }
-{
-    let mut sites = sites_of(alloc, processes)?.into_vec();
-    for site in others {
-        insert_site(&mut sites, *site)?;
-    }
-    Ok(Listed::from_vec(sites))
-}
-
-// The sites that are not among the others.
-fn apart_from(sites: Listed<SiteNo>, others: &[SiteNo]) -> Listed<SiteNo>
-    ensures { result ≡ apart_from site_eq sites others.now }
-{
-    let mut rest = sites.into_vec();
-    rest.retain(|site| !is_among(*site, others));
-    Listed::from_vec(rest)
 }
 
 // The first of these processes, which is the least where they rise.

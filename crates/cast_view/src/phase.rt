@@ -4,6 +4,7 @@ ghost use Rattle.cast_types.specs.Sets.{is_among, without};
 ghost use Rattle.std.specs.FinMap.Entries.{put};
 ghost use Rattle.cast_view.specs.Home.{answer_in, awaited_of, waiting_of, is_idle, installing, phase_without, awaits_report, phase_with_report, phase_with_body, awaits_installed};
 
+use crate::sites::{is_among, sites_without};
 use cast_flush::{Report, has_report};
 use cast_message::{Message, Tail};
 use cast_types::{Counts, Listed, NoMemory, SiteNo, sorted};
@@ -207,22 +208,6 @@ pub(crate) fn installing(
             bodies,
         }
     }
-}
-
-/// Whether a site is one of these.
-pub(crate) fn is_among(site: SiteNo, sites: &[SiteNo]) -> bool
-    ensures { result ≡ is_among site_eq site sites.now }
-{
-    sites.iter().any(|other| site == *other)
-}
-
-// The sites but for one.
-fn sites_without(sites: Listed<SiteNo>, site: SiteNo) -> Listed<SiteNo>
-    ensures { result ≡ without site_eq site sites }
-{
-    let mut rest = sites.into_vec();
-    rest.retain(|other| !(site == *other));
-    Listed::from_vec(rest)
 }
 
 // The reports but for one site's.

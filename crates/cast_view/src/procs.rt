@@ -3,7 +3,7 @@ ghost use Rattle.cast_types.specs.Names.{proc_cmp, proc_eq, site_eq};
 ghost use Rattle.cast_types.specs.Sets.{with_item, without, is_among};
 ghost use Rattle.cast_types.specs.Rising.{is_rising};
 
-use crate::phase::is_among;
+use crate::sites::is_among;
 use cast_types::{NoMemory, Proc, SiteNo, sorted};
 use std::alloc::Global;
 use std::marker::Model;

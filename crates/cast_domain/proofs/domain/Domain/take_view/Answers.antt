@@ -4,7 +4,8 @@ use Rattle.cast_types.specs.Names.{group_cmp}
 use Rattle.cast_types.specs.Places.{update}
 use Rattle.cast_stable.specs.Ledger.{told_ledger}
 use Rattle.cast_order.specs.Log.{but_log}
-use Rattle.cast_model.specs.Group.{members_of, other_sites, with_view}
+use Rattle.cast_model.specs.Group.{members_of, with_view}
+use Rattle.cast_view.specs.Sites.{other_sites}
 use Rattle.cast_domain.specs.Records.{records_of}
 use Rattle.cast_domain.specs.Calls.{record_at}
 use Rattle.cast_domain.proofs.Loops.{record_at_update}

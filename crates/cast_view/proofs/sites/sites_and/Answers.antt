@@ -1,6 +1,6 @@
 use Rattle.cast_types.specs.Names.{site_cmp}
 use Rattle.cast_flush.proofs.Gathered.{added_next}
-use Rattle.cast_view.proofs.home.sites_and.Goals as goal
+use Rattle.cast_view.proofs.sites.sites_and.Goals as goal
 
 -- one more site is added before the rest
 pub loop-site-preserved : goal.loop-site-preserved

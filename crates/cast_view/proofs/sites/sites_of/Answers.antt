@@ -1,6 +1,6 @@
 use Rattle.cast_types.specs.Names.{site_cmp}
 use Rattle.cast_flush.proofs.Gathered.{added_more}
-use Rattle.cast_view.proofs.home.sites_of.Goals as goal
+use Rattle.cast_view.proofs.sites.sites_of.Goals as goal
 
 -- the site of one more process is added before those of the rest
 pub loop-process-preserved : goal.loop-process-preserved

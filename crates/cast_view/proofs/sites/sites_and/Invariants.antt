@@ -1,8 +1,8 @@
 use Rattle.std.proofs.Common.{◌≡◌, drop}
 use Rattle.cast_types.specs.Names.{site_cmp}
 use Rattle.cast_types.specs.Sets.{with_items}
-use Rattle.cast_view.specs.Home.{sites_of}
-use Rattle.cast_view.proofs.home.sites_and.Given as goal
+use Rattle.cast_view.specs.Sites.{sites_of}
+use Rattle.cast_view.proofs.sites.sites_and.Given as goal
 
 -- the sites so far with those that are left are all
 abbrev pub invariant-loop-site : goal.invariant-loop-site
