@@ -37,8 +37,8 @@ left ids (m ∷ got) = one_if (not (list_any (uid_eq m.id) ids)) + left ids got
 abbrev pub undelivered : State → ℕ
 undelivered s = total (λ k. left (s.process k).delivered s.got) (serials s)
 
--- how many more starts and decisions a group's home can come to at the most, where no site is suspected and nothing else is to
--- change: a decision leaves no site suspected, and joins only where one was
+-- how many more starts and decisions a group's home can come to at the most: by its phase, by whether no site is suspected (calm), and by
+-- whether nothing is to change (none). A decision leaves no site suspected, and joins only where one was
 abbrev pub rank_of : Phase → Bool → Bool → ℕ
 rank_of Idle calm none = if none then 0 else if calm then 2 else 4
 rank_of (Gathering awaited reports bodies) calm none = if calm then 1 else 3
