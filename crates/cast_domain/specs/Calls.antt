@@ -13,6 +13,7 @@ use Rattle.cast_types.specs.declared.names.Standing.TheVariants.{Outside, Joinin
 use Rattle.cast_types.specs.declared.limits.TheConstants.{MAX_NUMBER, MAX_MOMENT}
 use Rattle.cast_types.specs.Names.{site_eq, group_eq, group_cmp, proc_eq, uid_eq, is_atomic, named, entry_of}
 use Rattle.cast_types.specs.Places.{update}
+use Rattle.cast_types.specs.Counts.{CountList}
 use Rattle.cast_types.specs.Stamps.{ClockList}
 use Rattle.cast_clock.specs.Times.{no_time, count_in, bumped, entering}
 use Rattle.cast_message.specs.declared.message.Body.{Body}
@@ -24,6 +25,9 @@ use Rattle.cast_message.specs.declared.client.Push.{Push}
 use Rattle.cast_message.specs.declared.client.Push.TheVariants as push
 use Rattle.cast_message.specs.Bodies.{kind_of}
 use Rattle.cast_message.specs.Membership.{Membership}
+use Rattle.cast_message.specs.Stretch.{Stretch}
+use Rattle.cast_message.specs.Keeping.{KeptList}
+use Rattle.cast_flush.specs.declared.report.Report.{Report}
 use Rattle.cast_delay.specs.Ready.{is_member}
 use Rattle.cast_delay.specs.declared.turn.Turn.{Turn}
 use Rattle.cast_delay.specs.declared.turn.Turn.TheVariants.{Holding, Following}
@@ -154,6 +158,10 @@ moved_home move x = record x { home = moved move x.home }
 
 abbrev pub move_home_in : Records → ℕ → HomeMove → Records
 move_home_in r i move = record r { groups = update r.groups i (moved_home move) }
+
+-- what a site reports, by the parts of its frame
+abbrev pub reported : CountList → Stretch → KeptList → Report
+reported counts tail kept = record { counts = counts; tail = tail; kept = kept }
 
 -- Processes
 

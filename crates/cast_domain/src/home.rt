@@ -19,7 +19,7 @@ impl Domain {
     ghost use Rattle.cast_model.specs.declared.event.Outs.{Outs};
     ghost use Rattle.cast_domain.specs.Records.{GivesBack, Keeps, KeepsBeside, records_in, records_of};
     ghost use Rattle.cast_domain.specs.Shared.{Part};
-    ghost use Rattle.cast_domain.specs.Calls.{record_at, records};
+    ghost use Rattle.cast_domain.specs.Calls.{record_at, records, reported};
 
     // Ask: at the home a request is taken in, and answered where it is the next one of its site or was answered before.
     pub(crate) fn asked_of_home(
@@ -103,7 +103,7 @@ impl Domain {
     ) -> Result<(), NoMemory>
         requires { place < vec_len self.old.groups }
         ensures stays { KeepsBeside self.old lent.old self.new lent.new }
-        ensures made { OnOk result (records_in self.new lent.new ≡ on_flushed records (records_in self.old lent.old) place from view (record { counts = counts.now; tail = tail.now; kept = kept.now })) }
+        ensures made { OnOk result (records_in self.new lent.new ≡ on_flushed records (records_in self.old lent.old) place from view (reported counts.now tail.now kept.now)) }
     {
         if self.is_home() && self.record(place).home.takes_report(from, view) {
             let key = home_key(OwedKind::Prepare, self.record(place).name, from);
