@@ -23,7 +23,7 @@ use Rattle.cast_delay.proofs.Turns.{and_agree}
 use Rattle.cast_order.specs.Log.{Log, log_of}
 use Rattle.cast_history.specs.Rules.Sending.{send_data}
 use Rattle.cast_history.proofs.Rules.Follows.{sent_here}
-use Rattle.cast_model.specs.Group.{has_view}
+use Rattle.cast_view.specs.MemberSide.{has_view}
 use Rattle.cast_history.specs.State.{State, local, others_of, gate_of, was_given, receiving, awaits_own, noting_sent}
 use Rattle.cast_history.specs.History.{history}
 use Rattle.cast_history.specs.Effects.{next_message}

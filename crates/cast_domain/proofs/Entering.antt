@@ -30,7 +30,7 @@ use Rattle.cast_order.specs.Log.{new_log, log_of, but_log}
 use Rattle.cast_order.proofs.Logs.{log_of_forget}
 use Rattle.cast_model.specs.declared.session.Session.{Session}
 use Rattle.cast_model.specs.Session.{is_open, pushed_to, told}
-use Rattle.cast_model.specs.Group.{with_view, is_taken_in}
+use Rattle.cast_view.specs.MemberSide.{with_view, is_taken_in}
 use Rattle.cast_history.specs.Acts.{Act}
 use Rattle.cast_history.specs.State.{State, local, serials, is_group, set_session, set_process, set_group, set_standing, was_given, pushing}
 use Rattle.cast_history.specs.Entering.{enters, in_view, push_view, completing, all_in_view}
@@ -43,11 +43,11 @@ use Rattle.cast_types.proofs.Bools.{and_none}
 
 -- Small truths of tests
 
-or_none : (a : Bool) → (a || false) ≡ a
+pub or_none : (a : Bool) → (a || false) ≡ a
 or_none true = refl
 or_none false = refl
 
-and_true : (a : Bool) → (a && true) ≡ a
+pub and_true : (a : Bool) → (a && true) ≡ a
 and_true true = refl
 and_true false = refl
 
@@ -90,7 +90,7 @@ push_one p s k = elim (is_open (s.session k)) as (λ b. is_open (s.session k) �
     ] refl
 
 -- whether a number is one of n numbers, from a on
-abbrev within : ℕ → ℕ → ℕ → Bool
+abbrev pub within : ℕ → ℕ → ℕ → Bool
 within a n j = list_any (λ x. x == j) (range_with_len a n)
 
 -- a number below a range is not in it
@@ -99,7 +99,7 @@ below_range zero a j less = refl
 below_range (suc n) a j less = or_from (a == j) (within (a + 1) n j) (ne_eqb a j (λ same. omega (arith, same, less))) (below_range n (a + 1) j (omega arith))
 
 -- and one between its ends is
-in_range : (n a j : ℕ) → a ≤ j → j < a + n → within a n j ≡ true
+pub in_range : (n a j : ℕ) → a ≤ j → j < a + n → within a n j ≡ true
 in_range zero a j from less = absurd (omega arith)
 in_range (suc n) a j from less = elim (cases_eq a j) [
   | inl same ↦ or_left (a == j) (within (a + 1) n j) (eq-eqb a j same)
@@ -141,6 +141,52 @@ push_all p e (suc n) a s =
       | false ↦ λ _. refl
     ] refl
 
+-- Processes that change, and are told
+
+module _ (f : Process → Process) (p : Push) (t : State) where
+  -- the processes that a test picks out changed, and their sessions were told
+  abbrev pub changed : (ℕ → Bool) → State
+  changed e =
+      record t {
+        process = λ k. if e k then f (t.process k) else t.process k;
+        session = λ k. if e k then told p (t.session k) else t.session k;
+      }
+
+  -- in the history: all at once, and then one push after another
+  pub changed_at_once : (e : ℕ → Bool) → ((k : ℕ) → is_open (t.session k) ≡ was_given t.used k) → fold (λ s k. pushing s k p) (record t { process = λ k. if e k then f (t.process k) else t.process k }) (filter e (serials t)) ≡ changed e
+  changed_at_once e all_open =
+      let s : State = record t { process = λ k. if e k then f (t.process k) else t.process k } in
+      push_all p e t.used 1 s ∙ (λ i. record s { session = λ j. told_all j (cases_Bool (within 1 t.used j)) i })
+    where
+      unknown : (j : ℕ) → within 1 t.used j ≡ false → is_open (t.session j) ≡ false
+      unknown j past = all_open j ∙ false_from_ne_true (was_given t.used j) (λ given.
+          let parts = and_parts (nat_lt 0 j) (nat_le j t.used) given in
+          let above = ltb-true 0 j parts.0 in
+          let below = leb-true j t.used parts.1 in
+          false≢true (sym past ∙ in_range t.used 1 j (omega (arith, above)) (omega (arith, below))))
+
+      unheard : (j : ℕ) (b : Bool) → is_open (t.session j) ≡ false → t.session j ≡ (if b then told p (t.session j) else t.session j)
+      unheard j true shut = sym (ap (λ b. if b then pushed_to (t.session j) p else t.session j) shut)
+      unheard j false shut = refl
+
+      told_all : (j : ℕ) → (within 1 t.used j ≡ true) ⊎ (within 1 t.used j ≡ false) → (if e j && within 1 t.used j then told p (t.session j) else t.session j) ≡ (if e j then told p (t.session j) else t.session j)
+      told_all j (inl is) = ap (λ b. if b then told p (t.session j) else t.session j) (ap (λ w. e j && w) is ∙ and_true (e j))
+      told_all j (inr past) = ap (λ b. if b then told p (t.session j) else t.session j) (ap (λ w. e j && w) past ∙ and_none (e j)) ∙ unheard j (e j) (unknown j past)
+
+  -- one more process changes, and its session is told
+  pub changed_one : (e : ℕ → Bool) (k : ℕ) → e k ≡ false → pushing (record (changed e) { process = λ j. if k == j then f ((changed e).process j) else (changed e).process j }) k p ≡ changed (λ j. e j || (k == j))
+  changed_one e k fresh =
+      let apart : (j : ℕ) → (k == j) ≡ true → e j ≡ false = (λ j same. sym (ap e (eqb-true k j same)) ∙ fresh) in
+      push_one p (record (changed e) { process = λ j. if k == j then f ((changed e).process j) else (changed e).process j }) k
+      ∙ (λ i. record t {
+        process = λ j. if k == j then f ((changed e).process j) else (changed e).process j;
+        session = λ j. later_changed (told p) (t.session j) (e j) (k == j) (apart j) i;
+      })
+      ∙ (λ i. record t {
+        process = λ j. later_changed f (t.process j) (e j) (k == j) (apart j) i;
+        session = λ j. if e j || (k == j) then told p (t.session j) else t.session j;
+      })
+
 -- Facts of a process that has a row
 
 -- who is taken in is in the group or joins it
@@ -150,7 +196,7 @@ taken_inside request (Joining number heard) is = refl
 taken_inside request Member is = refl
 
 -- of a process without a row the queue says that it is in no group
-has_row : (o : Option Row) (g : GroupNo) → is_outside (option_map_or (λ row. standing_in row g) o Outside) ≡ false → IsSome o
+pub has_row : (o : Option Row) (g : GroupNo) → is_outside (option_map_or (λ row. standing_in row g) o Outside) ≡ false → IsSome o
 has_row None g inside = absurd (false≢true (sym inside))
 has_row (Some row) g inside = refl
 
@@ -167,38 +213,13 @@ below_none p (q ∷ ps) below among =
 module _ (g : GroupNo) (n : ℕ) (members : Membership) (request : ℕ) (t : State) where
   -- the processes that a test picks out entered the view, and their sessions were told
   abbrev entered : (ℕ → Bool) → State
-  entered e =
-      record t {
-        process = λ k. if e k then in_view g n (t.process k) else t.process k;
-        session = λ k. if e k then told (push.View g n members) (t.session k) else t.session k;
-      }
+  entered e = changed (in_view g n) (push.View g n members) t e
 
   abbrev taken : ℕ → Bool
   taken k = is_taken_in request ((t.process k).standing g)
 
   abbrev take : Records → Proc → Records
   take r p = take_in g n members request r p
-
-  -- in the history: all at once, and then one push after another
-  at_once : (e : ℕ → Bool) → ((k : ℕ) → is_open (t.session k) ≡ was_given t.used k) → fold (push_view g n members) (record t { process = λ k. if e k then in_view g n (t.process k) else t.process k }) (filter e (serials t)) ≡ entered e
-  at_once e all_open =
-      let s : State = record t { process = λ k. if e k then in_view g n (t.process k) else t.process k } in
-      push_all (push.View g n members) e t.used 1 s ∙ (λ i. record s { session = λ j. told_all j (cases_Bool (within 1 t.used j)) i })
-    where
-      unknown : (j : ℕ) → within 1 t.used j ≡ false → is_open (t.session j) ≡ false
-      unknown j past = all_open j ∙ false_from_ne_true (was_given t.used j) (λ given.
-          let parts = and_parts (nat_lt 0 j) (nat_le j t.used) given in
-          let above = ltb-true 0 j parts.0 in
-          let below = leb-true j t.used parts.1 in
-          false≢true (sym past ∙ in_range t.used 1 j (omega (arith, above)) (omega (arith, below))))
-
-      unheard : (j : ℕ) (b : Bool) → is_open (t.session j) ≡ false → t.session j ≡ (if b then told (push.View g n members) (t.session j) else t.session j)
-      unheard j true shut = sym (ap (λ b. if b then pushed_to (t.session j) (push.View g n members) else t.session j) shut)
-      unheard j false shut = refl
-
-      told_all : (j : ℕ) → (within 1 t.used j ≡ true) ⊎ (within 1 t.used j ≡ false) → (if e j && within 1 t.used j then told (push.View g n members) (t.session j) else t.session j) ≡ (if e j then told (push.View g n members) (t.session j) else t.session j)
-      told_all j (inl is) = ap (λ b. if b then told (push.View g n members) (t.session j) else t.session j) (ap (λ w. e j && w) is ∙ and_true (e j))
-      told_all j (inr past) = ap (λ b. if b then told (push.View g n members) (t.session j) else t.session j) (ap (λ w. e j && w) past ∙ and_none (e j)) ∙ unheard j (e j) (unknown j past)
 
   -- one process enters, by two facts
   viewed : (s : State) (k : ℕ) → set_standing (set_process s k (record (s.process k) { time = entering (s.process k).time g n })) k g Member ≡ record s { process = λ j. if k == j then in_view g n (s.process j) else s.process j }
@@ -215,16 +236,7 @@ module _ (g : GroupNo) (n : ℕ) (members : Membership) (request : ℕ) (t : Sta
 
   -- one more process enters, and its session is told
   enter_one : (e : ℕ → Bool) (k : ℕ) → e k ≡ false → pushing (set_standing (set_process (entered e) k (record ((entered e).process k) { time = entering ((entered e).process k).time g n })) k g Member) k (push.View g n members) ≡ entered (λ j. e j || (k == j))
-  enter_one e k fresh =
-      let view : Push = push.View g n members in
-      let u : State = entered e in
-      let apart : (j : ℕ) → (k == j) ≡ true → e j ≡ false = (λ j same. sym (ap e (eqb-true k j same)) ∙ fresh) in
-      push_one view (set_standing (set_process u k (record (u.process k) { time = entering (u.process k).time g n })) k g Member) k
-      ∙ ap (λ s. told_where view s (λ j. k == j)) (viewed u k)
-      ∙ (λ i. record t {
-        process = λ j. later_changed (in_view g n) (t.process j) (e j) (k == j) (apart j) i;
-        session = λ j. later_changed (told view) (t.session j) (e j) (k == j) (apart j) i;
-      })
+  enter_one e k fresh = ap (λ s. pushing s k (push.View g n members)) (viewed (entered e) k) ∙ changed_one (in_view g n) (push.View g n members) t e k fresh
 
   -- a process that did not enter yet has the standing that it had
   standing_now : (r : Records) (e : ℕ → Bool) → Fits r (entered e) → (k : ℕ) → e k ≡ false → standing_of r.delay (local t k) g ≡ (t.process k).standing g
@@ -331,5 +343,5 @@ fits_complete r s f l i g at listed n members request cut typed newer =
     let new : log_of first.orders g ≡ new_log g =
     ap (λ h. log_of (but_log h r.orders) g) name ∙ log_of_forget r.orders g g ∙ ap (λ b. if b then new_log g else log_of r.orders g) (group_itself g) in
     let all = fits_take_all g n members request now members.list first (λ k. false) f0 new listed rising (λ k _. refl) in
-    let one_by_one = subst (λ x. Fits (fold (take_in g n members request) first members.list) x) (sym (at_once g n members request now (enters s g members request) f0.opened.all_open)) all in
+    let one_by_one = subst (λ x. Fits (fold (take_in g n members request) first members.list) x) (sym (changed_at_once (in_view g n) (push.View g n members) now (enters s g members request) f0.opened.all_open)) all in
     subst (λ h. Fits (fold (take_in h n members request) first members.list) (completing s g n members request cut)) (sym name) one_by_one

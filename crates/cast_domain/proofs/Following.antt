@@ -25,7 +25,7 @@ use Rattle.cast_domain.specs.Calls.{place_in, note_ack_in, note_stable_in, recor
 use Rattle.cast_domain.specs.Fits.{is_live, past_of, LogFits, Fits}
 use Rattle.cast_domain.proofs.Logs.{logs_ack}
 use Rattle.cast_domain.proofs.Standing.{orders_same, record_there, place_some, place_none, fits_send}
-use Rattle.cast_domain.proofs.Owings.{message_same, fits_note_owed, fits_note_resent, fits_pay, fits_pay_upto, fits_moment}
+use Rattle.cast_domain.proofs.Owings.{message_same, fits_note_owed, fits_note_resent, fits_pay, fits_pay_upto, fits_pay_view, fits_moment}
 
 -- the group at a place of these
 abbrev pub IsAt : List GroupNo → ℕ → GroupNo → Type 0
@@ -82,6 +82,7 @@ still_asked u = record {
   note_resent = λ s live key. live;
   pay = λ s live key. live;
   pay_upto = λ s live key. live;
+  pay_view = λ s live g. live;
   note_moment = λ s live t. live;
   note_ack = λ s live from v. live;
   note_stable = λ s live v. live;
@@ -107,6 +108,7 @@ records_follow groups = record {
   note_resent = λ r s f key. (fits_note_resent r s f.0 key, f.1);
   pay = λ r s f key. (fits_pay r s f.0 key, f.1);
   pay_upto = λ r s f key. (fits_pay_upto r s f.0 key, f.1);
+  pay_view = λ r s f g. (fits_pay_view r s f.0 g, f.1);
   note_moment = λ r s f t. (fits_moment r s f.0 t, f.1);
   note_ack = λ r s f from u. (fits_note_ack r s f.0 from u, f.1);
   note_stable = λ r s f u. (fits_note_stable r s f.0 u, f.1);

@@ -1,5 +1,5 @@
 -- What a rule changes of a domain's records it changes of their history.
-use Rattle.std.proofs.Common.{◌≡◌, ◌<◌, true, false, ◌&&◌, ◌||◌, List, [], ◌∷◌, length, map, filter, ℕ, zero, suc, ◌+◌, Some, refl, sym, ap, subst, ◌∙◌, Option, None, arith}
+use Rattle.std.proofs.Common.{◌≡◌, ◌<◌, Bool, true, false, ◌&&◌, ◌||◌, List, [], ◌∷◌, length, map, filter, ℕ, zero, suc, ◌+◌, Some, refl, sym, ap, subst, ◌∙◌, Option, None, arith}
 use Rattle.std.specs.Prelude.{◌==◌, nat_lt, slice_get}
 use Rattle.std.specs.List.{list_any, range_with_len}
 use Rattle.std.proofs.lemmas.Bool.{and_parts, eqb-true, eq-eqb, ltb-true, or_right}
@@ -30,11 +30,11 @@ use Rattle.cast_delay.specs.declared.row.Row.{Row}
 use Rattle.cast_delay.specs.Queue.{row_of}
 use Rattle.cast_delay.specs.Fits.{IsSound, StandsFor}
 use Rattle.cast_delay.specs.declared.row.Fact.TheVariants as fact
-use Rattle.cast_model.specs.Group.{with_request, with_answer, with_view, has_view, is_current, members_of}
+use Rattle.cast_view.specs.MemberSide.{with_request, with_answer, with_view, has_view, is_current, members_of}
 use Rattle.cast_view.specs.Home.{moved}
 use Rattle.cast_history.specs.State.{State, gate_of, local, serials, was_given, set_group, set_standing, is_received, receiving, others_of, noting_sent}
 use Rattle.cast_history.specs.Effects.{next_message}
-use Rattle.cast_history.specs.Entering.{enters, all_in_view, push_view, completing}
+use Rattle.cast_history.specs.Entering.{enters, all_in_view, push_view, putting_out, passing}
 use Rattle.cast_history.specs.History.{history}
 use Rattle.cast_history.specs.Lawful.{IsLawful, IsTypedFrame}
 use Rattle.cast_history.specs.Rules.Data.{counts_itself}
@@ -44,7 +44,7 @@ use Rattle.cast_history.proofs.Rules.Follows.{FollowsAll, AllAt, IsTaken, sent_h
 use Rattle.cast_history.proofs.Rules.Data.{used_counts}
 use Rattle.cast_history.proofs.Rules.Commands.{commanded_follows}
 use Rattle.cast_history.proofs.Rules.Frames.{framed_follows}
-use Rattle.cast_history.proofs.Lawful.{same_fold, same_pushing, local_speaks}
+use Rattle.cast_history.proofs.Lawful.{same_fold, same_pushing, put_out_same, local_speaks}
 use Rattle.cast_history.proofs.LawfulSteps.{placed_at, taken_current, entered, all_lawful, taken_foreign, taken_speaks}
 use Rattle.cast_domain.specs.declared.record.GroupRecord.{GroupRecord}
 use Rattle.cast_domain.specs.Records.{Records}
@@ -52,7 +52,8 @@ use Rattle.cast_domain.specs.Calls.{standing_of, time_of, tell_in, receive_in, a
 use Rattle.cast_domain.specs.Fits.{process_named, record_for, Fits, past_of}
 use Rattle.cast_domain.proofs.Standing.{process_here, record_there, standing_there, time_there, fits_push, fits_standing, fits_told, fits_here, fits_home, fits_receive}
 use Rattle.cast_domain.proofs.Following.{records_ask, FitsIn, IsAt, records_follow, asked_of}
-use Rattle.cast_domain.proofs.Entering.{fits_complete}
+use Rattle.cast_domain.proofs.Passing.{fits_pass}
+use Rattle.cast_domain.proofs.Releases.{fits_release_ended}
 use Rattle.cast_domain.proofs.Commands.{awaits_own_there, fits_sent_here}
 use Rattle.cast_domain.proofs.Receipts.{live_now}
 use Rattle.cast_history.specs.Rules.Stability.{is_used_ack}
@@ -117,10 +118,12 @@ placed_row r s f k g inside = of_row (row_of r.delay.rows (local s k)) (f.proces
     of_row None none = absurd (false≢true (sym inside ∙ ap is_outside (sym (ap (λ (p : Process). p.standing g) (process_here s k)) ∙ none g)))
 
 -- the configuration stays as a view is entered
-completing_config : (s : State) (g : GroupNo) (n : ℕ) (members : Membership) (request : ℕ) (cut : CountList) → (completing s g n members request cut).config ≡ s.config
-completing_config s g n members request cut =
-    let now : State = set_group s g (with_view s.here n members (s.group g)) in
-    (same_fold (push_view g n members) (λ t k. same_pushing t k (push.View g n members)) (filter (enters s g members request) (serials s)) (all_in_view now g n members request cut)).config
+passing_config : (s : State) (g : GroupNo) (skips : Bool) (n : ℕ) (members : Membership) (request : ℕ) (cut : CountList) → (passing s g skips n members request cut).config ≡ s.config
+passing_config s g skips n members request cut =
+    let left : State = putting_out s g skips n members in
+    let now : State = set_group left g (with_view left.here n members (left.group g)) in
+    (same_fold (push_view g n members) (λ t k. same_pushing t k (push.View g n members)) (filter (enters now g members request) (serials now)) (all_in_view now g n members request cut)).config
+    ∙ (put_out_same s g skips n members).config
 
 -- The records stand for a lawful history of a domain of these groups
 
@@ -194,13 +197,14 @@ module _ (groups : List GroupNo) where
     note_answer = λ r s f i g at.
         ((fits_here r s f.0.0 f.1 i g (there r s f i g at) with_answer refl refl, f.0.1), all_lawful.note_answer s f.1 g);
     move_home = λ r s f i g at move. ((fits_home r s f.0.0 f.1 i g (there r s f i g at) (moved move), f.0.1), all_lawful.move_home s f.1 g move);
-    enter_view = λ r s f i g at h n members request cut is. let e = entered s g h n members is in (
+    enter_view = λ r s f i g at h skips n members request cut is. let e = entered s g h n members is in (
       (
-        fits_complete r s f.0.0 f.1 i g (there r s f i g at) e.listed n members request cut is.typed e.later,
-        ap (λ c. c.groups) (completing_config s g n members request cut) ∙ f.0.1,
+        fits_pass r s f.0.0 f.1 i g (there r s f i g at) e.listed skips n members request cut is.typed e.later,
+        ap (λ c. c.groups) (passing_config s g skips n members request cut) ∙ f.0.1,
       ),
-      all_lawful.enter_view s f.1 g h n members request cut is,
+      all_lawful.enter_view s f.1 g h skips n members request cut is,
     );
+    release_ended = λ r s f i g at. ((fits_release_ended r s f.0.0 i g (there r s f i g at), f.0.1), all_lawful.release_ended s f.1 g);
   }
 
 -- So the records go on standing for the history

@@ -12,6 +12,7 @@ pub mod Ordering
 pub mod Owings
 pub mod Following
 pub mod Entering
+pub mod Passing
 pub mod Releases
 pub mod Commands
 pub mod Framing

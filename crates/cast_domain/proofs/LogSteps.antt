@@ -25,7 +25,7 @@ use Rattle.cast_order.specs.Order.{facts_of}
 use Rattle.cast_order.specs.Log.{Log, log_of, change_log, learnt, next_in, next_places, passed, told, assigned}
 use Rattle.cast_order.proofs.Meanings.{learnt_group, learn_fits, tell_fits, assign_fits, pass_fits, more_fits}
 use Rattle.cast_order.proofs.Logs.{log_of_change}
-use Rattle.cast_model.specs.Group.{holder_of, is_process, holder_at}
+use Rattle.cast_view.specs.MemberSide.{holder_of, is_process, holder_at}
 use Rattle.cast_history.specs.State.{State, no_process, local, receiving, abcasts_with, with_delivery}
 use Rattle.cast_history.specs.Order.{told_by, is_of_view, facts_in, holds, abcasts_delivered}
 use Rattle.cast_history.specs.Lawful.{IsTraced}

@@ -31,8 +31,7 @@ use Rattle.cast_order.specs.Log.{Log, new_log, log_of, but_log, learnt, place_of
 use Rattle.cast_order.specs.Fits.{Fits as OrderFits}
 use Rattle.cast_order.proofs.Meanings.{new_fits as order_new_fits, learnt_group, learn_fits, more_fits, at_start}
 use Rattle.cast_order.proofs.Logs.{log_of_change, log_of_forget}
-use Rattle.cast_model.specs.declared.group.Group.{Group}
-use Rattle.cast_model.specs.Group.{no_group, holder_at, members_of, with_view}
+use Rattle.cast_view.specs.MemberSide.{MemberSide, no_group, holder_at, members_of, with_view}
 use Rattle.cast_view.specs.Sites.{other_sites}
 use Rattle.cast_view.specs.Home.{is_empty}
 use Rattle.cast_history.specs.State.{State, local, others_of, noting_ack, set_group, receiving}
@@ -54,7 +53,7 @@ is_in n g u = group_eq u.group g && (u.view == n)
 abbrev facts_as : ℕ → GroupNo → List Message → Facts
 facts_as n g got = flat_map (λ m. told_by m.body) (filter (λ m. is_in n g m.id) got)
 
-abbrev viewing : Option Membership → Group
+abbrev viewing : Option Membership → MemberSide
 viewing view = record no_group { view = view }
 
 abbrev told_as : SiteNo → Option Membership → ℕ → GroupNo → (ℕ → List Uid) → List Entry
@@ -253,7 +252,7 @@ log_new s t h l traced got noted later fits =
 -- a group's log is a new one once the group has a later view, and the others' stay
 pub logs_view : (s : State) (g : GroupNo) (n : ℕ) (members : Membership) (orders : List Log) → IsTraced s → (s.group g).number < n → ((h : GroupNo) → LogFits s h (log_of orders h)) → (h : GroupNo) → LogFits (set_group s g (with_view s.here n members (s.group g))) h (log_of (but_log g orders) h)
 logs_view s g n members orders traced later fits h =
-    let w : Group = with_view s.here n members (s.group g) in
+    let w : MemberSide = with_view s.here n members (s.group g) in
     let t : State = set_group s g w in
     subst (LogFits t h) (sym (log_of_forget orders g h))
     (elim (cases_Bool (group_eq g h)) [

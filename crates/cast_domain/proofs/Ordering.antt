@@ -29,7 +29,7 @@ use Rattle.cast_order.proofs.Meanings.{next_rules as order_next_rules, length_ru
 use Rattle.cast_history.specs.Rules.Room.{may_order}
 use Rattle.cast_history.specs.History.{history}
 use Rattle.cast_domain.specs.declared.record.GroupRecord.{GroupRecord}
-use Rattle.cast_model.specs.Group.{holder_of, is_process, members_of}
+use Rattle.cast_view.specs.MemberSide.{holder_of, is_process, members_of}
 use Rattle.cast_view.specs.Home.{is_empty}
 use Rattle.cast_history.specs.State.{State, local, is_group, gate_of, others_of}
 use Rattle.cast_history.specs.Order.{facts_in, order_of, holds, lists_of, abcasts_delivered, unlisted, unsettled, has_place, has_room_for_order, turn_of}

@@ -2,6 +2,7 @@
 use Rattle.std.proofs.Common.{◌≡◌, ℕ, ◌+◌, true, false, cond, List, [], ◌∷◌, min, max, Some, refl, ap, ◌∙◌}
 use Rattle.std.specs.List.{find}
 use Rattle.std.specs.Option.{option_map}
+use Rattle.cast_types.specs.declared.names.GroupNo.{GroupNo}
 use Rattle.cast_types.specs.declared.names.Uid.{Uid}
 use Rattle.cast_types.specs.declared.limits.TheConstants.{MAX_MOMENT}
 use Rattle.cast_types.specs.Names.{uid_eq}
@@ -10,11 +11,11 @@ use Rattle.cast_message.specs.declared.message.Received.{Received}
 use Rattle.cast_message.specs.Receipts.{messages}
 use Rattle.cast_timer.specs.declared.key.Owed.{Owed}
 use Rattle.cast_timer.specs.declared.key.OwedKey.{OwedKey}
-use Rattle.cast_timer.specs.Owed.{with_owed, paid, is_upto, renewed, key_eq}
+use Rattle.cast_timer.specs.Owed.{with_owed, paid, is_of_view, is_upto, renewed, key_eq}
 use Rattle.cast_history.specs.State.{State, message_of}
-use Rattle.cast_history.specs.Owing.{next_due, noting_owed, noting_resent, paying, paying_upto, at_moment}
+use Rattle.cast_history.specs.Owing.{next_due, noting_owed, noting_resent, paying, paying_upto, paying_view, at_moment}
 use Rattle.cast_domain.specs.Records.{Records}
-use Rattle.cast_domain.specs.Calls.{message_in, next_due_in, note_owed_in, note_resent_in, pay_in, pay_upto_in, note_moment_in}
+use Rattle.cast_domain.specs.Calls.{message_in, next_due_in, note_owed_in, note_resent_in, pay_in, pay_upto_in, pay_view_in, note_moment_in}
 use Rattle.cast_domain.specs.Fits.{Fits}
 use Rattle.cast_domain.proofs.Standing.{orders_same}
 
@@ -41,6 +42,10 @@ fits_pay r s fits key = fits_owed r s fits (paid (key_eq key) r.part.owed) (paid
 -- nor those of its kind about the process's messages before
 pub fits_pay_upto : (r : Records) (s : State) → Fits r s → (key : OwedKey) → Fits (pay_upto_in r key) (paying_upto s key)
 fits_pay_upto r s fits key = fits_owed r s fits (paid (is_upto key) r.part.owed) (paid (is_upto key) s.owed) (ap (paid (is_upto key)) (ap (λ c. c.owed) fits.core))
+
+-- nor what the site owes for a view
+pub fits_pay_view : (r : Records) (s : State) → Fits r s → (g : GroupNo) → Fits (pay_view_in r g) (paying_view s g)
+fits_pay_view r s fits g = fits_owed r s fits (paid (is_of_view g) r.part.owed) (paid (is_of_view g) s.owed) (ap (paid (is_of_view g)) (ap (λ c. c.owed) fits.core))
 
 -- the kept message of an id
 found_mapped : (u : Uid) (kept : List Received) → option_map (λ (x : Received). x.message) (find (λ (x : Received). uid_eq x.message.id u) kept) ≡ find (λ (m : Message). uid_eq m.id u) (messages kept)

@@ -8,14 +8,13 @@ use Rattle.cast_types.specs.declared.source.Source.{Source}
 use Rattle.cast_types.specs.Names.{site_eq, group_eq, proc_eq}
 use Rattle.cast_types.specs.Sets.{is_among, set_at}
 use Rattle.cast_types.proofs.Orders.{same_group}
-use Rattle.cast_model.specs.declared.group.Group.{Group}
-use Rattle.cast_model.specs.Group.{no_group, members_of}
+use Rattle.cast_view.specs.MemberSide.{MemberSide, no_group, members_of}
 use Rattle.cast_view.specs.Sites.{other_sites}
 use Rattle.cast_history.specs.State.{State, set_group, others_of, may_speak}
 use Rattle.cast_domain.specs.Fits.{is_live, past_of}
 
 -- what holds of a group holds after a change that leaves it
-pub group_same : {A : Type 0} (f : Group → A) (s : State) (g : GroupNo) (v : Group) → f v ≡ f (s.group g) → (h : GroupNo) → f ((set_group s g v).group h) ≡ f (s.group h)
+pub group_same : {A : Type 0} (f : MemberSide → A) (s : State) (g : GroupNo) (v : MemberSide) → f v ≡ f (s.group g) → (h : GroupNo) → f ((set_group s g v).group h) ≡ f (s.group h)
 group_same f s g v same h = elim (cases_Bool (group_eq g h)) [
   | inl here ↦ ap (λ b. f (if b then v else s.group h)) here ∙ same ∙ ap (λ k. f (s.group k)) (same_group g h here)
   | inr other ↦ ap (λ b. f (if b then v else s.group h)) other
@@ -28,17 +27,17 @@ live_now s x same may =
     (and_from ((s.group x.group).number == x.view) (may_speak s x.group x.process) (eq-eqb (s.group x.group).number x.view same) may)
 
 -- the other sites of a group's view, as they are told
-pub others_told : (s : State) (g : GroupNo) (v : Group) → set_at group_eq (others_of s) g (other_sites s.here (members_of v)) ≡ others_of (set_group s g v)
+pub others_told : (s : State) (g : GroupNo) (v : MemberSide) → set_at group_eq (others_of s) g (other_sites s.here (members_of v)) ≡ others_of (set_group s g v)
 others_told s g v = λ i h. at_group h i
   where
     at_group : (h : GroupNo) → set_at group_eq (others_of s) g (other_sites s.here (members_of v)) h ≡ others_of (set_group s g v) h
     at_group h =
         elim (group_eq g h) as (λ b. ◌≡◌ {A = List SiteNo} (if b then other_sites s.here (members_of v) else other_sites s.here (members_of (s.group h))) (other_sites s.here (members_of (if b then v else s.group h)))) [ true ↦ refl | false ↦ refl ]
 
-same_members : (v w : Group) → v.view ≡ w.view → members_of v ≡ members_of w
+same_members : (v w : MemberSide) → v.view ≡ w.view → members_of v ≡ members_of w
 same_members v w same = λ i. members_of (record no_group { view = same i })
 
-others_same : (s : State) (g : GroupNo) (v : Group) → v.view ≡ (s.group g).view → others_of s ≡ others_of (set_group s g v)
+others_same : (s : State) (g : GroupNo) (v : MemberSide) → v.view ≡ (s.group g).view → others_of s ≡ others_of (set_group s g v)
 others_same s g v same = λ i h. other_sites s.here (at_group h i)
   where
     at_group : (h : GroupNo) → members_of (s.group h) ≡ members_of ((set_group s g v).group h)
@@ -48,7 +47,7 @@ others_same s g v same = λ i h. other_sites s.here (at_group h i)
     ]
 
 -- what a history says of receipts stays where a group keeps its number and its view
-pub past_same : (s : State) (g : GroupNo) (v : Group) → v.number ≡ (s.group g).number → v.view ≡ (s.group g).view → past_of s ≡ past_of (set_group s g v)
+pub past_same : (s : State) (g : GroupNo) (v : MemberSide) → v.number ≡ (s.group g).number → v.view ≡ (s.group g).view → past_of s ≡ past_of (set_group s g v)
 past_same s g v number view =
     let others = others_same s g v view in
     let views = group_same (λ x. x.view) s g v view in
@@ -60,7 +59,7 @@ past_same s g v number view =
     }
 
 -- a source that is live in a later view of a group was live before
-pub was_live : (s : State) (g : GroupNo) (v : Group) → (s.group g).number < v.number → (x : Source) → is_live (set_group s g v) x ≡ true → is_live s x ≡ true
+pub was_live : (s : State) (g : GroupNo) (v : MemberSide) → (s.group g).number < v.number → (x : Source) → is_live (set_group s g v) x ≡ true → is_live s x ≡ true
 was_live s g v newer x = elim (cases_Bool (group_eq g x.group)) [
   | inl here ↦ λ live.
       let before : (s.group x.group).number < v.number = subst (λ h. (s.group h).number < v.number) (same_group g x.group here) newer in

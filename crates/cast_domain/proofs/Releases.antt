@@ -1,6 +1,6 @@
 -- What a domain's records let go is what the history lets go that they stand for.
 use Rattle.std.proofs.Common.{◌≡◌, ℕ, zero, suc, ◌+◌, ◌<◌, ◌≤◌, Bool, true, false, cond, not, ◌&&◌, ◌||◌, List, [], ◌∷◌, map, Contains, Some, None, refl, sym, ap, subst, ◌∙◌, inl, inr, arith}
-use Rattle.std.specs.Prelude.{◌==◌, nat_lt, filter}
+use Rattle.std.specs.Prelude.{◌==◌, nat_lt, filter, slice_get}
 use Rattle.std.specs.List.{fold, find, list_any, list_all, range_with_len}
 use Rattle.std.specs.Option.{option_map, option_map_or}
 use Rattle.std.proofs.lemmas.Bool.{cases_Bool, false≢true, and_parts, or_cases, or_left, or_right, eqb-true, eq-eqb, false_from_ne_true}
@@ -10,6 +10,7 @@ use Rattle.cast_types.specs.declared.names.GroupNo.{GroupNo}
 use Rattle.cast_types.specs.declared.names.Proc.{Proc}
 use Rattle.cast_types.specs.declared.names.Key.{Key}
 use Rattle.cast_types.specs.declared.names.Uid.{Uid}
+use Rattle.cast_types.specs.Names.{group_eq}
 use Rattle.cast_message.specs.declared.message.Message.{Message}
 use Rattle.cast_message.specs.declared.message.Received.{Received}
 use Rattle.cast_message.specs.Receipts.{key_eq, messages, message_under}
@@ -23,13 +24,12 @@ use Rattle.cast_delay.proofs.Queues.{forget_fits, awaited_by, no_row_is}
 use Rattle.cast_delay.proofs.Turns.{and_agree}
 use Rattle.cast_stable.proofs.Meanings.{stable_meant}
 use Rattle.cast_domain.specs.declared.record.GroupRecord.{GroupRecord}
-use Rattle.cast_model.specs.declared.group.Group.{Group}
-use Rattle.cast_model.specs.Group.{has_view, is_current}
-use Rattle.cast_history.specs.State.{State, local, local_members, gate_of, is_stable, is_delivered}
+use Rattle.cast_view.specs.MemberSide.{MemberSide, has_view, is_current}
+use Rattle.cast_history.specs.State.{State, local, local_members, gate_of, is_stable, is_delivered, releasing, is_ended, releasing_ended}
 use Rattle.cast_history.specs.Rest.{is_free, let_go}
 use Rattle.cast_domain.specs.Records.{Records}
 use Rattle.cast_history.specs.Rules.Release as release
-use Rattle.cast_domain.specs.Calls.{place_in, record_at, is_current_in, release_in, records, resting_records}
+use Rattle.cast_domain.specs.Calls.{place_in, record_at, is_current_in, is_ended_in, release_in, release_all_in, records, resting_records}
 use Rattle.cast_history.specs.Lawful.{IsLawful, IsSpent, AreKept}
 use Rattle.cast_domain.specs.Fits.{process_named, Fits, is_live, past_of}
 use Rattle.cast_history.proofs.Totals.{In}
@@ -102,7 +102,7 @@ current_same r s fits l u =
     ] refl
 
 -- the current view has not ended
-pub current_stands : (x : Group) (view : ℕ) → is_current x view ≡ true → x.number ≤ view
+pub current_stands : (x : MemberSide) (view : ℕ) → is_current x view ≡ true → x.number ≤ view
 current_stands x view is = let same = eqb-true x.number view (and_parts (has_view x) (x.number == view) is).1 in omega (arith, same)
 
 pub free_same : (r : Records) (s : State) → Fits r s → IsLawful s → (u : Uid) → 0 < u.count → (is_current (s.group u.group) u.view ≡ true → is_live s (source_of u) ≡ true) → release.is_free records resting_records r u ≡ is_free s u
@@ -255,10 +255,10 @@ still_fresh (key ∷ keys) kept n none = still_fresh keys (drop_kept kept key) n
               ]
         ]
 
--- free messages are let go on both sides
-pub fits_let_go : (r : Records) (s : State) → Fits r s → IsLawful s → Fits (release.let_go records resting_records r) (let_go s)
-fits_let_go r s fits l =
-    subst (λ x. Fits x (let_go s)) (sym (fold_release keys r))
+-- kept messages are let go on both sides, where the tests agree on what is kept
+pub fits_release : (r : Records) (s : State) → Fits r s → (p q : Uid → Bool) → ((x : Received) → In x r.part.kept → p x.message.id ≡ q x.message.id) → Fits (release_all_in r p) (releasing s q)
+fits_release r s fits p q same =
+    subst (λ x. Fits x (releasing s q)) (sym (fold_release keys r))
     (record {
       core = fits.core;
       opened = fits.opened;
@@ -275,21 +275,30 @@ fits_let_go r s fits l =
         idle = fits.processes.idle;
       };
       acks = fits.acks;
-      orders = orders_same s (let_go s) r.orders refl refl refl refl refl refl fits.orders;
+      orders = orders_same s (releasing s q) r.orders refl refl refl refl refl refl fits.orders;
       frames = fits.frames;
       delivered = fits.delivered;
     })
   where
     keys : List Key
-    keys = map (λ x. x.key) (filter (λ x. release.is_free records resting_records r x.message.id) r.part.kept)
+    keys = map (λ x. x.key) (filter (λ x. p x.message.id) r.part.kept)
 
-    free_as : (x : Received) → In x r.part.kept → release.is_free records resting_records r x.message.id ≡ is_free s x.message.id
-    free_as x at = free_same r s fits l x.message.id (fits.processes.delay.sound x (in_contains x r.part.kept at)).from_one (kept_live r s fits l x at)
-
-    kept_now : messages (fold drop_kept r.part.kept keys) ≡ filter (λ m. not (is_free s m.id)) s.kept
+    kept_now : messages (fold drop_kept r.part.kept keys) ≡ filter (λ m. not (q m.id)) s.kept
     kept_now =
         ap messages (fold_drop keys r.part.kept)
-        ∙ ap messages (filter_same (λ x. not (is_key keys x.key)) (λ x. not (is_free s x.message.id)) r.part.kept
-        (λ x at. ap not (key_is (λ m. release.is_free records resting_records r m.id) r.part.kept (λ y there. fits.processes.delay.named y (in_contains y r.part.kept there)) x at ∙ free_as x at)))
-        ∙ messages_filter (λ m. not (is_free s m.id)) r.part.kept
-        ∙ ap (filter (λ m. not (is_free s m.id))) fits.messages.kept_in
+        ∙ ap messages (filter_same (λ x. not (is_key keys x.key)) (λ x. not (q x.message.id)) r.part.kept
+        (λ x at. ap not (key_is (λ m. p m.id) r.part.kept (λ y there. fits.processes.delay.named y (in_contains y r.part.kept there)) x at ∙ same x at)))
+        ∙ messages_filter (λ m. not (q m.id)) r.part.kept
+        ∙ ap (filter (λ m. not (q m.id))) fits.messages.kept_in
+
+-- so are free messages
+pub fits_let_go : (r : Records) (s : State) → Fits r s → IsLawful s → Fits (release.let_go records resting_records r) (let_go s)
+fits_let_go r s fits l =
+    fits_release r s fits (release.is_free records resting_records r) (is_free s)
+    (λ x at. free_same r s fits l x.message.id (fits.processes.delay.sound x (in_contains x r.part.kept at)).from_one (kept_live r s fits l x at))
+
+-- and those of views of a group that have ended
+pub fits_release_ended : (r : Records) (s : State) → Fits r s → (i : ℕ) (g : GroupNo) → slice_get s.config.groups i ≡ Some g → Fits (release_all_in r (is_ended_in r i)) (releasing_ended s g)
+fits_release_ended r s fits i g at =
+    fits_release r s fits (is_ended_in r i) (is_ended s g)
+    (λ x _ j. let there = record_there r s fits i g at in group_eq x.message.id.group (there j).name && nat_lt x.message.id.view (there j).here.number)

@@ -23,7 +23,7 @@ use Rattle.cast_history.specs.Rules.Room.{may_order}
 use Rattle.cast_history.specs.History.{history}
 use Rattle.cast_history.specs.Rules.Sending.{send_message, may_raise}
 use Rattle.cast_domain.specs.declared.record.GroupRecord.{GroupRecord}
-use Rattle.cast_model.specs.Group.{holder_of, is_process, holder_at}
+use Rattle.cast_view.specs.MemberSide.{holder_of, is_process, holder_at}
 use Rattle.cast_view.specs.Home.{is_empty}
 use Rattle.cast_history.specs.State.{State, local, gate_of, was_given, noting_sent}
 use Rattle.cast_history.specs.Order.{order_of, holds, unlisted, has_place, is_of_view}

@@ -45,10 +45,9 @@ use Rattle.cast_order.proofs.Meanings.{new_fits as order_new_fits}
 use Rattle.cast_model.specs.declared.config.DomainConfig.{DomainConfig}
 use Rattle.cast_domain.specs.declared.record.GroupRecord.{GroupRecord}
 use Rattle.cast_model.specs.declared.session.Session.{Session}
-use Rattle.cast_model.specs.declared.group.Group.{Group}
+use Rattle.cast_view.specs.MemberSide.{MemberSide, members_of, with_view}
 use Rattle.cast_view.specs.Home.{Home}
 use Rattle.cast_model.specs.Session.{no_session, first_session, is_open, pushed_to, told}
-use Rattle.cast_model.specs.Group.{members_of, with_view}
 use Rattle.cast_view.specs.Sites.{other_sites}
 use Rattle.cast_history.specs.State.{State, opening, no_process, local, is_group, gate_of, others_of, set_session, set_process, set_group, set_home, set_standing, emitted, was_given, pushing, receiving, noting_act, noting_sent}
 use Rattle.cast_history.specs.Acts.{Act}
@@ -105,7 +104,7 @@ orders_process s k v orders same were fits g =
     at p false b is = refl
 
 -- or where a group changed that has the same number and view
-orders_group : (s : State) (g : GroupNo) (v : Group) (orders : List Log) → v.number ≡ (s.group g).number → v.view ≡ (s.group g).view → ((h : GroupNo) → LogFits s h (log_of orders h)) → (h : GroupNo) → LogFits (set_group s g v) h (log_of orders h)
+orders_group : (s : State) (g : GroupNo) (v : MemberSide) (orders : List Log) → v.number ≡ (s.group g).number → v.view ≡ (s.group g).view → ((h : GroupNo) → LogFits s h (log_of orders h)) → (h : GroupNo) → LogFits (set_group s g v) h (log_of orders h)
 orders_group s g v orders number view fits h =
     let views = group_same (λ x. x.view) s g v view h in
     let numbers = group_same (λ x. x.number) s g v number h in
@@ -290,14 +289,14 @@ fits_push r s fits k p =
 -- Changes of one group
 
 -- the number of a group, as the queue has it
-gate_told : (s : State) (g : GroupNo) (v : Group) → set_at group_eq (gate_of s) g (record { number = v.number }) ≡ gate_of (set_group s g v)
+gate_told : (s : State) (g : GroupNo) (v : MemberSide) → set_at group_eq (gate_of s) g (record { number = v.number }) ≡ gate_of (set_group s g v)
 gate_told s g v = λ i h. at_group h i
   where
     at_group : (h : GroupNo) → set_at group_eq (gate_of s) g (record { number = v.number }) h ≡ gate_of (set_group s g v) h
     at_group h =
         elim (group_eq g h) as (λ b. ◌≡◌ {A = Gate} (if b then record { number = v.number } else record { number = (s.group h).number }) (record { number = (if b then v else s.group h).number })) [ true ↦ refl | false ↦ refl ]
 
-gate_same : (s : State) (g : GroupNo) (v : Group) → v.number ≡ (s.group g).number → gate_of s ≡ gate_of (set_group s g v)
+gate_same : (s : State) (g : GroupNo) (v : MemberSide) → v.number ≡ (s.group g).number → gate_of s ≡ gate_of (set_group s g v)
 gate_same s g v same = λ i h. record { number = at_group h i }
   where
     at_group : (h : GroupNo) → (s.group h).number ≡ ((set_group s g v).group h).number
@@ -307,7 +306,7 @@ gate_same s g v same = λ i h. record { number = at_group h i }
     ]
 
 -- the record of a group with another state
-groups_here : (s : State) → IsLawful s → (i : ℕ) (g : GroupNo) → slice_get s.config.groups i ≡ Some g → (change : Group → Group) → update (map (record_for s) s.config.groups) i (λ x. record x { here = change x.here }) ≡ map (record_for (set_group s g (change (s.group g)))) s.config.groups
+groups_here : (s : State) → IsLawful s → (i : ℕ) (g : GroupNo) → slice_get s.config.groups i ≡ Some g → (change : MemberSide → MemberSide) → update (map (record_for s) s.config.groups) i (λ x. record x { here = change x.here }) ≡ map (record_for (set_group s g (change (s.group g)))) s.config.groups
 groups_here s lawful i g at change =
     update_mapped (record_for s) (record_for (set_group s g (change (s.group g)))) (λ x. record x { here = change x.here }) s.config.groups i g lawful.rising at
     (ap (λ b. record { name = g; here = if b then change (s.group g) else s.group g; home = s.home g }) (sym (group_itself g)))
@@ -320,7 +319,7 @@ groups_home s lawful i g at change =
     (λ h other. ap (λ b. record { name = h; here = s.group h; home = if b then change (s.home g) else s.home h }) (sym other))
 
 -- a change of the group at this site that leaves its number
-pub fits_here : (r : Records) (s : State) → Fits r s → IsLawful s → (i : ℕ) (g : GroupNo) → slice_get s.config.groups i ≡ Some g → (change : Group → Group) → (change (s.group g)).number ≡ (s.group g).number → (change (s.group g)).view ≡ (s.group g).view → Fits (record r { groups = update r.groups i (λ x. record x { here = change x.here }) }) (set_group s g (change (s.group g)))
+pub fits_here : (r : Records) (s : State) → Fits r s → IsLawful s → (i : ℕ) (g : GroupNo) → slice_get s.config.groups i ≡ Some g → (change : MemberSide → MemberSide) → (change (s.group g)).number ≡ (s.group g).number → (change (s.group g)).view ≡ (s.group g).view → Fits (record r { groups = update r.groups i (λ x. record x { here = change x.here }) }) (set_group s g (change (s.group g)))
 fits_here r s fits lawful i g at change same seen = record {
   core = fits.core;
   opened = fits.opened;

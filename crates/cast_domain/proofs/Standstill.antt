@@ -23,7 +23,7 @@ use Rattle.cast_delay.proofs.Queues.{delivered_by}
 use Rattle.cast_order.specs.Log.{log_of}
 use Rattle.cast_history.specs.History.{history}
 use Rattle.cast_domain.specs.declared.record.GroupRecord.{GroupRecord}
-use Rattle.cast_model.specs.Group.{holder_at}
+use Rattle.cast_view.specs.MemberSide.{holder_at}
 use Rattle.cast_history.specs.State.{State, local, serials, gate_of, was_given}
 use Rattle.cast_history.specs.Order.{unlisted, is_ready_for}
 use Rattle.cast_history.specs.Effects.{sending, next_message}

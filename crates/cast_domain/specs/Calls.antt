@@ -1,5 +1,5 @@
 -- What the calls of a domain do to its records, exactly.
-use Rattle.std.specs.Prelude.{ℕ, ◌+◌, ◌-◌, min, max, Bool, false, not, ◌&&◌, if◌then◌else◌, List, [], ◌∷◌, ◌++◌, length, map, filter, get_or, slice_get, Option, Some, None}
+use Rattle.std.specs.Prelude.{ℕ, ◌+◌, ◌-◌, min, max, Bool, false, not, ◌&&◌, ◌||◌, nat_lt, if◌then◌else◌, List, [], ◌∷◌, ◌++◌, length, map, filter, get_or, slice_get, Option, Some, None}
 use Rattle.std.specs.List.{fold, find, list_any, range_with_len}
 use Rattle.std.specs.Option.{option_map, option_map_or}
 use Rattle.std.specs.FinMap.Entries.{put}
@@ -12,6 +12,7 @@ use Rattle.cast_types.specs.declared.names.Standing.{Standing}
 use Rattle.cast_types.specs.declared.names.Standing.TheVariants.{Outside, Joining, Member}
 use Rattle.cast_types.specs.declared.limits.TheConstants.{MAX_NUMBER, MAX_MOMENT}
 use Rattle.cast_types.specs.Names.{site_eq, group_eq, group_cmp, proc_eq, uid_eq, is_atomic, named, entry_of}
+use Rattle.cast_types.specs.Sets.{is_among}
 use Rattle.cast_types.specs.Places.{update}
 use Rattle.cast_types.specs.Counts.{CountList}
 use Rattle.cast_types.specs.Stamps.{ClockList}
@@ -43,10 +44,10 @@ use Rattle.cast_timer.specs.Owed.{is_owed, due_at}
 use Rattle.cast_message.specs.Receipts.{key_eq, message_under}
 use Rattle.cast_domain.specs.declared.record.GroupRecord.{GroupRecord}
 use Rattle.cast_model.specs.Session.{first_session, told as told_session}
-use Rattle.cast_model.specs.Group.{no_group, members_of, holder_of, is_process, is_current, with_request, with_answer, with_view, is_taken_in}
+use Rattle.cast_view.specs.MemberSide.{no_group, members_of, holder_of, is_process, is_current, with_request, with_answer, with_view, is_taken_in}
 use Rattle.cast_view.specs.Sites.{other_sites}
 use Rattle.cast_view.specs.Home.{HomeMove, first_home, is_empty, moved}
-use Rattle.cast_domain.specs.Shared.{part_with, part_without, part_owing, part_renewing, part_paying, part_paying_upto}
+use Rattle.cast_domain.specs.Shared.{part_with, part_without, part_owing, part_renewing, part_paying, part_paying_upto, part_paying_view}
 use Rattle.cast_history.specs.Rules.Interface.{Site, Serials, Resting}
 use Rattle.cast_history.specs.Rules.Rest.{tell, told_of}
 use Rattle.cast_history.specs.Rules.Room.{may_order}
@@ -215,6 +216,46 @@ abbrev pub complete_in : Records → ℕ → ℕ → Membership → ℕ → Reco
 complete_in r i n members request =
     fold (take_in (record_at r.groups i).name n members request) (view_in r i n members) members.list
 
+-- a member of a group is put out, and is told
+abbrev pub put_out_in : GroupNo → ℕ → Records → Proc → Records
+put_out_in g n r p = push_in (tell_in r p (fact.Standing g Outside)) p.serial (push.Ejected g n)
+
+-- where the next view does not name it, or a view was skipped
+abbrev pub is_put_out_in : GroupNo → Bool → Membership → Records → ℕ → Bool
+is_put_out_in g skips members r k =
+    is_member (standing_of r.delay (local_in r k) g) && (skips || not (is_among proc_eq (local_in r k) members.list))
+
+abbrev pub put_out_if_in : GroupNo → Bool → ℕ → Membership → Records → ℕ → Records
+put_out_if_in g skips n members r k = if is_put_out_in g skips members r k then put_out_in g n r (local_in r k) else r
+
+abbrev pub put_out_all_in : GroupNo → Bool → ℕ → Membership → Records → Records
+put_out_all_in g skips n members r = fold (put_out_if_in g skips n members) r (range_with_len 1 r.used)
+
+-- the site passes to the next view of the group at a place
+abbrev pub pass_in : Records → ℕ → Bool → ℕ → Membership → ℕ → Records
+pass_in r i skips n members request = complete_in (put_out_all_in (record_at r.groups i).name skips n members r) i n members request
+
+-- Messages that are let go
+
+-- a message is kept and offered no longer
+abbrev pub release_in : Records → Key → Records
+release_in r key =
+    record r {
+      part = part_without r.part key;
+      delay = record r.delay { offered = filter (λ o. not (key_eq o.key key)) r.delay.offered };
+    }
+
+-- and so all whose ids pass a test
+abbrev pub release_all_in : Records → (Uid → Bool) → Records
+release_all_in r passes = fold release_in r (map (λ x. x.key) (filter (λ x. passes x.message.id) r.part.kept))
+
+-- a message of a view that has ended, of the group at a place
+abbrev pub is_ended_in : Records → ℕ → Uid → Bool
+is_ended_in r i u = group_eq u.group (record_at r.groups i).name && nat_lt u.view (record_at r.groups i).here.number
+
+abbrev pub pay_view_in : Records → GroupNo → Records
+pay_view_in r g = record r { part = part_paying_view r.part g }
+
 -- The records as the rules see them: a group stands at a place
 
 abbrev pub records : Site Records ℕ
@@ -244,6 +285,7 @@ records = record {
   note_resent = note_resent_in;
   pay = pay_in;
   pay_upto = pay_upto_in;
+  pay_view = pay_view_in;
   note_moment = note_moment_in;
   note_ack = note_ack_in;
   note_stable = note_stable_in;
@@ -255,22 +297,9 @@ records = record {
   note_request = note_request_in;
   note_answer = note_answer_in;
   move_home = move_home_in;
-  enter_view = λ r i n members request cut. complete_in r i n members request;
+  enter_view = λ r i skips n members request cut. pass_in r i skips n members request;
+  release_ended = λ r i. release_all_in r (is_ended_in r i);
 }
-
--- Messages that are let go
-
--- a message is kept and offered no longer
-abbrev pub release_in : Records → Key → Records
-release_in r key =
-    record r {
-      part = part_without r.part key;
-      delay = record r.delay { offered = filter (λ o. not (key_eq o.key key)) r.delay.offered };
-    }
-
--- and so all whose ids pass a test
-abbrev pub release_all_in : Records → (Uid → Bool) → Records
-release_all_in r passes = fold release_in r (map (λ x. x.key) (filter (λ x. passes x.message.id) r.part.kept))
 
 -- Sessions
 

@@ -25,7 +25,7 @@ use Rattle.cast_timer.specs.declared.key.Owed.{Owed}
 use Rattle.cast_model.specs.declared.config.DomainConfig.{DomainConfig}
 use Rattle.cast_model.specs.declared.session.Session.{Session}
 use Rattle.cast_model.specs.Session.{no_session, is_open}
-use Rattle.cast_model.specs.Group.{holder_at}
+use Rattle.cast_view.specs.MemberSide.{holder_at}
 use Rattle.cast_view.specs.Home.{is_empty}
 use Rattle.cast_history.specs.Lawful.{IsLawful}
 use Rattle.cast_history.specs.State.{State, no_process, gate_of, others_of, may_speak, upto, was_given}

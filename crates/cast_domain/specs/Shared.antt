@@ -1,6 +1,7 @@
 -- What all domains of a daemon share, as one domain sees it: its own part, and what is left for the others.
 use Rattle.std.specs.Prelude.{◌≡◌, ℕ, ◌+◌, not, ◌==◌, if◌then◌else◌, List, [], ◌∷◌, ◌++◌, filter}
 use Rattle.cast_types.specs.declared.names.DomainNo.{DomainNo}
+use Rattle.cast_types.specs.declared.names.GroupNo.{GroupNo}
 use Rattle.cast_types.specs.declared.names.Key.{Key}
 use Rattle.cast_message.specs.Receipts.{key_eq}
 use Rattle.cast_message.specs.declared.message.Message.{Message}
@@ -8,7 +9,7 @@ use Rattle.cast_message.specs.declared.message.Received.{Received}
 use Rattle.cast_store.specs.Store.{kept_in, next_in}
 use Rattle.cast_timer.specs.declared.key.Owed.{Owed}
 use Rattle.cast_timer.specs.declared.key.OwedKey.{OwedKey}
-use Rattle.cast_timer.specs.Owed.{with_owed, paid, renewed, key_eq as owed_key_eq, is_upto}
+use Rattle.cast_timer.specs.Owed.{with_owed, paid, renewed, key_eq as owed_key_eq, is_of_view, is_upto}
 use Rattle.cast_timer.specs.Rows.{owed_in}
 use Rattle.cast_domain.specs.declared.shared.Shared.{Shared}
 
@@ -51,6 +52,9 @@ part_renewing p key due = record p { owed = renewed p.owed key due }
 
 abbrev pub part_paying : Part → OwedKey → Part
 part_paying p key = record p { owed = paid (owed_key_eq key) p.owed }
+
+abbrev pub part_paying_view : Part → GroupNo → Part
+part_paying_view p g = record p { owed = paid (is_of_view g) p.owed }
 
 abbrev pub part_paying_upto : Part → OwedKey → Part
 part_paying_upto p key = record p { owed = paid (is_upto key) p.owed }

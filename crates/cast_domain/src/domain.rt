@@ -9,11 +9,11 @@ use crate::record::{GroupRecord, place_among};
 use crate::shared::Shared;
 use cast_delay::{Delay, Fact};
 use cast_message::{Push, SiteFrame};
-use cast_model::{DomainConfig, Event, Group, Moment, Outs, Session, Taken};
+use cast_model::{DomainConfig, Event, Moment, Outs, Session, Taken};
 use cast_order::Orders;
 use cast_stable::Acks;
 use cast_types::{DomainNo, GroupNo, NoMemory, Proc, Refusal, SiteNo};
-use cast_view::HomeSide;
+use cast_view::{HomeSide, MemberSide};
 use std::alloc::Global;
 
 /// One domain at one site: one tenant, alone.
@@ -54,7 +54,7 @@ impl Domain {
         for group in config.groups.as_slice() {
             groups.push(GroupRecord {
                 name: *group,
-                here: Group::new(alloc),
+                here: MemberSide::new(alloc),
                 home: HomeSide::new(alloc),
             })?;
         }

@@ -7,7 +7,6 @@ ghost use Rattle.cast_history.specs.Lawful.{IsTypedFrame};
 ghost use Rattle.cast_history.specs.Rules.Data.{counts_itself, is_used, is_well_formed, on_data, use_data};
 ghost use Rattle.cast_history.specs.Rules.Frames.{framed, group_of, on_frame};
 ghost use Rattle.cast_history.specs.Rules.Requests.{deny, deny_if, is_joining_by, on_asked, take_answer};
-ghost use Rattle.cast_history.specs.Rules.Views.{on_install};
 
 use crate::domain::Domain;
 use crate::lent::Lent;
@@ -16,10 +15,9 @@ use crate::record::{answer_at, view_at};
 use cast_clock::Times;
 use cast_delay::Fact;
 use cast_message::{Members, Message, Push, SiteFrame};
-use cast_model::group::is_taken_in;
-use cast_model::{Asking, Outs, Verdict};
+use cast_model::Outs;
 use cast_types::{Clock, GroupNo, NoMemory, Proc, Refusal, SiteNo, Standing, Uid};
-use cast_view::{is_among, other_sites};
+use cast_view::{Asking, is_among, is_taken_in, other_sites};
 
 // What the types of a time's clocks promise of their counts, for the proofs: nothing is done.
 fn promised_by_counts(clocks: &[(GroupNo, Clock)])
@@ -73,7 +71,7 @@ fn group_of(frame: &SiteFrame) -> GroupNo
 
 impl Domain {
     ghost use Rattle.cast_model.specs.declared.event.Outs.{Outs};
-    ghost use Rattle.cast_model.specs.Group.{is_taken_in};
+    ghost use Rattle.cast_view.specs.MemberSide.{is_taken_in};
     ghost use Rattle.cast_domain.specs.Records.{Keeps, KeepsBeside, records_in, records_of};
     ghost use Rattle.cast_domain.specs.Shared.{Part};
     ghost use Rattle.cast_domain.specs.Calls.{records, complete_in, enter_in, send_in, standing_of, take_in, time_of, view_in};
@@ -126,7 +124,7 @@ impl Domain {
                 members,
                 request,
                 ..
-            } => self.install(place, from, *view, members, *request, lent.outs),
+            } => self.install(place, from, *view, members, *request, lent),
             SiteFrame::Installed { view, .. } => self.installed(place, from, *view, lent),
             SiteFrame::Ack(id) => self.ack(place, from, *id, lent),
             SiteFrame::Stable(id) => self.stable(place, from, *id, lent),
@@ -139,11 +137,13 @@ impl Domain {
             } => self.flushed(place, from, *view, counts, tail, kept, lent),
             SiteFrame::Want(id) => self.wanted(place, from, *id, lent),
             SiteFrame::Forward(message) => self.forwarded(place, message, lent),
-            SiteFrame::Prepare { .. } | SiteFrame::Out { .. } => Ok(()),
+            SiteFrame::Out { view, .. } => self.out(place, *view, lent),
+            SiteFrame::Prepare { .. } => Ok(()),
         }
     }
 
-    // Data: a causal message of the site's view, from the process's own site, which is another.
+    // Data: a message of the site's view, from the process's own site, which is another; or one of an older view, from a site that has
+    // no part in it any more and is told so.
     fn data(
         &mut self,
         place: usize,
@@ -156,7 +156,12 @@ impl Domain {
         ensures made { OnOk result (records_in self.new lent.new ≡ on_data records (records_in self.old lent.old) place from message.now) }
     {
         if self.is_used(place, from, message) {
-            self.use_data(from, message, lent)?;
+            return self.use_data(from, message, lent);
+        }
+        if self.is_outdated(place, from, message) {
+            let record = self.record(place);
+            let (group, view) = (record.name, record.here.number());
+            return self.send(lent.outs, from, SiteFrame::Out { group, view });
         }
         Ok(())
     }
@@ -168,7 +173,7 @@ impl Domain {
     {
         message.id.proc.site == from
             && !(from == self.site)
-            && message.id.view == self.record(place).here.number
+            && message.id.view == self.record(place).here.number()
             && self.is_well_formed(self.record(place).here.members(), message)
     }
 
@@ -198,7 +203,7 @@ impl Domain {
     pub(crate) fn is_well_formed(&self, members: &[Proc], message: &Message) -> bool
         ensures { (o : Outs) (part : Part) → result ≡ is_well_formed records (records_of self.now part o) members.now message.now }
     {
-        self.knows_groups(message) && is_member(message.id.proc, members) && counts_itself(message)
+        self.knows_groups(message) && is_named(message.id.proc, members) && counts_itself(message)
     }
 
     // Whether all groups of the message's time are configured.
@@ -242,7 +247,7 @@ impl Domain {
     {
         let key = ask_key(self.record(place).name, self.config.home);
         self.pay(&key, lent);
-        answer_at(&mut self.groups, place)?;
+        answer_at(&mut self.groups, place);
         self.ask_home(place, lent)?;
         Ok(())
     }
@@ -280,38 +285,8 @@ impl Domain {
         Ok(())
     }
 
-    // Install: answered again where the site knows its number; else completed where the site has no view. What is kept does
-    // not depend on its cut.
-    fn install(
-        &mut self,
-        place: usize,
-        from: SiteNo,
-        view: u32,
-        members: &Members,
-        request: u32,
-        outs: &mut Outs,
-    ) -> Result<(), NoMemory>
-        requires { place < vec_len self.old.groups }
-        ensures same { Keeps self.old self.new }
-        ensures made { OnOk result ((part : Part) → records_of self.new part outs.new ≡ on_install records (records_of self.old part outs.old) place from view members.now request []) }
-    {
-        if !self.is_from_home(from) {
-            return Ok(());
-        }
-        let group = self.record(place).name;
-        match self.record(place).here.verdict(view) {
-            Verdict::Ignored => Ok(()),
-            Verdict::Again => self.send(outs, from, SiteFrame::Installed { group, view }),
-            Verdict::Completes => {
-                self.complete(place, view, members, request)?;
-                self.send(outs, from, SiteFrame::Installed { group, view })?;
-                Ok(())
-            }
-        }
-    }
-
     // A view is complete: the processes here that it takes in enter it, and are told.
-    fn complete(
+    pub(crate) fn complete(
         &mut self,
         place: usize,
         view: u32,
@@ -434,7 +409,7 @@ fn is_joining_by(standing: Standing, number: u32) -> bool
 }
 
 // Whether a process is one of these.
-fn is_member(process: Proc, members: &[Proc]) -> bool
+pub(crate) fn is_named(process: Proc, members: &[Proc]) -> bool
     ensures { result ≡ is_among proc_eq process members.now }
 {
     members.iter().any(|member| process == *member)

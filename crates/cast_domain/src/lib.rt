@@ -24,9 +24,8 @@ mod requests;
 mod rest;
 mod shared;
 mod stability;
+mod views;
 
-pub use cast_model::{
-    Asking, Config, DomainConfig, Event, Group, Outs, Quotas, Session, Status, Taken, Verdict,
-};
+pub use cast_model::{Config, DomainConfig, Event, Outs, Quotas, Session, Status, Taken};
 pub use domain::Domain;
 pub use shared::Shared;

@@ -91,13 +91,15 @@ impl Domain {
         ensures { result ≡ turn_at (records_in self.now lent.now) process kept.now }
     {
         if kept.here.is_held_by(process) {
-            let settled = self.settled(kept.name, kept.here.number, process);
+            let settled = self.settled(kept.name, kept.here.number(), process);
             return Turn::Holding(
                 self.has_order_room(lent) && self.orders.has_room(kept.name, settled),
             );
         }
         let ids = self.orders.next(kept.name, process);
-        let passed = self.delay.passed(process, kept.name, kept.here.number, ids);
+        let passed = self
+            .delay
+            .passed(process, kept.name, kept.here.number(), ids);
         Turn::Following(ids.get(passed).copied())
     }
 
@@ -221,7 +223,7 @@ impl Domain {
     {
         let holder = self.process(serial);
         let group = self.record(place).name;
-        let view = self.record(place).here.number;
+        let view = self.record(place).here.number();
         let count = time.count(group, holder);
         let message = Message {
             id: Uid {
@@ -252,7 +254,7 @@ pub(crate) fn learn(orders: &mut Orders, message: &Message) -> Result<(), NoMemo
 }
 
 // Whether a process that is this in a group is a member.
-fn is_member(standing: Standing) -> bool
+pub(crate) fn is_member(standing: Standing) -> bool
     ensures { result ≡ is_member standing }
 {
     match standing {

@@ -3,7 +3,7 @@ ghost use Rattle.std.specs.Option.{option_copied, option_map};
 ghost use Rattle.std.specs.List.{find};
 ghost use Rattle.cast_types.specs.Names.{uid_eq};
 ghost use Rattle.cast_message.specs.declared.site.SiteFrame.TheVariants as frame;
-ghost use Rattle.cast_model.specs.Group.{first_asking};
+ghost use Rattle.cast_view.specs.MemberSide.{first_asking};
 ghost use Rattle.cast_history.specs.Rules.Keys.{ask_key, home_key, id_in, message_key, want_key};
 ghost use Rattle.cast_history.specs.Rules.Owing.{ask_frame, install_frame, frame_for, frame_of_kind, owe, resend, resend_due, send_for, tick};
 
@@ -183,8 +183,8 @@ impl Domain {
     {
         match key.kind {
             OwedKind::Ask => Ok(self.ask_frame(place, key.group)),
-            OwedKind::Data => self.data_frame(id_in(self.record(place).here.number, key), lent),
-            OwedKind::Ack => Ok(Some(SiteFrame::Ack(id_in(self.record(place).here.number, key)))),
+            OwedKind::Data => self.data_frame(id_in(self.record(place).here.number(), key), lent),
+            OwedKind::Ack => Ok(Some(SiteFrame::Ack(id_in(self.record(place).here.number(), key)))),
             OwedKind::Prepare => Ok(Some(self.prepare_frame(place, key.group))),
             OwedKind::Install => install_frame(key.group, &self.record(place).home, key.site),
             OwedKind::Want => Ok(Some(SiteFrame::Want(id_in(

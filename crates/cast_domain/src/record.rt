@@ -2,22 +2,21 @@ ghost use Rattle.std.specs.Prelude.{◌≡◌, ◌<◌, true, IfOk, IfSome, OnOk
 ghost use Rattle.std.specs.List.{position};
 ghost use Rattle.cast_types.specs.Names.{group_eq};
 ghost use Rattle.cast_types.specs.Places.{update};
-ghost use Rattle.cast_model.specs.Group.{with_answer, with_request, with_view};
+ghost use Rattle.cast_view.specs.MemberSide.{with_answer, with_request, with_view};
 ghost use Rattle.cast_view.specs.Home.{answer_to, may_decide};
 ghost use Rattle.cast_view.specs.Home.HomeMove.{Asked, Brought, Decided, Installed, Reported, Started};
 ghost use Rattle.cast_domain.specs.Calls.{moved_home, record_at};
 
 use cast_flush::Report;
 use cast_message::{Change, Members, Message};
-use cast_model::Group;
 use cast_types::{GroupNo, NoMemory, Proc, SiteNo};
-use cast_view::HomeSide;
+use cast_view::{HomeSide, MemberSide};
 
 /// What a domain keeps of a group: the site's side, and, at the home's site, the home's.
 #[derive(Drop)]
 pub(crate) struct GroupRecord {
     pub(crate) name: GroupNo,
-    pub(crate) here: Group,
+    pub(crate) here: MemberSide,
     pub(crate) home: HomeSide,
 }
 
@@ -49,14 +48,13 @@ pub(crate) fn ask_at(
 
 /// Takes the first request of the group of a place off: it is answered.
 #[tactic(auto, using(cast_types::proofs::Updates::set_update))]
-pub(crate) fn answer_at(groups: &mut Vec<GroupRecord>, place: usize) -> Result<(), NoMemory>
+pub(crate) fn answer_at(groups: &mut Vec<GroupRecord>, place: usize)
     requires { place < vec_len groups.old }
-    ensures items { OnOk result (groups.new.items ≡ update groups.old.items place (λ x. record x { here = with_answer x.here })) }
+    ensures items { groups.new.items ≡ update groups.old.items place (λ x. record x { here = with_answer x.here }) }
     ensures len { vec_len groups.new ≡ vec_len groups.old }
 {
     let record = &mut groups[place];
-    record.here.take_answer()?;
-    Ok(())
+    record.here.take_answer();
 }
 
 /// Takes over a view at the group of a place.
@@ -73,7 +71,7 @@ pub(crate) fn view_at(
     ensures len { vec_len groups.new ≡ vec_len groups.old }
 {
     let record = &mut groups[place];
-    record.here.take_view(site, number, members)?;
+    record.here.complete(site, number, members)?;
     Ok(())
 }
 

@@ -132,7 +132,7 @@ impl Domain {
                 return Ok(Some(Refusal::AlreadyMember));
             }
         }
-        let asked = self.record(place).here.asked;
+        let asked = self.record(place).here.asked();
         if asked == MAX_NUMBER {
             return Ok(Some(Refusal::HeldFull));
         }
@@ -168,7 +168,7 @@ impl Domain {
         ensures stays { KeepsBeside self.old lent.old self.new lent.new }
         ensures made { OnOk result (records_in self.new lent.new ≡ request records (records_in self.old lent.old) place change process) }
     {
-        let is_first = self.record(place).here.requests.is_empty();
+        let is_first = self.record(place).here.requests().is_empty();
         ask_at(&mut self.groups, place, change, process)?;
         if is_first {
             return self.ask_home(place, lent);
@@ -183,7 +183,7 @@ impl Domain {
         ensures made { OnOk result (records_in self.now lent.new ≡ ask_home records (records_in self.now lent.old) place) }
     {
         let record = self.record(place);
-        if record.here.requests.is_empty() {
+        if record.here.requests().is_empty() {
             return Ok(());
         }
         self.owe(ask_key(record.name, self.config.home), lent)
@@ -244,7 +244,7 @@ impl Domain {
         let message = Message {
             id: Uid {
                 group,
-                view: self.record(at).here.number,
+                view: self.record(at).here.number(),
                 proc: process,
                 count: time.count(group, process),
             },

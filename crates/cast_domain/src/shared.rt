@@ -4,7 +4,7 @@ ghost use Rattle.cast_types.specs.declared.names.DomainNo.{DomainNo};
 use cast_message::Message;
 use cast_store::Store;
 use cast_timer::{OwedKey, Timers};
-use cast_types::{DomainNo, Key, NoMemory};
+use cast_types::{DomainNo, GroupNo, Key, NoMemory};
 use std::alloc::{AllocError, Global};
 
 /// What the domains of a daemon share: the messages that they keep and the frames that they owe. A domain is lent all of
@@ -16,7 +16,7 @@ pub struct Shared {
 }
 
 impl Shared {
-    ghost use Rattle.cast_domain.specs.Shared.{LeavesOthers, no_part, part_of, part_owing, part_paying, part_paying_upto, part_renewing, part_with, part_without};
+    ghost use Rattle.cast_domain.specs.Shared.{LeavesOthers, no_part, part_of, part_owing, part_paying, part_paying_upto, part_paying_view, part_renewing, part_with, part_without};
 
     /// Nothing is kept and nothing is owed.
     pub fn new(alloc: Global) -> Self
@@ -79,5 +79,13 @@ impl Shared {
         ensures others { LeavesOthers domain self.old self.new }
     {
         self.timers.pay_upto(domain, key);
+    }
+
+    // Owes no more what the site owes for a view of the group, which has ended.
+    pub(crate) fn pay_view(&mut self, domain: DomainNo, group: GroupNo)
+        ensures part { part_of domain self.new ≡ part_paying_view (part_of domain self.old) group }
+        ensures others { LeavesOthers domain self.old self.new }
+    {
+        self.timers.pay_view(domain, group);
     }
 }

@@ -176,7 +176,7 @@ impl Domain {
     }
 
     // Keeps the message under a key no longer.
-    fn release(&mut self, key: Key, lent: &mut Lent<'_>)
+    pub(crate) fn release(&mut self, key: Key, lent: &mut Lent<'_>)
         ensures stays { KeepsBeside self.old lent.old self.new lent.new }
         ensures made { records_in self.new lent.new ≡ release_in (records_in self.old lent.old) key }
     {

@@ -18,7 +18,7 @@ use Rattle.cast_model.specs.declared.session.Session.{Session}
 use Rattle.cast_model.specs.Session.{is_open, pushed_to}
 use Rattle.cast_history.specs.State.{State, set_session, set_process, emitted, others_of, noting_ack, noting_stable, pushing, receiving, noting_sent}
 use Rattle.cast_history.specs.Rest.{let_go}
-use Rattle.cast_history.specs.Owing.{noting_owed, noting_resent, paying, paying_upto, at_moment}
+use Rattle.cast_history.specs.Owing.{noting_owed, noting_resent, paying, paying_upto, paying_view, at_moment}
 use Rattle.cast_history.specs.Rules.Sending.{send_data}
 use Rattle.cast_history.specs.History.{history}
 use Rattle.cast_history.proofs.Rules.Follows.{IsInvariant}
@@ -100,6 +100,7 @@ moves_alike s = record {
   note_resent = λ t a key. alike_then s t (noting_resent t key) a (alike_owed t (noting_resent t key).owed);
   pay = λ t a key. alike_then s t (paying t key) a (alike_owed t (paying t key).owed);
   pay_upto = λ t a key. alike_then s t (paying_upto t key) a (alike_owed t (paying_upto t key).owed);
+  pay_view = λ t a g. alike_then s t (paying_view t g) a (alike_owed t (paying_view t g).owed);
   note_moment = λ t a n. alike_then s t (at_moment t n) a (alike_known t t.acks t.told (at_moment t n).moment);
   note_ack = λ t a from u. alike_then s t (noting_ack t from u) a (alike_known t (noting_ack t from u).acks t.told t.moment);
   note_stable = λ t a u. alike_then s t (noting_stable t u) a (alike_known t t.acks (noting_stable t u).told t.moment);

@@ -18,7 +18,7 @@ frames : List Event
 frames =
     comes 9 (frame.Prepare (group 1) 2)
     ∷ comes 2 (frame.Flushed (group 1) 2 [] (record { start = 0; ids = [] }) []) ∷ comes 2 (frame.Want (uid 1 2 p21 1))
-    ∷ comes 9 (frame.Forward (alone 1 2 p21 1)) ∷ comes 2 (frame.Out (group 1) 3) ∷ []
+    ∷ comes 9 (frame.Forward (alone 1 2 p21 1)) ∷ comes 2 (frame.Out (group 1) 2) ∷ []
 
 unused : Ran
 unused = then_run in_second_view frames

@@ -4,7 +4,7 @@ use Rattle.std.specs.Prelude.{◌&&◌, ◌||◌, ◌⊎◌, ◌==◌, nat_lt, n
 use Rattle.std.specs.List.{fold, list_any, list_all, range_with_len}
 use Rattle.std.specs.Ordering.{nat_cmp, MatchOrdering}
 use Rattle.std.specs.FinMap.Entries.{is_sorted}
-use Rattle.std.proofs.lemmas.Bool.{cases_Bool, cases_eq, not-false, and_parts, or_cases, or_left, or_right, false≢true, eqb-true, ltb-true, leb-true}
+use Rattle.std.proofs.lemmas.Bool.{cases_Bool, cases_eq, not-false, and_parts, or_cases, or_left, or_right, and_from, false≢true, eqb-true, ltb-true, leb-true, false_from_ne_true}
 use Rattle.std.proofs.lemmas.List.Folds.{list_any-append}
 use Rattle.std.proofs.lemmas.Cmp.{ranked}
 use Rattle.std.proofs.lemmas.List.Elements.{Contains-push_cases}
@@ -39,17 +39,17 @@ use Rattle.cast_delay.proofs.Delivers.{only_member}
 use Rattle.cast_delay.proofs.Means.{among_holds}
 use Rattle.cast_model.specs.declared.session.Session.{Session}
 use Rattle.cast_model.specs.Session.{is_open, pushed_to}
-use Rattle.cast_model.specs.declared.group.Group.{Group}
-use Rattle.cast_model.specs.Group.{no_group, has_view, members_of, is_at, is_current, with_request, with_view, is_taken_in}
+use Rattle.cast_view.specs.MemberSide.{MemberSide, no_group, has_view, members_of, is_current, with_request, with_view, is_taken_in}
+use Rattle.cast_view.specs.Sites.{is_at}
 use Rattle.cast_view.specs.Home.{Home, is_empty}
 use Rattle.cast_model.specs.declared.config.DomainConfig.{DomainConfig}
-use Rattle.cast_history.specs.State.{State, opening, local, serials, is_group, may_speak, set_session, set_process, set_group, set_home, set_standing, emitted, others_of, noting_ack, noting_stable, gate_of, local_members, is_stable, was_given, pushing, receiving, with_delivery, noting_act, noting_sent}
+use Rattle.cast_history.specs.State.{State, opening, local, serials, is_group, may_speak, set_session, set_process, set_group, set_home, set_standing, emitted, others_of, noting_ack, noting_stable, gate_of, local_members, is_stable, was_given, pushing, receiving, releasing, is_ended, releasing_ended, with_delivery, noting_act, noting_sent}
 use Rattle.cast_history.specs.Acts.{Act}
 use Rattle.cast_history.specs.Acts.Act.{Sent}
 use Rattle.cast_types.specs.Counts.{CountList}
 use Rattle.cast_history.specs.Rest.{is_free, let_go}
 use Rattle.cast_history.specs.Order.{is_ready_for}
-use Rattle.cast_history.specs.Owing.{noting_owed, noting_resent, paying, paying_upto, at_moment}
+use Rattle.cast_history.specs.Owing.{noting_owed, noting_resent, paying, paying_upto, paying_view, at_moment}
 use Rattle.cast_history.specs.Rules.Keys.{ask_key}
 use Rattle.cast_history.specs.Rules.Owing.{owe}
 use Rattle.cast_history.specs.Rules.Sending.{send_data}
@@ -60,14 +60,14 @@ use Rattle.cast_history.proofs.Rules.Owing.{owe_keeps}
 use Rattle.cast_history.proofs.Rules.Sending.{send_data_keeps}
 use Rattle.cast_history.specs.Effects.{next_message, sending_message, sending, delivering}
 use Rattle.cast_history.specs.Rules.Rest.{told_of}
-use Rattle.cast_history.specs.Entering.{enters, in_view, all_in_view, push_view, completing}
+use Rattle.cast_history.specs.Entering.{parted, is_put_out, all_parted, push_out, putting_out, enters, in_view, all_in_view, push_view, completing, passing}
 use Rattle.cast_history.specs.Run.{before_event}
 use Rattle.cast_history.specs.Lawful.{IsSpent, AreKept, IsTraced, IsLawful}
 
 -- One process in one group
 
 -- what is lawful of a process with this standing and this view in its time, in a group that is configured or not
-pub record Placed (listed : Bool) (standing : Standing) (view : ℕ) (group : Group) : Type 0 where
+pub record Placed (listed : Bool) (standing : Standing) (view : ℕ) (group : MemberSide) : Type 0 where
   pub known : is_outside standing ≡ false → listed ≡ true
   pub current : is_member standing ≡ true → view ≡ group.number
   pub viewed : is_member standing ≡ true → has_view group ≡ true
@@ -175,6 +175,14 @@ free_spent s m free =
           range_all (λ j. is_member ((s.process j).standing m.id.group)) (λ j. has_delivered (s.process j) m.id) 1 s.used all k (omega (arith, low)) (omega (arith, high)) is;
     }
 
+-- and so is one of a view that has ended
+ended_spent : (s : State) (g : GroupNo) (m : Message) → is_ended s g m.id ≡ true → IsSpent s m
+ended_spent s g m ended =
+    let parts = and_parts (group_eq m.id.group g) (nat_lt m.id.view (s.group g).number) ended in
+    let below : m.id.view < (s.group m.id.group).number =
+    subst (λ h. m.id.view < (s.group h).number) (sym (same_group m.id.group g parts.0)) (ltb-true m.id.view (s.group g).number parts.1) in
+    record { reached = omega (arith, below); delivered = λ k given is here. absurd (omega (arith, below, here)) }
+
 -- What changes nothing of this
 
 -- alike in all that is lawful or not
@@ -191,7 +199,7 @@ pub record SameLaw (s : State) (t : State) : Type 0 where
   -- no session opens
   pub opens : (k : ℕ) → is_open (t.session k) ≡ true → is_open (s.session k) ≡ true
 
-pub seen_view : (a b : Group) → a.view ≡ b.view → has_view a ≡ has_view b
+pub seen_view : (a b : MemberSide) → a.view ≡ b.view → has_view a ≡ has_view b
 seen_view a b e = ap (λ v. has_view (record no_group { view = v })) e
 
 pub lawful_same : (s t : State) → SameLaw s t → IsLawful s → IsLawful t
@@ -264,7 +272,7 @@ pub same_pushing : (s : State) (k : ℕ) (p : Push) → SameLaw s (pushing s k p
 same_pushing s k p = same_if s (set_session s k (pushed_to (s.session k) p)) s (is_open (s.session k)) (same_session s k (pushed_to (s.session k) p) (λ is. is)) (same_self s)
 
 -- a group that keeps its number and its view
-pub same_group_set : (s : State) (g : GroupNo) (v : Group) → v.number ≡ (s.group g).number → v.view ≡ (s.group g).view → SameLaw s (set_group s g v)
+pub same_group_set : (s : State) (g : GroupNo) (v : MemberSide) → v.number ≡ (s.group g).number → v.view ≡ (s.group g).view → SameLaw s (set_group s g v)
 same_group_set s g v number view = record {
   here = refl;
   config = refl;
@@ -302,6 +310,7 @@ moves_same s = record {
   note_resent = λ t a key. same_then s t (noting_resent t key) a (same_owed t (noting_resent t key).owed);
   pay = λ t a key. same_then s t (paying t key) a (same_owed t (paying t key).owed);
   pay_upto = λ t a key. same_then s t (paying_upto t key) a (same_owed t (paying_upto t key).owed);
+  pay_view = λ t a g. same_then s t (paying_view t g) a (same_owed t (paying_view t g).owed);
   note_moment = λ t a n. same_then s t (at_moment t n) a (same_moment t (at_moment t n).moment);
   note_ack = λ t a from u. same_then s t (noting_ack t from u) a (same_known t (noting_ack t from u).acks t.told);
   note_stable = λ t a u. same_then s t (noting_stable t u) a (same_known t t.acks (noting_stable t u).told);
@@ -315,6 +324,7 @@ invariant_by_same holds by_same = record {
   note_resent = λ s h key. by_same s (noting_resent s key) ((moves_same s).note_resent s (same_self s) key) h;
   pay = λ s h key. by_same s (paying s key) ((moves_same s).pay s (same_self s) key) h;
   pay_upto = λ s h key. by_same s (paying_upto s key) ((moves_same s).pay_upto s (same_self s) key) h;
+  pay_view = λ s h g. by_same s (paying_view s g) ((moves_same s).pay_view s (same_self s) g) h;
   note_moment = λ s h n. by_same s (at_moment s n) ((moves_same s).note_moment s (same_self s) n) h;
   note_ack = λ s h from u. by_same s (noting_ack s from u) ((moves_same s).note_ack s (same_self s) from u) h;
   note_stable = λ s h u. by_same s (noting_stable s u) ((moves_same s).note_stable s (same_self s) u) h;
@@ -453,12 +463,19 @@ lawful_receiving s m l sorted reached speaks = lawful_from s (receiving s m) l r
     })
 
 -- what is free is let go
-pub lawful_let_go : (s : State) → IsLawful s → IsLawful (let_go s)
-lawful_let_go s l = lawful_from s (let_go s) l refl (placed_of s l) l.stamped
-    (kept_map (IsSpent s) (IsSpent (let_go s)) (λ x h. record { reached = h.reached; delivered = h.delivered }) s.got (let_go s).kept
-    (kept_filter (IsSpent s) (λ m. not (is_free s m.id)) (λ m fails. free_spent s m (not-false (is_free s m.id) fails)) s.got s.kept l.spent))
+-- messages are let go that are spent
+lawful_releasing : (s : State) (passes : Uid → Bool) → IsLawful s → ((m : Message) → passes m.id ≡ true → IsSpent s m) → IsLawful (releasing s passes)
+lawful_releasing s passes l spent = lawful_from s (releasing s passes) l refl (placed_of s l) l.stamped
+    (kept_map (IsSpent s) (IsSpent (releasing s passes)) (λ x h. record { reached = h.reached; delivered = h.delivered }) s.got (releasing s passes).kept
+    (kept_filter (IsSpent s) (λ m. not (passes m.id)) (λ m fails. spent m (not-false (passes m.id) fails)) s.got s.kept l.spent))
     l.listed
     (record { reached = l.traced.reached; spoken = l.traced.spoken; delivered = l.traced.delivered; seen = l.traced.seen })
+
+pub lawful_let_go : (s : State) → IsLawful s → IsLawful (let_go s)
+lawful_let_go s l = lawful_releasing s (is_free s) l (free_spent s)
+
+pub lawful_releasing_ended : (s : State) (g : GroupNo) → IsLawful s → IsLawful (releasing_ended s g)
+lawful_releasing_ended s g l = lawful_releasing s (is_ended s g) l (ended_spent s g)
 
 pub same_send_data : (u : Uid) (s : State) (to : SiteNo) → SameLaw s (send_data history u s to)
 same_send_data u s to = send_data_keeps history (SameLaw s) (moves_same s) u s (same_self s) to
@@ -590,7 +607,7 @@ named_here here k (p ∷ procs) named =
       | inr later ↦ or_right (is_at here p) (list_any (is_at here) procs) (named_here here k procs later)
     ]
 
-seen_here : (here : SiteNo) (n : ℕ) (members : Membership) (group : Group) → list_any (is_at here) members.list ≡ true → has_view (with_view here n members group) ≡ true
+seen_here : (here : SiteNo) (n : ℕ) (members : Membership) (group : MemberSide) → list_any (is_at here) members.list ≡ true → has_view (with_view here n members group) ≡ true
 seen_here here n members group at = ap (λ b. has_view (record no_group { view = if b then Some members else None })) at
 
 -- a process that is in the new view of a group
@@ -610,26 +627,40 @@ placed_new s g n members k l listed named h =
       }
     ] refl
 
--- one that is not: it is no member of a group without a view
-placed_old : (s : State) (g : GroupNo) (n : ℕ) (members : Membership) (k : ℕ) → IsLawful s → has_view (s.group g) ≡ false → (h : GroupNo) → PlacedIn (set_group s g (with_view s.here n members (s.group g))) (s.process k) h
+-- one that is not: it is no member
+placed_old : (s : State) (g : GroupNo) (n : ℕ) (members : Membership) (k : ℕ) → IsLawful s → is_member ((s.process k).standing g) ≡ false → (h : GroupNo) → PlacedIn (set_group s g (with_view s.here n members (s.group g))) (s.process k) h
 placed_old s g n members k l none h =
     elim (group_eq g h) as (λ b. group_eq g h ≡ b → Placed (is_group s h) ((s.process k).standing h) (view_of (s.process k).time h) (if b then with_view s.here n members (s.group g) else s.group h)) [
       | true ↦ λ is.
-          let no_view : has_view (s.group h) ≡ false = subst (λ x. has_view (s.group x) ≡ false) (same_group g h is) none in record {
+          let out : is_member ((s.process k).standing h) ≡ false = subst (λ x. is_member ((s.process k).standing x) ≡ false) (same_group g h is) none in record {
             known = l.known k h;
-            current = λ member. absurd (false≢true (sym no_view ∙ l.viewed k h member));
-            viewed = λ member. absurd (false≢true (sym no_view ∙ l.viewed k h member));
+            current = λ member. absurd (false≢true (sym out ∙ member));
+            viewed = λ member. absurd (false≢true (sym out ∙ member));
           }
       | false ↦ λ _. placed_of s l k h
     ] refl
 
-pub lawful_all_in_view : (s : State) (g : GroupNo) (n : ℕ) (members : Membership) (request : ℕ) (cut : CountList) → IsLawful s → is_group s g ≡ true → has_view (s.group g) ≡ false → (s.group g).number < n → IsLawful (all_in_view (set_group s g (with_view s.here n members (s.group g))) g n members request cut)
-lawful_all_in_view s g n members request cut l listed none later =
+-- the view names each member of the group that is here
+abbrev pub Stays : State → GroupNo → Membership → Type 0
+Stays s g members = (k : ℕ) → is_member ((s.process k).standing g) ≡ true → is_among proc_eq (local s k) members.list ≡ true
+
+-- so who does not enter is no member
+pub outside_still : (s : State) (g : GroupNo) (members : Membership) (number : ℕ) (k : ℕ) → Stays s g members → enters s g members number k ≡ false → is_member ((s.process k).standing g) ≡ false
+outside_still s g members number k stays out = false_from_ne_true (is_member ((s.process k).standing g)) (λ member.
+    false≢true (sym out ∙ and_from (is_taken_in number ((s.process k).standing g)) (is_among proc_eq (local s k) members.list) (taken ((s.process k).standing g) member) (stays k member)))
+  where
+    taken : (v : Standing) → is_member v ≡ true → is_taken_in number v ≡ true
+    taken Outside is = absurd (false≢true is)
+    taken (Joining asked heard) is = absurd (false≢true is)
+    taken Member is = refl
+
+pub lawful_all_in_view : (s : State) (g : GroupNo) (n : ℕ) (members : Membership) (request : ℕ) (cut : CountList) → IsLawful s → is_group s g ≡ true → Stays s g members → (s.group g).number < n → IsLawful (all_in_view (set_group s g (with_view s.here n members (s.group g))) g n members request cut)
+lawful_all_in_view s g n members request cut l listed stays later =
     let now : State = set_group s g (with_view s.here n members (s.group g)) in
     lawful_from s (all_in_view now g n members request cut) l refl
     (λ k h. elim (enters now g members request k) as (λ b. enters now g members request k ≡ b → PlacedIn now (if b then in_view g n (s.process k) else s.process k) h) [
       | true ↦ λ in_it. placed_new s g n members k l listed (and_parts (is_taken_in request ((s.process k).standing g)) (is_among proc_eq (local s k) members.list) in_it).1 h
-      | false ↦ λ _. placed_old s g n members k l none h
+      | false ↦ λ out. placed_old s g n members k l (outside_still s g members request k stays out) h
     ] refl)
     l.stamped
     (kept_map (IsSpent s) (IsSpent (all_in_view now g n members request cut)) spent_now s.got s.kept l.spent)
@@ -657,7 +688,7 @@ lawful_all_in_view s g n members request cut l listed none later =
     -- the group's view is another now, and in the other groups each process is what it was
     spent_now : (m : Message) → IsSpent s m → IsSpent (all_in_view (set_group s g (with_view s.here n members (s.group g))) g n members request cut) m
     spent_now m spent =
-        let w : Group = with_view s.here n members (s.group g) in
+        let w : MemberSide = with_view s.here n members (s.group g) in
         elim (cases_Bool (group_eq g m.id.group)) [
           | inl same ↦
               let number : (if group_eq g m.id.group then w else s.group m.id.group).number ≡ n = ap (λ b. (if b then w else s.group m.id.group).number) same in
@@ -681,8 +712,68 @@ lawful_all_in_view s g n members request cut l listed none later =
               | false ↦ λ is here. spent.delivered k given is here
             ]
 
-pub lawful_completing : (s : State) (g : GroupNo) (n : ℕ) (members : Membership) (request : ℕ) (cut : CountList) → IsLawful s → is_group s g ≡ true → has_view (s.group g) ≡ false → (s.group g).number < n → IsLawful (completing s g n members request cut)
-lawful_completing s g n members request cut l listed none later =
+lawful_completing : (s : State) (g : GroupNo) (n : ℕ) (members : Membership) (request : ℕ) (cut : CountList) → IsLawful s → is_group s g ≡ true → Stays s g members → (s.group g).number < n → IsLawful (completing s g n members request cut)
+lawful_completing s g n members request cut l listed stays later =
     let now : State = set_group s g (with_view s.here n members (s.group g)) in
     lawful_fold (push_view g n members) (λ t k. lawful_pushing t k (push.View g n members)) (filter (enters s g members request) (serials s)) (all_in_view now g n members request cut)
-    (lawful_all_in_view s g n members request cut l listed none later)
+    (lawful_all_in_view s g n members request cut l listed stays later)
+
+-- Members that are put out
+
+lawful_all_parted : (s : State) (g : GroupNo) (goes : ℕ → Bool) → IsLawful s → IsLawful (all_parted s g goes)
+lawful_all_parted s g goes l =
+    lawful_from s (all_parted s g goes) l refl placed l.stamped
+    (kept_map (IsSpent s) (IsSpent (all_parted s g goes)) (spent_on s (all_parted s g goes) refl (λ h. refl) members same) s.got s.kept l.spent)
+    l.listed
+    (traced_on s (all_parted s g goes) refl (λ k. refl) (λ h. omega arith) (λ h p _ may. may) same l.traced)
+  where
+    same : (k : ℕ) (u : Uid) → has_delivered (s.process k) u ≡ true → has_delivered ((all_parted s g goes).process k) u ≡ true
+    same k u is = elim (goes k) as (λ b. has_delivered (if b then parted g (s.process k) else s.process k) u ≡ true) [ true ↦ is | false ↦ is ]
+
+    members : (k : ℕ) (h : GroupNo) → is_member (((all_parted s g goes).process k).standing h) ≡ true → is_member ((s.process k).standing h) ≡ true
+    members k h = elim (goes k) as (λ b. is_member ((if b then parted g (s.process k) else s.process k).standing h) ≡ true → is_member ((s.process k).standing h) ≡ true) [
+      | true ↦ elim (group_eq g h) as (λ b. is_member (if b then Outside else (s.process k).standing h) ≡ true → is_member ((s.process k).standing h) ≡ true) [ true ↦ λ is. absurd (false≢true is) | false ↦ λ is. is ]
+      | false ↦ λ is. is
+    ]
+
+    placed : (k : ℕ) (h : GroupNo) → PlacedIn (all_parted s g goes) ((all_parted s g goes).process k) h
+    placed k h = elim (goes k) as (λ b. PlacedIn s (if b then parted g (s.process k) else s.process k) h) [
+      | true ↦ elim (group_eq g h) as (λ b. Placed (is_group s h) (if b then Outside else (s.process k).standing h) (view_of (s.process k).time h) (s.group h)) [
+        | true ↦ record { known = λ inside. absurd (false≢true (sym inside)); current = λ is. absurd (false≢true is); viewed = λ is. absurd (false≢true is) }
+        | false ↦ placed_of s l k h
+      ]
+      | false ↦ placed_of s l k h
+    ]
+
+-- the programs are told, which changes nothing of this
+pub put_out_same : (s : State) (g : GroupNo) (skips : Bool) (n : ℕ) (members : Membership) → SameLaw (all_parted s g (is_put_out s g skips members)) (putting_out s g skips n members)
+put_out_same s g skips n members =
+    same_fold (push_out g n) (λ t k. same_pushing t k (push.Ejected g n)) (filter (is_put_out s g skips members) (serials s)) (all_parted s g (is_put_out s g skips members))
+
+pub lawful_putting_out : (s : State) (g : GroupNo) (skips : Bool) (n : ℕ) (members : Membership) → IsLawful s → IsLawful (putting_out s g skips n members)
+lawful_putting_out s g skips n members l =
+    lawful_same (all_parted s g (is_put_out s g skips members)) (putting_out s g skips n members) (put_out_same s g skips n members) (lawful_all_parted s g (is_put_out s g skips members) l)
+
+-- members that are left are those that the view names
+pub stays_then : (s : State) (g : GroupNo) (skips : Bool) (n : ℕ) (members : Membership) → Stays (putting_out s g skips n members) g members
+stays_then s g skips n members k member =
+    let same = put_out_same s g skips n members in
+    subst (λ t. is_among proc_eq (record { site = t; serial = k }) members.list ≡ true) (sym same.here)
+    (left (is_put_out s g skips members k) refl (ap (λ (p : Process). is_member (p.standing g)) (sym (same.process k)) ∙ member))
+  where
+    named : (c d : Bool) → (c || not d) ≡ false → d ≡ true
+    named true d is = absurd (false≢true (sym is))
+    named false true is = refl
+    named false false is = absurd (false≢true (sym is))
+
+    left : (b : Bool) → is_put_out s g skips members k ≡ b → is_member ((if b then parted g (s.process k) else s.process k).standing g) ≡ true → is_among proc_eq (local s k) members.list ≡ true
+    left true is member = absurd (false≢true (sym (ap (λ b. is_member (if b then Outside else (s.process k).standing g)) (group_itself g)) ∙ member))
+    left false is member = named skips (is_among proc_eq (local s k) members.list)
+        (sym (ap (λ b. b && (skips || not (is_among proc_eq (local s k) members.list))) member) ∙ is)
+
+pub lawful_passing : (s : State) (g : GroupNo) (skips : Bool) (n : ℕ) (members : Membership) (request : ℕ) (cut : CountList) → IsLawful s → is_group s g ≡ true → (s.group g).number < n → IsLawful (passing s g skips n members request cut)
+lawful_passing s g skips n members request cut l listed later =
+    let same = put_out_same s g skips n members in
+    let number = same.number g in
+    lawful_completing (putting_out s g skips n members) g n members request cut (lawful_putting_out s g skips n members l)
+    (ap (λ c. is_among group_eq g c.groups) same.config ∙ listed) (stays_then s g skips n members) (omega (arith, number, later))

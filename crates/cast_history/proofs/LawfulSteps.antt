@@ -4,7 +4,6 @@ use Rattle.std.specs.Prelude.{◌&&◌, ◌==◌, nat_lt, nat_le, if◌then◌el
 use Rattle.std.specs.List.{find}
 use Rattle.std.specs.FinMap.Entries.{is_sorted}
 use Rattle.std.proofs.lemmas.Bool.{cases_eq, eqb-true, false≢true, and_parts, and_from, or_left, leb-true, le-leb, not-true}
-use Rattle.std.proofs.lemmas.Bool.Decides.{nat_tests}
 use Rattle.std.proofs.lemmas.Option.{none-some, same_Some}
 use Rattle.cast_types.specs.declared.names.SiteNo.{SiteNo}
 use Rattle.cast_types.specs.declared.names.GroupNo.{GroupNo}
@@ -23,9 +22,7 @@ use Rattle.cast_message.specs.declared.message.Message.{Message}
 use Rattle.cast_message.specs.Membership.{Membership}
 use Rattle.cast_delay.specs.Ready.{is_member}
 use Rattle.cast_delay.proofs.Finds.{found_in}
-use Rattle.cast_model.specs.declared.group.Group.{Group}
-use Rattle.cast_model.specs.declared.group.Verdict.TheVariants.{Again, Completes, Ignored}
-use Rattle.cast_model.specs.Group.{members_of, with_request, holder_at, has_view, with_answer, verdict_of}
+use Rattle.cast_view.specs.MemberSide.{members_of, with_request, holder_at, with_answer}
 use Rattle.cast_view.specs.Home.{HomeMove, is_empty, moved}
 use Rattle.cast_model.specs.declared.event.Event.{Event}
 use Rattle.cast_model.specs.declared.event.Event.TheVariants as event
@@ -51,7 +48,7 @@ use Rattle.cast_history.proofs.Rules.Data.{used_current, used_from_its_site, use
 use Rattle.cast_history.proofs.Rules.Commands.{commanded_keeps}
 use Rattle.cast_history.proofs.Rules.Home.{start_keeps, want_bodies_keeps, decide_keeps, lead_keeps}
 use Rattle.cast_history.proofs.Rules.Frames.{framed_keeps}
-use Rattle.cast_history.proofs.Lawful.{SameLaw, same_self, same_then, same_home, same_group_set, moves_same, invariant_by_same, kept_map, lawful_same, lawful_pushing, lawful_sent_here, local_speaks, lawful_if, lawful_fold, lawful_standing, lawful_receiving, lawful_let_go, lawful_sending, lawful_delivering, lawful_completing}
+use Rattle.cast_history.proofs.Lawful.{SameLaw, same_self, same_then, same_home, same_group_set, moves_same, invariant_by_same, kept_map, lawful_same, lawful_pushing, lawful_sent_here, local_speaks, lawful_if, lawful_fold, lawful_standing, lawful_receiving, lawful_let_go, lawful_sending, lawful_delivering, lawful_passing, lawful_releasing_ended}
 
 -- a stamp is in order
 stamp_sorted : (t : ClockList) → is_stamp t ≡ true → is_sorted group_cmp t ≡ true
@@ -73,18 +70,6 @@ placed_at s g h at = of_test (is_group s g) at
     of_test true same = (refl, same_Some g h same)
     of_test false same = absurd (none-some h same)
 
--- a view is completed where the group has none, and its number is a later one
-completes_unseen : (group : Group) (n : ℕ) → verdict_of group n ≡ Completes → (nat_le n group.number ≡ false) × (has_view group ≡ false)
-completes_unseen group n is = completes (nat_le n group.number) (has_view group) is
-  where
-    completes : (known seen : Bool) → (if known then Again else if seen then Ignored else Completes) ≡ Completes → (known ≡ false) × (seen ≡ false)
-    completes true seen e = cc
-    completes false true e = cc
-    completes false false e = (refl, refl)
-
-later_number : (m n : ℕ) → nat_le n m ≡ false → m < n
-later_number m n not_below = grind (arith, nat_tests)
-
 -- what is received is of the view that its group has reached
 pub taken_current : (s : State) (h : GroupNo) (from : SiteNo) (m : Message) → IsTaken history s h from m → m.id.view ≡ (s.group m.id.group).number
 taken_current s h from m taken =
@@ -104,17 +89,15 @@ taken_foreign s g from m taken =
     ap (λ t. site_eq t s.here) (same_site m.id.proc.site from (used_from_its_site history s g from m taken.used))
     ∙ not-true (site_eq from s.here) (used_of_another history s g from m taken.used)
 
--- a view is entered by a configured group that has none, and is a later one
+-- a view is entered by a configured group, and is a later one
 pub record Enters (s : State) (h : GroupNo) (n : ℕ) : Type 0 where
   pub listed : is_group s h ≡ true
-  pub unseen : has_view (s.group h) ≡ false
   pub later : (s.group h).number < n
 
 pub entered : (s : State) (h g : GroupNo) (n : ℕ) (members : Membership) → IsEntered history s h g n members → Enters s h n
 entered s h g n members is =
     let there = placed_at s g h is.at in
-    let seen = completes_unseen (s.group h) n is.completes in
-    record { listed = subst (λ x. is_group s x ≡ true) there.1 there.0; unseen = seen.1; later = later_number (s.group h).number n seen.0 }
+    record { listed = subst (λ x. is_group s x ≡ true) there.1 there.0; later = is.later }
 
 -- a history stays lawful at each move of the rules
 pub all_lawful : IsInvariantOfAll history IsLawful
@@ -131,7 +114,8 @@ all_lawful = record {
   note_request = λ s l g what p. lawful_same s _ (same_group_set s g (with_request (s.group g) what p) refl refl) l;
   note_answer = λ s l g. lawful_same s _ (same_group_set s g (with_answer (s.group g)) refl refl) l;
   move_home = λ s l g move. lawful_same s _ (same_home s g (moved move (s.home g))) l;
-  enter_view = λ s l h g n members request cut is. let e = entered s h g n members is in lawful_completing s h n members request cut l e.listed e.unseen e.later;
+  enter_view = λ s l h g skips n members request cut is. let e = entered s h g n members is in lawful_passing s h skips n members request cut l e.listed e.later;
+  release_ended = λ s l g. lawful_releasing_ended s g l;
 }
 
 -- Events

@@ -18,7 +18,7 @@ use Rattle.cast_message.specs.declared.message.Message.{Message}
 use Rattle.cast_message.specs.Bodies.{kind_of}
 use Rattle.cast_order.specs.Order.{listed_ids, still_to_list, ids_to_list, place_after}
 use Rattle.cast_view.specs.Home.{is_empty}
-use Rattle.cast_model.specs.Group.{holder_at}
+use Rattle.cast_view.specs.MemberSide.{holder_at}
 use Rattle.cast_history.specs.State.{State, local, receiving, with_delivery}
 use Rattle.cast_history.specs.Order.{ids_told, is_of_view, lists_of, abcasts_delivered, order_of, unlisted, is_ready_for}
 use Rattle.cast_history.specs.Effects.{next_message}

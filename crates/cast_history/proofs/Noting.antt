@@ -1,5 +1,5 @@
 -- In each state that a history passes its acts say what each process did.
-use Rattle.std.proofs.Common.{◌≡◌, ℕ, true, false, List, [], ◌∷◌, ◌++◌, cond, filter, Option, Some, None, refl, sym, ap, subst, ◌∙◌}
+use Rattle.std.proofs.Common.{◌≡◌, ℕ, Bool, true, false, List, [], ◌∷◌, ◌++◌, cond, filter, Option, Some, None, refl, sym, ap, subst, ◌∙◌}
 use Rattle.std.specs.Prelude.{◌==◌, ◌&&◌, if◌then◌else◌}
 use Rattle.std.specs.List.{fold, find}
 use Rattle.std.proofs.lemmas.Bool.{eqb-true}
@@ -20,13 +20,13 @@ use Rattle.cast_message.specs.Bodies.{kind_of}
 use Rattle.cast_message.specs.Membership.{Membership}
 use Rattle.cast_delay.specs.Ready.{Process}
 use Rattle.cast_model.specs.Session.{is_open, pushed_to}
-use Rattle.cast_model.specs.Group.{holder_at, with_view}
+use Rattle.cast_view.specs.MemberSide.{holder_at, with_view}
 use Rattle.cast_model.specs.declared.event.Event.{Event}
 use Rattle.cast_model.specs.declared.event.Event.TheVariants as event
 use Rattle.cast_history.specs.Acts.{Act}
-use Rattle.cast_history.specs.Acts.Act.{Sent, Delivered, Entered}
+use Rattle.cast_history.specs.Acts.Act.{Sent, Delivered, Entered, Left}
 use Rattle.cast_history.specs.State.{State, local, serials, receiving, noting_sent, pushing, set_session, set_process, set_group, with_delivery}
-use Rattle.cast_history.specs.Entering.{enters, in_view, all_in_view, push_view, completing}
+use Rattle.cast_history.specs.Entering.{parted, is_put_out, all_parted, push_out, putting_out, enters, in_view, all_in_view, push_view, completing, passing}
 use Rattle.cast_history.specs.Order.{is_ready_for}
 use Rattle.cast_history.specs.Lawful.{IsTyped}
 use Rattle.cast_history.specs.History.{history}
@@ -55,12 +55,14 @@ sent_append [] ys = refl
 sent_append (Sent m ∷ xs) ys = ap (λ ms. m ∷ ms) (sent_append xs ys)
 sent_append (Delivered m ∷ xs) ys = sent_append xs ys
 sent_append (Entered g view cut ∷ xs) ys = sent_append xs ys
+sent_append (Left g ∷ xs) ys = sent_append xs ys
 
 delivered_append : (xs ys : List Act) → delivered_by (xs ++ ys) ≡ delivered_by xs ++ delivered_by ys
 delivered_append [] ys = refl
 delivered_append (Sent m ∷ xs) ys = delivered_append xs ys
 delivered_append (Delivered m ∷ xs) ys = ap (λ us. m.id ∷ us) (delivered_append xs ys)
 delivered_append (Entered g view cut ∷ xs) ys = delivered_append xs ys
+delivered_append (Left g ∷ xs) ys = delivered_append xs ys
 
 abcasts_append : (xs ys : List Act) → abcasts_by (xs ++ ys) ≡ abcasts_by xs ++ abcasts_by ys
 abcasts_append [] ys = refl
@@ -71,6 +73,7 @@ abcasts_append (Delivered m ∷ xs) ys =
       | false ↦ abcasts_append xs ys
     ]
 abcasts_append (Entered g view cut ∷ xs) ys = abcasts_append xs ys
+abcasts_append (Left g ∷ xs) ys = abcasts_append xs ys
 
 -- an act of another kind adds nothing
 nothing_sent : (xs : List Act) (a : Act) → sent_by (a ∷ []) ≡ [] → sent_by xs ≡ sent_by (xs ++ a ∷ [])
@@ -191,6 +194,24 @@ noted_completing s n g v members request cut =
     noted_fold (push_view g v members) (λ t k m. noted_pushing t m k (push.View g v members)) (filter (enters s g members request) (serials s)) (all_in_view now g v members request cut)
     (noted_in_view now (record { sent = n.sent; delivered = n.delivered; abcasts = n.abcasts }) g v members request cut)
 
+-- members are put out
+noted_all_parted : (s : State) → IsNoted s → (g : GroupNo) (goes : ℕ → Bool) → IsNoted (all_parted s g goes)
+noted_all_parted s n g goes = record {
+  sent = λ k. n.sent k ∙ (elim (goes k) as (λ b. sent_by (s.acts k) ≡ sent_by (if b then s.acts k ++ Left g ∷ [] else s.acts k)) [ true ↦ nothing_sent (s.acts k) (Left g) refl | false ↦ refl ]);
+  delivered = λ k. elim (goes k) as (λ b. (if b then parted g (s.process k) else s.process k).delivered ≡ delivered_by (if b then s.acts k ++ Left g ∷ [] else s.acts k)) [
+    | true ↦ n.delivered k ∙ nothing_delivered (s.acts k) (Left g) refl
+    | false ↦ n.delivered k
+  ];
+  abcasts = λ k. n.abcasts k ∙ (elim (goes k) as (λ b. abcasts_by (s.acts k) ≡ abcasts_by (if b then s.acts k ++ Left g ∷ [] else s.acts k)) [ true ↦ no_abcast (s.acts k) (Left g) refl | false ↦ refl ]);
+}
+
+noted_passing : (s : State) → IsNoted s → (g : GroupNo) (skips : Bool) (v : ℕ) (members : Membership) (request : ℕ) (cut : CountList) → IsNoted (passing s g skips v members request cut)
+noted_passing s n g skips v members request cut =
+    let goes : ℕ → Bool = is_put_out s g skips members in
+    noted_completing (putting_out s g skips v members)
+    (noted_fold (push_out g v) (λ t k m. noted_pushing t m k (push.Ejected g v)) (filter goes (serials s)) (all_parted s g goes) (noted_all_parted s n g goes))
+    g v members request cut
+
 noted_moves : IsInvariant history IsNoted
 noted_moves = record {
   send = λ s n to f. record { sent = n.sent; delivered = n.delivered; abcasts = n.abcasts };
@@ -198,6 +219,7 @@ noted_moves = record {
   note_resent = λ s n key. record { sent = n.sent; delivered = n.delivered; abcasts = n.abcasts };
   pay = λ s n key. record { sent = n.sent; delivered = n.delivered; abcasts = n.abcasts };
   pay_upto = λ s n key. record { sent = n.sent; delivered = n.delivered; abcasts = n.abcasts };
+  pay_view = λ s n g. record { sent = n.sent; delivered = n.delivered; abcasts = n.abcasts };
   note_moment = λ s n t. record { sent = n.sent; delivered = n.delivered; abcasts = n.abcasts };
   note_ack = λ s n from u. record { sent = n.sent; delivered = n.delivered; abcasts = n.abcasts };
   note_stable = λ s n u. record { sent = n.sent; delivered = n.delivered; abcasts = n.abcasts };
@@ -214,7 +236,8 @@ all_noted = record {
   note_request = λ s n g what p. record { sent = n.sent; delivered = n.delivered; abcasts = n.abcasts };
   note_answer = λ s n g. record { sent = n.sent; delivered = n.delivered; abcasts = n.abcasts };
   move_home = λ s n g move. record { sent = n.sent; delivered = n.delivered; abcasts = n.abcasts };
-  enter_view = λ s n h g v members request cut is. noted_completing s n h v members request cut;
+  enter_view = λ s n h g skips v members request cut is. noted_passing s n h skips v members request cut;
+  release_ended = λ s n g. record { sent = n.sent; delivered = n.delivered; abcasts = n.abcasts };
 }
 
 -- Events, and what follows until the state rests

@@ -33,45 +33,45 @@ use Rattle.cast_delay.specs.Ready.{Process, Gate, is_member, is_outside, has_del
 use Rattle.cast_delay.proofs.Delivers.{only_member}
 use Rattle.cast_delay.proofs.Means.{among_holds}
 use Rattle.cast_model.specs.Session.{is_open, first_session}
-use Rattle.cast_model.specs.declared.group.Group.{Group}
+use Rattle.cast_view.specs.MemberSide.{MemberSide, no_group, members_of, with_view, is_taken_in}
 use Rattle.cast_model.specs.declared.config.DomainConfig.{DomainConfig}
-use Rattle.cast_model.specs.Group.{no_group, has_view, members_of, with_view, is_at, is_taken_in}
-use Rattle.cast_history.specs.State.{State, opening, local, serials, is_group, set_process, set_group, set_standing, others_of, gate_of, was_given, receiving, pushing, with_delivery, noting_sent}
+use Rattle.cast_view.specs.Sites.{is_at}
+use Rattle.cast_history.specs.State.{State, opening, local, serials, is_group, set_process, set_group, set_standing, others_of, gate_of, was_given, receiving, releasing, pushing, with_delivery, noting_sent}
 use Rattle.cast_history.specs.Acts.Act.{Sent}
-use Rattle.cast_history.specs.Rest.{let_go}
+use Rattle.cast_history.specs.Rest.{is_free, let_go}
 use Rattle.cast_history.specs.Order.{is_ready_for}
 use Rattle.cast_history.specs.History.{history}
 use Rattle.cast_history.specs.Rules.Sending.{send_data}
 use Rattle.cast_history.specs.Effects.{next_message, sending, delivering}
 use Rattle.cast_history.specs.Rules.Rest.{told_of}
-use Rattle.cast_history.specs.Entering.{enters, in_view, all_in_view, push_view, completing}
+use Rattle.cast_history.specs.Entering.{parted, is_put_out, all_parted, putting_out, enters, in_view, all_in_view, push_view, completing, passing}
 use Rattle.cast_history.specs.Step.{opening_next}
 use Rattle.cast_history.specs.Run.{before_event}
 use Rattle.cast_history.specs.Lawful.{IsLawful}
 use Rattle.cast_history.specs.Raising.{IsTimeOf, IsFromMember, IsView, IsAmongMembers, CountsMembers, CanRaise}
-use Rattle.cast_history.proofs.Lawful.{SameLaw, same_pushing, same_send_data, same_fold, seen_view, allowed_view, ready_allows, named_here, same_noting}
+use Rattle.cast_history.proofs.Lawful.{SameLaw, same_pushing, same_send_data, same_fold, seen_view, allowed_view, ready_allows, named_here, same_noting, Stays, outside_still, put_out_same, lawful_putting_out, stays_then}
 use Rattle.cast_history.proofs.Counting.{all_counted, time_joined, time_entered, time_raised, time_spelled, put_some, counted_put, counted_joined, raised_room, each_sender}
 use Rattle.cast_types.proofs.Bools.{and_end}
 
 -- Groups that are alike
 
-seen_members : (a b : Group) → a.view ≡ b.view → members_of a ≡ members_of b
+seen_members : (a b : MemberSide) → a.view ≡ b.view → members_of a ≡ members_of b
 seen_members a b e = ap (λ v. members_of (record no_group { view = v })) e
 
-same_from_member : (a b : Group) (u : Uid) → b.number ≡ a.number → b.view ≡ a.view → IsFromMember a u → IsFromMember b u
+same_from_member : (a b : MemberSide) (u : Uid) → b.number ≡ a.number → b.view ≡ a.view → IsFromMember a u → IsFromMember b u
 same_from_member a b u number view h = record {
   reached = subst (λ n. u.view ≤ n) (sym number) h.reached;
   member = λ is. ap (is_among proc_eq u.proc) (seen_members b a view) ∙ h.member (is ∙ number);
 }
 
-same_view : (a b : Group) → b.number ≡ a.number → b.view ≡ a.view → IsView a → IsView b
+same_view : (a b : MemberSide) → b.number ≡ a.number → b.view ≡ a.view → IsView a → IsView b
 same_view a b number view h = record {
   numbered = λ seen. subst (λ n. 0 < n) (sym number) (h.numbered (sym (seen_view b a view) ∙ seen));
   rising = ap (is_rising proc_cmp) (seen_members b a view) ∙ h.rising;
   few = subst (λ ms. length ms ≤ MAX_MEMBERS) (sym (seen_members b a view)) h.few;
 }
 
-same_members : (a b : Group) (p q : Proc) (c d : CountList) → b.view ≡ a.view → q ≡ p → d ≡ c → IsAmongMembers a p c → IsAmongMembers b q d
+same_members : (a b : MemberSide) (p q : Proc) (c d : CountList) → b.view ≡ a.view → q ≡ p → d ≡ c → IsAmongMembers a p c → IsAmongMembers b q d
 same_members a b p q c d view proc counts h =
     let all = seen_members b a view in
     record {
@@ -96,8 +96,11 @@ counts_same s t a c = record {
   opened = λ k is. ap (λ n. was_given n k) a.used ∙ c.opened k (a.opens k is);
 }
 
+pub counts_releasing : (s : State) (passes : Uid → Bool) → CountsMembers s → CountsMembers (releasing s passes)
+counts_releasing s passes c = record { few = c.few; times = c.times; stamps = c.stamps; received = c.received; delivered = c.delivered; views = c.views; members = c.members; placed = c.placed; opened = c.opened }
+
 pub counts_let_go : (s : State) → CountsMembers s → CountsMembers (let_go s)
-counts_let_go s c = record { few = c.few; times = c.times; stamps = c.stamps; received = c.received; delivered = c.delivered; views = c.views; members = c.members; placed = c.placed; opened = c.opened }
+counts_let_go s c = counts_releasing s (is_free s) c
 
 pub counts_before : (s : State) → CountsMembers s → CountsMembers (before_event s)
 counts_before s c = record { few = c.few; times = c.times; stamps = c.stamps; received = c.received; delivered = c.delivered; views = c.views; members = c.members; placed = c.placed; opened = c.opened }
@@ -296,13 +299,13 @@ counts_delivering s k m l c at ready =
 -- Views
 
 -- a group's later view has taken none of its messages yet
-later_from_member : (group : Group) (here : SiteNo) (n : ℕ) (members : Membership) (u : Uid) → group.number < n → IsFromMember group u → IsFromMember (with_view here n members group) u
+later_from_member : (group : MemberSide) (here : SiteNo) (n : ℕ) (members : Membership) (u : Uid) → group.number < n → IsFromMember group u → IsFromMember (with_view here n members group) u
 later_from_member group here n members u later h = record {
   reached = let before = h.reached in omega (arith, before, later);
   member = λ is. let before = h.reached in absurd (omega (arith, before, later, is));
 }
 
-later_view : (group : Group) (here : SiteNo) (n : ℕ) (members : Membership) → group.number < n → is_members members ≡ true → IsView (with_view here n members group)
+later_view : (group : MemberSide) (here : SiteNo) (n : ℕ) (members : Membership) → group.number < n → is_members members ≡ true → IsView (with_view here n members group)
 later_view group here n members later typed =
     let a = and_parts (is_rising proc_cmp members.list) (nat_le (length members.list) 64 && is_held members.list members.holder) typed in
     let b = and_parts (nat_le (length members.list) 64) (is_held members.list members.holder) a.1 in
@@ -314,21 +317,21 @@ later_view group here n members later typed =
     }
 
 -- a process here that a view names is a member of it, and has counted nothing yet
-entered : (here : SiteNo) (n : ℕ) (members : Membership) (group : Group) (k : ℕ) → is_among proc_eq (record { site = here; serial = k }) members.list ≡ true → IsAmongMembers (with_view here n members group) (record { site = here; serial = k }) []
+entered : (here : SiteNo) (n : ℕ) (members : Membership) (group : MemberSide) (k : ℕ) → is_among proc_eq (record { site = here; serial = k }) members.list ≡ true → IsAmongMembers (with_view here n members group) (record { site = here; serial = k }) []
 entered here n members group k named = record {
   itself = ap (λ b. is_among proc_eq (record { site = here; serial = k }) (members_of (record group { number = n; view = if b then Some members else None }))) (named_here here k members.list named) ∙ named;
   counted = refl;
 }
 
-module _ (s : State) (g : GroupNo) (n : ℕ) (members : Membership) (request : ℕ) (cut : CountList) (l : IsLawful s) (c : CountsMembers s) (listed : is_group s g ≡ true) (typed : is_members members ≡ true) (none : has_view (s.group g) ≡ false) (later : (s.group g).number < n) where
-  abbrev next : Group
+module _ (s : State) (g : GroupNo) (n : ℕ) (members : Membership) (request : ℕ) (cut : CountList) (l : IsLawful s) (c : CountsMembers s) (listed : is_group s g ≡ true) (typed : is_members members ≡ true) (stays : Stays s g members) (later : (s.group g).number < n) where
+  abbrev next : MemberSide
   next = with_view s.here n members (s.group g)
 
   abbrev now : State
   now = set_group s g next
 
   -- what holds of the later view and of the other groups holds of each
-  each_group : (P : GroupNo → Group → Type 0) → P g next → ((h : GroupNo) → P h (s.group h)) → (h : GroupNo) → P h (now.group h)
+  each_group : (P : GroupNo → MemberSide → Type 0) → P g next → ((h : GroupNo) → P h (s.group h)) → (h : GroupNo) → P h (now.group h)
   each_group P new old h = elim (group_eq g h) as (λ b. group_eq g h ≡ b → P h (if b then next else s.group h)) [
     | true ↦ λ is. subst (λ x. P x next) (same_group g h is) new
     | false ↦ λ _. old h
@@ -351,11 +354,11 @@ module _ (s : State) (g : GroupNo) (n : ℕ) (members : Membership) (request : �
             (sym (enter_leaves p.time g h n (λ e. false≢true (sym other ∙ subst (λ x. group_eq g x ≡ true) (sym e) (group_itself g))))) (c.members k h member)
       ] refl
 
-  -- one that does not is a member of no view of the group
-  members_staying : (k : ℕ) (h : GroupNo) → is_member ((s.process k).standing h) ≡ true → IsAmongMembers (now.group h) (local s k) (clock_of (s.process k).time h).counts
-  members_staying k h member =
+  -- one that does not is no member of the group
+  members_staying : (k : ℕ) (h : GroupNo) → is_member ((s.process k).standing g) ≡ false → is_member ((s.process k).standing h) ≡ true → IsAmongMembers (now.group h) (local s k) (clock_of (s.process k).time h).counts
+  members_staying k h out member =
       elim (group_eq g h) as (λ b. group_eq g h ≡ b → IsAmongMembers (if b then next else s.group h) (local s k) (clock_of (s.process k).time h).counts) [
-        | true ↦ λ is. absurd (false≢true (sym (subst (λ x. has_view (s.group x) ≡ false) (same_group g h is) none) ∙ l.viewed k h member))
+        | true ↦ λ is. absurd (false≢true (sym (subst (λ x. is_member ((s.process k).standing x) ≡ false) (same_group g h is) out) ∙ member))
         | false ↦ λ _. c.members k h member
       ] refl
 
@@ -375,7 +378,7 @@ module _ (s : State) (g : GroupNo) (n : ℕ) (members : Membership) (request : �
     views = each_group (λ _ x. IsView x) (later_view (s.group g) s.here n members later typed) c.views;
     members = λ k h. elim (enters now g members request k) as (λ b. enters now g members request k ≡ b → is_member ((if b then in_view g n (s.process k) else s.process k).standing h) ≡ true → IsAmongMembers (now.group h) (local s k) (clock_of (if b then in_view g n (s.process k) else s.process k).time h).counts) [
       | true ↦ λ in_it. members_entering k (and_parts (is_taken_in request ((s.process k).standing g)) (is_among proc_eq (local s k) members.list) in_it).1 h
-      | false ↦ λ _. members_staying k h
+      | false ↦ λ out. members_staying k h (outside_still s g members request k stays out)
     ] refl;
     placed = λ k h. elim (enters now g members request k) as (λ b. enters now g members request k ≡ b → is_outside ((if b then in_view g n (s.process k) else s.process k).standing h) ≡ false → was_given s.used k ≡ true) [
       | true ↦ λ in_it _. c.placed k g (inside ((s.process k).standing g) (and_parts (is_taken_in request ((s.process k).standing g)) (is_among proc_eq (local s k) members.list) in_it).0)
@@ -390,11 +393,48 @@ module _ (s : State) (g : GroupNo) (n : ℕ) (members : Membership) (request : �
       inside (Joining number heard) taken = refl
       inside Member taken = refl
 
-  pub counts_completing : CountsMembers (completing s g n members request cut)
+  counts_completing : CountsMembers (completing s g n members request cut)
   counts_completing =
       let all : State = all_in_view now g n members request cut in
       counts_same all (completing s g n members request cut) (same_fold (push_view g n members) (λ t k. same_pushing t k (push.View g n members)) (filter (enters s g members request) (serials s)) all)
       counts_all_in_view
+
+-- members that are put out are members no more
+counts_all_parted : (s : State) (g : GroupNo) (goes : ℕ → Bool) → CountsMembers s → CountsMembers (all_parted s g goes)
+counts_all_parted s g goes c = record {
+  few = c.few;
+  times = λ k. elim (goes k) as (λ b. IsTimeOf s.config.groups (if b then parted g (s.process k) else s.process k).time) [ true ↦ c.times k | false ↦ c.times k ];
+  stamps = c.stamps;
+  received = c.received;
+  delivered = λ k u. elim (goes k) as (λ b. has_delivered (if b then parted g (s.process k) else s.process k) u ≡ true → IsFromMember (s.group u.group) u) [ true ↦ c.delivered k u | false ↦ c.delivered k u ];
+  views = c.views;
+  members = λ k h. elim (goes k) as (λ b. is_member ((if b then parted g (s.process k) else s.process k).standing h) ≡ true → IsAmongMembers (s.group h) (local s k) (clock_of (if b then parted g (s.process k) else s.process k).time h).counts) [
+    | true ↦ elim (group_eq g h) as (λ b. is_member (if b then Outside else (s.process k).standing h) ≡ true → IsAmongMembers (s.group h) (local s k) (clock_of (s.process k).time h).counts) [
+      | true ↦ λ is. absurd (false≢true is)
+      | false ↦ c.members k h
+    ]
+    | false ↦ c.members k h
+  ];
+  placed = λ k h. elim (goes k) as (λ b. is_outside ((if b then parted g (s.process k) else s.process k).standing h) ≡ false → was_given s.used k ≡ true) [
+    | true ↦ elim (group_eq g h) as (λ b. is_outside (if b then Outside else (s.process k).standing h) ≡ false → was_given s.used k ≡ true) [
+      | true ↦ λ inside. absurd (false≢true (sym inside))
+      | false ↦ c.placed k h
+    ]
+    | false ↦ c.placed k h
+  ];
+  opened = c.opened;
+}
+
+-- the site passes to the next view
+pub counts_passing : (s : State) (g : GroupNo) (skips : Bool) (n : ℕ) (members : Membership) (request : ℕ) (cut : CountList) → IsLawful s → CountsMembers s → is_group s g ≡ true → is_members members ≡ true → (s.group g).number < n → CountsMembers (passing s g skips n members request cut)
+counts_passing s g skips n members request cut l c listed typed later =
+    let gone : State = all_parted s g (is_put_out s g skips members) in
+    let left : State = putting_out s g skips n members in
+    let same = put_out_same s g skips n members in
+    let number = same.number g in
+    counts_completing left g n members request cut (lawful_putting_out s g skips n members l)
+    (counts_same gone left same (counts_all_parted s g (is_put_out s g skips members) c))
+    (ap (λ x. is_among group_eq g x.groups) same.config ∙ listed) typed (stays_then s g skips n members) (omega (arith, number, later))
 
 -- Sessions
 

@@ -19,14 +19,14 @@ use Rattle.cast_types.specs.Rising.{is_rising}
 use Rattle.cast_delay.specs.Ready.{is_member}
 use Rattle.cast_delay.proofs.Finds.{found_in}
 use Rattle.cast_model.specs.declared.config.DomainConfig.{DomainConfig}
-use Rattle.cast_model.specs.Group.{holder_at, members_of, with_request, with_answer}
+use Rattle.cast_view.specs.MemberSide.{holder_at, members_of, with_request, with_answer}
 use Rattle.cast_types.specs.declared.names.Standing.TheVariants.{Outside, Joining}
 use Rattle.cast_view.specs.Home.{moved}
 use Rattle.cast_model.specs.declared.event.Event.{Event}
 use Rattle.cast_model.specs.declared.event.Event.TheVariants as event
 use Rattle.cast_model.specs.declared.event.Taken.{Taken}
 use Rattle.cast_history.specs.Rules.Commands.{message_sent}
-use Rattle.cast_history.specs.State.{State, receiving, noting_sent, opening, serials, is_group}
+use Rattle.cast_history.specs.State.{State, receiving, noting_sent, opening, serials, is_group, is_ended}
 use Rattle.cast_history.specs.Rules.Requests.{is_home}
 use Rattle.cast_history.specs.Order.{is_ready_for}
 use Rattle.cast_history.specs.Effects.{next_message, sending, delivering}
@@ -48,7 +48,7 @@ use Rattle.cast_history.proofs.Rules.Frames.{framed_keeps}
 use Rattle.cast_history.proofs.Lawful.{same_home, same_group_set, invariant_by_same, lawful_same, same_pushing, lawful_opening, lawful_before, lawful_let_go}
 use Rattle.cast_history.proofs.LawfulSteps.{same_tick, same_start, same_want_bodies, same_decide, placed_at, taken_current, entered, all_lawful, lawful_acted, lawful_first, lawful_set_order}
 use Rattle.cast_history.proofs.Counting.{is_clock_of, all_both}
-use Rattle.cast_history.proofs.Raising.{counts_same, counts_let_go, counts_before, counts_opening, counts_standing, counts_receiving, counts_sent_here, counts_sending, counts_delivering, counts_completing, counts_opened, next_unborn, can_raise}
+use Rattle.cast_history.proofs.Raising.{counts_same, counts_let_go, counts_before, counts_opening, counts_standing, counts_receiving, counts_sent_here, counts_sending, counts_delivering, counts_passing, counts_releasing, counts_opened, next_unborn, can_raise}
 
 counts_if : (x y : State) (b : Bool) → (b ≡ true → CountsMembers x) → (b ≡ false → CountsMembers y) → CountsMembers (if b then x else y)
 counts_if x y true p q = p refl
@@ -96,8 +96,9 @@ all_counted = record {
   note_request = λ s c g what p. (all_lawful.note_request s c.0 g what p, counts_same s _ (same_group_set s g (with_request (s.group g) what p) refl refl) c.1);
   note_answer = λ s c g. (all_lawful.note_answer s c.0 g, counts_same s _ (same_group_set s g (with_answer (s.group g)) refl refl) c.1);
   move_home = λ s c g move. (all_lawful.move_home s c.0 g move, counts_same s _ (same_home s g (moved move (s.home g))) c.1);
-  enter_view = λ s c h g n members request cut is. let e = entered s h g n members is in
-      (all_lawful.enter_view s c.0 h g n members request cut is, counts_completing s h n members request cut c.0 c.1 e.listed is.typed e.unseen e.later);
+  enter_view = λ s c h g skips n members request cut is. let e = entered s h g n members is in
+      (all_lawful.enter_view s c.0 h g skips n members request cut is, counts_passing s h skips n members request cut c.0 c.1 e.listed is.typed e.later);
+  release_ended = λ s c g. (all_lawful.release_ended s c.0 g, counts_releasing s (is_ended s g) c.1);
 }
 
 -- Events

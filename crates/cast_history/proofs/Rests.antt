@@ -38,7 +38,7 @@ use Rattle.cast_view.specs.Home.{wants_in}
 use Rattle.cast_history.specs.Owing.{next_due, noting_owed}
 use Rattle.cast_history.specs.Rules.Owing.{frame_for, send_for}
 use Rattle.cast_history.specs.Rules.Keys.{home_key, want_key}
-use Rattle.cast_model.specs.Group.{holder_at}
+use Rattle.cast_view.specs.MemberSide.{holder_at}
 use Rattle.cast_history.specs.State.{State, serials, emitted, set_home, receiving, with_delivery}
 use Rattle.cast_history.specs.Rules.Requests.{is_home}
 use Rattle.cast_history.specs.History.{history}

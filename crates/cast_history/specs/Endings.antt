@@ -11,7 +11,7 @@ use Rattle.cast_delay.specs.Ready.{has_delivered}
 use Rattle.cast_view.specs.declared.phase.Phase.{Phase}
 use Rattle.cast_view.specs.declared.phase.Phase.TheVariants.{Idle, Gathering, Installing}
 use Rattle.cast_view.specs.Home.{Home, is_empty}
-use Rattle.cast_model.specs.Group.{holder_at}
+use Rattle.cast_view.specs.MemberSide.{holder_at}
 use Rattle.cast_timer.specs.Owed.{is_owed}
 use Rattle.cast_history.specs.Rules.Keys.{want_key}
 use Rattle.cast_history.specs.Rules.Home.{wants}

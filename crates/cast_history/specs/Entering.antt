@@ -1,18 +1,42 @@
--- How the processes of a site enter a view.
-use Rattle.std.specs.Prelude.{ℕ, Bool, ◌&&◌, if◌then◌else◌, [], ◌∷◌, ◌++◌, filter}
+-- How the processes of a site pass to the next view of a group: members that it lacks are put out, and those that it takes in enter it.
+use Rattle.std.specs.Prelude.{ℕ, Bool, not, ◌&&◌, ◌||◌, if◌then◌else◌, [], ◌∷◌, ◌++◌, filter}
 use Rattle.std.specs.List.{fold}
 use Rattle.cast_types.specs.declared.names.GroupNo.{GroupNo}
-use Rattle.cast_types.specs.declared.names.Standing.TheVariants.{Member}
+use Rattle.cast_types.specs.declared.names.Standing.TheVariants.{Outside, Member}
 use Rattle.cast_types.specs.Names.{group_eq, proc_eq}
 use Rattle.cast_types.specs.Sets.{is_among, set_at}
 use Rattle.cast_types.specs.Counts.{CountList}
 use Rattle.cast_clock.specs.Times.{entering}
 use Rattle.cast_message.specs.declared.client.Push.TheVariants as push
 use Rattle.cast_message.specs.Membership.{Membership}
-use Rattle.cast_delay.specs.Ready.{Process}
-use Rattle.cast_model.specs.Group.{with_view, is_taken_in}
-use Rattle.cast_history.specs.Acts.Act.{Entered}
+use Rattle.cast_delay.specs.Ready.{Process, is_member}
+use Rattle.cast_view.specs.MemberSide.{with_view, is_taken_in}
+use Rattle.cast_history.specs.Acts.Act.{Entered, Left}
 use Rattle.cast_history.specs.State.{State, local, serials, set_group, pushing}
+
+-- a process that is outside a group
+abbrev pub parted : GroupNo → Process → Process
+parted g p = record p { standing = set_at group_eq p.standing g Outside }
+
+-- a member is put out that the next view does not name, and any member where a view was skipped
+abbrev pub is_put_out : State → GroupNo → Bool → Membership → ℕ → Bool
+is_put_out s g skips members k =
+    is_member ((s.process k).standing g) && (skips || not (is_among proc_eq (local s k) members.list))
+
+abbrev pub all_parted : State → GroupNo → (ℕ → Bool) → State
+all_parted s g goes =
+    record s {
+      process = λ k. if goes k then parted g (s.process k) else s.process k;
+      acts = λ k. if goes k then s.acts k ++ Left g ∷ [] else s.acts k;
+    }
+
+abbrev pub push_out : GroupNo → ℕ → State → ℕ → State
+push_out g n s k = pushing s k (push.Ejected g n)
+
+-- members are put out, all at once, and are told
+abbrev pub putting_out : State → GroupNo → Bool → ℕ → Membership → State
+putting_out s g skips n members =
+    fold (push_out g n) (all_parted s g (is_put_out s g skips members)) (filter (is_put_out s g skips members) (serials s))
 
 -- a view takes a process in: it names it, and the process is a member or its join was applied
 abbrev pub enters : State → GroupNo → Membership → ℕ → ℕ → Bool
@@ -38,3 +62,7 @@ abbrev pub completing : State → GroupNo → ℕ → Membership → ℕ → Cou
 completing s g n members request cut =
     let now : State = set_group s g (with_view s.here n members (s.group g)) in
     fold (push_view g n members) (all_in_view now g n members request cut) (filter (enters s g members request) (serials s))
+
+-- the site passes to the next view of a group
+abbrev pub passing : State → GroupNo → Bool → ℕ → Membership → ℕ → CountList → State
+passing s g skips n members request cut = completing (putting_out s g skips n members) g n members request cut

@@ -5,11 +5,11 @@ use Rattle.cast_stable.specs.Stable.{has_acked}
 use Rattle.cast_types.specs.declared.names.Standing.TheVariants.{Outside, Joining}
 use Rattle.cast_model.specs.Session.{is_open}
 use Rattle.cast_timer.specs.Owed.{is_owed, due_at}
-use Rattle.cast_model.specs.Group.{with_request, with_answer}
+use Rattle.cast_view.specs.MemberSide.{with_request, with_answer}
 use Rattle.cast_view.specs.Home.{moved}
-use Rattle.cast_history.specs.State.{State, is_group, set_group, set_home, set_standing, emitted, pushing, receiving, noting_sent, awaits_own, is_received, held, message_of, others_of, is_stable, upto, noting_ack, noting_stable}
-use Rattle.cast_history.specs.Owing.{noting_owed, noting_resent, paying, paying_upto, at_moment}
-use Rattle.cast_history.specs.Entering.{completing}
+use Rattle.cast_history.specs.State.{State, is_group, set_group, set_home, set_standing, emitted, pushing, receiving, noting_sent, awaits_own, is_received, held, message_of, others_of, is_stable, upto, noting_ack, noting_stable, releasing_ended}
+use Rattle.cast_history.specs.Owing.{noting_owed, noting_resent, paying, paying_upto, paying_view, at_moment}
+use Rattle.cast_history.specs.Entering.{passing}
 use Rattle.cast_history.specs.Rules.Interface.{Site}
 
 -- a group stands under its name
@@ -40,6 +40,7 @@ history = record {
   note_resent = noting_resent;
   pay = paying;
   pay_upto = paying_upto;
+  pay_view = paying_view;
   note_moment = at_moment;
   note_ack = noting_ack;
   note_stable = noting_stable;
@@ -51,5 +52,6 @@ history = record {
   note_request = λ s g what p. set_group s g (with_request (s.group g) what p);
   note_answer = λ s g. set_group s g (with_answer (s.group g));
   move_home = λ s g move. set_home s g (moved move (s.home g));
-  enter_view = completing;
+  enter_view = passing;
+  release_ended = releasing_ended;
 }

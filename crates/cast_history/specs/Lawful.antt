@@ -17,7 +17,7 @@ use Rattle.cast_message.specs.Membership.{is_members}
 use Rattle.cast_delay.specs.Ready.{is_member, is_outside, has_delivered}
 use Rattle.cast_model.specs.declared.event.Event.{Event}
 use Rattle.cast_model.specs.declared.event.Event.TheVariants as event
-use Rattle.cast_model.specs.Group.{has_view}
+use Rattle.cast_view.specs.MemberSide.{has_view}
 use Rattle.cast_history.specs.State.{State, was_given, is_group, may_speak}
 
 -- a message of a view that its group has reached; while that is the group's view, each local member has delivered it

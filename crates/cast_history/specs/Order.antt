@@ -14,7 +14,7 @@ use Rattle.cast_order.specs.Order.{Facts, facts_of, known_order, next_of, Listin
 use Rattle.cast_delay.specs.declared.turn.Turn.{Turn}
 use Rattle.cast_delay.specs.declared.turn.Turn.TheVariants.{Holding, Following}
 use Rattle.cast_delay.specs.Ready.{has_delivered, is_ready}
-use Rattle.cast_model.specs.Group.{holder_of, is_process}
+use Rattle.cast_view.specs.MemberSide.{holder_of, is_process}
 use Rattle.cast_history.specs.State.{State, local, is_stable, gate_of}
 use Rattle.cast_history.specs.Rules.Room.{may_order}
 use Rattle.cast_history.specs.History.{history}

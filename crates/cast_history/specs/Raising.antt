@@ -19,9 +19,8 @@ use Rattle.cast_delay.specs.Ready.{is_member, is_outside, has_delivered}
 use Rattle.cast_model.specs.declared.config.DomainConfig.{DomainConfig}
 use Rattle.cast_model.specs.declared.event.Event.{Event}
 use Rattle.cast_model.specs.declared.event.Taken.{Taken}
-use Rattle.cast_model.specs.declared.group.Group.{Group}
+use Rattle.cast_view.specs.MemberSide.{MemberSide, members_of, has_view}
 use Rattle.cast_model.specs.Session.{is_open}
-use Rattle.cast_model.specs.Group.{members_of, has_view}
 use Rattle.cast_history.specs.State.{State, opening, local, was_given}
 use Rattle.cast_history.specs.Rules.Sending.{may_raise}
 use Rattle.cast_history.specs.Step.{acted}
@@ -37,18 +36,18 @@ pub record IsTimeOf (groups : List GroupNo) (t : ClockList) : Type 0 where
   pub named : list_all (λ c. is_among group_eq c.0 groups && nat_lt 0 c.1.view) t ≡ true
 
 -- a message is of a view that its group has reached; while that is the group's view, its process is a member of it
-pub record IsFromMember (group : Group) (u : Uid) : Type 0 where
+pub record IsFromMember (group : MemberSide) (u : Uid) : Type 0 where
   pub reached : u.view ≤ group.number
   pub member : u.view ≡ group.number → is_among proc_eq u.proc (members_of group) ≡ true
 
 -- a view has a number from 1 on, and at most 64 members, in rising order
-pub record IsView (group : Group) : Type 0 where
+pub record IsView (group : MemberSide) : Type 0 where
   pub numbered : has_view group ≡ true → 0 < group.number
   pub rising : is_rising proc_cmp (members_of group) ≡ true
   pub few : length (members_of group) ≤ MAX_MEMBERS
 
 -- a process is a member of the group's view, and counts messages of members alone
-pub record IsAmongMembers (group : Group) (p : Proc) (counts : CountList) : Type 0 where
+pub record IsAmongMembers (group : MemberSide) (p : Proc) (counts : CountList) : Type 0 where
   pub itself : is_among proc_eq p (members_of group) ≡ true
   pub counted : list_all (λ e. is_among proc_eq e.0 (members_of group)) counts ≡ true
 

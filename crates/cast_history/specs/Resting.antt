@@ -5,7 +5,7 @@ use Rattle.cast_types.specs.declared.names.GroupNo.{GroupNo}
 use Rattle.cast_message.specs.Sequence.{Sequence}
 use Rattle.cast_order.specs.Order.{ids_to_list, place_after}
 use Rattle.cast_view.specs.Home.{is_empty}
-use Rattle.cast_model.specs.Group.{is_current}
+use Rattle.cast_view.specs.MemberSide.{is_current}
 use Rattle.cast_history.specs.State.{State, serials, is_delivered, with_delivery, releasing}
 use Rattle.cast_history.specs.Order.{order_of, unlisted, has_place, is_ready_for}
 use Rattle.cast_history.specs.Rules.Interface.{Resting}

@@ -21,8 +21,7 @@ use Rattle.cast_history.specs.Acts.Act.{Sent, Delivered}
 use Rattle.cast_model.specs.declared.session.Session.{Session}
 use Rattle.cast_message.specs.declared.client.Push.{Push}
 use Rattle.cast_model.specs.Session.{no_session, is_open, pushed_to}
-use Rattle.cast_model.specs.declared.group.Group.{Group}
-use Rattle.cast_model.specs.Group.{no_group, members_of}
+use Rattle.cast_view.specs.MemberSide.{MemberSide, no_group, members_of}
 use Rattle.cast_view.specs.Sites.{other_sites}
 use Rattle.cast_view.specs.Home.{Home, first_home}
 use Rattle.cast_model.specs.declared.config.DomainConfig.{DomainConfig}
@@ -40,7 +39,7 @@ pub record State : Type 0 where
   pub acts : ℕ → List Act
   -- the ABCASTs that each process ever delivered, in order
   pub abcasts : ℕ → List Uid
-  pub group : GroupNo → Group
+  pub group : GroupNo → MemberSide
   pub home : GroupNo → Home
   -- every message ever received, in order, and those of them that were not let go
   pub got : List Message
@@ -106,7 +105,7 @@ set_session s k v = record s { session = set_at (λ a b. a == b) s.session k v }
 abbrev pub set_process : State → ℕ → Process → State
 set_process s k v = record s { process = set_at (λ a b. a == b) s.process k v }
 
-abbrev pub set_group : State → GroupNo → Group → State
+abbrev pub set_group : State → GroupNo → MemberSide → State
 set_group s g v = record s { group = set_at group_eq s.group g v }
 
 abbrev pub set_home : State → GroupNo → Home → State
@@ -199,6 +198,14 @@ is_delivered s u = list_all (λ k. has_delivered (s.process k) u) (local_members
 -- kept messages are let go, those whose ids pass a test
 abbrev pub releasing : State → (Uid → Bool) → State
 releasing s passes = record s { kept = filter (λ m. not (passes m.id)) s.kept }
+
+-- a message of a view of the group that has ended
+abbrev pub is_ended : State → GroupNo → Uid → Bool
+is_ended s g u = group_eq u.group g && nat_lt u.view (s.group g).number
+
+-- those of its kept messages are let go
+abbrev pub releasing_ended : State → GroupNo → State
+releasing_ended s g = releasing s (is_ended s g)
 
 -- Readiness
 

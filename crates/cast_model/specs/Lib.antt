@@ -1,4 +1,3 @@
 pub mod Events
 pub mod Outs
 pub mod Session
-pub mod Group

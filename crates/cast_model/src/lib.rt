@@ -1,26 +1,23 @@
 //! What a daemon is told, what it keeps of it in plain values, and what comes of it: its configuration, events and their
-//! answers, a session, a group at a site, a moment, and the log of a whole run.
+//! answers, a session, a moment, and the log of a whole run.
 //!
 //! Promised: an event tells the domain that it names (`Event::domain`). `Outs` are lists in order: `send` adds a frame at
 //! the end, and `append` adds what a step sent and delivered, or, where memory runs out, nothing. A session keeps all that
-//! was ever pushed to it, and once gone is told nothing (`Session`). A group at a site numbers its requests from 1, sends
-//! them one by one, and takes an Install of a number that it has reached for one to be answered again (`Group`). Moments never
-//! go back (`Moment`). Each call does exactly what its definition says.
+//! was ever pushed to it, and once gone is told nothing (`Session`). Moments never go back (`Moment`). Each call does exactly
+//! what its definition says.
 //!
 //! The definitions are in `specs/`: `Events` has the domain that an event names, `Outs` what adding to them gives,
-//! `Session` and `Group` the values of those names and what each call makes of them.
+//! `Session` the value of that name and what each call makes of it.
 #![tactic(auto)]
 
 pub mod config;
 pub mod event;
-pub mod group;
 pub mod log;
 pub mod moment;
 pub mod session;
 
 pub use config::{Config, DomainConfig, Quotas};
 pub use event::{Event, Outs, Taken};
-pub use group::{Asking, Group, Verdict};
 pub use log::{Fault, Given, Log};
 pub use moment::Moment;
 pub use session::{Session, Status};

@@ -1,10 +1,11 @@
 -- The frames that a domain owes: a set in order of due moments, and at one moment in order of keys.
-use Rattle.std.specs.Prelude.{ℕ, Bool, not, nat_le, ◌&&◌, ◌==◌, List, map, filter}
+use Rattle.std.specs.Prelude.{ℕ, Bool, true, false, not, nat_le, ◌&&◌, ◌==◌, List, map, filter}
 use Rattle.std.specs.List.{list_any}
 use Rattle.std.specs.declared.cmp.Ordering.{Ordering}
 use Rattle.std.specs.Ordering.{nat_cmp, ordering_then}
 use Rattle.cast_types.specs.Names.{site_cmp, group_cmp, proc_cmp, site_eq, group_eq, proc_eq}
 use Rattle.cast_types.specs.Sets.{with_item}
+use Rattle.cast_types.specs.declared.names.GroupNo.{GroupNo}
 use Rattle.cast_timer.specs.declared.key.OwedKind.{OwedKind}
 use Rattle.cast_timer.specs.declared.key.OwedKind.TheVariants.{Ask, Data, Prepare, Want, Install, Ack}
 use Rattle.cast_timer.specs.declared.key.Side.{Side}
@@ -63,6 +64,20 @@ paid test owed = filter (λ o. not (test o.key)) owed
 -- whether the second key differs from the first at most in its count, and has no higher one
 abbrev pub is_upto : OwedKey → OwedKey → Bool
 is_upto key other = key_eq (record other { count = key.count }) key && nat_le other.count key.count
+
+-- whether a frame is about a message of the group, as a site owes it: its Data, its Ack or the site's Want
+abbrev pub is_of_messages : OwedKind → Side → Bool
+is_of_messages Ask by = false
+is_of_messages Data by = true
+is_of_messages Prepare by = false
+is_of_messages Want Site = true
+is_of_messages Want Home = false
+is_of_messages Install by = false
+is_of_messages Ack by = true
+
+-- whether a site owes a frame of the key for a view of the group, and no longer once that view has ended
+abbrev pub is_of_view : GroupNo → OwedKey → Bool
+is_of_view g key = group_eq key.group g && is_of_messages key.kind key.side
 
 -- owes a frame for a moment, and for no other
 abbrev pub renewed : List Owed → OwedKey → ℕ → List Owed

@@ -1,10 +1,10 @@
 ghost use Rattle.std.specs.Prelude.{◌≡◌, ◌||◌, ◌==◌, [], IfOk, IsTrue, OnOk, OnErr, not, filter};
 ghost use Rattle.cast_types.specs.Sets.{with_item};
-ghost use Rattle.cast_timer.specs.Owed.{owed_cmp, key_eq, is_owed, paid, is_upto, renewed, due_frames, due_at};
+ghost use Rattle.cast_timer.specs.Owed.{owed_cmp, key_eq, is_owed, paid, is_of_view, is_upto, renewed, due_frames, due_at};
 ghost use Rattle.cast_types.specs.Rising.{is_rising};
 
-use crate::key::{Owed, OwedKey, is_upto};
-use cast_types::{NoMemory, sorted};
+use crate::key::{Owed, OwedKey, is_of_view, is_upto};
+use cast_types::{GroupNo, NoMemory, sorted};
 use std::alloc::Global;
 use std::marker::Model;
 
@@ -58,6 +58,13 @@ impl Frames {
         ensures { self.new ≡ paid (is_upto key.now) self.old }
     {
         self.owed.retain(|frame| !is_upto(key, &frame.key));
+    }
+
+    /// Owes no more the frames that a site owes for a view of the group.
+    pub(crate) fn pay_view(&mut self, group: GroupNo)
+        ensures { self.new ≡ paid (is_of_view group) self.old }
+    {
+        self.owed.retain(|frame| !is_of_view(group, &frame.key));
     }
 
     /// Owes a frame for its moment, and for no other. `NoMemory` changes nothing.

@@ -1,5 +1,5 @@
 ghost use Rattle.std.specs.Prelude.{◌≡◌};
-ghost use Rattle.cast_timer.specs.Owed.{is_upto};
+ghost use Rattle.cast_timer.specs.Owed.{is_of_messages, is_of_view, is_upto};
 
 use cast_types::{GroupNo, Proc, SiteNo};
 
@@ -52,6 +52,24 @@ pub(crate) fn is_upto(key: &OwedKey, other: &OwedKey) -> bool
         ..*other
     };
     raised == *key && other.count <= key.count
+}
+
+// Whether a site owes a frame of the key for a view of the group, and no longer once that view has ended.
+pub(crate) fn is_of_view(group: GroupNo, key: &OwedKey) -> bool
+    ensures { result ≡ is_of_view group key.now }
+{
+    key.group == group && is_of_messages(key.kind, key.side)
+}
+
+// Whether a frame is about a message of the group, as a site owes it.
+fn is_of_messages(kind: OwedKind, side: Side) -> bool
+    ensures { result ≡ is_of_messages kind side }
+{
+    match kind {
+        OwedKind::Data | OwedKind::Ack => true,
+        OwedKind::Want => side == Side::Site,
+        OwedKind::Ask | OwedKind::Prepare | OwedKind::Install => false,
+    }
 }
 
 /// A frame that is owed. Frames are ordered by the moment at which they are due, and at one moment by key.

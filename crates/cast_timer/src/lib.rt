@@ -2,7 +2,7 @@
 //!
 //! Promised: the frames that a domain owes are seen as one list, in order of the moments at which they are due and at
 //! one moment in order of their keys; a call for one domain leaves what every other domain owes; `due` gives the keys
-//! of the frames that are due, in that order; a frame is owed until it is paid, alone or with those of lower counts.
+//! of the frames that are due, in that order; a frame is owed until it is paid, alone, with those of lower counts, or with all that a site owes for a view that ended.
 //! `renew` owes a frame for one moment in place of all others. Only `owe`, `renew` and `due` take memory, and where it is
 //! refused nothing changes.
 //!

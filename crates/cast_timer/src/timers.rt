@@ -4,13 +4,13 @@ ghost use Rattle.std.specs.Option.{option_copied};
 ghost use Rattle.cast_types.specs.declared.names.DomainNo.{DomainNo};
 ghost use Rattle.cast_types.specs.Sets.{with_item};
 ghost use Rattle.cast_types.specs.Places.{update};
-ghost use Rattle.cast_timer.specs.Owed.{owed_cmp, key_eq, with_owed, is_owed, paid, is_upto, renewed, due_frames, due_at};
+ghost use Rattle.cast_timer.specs.Owed.{owed_cmp, key_eq, with_owed, is_owed, paid, is_of_view, is_upto, renewed, due_frames, due_at};
 ghost use Rattle.cast_types.specs.Rising.{is_rising};
 ghost use Rattle.cast_timer.specs.Rows.{is_of, row_of, owed_in};
 
 use crate::frames::Frames;
 use crate::key::{Owed, OwedKey};
-use cast_types::{DomainNo, NoMemory};
+use cast_types::{DomainNo, GroupNo, NoMemory};
 use std::alloc::Global;
 use std::marker::Model;
 
@@ -80,6 +80,17 @@ impl Timers {
     {
         if let Some(place) = place_among(&self.rows, domain) {
             pay_upto_at(&mut self.rows, place, key);
+        }
+    }
+
+    /// Owes no more what the domain's site owes for a view of the group, which has ended: Data, Acks, and the site's own
+    /// Wants. Takes no memory.
+    pub fn pay_view(&mut self, domain: DomainNo, group: GroupNo)
+        ensures own { owed_in self.new domain ≡ paid (is_of_view group) (owed_in self.old domain) }
+        ensures others { (e : DomainNo) → e ≢ domain → owed_in self.new e ≡ owed_in self.old e }
+    {
+        if let Some(place) = place_among(&self.rows, domain) {
+            pay_view_at(&mut self.rows, place, group);
         }
     }
 
@@ -184,6 +195,16 @@ fn pay_upto_at(rows: &mut Vec<Row>, place: usize, key: &OwedKey)
 {
     let row = &mut rows[place];
     row.frames.pay_upto(key);
+}
+
+// Owes the frames for a view of the group no more in the domain of a place.
+#[tactic(auto, using(cast_types::proofs::Updates::set_update))]
+fn pay_view_at(rows: &mut Vec<Row>, place: usize, group: GroupNo)
+    requires { place < vec_len rows.old }
+    ensures { rows.new.items ≡ update rows.old.items place (λ r. record r { frames = paid (is_of_view group) r.frames }) }
+{
+    let row = &mut rows[place];
+    row.frames.pay_view(group);
 }
 
 // Owes a frame of the domain of a place for its moment alone. `NoMemory` changes nothing.

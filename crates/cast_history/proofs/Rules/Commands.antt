@@ -22,7 +22,7 @@ use Rattle.cast_message.specs.declared.client.Command.{Command}
 use Rattle.cast_message.specs.declared.client.Command.TheVariants as command
 use Rattle.cast_message.specs.Bodies.{kind_of}
 use Rattle.cast_delay.specs.Ready.{is_member, is_outside}
-use Rattle.cast_model.specs.declared.group.Group.{Group}
+use Rattle.cast_view.specs.MemberSide.{MemberSide}
 use Rattle.cast_history.specs.Rules.Interface.{Site}
 use Rattle.cast_history.specs.Rules.Room.{may_receive}
 use Rattle.cast_history.specs.Rules.Sending.{may_raise, send_data}
@@ -70,7 +70,7 @@ module _ {R S H K : Type 0} (a : Site R H) (b : Site S K) (fits : R → S → Ty
           (ap (λ v. not (is_outside v)) (all.standing r s f k g))
           (λ _. (f, refl))
           (λ _. choose Attempts ((a.group r h).asked == MAX_NUMBER) ((b.group s l).asked == MAX_NUMBER) (r, Some HeldFull) _ (s, Some HeldFull) _
-          (ap (λ (x : Group). x.asked == MAX_NUMBER) group)
+          (ap (λ (x : MemberSide). x.asked == MAX_NUMBER) group)
           (λ _. (f, refl))
           (λ _. (subst (λ x. fits x (request b (b.note_joining s k g number heard) l change.Join (named_here b s k))) (sym same) joins, refl)))
 

@@ -1,7 +1,7 @@
 -- By the rules of messages that come from other sites a site that follows another goes on standing for it.
-use Rattle.std.proofs.Common.{◌≡◌, Some, true, not, ◌&&◌}
+use Rattle.std.proofs.Common.{◌≡◌, ap, Some, true, not, ◌&&◌}
 use Rattle.std.specs.Prelude.{◌==◌, nat_lt, if◌then◌else◌}
-use Rattle.std.specs.List.{list_all}
+use Rattle.std.specs.List.{list_all, list_any}
 use Rattle.std.proofs.lemmas.Bool.{and_parts}
 use Rattle.cast_types.specs.declared.names.SiteNo.{SiteNo}
 use Rattle.cast_types.specs.declared.names.Uid.{Uid}
@@ -10,15 +10,17 @@ use Rattle.cast_types.specs.Sets.{is_among}
 use Rattle.cast_message.specs.declared.message.Message.{Message}
 use Rattle.cast_message.specs.declared.site.SiteFrame.TheVariants as frame
 use Rattle.cast_timer.specs.declared.key.OwedKind.TheVariants as kinds
-use Rattle.cast_model.specs.Group.{members_of}
+use Rattle.cast_view.specs.MemberSide.{MemberSide, members_of, has_view}
+use Rattle.cast_view.specs.Sites.{is_at}
 use Rattle.cast_history.specs.Lawful.{IsTypedFrame}
 use Rattle.cast_history.specs.Rules.Keys.{message_key}
 use Rattle.cast_history.specs.Rules.Interface.{Site}
 use Rattle.cast_history.specs.Rules.Room.{may_take}
 use Rattle.cast_history.specs.Rules.Owing.{owe}
-use Rattle.cast_history.specs.Rules.Data.{counts_itself, is_well_formed, is_used, acknowledge, use_data, on_data}
+use Rattle.cast_history.specs.Rules.Data.{counts_itself, is_well_formed, is_used, is_outdated, acknowledge, use_data, on_data}
 use Rattle.cast_history.proofs.Rules.Follows.{FollowsAll, IsTaken, choose}
 use Rattle.cast_history.proofs.Rules.Owing.{owe_follows}
+use Rattle.cast_history.proofs.Rules.Requests.{send_as}
 use Rattle.cast_history.proofs.Rules.Room.{take_same}
 
 -- what a message is that is used
@@ -81,8 +83,11 @@ module _ {R S H K : Type 0} (a : Site R H) (b : Site S K) (fits : R → S → Ty
       let here = all.follows.here r s f in
       let config = all.follows.config r s f in
       let group = all.follows.group r s f h k at in
-      choose fits (is_used a r h from m) (is_used b s k from m) (use_data a r from m) r (use_data b s from m) s
+      choose fits (is_used a r h from m) (is_used b s k from m) (use_data a r from m) _ (use_data b s from m) _
       (λ j. site_eq m.id.proc.site from && (not (site_eq from (here j)) && ((m.id.view == (group j).number)
       && (list_all (λ c. is_among group_eq c.0 (config j).groups) m.times && (is_among proc_eq m.id.proc (members_of (group j)) && counts_itself m)))))
       (λ used. use_data_follows r s f k from m (record { at = there; used = used; typed = typed }))
-      (λ _. f)
+      (λ _. choose fits (is_outdated a r h from m) (is_outdated b s k from m) _ r _ s
+      (ap (λ (x : MemberSide). has_view x && (nat_lt m.id.view x.number && not (list_any (is_at from) (members_of x)))) group)
+      (λ _. send_as a b fits stands all r s f from _ _ (λ j. frame.Out (all.name r s f h k at j) (group j).number))
+      (λ _. f))

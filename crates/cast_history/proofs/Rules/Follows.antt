@@ -1,6 +1,6 @@
 -- When what a rule leads to at one site stands for what it leads to at another: where each question has the same answer at both, and each
 -- move leads to states that stand for each other. So what is to be shown of two sites is one fact for each question and each move.
-use Rattle.std.proofs.Common.{◌≡◌, ℕ, Bool, true, false, List, [], ◌∷◌, Option, Some, None, refl, sym, ap, subst}
+use Rattle.std.proofs.Common.{◌≡◌, ◌<◌, ℕ, Bool, true, false, List, [], ◌∷◌, Option, Some, None, refl, sym, ap, subst}
 use Rattle.std.specs.Prelude.{⊤, nat_lt, if◌then◌else◌}
 use Rattle.std.specs.List.{fold}
 use Rattle.std.specs.Option.{option_map_or}
@@ -22,8 +22,6 @@ use Rattle.cast_message.specs.declared.site.SiteFrame.{SiteFrame}
 use Rattle.cast_message.specs.declared.site.SiteFrame.TheVariants as frame
 use Rattle.cast_message.specs.Membership.{Membership, is_members}
 use Rattle.cast_timer.specs.declared.key.OwedKey.{OwedKey}
-use Rattle.cast_model.specs.declared.group.Verdict.TheVariants.{Completes}
-use Rattle.cast_model.specs.Group.{verdict_of}
 use Rattle.cast_history.specs.Lawful.{IsTypedFrame}
 use Rattle.cast_history.specs.Rules.Interface.{Site}
 use Rattle.cast_history.specs.Rules.Sending.{may_raise}
@@ -52,6 +50,7 @@ pub record IsInvariant {S H : Type 0} (d : Site S H) (holds : S → Type 0) : Ty
   pub note_resent : (s : S) → holds s → (key : OwedKey) → holds (d.note_resent s key)
   pub pay : (s : S) → holds s → (key : OwedKey) → holds (d.pay s key)
   pub pay_upto : (s : S) → holds s → (key : OwedKey) → holds (d.pay_upto s key)
+  pub pay_view : (s : S) → holds s → (g : GroupNo) → holds (d.pay_view s g)
   pub note_moment : (s : S) → holds s → (t : ℕ) → holds (d.note_moment s t)
   pub note_ack : (s : S) → holds s → (from : SiteNo) (u : Uid) → holds (d.note_ack s from u)
   pub note_stable : (s : S) → holds s → (u : Uid) → holds (d.note_stable s u)
@@ -77,6 +76,7 @@ pub record Follows {R S H K : Type 0} (a : Site R H) (b : Site S K) (fits : R �
   pub note_resent : (r : R) (s : S) → fits r s → (key : OwedKey) → fits (a.note_resent r key) (b.note_resent s key)
   pub pay : (r : R) (s : S) → fits r s → (key : OwedKey) → fits (a.pay r key) (b.pay s key)
   pub pay_upto : (r : R) (s : S) → fits r s → (key : OwedKey) → fits (a.pay_upto r key) (b.pay_upto s key)
+  pub pay_view : (r : R) (s : S) → fits r s → (g : GroupNo) → fits (a.pay_view r g) (b.pay_view s g)
   pub note_moment : (r : R) (s : S) → fits r s → (t : ℕ) → fits (a.note_moment r t) (b.note_moment s t)
   pub note_ack : (r : R) (s : S) → fits r s → (from : SiteNo) (u : Uid) → fits (a.note_ack r from u) (b.note_ack s from u)
   pub note_stable : (r : R) (s : S) → fits r s → (u : Uid) → fits (a.note_stable r u) (b.note_stable s u)
@@ -88,11 +88,11 @@ pub record IsTaken {S H : Type 0} (d : Site S H) (s : S) (h : H) (from : SiteNo)
   pub used : is_used d s h from m ≡ true
   pub typed : IsTypedFrame (frame.Data m)
 
--- and of a view that is entered
+-- and of a view that is entered: it is a later one
 
 pub record IsEntered {S H : Type 0} (d : Site S H) (s : S) (h : H) (g : GroupNo) (n : ℕ) (members : Membership) : Type 0 where
   pub at : d.place s g ≡ Some h
-  pub completes : verdict_of (d.group s h) n ≡ Completes
+  pub later : (d.group s h).number < n
   pub typed : is_members members ≡ true
 
 -- and of a message that a local process sends to the group g, which stands at h
@@ -131,7 +131,8 @@ pub record FollowsAll {R S H K : Type 0} (a : Site R H) (b : Site S K) (fits : R
   pub note_request : (r : R) (s : S) → fits r s → (h : H) (k : K) → stands h k → (what : Change) (p : Proc) → fits (a.note_request r h what p) (b.note_request s k what p)
   pub note_answer : (r : R) (s : S) → fits r s → (h : H) (k : K) → stands h k → fits (a.note_answer r h) (b.note_answer s k)
   pub move_home : (r : R) (s : S) → fits r s → (h : H) (k : K) → stands h k → (move : HomeMove) → fits (a.move_home r h move) (b.move_home s k move)
-  pub enter_view : (r : R) (s : S) → fits r s → (h : H) (k : K) → stands h k → (g : GroupNo) (n : ℕ) (members : Membership) (request : ℕ) (cut : CountList) → IsEntered b s k g n members → fits (a.enter_view r h n members request cut) (b.enter_view s k n members request cut)
+  pub enter_view : (r : R) (s : S) → fits r s → (h : H) (k : K) → stands h k → (g : GroupNo) (skips : Bool) (n : ℕ) (members : Membership) (request : ℕ) (cut : CountList) → IsEntered b s k g n members → fits (a.enter_view r h skips n members request cut) (b.enter_view s k skips n members request cut)
+  pub release_ended : (r : R) (s : S) → fits r s → (h : H) (k : K) → stands h k → fits (a.release_ended r h) (b.release_ended s k)
 
 -- What rules are made of
 
@@ -175,7 +176,8 @@ pub record IsInvariantOfAll {S H : Type 0} (d : Site S H) (holds : S → Type 0)
   pub note_request : (s : S) → holds s → (h : H) (what : Change) (p : Proc) → holds (d.note_request s h what p)
   pub note_answer : (s : S) → holds s → (h : H) → holds (d.note_answer s h)
   pub move_home : (s : S) → holds s → (h : H) (move : HomeMove) → holds (d.move_home s h move)
-  pub enter_view : (s : S) → holds s → (h : H) (g : GroupNo) (n : ℕ) (members : Membership) (request : ℕ) (cut : CountList) → IsEntered d s h g n members → holds (d.enter_view s h n members request cut)
+  pub enter_view : (s : S) → holds s → (h : H) (g : GroupNo) (skips : Bool) (n : ℕ) (members : Membership) (request : ℕ) (cut : CountList) → IsEntered d s h g n members → holds (d.enter_view s h skips n members request cut)
+  pub release_ended : (s : S) → holds s → (h : H) → holds (d.release_ended s h)
 
 -- a site follows itself, in the same state, of which an invariant holds
 abbrev pub AlsoHolds : {S : Type 0} → (S → Type 0) → S → S → Type 0
@@ -203,6 +205,7 @@ of_all_states d = record {
   note_resent = λ s l key. tt;
   pay = λ s l key. tt;
   pay_upto = λ s l key. tt;
+  pay_view = λ s l g. tt;
   note_moment = λ s l t. tt;
   note_ack = λ s l from u. tt;
   note_stable = λ s l u. tt;
@@ -228,6 +231,7 @@ follows_itself d holds keeps = record {
   note_resent = λ r s f key. (λ i. d.note_resent (f.0 i) key, keeps.note_resent s f.1 key);
   pay = λ r s f key. (λ i. d.pay (f.0 i) key, keeps.pay s f.1 key);
   pay_upto = λ r s f key. (λ i. d.pay_upto (f.0 i) key, keeps.pay_upto s f.1 key);
+  pay_view = λ r s f g. (λ i. d.pay_view (f.0 i) g, keeps.pay_view s f.1 g);
   note_moment = λ r s f t. (λ i. d.note_moment (f.0 i) t, keeps.note_moment s f.1 t);
   note_ack = λ r s f from u. (λ i. d.note_ack (f.0 i) from u, keeps.note_ack s f.1 from u);
   note_stable = λ r s f u. (λ i. d.note_stable (f.0 i) u, keeps.note_stable s f.1 u);
@@ -260,7 +264,9 @@ follows_itself_in_all d holds keeps = record {
   note_request = λ r s f h k at what p. (λ i. d.note_request (f.0 i) (at i) what p, keeps.note_request s f.1 k what p);
   note_answer = λ r s f h k at. (λ i. d.note_answer (f.0 i) (at i), keeps.note_answer s f.1 k);
   move_home = λ r s f h k at move. (λ i. d.move_home (f.0 i) (at i) move, keeps.move_home s f.1 k move);
-  enter_view = λ r s f h k at g n members request cut entered. (λ i. d.enter_view (f.0 i) (at i) n members request cut, keeps.enter_view s f.1 k g n members request cut entered);
+  enter_view = λ r s f h k at g skips n members request cut entered.
+      (λ i. d.enter_view (f.0 i) (at i) skips n members request cut, keeps.enter_view s f.1 k g skips n members request cut entered);
+  release_ended = λ r s f h k at. (λ i. d.release_ended (f.0 i) (at i), keeps.release_ended s f.1 k);
 }
 
 -- a site that follows another follows it also in states of which an invariant holds
@@ -284,6 +290,7 @@ with_invariant a b fits stands holds follows keeps = record {
   note_resent = λ r s f key. (follows.note_resent r s f.0 key, keeps.note_resent s f.1 key);
   pay = λ r s f key. (follows.pay r s f.0 key, keeps.pay s f.1 key);
   pay_upto = λ r s f key. (follows.pay_upto r s f.0 key, keeps.pay_upto s f.1 key);
+  pay_view = λ r s f g. (follows.pay_view r s f.0 g, keeps.pay_view s f.1 g);
   note_moment = λ r s f t. (follows.note_moment r s f.0 t, keeps.note_moment s f.1 t);
   note_ack = λ r s f from u. (follows.note_ack r s f.0 from u, keeps.note_ack s f.1 from u);
   note_stable = λ r s f u. (follows.note_stable r s f.0 u, keeps.note_stable s f.1 u);

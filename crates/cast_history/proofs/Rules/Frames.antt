@@ -14,7 +14,7 @@ use Rattle.cast_history.proofs.Rules.Data.{data_follows}
 use Rattle.cast_history.proofs.Rules.Stability.{ack_follows, stable_follows}
 use Rattle.cast_history.proofs.Rules.Requests.{ask_follows, asked_follows}
 use Rattle.cast_history.proofs.Rules.Home.{installed_follows, flushed_follows, forward_follows, want_answered_follows}
-use Rattle.cast_history.proofs.Rules.Views.{install_follows}
+use Rattle.cast_history.proofs.Rules.Views.{install_follows, out_follows}
 
 module _ {R S H K : Type 0} (a : Site R H) (b : Site S K) (fits : R → S → Type 0) (stands : H → K → Type 0) (all : FollowsAll a b fits stands) where
   frame_follows : (r : R) (s : S) → fits r s → (h : H) (k : K) → stands h k → (from : SiteNo) (x : SiteFrame) → b.place s (group_of x) ≡ Some k → IsTypedFrame x → fits (on_frame a r h from x) (on_frame b s k from x)
@@ -29,7 +29,7 @@ module _ {R S H K : Type 0} (a : Site R H) (b : Site S K) (fits : R → S → Ty
   frame_follows r s f h k at from (frame.Forward m) there typed = forward_follows a b fits stands all r s f h k at m
   frame_follows r s f h k at from (frame.Install g view members request cut tail) there typed = install_follows a b fits stands all r s f h k at from g there view members request cut typed
   frame_follows r s f h k at from (frame.Installed g view) there typed = installed_follows a b fits stands all r s f h k at from view
-  frame_follows r s f h k at from (frame.Out g view) there typed = f
+  frame_follows r s f h k at from (frame.Out g view) there typed = out_follows a b fits stands all r s f h k at g there view
 
   pub framed_follows : (r : R) (s : S) → fits r s → (from : SiteNo) (x : SiteFrame) → IsTypedFrame x → fits (framed a r from x) (framed b s from x)
   framed_follows r s f from x typed =

@@ -7,8 +7,7 @@ use Rattle.cast_message.specs.declared.site.SiteFrame.TheVariants as frame
 use Rattle.cast_timer.specs.declared.key.OwedKey.{OwedKey}
 use Rattle.cast_timer.specs.declared.key.OwedKind.{OwedKind}
 use Rattle.cast_timer.specs.declared.key.OwedKind.TheVariants.{Ask, Data, Prepare, Want, Install, Ack}
-use Rattle.cast_model.specs.declared.group.Group.{Group}
-use Rattle.cast_model.specs.Group.{first_asking}
+use Rattle.cast_view.specs.MemberSide.{MemberSide, first_asking}
 use Rattle.cast_view.specs.Home.{Home}
 use Rattle.cast_history.specs.Rules.Keys.{id_in}
 use Rattle.cast_history.specs.Rules.Interface.{Site}
@@ -17,14 +16,14 @@ use Rattle.cast_history.proofs.Rules.Follows.{Follows, AtBoth, choose, each, IsI
 
 module _ {R S H K : Type 0} (a : Site R H) (b : Site S K) (fits : R → S → Type 0) (stands : H → K → Type 0) (follows : Follows a b fits stands) where
   kind_same : (r : R) (s : S) → fits r s → (h : H) (k : K) → stands h k → (key : OwedKey) (kind : OwedKind) → frame_of_kind a r h key kind ≡ frame_of_kind b s k key kind
-  kind_same r s f h k at key Ask = ap (λ (x : Group). option_map (ask_frame key.group) (first_asking x.requests)) (follows.group r s f h k at)
+  kind_same r s f h k at key Ask = ap (λ (x : MemberSide). option_map (ask_frame key.group) (first_asking x.requests)) (follows.group r s f h k at)
   kind_same r s f h k at key Data =
-      ap (λ (x : Group). option_map frame.Data (a.message r (id_in x.number key))) (follows.group r s f h k at)
+      ap (λ (x : MemberSide). option_map frame.Data (a.message r (id_in x.number key))) (follows.group r s f h k at)
       ∙ ap (option_map frame.Data) (follows.message r s f (id_in (b.group s k).number key))
   kind_same r s f h k at key Prepare = ap (λ (x : Home). Some (frame.Prepare key.group x.number)) (follows.home r s f h k at)
   kind_same r s f h k at key Want = ap (λ (x : Home). Some (frame.Want (id_in x.number key))) (follows.home r s f h k at)
   kind_same r s f h k at key Install = ap (λ (x : Home). install_frame key.group x key.site x.phase) (follows.home r s f h k at)
-  kind_same r s f h k at key Ack = ap (λ (x : Group). Some (frame.Ack (id_in x.number key))) (follows.group r s f h k at)
+  kind_same r s f h k at key Ack = ap (λ (x : MemberSide). Some (frame.Ack (id_in x.number key))) (follows.group r s f h k at)
 
   -- a key stands for the same frame
   pub frame_same : (r : R) (s : S) → fits r s → (key : OwedKey) → frame_for a r key ≡ frame_for b s key

@@ -8,9 +8,8 @@ use Rattle.cast_message.specs.declared.site.Change.{Change}
 use Rattle.cast_message.specs.declared.site.SiteFrame.{SiteFrame}
 use Rattle.cast_message.specs.declared.site.SiteFrame.TheVariants as frame
 use Rattle.cast_timer.specs.declared.key.OwedKey.{OwedKey}
-use Rattle.cast_model.specs.declared.group.Asking.{Asking}
-use Rattle.cast_model.specs.declared.group.Group.{Group}
-use Rattle.cast_model.specs.Group.{first_asking}
+use Rattle.cast_view.specs.declared.member.Asking.{Asking}
+use Rattle.cast_view.specs.MemberSide.{MemberSide, first_asking}
 use Rattle.cast_view.specs.Home.{is_empty, answer_to}
 use Rattle.cast_view.specs.Home.HomeMove.{Asked}
 use Rattle.cast_types.specs.declared.names.GroupNo.{GroupNo}
@@ -46,7 +45,7 @@ module _ {R S H K : Type 0} (a : Site R H) (b : Site S K) (fits : R → S → Ty
   ask_home_follows r s f h k at =
       let key : OwedKey = ask_key (b.name s k) (b.config s).home in
       choose fits (is_empty (a.group r h).requests) (is_empty (b.group s k).requests) r (owe a r (ask_key (a.name r h) (a.config r).home)) s (owe b s key)
-      (ap (λ (x : Group). is_empty x.requests) (all.follows.group r s f h k at))
+      (ap (λ (x : MemberSide). is_empty x.requests) (all.follows.group r s f h k at))
       (λ _. f)
       (λ _. subst (λ x. fits (owe a r x) (owe b s key)) (sym (key_same r s f h k at)) (owe_follows a b fits stands all.follows r s f key))
 
@@ -56,7 +55,7 @@ module _ {R S H K : Type 0} (a : Site R H) (b : Site S K) (fits : R → S → Ty
       let after : S = b.note_request s k what p in
       let now : fits next after = all.note_request r s f h k at what p in
       choose fits (is_empty (a.group r h).requests) (is_empty (b.group s k).requests) (ask_home a next h) next (ask_home b after k) after
-      (ap (λ (x : Group). is_empty x.requests) (all.follows.group r s f h k at))
+      (ap (λ (x : MemberSide). is_empty x.requests) (all.follows.group r s f h k at))
       (λ _. ask_home_follows next after now h k at)
       (λ _. now)
 
@@ -102,7 +101,7 @@ module _ {R S H K : Type 0} (a : Site R H) (b : Site S K) (fits : R → S → Ty
   pub asked_follows : (r : R) (s : S) → fits r s → (h : H) (k : K) → stands h k → (from : SiteNo) (number : ℕ) (full : Bool) → fits (on_asked a r h from number full) (on_asked b s k from number full)
   asked_follows r s f h k at from number full =
       subst (λ o. fits (elim o [ Some x ↦ (if is_from_home a r from && (x.number == number) then (deny_if a full (take_answer a r h) h x) else r) | None ↦ r ]) (on_asked b s k from number full))
-      (sym (ap (λ (x : Group). first_asking x.requests) (all.follows.group r s f h k at)))
+      (sym (ap (λ (x : MemberSide). first_asking x.requests) (all.follows.group r s f h k at)))
       (first (first_asking (b.group s k).requests))
     where
       now : fits (take_answer a r h) (take_answer b s k)

@@ -2,7 +2,7 @@
 use Rattle.std.proofs.Common.{◌≡◌, ℕ, List, [], ◌∷◌, Option, Some, None, refl, sym, subst, inl, inr}
 use Rattle.std.specs.List.{fold}
 use Rattle.cast_types.specs.declared.names.Proc.{Proc}
-use Rattle.cast_model.specs.Group.{holder_at}
+use Rattle.cast_view.specs.MemberSide.{holder_at}
 use Rattle.cast_history.specs.Rules.Interface.{Site, Resting}
 use Rattle.cast_history.specs.Rules.Order.{set_order_by, set_order, set_orders}
 use Rattle.cast_history.specs.Rules.Rest.{deliver_all, settle, pass}

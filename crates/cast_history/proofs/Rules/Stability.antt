@@ -9,7 +9,7 @@ use Rattle.cast_types.specs.Names.{site_eq}
 use Rattle.cast_types.specs.Sets.{is_among}
 use Rattle.cast_message.specs.declared.site.SiteFrame.TheVariants as frame
 use Rattle.cast_timer.specs.declared.key.OwedKind.TheVariants as kinds
-use Rattle.cast_model.specs.Group.{is_current}
+use Rattle.cast_view.specs.MemberSide.{is_current}
 use Rattle.cast_history.specs.Rules.Keys.{message_key}
 use Rattle.cast_history.specs.Rules.Interface.{Site}
 use Rattle.cast_history.specs.Rules.Stability.{is_used_ack, with_ack, tell_stable, tell_more, on_ack, on_stable}

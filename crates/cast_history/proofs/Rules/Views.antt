@@ -1,48 +1,83 @@
--- By the rule of views a site that follows another goes on standing for it.
-use Rattle.std.proofs.Common.{◌≡◌, ℕ, true, Some, refl, sym, ap, subst}
+-- By the rules of views a site that follows another goes on standing for it.
+use Rattle.std.proofs.Common.{◌≡◌, ◌<◌, ℕ, Bool, true, false, [], Some, refl, sym, ap, subst, arith}
+use Rattle.std.specs.Prelude.{nat_le, nat_lt, ◌+◌, if◌then◌else◌, not}
+use Rattle.std.proofs.lemmas.Bool.Decides.{nat_tests}
 use Rattle.cast_types.specs.declared.names.SiteNo.{SiteNo}
 use Rattle.cast_types.specs.declared.names.GroupNo.{GroupNo}
 use Rattle.cast_types.specs.Counts.{CountList}
-use Rattle.cast_message.specs.declared.site.SiteFrame.{SiteFrame}
 use Rattle.cast_message.specs.declared.site.SiteFrame.TheVariants as frame
 use Rattle.cast_message.specs.Membership.{Membership, is_members}
-use Rattle.cast_model.specs.declared.group.Group.{Group}
-use Rattle.cast_model.specs.declared.group.Verdict.{Verdict}
-use Rattle.cast_model.specs.declared.group.Verdict.TheVariants.{Again, Completes, Ignored}
-use Rattle.cast_model.specs.Group.{verdict_of}
+use Rattle.cast_view.specs.MemberSide.{MemberSide, verdict_of, has_view, is_pending, is_put_out_by}
+use Rattle.cast_view.specs.declared.member.Verdict.{Verdict}
+use Rattle.cast_view.specs.declared.member.Verdict.TheVariants.{Again, Skips, Completes, Pends, Ignored}
 use Rattle.cast_history.specs.Rules.Interface.{Site}
 use Rattle.cast_history.specs.Rules.Requests.{is_from_home}
-use Rattle.cast_history.specs.Rules.Views.{on_install}
+use Rattle.cast_history.specs.Rules.Views.{no_members, change_view, install, on_install, on_out}
 use Rattle.cast_history.proofs.Rules.Follows.{FollowsAll, choose}
 use Rattle.cast_history.proofs.Rules.Requests.{send_as, from_home_same}
 
+-- an Install that is not answered again has a number that the site has not reached
+later_than : (g : MemberSide) (n : ℕ) → nat_le n g.number ≡ false → g.number < n
+later_than g n above = grind (arith, nat_tests)
+
+skips_later : (g : MemberSide) (n : ℕ) → verdict_of g n ≡ Skips → g.number < n
+skips_later g n is = elim (nat_le n g.number) as (λ b. nat_le n g.number ≡ b → (if b then Again else if nat_lt (g.number + 1) n then Skips else if not (has_view g) then Completes else if is_pending g then Ignored else Pends) ≡ Skips → g.number < n) [
+  | true ↦ λ _ e. absurd cc
+  | false ↦ λ above _. later_than g n above
+] refl is
+
+completes_later : (g : MemberSide) (n : ℕ) → verdict_of g n ≡ Completes → g.number < n
+completes_later g n is = elim (nat_le n g.number) as (λ b. nat_le n g.number ≡ b → (if b then Again else if nat_lt (g.number + 1) n then Skips else if not (has_view g) then Completes else if is_pending g then Ignored else Pends) ≡ Completes → g.number < n) [
+  | true ↦ λ _ e. absurd cc
+  | false ↦ λ above _. later_than g n above
+] refl is
+
+put_out_later : (g : MemberSide) (n : ℕ) → is_put_out_by g n ≡ true → g.number < n
+put_out_later g n is = grind (arith, nat_tests)
+
+-- what comes of an Install from the home, by what the site does with it
+abbrev by_verdict_of : {S H : Type 0} → Site S H → S → H → SiteNo → ℕ → Membership → ℕ → CountList → Verdict → S
+by_verdict_of d s h from n members request cut v = elim v [
+  | Again ↦ d.send s from (frame.Installed (d.name s h) n)
+  | Skips ↦ install d true s h from n members request cut
+  | Completes ↦ install d false s h from n members request cut
+  | Pends ↦ s
+  | Ignored ↦ s
+]
+
 module _ {R S H K : Type 0} (a : Site R H) (b : Site S K) (fits : R → S → Type 0) (stands : H → K → Type 0) (all : FollowsAll a b fits stands) where
+  change_follows : (skips : Bool) (r : R) (s : S) → fits r s → (h : H) (k : K) → stands h k → (g : GroupNo) → b.place s g ≡ Some k → (n : ℕ) (members : Membership) (request : ℕ) (cut : CountList) → is_members members ≡ true → (b.group s k).number < n → fits (change_view a skips r h n members request cut) (change_view b skips s k n members request cut)
+  change_follows skips r s f h k at g there n members request cut typed later =
+      let entered = all.enter_view r s f h k at g skips n members request cut (record { at = there; later = later; typed = typed }) in
+      let next : R = a.release_ended (a.enter_view r h skips n members request cut) h in
+      let after : S = b.release_ended (b.enter_view s k skips n members request cut) k in
+      let released : fits next after = all.release_ended _ _ entered h k at in
+      subst (λ x. fits (a.pay_view next x) (b.pay_view after (b.name s k))) (sym (all.name r s f h k at)) (all.follows.pay_view next after released (b.name s k))
+
+  install_view_follows : (skips : Bool) (r : R) (s : S) → fits r s → (h : H) (k : K) → stands h k → (from : SiteNo) (g : GroupNo) → b.place s g ≡ Some k → (n : ℕ) (members : Membership) (request : ℕ) (cut : CountList) → is_members members ≡ true → (b.group s k).number < n → fits (install a skips r h from n members request cut) (install b skips s k from n members request cut)
+  install_view_follows skips r s f h k at from g there n members request cut typed later =
+      send_as a b fits stands all (change_view a skips r h n members request cut) (change_view b skips s k n members request cut)
+      (change_follows skips r s f h k at g there n members request cut typed later)
+      from (frame.Installed (a.name r h) n) (frame.Installed (b.name s k) n) (ap (λ z. frame.Installed z n) (all.name r s f h k at))
+
   pub install_follows : (r : R) (s : S) → fits r s → (h : H) (k : K) → stands h k → (from : SiteNo) (g : GroupNo) → b.place s g ≡ Some k → (n : ℕ) (members : Membership) (request : ℕ) (cut : CountList) → is_members members ≡ true → fits (on_install a r h from n members request cut) (on_install b s k from n members request cut)
   install_follows r s f h k at from g there n members request cut typed =
       choose fits (is_from_home a r from) (is_from_home b s from) _ r _ s (from_home_same a b fits stands all r s f from)
-      (λ _. by_verdict (verdict_of (a.group r h) n) (verdict_of (b.group s k) n) (ap (λ (x : Group). verdict_of x n) (all.follows.group r s f h k at)) refl)
+      (λ _. by_verdict (verdict_of (a.group r h) n) (verdict_of (b.group s k) n) (ap (λ (x : MemberSide). verdict_of x n) (all.follows.group r s f h k at)) refl)
       (λ _. f)
     where
-      x : SiteFrame
-      x = frame.Installed (a.name r h) n
-
-      y : SiteFrame
-      y = frame.Installed (b.name s k) n
-
-      same : x ≡ y
-      same = ap (λ z. frame.Installed z n) (all.name r s f h k at)
-
-      next : R
-      next = a.enter_view r h n members request cut
-
-      after : S
-      after = b.enter_view s k n members request cut
-
-      alike : (v : Verdict) → verdict_of (b.group s k) n ≡ v → fits (elim v [ Again ↦ a.send r from x | Completes ↦ a.send next from x | Ignored ↦ r ]) (elim v [ Again ↦ b.send s from y | Completes ↦ b.send after from y | Ignored ↦ s ])
-      alike Again is = send_as a b fits stands all r s f from x y same
-      alike Completes is = send_as a b fits stands all next after (all.enter_view r s f h k at g n members request cut (record { at = there; completes = is; typed = typed })) from x y same
+      alike : (v : Verdict) → verdict_of (b.group s k) n ≡ v → fits (by_verdict_of a r h from n members request cut v) (by_verdict_of b s k from n members request cut v)
+      alike Again is = send_as a b fits stands all r s f from (frame.Installed (a.name r h) n) (frame.Installed (b.name s k) n) (ap (λ z. frame.Installed z n) (all.name r s f h k at))
+      alike Skips is = install_view_follows true r s f h k at from g there n members request cut typed (skips_later (b.group s k) n is)
+      alike Completes is = install_view_follows false r s f h k at from g there n members request cut typed (completes_later (b.group s k) n is)
+      alike Pends is = f
       alike Ignored is = f
 
-      by_verdict : (u v : Verdict) → u ≡ v → verdict_of (b.group s k) n ≡ v → fits (elim u [ Again ↦ a.send r from x | Completes ↦ a.send next from x | Ignored ↦ r ]) (elim v [ Again ↦ b.send s from y | Completes ↦ b.send after from y | Ignored ↦ s ])
-      by_verdict u v is at_b =
-          subst (λ z. fits (elim z [ Again ↦ a.send r from x | Completes ↦ a.send next from x | Ignored ↦ r ]) (elim v [ Again ↦ b.send s from y | Completes ↦ b.send after from y | Ignored ↦ s ])) (sym is) (alike v at_b)
+      by_verdict : (u v : Verdict) → u ≡ v → verdict_of (b.group s k) n ≡ v → fits (by_verdict_of a r h from n members request cut u) (by_verdict_of b s k from n members request cut v)
+      by_verdict u v is at_v = subst (λ z. fits (by_verdict_of a r h from n members request cut z) (by_verdict_of b s k from n members request cut v)) (sym is) (alike v at_v)
+
+  pub out_follows : (r : R) (s : S) → fits r s → (h : H) (k : K) → stands h k → (g : GroupNo) → b.place s g ≡ Some k → (n : ℕ) → fits (on_out a r h n) (on_out b s k n)
+  out_follows r s f h k at g there n =
+      choose fits (is_put_out_by (a.group r h) n) (is_put_out_by (b.group s k) n) _ r _ s (ap (λ (x : MemberSide). is_put_out_by x n) (all.follows.group r s f h k at))
+      (λ is. change_follows true r s f h k at g there n no_members 0 [] refl (put_out_later (b.group s k) n is))
+      (λ _. f)

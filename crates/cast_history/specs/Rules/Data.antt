@@ -1,6 +1,6 @@
 -- The rules of messages that come from other sites.
 use Rattle.std.specs.Prelude.{Bool, List, not, ◌&&◌, ◌==◌, nat_lt, if◌then◌else◌}
-use Rattle.std.specs.List.{list_all}
+use Rattle.std.specs.List.{list_all, list_any}
 use Rattle.cast_types.specs.declared.names.SiteNo.{SiteNo}
 use Rattle.cast_types.specs.declared.names.Proc.{Proc}
 use Rattle.cast_types.specs.declared.names.Uid.{Uid}
@@ -10,7 +10,8 @@ use Rattle.cast_clock.specs.Times.{clock_of, count_in}
 use Rattle.cast_message.specs.declared.message.Message.{Message}
 use Rattle.cast_message.specs.declared.site.SiteFrame.TheVariants as frame
 use Rattle.cast_timer.specs.declared.key.OwedKind.TheVariants as kinds
-use Rattle.cast_model.specs.Group.{members_of}
+use Rattle.cast_view.specs.MemberSide.{members_of, has_view}
+use Rattle.cast_view.specs.Sites.{is_at}
 use Rattle.cast_history.specs.Rules.Keys.{message_key}
 use Rattle.cast_history.specs.Rules.Interface.{Site}
 use Rattle.cast_history.specs.Rules.Room.{may_take}
@@ -44,5 +45,14 @@ module _ {S H : Type 0} (d : Site S H) where
       if d.is_received s m.id then d.send s from (frame.Ack m.id)
       else if may_take d s m.body then acknowledge (d.receive s m) from m.id else s
 
+  -- a message of an older view, from a site that has no member in the one that the group has here
+  abbrev pub is_outdated : S → H → SiteNo → Message → Bool
+  is_outdated s h from m =
+      has_view (d.group s h)
+      && (nat_lt m.id.view (d.group s h).number && not (list_any (is_at from) (members_of (d.group s h))))
+
+  -- that site is told that it has no part in that one
   abbrev pub on_data : S → H → SiteNo → Message → S
-  on_data s h from m = if is_used s h from m then use_data s from m else s
+  on_data s h from m =
+      if is_used s h from m then use_data s from m
+      else if is_outdated s h from m then d.send s from (frame.Out (d.name s h) (d.group s h).number) else s

@@ -12,7 +12,7 @@ use Rattle.cast_history.specs.Rules.Data.{on_data}
 use Rattle.cast_history.specs.Rules.Stability.{on_ack, on_stable}
 use Rattle.cast_history.specs.Rules.Requests.{on_ask, on_asked}
 use Rattle.cast_history.specs.Rules.Home.{on_flushed, on_forward, on_want, on_installed}
-use Rattle.cast_history.specs.Rules.Views.{on_install}
+use Rattle.cast_history.specs.Rules.Views.{on_install, on_out}
 
 -- the group that a frame is about
 abbrev pub group_of : SiteFrame → GroupNo
@@ -44,7 +44,7 @@ module _ {S H : Type 0} (d : Site S H) where
   on_frame s h from (frame.Forward m) = on_forward d s h m
   on_frame s h from (frame.Install g view members request cut tail) = on_install d s h from view members request cut
   on_frame s h from (frame.Installed g view) = on_installed d s h from view
-  on_frame s h from (frame.Out g view) = s
+  on_frame s h from (frame.Out g view) = on_out d s h view
 
   -- one from a site or for a group that is not configured is ignored
   abbrev pub framed : S → SiteNo → SiteFrame → S

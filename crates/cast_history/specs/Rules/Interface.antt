@@ -17,7 +17,7 @@ use Rattle.cast_message.specs.Membership.{Membership}
 use Rattle.cast_message.specs.Sequence.{Sequence}
 use Rattle.cast_timer.specs.declared.key.OwedKey.{OwedKey}
 use Rattle.cast_model.specs.declared.config.DomainConfig.{DomainConfig}
-use Rattle.cast_model.specs.declared.group.Group.{Group}
+use Rattle.cast_view.specs.MemberSide.{MemberSide}
 use Rattle.cast_view.specs.Home.{Home, HomeMove}
 
 -- an S is what is known of the domain, and an H says where a group stands in it; first comes what a rule asks, and from `send` on what it does
@@ -31,7 +31,7 @@ pub record Site (S H : Type 0) : Type 0 where
   -- where the groups stand, in the order of the configuration
   pub places : S → List H
   -- a group: its view, and the requests of its processes here
-  pub group : S → H → Group
+  pub group : S → H → MemberSide
   -- what the home keeps of a group
   pub home : S → H → Home
   -- the other sites of a group's view
@@ -68,6 +68,8 @@ pub record Site (S H : Type 0) : Type 0 where
   pub pay : S → OwedKey → S
   -- a frame about a message, and those of its kind about the process's messages before that, are owed no more
   pub pay_upto : S → OwedKey → S
+  -- what the site owes for a view of a group that has ended is owed no more
+  pub pay_view : S → GroupNo → S
   -- the moment is at least this one, and at most the last one
   pub note_moment : S → ℕ → S
   -- it is noted that a site acknowledged a message
@@ -90,9 +92,12 @@ pub record Site (S H : Type 0) : Type 0 where
   pub note_answer : S → H → S
   -- the home of a group moves on
   pub move_home : S → H → HomeMove → S
-  -- a group has a new view, with these members; the local processes that it takes in enter it, and are told: a member, and one whose request to
-  -- join was applied, by the number of the last one of this site that was; the last argument is the Install's cut
-  pub enter_view : S → H → ℕ → Membership → ℕ → CountList → S
+  -- a group passes to a view of this number, with these members. The local members that it lacks are put out, and told; all of them, where a view
+  -- was skipped. Then the local processes that it takes in enter it, and are told: a member, and one whose request to join was applied, by the
+  -- number of the last one of this site that was; the last argument is the Install's cut
+  pub enter_view : S → H → Bool → ℕ → Membership → ℕ → CountList → S
+  -- messages of a group's views that have ended are kept no longer
+  pub release_ended : S → H → S
 
 -- the serials of a domain's sessions, which count from 1
 pub record Serials (S : Type 0) : Type 0 where

@@ -12,8 +12,8 @@ use Rattle.cast_timer.specs.declared.key.OwedKind.TheVariants.{Ask, Data, Prepar
 use Rattle.cast_view.specs.declared.phase.Phase.{Phase}
 use Rattle.cast_view.specs.declared.phase.Phase.TheVariants.{Idle, Gathering, Installing}
 use Rattle.cast_view.specs.Home.{Home, answer_in}
-use Rattle.cast_model.specs.declared.group.Asking.{Asking}
-use Rattle.cast_model.specs.Group.{first_asking}
+use Rattle.cast_view.specs.declared.member.Asking.{Asking}
+use Rattle.cast_view.specs.MemberSide.{first_asking}
 use Rattle.cast_history.specs.Rules.Keys.{id_in}
 use Rattle.cast_history.specs.Rules.Interface.{Site}
 

@@ -5,14 +5,14 @@ use Rattle.cast_types.specs.declared.names.Proc.{Proc}
 use Rattle.cast_types.specs.Names.{site_eq}
 use Rattle.cast_message.specs.declared.site.Change.{Change}
 use Rattle.cast_message.specs.declared.site.SiteFrame.TheVariants as frame
-use Rattle.cast_model.specs.Group.{first_asking}
+use Rattle.cast_view.specs.MemberSide.{first_asking}
 use Rattle.cast_view.specs.Home.{is_empty, answer_to}
 use Rattle.cast_view.specs.Home.HomeMove.{Asked}
 use Rattle.cast_message.specs.declared.client.Push.TheVariants as push
 use Rattle.cast_types.specs.declared.refusal.Refusal.TheVariants.{GroupFull}
 use Rattle.cast_types.specs.declared.names.Standing.{Standing}
 use Rattle.cast_types.specs.declared.names.Standing.TheVariants.{Outside, Joining, Member}
-use Rattle.cast_model.specs.declared.group.Asking.{Asking}
+use Rattle.cast_view.specs.declared.member.Asking.{Asking}
 use Rattle.cast_history.specs.Rules.Keys.{ask_key}
 use Rattle.cast_history.specs.Rules.Interface.{Site}
 use Rattle.cast_history.specs.Rules.Owing.{owe}

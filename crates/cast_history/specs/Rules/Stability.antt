@@ -7,7 +7,7 @@ use Rattle.cast_types.specs.Names.{site_eq}
 use Rattle.cast_types.specs.Sets.{is_among}
 use Rattle.cast_message.specs.declared.site.SiteFrame.TheVariants as frame
 use Rattle.cast_timer.specs.declared.key.OwedKind.TheVariants as kinds
-use Rattle.cast_model.specs.Group.{is_current}
+use Rattle.cast_view.specs.MemberSide.{is_current}
 use Rattle.cast_history.specs.Rules.Keys.{message_key}
 use Rattle.cast_history.specs.Rules.Interface.{Site}
 

@@ -59,7 +59,7 @@ returns-clause-made c =
     (sym c.in-Some.is ∙ c.in_ok-time.ensures) in
     let time : c.in-Some.time ≡ bumped (time_of r.delay (local_in r k)) g (local_in r k) = raised.1 ∙ ap (λ x. bumped (time_of r.delay x) g x) p in
     let stamp : c.in-Some.stamp ≡ bumped (time_of r.delay (local_in r k)) g (local_in r k) = raised.2 ∙ ap (λ x. bumped (time_of r.delay x) g x) p in
-    let view : c.record.result.now.here.number ≡ (record_at r.groups i).here.number = ap (λ x. x.here.number) c.record.ensures in
+    let view : c.number.result ≡ (record_at r.groups i).here.number = c.number.ensures ∙ ap (λ x. x.here.number) c.record.ensures in
     let count : c.count.result ≡ count_in (bumped (time_of r.delay (local_in r k)) g (local_in r k)) g (local_in r k) = c.count.ensures ∙ λ j. count_in (time j) g (p j) in
     let short : nat_lt MAX_PAYLOAD (length c.args.payload.now) ≡ false = grind (arith, nat_tests) in
     let member : is_member (standing_of r.delay (local_in r k) g) ≡ true =
@@ -71,7 +71,7 @@ returns-clause-made c =
     (ap (λ x. (x, None))
     (c.in_ok-send_message.ensures.made
     ∙ (λ j. send_message records ((seen_as c.args.self.now c.tell.new.self c.in_ok-tell.ensures.kept c.args.lent.now.shared.now c.args.lent.now.outs.now ∙ c.in_ok-tell.ensures.made c.args.lent.now.outs.now r.part) j) (record {
-      id = record { group = g; view = c.record.result.now.here.number; proc = q; count = c.count.result };
+      id = record { group = g; view = c.number.result; proc = q; count = c.count.result };
       times = c.in-Some.stamp;
       body = (c.body_of.ensures ∙ ap (body_of c.args.kind) c.in_ok-content.ensures) j;
     }))

@@ -11,7 +11,7 @@ use Rattle.cast_domain.proofs.domain.Domain.frame_at_key.Goals as goal
 pub returns-in-Data : goal.returns-in-Data
 returns-in-Data c =
     let key = c.args.key.now in
-    let about = c.id_in.ensures ∙ ap (λ x. id_in x.here.number key) c.record.ensures in
+    let about = c.id_in.ensures ∙ ap (λ n. id_in n key) c.number.ensures ∙ ap (λ x. id_in x.here.number key) c.record.ensures in
     IfOk-weaker c.data_frame.result _ _ (λ f made.
     let r = records_in c.args.self.now c.args.lent.now in
     made

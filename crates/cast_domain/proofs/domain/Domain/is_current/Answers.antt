@@ -1,6 +1,6 @@
 use Rattle.std.proofs.Common.{ℕ, Option, false, ◌∙◌, sym, ap}
 use Rattle.std.specs.Option.{option_map_or}
-use Rattle.cast_model.specs.Group.{is_current}
+use Rattle.cast_view.specs.MemberSide.{is_current}
 use Rattle.cast_domain.specs.Calls.{record_at}
 use Rattle.cast_domain.proofs.domain.Domain.is_current.Goals as goal
 

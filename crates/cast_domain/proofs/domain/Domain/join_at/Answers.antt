@@ -21,9 +21,9 @@ returns-clause-made c =
     let i = c.args.place in
     let g = c.args.group in
     let p : c.process-process.result ≡ local_in r k = c.process-process.ensures in
-    let asked : c.record.result.now.here.asked ≡ (record_at r.groups i).here.asked = ap (λ x. x.here.asked) c.record.ensures in
+    let asked : c.asked-asked.result ≡ (record_at r.groups i).here.asked = c.asked-asked.ensures ∙ ap (λ x. x.here.asked) c.record.ensures in
     let heard : c.heard.result ≡ view_of (time_of r.delay (local_in r k)) g = c.heard.ensures ∙ ap (λ q. view_of (time_of r.delay q) g) p in
-    let below : (c.record.result.now.here.asked == MAX_NUMBER) ≡ false = grind (arith, nat_tests) in
+    let below : (c.asked-asked.result == MAX_NUMBER) ≡ false = grind (arith, nat_tests) in
     let outside : is_outside (standing_of r.delay (local_in r k) g) ≡ true =
     ap is_outside (sym (c.standing.ensures.value ∙ ap (λ q. standing_of r.delay q g) p) ∙ c.in-Outside.is) in
     ap (λ x. (x, None))

@@ -19,7 +19,7 @@ returns-clause-made c =
     let own : c.process-holder.result ≡ p = c.process-holder.ensures in
     let i = c.args.place in
     let name : c.record.result.now.name ≡ (record_at r.groups i).name = ap (λ x. x.name) c.record.ensures in
-    let view : c.record-2.result.now.here.number ≡ (record_at r.groups i).here.number = ap (λ x. x.here.number) c.record-2.ensures in
+    let view : c.number-view.result ≡ (record_at r.groups i).here.number = c.number-view.ensures ∙ ap (λ x. x.here.number) c.record-2.ensures in
     let time : c.args.time ≡ bumped (time_of r.delay p) (record_at r.groups i).name p = c.requires.raised in
     let count : c.count-count.result ≡ count_in (bumped (time_of r.delay p) (record_at r.groups i).name p) (record_at r.groups i).name p = c.count-count.ensures ∙ λ j. count_in (time j) (name j) (own j) in
     let settled : c.settled-settled.result ≡ settled_in r (record_at r.groups i).name (record_at r.groups i).here.number p = c.settled-settled.ensures lent.outs.now r.part ∙ λ j. settled_in r (name j) (view j) (own j) in
@@ -29,7 +29,7 @@ returns-clause-made c =
     seen_as (record d { orders = c.note.new.self }) c.tell.new.self c.in_ok-tell.ensures.kept lent.shared.now lent.outs.now ∙ c.in_ok-tell.ensures.made lent.outs.now r.part in
     c.in_ok-send_message.ensures.made
     ∙ (λ j. send_message records (told j) (record {
-      id = record { group = c.record.result.now.name; view = c.record-2.result.now.here.number; proc = c.process-holder.result; count = c.count-count.result };
+      id = record { group = c.record.result.now.name; view = c.number-view.result; proc = c.process-holder.result; count = c.count-count.result };
       times = c.args.stamp;
       body = body.Order c.args.places;
     }))

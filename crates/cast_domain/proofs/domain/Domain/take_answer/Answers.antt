@@ -12,4 +12,4 @@ returns-clause-made c =
     let home = r.config.home in
     let key : c.ask_key-key.result ≡ ask_key (record_at r.groups i).name home = c.ask_key-key.ensures ∙ ap (λ y. ask_key y.name home) c.record.ensures in
     c.in_ok-ask_home.ensures.made
-    ∙ (λ j. ask_home records (record ((c.pay.ensures.made ∙ ap (pay_in r) key) j) { groups = c.in_ok-answer_at.ensures.items j }) i)
+    ∙ (λ j. ask_home records (record ((c.pay.ensures.made ∙ ap (pay_in r) key) j) { groups = c.answer_at.ensures.items j }) i)

@@ -2,7 +2,7 @@ use Rattle.std.proofs.Common.{◌≡◌, ◌∙◌, sym, ap, true}
 use Rattle.std.specs.Prelude.{if◌then◌else◌}
 use Rattle.std.proofs.lemmas.Bool.{and_from}
 use Rattle.cast_types.specs.Names.{site_eq}
-use Rattle.cast_model.specs.Group.{is_taken_in}
+use Rattle.cast_view.specs.MemberSide.{is_taken_in}
 use Rattle.cast_domain.specs.Records.{records_of}
 use Rattle.cast_domain.specs.Calls.{enter_in, standing_of}
 use Rattle.cast_domain.proofs.domain.Domain.take_in.Goals as goal

@@ -4,7 +4,7 @@ use Rattle.cast_types.specs.Names.{group_cmp}
 use Rattle.cast_types.specs.Places.{update}
 use Rattle.cast_stable.specs.Ledger.{told_ledger}
 use Rattle.cast_order.specs.Log.{but_log}
-use Rattle.cast_model.specs.Group.{members_of, with_view}
+use Rattle.cast_view.specs.MemberSide.{members_of, with_view}
 use Rattle.cast_view.specs.Sites.{other_sites}
 use Rattle.cast_domain.specs.Records.{records_of}
 use Rattle.cast_domain.specs.Calls.{record_at}
@@ -22,7 +22,7 @@ returns-clause-made c o part =
     let there : record_at c.view_at.new.groups.items i ≡ record (record_at r.groups i) { here = with_view r.site n members (record_at r.groups i).here } =
     ap (λ xs. record_at xs i) c.in_ok-view_at.ensures.items ∙ record_at_update (λ x. record x { here = with_view r.site n members x.here }) r.groups i within in
     let others : c.in_ok-others.others ≡ other_sites r.site (members_of (with_view r.site n members (record_at r.groups i).here)) =
-    c.in_ok-others.ensures ∙ ap (other_sites r.site) (c.members.ensures ∙ ap (λ x. members_of x.here) (c.record-2.ensures ∙ there)) in
+    c.in_ok-others.ensures ∙ ap (other_sites r.site) (c.members.ensures.value ∙ ap (λ x. members_of x.here) (c.record-2.ensures ∙ there)) in
     (λ j. record r {
       groups = c.in_ok-view_at.ensures.items j;
       delay = c.in_ok-view_changed.ensures j;

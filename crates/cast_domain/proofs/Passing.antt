@@ -1,0 +1,161 @@
+-- Members that a view lacks are put out one by one, and in the history at once; then processes enter it.
+use Rattle.std.proofs.Common.{◌≡◌, ℕ, zero, suc, ◌+◌, ◌<◌, ◌≤◌, Bool, true, false, not, ◌&&◌, ◌||◌, List, [], ◌∷◌, ◌++◌, Option, Some, None, ◌⊎◌, inl, inr, refl, sym, ap, subst, ◌∙◌, arith}
+use Rattle.std.specs.Prelude.{◌==◌, nat_lt, nat_le, if◌then◌else◌, filter, slice_get}
+use Rattle.std.specs.List.{fold, range_with_len}
+use Rattle.std.specs.Option.{IsSome, is_some}
+use Rattle.std.proofs.lemmas.Bool.{cases_Bool, false≢true, false_from_ne_true, eqb-true, eq-eqb, ne_eqb, ltb-true, leb-true, and_parts, or_from}
+use Rattle.cast_types.specs.declared.names.GroupNo.{GroupNo}
+use Rattle.cast_types.specs.declared.names.Proc.{Proc}
+use Rattle.cast_types.specs.declared.names.Standing.TheVariants.{Outside, Joining, Member}
+use Rattle.cast_types.specs.Names.{group_eq, proc_eq}
+use Rattle.cast_types.specs.Sets.{is_among}
+use Rattle.cast_types.specs.Counts.{CountList}
+use Rattle.cast_types.proofs.Bools.{and_none}
+use Rattle.cast_message.specs.declared.client.Push.{Push}
+use Rattle.cast_message.specs.declared.client.Push.TheVariants as push
+use Rattle.cast_message.specs.Membership.{Membership, is_members}
+use Rattle.cast_delay.specs.declared.row.Fact.TheVariants as fact
+use Rattle.cast_delay.specs.Ready.{Process, is_member, is_outside}
+use Rattle.cast_delay.specs.declared.row.Row.{Row}
+use Rattle.cast_delay.specs.Queue.{row_of}
+use Rattle.cast_delay.specs.Fits.{StandsFor}
+use Rattle.cast_domain.specs.declared.record.GroupRecord.{GroupRecord}
+use Rattle.cast_history.specs.State.{State, local, serials, is_group, was_given, gate_of, set_process, set_standing, pushing}
+use Rattle.cast_history.specs.Entering.{parted, is_put_out, all_parted, push_out, putting_out, passing}
+use Rattle.cast_history.specs.Acts.Act.{Left}
+use Rattle.cast_history.specs.Lawful.{IsLawful}
+use Rattle.cast_history.proofs.Lawful.{put_out_same, lawful_putting_out}
+use Rattle.cast_domain.specs.Records.{Records}
+use Rattle.cast_domain.specs.Calls.{local_in, record_at, standing_of, push_in, tell_in, put_out_in, is_put_out_in, put_out_if_in, put_out_all_in, complete_in, pass_in}
+use Rattle.cast_domain.specs.Fits.{process_named, Fits}
+use Rattle.cast_domain.proofs.Standing.{process_here, fits_told, fits_if, record_there, standing_there, fits_push, fits_acts}
+use Rattle.cast_domain.proofs.Entering.{or_none, and_true, within, in_range, changed, changed_at_once, changed_one, has_row, fits_complete}
+use Rattle.cast_domain.proofs.Rows.{row_given}
+
+-- who is a member is not outside
+member_inside : (v : Standing) → is_member v ≡ true → is_outside v ≡ false
+member_inside Outside is = absurd (false≢true is)
+member_inside (Joining number heard) is = absurd (false≢true is)
+member_inside Member is = refl
+
+-- a process changed by its serial is the one at that place
+parted_here : (g : GroupNo) (s : State) (k : ℕ) → set_standing s k g Outside ≡ record s { process = λ j. if k == j then parted g (s.process j) else s.process j }
+parted_here g s k = λ i. record s { process = λ j. at j i }
+  where
+    at : (j : ℕ) → (if k == j then parted g (s.process k) else s.process j) ≡ (if k == j then parted g (s.process j) else s.process j)
+    at j = elim (k == j) as (λ b. (k == j) ≡ b → (if b then parted g (s.process k) else s.process j) ≡ (if b then parted g (s.process j) else s.process j)) [
+      | true ↦ λ same. ap (λ x. parted g (s.process x)) (eqb-true k j same)
+      | false ↦ λ _. refl
+    ] refl
+
+module _ (g : GroupNo) (skips : Bool) (n : ℕ) (members : Membership) (t : State) where
+  abbrev gone : (ℕ → Bool) → State
+  gone e = changed (parted g) (push.Ejected g n) t e
+
+  abbrev goes : ℕ → Bool
+  goes k = is_put_out t g skips members k
+
+  -- a process of which nothing was changed yet is put out on both sides, or on neither
+  goes_there : (r : Records) (e : ℕ → Bool) → Fits r (gone e) → (k : ℕ) → e k ≡ false → is_put_out_in g skips members r k ≡ goes k
+  goes_there r e f k fresh =
+      let name : local_in r k ≡ local t k = (λ i. record { site = (f.core i).site; serial = k }) in
+      let standing : standing_of r.delay (local t k) g ≡ (t.process k).standing g =
+      standing_there r (gone e) f k g ∙ ap (λ b. (if b then parted g (t.process k) else t.process k).standing g) fresh in
+      (λ i. is_member (standing_of r.delay (name i) g) && (skips || not (is_among proc_eq (name i) members.list)))
+      ∙ ap (λ v. is_member v && (skips || not (is_among proc_eq (local t k) members.list))) standing
+
+  -- one is put out
+  fits_put_out : (r : Records) (e : ℕ → Bool) → Fits r (gone e) → (k : ℕ) → e k ≡ false → goes k ≡ true → Fits (put_out_in g n r (local_in r k)) (gone (λ j. e j || (k == j)))
+  fits_put_out r e f k fresh out =
+      let u : State = gone e in
+      let member = (and_parts (is_member ((t.process k).standing g)) _ out).0 in
+      let standing : standing_of r.delay (local t k) g ≡ (t.process k).standing g =
+      standing_there r u f k g ∙ ap (λ b. (if b then parted g (t.process k) else t.process k).standing g) fresh in
+      let row : IsSome (row_of r.delay.rows (local t k)) = has_row (row_of r.delay.rows (local t k)) g (ap is_outside standing ∙ member_inside ((t.process k).standing g) member) in
+      let told : Fits (tell_in r (local t k) (fact.Standing g Outside)) (set_standing u k g Outside) =
+      fits_told r u f k row (fact.Standing g Outside) (λ inside. absurd (false≢true (sym inside))) refl in
+      subst (λ p. Fits (push_in (tell_in r p (fact.Standing g Outside)) k (push.Ejected g n)) (gone (λ j. e j || (k == j)))) (λ i. record { site = (sym f.core i).site; serial = k })
+      (subst (λ x. Fits (push_in (tell_in r (local t k) (fact.Standing g Outside)) k (push.Ejected g n)) x)
+      (ap (λ s. pushing s k (push.Ejected g n)) (parted_here g u k) ∙ changed_one (parted g) (push.Ejected g n) t e k fresh)
+      (fits_push (tell_in r (local t k) (fact.Standing g Outside)) (set_standing u k g Outside) told k (push.Ejected g n)))
+
+  -- all serials from one on
+  fits_put_out_from : (m a : ℕ) (r : Records) (e : ℕ → Bool) → Fits r (gone e) → ((k : ℕ) → a ≤ k → e k ≡ false) → Fits (fold (put_out_if_in g skips n members) r (range_with_len a m)) (gone (λ j. e j || (goes j && within a m j)))
+  fits_put_out_from zero a r e f fresh = subst (λ x. Fits r (gone x)) (λ i j. none j i) f
+    where
+      none : (j : ℕ) → e j ≡ (e j || (goes j && false))
+      none j = sym (ap (λ b. e j || b) (and_none (goes j)) ∙ or_none (e j))
+  fits_put_out_from (suc m) a r e f fresh =
+      let one : Fits (put_out_if_in g skips n members r a) (gone (λ j. e j || (goes a && (a == j)))) =
+      subst (λ x. Fits (put_out_if_in g skips n members r a) x) (known (goes a))
+      (fits_if (is_put_out_in g skips members r a) (goes a) (put_out_in g n r (local_in r a)) r (gone (λ j. e j || (a == j))) (gone e) (goes_there r e f a (fresh a (omega arith)))
+      (λ is. fits_put_out r e f a (fresh a (omega arith)) (sym (goes_there r e f a (fresh a (omega arith))) ∙ is))
+      (λ _. f)) in
+      subst (λ x. Fits (fold (put_out_if_in g skips n members) (put_out_if_in g skips n members r a) (range_with_len (a + 1) m)) (gone x)) (λ i j. joined j i)
+      (fits_put_out_from m (a + 1) (put_out_if_in g skips n members r a) (λ j. e j || (goes a && (a == j))) one
+      (λ k above. or_from (e k) (goes a && (a == k)) (fresh k (omega (arith, above))) (ap (λ b. goes a && b) (ne_eqb a k (λ same. omega (arith, same, above))) ∙ and_none (goes a))))
+    where
+      known : (b : Bool) → (if b then gone (λ j. e j || (a == j)) else gone e) ≡ gone (λ j. e j || (b && (a == j)))
+      known true = refl
+      known false = λ i. gone (λ j. sym (or_none (e j)) i)
+
+      parts : (x y z w : Bool) → ((x || (y && z)) || (y && w)) ≡ (x || (y && (z || w)))
+      parts true y z w = refl
+      parts false true z w = refl
+      parts false false z w = refl
+
+      -- the first one is put out, or not, as any
+      first : (j : ℕ) → (goes a && (a == j)) ≡ (goes j && (a == j))
+      first j = elim (a == j) as (λ b. (a == j) ≡ b → (goes a && b) ≡ (goes j && b)) [
+        | true ↦ λ same. ap (λ x. goes x && true) (eqb-true a j same)
+        | false ↦ λ _. and_none (goes a) ∙ sym (and_none (goes j))
+      ] refl
+
+      joined : (j : ℕ) → ((e j || (goes a && (a == j))) || (goes j && within (a + 1) m j)) ≡ (e j || (goes j && within a (suc m) j))
+      joined j = ap (λ b. (e j || b) || (goes j && within (a + 1) m j)) (first j) ∙ parts (e j) (goes j) (a == j) (within (a + 1) m j)
+
+-- who was given no serial is in no group
+outside_ungiven : (r : Records) (s : State) → Fits r s → (g : GroupNo) (k : ℕ) → was_given s.used k ≡ false → is_member ((s.process k).standing g) ≡ false
+outside_ungiven r s f g k none = of_row (row_of r.delay.rows (local s k)) refl (f.processes.delay.rows (local s k))
+  where
+    of_row : (o : Option Row) → row_of r.delay.rows (local s k) ≡ o → StandsFor (gate_of s) (process_named s (local s k)) o → is_member ((s.process k).standing g) ≡ false
+    of_row (Some row) at told = absurd (false≢true (sym none ∙ row_given s r.delay.rows s.used k f.processes.rows (ap is_some at)))
+    of_row None at out = ap is_member (ap (λ (p : Process). p.standing g) (sym (process_here s k)) ∙ out g)
+
+-- all members that a view lacks are put out
+fits_put_out_all : (g : GroupNo) (skips : Bool) (n : ℕ) (members : Membership) (r : Records) (s : State) → Fits r s → Fits (put_out_all_in g skips n members r) (putting_out s g skips n members)
+fits_put_out_all g skips n members r s f =
+    let goes : ℕ → Bool = is_put_out s g skips members in
+    let t : State = record s { acts = λ k. if goes k then s.acts k ++ Left g ∷ [] else s.acts k } in
+    let f0 : Fits r t = fits_acts r s f t.acts in
+    let all : Fits (fold (put_out_if_in g skips n members) r (range_with_len 1 t.used)) (changed (parted g) (push.Ejected g n) t (λ j. goes j && within 1 t.used j)) =
+    fits_put_out_from g skips n members t t.used 1 r (λ j. false) f0 (λ k _. refl) in
+    subst (λ x. Fits (fold (put_out_if_in g skips n members) r (range_with_len 1 x)) (putting_out s g skips n members)) (sym (ap (λ c. c.used) f.core))
+    (subst (λ x. Fits (fold (put_out_if_in g skips n members) r (range_with_len 1 t.used)) x)
+    ((λ i. changed (parted g) (push.Ejected g n) t (λ j. given j (cases_Bool (within 1 t.used j)) i))
+    ∙ sym (changed_at_once (parted g) (push.Ejected g n) t goes f0.opened.all_open))
+    all)
+  where
+    given : (j : ℕ) → (within 1 s.used j ≡ true) ⊎ (within 1 s.used j ≡ false) → (is_put_out s g skips members j && within 1 s.used j) ≡ is_put_out s g skips members j
+    given j (inl is) = ap (λ b. is_put_out s g skips members j && b) is ∙ and_true (is_put_out s g skips members j)
+    given j (inr past) =
+        ap (λ b. is_put_out s g skips members j && b) past
+        ∙ and_none (is_put_out s g skips members j)
+        ∙ sym (ap (λ b. b && (skips || not (is_among proc_eq (local s j) members.list))) (outside_ungiven r s f g j (false_from_ne_true (was_given s.used j) (λ was.
+        let parts = and_parts (nat_lt 0 j) (nat_le j s.used) was in
+        let above = ltb-true 0 j parts.0 in
+        let below = leb-true j s.used parts.1 in
+        false≢true (sym past ∙ in_range s.used 1 j (omega (arith, above)) (omega (arith, below))))))
+
+-- the site passes to the next view
+pub fits_pass : (r : Records) (s : State) → Fits r s → IsLawful s → (i : ℕ) (g : GroupNo) → slice_get s.config.groups i ≡ Some g → is_group s g ≡ true → (skips : Bool) (n : ℕ) (members : Membership) (request : ℕ) (cut : CountList) → is_members members ≡ true → (s.group g).number < n → Fits (pass_in r i skips n members request) (passing s g skips n members request cut)
+fits_pass r s f l i g at listed skips n members request cut typed newer =
+    let left : State = putting_out s g skips n members in
+    let same = put_out_same s g skips n members in
+    let number = same.number g in
+    let name : (record_at r.groups i).name ≡ g = ap (λ (x : GroupRecord). x.name) (record_there r s f i g at) in
+    subst (λ h. Fits (complete_in (put_out_all_in h skips n members r) i n members request) (passing s g skips n members request cut)) (sym name)
+    (fits_complete (put_out_all_in g skips n members r) left (fits_put_out_all g skips n members r s f) (lawful_putting_out s g skips n members l) i g
+    (ap (λ c. slice_get c.groups i) same.config ∙ at)
+    (ap (λ c. is_among group_eq g c.groups) same.config ∙ listed)
+    n members request cut typed (omega (arith, number, newer)))

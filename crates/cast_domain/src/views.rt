@@ -1,0 +1,245 @@
+ghost use Rattle.std.specs.Prelude.{◌≡◌, ◌<◌, [], IfOk, OnOk, map, filter, vec_len};
+ghost use Rattle.std.specs.List.{fold, list_any};
+ghost use Rattle.cast_view.specs.Sites.{is_at};
+ghost use Rattle.cast_history.specs.Rules.Data.{is_outdated};
+ghost use Rattle.cast_history.specs.Rules.Views.{change_view, install, on_install, on_out};
+
+use crate::domain::Domain;
+use crate::frames::is_named;
+use crate::lent::Lent;
+use crate::order::is_member;
+use cast_delay::Fact;
+use cast_message::{Members, Message, Push, Received, SiteFrame};
+use cast_model::Outs;
+use cast_types::{GroupNo, Key, NoMemory, Proc, SiteNo, Standing, Uid};
+use cast_view::Verdict;
+
+impl Domain {
+    ghost use Rattle.cast_types.specs.Names.{proc_eq};
+    ghost use Rattle.cast_types.specs.Sets.{is_among};
+    ghost use Rattle.cast_model.specs.declared.event.Outs.{Outs};
+    ghost use Rattle.cast_model.specs.Outs.{no_outs};
+    ghost use Rattle.cast_domain.specs.Records.{Keeps, KeepsBeside, records_in, records_of};
+    ghost use Rattle.cast_domain.specs.Shared.{Part, no_part};
+    ghost use Rattle.cast_domain.specs.Calls.{is_ended_in, is_put_out_in, pass_in, put_out_all_in, put_out_if_in, put_out_in, records, release_in};
+
+    // Install: answered again where the site knows its number; else completed where the site has no view, and where it skips
+    // a view. What is kept does not depend on its cut.
+    pub(crate) fn install(
+        &mut self,
+        place: usize,
+        from: SiteNo,
+        view: u32,
+        members: &Members,
+        request: u32,
+        lent: &mut Lent<'_>,
+    ) -> Result<(), NoMemory>
+        requires { place < vec_len self.old.groups }
+        ensures stays { KeepsBeside self.old lent.old self.new lent.new }
+        ensures made { OnOk result (records_in self.new lent.new ≡ on_install records (records_in self.old lent.old) place from view members.now request []) }
+    {
+        if !self.is_from_home(from) {
+            return Ok(());
+        }
+        match self.record(place).here.verdict(view) {
+            Verdict::Again => {
+                let group = self.record(place).name;
+                self.send(lent.outs, from, SiteFrame::Installed { group, view })
+            }
+            Verdict::Skips => self.install_view(true, place, from, view, members, request, lent),
+            Verdict::Completes => self.install_view(
+                false, place, from, view, members, request, lent,
+            ),
+            Verdict::Pends | Verdict::Ignored => Ok(()),
+        }
+    }
+
+    // The site passes to a view, and tells the home.
+    fn install_view(
+        &mut self,
+        skips: bool,
+        place: usize,
+        from: SiteNo,
+        view: u32,
+        members: &Members,
+        request: u32,
+        lent: &mut Lent<'_>,
+    ) -> Result<(), NoMemory>
+        requires { place < vec_len self.old.groups }
+        ensures stays { KeepsBeside self.old lent.old self.new lent.new }
+        ensures made { OnOk result (records_in self.new lent.new ≡ install records skips (records_in self.old lent.old) place from view members.now request []) }
+    {
+        let group = self.record(place).name;
+        self.change_view(skips, place, view, members, request, lent)?;
+        self.send(lent.outs, from, SiteFrame::Installed { group, view })?;
+        Ok(())
+    }
+
+    // Out: a view of the group at a place has no member here. It counts where the site has not reached its number: then the members
+    // here are put out.
+    pub(crate) fn out(
+        &mut self,
+        place: usize,
+        view: u32,
+        lent: &mut Lent<'_>,
+    ) -> Result<(), NoMemory>
+        requires { place < vec_len self.old.groups }
+        ensures stays { KeepsBeside self.old lent.old self.new lent.new }
+        ensures made { OnOk result (records_in self.new lent.new ≡ on_out records (records_in self.old lent.old) place view) }
+    {
+        if self.record(place).here.number() < view {
+            let nobody = Members::new(*self.groups.allocator());
+            self.change_view(true, place, view, &nobody, 0, lent)?;
+        }
+        Ok(())
+    }
+
+    // The site passes to a view: messages of the one before it are kept no longer, and nothing is owed for it.
+    fn change_view(
+        &mut self,
+        skips: bool,
+        place: usize,
+        view: u32,
+        members: &Members,
+        request: u32,
+        lent: &mut Lent<'_>,
+    ) -> Result<(), NoMemory>
+        requires { place < vec_len self.old.groups }
+        ensures stays { KeepsBeside self.old lent.old self.new lent.new }
+        ensures made { OnOk result (records_in self.new lent.new ≡ change_view records skips (records_in self.old lent.old) place view members.now request []) }
+    {
+        let group = self.record(place).name;
+        self.pass_to(skips, place, view, members, request)?;
+        self.release_ended(place, lent)?;
+        lent.shared.pay_view(self.config.domain, group);
+        Ok(())
+    }
+
+    // The members here that a view lacks are put out, and those that it takes in enter it.
+    fn pass_to(
+        &mut self,
+        skips: bool,
+        place: usize,
+        view: u32,
+        members: &Members,
+        request: u32,
+    ) -> Result<(), NoMemory>
+        requires { place < vec_len self.old.groups }
+        ensures same { Keeps self.old self.new }
+        ensures made { OnOk result ((o : Outs) (part : Part) → records_of self.new part o ≡ pass_in (records_of self.old part o) place skips view members.now request) }
+        ensures len { OnOk result (vec_len self.new.groups ≡ vec_len self.old.groups) }
+    {
+        let group = self.record(place).name;
+        self.put_out_all(group, skips, view, members)?;
+        self.complete(place, view, members, request)?;
+        Ok(())
+    }
+
+    // Each member here that a view lacks is put out; all of them, where a view was skipped.
+    fn put_out_all(
+        &mut self,
+        group: GroupNo,
+        skips: bool,
+        view: u32,
+        members: &Members,
+    ) -> Result<(), NoMemory>
+        ensures same { Keeps self.old self.new }
+        ensures made { OnOk result ((o : Outs) (part : Part) → records_of self.new part o ≡ put_out_all_in group skips view members.now (records_of self.old part o)) }
+        ensures groups { self.new.groups ≡ self.old.groups }
+    {
+        for earlier in 0..self.used {
+            self.put_out_if(group, skips, view, members, earlier + 1)?;
+        }
+        Ok(())
+    }
+
+    // A process is put out, and told, if it is a member that a view lacks, or a member where a view was skipped.
+    fn put_out_if(
+        &mut self,
+        group: GroupNo,
+        skips: bool,
+        view: u32,
+        members: &Members,
+        serial: u32,
+    ) -> Result<(), NoMemory>
+        ensures same { Keeps self.old self.new }
+        ensures made { OnOk result ((o : Outs) (part : Part) → records_of self.new part o ≡ put_out_if_in group skips view members.now (records_of self.old part o) serial) }
+        ensures groups { self.new.groups ≡ self.old.groups }
+    {
+        if self.is_put_out(group, skips, members, serial) {
+            self.put_out(group, view, serial)?;
+        }
+        Ok(())
+    }
+
+    // Whether a process is a member that a view lacks, or a member where a view was skipped.
+    fn is_put_out(&self, group: GroupNo, skips: bool, members: &Members, serial: u32) -> bool
+        ensures { (o : Outs) (part : Part) → result ≡ is_put_out_in group skips members.now (records_of self.now part o) serial }
+    {
+        let process = self.process(serial);
+        is_member(self.delay.standing(process, group))
+            && (skips || !is_named(process, members.list()))
+    }
+
+    // A member is put out, and told.
+    fn put_out(&mut self, group: GroupNo, view: u32, serial: u32) -> Result<(), NoMemory>
+        ensures same { Keeps self.old self.new }
+        ensures made { OnOk result ((o : Outs) (part : Part) → records_of self.new part o ≡ put_out_in group view (records_of self.old part o) (record { site = self.old.site; serial = serial })) }
+        ensures groups { self.new.groups ≡ self.old.groups }
+    {
+        let process = self.process(serial);
+        self.tell(process, Fact::Standing(group, Standing::Outside))?;
+        self.push(serial, Push::Ejected { group, view })?;
+        Ok(())
+    }
+
+    // Messages of views of the group at a place that have ended are kept no longer.
+    fn release_ended(&mut self, place: usize, lent: &mut Lent<'_>) -> Result<(), NoMemory>
+        requires { place < vec_len self.old.groups }
+        ensures stays { KeepsBeside self.old lent.old self.new lent.new }
+        ensures made { OnOk result (records_in self.new lent.new ≡ records.release_ended (records_in self.old lent.old) place) }
+    {
+        let ended = self.ended_keys(place, lent.shared.store.kept(self.config.domain))?;
+        for key in ended.as_slice() {
+            self.release(*key, lent);
+        }
+        Ok(())
+    }
+
+    // The keys of those among kept messages.
+    fn ended_keys(&self, place: usize, kept: &[Received]) -> Result<Vec<Key>, NoMemory>
+        requires { place < vec_len self.now.groups }
+        ensures { IfOk result (λ keys. keys.items ≡ map (λ x. x.key) (filter (λ x. is_ended_in (records_of self.now no_part no_outs) place x.message.id) kept.now)) }
+    {
+        let alloc = *self.groups.allocator();
+        kept.iter()
+            .filter(|kept| self.is_ended(place, kept.message.id))
+            .map(|kept| kept.key)
+            .collect(alloc)
+    }
+
+    // Whether a message is of a view of the group at a place that has ended.
+    fn is_ended(&self, place: usize, id: Uid) -> bool
+        requires { place < vec_len self.now.groups }
+        ensures { result ≡ is_ended_in (records_of self.now no_part no_outs) place id }
+    {
+        let record = self.record(place);
+        id.group == record.name && id.view < record.here.number()
+    }
+
+    // Whether a message is of an older view than the one that the group at a place has here, in which its site has no member.
+    pub(crate) fn is_outdated(&self, place: usize, from: SiteNo, message: &Message) -> bool
+        requires { place < vec_len self.now.groups }
+        ensures { (o : Outs) (part : Part) → result ≡ is_outdated records (records_of self.now part o) place from message.now }
+    {
+        let here = &self.record(place).here;
+        here.view().is_some() && message.id.view < here.number() && !is_at(from, here.members())
+    }
+}
+
+// Whether one of these processes is at a site.
+fn is_at(site: SiteNo, members: &[Proc]) -> bool
+    ensures { result ≡ list_any (is_at site) members.now }
+{
+    members.iter().any(|member| member.site == site)
+}
