@@ -6,6 +6,7 @@ use Rattle.std.specs.Option.{IsSome, is_some}
 use Rattle.std.proofs.lemmas.Bool.{cases_Bool, false≢true, false_from_ne_true, eqb-true, eq-eqb, ne_eqb, ltb-true, leb-true, and_parts, or_from}
 use Rattle.cast_types.specs.declared.names.GroupNo.{GroupNo}
 use Rattle.cast_types.specs.declared.names.Proc.{Proc}
+use Rattle.cast_types.specs.declared.names.Standing.{Standing}
 use Rattle.cast_types.specs.declared.names.Standing.TheVariants.{Outside, Joining, Member}
 use Rattle.cast_types.specs.Names.{group_eq, proc_eq}
 use Rattle.cast_types.specs.Sets.{is_among}
@@ -145,7 +146,7 @@ fits_put_out_all g skips n members r s f =
         let parts = and_parts (nat_lt 0 j) (nat_le j s.used) was in
         let above = ltb-true 0 j parts.0 in
         let below = leb-true j s.used parts.1 in
-        false≢true (sym past ∙ in_range s.used 1 j (omega (arith, above)) (omega (arith, below))))))
+        false≢true (sym past ∙ in_range s.used 1 j (omega (arith, above)) (omega (arith, below)))))))
 
 -- the site passes to the next view
 pub fits_pass : (r : Records) (s : State) → Fits r s → IsLawful s → (i : ℕ) (g : GroupNo) → slice_get s.config.groups i ≡ Some g → is_group s g ≡ true → (skips : Bool) (n : ℕ) (members : Membership) (request : ℕ) (cut : CountList) → is_members members ≡ true → (s.group g).number < n → Fits (pass_in r i skips n members request) (passing s g skips n members request cut)

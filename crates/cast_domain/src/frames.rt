@@ -124,7 +124,10 @@ impl Domain {
                 members,
                 request,
                 ..
-            } => self.install(place, from, *view, members, *request, lent),
+            } => {
+                self.install(place, from, *view, members, *request, lent)?;
+                Ok(())
+            }
             SiteFrame::Installed { view, .. } => self.installed(place, from, *view, lent),
             SiteFrame::Ack(id) => self.ack(place, from, *id, lent),
             SiteFrame::Stable(id) => self.stable(place, from, *id, lent),
@@ -137,7 +140,10 @@ impl Domain {
             } => self.flushed(place, from, *view, counts, tail, kept, lent),
             SiteFrame::Want(id) => self.wanted(place, from, *id, lent),
             SiteFrame::Forward(message) => self.forwarded(place, message, lent),
-            SiteFrame::Out { view, .. } => self.out(place, *view, lent),
+            SiteFrame::Out { view, .. } => {
+                self.out(place, *view, lent)?;
+                Ok(())
+            }
             SiteFrame::Prepare { .. } => Ok(()),
         }
     }
@@ -161,7 +167,7 @@ impl Domain {
         if self.is_outdated(place, from, message) {
             let record = self.record(place);
             let (group, view) = (record.name, record.here.number());
-            return self.send(lent.outs, from, SiteFrame::Out { group, view });
+            self.send(lent.outs, from, SiteFrame::Out { group, view })?;
         }
         Ok(())
     }

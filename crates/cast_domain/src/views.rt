@@ -1,4 +1,4 @@
-ghost use Rattle.std.specs.Prelude.{◌≡◌, ◌<◌, [], IfOk, OnOk, map, filter, vec_len};
+ghost use Rattle.std.specs.Prelude.{◌≡◌, ◌<◌, IfOk, OnOk, map, filter, vec_len};
 ghost use Rattle.std.specs.List.{fold, list_any};
 ghost use Rattle.cast_view.specs.Sites.{is_at};
 ghost use Rattle.cast_history.specs.Rules.Data.{is_outdated};
@@ -15,6 +15,7 @@ use cast_types::{GroupNo, Key, NoMemory, Proc, SiteNo, Standing, Uid};
 use cast_view::Verdict;
 
 impl Domain {
+    ghost use Rattle.cast_types.specs.Counts.{CountList};
     ghost use Rattle.cast_types.specs.Names.{proc_eq};
     ghost use Rattle.cast_types.specs.Sets.{is_among};
     ghost use Rattle.cast_model.specs.declared.event.Outs.{Outs};
@@ -24,7 +25,7 @@ impl Domain {
     ghost use Rattle.cast_domain.specs.Calls.{is_ended_in, is_put_out_in, pass_in, put_out_all_in, put_out_if_in, put_out_in, records, release_in};
 
     // Install: answered again where the site knows its number; else completed where the site has no view, and where it skips
-    // a view. What is kept does not depend on its cut.
+    // a view. What comes of it does not depend on its cut.
     pub(crate) fn install(
         &mut self,
         place: usize,
@@ -36,7 +37,7 @@ impl Domain {
     ) -> Result<(), NoMemory>
         requires { place < vec_len self.old.groups }
         ensures stays { KeepsBeside self.old lent.old self.new lent.new }
-        ensures made { OnOk result (records_in self.new lent.new ≡ on_install records (records_in self.old lent.old) place from view members.now request []) }
+        ensures made { OnOk result ((cut : CountList) → records_in self.new lent.new ≡ on_install records (records_in self.old lent.old) place from view members.now request cut) }
     {
         if !self.is_from_home(from) {
             return Ok(());
@@ -67,7 +68,7 @@ impl Domain {
     ) -> Result<(), NoMemory>
         requires { place < vec_len self.old.groups }
         ensures stays { KeepsBeside self.old lent.old self.new lent.new }
-        ensures made { OnOk result (records_in self.new lent.new ≡ install records skips (records_in self.old lent.old) place from view members.now request []) }
+        ensures made { OnOk result ((cut : CountList) → records_in self.new lent.new ≡ install records skips (records_in self.old lent.old) place from view members.now request cut) }
     {
         let group = self.record(place).name;
         self.change_view(skips, place, view, members, request, lent)?;
@@ -106,7 +107,7 @@ impl Domain {
     ) -> Result<(), NoMemory>
         requires { place < vec_len self.old.groups }
         ensures stays { KeepsBeside self.old lent.old self.new lent.new }
-        ensures made { OnOk result (records_in self.new lent.new ≡ change_view records skips (records_in self.old lent.old) place view members.now request []) }
+        ensures made { OnOk result ((cut : CountList) → records_in self.new lent.new ≡ change_view records skips (records_in self.old lent.old) place view members.now request cut) }
     {
         let group = self.record(place).name;
         self.pass_to(skips, place, view, members, request)?;
@@ -145,7 +146,6 @@ impl Domain {
     ) -> Result<(), NoMemory>
         ensures same { Keeps self.old self.new }
         ensures made { OnOk result ((o : Outs) (part : Part) → records_of self.new part o ≡ put_out_all_in group skips view members.now (records_of self.old part o)) }
-        ensures groups { self.new.groups ≡ self.old.groups }
     {
         for earlier in 0..self.used {
             self.put_out_if(group, skips, view, members, earlier + 1)?;
@@ -164,7 +164,6 @@ impl Domain {
     ) -> Result<(), NoMemory>
         ensures same { Keeps self.old self.new }
         ensures made { OnOk result ((o : Outs) (part : Part) → records_of self.new part o ≡ put_out_if_in group skips view members.now (records_of self.old part o) serial) }
-        ensures groups { self.new.groups ≡ self.old.groups }
     {
         if self.is_put_out(group, skips, members, serial) {
             self.put_out(group, view, serial)?;
@@ -185,7 +184,6 @@ impl Domain {
     fn put_out(&mut self, group: GroupNo, view: u32, serial: u32) -> Result<(), NoMemory>
         ensures same { Keeps self.old self.new }
         ensures made { OnOk result ((o : Outs) (part : Part) → records_of self.new part o ≡ put_out_in group view (records_of self.old part o) (record { site = self.old.site; serial = serial })) }
-        ensures groups { self.new.groups ≡ self.old.groups }
     {
         let process = self.process(serial);
         self.tell(process, Fact::Standing(group, Standing::Outside))?;

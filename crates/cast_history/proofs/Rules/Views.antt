@@ -36,7 +36,7 @@ put_out_later : (g : MemberSide) (n : ℕ) → is_put_out_by g n ≡ true → g.
 put_out_later g n is = grind (arith, nat_tests)
 
 -- what comes of an Install from the home, by what the site does with it
-abbrev by_verdict_of : {S H : Type 0} → Site S H → S → H → SiteNo → ℕ → Membership → ℕ → CountList → Verdict → S
+abbrev pub by_verdict_of : {S H : Type 0} → Site S H → S → H → SiteNo → ℕ → Membership → ℕ → CountList → Verdict → S
 by_verdict_of d s h from n members request cut v = elim v [
   | Again ↦ d.send s from (frame.Installed (d.name s h) n)
   | Skips ↦ install d true s h from n members request cut

@@ -16,5 +16,4 @@ loop-earlier-preserved c =
           ap (λ x. fold (put_out_if_in c.args.group c.args.skips c.args.view c.args.members.now) x (range_with_len (i + 1 + 1) (n - (i + 1)))) (c.in_ok-put_out_if.ensures.made o part)
           ∙ fold_serial (put_out_if_in c.args.group c.args.skips c.args.view c.args.members.now) (records_of c.loop-earlier.self part o) i n within
           ∙ c.loop-earlier.invariant.left o part;
-      groups = c.in_ok-put_out_if.ensures.groups ∙ c.loop-earlier.invariant.groups;
     }

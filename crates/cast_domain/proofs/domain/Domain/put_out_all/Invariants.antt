@@ -13,5 +13,4 @@ invariant-loop-earlier l = record {
   left : (o : Outs) (part : Part) →
       fold (put_out_if_in l.group l.skips l.view l.members) (records_of l.self part o) (range_with_len (l.earlier + 1) (l.fn.self.used - l.earlier))
       ≡ put_out_all_in l.group l.skips l.view l.members (records_of l.fn.self part o);
-  groups : l.self.groups ≡ l.fn.self.groups;
 }
