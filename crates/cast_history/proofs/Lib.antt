@@ -1,6 +1,7 @@
 pub mod Words
 pub mod FirstCast
 pub mod Leading
+pub mod Leaving
 pub mod Waiting
 pub mod Overlapping
 pub mod Ignored

@@ -7,7 +7,7 @@ use Rattle.cast_message.specs.declared.message.Message.{Message}
 use Rattle.cast_message.specs.Bodies.{kind_of}
 use Rattle.cast_model.specs.declared.config.DomainConfig.{DomainConfig}
 use Rattle.cast_history.specs.Acts.{Act}
-use Rattle.cast_history.specs.Acts.Act.{Sent, Delivered, Entered}
+use Rattle.cast_history.specs.Acts.Act.{Sent, Delivered, Entered, Left}
 use Rattle.cast_history.specs.State.{State, local}
 use Rattle.cast_history.specs.Raising.{IsPassed}
 
@@ -17,6 +17,7 @@ sent_by [] = []
 sent_by (Sent m ∷ acts) = m ∷ sent_by acts
 sent_by (Delivered m ∷ acts) = sent_by acts
 sent_by (Entered g view cut ∷ acts) = sent_by acts
+sent_by (Left g ∷ acts) = sent_by acts
 
 -- the messages that it delivered
 abbrev pub delivered_by : List Act → List Uid
@@ -24,6 +25,7 @@ delivered_by [] = []
 delivered_by (Sent m ∷ acts) = delivered_by acts
 delivered_by (Delivered m ∷ acts) = m.id ∷ delivered_by acts
 delivered_by (Entered g view cut ∷ acts) = delivered_by acts
+delivered_by (Left g ∷ acts) = delivered_by acts
 
 -- the ABCASTs among them
 abbrev pub abcasts_by : List Act → List Uid
@@ -31,6 +33,7 @@ abcasts_by [] = []
 abcasts_by (Sent m ∷ acts) = abcasts_by acts
 abcasts_by (Delivered m ∷ acts) = if is_atomic (kind_of m.body) then m.id ∷ abcasts_by acts else abcasts_by acts
 abcasts_by (Entered g view cut ∷ acts) = abcasts_by acts
+abcasts_by (Left g ∷ acts) = abcasts_by acts
 
 -- each process's messages that were received here are those that it sent, and it delivered what it is said to have delivered
 pub record IsNoted (s : State) : Type 0 where
