@@ -490,7 +490,9 @@ impl Domain {
 fn is_wanted(wanted: (SiteNo, (Proc, u32)), wants: &[(SiteNo, (Proc, u32))]) -> bool
     ensures { result ≡ is_among want_eq wanted wants.now }
 {
-    wants.iter().any(|other| wanted.0 == other.0 && wanted.1 == other.1)
+    wants
+        .iter()
+        .any(|other| wanted.0 == other.0 && wanted.1 == other.1)
 }
 
 // The entry of a message among those that are wanted.
