@@ -38,7 +38,7 @@ use Rattle.cast_domain.specs.Records.{Records}
 use Rattle.cast_domain.specs.Calls.{record_at, standing_of, time_of, push_in, tell_in, enter_in, take_in, view_in, complete_in}
 use Rattle.cast_history.specs.Lawful.{IsLawful}
 use Rattle.cast_domain.specs.Fits.{Fits}
-use Rattle.cast_domain.proofs.Standing.{fits_told, fits_member, fits_if, record_there, standing_there, time_there, fits_push, fits_view, still_in, fits_acts}
+use Rattle.cast_domain.proofs.Standing.{fits_told, fits_member, fits_if, record_there, standing_there, time_there, fits_push, fits_view, still_in, fits_acts, open_given}
 use Rattle.cast_types.proofs.Bools.{and_none}
 
 -- Small truths of tests
@@ -153,14 +153,14 @@ module _ (f : Process → Process) (p : Push) (t : State) where
       }
 
   -- in the history: all at once, and then one push after another
-  pub changed_at_once : (e : ℕ → Bool) → ((k : ℕ) → is_open (t.session k) ≡ was_given t.used k) → fold (λ s k. pushing s k p) (record t { process = λ k. if e k then f (t.process k) else t.process k }) (filter e (serials t)) ≡ changed e
-  changed_at_once e all_open =
+  pub changed_at_once : (e : ℕ → Bool) → ((k : ℕ) → is_open (t.session k) ≡ true → was_given t.used k ≡ true) → fold (λ s k. pushing s k p) (record t { process = λ k. if e k then f (t.process k) else t.process k }) (filter e (serials t)) ≡ changed e
+  changed_at_once e opened =
       let s : State = record t { process = λ k. if e k then f (t.process k) else t.process k } in
       push_all p e t.used 1 s ∙ (λ i. record s { session = λ j. told_all j (cases_Bool (within 1 t.used j)) i })
     where
       unknown : (j : ℕ) → within 1 t.used j ≡ false → is_open (t.session j) ≡ false
-      unknown j past = all_open j ∙ false_from_ne_true (was_given t.used j) (λ given.
-          let parts = and_parts (nat_lt 0 j) (nat_le j t.used) given in
+      unknown j past = false_from_ne_true (is_open (t.session j)) (λ is.
+          let parts = and_parts (nat_lt 0 j) (nat_le j t.used) (opened j is) in
           let above = ltb-true 0 j parts.0 in
           let below = leb-true j t.used parts.1 in
           false≢true (sym past ∙ in_range t.used 1 j (omega (arith, above)) (omega (arith, below))))
@@ -343,5 +343,5 @@ fits_complete r s f l i g at listed n members request cut typed newer =
     let new : log_of first.orders g ≡ new_log g =
     ap (λ h. log_of (but_log h r.orders) g) name ∙ log_of_forget r.orders g g ∙ ap (λ b. if b then new_log g else log_of r.orders g) (group_itself g) in
     let all = fits_take_all g n members request now members.list first (λ k. false) f0 new listed rising (λ k _. refl) in
-    let one_by_one = subst (λ x. Fits (fold (take_in g n members request) first members.list) x) (sym (changed_at_once (in_view g n) (push.View g n members) now (enters s g members request) f0.opened.all_open)) all in
+    let one_by_one = subst (λ x. Fits (fold (take_in g n members request) first members.list) x) (sym (changed_at_once (in_view g n) (push.View g n members) now (enters s g members request) (open_given first now f0))) all in
     subst (λ h. Fits (fold (take_in h n members request) first members.list) (completing s g n members request cut)) (sym name) one_by_one

@@ -29,7 +29,7 @@ use Rattle.cast_history.proofs.Lawful.{put_out_same, lawful_putting_out}
 use Rattle.cast_domain.specs.Records.{Records}
 use Rattle.cast_domain.specs.Calls.{local_in, record_at, standing_of, push_in, tell_in, put_out_in, is_put_out_in, put_out_if_in, put_out_all_in, complete_in, pass_in}
 use Rattle.cast_domain.specs.Fits.{process_named, Fits}
-use Rattle.cast_domain.proofs.Standing.{process_here, fits_told, fits_if, record_there, standing_there, fits_push, fits_acts}
+use Rattle.cast_domain.proofs.Standing.{process_here, open_given, fits_told, fits_if, record_there, standing_there, fits_push, fits_acts}
 use Rattle.cast_domain.proofs.Entering.{or_none, and_true, within, in_range, changed, changed_at_once, changed_one, has_row, fits_complete}
 use Rattle.cast_domain.proofs.Rows.{row_given}
 
@@ -134,7 +134,7 @@ fits_put_out_all g skips n members r s f =
     subst (λ x. Fits (fold (put_out_if_in g skips n members) r (range_with_len 1 x)) (putting_out s g skips n members)) (sym (ap (λ c. c.used) f.core))
     (subst (λ x. Fits (fold (put_out_if_in g skips n members) r (range_with_len 1 t.used)) x)
     ((λ i. changed (parted g) (push.Ejected g n) t (λ j. given j (cases_Bool (within 1 t.used j)) i))
-    ∙ sym (changed_at_once (parted g) (push.Ejected g n) t goes f0.opened.all_open))
+    ∙ sym (changed_at_once (parted g) (push.Ejected g n) t goes (open_given r t f0)))
     all)
   where
     given : (j : ℕ) → (within 1 s.used j ≡ true) ⊎ (within 1 s.used j ≡ false) → (is_put_out s g skips members j && within 1 s.used j) ≡ is_put_out s g skips members j

@@ -4,7 +4,7 @@ use Rattle.std.specs.Prelude.{◌==◌, nat_lt, nat_le, if◌then◌else◌, sli
 use Rattle.std.specs.List.{find, range_with_len}
 use Rattle.std.specs.FinMap.Entries.{put}
 use Rattle.std.specs.Option.{IsSome, option_map, option_map_or}
-use Rattle.std.proofs.lemmas.Bool.{cases_Bool, cases_eq, false≢true, false_from_ne_true, and_parts, and_from, eqb-true, eq-eqb, ne_eqb, ltb-true, lt-ltb, leb-true, le-leb, or_from, or_left, or_right}
+use Rattle.std.proofs.lemmas.Bool.{cases_Bool, cases_eq, cases_lt, false≢true, false_from_ne_true, and_parts, and_from, eqb-true, eq-eqb, ne_eqb, ltb-true, lt-ltb, leb-true, le-leb, or_from, or_left, or_right}
 use Rattle.std.proofs.lemmas.List.{map-append, length-append}
 use Rattle.std.proofs.lemmas.Option.{none-some, same_Some, slice_get-map, get_or_from_slice_get}
 use Rattle.cast_types.specs.declared.names.SiteNo.{SiteNo}
@@ -47,16 +47,18 @@ use Rattle.cast_domain.specs.declared.record.GroupRecord.{GroupRecord}
 use Rattle.cast_model.specs.declared.session.Session.{Session}
 use Rattle.cast_view.specs.MemberSide.{MemberSide, members_of, with_view}
 use Rattle.cast_view.specs.Home.{Home}
-use Rattle.cast_model.specs.Session.{no_session, first_session, is_open, pushed_to, told}
+use Rattle.cast_model.specs.Session.{no_session, first_session, is_open, pushed_to, told, closed, gone}
+use Rattle.cast_types.specs.declared.refusal.Refusal.{Refusal}
+use Rattle.cast_view.specs.MemberSide.{members_of, with_view}
 use Rattle.cast_view.specs.Sites.{other_sites}
-use Rattle.cast_history.specs.State.{State, opening, no_process, local, is_group, gate_of, others_of, set_session, set_process, set_group, set_home, set_standing, emitted, was_given, pushing, receiving, noting_act, noting_sent}
+use Rattle.cast_history.specs.State.{State, opening, no_process, local, is_group, gate_of, others_of, set_session, set_process, set_group, set_home, set_standing, emitted, was_given, pushing, closing, going, receiving, noting_act, noting_sent}
 use Rattle.cast_history.specs.Acts.{Act}
 use Rattle.cast_history.specs.Acts.Act.{Sent}
 use Rattle.cast_history.specs.Step.{opening_next}
 use Rattle.cast_history.specs.Run.{before_event}
 use Rattle.cast_domain.specs.Shared.{no_part}
 use Rattle.cast_domain.specs.Records.{Records}
-use Rattle.cast_domain.specs.Calls.{place_among, local_in, place_in, no_record, record_at, standing_of, time_of, send_in, push_in, tell_in, open_in, learn_in, receive_in, view_in}
+use Rattle.cast_domain.specs.Calls.{place_among, local_in, place_in, no_record, record_at, standing_of, time_of, send_in, change_session_in, push_in, close_in, go_in, tell_in, open_in, learn_in, receive_in, view_in}
 use Rattle.cast_history.specs.Lawful.{IsLawful}
 use Rattle.cast_domain.specs.Fits.{process_named, record_for, session_in, is_live, past_of, LogFits, Fits, goes_on}
 use Rattle.cast_domain.proofs.Receipts.{group_same, others_told, past_same, was_live}
@@ -225,66 +227,104 @@ fits_send r s fits to f = record {
   delivered = fits.delivered;
 }
 
--- a session is told of an entry
-pub fits_push : (r : Records) (s : State) → Fits r s → (k : ℕ) (p : Push) → Fits (push_in r k p) (pushing s k p)
-fits_push r s fits k p =
-    fits_if (was_given (length r.sessions) k) (is_open (s.session k)) (record r { sessions = update r.sessions (k - 1) (told p) }) r (set_session s k (pushed_to (s.session k) p)) s
-    (ap (λ n. was_given n k) fits.opened.given ∙ sym (fits.opened.all_open k))
-    (λ was. pushed_on (fits.opened.all_open k ∙ ap (λ n. was_given n k) (sym fits.opened.given) ∙ was) (and_parts (nat_lt 0 k) (nat_le k (length r.sessions)) was).0)
-    (λ _. fits)
+-- Sessions
+
+-- there is nothing past the end of a list
+past_end : (xs : List Session) (i : ℕ) → length xs ≤ i → slice_get xs i ≡ None
+past_end [] i past = refl
+past_end (x ∷ xs) zero past = absurd (omega (arith, past))
+past_end (x ∷ xs) (suc i) past = past_end xs i (omega (arith, past))
+
+-- a serial that was not given has no session
+session_lost : (sessions : List Session) (k : ℕ) → was_given (length sessions) k ≡ false → session_in sessions k ≡ no_session
+session_lost sessions zero none = refl
+session_lost sessions (suc i) none = elim (cases_lt i (length sessions)) [
+  | inl within ↦ absurd (false≢true (sym none ∙ and_from (nat_lt 0 (suc i)) (nat_le (suc i) (length sessions)) (lt-ltb 0 (suc i) (omega arith)) (le-leb (suc i) (length sessions) (omega (arith, within)))))
+  | inr past ↦ ap (λ (o : Option Session). unwrap_or o no_session) (past_end sessions i (omega (arith, past)))
+]
+
+-- an open session has a serial that was given
+pub open_given : (r : Records) (s : State) → Fits r s → (k : ℕ) → is_open (s.session k) ≡ true → was_given s.used k ≡ true
+open_given r s fits k is_so = elim (cases_Bool (was_given (length r.sessions) k)) [
+  | inl given ↦ ap (λ n. was_given n k) (sym fits.opened.given) ∙ given
+  | inr none ↦ absurd (false≢true (ap is_open (sym (fits.opened.each k ∙ session_lost r.sessions k none)) ∙ is_so))
+]
+
+-- the session of a serial changes on both sides, in a way that leaves nothing where there is none
+fits_session : (r : Records) (s : State) → Fits r s → (k : ℕ) (change : Session → Session) → change no_session ≡ no_session → Fits (change_session_in r k change) (set_session s k (change (s.session k)))
+fits_session r s fits k change none =
+    elim (was_given (length r.sessions) k) as (λ b. was_given (length r.sessions) k ≡ b → Fits (if b then record r { sessions = update r.sessions (k - 1) change } else r) (set_session s k (change (s.session k)))) [
+      | true ↦ λ given. changed (update r.sessions (k - 1) change) (length_update change r.sessions (k - 1)) (changed_now (ltb-true 0 k (and_parts (nat_lt 0 k) (nat_le k (length r.sessions)) given).0))
+      | false ↦ λ out. changed r.sessions refl (changed_nothing out)
+    ] refl
   where
-    told_open : (x : Session) → is_open x ≡ true → told p x ≡ pushed_to x p
-    told_open x is_so = ap (λ b. if b then pushed_to x p else x) is_so
-
-    told_or : (o : Option Session) → unwrap_or (option_map (told p) o) no_session ≡ told p (unwrap_or o no_session)
-    told_or None = refl
-    told_or (Some x) = refl
-
-    pushed_now : (j : ℕ) → is_open (s.session k) ≡ true → 0 < k → (set_session s k (pushed_to (s.session k) p)).session j ≡ session_in (update r.sessions (k - 1) (told p)) j
-    pushed_now zero is_so above =
-        ap (λ b. if b then pushed_to (s.session k) p else s.session 0) (ne_eqb k 0 (λ same. omega (arith, same, above)))
-        ∙ fits.opened.each 0
-    pushed_now (suc i) is_so above = elim (cases_eq k (suc i)) [
-      | inl same ↦
-          let place : ◌≡◌ {A = ℕ} (k - 1) i = omega (arith, same) in
-          ap (λ b. if b then pushed_to (s.session k) p else s.session (suc i)) (eq-eqb k (suc i) same)
-          ∙ sym (told_open (s.session k) is_so)
-          ∙ ap (λ n. told p (s.session n)) same
-          ∙ ap (told p) (fits.opened.each (suc i))
-          ∙ sym (told_or (slice_get r.sessions i))
-          ∙ ap (λ (o : Option Session). unwrap_or o no_session) (sym (update_own (told p) r.sessions i))
-          ∙ ap (λ n. unwrap_or (slice_get (update r.sessions n (told p)) i) no_session) (sym place)
-      | inr other ↦
-          ap (λ b. if b then pushed_to (s.session k) p else s.session (suc i)) (ne_eqb k (suc i) other)
-          ∙ fits.opened.each (suc i)
-          ∙ ap (λ (o : Option Session). unwrap_or o no_session) (sym (update_other (told p) r.sessions (k - 1) i (λ same. other (omega (arith, same, above)))))
-    ]
-
-    still_open : (j : ℕ) → is_open ((set_session s k (pushed_to (s.session k) p)).session j) ≡ was_given s.used j
-    still_open j = elim (cases_Bool (k == j)) [
-      | inl here ↦
-          ap (λ b. is_open (if b then pushed_to (s.session k) p else s.session j)) here
-          ∙ ap (λ n. is_open (s.session n)) (eqb-true k j here)
-          ∙ fits.opened.all_open j
-      | inr other ↦ ap (λ b. is_open (if b then pushed_to (s.session k) p else s.session j)) other ∙ fits.opened.all_open j
-    ]
-
-    pushed_on : is_open (s.session k) ≡ true → nat_lt 0 k ≡ true → Fits (record r { sessions = update r.sessions (k - 1) (told p) }) (set_session s k (pushed_to (s.session k) p))
-    pushed_on is_so above = record {
+    changed : (sessions : List Session) → length sessions ≡ length r.sessions → ((j : ℕ) → (set_session s k (change (s.session k))).session j ≡ session_in sessions j) → Fits (record r { sessions = sessions }) (set_session s k (change (s.session k)))
+    changed sessions long each = record {
       core = fits.core;
-      opened = record {
-        given = length_update (told p) r.sessions (k - 1) ∙ fits.opened.given;
-        each = λ j. pushed_now j is_so (ltb-true 0 k above);
-        all_open = still_open;
-      };
+      opened = record { given = long ∙ fits.opened.given; each = each };
       groups = fits.groups;
       messages = fits.messages;
       processes = fits.processes;
       acks = fits.acks;
-      orders = orders_same s (set_session s k (pushed_to (s.session k) p)) r.orders refl refl refl refl refl refl fits.orders;
+      orders = orders_same s (set_session s k (change (s.session k))) r.orders refl refl refl refl refl refl fits.orders;
       frames = fits.frames;
       delivered = fits.delivered;
     }
+
+    changed_or : (o : Option Session) → unwrap_or (option_map change o) no_session ≡ change (unwrap_or o no_session)
+    changed_or None = sym none
+    changed_or (Some x) = refl
+
+    changed_now : 0 < k → (j : ℕ) → (set_session s k (change (s.session k))).session j ≡ session_in (update r.sessions (k - 1) change) j
+    changed_now above zero =
+        ap (λ b. if b then change (s.session k) else s.session 0) (ne_eqb k 0 (λ same. omega (arith, same, above)))
+        ∙ fits.opened.each 0
+    changed_now above (suc i) = elim (cases_eq k (suc i)) [
+      | inl same ↦
+          let place : ◌≡◌ {A = ℕ} (k - 1) i = omega (arith, same) in
+          ap (λ b. if b then change (s.session k) else s.session (suc i)) (eq-eqb k (suc i) same)
+          ∙ ap (λ n. change (s.session n)) same
+          ∙ ap change (fits.opened.each (suc i))
+          ∙ sym (changed_or (slice_get r.sessions i))
+          ∙ ap (λ (o : Option Session). unwrap_or o no_session) (sym (update_own change r.sessions i))
+          ∙ ap (λ n. unwrap_or (slice_get (update r.sessions n change) i) no_session) (sym place)
+      | inr other ↦
+          ap (λ b. if b then change (s.session k) else s.session (suc i)) (ne_eqb k (suc i) other)
+          ∙ fits.opened.each (suc i)
+          ∙ ap (λ (o : Option Session). unwrap_or o no_session) (sym (update_other change r.sessions (k - 1) i (λ same. other (omega (arith, same, above)))))
+    ]
+
+    changed_nothing : was_given (length r.sessions) k ≡ false → (j : ℕ) → (set_session s k (change (s.session k))).session j ≡ session_in r.sessions j
+    changed_nothing out j =
+        let lost : s.session k ≡ no_session = fits.opened.each k ∙ session_lost r.sessions k out in
+        elim (k == j) as (λ b. k == j ≡ b → (if b then change (s.session k) else s.session j) ≡ session_in r.sessions j) [
+          | true ↦ λ is. ap change lost ∙ none ∙ sym lost ∙ ap s.session (eqb-true k j is) ∙ fits.opened.each j
+          | false ↦ λ _. fits.opened.each j
+        ] refl
+
+-- a session is told of an entry, where it is open
+pushing_told : (s : State) (k : ℕ) (p : Push) → pushing s k p ≡ set_session s k (told p (s.session k))
+pushing_told s k p =
+    elim (is_open (s.session k)) as (λ b. (if b then set_session s k (pushed_to (s.session k) p) else s) ≡ set_session s k (if b then pushed_to (s.session k) p else s.session k)) [
+      | true ↦ refl
+      | false ↦ λ i. record s { session = λ j. stays j i }
+    ]
+  where
+    stays : (j : ℕ) → s.session j ≡ (if k == j then s.session k else s.session j)
+    stays j = elim (k == j) as (λ b. k == j ≡ b → s.session j ≡ (if b then s.session k else s.session j)) [
+      | true ↦ λ is. ap s.session (sym (eqb-true k j is))
+      | false ↦ λ _. refl
+    ] refl
+
+pub fits_push : (r : Records) (s : State) → Fits r s → (k : ℕ) (p : Push) → Fits (push_in r k p) (pushing s k p)
+fits_push r s fits k p = subst (Fits (push_in r k p)) (sym (pushing_told s k p)) (fits_session r s fits k (told p) refl)
+
+-- it is closed, or gone
+pub fits_close : (r : Records) (s : State) → Fits r s → (k : ℕ) (refusal : Refusal) → Fits (close_in r k refusal) (closing s k refusal)
+fits_close r s fits k refusal = fits_session r s fits k (closed refusal) refl
+
+pub fits_go : (r : Records) (s : State) → Fits r s → (k : ℕ) → Fits (go_in r k) (going s k)
+fits_go r s fits k = fits_session r s fits k gone refl
 
 -- Changes of one group
 
@@ -597,7 +637,6 @@ fits_open r s fits = record {
   opened = record {
     given = length-append r.sessions (first_session named ∷ []) ∙ ap (λ n. n + 1) fits.opened.given;
     each = opened_now;
-    all_open = open_now;
   };
   groups = fits.groups;
   messages = fits.messages;
@@ -619,17 +658,6 @@ fits_open r s fits = record {
   where
     named : Proc
     named = local_in r (r.used + 1)
-
-    open_now : (k : ℕ) → is_open ((opening_next s).session k) ≡ was_given (s.used + 1) k
-    open_now k = elim (cases_eq (s.used + 1) k) [
-      | inl same ↦
-          ap (λ b. is_open (if b then first_session (local s (s.used + 1)) else s.session k)) (eq-eqb (s.used + 1) k same)
-          ∙ sym (and_from (nat_lt 0 k) (nat_le k (s.used + 1)) (lt-ltb 0 k (omega (arith, same))) (le-leb k (s.used + 1) (omega (arith, same))))
-      | inr other ↦
-          ap (λ b. is_open (if b then first_session (local s (s.used + 1)) else s.session k)) (ne_eqb (s.used + 1) k other)
-          ∙ fits.opened.all_open k
-          ∙ given_more s.used k other
-    ]
 
     opened_now : (k : ℕ) → (opening_next s).session k ≡ session_in (r.sessions ++ first_session named ∷ []) k
     opened_now zero = ap (λ b. if b then first_session (local s (s.used + 1)) else s.session 0) (ne_eqb (s.used + 1) 0 (λ same. omega (arith, same))) ∙ fits.opened.each 0
@@ -665,7 +693,6 @@ fits_before here config = record {
   opened = record {
     given = refl;
     each = λ k. none_in k;
-    all_open = λ k. sym (none_given k);
   };
   groups = refl;
   messages = record {

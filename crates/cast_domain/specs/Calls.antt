@@ -10,6 +10,7 @@ use Rattle.cast_types.specs.declared.names.Uid.{Uid}
 use Rattle.cast_types.specs.declared.names.Key.{Key}
 use Rattle.cast_types.specs.declared.names.Standing.{Standing}
 use Rattle.cast_types.specs.declared.names.Standing.TheVariants.{Outside, Joining, Member}
+use Rattle.cast_types.specs.declared.refusal.Refusal.{Refusal}
 use Rattle.cast_types.specs.declared.limits.TheConstants.{MAX_NUMBER, MAX_MOMENT}
 use Rattle.cast_types.specs.Names.{site_eq, group_eq, group_cmp, proc_eq, uid_eq, is_atomic, named, entry_of}
 use Rattle.cast_types.specs.Sets.{is_among}
@@ -43,8 +44,9 @@ use Rattle.cast_timer.specs.declared.key.OwedKey.{OwedKey}
 use Rattle.cast_timer.specs.Owed.{is_owed, due_at}
 use Rattle.cast_message.specs.Receipts.{key_eq, message_under}
 use Rattle.cast_domain.specs.declared.record.GroupRecord.{GroupRecord}
-use Rattle.cast_model.specs.Session.{first_session, told as told_session}
+use Rattle.cast_model.specs.Session.{first_session, told as told_session, is_open, is_gone, closed, gone}
 use Rattle.cast_view.specs.MemberSide.{no_group, members_of, holder_of, is_process, is_current, with_request, with_answer, with_view, is_taken_in}
+use Rattle.cast_model.specs.declared.session.Session.{Session}
 use Rattle.cast_view.specs.Sites.{other_sites}
 use Rattle.cast_view.specs.Home.{HomeMove, first_home, is_empty, moved}
 use Rattle.cast_domain.specs.Shared.{part_with, part_without, part_owing, part_renewing, part_paying, part_paying_upto, part_paying_view}
@@ -54,6 +56,7 @@ use Rattle.cast_history.specs.Rules.Room.{may_order}
 use Rattle.cast_history.specs.Rules.Sending.{may_raise}
 use Rattle.cast_history.specs.State.{was_given}
 use Rattle.cast_domain.specs.Records.{Records}
+use Rattle.cast_domain.specs.Fits.{session_in}
 
 -- Names
 
@@ -90,8 +93,18 @@ raised_in q p g = if may_raise (time_of q p) g p then Some (bumped (time_of q p)
 abbrev pub send_in : Records → SiteNo → SiteFrame → Records
 send_in r to f = record r { frames = r.frames ++ (r.config.domain, to, f) ∷ [] }
 
+-- the session of a serial that was given changes
+abbrev pub change_session_in : Records → ℕ → (Session → Session) → Records
+change_session_in r k f = if was_given (length r.sessions) k then record r { sessions = update r.sessions (k - 1) f } else r
+
 abbrev pub push_in : Records → ℕ → Push → Records
-push_in r k p = if was_given (length r.sessions) k then record r { sessions = update r.sessions (k - 1) (told_session p) } else r
+push_in r k p = change_session_in r k (told_session p)
+
+abbrev pub close_in : Records → ℕ → Refusal → Records
+close_in r k refusal = change_session_in r k (closed refusal)
+
+abbrev pub go_in : Records → ℕ → Records
+go_in r k = change_session_in r k gone
 
 abbrev pub tell_in : Records → Proc → Fact → Records
 tell_in r p f = record r { delay = record r.delay { rows = change_row p (told_row f) r.delay.rows } }
@@ -169,8 +182,8 @@ reported counts tail kept = record { counts = counts; tail = tail; kept = kept }
 abbrev pub note_joining_in : Records → ℕ → GroupNo → ℕ → ℕ → Records
 note_joining_in r k g number heard = tell_in r (local_in r k) (fact.Standing g (Joining number heard))
 
-abbrev pub note_denied_in : Records → ℕ → GroupNo → Records
-note_denied_in r k g = tell_in r (local_in r k) (fact.Standing g Outside)
+abbrev pub note_outside_in : Records → ℕ → GroupNo → Records
+note_outside_in r k g = tell_in r (local_in r k) (fact.Standing g Outside)
 
 abbrev pub note_sent_in : Records → ℕ → Message → Records
 note_sent_in r k m = tell_in r (local_in r k) (fact.Time m.times)
@@ -274,12 +287,13 @@ records = record {
   is_stable = λ r u. is_stable_in r.acks u;
   stable_upto = λ r u. upto_in r.acks u;
   message = message_in;
-  is_open = λ r k. was_given r.used k;
+  is_open = λ r k. is_open (session_in r.sessions k);
   standing = λ r k g. standing_of r.delay (local_in r k) g;
   time = λ r k. time_of r.delay (local_in r k);
   awaits_own = λ r k. awaits_own_in r (local_in r k);
   is_owed = λ r key. is_owed r.part.owed key;
   due = λ r. due_at r.moment r.part.owed;
+  is_gone = λ r k. is_gone (session_in r.sessions k);
   send = send_in;
   note_owed = note_owed_in;
   note_resent = note_resent_in;
@@ -291,7 +305,7 @@ records = record {
   note_stable = note_stable_in;
   push = push_in;
   note_joining = note_joining_in;
-  note_denied = note_denied_in;
+  note_outside = note_outside_in;
   note_sent = note_sent_in;
   receive = receive_in;
   note_request = note_request_in;
@@ -299,6 +313,8 @@ records = record {
   move_home = move_home_in;
   enter_view = λ r i skips n members request cut. pass_in r i skips n members request;
   release_ended = λ r i. release_all_in r (is_ended_in r i);
+  close = close_in;
+  go = go_in;
 }
 
 -- Sessions

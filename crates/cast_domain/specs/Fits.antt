@@ -113,11 +113,10 @@ core_in r = record { site = r.site; config = r.config; used = r.used; moment = r
 abbrev pub core_of : State → Core
 core_of s = record { site = s.here; config = s.config; used = s.used; moment = s.moment; owed = s.owed }
 
--- sessions by serial, of which no one is closed yet
+-- sessions by serial, one for each that was given
 pub record SessionsFit (sessions : List Session) (used : ℕ) (session : ℕ → Session) : Type 0 where
   pub given : length sessions ≡ used
   pub each : (k : ℕ) → session k ≡ session_in sessions k
-  pub all_open : (k : ℕ) → is_open (session k) ≡ was_given used k
 
 -- the kept messages in order of receipt; the keys from the next one on are free, and so many messages were received
 pub record MessagesFit (received : List Received) (next : ℕ) (kept got : List Message) : Type 0 where

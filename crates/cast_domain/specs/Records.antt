@@ -19,7 +19,7 @@ use Rattle.cast_model.specs.declared.event.Outs.{Outs}
 use Rattle.cast_domain.specs.declared.lent.Lent.{Lent}
 use Rattle.cast_domain.specs.Shared.{Part, part_of, LeavesOthers}
 use Rattle.cast_model.specs.declared.event.Event.{Event}
-use Rattle.cast_model.specs.declared.event.Event.TheVariants.{Open, Command, Frame, Tick}
+use Rattle.cast_model.specs.declared.event.Event.TheVariants.{Open, Command, Gone, Frame, Suspect, Tick}
 
 -- what a domain keeps, and what a step has sent and delivered so far
 pub record Records : Type 0 where
@@ -94,7 +94,9 @@ pub record KeepsBeside (old : Domain) (lent : Lent) (new : Domain) (later : Lent
 abbrev pub used_after : ℕ → Event → ℕ
 used_after used (Open d) = if used == MAX_NUMBER then used else used + 1
 used_after used (Command d k c) = used
+used_after used (Gone d k) = used
 used_after used (Frame d from f) = used
+used_after used (Suspect d site) = used
 used_after used (Tick t) = used
 
 -- a call led to these records, with this refusal or none

@@ -259,6 +259,11 @@ impl Domain {
                 command,
                 ..
             } => self.command(*serial, command, lent),
+            Event::Gone { serial, .. } => self.end_session(*serial, lent),
+            Event::Suspect(_, site) => {
+                self.suspect(*site, lent)?;
+                Ok(Taken::Nothing)
+            }
             Event::Frame(_, from, frame) => {
                 promised_by_types(frame);
                 self.frame(*from, frame, lent)?;

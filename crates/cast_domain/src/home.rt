@@ -3,12 +3,15 @@ ghost use Rattle.std.specs.List.{find, fold};
 ghost use Rattle.std.specs.Option.{option_copied};
 ghost use Rattle.cast_types.specs.Names.{entry_eq, entry_of, site_eq, uid_eq};
 ghost use Rattle.cast_history.specs.Rules.Requests.{answer_ask, on_ask};
-ghost use Rattle.cast_history.specs.Rules.Home.{announce, decide, forwardable, is_of_home, lead, lead_group, on_flushed, on_forward, on_installed, on_want, owe_of_home, prepare, start, want, want_bodies, wants};
+ghost use Rattle.cast_types.specs.Sets.{is_among};
+ghost use Rattle.cast_history.specs.Rules.Home.{announce, decide, drop_want, drop_wants, forwardable, is_of_home, lead, lead_group, on_flushed, on_forward, on_installed, on_want, owe_of_home, prepare, release_site, start, suspect, suspect_in, want, want_bodies, want_eq, wants};
 
 use crate::domain::Domain;
 use crate::lent::Lent;
 use crate::owing::{home_key, message_among, want_key};
-use crate::record::{ask_home_at, body_at, decide_at, installed_at, report_at, start_at};
+use crate::record::{
+    ask_home_at, body_at, decide_at, installed_at, report_at, start_at, suspect_at,
+};
 use cast_flush::Report;
 use cast_message::{Change, Kept, Message, SiteFrame, Tail};
 use cast_model::Outs;
@@ -116,6 +119,99 @@ impl Domain {
             report_at(&mut self.groups, place, from, view, report)?;
         }
         Ok(())
+    }
+
+    // A site is suspected: at the home nothing is awaited from it any more.
+    pub(crate) fn suspect(&mut self, site: SiteNo, lent: &mut Lent<'_>) -> Result<(), NoMemory>
+        ensures stays { KeepsBeside self.old lent.old self.new lent.new }
+        ensures made { OnOk result (records_in self.new lent.new ≡ suspect records (records_in self.old lent.old) site) }
+    {
+        if self.is_home() {
+            for place in 0..self.groups.len() {
+                self.suspect_in(place, site, lent)?;
+            }
+        }
+        Ok(())
+    }
+
+    // At the home of the group at a place a site is suspected, and what is not wanted without it is owed no more.
+    fn suspect_in(
+        &mut self,
+        place: usize,
+        site: SiteNo,
+        lent: &mut Lent<'_>,
+    ) -> Result<(), NoMemory>
+        requires { place < vec_len self.old.groups }
+        ensures stays { KeepsBeside self.old lent.old self.new lent.new }
+        ensures made { OnOk result (records_in self.new lent.new ≡ suspect_in records site (records_in self.old lent.old) place) }
+        ensures len { vec_len self.new.groups ≡ vec_len self.old.groups }
+    {
+        let wanted = self.wants(place)?;
+        self.release_site(place, site, lent);
+        suspect_at(&mut self.groups, place, site)?;
+        self.drop_wants(place, wanted.as_slice(), lent)?;
+        Ok(())
+    }
+
+    // Prepare and Install are owed to a site no more.
+    fn release_site(&self, place: usize, site: SiteNo, lent: &mut Lent<'_>)
+        requires { place < vec_len self.now.groups }
+        ensures back { GivesBack self.now.config.domain lent.old lent.new }
+        ensures made { records_in self.now lent.new ≡ release_site records (records_in self.now lent.old) place site }
+    {
+        let group = self.record(place).name;
+        self.pay(&home_key(OwedKind::Prepare, group, site), lent);
+        self.pay(&home_key(OwedKind::Install, group, site), lent);
+    }
+
+    // Of messages that were wanted, those that are not any more are owed no more.
+    fn drop_wants(
+        &self,
+        place: usize,
+        before: &[(SiteNo, (Proc, u32))],
+        lent: &mut Lent<'_>,
+    ) -> Result<(), NoMemory>
+        requires { place < vec_len self.now.groups }
+        ensures back { GivesBack self.now.config.domain lent.old lent.new }
+        ensures made { OnOk result (records_in self.now lent.new ≡ drop_wants records (records_in self.now lent.old) place before.now) }
+    {
+        let still = self.wants(place)?;
+        self.drop_all(place, still.as_slice(), before, lent);
+        Ok(())
+    }
+
+    // Of messages that were wanted, those that are not among these are owed no more.
+    fn drop_all(
+        &self,
+        place: usize,
+        still: &[(SiteNo, (Proc, u32))],
+        before: &[(SiteNo, (Proc, u32))],
+        lent: &mut Lent<'_>,
+    )
+        requires { place < vec_len self.now.groups }
+        ensures back { GivesBack self.now.config.domain lent.old lent.new }
+        ensures made { records_in self.now lent.new ≡ fold (drop_want records place still.now) (records_in self.now lent.old) before.now }
+    {
+        for wanted in before {
+            self.drop_want(place, still, *wanted, lent);
+        }
+    }
+
+    // A message that was wanted is owed no more, unless it is among these.
+    fn drop_want(
+        &self,
+        place: usize,
+        still: &[(SiteNo, (Proc, u32))],
+        wanted: (SiteNo, (Proc, u32)),
+        lent: &mut Lent<'_>,
+    )
+        requires { place < vec_len self.now.groups }
+        ensures back { GivesBack self.now.config.domain lent.old lent.new }
+        ensures made { records_in self.now lent.new ≡ drop_want records place still.now (records_in self.now lent.old) wanted }
+    {
+        if !is_wanted(wanted, still) {
+            self.pay(&want_key(self.record(place).name, wanted), lent);
+        }
     }
 
     // Forward: a message that the home wants, of the view that it flushes, is wanted no more.
@@ -388,6 +484,15 @@ impl Domain {
     {
         self.owe(home_key(kind, self.record(place).name, to), lent)
     }
+}
+
+// Whether a message is among those that are wanted, from the same site.
+fn is_wanted(wanted: (SiteNo, (Proc, u32)), wants: &[(SiteNo, (Proc, u32))]) -> bool
+    ensures { result ≡ is_among want_eq wanted wants.now }
+{
+    wants
+        .iter()
+        .any(|other| wanted.0 == other.0 && wanted.1 == other.1)
 }
 
 // The entry of a message among those that are wanted.

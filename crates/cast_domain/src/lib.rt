@@ -16,6 +16,7 @@
 mod domain;
 mod frames;
 mod home;
+mod leaving;
 mod lent;
 mod order;
 mod owing;

@@ -4,7 +4,7 @@ ghost use Rattle.cast_types.specs.Names.{group_eq};
 ghost use Rattle.cast_types.specs.Places.{update};
 ghost use Rattle.cast_view.specs.MemberSide.{with_answer, with_request, with_view};
 ghost use Rattle.cast_view.specs.Home.{answer_to, may_decide};
-ghost use Rattle.cast_view.specs.Home.HomeMove.{Asked, Brought, Decided, Installed, Reported, Started};
+ghost use Rattle.cast_view.specs.Home.HomeMove.{Asked, Brought, Decided, Installed, Reported, Started, Suspected};
 ghost use Rattle.cast_domain.specs.Calls.{moved_home, record_at};
 
 use cast_flush::Report;
@@ -134,6 +134,22 @@ pub(crate) fn body_at(
 {
     let record = &mut groups[place];
     record.home.body(message)?;
+    Ok(())
+}
+
+/// Takes in at the home of the group of a place that a site is suspected.
+#[tactic(auto, using(cast_types::proofs::Updates::set_update))]
+pub(crate) fn suspect_at(
+    groups: &mut Vec<GroupRecord>,
+    place: usize,
+    site: SiteNo,
+) -> Result<(), NoMemory>
+    requires { place < vec_len groups.old }
+    ensures items { OnOk result (groups.new.items ≡ update groups.old.items place (moved_home (Suspected site))) }
+    ensures len { vec_len groups.new ≡ vec_len groups.old }
+{
+    let record = &mut groups[place];
+    record.home.suspect(site)?;
     Ok(())
 }
 

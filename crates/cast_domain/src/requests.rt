@@ -23,9 +23,10 @@ use std::alloc::AllocError;
 impl Domain {
     ghost use Rattle.cast_clock.specs.Times.{view_of};
     ghost use Rattle.cast_model.specs.declared.event.Outs.{Outs};
-    ghost use Rattle.cast_history.specs.State.{was_given};
+    ghost use Rattle.cast_model.specs.Session.{is_open};
     ghost use Rattle.cast_domain.specs.Records.{GivesBack, IsAttempt, KeepsBeside, records_in, records_of};
     ghost use Rattle.cast_domain.specs.Shared.{Part};
+    ghost use Rattle.cast_domain.specs.Fits.{session_in};
     ghost use Rattle.cast_history.specs.Rules.Events.{opened};
     ghost use Rattle.cast_domain.specs.Calls.{raised_in, records, records_serials, receive_in, time_of};
 
@@ -55,21 +56,21 @@ impl Domain {
         command: &Command,
         lent: &mut Lent<'_>,
     ) -> Result<Taken, NoMemory>
-        ensures answer { IfOk result (λ t. t ≡ (if was_given self.old.used serial then Taken.Nothing else Taken.Refused Refusal.NotOpen)) }
+        ensures answer { IfOk result (λ t. t ≡ (if is_open (session_in self.old.sessions.items serial) then Taken.Nothing else Taken.Refused Refusal.NotOpen)) }
         ensures stays { KeepsBeside self.old lent.old self.new lent.new }
         ensures made { OnOk result (records_in self.new lent.new ≡ commanded records (records_in self.old lent.old) serial command.now) }
     {
-        if serial == 0 || serial > self.used {
+        if !self.is_open(serial) {
             return Ok(Taken::Refused(Refusal::NotOpen));
         }
         match command {
             Command::Request(request) => self.request(serial, request, lent)?,
-            Command::Bad => {}
+            Command::Bad => self.close_session(serial, Refusal::BadFrame, lent)?,
         }
         Ok(Taken::Nothing)
     }
 
-    // Does what a program asks for, or refuses it, and replies. There is no rule for leaves yet.
+    // Does what a program asks for, or refuses it, and replies.
     fn request(
         &mut self,
         serial: u32,
@@ -84,6 +85,10 @@ impl Domain {
                 let refusal = self.join(serial, *group, lent)?;
                 self.push(serial, Push::Reply { tag: *tag, refusal })
             }
+            Request::Leave { tag, group } => {
+                let refusal = self.leave(serial, *group, lent)?;
+                self.push(serial, Push::Reply { tag: *tag, refusal })
+            }
             Request::Cast {
                 tag,
                 group,
@@ -93,7 +98,6 @@ impl Domain {
                 let refusal = self.cast(serial, *group, *kind, payload, lent)?;
                 self.push(serial, Push::Reply { tag: *tag, refusal })
             }
-            Request::Leave { .. } => Ok(()),
         }
     }
 
@@ -156,7 +160,7 @@ impl Domain {
     }
 
     // Queues a request to the home, and asks it at once where it is the only one.
-    fn ask(
+    pub(crate) fn ask(
         &mut self,
         place: usize,
         change: Change,
@@ -167,6 +171,7 @@ impl Domain {
         requires numbered { (record_at self.old.groups.items place).here.asked < 4294967295 }
         ensures stays { KeepsBeside self.old lent.old self.new lent.new }
         ensures made { OnOk result (records_in self.new lent.new ≡ request records (records_in self.old lent.old) place change process) }
+        ensures len { vec_len self.new.groups ≡ vec_len self.old.groups }
     {
         let is_first = self.record(place).here.requests().is_empty();
         ask_at(&mut self.groups, place, change, process)?;

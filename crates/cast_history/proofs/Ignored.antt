@@ -1,15 +1,9 @@
--- Frames and commands that no rule uses change nothing and are answered with no frame or push.
+-- Frames that no rule uses, and commands of no session, change nothing and are answered with no frame or push.
 use Rattle.std.specs.Prelude.{◌≡◌, ℕ, [], ◌∷◌, List, refl}
-use Rattle.cast_types.specs.declared.names.GroupNo.{GroupNo}
 use Rattle.cast_types.specs.declared.refusal.Refusal.TheVariants.{NotOpen}
 use Rattle.cast_message.specs.declared.site.SiteFrame.TheVariants as frame
-use Rattle.cast_message.specs.declared.client.Request.TheVariants.{Leave}
-use Rattle.cast_message.specs.declared.client.Command.TheVariants as command
 use Rattle.cast_model.specs.declared.event.Event.{Event}
 use Rattle.cast_model.specs.declared.event.Taken.TheVariants as taken
-use Rattle.cast_history.specs.History.{history}
-use Rattle.cast_history.specs.State.{State}
-use Rattle.cast_history.specs.Rules.Commands.{requested, commanded}
 use Rattle.cast_history.specs.Run.{Ran}
 use Rattle.cast_history.proofs.Words.{group, uid, alone, asks_leave, sends_bad, comes, in_second_view, then_run, pushed_after, p21}
 
@@ -31,37 +25,10 @@ unused_sent : unused.sent ≡ []
 unfolding unused frames
 unused_sent = refl
 
--- the commands whose rules are not there yet, and bytes that are no frame: they leave each state as it is
-leave_changes_nothing : (s : State) (k tag : ℕ) (g : GroupNo) → requested history s k (Leave tag g) ≡ s
-leave_changes_nothing s k tag g = refl
-
-bad_changes_nothing : (s : State) (k : ℕ) → commanded history s k command.Bad ≡ s
-bad_changes_nothing s k = refl
-
--- and are not replied to
+-- commands of a serial that was never given are refused
 commands : ℕ → List Event
 commands k = asks_leave k 8 1 ∷ sends_bad k ∷ []
 
-unserved : Ran
-unserved = then_run in_second_view (commands 1)
-
-unserved_answers : unserved.answers ≡ taken.Nothing ∷ taken.Nothing ∷ []
-unfolding unserved commands
-unserved_answers = refl
-
-unserved_state : unserved.state.got ≡ []
-unfolding unserved commands
-unserved_state = refl
-
-unserved_pushes : pushed_after 3 unserved ≡ []
-unfolding unserved commands
-unserved_pushes = refl
-
-unserved_sent : unserved.sent ≡ []
-unfolding unserved commands
-unserved_sent = refl
-
--- of a serial that was never given they are refused
 unopened : Ran
 unopened = then_run in_second_view (commands 2)
 

@@ -38,12 +38,14 @@ use Rattle.cast_delay.specs.Ready.{Process, Gate, is_member, is_outside, has_del
 use Rattle.cast_delay.proofs.Delivers.{only_member}
 use Rattle.cast_delay.proofs.Means.{among_holds}
 use Rattle.cast_model.specs.declared.session.Session.{Session}
-use Rattle.cast_model.specs.Session.{is_open, pushed_to}
+use Rattle.cast_model.specs.Session.{is_open, pushed_to, closed, gone}
 use Rattle.cast_view.specs.MemberSide.{MemberSide, no_group, has_view, members_of, is_current, with_request, with_view, is_taken_in}
 use Rattle.cast_view.specs.Sites.{is_at}
 use Rattle.cast_view.specs.Home.{Home, is_empty}
 use Rattle.cast_model.specs.declared.config.DomainConfig.{DomainConfig}
-use Rattle.cast_history.specs.State.{State, opening, local, serials, is_group, may_speak, set_session, set_process, set_group, set_home, set_standing, emitted, others_of, noting_ack, noting_stable, gate_of, local_members, is_stable, was_given, pushing, receiving, releasing, is_ended, releasing_ended, with_delivery, noting_act, noting_sent}
+use Rattle.cast_history.specs.State.{State, opening, local, serials, is_group, may_speak, set_session, set_process, set_group, set_home, set_standing, emitted, others_of, noting_ack, noting_stable, gate_of, local_members, is_stable, was_given, pushing, receiving, releasing, is_ended, releasing_ended, with_delivery, noting_act, noting_sent, outside, acts_outside, closing, going}
+use Rattle.cast_model.specs.declared.session.Status.TheVariants.{Closed}
+use Rattle.cast_types.specs.declared.refusal.Refusal.{Refusal}
 use Rattle.cast_history.specs.Acts.{Act}
 use Rattle.cast_history.specs.Acts.Act.{Sent}
 use Rattle.cast_types.specs.Counts.{CountList}
@@ -271,6 +273,22 @@ same_emitted s to f = record { here = refl; config = refl; used = refl; process 
 pub same_pushing : (s : State) (k : ℕ) (p : Push) → SameLaw s (pushing s k p)
 same_pushing s k p = same_if s (set_session s k (pushed_to (s.session k) p)) s (is_open (s.session k)) (same_session s k (pushed_to (s.session k) p) (λ is. is)) (same_self s)
 
+-- a session that ends opens none
+pub same_closing : (s : State) (k : ℕ) (refusal : Refusal) → SameLaw s (closing s k refusal)
+same_closing s k refusal =
+    let x : Session = s.session k in
+    same_session s k (closed refusal x) (elim (is_open x) as (λ b. is_open x ≡ b → is_open (if b then record (pushed_to x (push.Closed refusal)) { status = Closed } else x) ≡ true → is_open x ≡ true) [
+      | true ↦ λ is _. is
+      | false ↦ λ _ is. is
+    ] refl)
+
+pub same_going : (s : State) (k : ℕ) → SameLaw s (going s k)
+same_going s k = same_session s k (gone (s.session k)) (λ is. absurd (false≢true is))
+
+-- what processes did is no matter
+pub same_acts : (s : State) (acts : ℕ → List Act) → SameLaw s (record s { acts = acts })
+same_acts s acts = record { here = refl; config = refl; used = refl; process = λ k. refl; got = refl; kept = refl; abcasts = λ k. refl; number = λ g. refl; view = λ g. refl; opens = λ k is. is }
+
 -- a group that keeps its number and its view
 pub same_group_set : (s : State) (g : GroupNo) (v : MemberSide) → v.number ≡ (s.group g).number → v.view ≡ (s.group g).view → SameLaw s (set_group s g v)
 same_group_set s g v number view = record {
@@ -438,6 +456,12 @@ lawful_standing s k g v none l listed = lawful_process s k (record (s.process k)
       | false ↦ λ is. is
     ])
     (λ u is. is)
+
+-- a process is outside a group from then on
+pub lawful_outside : (s : State) (k : ℕ) (g : GroupNo) → IsLawful s → IsLawful (outside s k g)
+lawful_outside s k g l =
+    lawful_same (set_standing s k g Outside) (outside s k g) (same_acts (set_standing s k g Outside) (acts_outside s k g))
+    (lawful_standing s k g Outside refl l (λ inside. absurd (false≢true (sym inside))))
 
 -- Messages
 

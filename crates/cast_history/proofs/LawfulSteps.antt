@@ -8,7 +8,7 @@ use Rattle.std.proofs.lemmas.Option.{none-some, same_Some}
 use Rattle.cast_types.specs.declared.names.SiteNo.{SiteNo}
 use Rattle.cast_types.specs.declared.names.GroupNo.{GroupNo}
 use Rattle.cast_types.specs.declared.names.Proc.{Proc}
-use Rattle.cast_types.specs.declared.names.Standing.TheVariants.{Outside, Joining}
+use Rattle.cast_types.specs.declared.names.Standing.TheVariants.{Joining}
 use Rattle.cast_types.specs.declared.limits.TheConstants.{MAX_NUMBER}
 use Rattle.cast_types.specs.Names.{group_cmp, site_eq, proc_eq}
 use Rattle.cast_types.specs.Repeat.{iterate}
@@ -45,10 +45,10 @@ use Rattle.cast_history.proofs.Spots.{found_passes}
 use Rattle.cast_history.specs.History.{history}
 use Rattle.cast_history.proofs.Rules.Follows.{IsTaken, IsEntered, IsInvariantOfAll}
 use Rattle.cast_history.proofs.Rules.Data.{used_current, used_from_its_site, used_of_another, used_of_member}
-use Rattle.cast_history.proofs.Rules.Commands.{commanded_keeps}
-use Rattle.cast_history.proofs.Rules.Home.{start_keeps, want_bodies_keeps, decide_keeps, lead_keeps}
+use Rattle.cast_history.proofs.Rules.Commands.{commanded_keeps, ended_keeps}
+use Rattle.cast_history.proofs.Rules.Home.{start_keeps, want_bodies_keeps, decide_keeps, lead_keeps, suspect_keeps}
 use Rattle.cast_history.proofs.Rules.Frames.{framed_keeps}
-use Rattle.cast_history.proofs.Lawful.{SameLaw, same_self, same_then, same_home, same_group_set, moves_same, invariant_by_same, kept_map, lawful_same, lawful_pushing, lawful_sent_here, local_speaks, lawful_if, lawful_fold, lawful_standing, lawful_receiving, lawful_let_go, lawful_sending, lawful_delivering, lawful_passing, lawful_releasing_ended}
+use Rattle.cast_history.proofs.Lawful.{SameLaw, same_self, same_then, same_home, same_group_set, moves_same, invariant_by_same, kept_map, lawful_same, lawful_pushing, lawful_sent_here, local_speaks, lawful_if, lawful_fold, lawful_standing, lawful_receiving, lawful_let_go, lawful_sending, lawful_delivering, lawful_passing, lawful_releasing_ended, lawful_outside, same_closing, same_going}
 
 -- a stamp is in order
 stamp_sorted : (t : ClockList) → is_stamp t ≡ true → is_sorted group_cmp t ≡ true
@@ -105,7 +105,7 @@ all_lawful = record {
   keeps = invariant_by_same IsLawful lawful_same;
   push = λ s l k p. lawful_pushing s k p l;
   note_joining = λ s l k given g h at number heard. lawful_standing s k g (Joining number heard) refl l (λ _. (placed_at s g h at).0);
-  note_denied = λ s l k g is. lawful_standing s k g Outside refl l (λ inside. absurd (false≢true (sym inside)));
+  note_outside = λ s l k g is. lawful_outside s k g l;
   sends = λ s l h k g content sent. let there = placed_at s g h sent.at in
       let same : message_sent history s k g h content ≡ next_message s g k content = ap (λ x. message_sent history s k g x content) (sym there.1) in
       subst (λ m. IsLawful (receiving (noting_sent s k m) m)) (sym same)
@@ -116,6 +116,8 @@ all_lawful = record {
   move_home = λ s l g move. lawful_same s _ (same_home s g (moved move (s.home g))) l;
   enter_view = λ s l h g skips n members request cut is. let e = entered s h g n members is in lawful_passing s h skips n members request cut l e.listed e.later;
   release_ended = λ s l g. lawful_releasing_ended s g l;
+  close = λ s l k refusal. lawful_same s _ (same_closing s k refusal) l;
+  go = λ s l k. lawful_same s _ (same_going s k) l;
 }
 
 -- Events
@@ -159,6 +161,8 @@ lawful_acted s (event.Open d) l unborn typed =
       | false ↦ lawful_opened s l unborn
     ]
 lawful_acted s (event.Command d k c) l unborn typed = commanded_keeps history IsLawful all_lawful s l k c
+lawful_acted s (event.Gone d k) l unborn typed = ended_keeps history IsLawful all_lawful s l k
+lawful_acted s (event.Suspect d site) l unborn typed = suspect_keeps history IsLawful all_lawful s l site
 lawful_acted s (event.Frame d from f) l unborn typed = framed_keeps history IsLawful all_lawful s l from f typed
 lawful_acted s (event.Tick t) l unborn typed = lawful_same s (tick history s t) (same_tick s t) l
 

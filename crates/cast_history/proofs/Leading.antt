@@ -1,5 +1,8 @@
 -- A home takes requests, ends views by a flush, and decides the next ones: what it sends.
-use Rattle.std.specs.Prelude.{◌≡◌, ℕ, Bool, false, List, [], ◌∷◌, refl}
+use Rattle.std.specs.Prelude.{◌≡◌, ℕ, Bool, false, if◌then◌else◌, List, [], ◌∷◌, map, refl}
+use Rattle.std.specs.List.{fold}
+use Rattle.std.proofs.Common.{ap}
+use Rattle.cast_types.specs.declared.names.SiteNo.{SiteNo}
 use Rattle.cast_types.specs.Names.{Entry}
 use Rattle.cast_message.specs.declared.site.Change.TheVariants as change
 use Rattle.cast_message.specs.declared.site.SiteFrame.{SiteFrame}
@@ -7,9 +10,14 @@ use Rattle.cast_message.specs.declared.site.SiteFrame.TheVariants as frame
 use Rattle.cast_model.specs.declared.event.Event.{Event}
 use Rattle.cast_view.specs.declared.phase.Phase.TheVariants.{Idle, Gathering}
 use Rattle.cast_view.specs.Home.{Home}
-use Rattle.cast_history.specs.State.{opening}
+use Rattle.cast_timer.specs.declared.key.OwedKind.TheVariants as kinds
+use Rattle.cast_history.specs.Rules.Keys.{home_key}
+use Rattle.cast_history.specs.Rules.Requests.{is_home}
+use Rattle.cast_history.specs.Rules.Home.{suspect_in, suspect}
+use Rattle.cast_history.specs.History.{history}
+use Rattle.cast_history.specs.State.{State, opening}
 use Rattle.cast_history.specs.Run.{Ran, run_of, run_in}
-use Rattle.cast_history.proofs.Words.{site, group, uid, alone, members, config, comes, install, p11, p21}
+use Rattle.cast_history.proofs.Words.{site, group, uid, alone, members, config, suspects, comes, install, p11, p21}
 
 -- a report: how many messages of each process the site has had, and which it keeps, marked where it knows no place for an ABCAST
 flushed : ℕ → List Entry → List (Entry × Bool) → SiteFrame
@@ -131,3 +139,30 @@ forwarded = then_led at_lacking (comes 1 (frame.Forward (alone 1 2 p11 1)) ∷ c
 forwarded_sent : forwarded.sent ≡ (site 1, next_view 2) ∷ (site 2, next_view 1) ∷ (site 2, frame.Forward (alone 1 2 p11 1)) ∷ []
 unfolding forwarded lacking second next_view
 forwarded_sent = refl
+
+-- Site 1 is suspected: its report does not count, and what was wanted from it is owed no more. A site without members changes nothing
+suspected : Ran
+suspected = then_led wanted (suspects 9 ∷ suspects 1 ∷ [])
+
+without_it : SiteFrame
+without_it = frame.Install (group 1) 3 (members (p21 ∷ []) p21) 1 [] (record { start = 0; ids = [] })
+
+suspected_sent : suspected.sent ≡ (site 2, without_it) ∷ []
+unfolding suspected wanted second flushed without_it
+suspected_sent = refl
+
+suspected_owed : map (λ o. o.key) suspected.state.owed ≡ home_key kinds.Install (group 1) (site 2) ∷ []
+unfolding suspected wanted second flushed
+suspected_owed = refl
+
+-- a suspicion starts a flush, and Prepare is owed to the others
+suspicion_starts : Ran
+suspicion_starts = then_led at_second (suspects 1 ∷ comes 1 (flushed 2 [] []) ∷ comes 2 (flushed 2 [] []) ∷ [])
+
+suspicion_starts_sent : suspicion_starts.sent ≡ (site 2, frame.Prepare (group 1) 2) ∷ (site 2, without_it) ∷ []
+unfolding suspicion_starts second flushed without_it
+suspicion_starts_sent = refl
+
+-- elsewhere than at the home it changes nothing
+suspected_elsewhere : (s : State) (b : SiteNo) → is_home history s ≡ false → suspect history s b ≡ s
+suspected_elsewhere s b away = ap (λ c. if c then fold (suspect_in history b) s s.config.groups else s) away

@@ -2,6 +2,7 @@ pub mod Words
 pub mod FirstCast
 pub mod Leading
 pub mod Parting
+pub mod Leaving
 pub mod Waiting
 pub mod Overlapping
 pub mod Ignored

@@ -6,8 +6,10 @@ use Rattle.std.proofs.lemmas.Bool.{eqb-true}
 use Rattle.std.proofs.lemmas.List.{append-nil}
 use Rattle.std.proofs.lemmas.List.Elements.{filter-append}
 use Rattle.cast_types.specs.declared.names.GroupNo.{GroupNo}
+use Rattle.cast_types.specs.declared.names.Standing.TheVariants.{Outside}
 use Rattle.cast_types.specs.declared.limits.TheConstants.{MAX_NUMBER}
-use Rattle.cast_types.specs.Names.{site_eq, proc_eq, is_atomic}
+use Rattle.cast_types.specs.Names.{site_eq, group_eq, proc_eq, is_atomic}
+use Rattle.cast_types.specs.Sets.{set_at}
 use Rattle.cast_types.specs.Counts.{CountList}
 use Rattle.cast_types.proofs.Orders.{site_itself}
 use Rattle.cast_clock.specs.Times.{join}
@@ -18,14 +20,14 @@ use Rattle.cast_message.specs.declared.client.Push.{Push}
 use Rattle.cast_message.specs.declared.client.Push.TheVariants as push
 use Rattle.cast_message.specs.Bodies.{kind_of}
 use Rattle.cast_message.specs.Membership.{Membership}
-use Rattle.cast_delay.specs.Ready.{Process}
+use Rattle.cast_delay.specs.Ready.{Process, is_member}
 use Rattle.cast_model.specs.Session.{is_open, pushed_to}
 use Rattle.cast_view.specs.MemberSide.{holder_at, with_view}
 use Rattle.cast_model.specs.declared.event.Event.{Event}
 use Rattle.cast_model.specs.declared.event.Event.TheVariants as event
 use Rattle.cast_history.specs.Acts.{Act}
 use Rattle.cast_history.specs.Acts.Act.{Sent, Delivered, Entered, Left}
-use Rattle.cast_history.specs.State.{State, local, serials, receiving, noting_sent, pushing, set_session, set_process, set_group, with_delivery}
+use Rattle.cast_history.specs.State.{State, local, serials, receiving, noting_sent, pushing, set_session, set_process, set_group, with_delivery, noting_act, outside, acts_outside, set_standing}
 use Rattle.cast_history.specs.Entering.{parted, is_put_out, all_parted, push_out, putting_out, enters, in_view, all_in_view, push_view, completing, passing}
 use Rattle.cast_history.specs.Order.{is_ready_for}
 use Rattle.cast_history.specs.Lawful.{IsTyped}
@@ -43,9 +45,9 @@ use Rattle.cast_history.proofs.Setting.{may_set_order, set_order_is}
 use Rattle.cast_history.proofs.Rules.Follows.{IsInvariant, IsInvariantOfAll}
 use Rattle.cast_history.proofs.Rules.Sending.{send_data_keeps}
 use Rattle.cast_history.proofs.Rules.Owing.{tick_keeps}
-use Rattle.cast_history.proofs.Rules.Commands.{commanded_keeps}
+use Rattle.cast_history.proofs.Rules.Commands.{commanded_keeps, ended_keeps}
 use Rattle.cast_history.proofs.Rules.Frames.{framed_keeps}
-use Rattle.cast_history.proofs.Rules.Home.{start_keeps, want_bodies_keeps, decide_keeps}
+use Rattle.cast_history.proofs.Rules.Home.{start_keeps, want_bodies_keeps, decide_keeps, suspect_keeps}
 use Rattle.cast_history.proofs.LawfulSteps.{taken_foreign}
 
 -- What acts say, one after another
@@ -107,6 +109,26 @@ noted_process s n k p same = record {
   ] refl;
   abcasts = n.abcasts;
 }
+
+-- a process is outside a group, and left it where it was a member
+noted_outside : (s : State) → IsNoted s → (k : ℕ) (g : GroupNo) → IsNoted (outside s k g)
+noted_outside s n k g = record {
+  sent = λ j. n.sent j ∙ left_same sent_by (λ xs. nothing_sent xs (Left g) refl) j;
+  delivered = λ j. now.delivered j ∙ left_same delivered_by (λ xs. nothing_delivered xs (Left g) refl) j;
+  abcasts = λ j. n.abcasts j ∙ left_same abcasts_by (λ xs. no_abcast xs (Left g) refl) j;
+}
+  where
+    now : IsNoted (set_standing s k g Outside)
+    now = noted_process s n k (record (s.process k) { standing = set_at group_eq (s.process k).standing g Outside }) refl
+
+    left_same : {A : Type 0} (f : List Act → A) → ((xs : List Act) → f xs ≡ f (xs ++ Left g ∷ [])) → (j : ℕ) → f (s.acts j) ≡ f (acts_outside s k g j)
+    left_same f same j = elim (is_member ((s.process k).standing g)) as (λ b. f (s.acts j) ≡ f ((if b then (noting_act s k (Left g)).acts else s.acts) j)) [
+      | true ↦ elim (k == j) as (λ b. k == j ≡ b → f (s.acts j) ≡ f (if b then s.acts k ++ Left g ∷ [] else s.acts j)) [
+        | true ↦ λ is. ap (λ i. f (s.acts i)) (sym (eqb-true k j is)) ∙ same (s.acts k)
+        | false ↦ λ _. refl
+      ] refl
+      | false ↦ refl
+    ]
 
 noted_receiving : (s : State) → IsNoted s → (m : Message) → site_eq m.id.proc.site s.here ≡ false → IsNoted (receiving s m)
 noted_receiving s n m foreign = record {
@@ -230,7 +252,7 @@ all_noted = record {
   keeps = noted_moves;
   push = noted_pushing;
   note_joining = λ s n k given g h at number heard. noted_process s n k _ refl;
-  note_denied = λ s n k g is. noted_process s n k _ refl;
+  note_outside = λ s n k g is. noted_outside s n k g;
   sends = λ s n h k g content sent. noted_sent s n k (message_sent history s k g h content) refl;
   receive = λ s n h from m taken. noted_receiving s n m (taken_foreign s h from m taken);
   note_request = λ s n g what p. record { sent = n.sent; delivered = n.delivered; abcasts = n.abcasts };
@@ -238,6 +260,8 @@ all_noted = record {
   move_home = λ s n g move. record { sent = n.sent; delivered = n.delivered; abcasts = n.abcasts };
   enter_view = λ s n h g skips v members request cut is. noted_passing s n h skips v members request cut;
   release_ended = λ s n g. record { sent = n.sent; delivered = n.delivered; abcasts = n.abcasts };
+  close = λ s n k refusal. record { sent = n.sent; delivered = n.delivered; abcasts = n.abcasts };
+  go = λ s n k. record { sent = n.sent; delivered = n.delivered; abcasts = n.abcasts };
 }
 
 -- Events, and what follows until the state rests
@@ -248,6 +272,8 @@ noted_acted s (event.Open d) n typed = elim (s.used == MAX_NUMBER) as (λ b. IsN
   | false ↦ record { sent = n.sent; delivered = n.delivered; abcasts = n.abcasts }
 ]
 noted_acted s (event.Command d k c) n typed = commanded_keeps history IsNoted all_noted s n k c
+noted_acted s (event.Gone d k) n typed = ended_keeps history IsNoted all_noted s n k
+noted_acted s (event.Suspect d site) n typed = suspect_keeps history IsNoted all_noted s n site
 noted_acted s (event.Frame d from f) n typed = framed_keeps history IsNoted all_noted s n from f typed
 noted_acted s (event.Tick t) n typed = tick_keeps history IsNoted noted_moves s n t
 

@@ -26,7 +26,7 @@ use Rattle.cast_model.specs.declared.event.Event.{Event}
 use Rattle.cast_model.specs.declared.event.Event.TheVariants as event
 use Rattle.cast_model.specs.declared.event.Taken.{Taken}
 use Rattle.cast_history.specs.Rules.Commands.{message_sent}
-use Rattle.cast_history.specs.State.{State, receiving, noting_sent, opening, serials, is_group, is_ended}
+use Rattle.cast_history.specs.State.{State, receiving, noting_sent, opening, serials, is_group, is_ended, set_standing, outside, acts_outside}
 use Rattle.cast_history.specs.Rules.Requests.{is_home}
 use Rattle.cast_history.specs.Order.{is_ready_for}
 use Rattle.cast_history.specs.Effects.{next_message, sending, delivering}
@@ -43,9 +43,10 @@ use Rattle.cast_history.specs.Raising.{IsTimeOf, IsFromMember, CountsMembers, Is
 use Rattle.cast_history.proofs.Spots.{found_passes}
 use Rattle.cast_history.proofs.Rules.Follows.{IsTaken, IsInvariantOfAll}
 use Rattle.cast_history.proofs.Rules.Data.{used_known, used_of_member}
-use Rattle.cast_history.proofs.Rules.Commands.{commanded_keeps}
+use Rattle.cast_history.proofs.Rules.Commands.{commanded_keeps, ended_keeps}
+use Rattle.cast_history.proofs.Rules.Home.{suspect_keeps}
 use Rattle.cast_history.proofs.Rules.Frames.{framed_keeps}
-use Rattle.cast_history.proofs.Lawful.{same_home, same_group_set, invariant_by_same, lawful_same, same_pushing, lawful_opening, lawful_before, lawful_let_go}
+use Rattle.cast_history.proofs.Lawful.{same_home, same_group_set, same_acts, same_closing, same_going, invariant_by_same, lawful_same, same_pushing, lawful_opening, lawful_before, lawful_let_go}
 use Rattle.cast_history.proofs.LawfulSteps.{same_tick, same_start, same_want_bodies, same_decide, placed_at, taken_current, entered, all_lawful, lawful_acted, lawful_first, lawful_set_order}
 use Rattle.cast_history.proofs.Counting.{is_clock_of, all_both}
 use Rattle.cast_history.proofs.Raising.{counts_same, counts_let_go, counts_before, counts_opening, counts_standing, counts_receiving, counts_sent_here, counts_sending, counts_delivering, counts_passing, counts_releasing, counts_opened, next_unborn, can_raise}
@@ -86,7 +87,7 @@ all_counted = record {
   keeps = invariant_by_same IsCounted (λ s t a c. (lawful_same s t a c.0, counts_same s t a c.1));
   push = λ s c k p. (all_lawful.push s c.0 k p, counts_same s _ (same_pushing s k p) c.1);
   note_joining = λ s c k given g h at number heard. (all_lawful.note_joining s c.0 k given g h at number heard, counts_standing s k g (Joining number heard) refl c.1 (c.1.opened k given));
-  note_denied = λ s c k g is. (all_lawful.note_denied s c.0 k g is, counts_standing s k g Outside refl c.1 (c.1.placed k g is));
+  note_outside = λ s c k g is. (all_lawful.note_outside s c.0 k g is, counts_same (set_standing s k g Outside) (outside s k g) (same_acts (set_standing s k g Outside) (acts_outside s k g)) (counts_standing s k g Outside refl c.1 (c.1.placed k g is)));
   sends = λ s c h k g content sent. let there = placed_at s g h sent.at in
       let same : message_sent history s k g h content ≡ next_message s g k content = ap (λ x. message_sent history s k g x content) (sym there.1) in (
         all_lawful.sends s c.0 h k g content sent,
@@ -99,6 +100,8 @@ all_counted = record {
   enter_view = λ s c h g skips n members request cut is. let e = entered s h g n members is in
       (all_lawful.enter_view s c.0 h g skips n members request cut is, counts_passing s h skips n members request cut c.0 c.1 e.listed is.typed e.later);
   release_ended = λ s c g. (all_lawful.release_ended s c.0 g, counts_releasing s (is_ended s g) c.1);
+  close = λ s c k refusal. (all_lawful.close s c.0 k refusal, counts_same s _ (same_closing s k refusal) c.1);
+  go = λ s c k. (all_lawful.go s c.0 k, counts_same s _ (same_going s k) c.1);
 }
 
 -- Events
@@ -110,6 +113,8 @@ counts_acted s (event.Open d) l c typed =
       | false ↦ counts_opened s c
     ]
 counts_acted s (event.Command d k x) l c typed = (commanded_keeps history IsCounted all_counted s (l, c) k x).1
+counts_acted s (event.Gone d k) l c typed = (ended_keeps history IsCounted all_counted s (l, c) k).1
+counts_acted s (event.Suspect d site) l c typed = (suspect_keeps history IsCounted all_counted s (l, c) site).1
 counts_acted s (event.Frame d from f) l c typed = (framed_keeps history IsCounted all_counted s (l, c) from f typed).1
 counts_acted s (event.Tick t) l c typed = counts_same s (tick history s t) (same_tick s t) c
 

@@ -75,6 +75,12 @@ casts k tag g payload = casts_as kind.Causal k tag g payload
 abbrev pub sends_bad : ℕ → Event
 sends_bad k = event.Command domain k command.Bad
 
+abbrev pub is_gone : ℕ → Event
+is_gone k = event.Gone domain k
+
+abbrev pub suspects : ℕ → Event
+suspects s = event.Suspect domain (site s)
+
 abbrev pub comes : ℕ → SiteFrame → Event
 comes from f = event.Frame domain (site from) f
 

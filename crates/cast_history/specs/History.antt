@@ -2,12 +2,12 @@
 use Rattle.std.specs.Prelude.{if◌then◌else◌, Some, None}
 use Rattle.cast_types.specs.declared.names.GroupNo.{GroupNo}
 use Rattle.cast_stable.specs.Stable.{has_acked}
-use Rattle.cast_types.specs.declared.names.Standing.TheVariants.{Outside, Joining}
-use Rattle.cast_model.specs.Session.{is_open}
+use Rattle.cast_types.specs.declared.names.Standing.TheVariants.{Joining}
+use Rattle.cast_model.specs.Session.{is_open, is_gone}
 use Rattle.cast_timer.specs.Owed.{is_owed, due_at}
 use Rattle.cast_view.specs.MemberSide.{with_request, with_answer}
 use Rattle.cast_view.specs.Home.{moved}
-use Rattle.cast_history.specs.State.{State, is_group, set_group, set_home, set_standing, emitted, pushing, receiving, noting_sent, awaits_own, is_received, held, message_of, others_of, is_stable, upto, noting_ack, noting_stable, releasing_ended}
+use Rattle.cast_history.specs.State.{State, is_group, set_group, set_home, set_standing, emitted, pushing, receiving, noting_sent, awaits_own, is_received, held, message_of, others_of, is_stable, upto, noting_ack, noting_stable, releasing_ended, outside, closing, going}
 use Rattle.cast_history.specs.Owing.{noting_owed, noting_resent, paying, paying_upto, paying_view, at_moment}
 use Rattle.cast_history.specs.Entering.{passing}
 use Rattle.cast_history.specs.Rules.Interface.{Site}
@@ -35,6 +35,7 @@ history = record {
   awaits_own = awaits_own;
   is_owed = λ s key. is_owed s.owed key;
   due = λ s. due_at s.moment s.owed;
+  is_gone = λ s k. is_gone (s.session k);
   send = emitted;
   note_owed = noting_owed;
   note_resent = noting_resent;
@@ -46,7 +47,7 @@ history = record {
   note_stable = noting_stable;
   push = pushing;
   note_joining = λ s k g number heard. set_standing s k g (Joining number heard);
-  note_denied = λ s k g. set_standing s k g Outside;
+  note_outside = outside;
   note_sent = noting_sent;
   receive = receiving;
   note_request = λ s g what p. set_group s g (with_request (s.group g) what p);
@@ -54,4 +55,6 @@ history = record {
   move_home = λ s g move. set_home s g (moved move (s.home g));
   enter_view = passing;
   release_ended = releasing_ended;
+  close = closing;
+  go = going;
 }

@@ -71,5 +71,7 @@ IsTypedFrame (frame.Out g view) = Unit {0}
 abbrev pub IsTyped : Event → Type 0
 IsTyped (event.Open d) = Unit {0}
 IsTyped (event.Command d k c) = Unit {0}
+IsTyped (event.Gone d k) = Unit {0}
 IsTyped (event.Frame d from f) = IsTypedFrame f
+IsTyped (event.Suspect d site) = Unit {0}
 IsTyped (event.Tick t) = Unit {0}

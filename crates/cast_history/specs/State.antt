@@ -17,11 +17,12 @@ use Rattle.cast_stable.specs.Stable.{Acked, stable_upto, is_known_stable}
 use Rattle.cast_timer.specs.declared.key.Owed.{Owed}
 use Rattle.cast_delay.specs.Ready.{Process, Gate, is_member, has_delivered, awaits}
 use Rattle.cast_history.specs.Acts.{Act}
-use Rattle.cast_history.specs.Acts.Act.{Sent, Delivered}
+use Rattle.cast_history.specs.Acts.Act.{Sent, Delivered, Left}
 use Rattle.cast_model.specs.declared.session.Session.{Session}
 use Rattle.cast_message.specs.declared.client.Push.{Push}
-use Rattle.cast_model.specs.Session.{no_session, is_open, pushed_to}
+use Rattle.cast_model.specs.Session.{no_session, is_open, pushed_to, closed, gone}
 use Rattle.cast_view.specs.MemberSide.{MemberSide, no_group, members_of}
+use Rattle.cast_types.specs.declared.refusal.Refusal.{Refusal}
 use Rattle.cast_view.specs.Sites.{other_sites}
 use Rattle.cast_view.specs.Home.{Home, first_home}
 use Rattle.cast_model.specs.declared.config.DomainConfig.{DomainConfig}
@@ -119,12 +120,28 @@ set_standing s k g v =
 abbrev pub noting_act : State → ℕ → Act → State
 noting_act s k a = record s { acts = set_at (λ i j. i == j) s.acts k (s.acts k ++ a ∷ []) }
 
+-- what processes did, once one is outside a group: where it was a member, it left
+abbrev pub acts_outside : State → ℕ → GroupNo → ℕ → List Act
+acts_outside s k g = if is_member ((s.process k).standing g) then (noting_act s k (Left g)).acts else s.acts
+
+-- a process is outside a group
+abbrev pub outside : State → ℕ → GroupNo → State
+outside s k g = record (set_standing s k g Outside) { acts = acts_outside s k g }
+
 abbrev pub emitted : State → SiteNo → SiteFrame → State
 emitted s to f = record s { frames = s.frames ++ (to, f) ∷ [] }
 
 -- a program is told something
 abbrev pub pushing : State → ℕ → Push → State
 pushing s k p = if is_open (s.session k) then set_session s k (pushed_to (s.session k) p) else s
+
+-- an open session is closed, and its program is told why
+abbrev pub closing : State → ℕ → Refusal → State
+closing s k refusal = set_session s k (closed refusal (s.session k))
+
+-- the program of a session is gone
+abbrev pub going : State → ℕ → State
+going s k = set_session s k (gone (s.session k))
 
 -- Messages
 

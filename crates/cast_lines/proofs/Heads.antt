@@ -5,7 +5,7 @@ use Rattle.std.proofs.lemmas.Slice.Eq.{bytes_eq-Decides}
 use Rattle.cast_words.specs.declared.words.Reason.{Reason}
 use Rattle.cast_words.specs.declared.words.Reason.TheVariants.{UnknownWord}
 use Rattle.cast_lines.specs.declared.lines.Head.{Head}
-use Rattle.cast_lines.specs.declared.lines.Head.TheVariants.{Site, Domain, Open, Join, Leave, Cast, Abcast, Bad, Frame, Tick}
+use Rattle.cast_lines.specs.declared.lines.Head.TheVariants.{Site, Domain, Open, Join, Leave, Cast, Abcast, Bad, Gone, Frame, Suspect, Tick}
 use Rattle.cast_lines.specs.Lines.{head_text}
 use Rattle.cast_lines.specs.Readings.{head_among, head_of, heads}
 use Rattle.cast_words.proofs.Results.{ok_is}
@@ -42,7 +42,9 @@ head_again Leave = refl
 head_again Cast = refl
 head_again Abcast = refl
 head_again Bad = refl
+head_again Gone = refl
 head_again Frame = refl
+head_again Suspect = refl
 head_again Tick = refl
 
 pub head_not : (word : List ℕ) → ((h : Head) → word ≢ head_text h) → head_of word ≡ Err UnknownWord

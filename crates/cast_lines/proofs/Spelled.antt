@@ -24,11 +24,11 @@ use Rattle.cast_model.specs.declared.event.Event.TheVariants as event
 use Rattle.cast_words.specs.declared.words.Reason.{Reason}
 use Rattle.cast_words.specs.declared.words.Reason.TheVariants.{WrongCount}
 use Rattle.cast_lines.specs.declared.lines.Head.{Head}
-use Rattle.cast_lines.specs.declared.lines.Head.TheVariants.{Site, Domain, Open, Join, Leave, Cast, Abcast, Bad, Frame, Tick}
+use Rattle.cast_lines.specs.declared.lines.Head.TheVariants.{Site, Domain, Open, Join, Leave, Cast, Abcast, Bad, Gone, Frame, Suspect, Tick}
 use Rattle.cast_lines.specs.Lines.{IsDomainAt, SpellsDomain, SpellsEvent, SpellsSite, cast_text, head_text, AreNumbers}
 use Rattle.cast_words.specs.Words.{IsSite, SpellsBytes, parted, place_texts, quota_texts}
-use Rattle.cast_lines.specs.Readings.{bad_words, behind_first, cast_words, domain_behind, domain_parts, domain_words, event_behind, frame_words, framed, head_of, join_words, leave_words, open_words, request_parts, requested, site_behind, site_words, tick_words}
-use Rattle.cast_words.specs.Readings.{bytes_of, domain_of, list_words, number_of, number_within, place_words, quota_words, group_of}
+use Rattle.cast_lines.specs.Readings.{bad_words, behind_first, cast_words, domain_behind, domain_parts, domain_words, event_behind, frame_words, framed, gone_words, head_of, join_words, leave_words, open_words, request_parts, requested, site_behind, site_words, suspect_words, tick_words}
+use Rattle.cast_words.specs.Readings.{bytes_of, domain_of, list_words, number_of, number_within, place_words, quota_words, group_of, site_of}
 use Rattle.cast_words.proofs.Results.{bind_ok, made_ok, ok_is, pass_ok}
 use Rattle.cast_words.proofs.Numbers.{limited_is, limited_again, number_is, number_again}
 use Rattle.cast_lines.proofs.Heads.{head_is, head_again}
@@ -204,6 +204,16 @@ bad_is (w ∷ k ∷ []) e h =
     (cc (is.0, serial.0), is.1, omega (arith, serial.1.1)))
 bad_is ws e h = absurd cc
 
+gone_is : (ws : List (List ℕ)) (e : Event) → gone_words ws ≡ Ok e → SpellsEvent (codes "gone" ∷ ws) e
+unfolding gone_words
+gone_is (w ∷ k ∷ []) e h =
+    let d = bind_ok (domain_of w) _ e h in
+    let is = domain_is w d.0 d.1 in
+    made_ok (number_within 0 4294967295 k) (λ n. event.Gone d.0 n) (SpellsEvent (codes "gone" ∷ w ∷ k ∷ [])) e d.2 (λ n read.
+    let serial = limited_is 0 4294967295 k n read in
+    (cc (is.0, serial.0), is.1, omega (arith, serial.1.1)))
+gone_is ws e h = absurd cc
+
 framed_is : (r : Result (DomainNo × SiteNo × SiteFrame) FrameFault) (e : Event) → framed r ≡ Ok e → (x : DomainNo × SiteNo × SiteFrame) × (r ≡ Ok x) × (event.Frame x.0 x.1 x.2 ≡ e)
 framed_is (Ok x) e h = (x, refl, ok_is Reason (event.Frame x.0 x.1 x.2) e h)
 framed_is (Err f) e h = absurd cc
@@ -221,6 +231,16 @@ frame_is (w ∷ []) e h =
     let spelled = found bytes.0 frame.0 (bytes_fit w bytes.0 spells) frame.1 in
     subst (SpellsEvent (codes "frame" ∷ w ∷ [])) frame.2 (w, refl, subst (SpellsBytes w) spelled.1 spells, spelled.0)
 frame_is ws e h = absurd cc
+
+suspect_is : (ws : List (List ℕ)) (e : Event) → suspect_words ws ≡ Ok e → SpellsEvent (codes "suspect" ∷ ws) e
+unfolding suspect_words
+suspect_is (w ∷ v ∷ []) e h =
+    let d = bind_ok (domain_of w) _ e h in
+    let is = domain_is w d.0 d.1 in
+    made_ok (site_of v) (λ s. event.Suspect d.0 s) (SpellsEvent (codes "suspect" ∷ w ∷ v ∷ [])) e d.2 (λ s read.
+    let site = site_is v s read in
+    (cc (is.0, site.0), is.1, site.1))
+suspect_is ws e h = absurd cc
 
 tick_is : (ws : List (List ℕ)) (e : Event) → tick_words ws ≡ Ok e → SpellsEvent (codes "tick" ∷ ws) e
 unfolding tick_words
@@ -240,7 +260,9 @@ event_behind_is Leave ws e h = leave_is ws e h
 event_behind_is Cast ws e h = cast_is kind.Causal ws e h
 event_behind_is Abcast ws e h = cast_is kind.Atomic ws e h
 event_behind_is Bad ws e h = bad_is ws e h
+event_behind_is Gone ws e h = gone_is ws e h
 event_behind_is Frame ws e h = frame_is ws e h
+event_behind_is Suspect ws e h = suspect_is ws e h
 event_behind_is Tick ws e h = tick_is ws e h
 
 pub event_line_is : (ws : List (List ℕ)) (e : Event) → behind_first event_behind ws ≡ Ok e → SpellsEvent ws e
@@ -260,11 +282,14 @@ request_again d k ws (request.Cast t g kind.Atomic bytes) (hex, words, are, spel
     rw (words, head_again Abcast, parts_again d k t g are, bytes_again hex bytes spells) refl
 
 pub event_line_again : (ws : List (List ℕ)) (e : Event) → SpellsEvent ws e → behind_first event_behind ws ≡ Ok e
-unfolding behind_first event_behind open_words bad_words frame_words tick_words
+unfolding behind_first event_behind open_words bad_words gone_words frame_words suspect_words tick_words
 event_line_again ws (event.Open d) (words, is) = rw (words, head_again Open, domain_again d is) refl
 event_line_again ws (event.Command d k (command.Request r)) spells = request_again d k ws r spells
 event_line_again ws (event.Command d k command.Bad) (words, is, small) =
     rw (words, head_again Bad, domain_again d is, limited_again 0 4294967295 k (omega arith, omega (arith, small)) (omega arith)) refl
+event_line_again ws (event.Gone d k) (words, is, small) =
+    rw (words, head_again Gone, domain_again d is, limited_again 0 4294967295 k (omega arith, omega (arith, small)) (omega arith)) refl
 event_line_again ws (event.Frame d s f) (hex, words, spells, is) =
     rw (words, head_again Frame, bytes_again hex (spelled_site d s f) spells, frame_again d s f is) refl
+event_line_again ws (event.Suspect d s) (words, is, named) = rw (words, head_again Suspect, domain_again d is, site_again s named) refl
 event_line_again ws (event.Tick n) (words, small) = rw (words, head_again Tick, number_again n small) refl

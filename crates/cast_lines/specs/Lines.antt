@@ -15,7 +15,7 @@ use Rattle.cast_model.specs.declared.event.Event.TheVariants as event
 use Rattle.cast_types.specs.declared.names.SiteNo.{SiteNo}
 use Rattle.cast_types.specs.declared.names.GroupNo.{GroupNo}
 use Rattle.cast_lines.specs.declared.lines.Head.{Head}
-use Rattle.cast_lines.specs.declared.lines.Head.TheVariants.{Site, Domain, Open, Join, Leave, Cast, Abcast, Bad, Frame, Tick}
+use Rattle.cast_lines.specs.declared.lines.Head.TheVariants.{Site, Domain, Open, Join, Leave, Cast, Abcast, Bad, Gone, Frame, Suspect, Tick}
 use Rattle.cast_model.specs.declared.config.DomainConfig.{DomainConfig}
 use Rattle.cast_words.specs.Words.{sites_rise, groups_rise, IsBetween, IsDomain, IsSite, IsGroup, IsNumber, AreWithinLimits, parted, SpellsBytes, place_texts, SpellsLists, quota_texts}
 
@@ -46,7 +46,9 @@ head_text Leave = codes "leave"
 head_text Cast = codes "cast"
 head_text Abcast = codes "abcast"
 head_text Bad = codes "bad"
+head_text Gone = codes "gone"
 head_text Frame = codes "frame"
+head_text Suspect = codes "suspect"
 head_text Tick = codes "tick"
 
 -- the words of a line spell a site
@@ -95,6 +97,8 @@ SpellsEvent ws (event.Open d) = (ws ≡ codes "open" ∷ decimal d.0 ∷ []) × 
 SpellsEvent ws (event.Command d serial (command.Request r)) = SpellsRequest d serial ws r
 SpellsEvent ws (event.Command d serial command.Bad) =
     (ws ≡ codes "bad" ∷ decimal d.0 ∷ decimal serial ∷ []) × IsDomain d × IsNumber serial
+SpellsEvent ws (event.Gone d serial) = (ws ≡ codes "gone" ∷ decimal d.0 ∷ decimal serial ∷ []) × IsDomain d × IsNumber serial
 SpellsEvent ws (event.Frame d s f) =
     (hex : List ℕ) × (ws ≡ codes "frame" ∷ hex ∷ []) × SpellsBytes hex (spelled_site d s f) × IsSpelled d s f
+SpellsEvent ws (event.Suspect d site) = (ws ≡ codes "suspect" ∷ decimal d.0 ∷ decimal site.0 ∷ []) × IsDomain d × IsSite site
 SpellsEvent ws (event.Tick now) = (ws ≡ codes "tick" ∷ decimal now ∷ []) × (now < 2 ^ 64)

@@ -16,13 +16,13 @@ use Rattle.cast_model.specs.declared.event.Event.TheVariants as event
 use Rattle.cast_words.specs.declared.words.Reason.{Reason}
 use Rattle.cast_words.specs.declared.words.Reason.TheVariants.{UnknownWord, WrongCount, BadFrame, Order}
 use Rattle.cast_lines.specs.declared.lines.Head.{Head}
-use Rattle.cast_lines.specs.declared.lines.Head.TheVariants.{Site, Domain, Open, Join, Leave, Cast, Abcast, Bad, Frame, Tick}
+use Rattle.cast_lines.specs.declared.lines.Head.TheVariants.{Site, Domain, Open, Join, Leave, Cast, Abcast, Bad, Gone, Frame, Suspect, Tick}
 use Rattle.cast_lines.specs.declared.events.RequestParts.{RequestParts}
 use Rattle.cast_lines.specs.Lines.{head_text, words_of}
 use Rattle.cast_words.specs.Readings.{◌>>=◌, number_of, number_within, domain_of, site_of, group_of, bytes_of, place_words, list_words, quota_words}
 
 abbrev pub heads : List Head
-heads = Site ∷ Domain ∷ Open ∷ Join ∷ Leave ∷ Cast ∷ Abcast ∷ Bad ∷ Frame ∷ Tick ∷ []
+heads = Site ∷ Domain ∷ Open ∷ Join ∷ Leave ∷ Cast ∷ Abcast ∷ Bad ∷ Gone ∷ Frame ∷ Suspect ∷ Tick ∷ []
 
 abbrev pub head_among : List Head → List ℕ → Result Head Reason
 head_among [] word = Err UnknownWord
@@ -118,6 +118,14 @@ bad_words (domain ∷ serial ∷ []) = do
   Ok (event.Command d k command.Bad)
 bad_words words = Err WrongCount
 
+-- `gone D K`
+unfoldable pub gone_words : List (List ℕ) → Result Event Reason
+gone_words (domain ∷ serial ∷ []) = do
+  d ← domain_of domain
+  k ← number_within 0 4294967295 serial
+  Ok (event.Gone d k)
+gone_words words = Err WrongCount
+
 abbrev pub framed : Result (DomainNo × SiteNo × SiteFrame) FrameFault → Result Event Reason
 framed (Ok x) = Ok (event.Frame x.0 x.1 x.2)
 framed (Err e) = Err BadFrame
@@ -128,6 +136,14 @@ frame_words (hex ∷ []) = do
   bytes ← bytes_of hex
   framed (site_frame_of bytes)
 frame_words words = Err WrongCount
+
+-- `suspect D S`
+unfoldable pub suspect_words : List (List ℕ) → Result Event Reason
+suspect_words (domain ∷ site ∷ []) = do
+  d ← domain_of domain
+  s ← site_of site
+  Ok (event.Suspect d s)
+suspect_words words = Err WrongCount
 
 -- `tick N`
 unfoldable pub tick_words : List (List ℕ) → Result Event Reason
@@ -145,7 +161,9 @@ event_behind Leave words = leave_words words
 event_behind Cast words = cast_words kind.Causal words
 event_behind Abcast words = cast_words kind.Atomic words
 event_behind Bad words = bad_words words
+event_behind Gone words = gone_words words
 event_behind Frame words = frame_words words
+event_behind Suspect words = suspect_words words
 event_behind Tick words = tick_words words
 
 unfoldable pub event_line : List ℕ → Result Event Reason

@@ -1,14 +1,16 @@
 ghost use Rattle.std.specs.Prelude.{◌≡◌};
 ghost use Rattle.cast_words.specs.Words.{texts};
 ghost use Rattle.cast_words.specs.Readings.{Gives};
-ghost use Rattle.cast_lines.specs.Readings.{bad_words, cast_words, frame_words, join_words, leave_words, open_words, request_parts, requested, tick_words};
+ghost use Rattle.cast_lines.specs.Readings.{bad_words, cast_words, frame_words, gone_words, join_words, leave_words, open_words, request_parts, requested, suspect_words, tick_words};
 
 use bytes::Bytes;
 use cast_frame::{FrameFault, decode_site};
 use cast_message::{CastKind, Command, Request};
 use cast_model::Event;
 use cast_types::{DomainNo, GroupNo};
-use cast_words::{LineFault, Reason, bytes_word, domain_word, group_word, long_number, number};
+use cast_words::{
+    LineFault, Reason, bytes_word, domain_word, group_word, long_number, number, site_word,
+};
 use std::alloc::Global;
 
 // What each request of a session says.
@@ -119,6 +121,20 @@ pub fn bad(words: &[&str]) -> Result<Event, Reason>
     })
 }
 
+/// `gone D K`, from the second word on
+#[tactic(auto, unfolding(crate::specs::Readings::gone_words))]
+pub fn gone(words: &[&str]) -> Result<Event, Reason>
+    ensures { result ≡ gone_words (texts words.now) }
+{
+    let [domain, serial] = words else {
+        return Err(Reason::WrongCount);
+    };
+    Ok(Event::Gone {
+        domain: domain_word(domain)?,
+        serial: number(serial)?,
+    })
+}
+
 /// `frame HEX`, from the second word on
 #[tactic(auto, unfolding(crate::specs::Readings::frame_words))]
 pub fn frame_event(alloc: Global, words: &[&str]) -> Result<Event, LineFault>
@@ -133,6 +149,17 @@ pub fn frame_event(alloc: Global, words: &[&str]) -> Result<Event, LineFault>
         Err(FrameFault::NoMemory) => Err(LineFault::NoMemory),
         Err(_) => Err(LineFault::Refused(Reason::BadFrame)),
     }
+}
+
+/// `suspect D S`, from the second word on
+#[tactic(auto, unfolding(crate::specs::Readings::suspect_words))]
+pub fn suspect(words: &[&str]) -> Result<Event, Reason>
+    ensures { result ≡ suspect_words (texts words.now) }
+{
+    let [domain, site] = words else {
+        return Err(Reason::WrongCount);
+    };
+    Ok(Event::Suspect(domain_word(domain)?, site_word(site)?))
 }
 
 /// `tick N`, from the second word on

@@ -4,7 +4,7 @@ ghost use Rattle.cast_words.specs.Readings.{Gives};
 ghost use Rattle.cast_lines.specs.Lines.{words_of};
 ghost use Rattle.cast_lines.specs.Readings.{domain_line, domain_words, event_line, head_of, site_line, site_words};
 
-use crate::events::{bad, cast, frame_event, join, leave, open, tick};
+use crate::events::{bad, cast, frame_event, gone, join, leave, open, suspect, tick};
 use cast_message::CastKind;
 use cast_model::{DomainConfig, Event};
 use cast_types::{NoMemory, SiteNo};
@@ -22,7 +22,9 @@ enum Head {
     Cast,
     Abcast,
     Bad,
+    Gone,
     Frame,
+    Suspect,
     Tick,
 }
 
@@ -46,7 +48,9 @@ fn head_of(word: &str) -> Result<Head, Reason>
         "cast" => Ok(Head::Cast),
         "abcast" => Ok(Head::Abcast),
         "bad" => Ok(Head::Bad),
+        "gone" => Ok(Head::Gone),
         "frame" => Ok(Head::Frame),
+        "suspect" => Ok(Head::Suspect),
         "tick" => Ok(Head::Tick),
         _ => Err(Reason::UnknownWord),
     }
@@ -124,7 +128,9 @@ pub fn event_line(alloc: Global, line: &str) -> Result<Event, LineFault>
         Head::Cast => cast(alloc, words, CastKind::Causal),
         Head::Abcast => cast(alloc, words, CastKind::Atomic),
         Head::Bad => Ok(bad(words)?),
+        Head::Gone => Ok(gone(words)?),
         Head::Frame => frame_event(alloc, words),
+        Head::Suspect => Ok(suspect(words)?),
         Head::Tick => Ok(tick(words)?),
     }
 }

@@ -15,8 +15,15 @@ pub enum Event {
         serial: u32,
         command: Command,
     },
+    /// The program of a session is gone.
+    Gone {
+        domain: DomainNo,
+        serial: u32,
+    },
     /// A frame comes from a site, which may be the own one.
     Frame(DomainNo, SiteNo, SiteFrame),
+    /// A site of the domain is suspected to have stopped.
+    Suspect(DomainNo, SiteNo),
     /// Time passes in all domains: the moment, in milliseconds, is at least this.
     Tick(u64),
 }
@@ -30,8 +37,9 @@ impl Event {
     {
         match self {
             Event::Open(domain) => Some(*domain),
-            Event::Command { domain, .. } => Some(*domain),
+            Event::Command { domain, .. } | Event::Gone { domain, .. } => Some(*domain),
             Event::Frame(domain, _, _) => Some(*domain),
+            Event::Suspect(domain, _) => Some(*domain),
             Event::Tick(_) => None,
         }
     }

@@ -1,11 +1,11 @@
--- By the rules of commands a site that follows another goes on standing for it.
+-- By the rules of commands, and of how a session ends, a site that follows another goes on standing for it.
 use Rattle.std.proofs.Common.{◌≡◌, ℕ, ◌+◌, true, false, not, List, length, Option, Some, None, refl, sym, ap, subst, arith}
 use Rattle.std.specs.Prelude.{◌==◌, nat_lt}
 use Rattle.std.specs.List.{fold}
 use Rattle.std.specs.Option.{option_map_or}
 use Rattle.std.proofs.lemmas.Bool.{not-false, lt-ltb}
 use Rattle.cast_types.specs.declared.names.GroupNo.{GroupNo}
-use Rattle.cast_types.specs.declared.refusal.Refusal.TheVariants.{NoGroup, NotMember, AlreadyMember, OwnAbcast, HeldFull, TooLong}
+use Rattle.cast_types.specs.declared.refusal.Refusal.TheVariants.{BadFrame, NoGroup, NotMember, AlreadyMember, OwnAbcast, HeldFull, TooLong}
 use Rattle.cast_types.specs.declared.limits.TheConstants.{MAX_NUMBER, MAX_PAYLOAD}
 use Rattle.cast_types.specs.Names.{is_order}
 use Rattle.cast_types.specs.declared.names.Uid.{Uid}
@@ -27,8 +27,8 @@ use Rattle.cast_history.specs.Rules.Interface.{Site}
 use Rattle.cast_history.specs.Rules.Room.{may_receive}
 use Rattle.cast_history.specs.Rules.Sending.{may_raise, send_data}
 use Rattle.cast_history.specs.Rules.Requests.{request}
-use Rattle.cast_history.specs.Rules.Commands.{body_of, Attempt, named_here, join_at, join, message_sent, send_own, cast_at, cast, reply, requested, commanded}
-use Rattle.cast_history.proofs.Rules.Follows.{FollowsAll, AtBoth, IsSent, sent_here, choose, IsInvariantOfAll, AlsoHolds, SamePlace, follows_itself_in_all}
+use Rattle.cast_history.specs.Rules.Commands.{body_of, Attempt, named_here, join_at, join, leave_group, leave_at, leave, leave_each, leave_all, message_sent, send_own, cast_at, cast, reply, requested, close_session, commanded, end_session}
+use Rattle.cast_history.proofs.Rules.Follows.{FollowsAll, AtBoth, IsSent, sent_here, choose, each_place, IsInvariantOfAll, AlsoHolds, SamePlace, follows_itself_in_all}
 use Rattle.cast_history.proofs.Rules.Room.{receive_same}
 use Rattle.cast_history.proofs.Rules.Sending.{sends_follow}
 use Rattle.cast_history.proofs.Rules.Requests.{request_follows}
@@ -73,6 +73,37 @@ module _ {R S H K : Type 0} (a : Site R H) (b : Site S K) (fits : R → S → Ty
           (ap (λ (x : MemberSide). x.asked == MAX_NUMBER) group)
           (λ _. (f, refl))
           (λ _. (subst (λ x. fits x (request b (b.note_joining s k g number heard) l change.Join (named_here b s k))) (sym same) joins, refl)))
+
+  leave_group_follows : (r : R) (s : S) → fits r s → (k : ℕ) (g : GroupNo) → is_outside (b.standing s k g) ≡ false → (h : H) (l : K) → stands h l → fits (leave_group a r k g h) (leave_group b s k g l)
+  leave_group_follows r s f k g inside h l at =
+      let here = all.follows.here r s f in
+      let next : R = a.note_outside r k g in
+      let after : S = b.note_outside s k g in
+      let now : fits next after = all.note_outside r s f k g inside in
+      let left : S = request b after l change.Leave (named_here b s k) in
+      choose fits ((a.group r h).asked == MAX_NUMBER) ((b.group s l).asked == MAX_NUMBER) next (request a next h change.Leave (named_here a r k)) after left
+      (ap (λ (x : MemberSide). x.asked == MAX_NUMBER) (all.follows.group r s f h l at))
+      (λ _. now)
+      (λ _. subst (λ t. fits (request a next h change.Leave (record { site = t; serial = k })) left) (sym here)
+      (request_follows a b fits stands all next after now h l at change.Leave (named_here b s k)))
+
+  leave_at_follows : (r : R) (s : S) → fits r s → (k : ℕ) (g : GroupNo) (h : H) (l : K) → stands h l → Attempts (leave_at a r k g h) (leave_at b s k g l)
+  leave_at_follows r s f k g h l at =
+      choose Attempts (is_outside (a.standing r k g)) (is_outside (b.standing s k g)) (r, Some NotMember) _ (s, Some NotMember) _
+      (ap is_outside (all.standing r s f k g))
+      (λ _. (f, refl))
+      (λ inside. (leave_group_follows r s f k g inside h l at, refl))
+
+  leave_follows : (r : R) (s : S) → fits r s → (k : ℕ) (g : GroupNo) → Attempts (leave a r k g) (leave b s k g)
+  leave_follows r s f k g = placed r s f g (leave_at a r k g) (leave_at b s k g) (λ h l at _. leave_at_follows r s f k g h l at)
+
+  leave_each_follows : (k : ℕ) (r : R) (s : S) → fits r s → (h : H) (l : K) → stands h l → fits (leave_each a k r h) (leave_each b k s l)
+  leave_each_follows k r s f h l at =
+      let g : GroupNo = b.name s l in
+      subst (λ x. fits (leave_at a r k x h).0 (leave_at b s k g l).0) (sym (all.name r s f h l at)) (leave_at_follows r s f k g h l at).0
+
+  leave_all_follows : (r : R) (s : S) → fits r s → (k : ℕ) → fits (leave_all a r k) (leave_all b s k)
+  leave_all_follows r s f k = each_place fits stands (leave_each a k) (leave_each b k) (leave_each_follows k) (a.places r) (b.places s) (all.places r s f) r s f
 
   cast_follows : (r : R) (s : S) → fits r s → (k : ℕ) → b.is_open s k ≡ true → (g : GroupNo) (kind : CastKind) (payload : List ℕ) → Attempts (cast a r k g kind payload) (cast b s k g kind payload)
   cast_follows r s f k given g kind payload = placed r s f g (cast_at a r k g kind payload) (cast_at b s k g kind payload) at_place
@@ -130,7 +161,7 @@ module _ {R S H K : Type 0} (a : Site R H) (b : Site S K) (fits : R → S → Ty
 
   requested_follows : (r : R) (s : S) → fits r s → (k : ℕ) → b.is_open s k ≡ true → (q : Request) → fits (requested a r k q) (requested b s k q)
   requested_follows r s f k given (Join tag g) = replied k tag (join a r k g) (join b s k g) (join_follows r s f k given g)
-  requested_follows r s f k given (Leave tag g) = f
+  requested_follows r s f k given (Leave tag g) = replied k tag (leave a r k g) (leave b s k g) (leave_follows r s f k g)
   requested_follows r s f k given (Cast tag g kind payload) = replied k tag (cast a r k g kind payload) (cast b s k g kind payload) (cast_follows r s f k given g kind payload)
 
   pub commanded_follows : (r : R) (s : S) → fits r s → (k : ℕ) (c : Command) → fits (commanded a r k c) (commanded b s k c)
@@ -138,8 +169,20 @@ module _ {R S H K : Type 0} (a : Site R H) (b : Site S K) (fits : R → S → Ty
       choose fits (a.is_open r k) (b.is_open s k) (requested a r k q) r (requested b s k q) s (all.is_open r s f k)
       (λ given. requested_follows r s f k given q)
       (λ _. f)
-  commanded_follows r s f k command.Bad = f
+  commanded_follows r s f k command.Bad =
+      choose fits (a.is_open r k) (b.is_open s k) (close_session a r k BadFrame) r (close_session b s k BadFrame) s (all.is_open r s f k)
+      (λ _. leave_all_follows (a.close r k BadFrame) (b.close s k BadFrame) (all.close r s f k BadFrame) k)
+      (λ _. f)
 
--- an invariant of the moves holds after each command
+  pub ended_follows : (r : R) (s : S) → fits r s → (k : ℕ) → fits (end_session a r k) (end_session b s k)
+  ended_follows r s f k =
+      choose fits (a.is_gone r k) (b.is_gone s k) r (leave_all a (a.go r k) k) s (leave_all b (b.go s k) k) (all.is_gone r s f k)
+      (λ _. f)
+      (λ _. leave_all_follows (a.go r k) (b.go s k) (all.go r s f k) k)
+
+-- an invariant of the moves holds after each command, and after a session ends
 pub commanded_keeps : {S H : Type 0} (d : Site S H) (holds : S → Type 0) → IsInvariantOfAll d holds → (s : S) → holds s → (k : ℕ) (c : Command) → holds (commanded d s k c)
 commanded_keeps d holds keeps s l k c = (commanded_follows d d (AlsoHolds holds) SamePlace (follows_itself_in_all d holds keeps) s s (refl, l) k c).1
+
+pub ended_keeps : {S H : Type 0} (d : Site S H) (holds : S → Type 0) → IsInvariantOfAll d holds → (s : S) → holds s → (k : ℕ) → holds (end_session d s k)
+ended_keeps d holds keeps s l k = (ended_follows d d (AlsoHolds holds) SamePlace (follows_itself_in_all d holds keeps) s s (refl, l) k).1

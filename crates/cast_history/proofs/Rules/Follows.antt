@@ -9,6 +9,7 @@ use Rattle.cast_types.specs.declared.names.SiteNo.{SiteNo}
 use Rattle.cast_types.specs.declared.names.GroupNo.{GroupNo}
 use Rattle.cast_types.specs.declared.names.Proc.{Proc}
 use Rattle.cast_types.specs.declared.names.Uid.{Uid}
+use Rattle.cast_types.specs.declared.refusal.Refusal.{Refusal}
 use Rattle.cast_types.specs.Names.{is_order}
 use Rattle.cast_types.specs.Counts.{CountList}
 use Rattle.cast_message.specs.declared.message.Body.{Body}
@@ -125,7 +126,7 @@ pub record FollowsAll {R S H K : Type 0} (a : Site R H) (b : Site S K) (fits : R
   pub awaits_own : (r : R) (s : S) → fits r s → (k : ℕ) → b.is_open s k ≡ true → a.awaits_own r k ≡ b.awaits_own s k
   pub push : (r : R) (s : S) → fits r s → (k : ℕ) (p : Push) → fits (a.push r k p) (b.push s k p)
   pub note_joining : (r : R) (s : S) → fits r s → (k : ℕ) → b.is_open s k ≡ true → (g : GroupNo) (h : K) → b.place s g ≡ Some h → (number heard : ℕ) → fits (a.note_joining r k g number heard) (b.note_joining s k g number heard)
-  pub note_denied : (r : R) (s : S) → fits r s → (k : ℕ) (g : GroupNo) → is_outside (b.standing s k g) ≡ false → fits (a.note_denied r k g) (b.note_denied s k g)
+  pub note_outside : (r : R) (s : S) → fits r s → (k : ℕ) (g : GroupNo) → is_outside (b.standing s k g) ≡ false → fits (a.note_outside r k g) (b.note_outside s k g)
   pub sends : (r : R) (s : S) → fits r s → (h : H) (l : K) → stands h l → (k : ℕ) (g : GroupNo) (content : Body) → IsSent b s l k g content → fits (sent_here a r h k g content) (sent_here b s l k g content)
   pub receive : (r : R) (s : S) → fits r s → (k : K) (from : SiteNo) (m : Message) → IsTaken b s k from m → fits (a.receive r m) (b.receive s m)
   pub note_request : (r : R) (s : S) → fits r s → (h : H) (k : K) → stands h k → (what : Change) (p : Proc) → fits (a.note_request r h what p) (b.note_request s k what p)
@@ -133,6 +134,9 @@ pub record FollowsAll {R S H K : Type 0} (a : Site R H) (b : Site S K) (fits : R
   pub move_home : (r : R) (s : S) → fits r s → (h : H) (k : K) → stands h k → (move : HomeMove) → fits (a.move_home r h move) (b.move_home s k move)
   pub enter_view : (r : R) (s : S) → fits r s → (h : H) (k : K) → stands h k → (g : GroupNo) (skips : Bool) (n : ℕ) (members : Membership) (request : ℕ) (cut : CountList) → IsEntered b s k g n members → fits (a.enter_view r h skips n members request cut) (b.enter_view s k skips n members request cut)
   pub release_ended : (r : R) (s : S) → fits r s → (h : H) (k : K) → stands h k → fits (a.release_ended r h) (b.release_ended s k)
+  pub is_gone : (r : R) (s : S) → fits r s → (k : ℕ) → a.is_gone r k ≡ b.is_gone s k
+  pub close : (r : R) (s : S) → fits r s → (k : ℕ) (refusal : Refusal) → fits (a.close r k refusal) (b.close s k refusal)
+  pub go : (r : R) (s : S) → fits r s → (k : ℕ) → fits (a.go r k) (b.go s k)
 
 -- What rules are made of
 
@@ -170,7 +174,7 @@ pub record IsInvariantOfAll {S H : Type 0} (d : Site S H) (holds : S → Type 0)
   pub keeps : IsInvariant d holds
   pub push : (s : S) → holds s → (k : ℕ) (p : Push) → holds (d.push s k p)
   pub note_joining : (s : S) → holds s → (k : ℕ) → d.is_open s k ≡ true → (g : GroupNo) (h : H) → d.place s g ≡ Some h → (number heard : ℕ) → holds (d.note_joining s k g number heard)
-  pub note_denied : (s : S) → holds s → (k : ℕ) (g : GroupNo) → is_outside (d.standing s k g) ≡ false → holds (d.note_denied s k g)
+  pub note_outside : (s : S) → holds s → (k : ℕ) (g : GroupNo) → is_outside (d.standing s k g) ≡ false → holds (d.note_outside s k g)
   pub sends : (s : S) → holds s → (h : H) (k : ℕ) (g : GroupNo) (content : Body) → IsSent d s h k g content → holds (sent_here d s h k g content)
   pub receive : (s : S) → holds s → (h : H) (from : SiteNo) (m : Message) → IsTaken d s h from m → holds (d.receive s m)
   pub note_request : (s : S) → holds s → (h : H) (what : Change) (p : Proc) → holds (d.note_request s h what p)
@@ -178,6 +182,8 @@ pub record IsInvariantOfAll {S H : Type 0} (d : Site S H) (holds : S → Type 0)
   pub move_home : (s : S) → holds s → (h : H) (move : HomeMove) → holds (d.move_home s h move)
   pub enter_view : (s : S) → holds s → (h : H) (g : GroupNo) (skips : Bool) (n : ℕ) (members : Membership) (request : ℕ) (cut : CountList) → IsEntered d s h g n members → holds (d.enter_view s h skips n members request cut)
   pub release_ended : (s : S) → holds s → (h : H) → holds (d.release_ended s h)
+  pub close : (s : S) → holds s → (k : ℕ) (refusal : Refusal) → holds (d.close s k refusal)
+  pub go : (s : S) → holds s → (k : ℕ) → holds (d.go s k)
 
 -- a site follows itself, in the same state, of which an invariant holds
 abbrev pub AlsoHolds : {S : Type 0} → (S → Type 0) → S → S → Type 0
@@ -258,7 +264,7 @@ follows_itself_in_all d holds keeps = record {
   awaits_own = λ r s f k given. λ i. d.awaits_own (f.0 i) k;
   push = λ r s f k p. (λ i. d.push (f.0 i) k p, keeps.push s f.1 k p);
   note_joining = λ r s f k given g h at number heard. (λ i. d.note_joining (f.0 i) k g number heard, keeps.note_joining s f.1 k given g h at number heard);
-  note_denied = λ r s f k g is. (λ i. d.note_denied (f.0 i) k g, keeps.note_denied s f.1 k g is);
+  note_outside = λ r s f k g is. (λ i. d.note_outside (f.0 i) k g, keeps.note_outside s f.1 k g is);
   sends = λ r s f h l at k g content sent. (λ i. sent_here d (f.0 i) (at i) k g content, keeps.sends s f.1 l k g content sent);
   receive = λ r s f k from m taken. (λ i. d.receive (f.0 i) m, keeps.receive s f.1 k from m taken);
   note_request = λ r s f h k at what p. (λ i. d.note_request (f.0 i) (at i) what p, keeps.note_request s f.1 k what p);
@@ -267,6 +273,9 @@ follows_itself_in_all d holds keeps = record {
   enter_view = λ r s f h k at g skips n members request cut entered.
       (λ i. d.enter_view (f.0 i) (at i) skips n members request cut, keeps.enter_view s f.1 k g skips n members request cut entered);
   release_ended = λ r s f h k at. (λ i. d.release_ended (f.0 i) (at i), keeps.release_ended s f.1 k);
+  is_gone = λ r s f k. λ i. d.is_gone (f.0 i) k;
+  close = λ r s f k refusal. (λ i. d.close (f.0 i) k refusal, keeps.close s f.1 k refusal);
+  go = λ r s f k. (λ i. d.go (f.0 i) k, keeps.go s f.1 k);
 }
 
 -- a site that follows another follows it also in states of which an invariant holds

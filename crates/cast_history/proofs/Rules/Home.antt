@@ -1,5 +1,5 @@
 -- By the rules of the home a site that follows another goes on standing for it.
-use Rattle.std.proofs.Common.{◌≡◌, ℕ, Bool, true, false, not, ◌&&◌, List, [], ◌∷◌, Option, Some, None, sym, ap, subst}
+use Rattle.std.proofs.Common.{◌≡◌, ℕ, Bool, true, false, not, ◌&&◌, List, [], ◌∷◌, Option, Some, None, refl, sym, ap, subst}
 use Rattle.std.specs.Prelude.{◌==◌, if◌then◌else◌}
 use Rattle.std.specs.List.{fold, find, list_all}
 use Rattle.std.specs.Option.{option_or, option_map_or}
@@ -15,14 +15,15 @@ use Rattle.cast_timer.specs.declared.key.OwedKind.TheVariants.{Prepare, Install}
 use Rattle.cast_flush.specs.declared.report.Report.{Report}
 use Rattle.cast_view.specs.declared.phase.Phase.{Phase}
 use Rattle.cast_view.specs.Home.{Home, HomeMove, may_start, awaited_of, wants_in, bodies_of, may_decide, waiting_of, takes_report, takes_installed}
-use Rattle.cast_view.specs.Home.HomeMove.{Started, Reported, Brought, Decided, Installed}
+use Rattle.cast_view.specs.Home.HomeMove.{Started, Suspected, Reported, Brought, Decided, Installed}
 use Rattle.cast_history.specs.Rules.Keys.{home_key, want_key}
 use Rattle.cast_history.specs.Rules.Interface.{Site}
 use Rattle.cast_history.specs.Rules.Owing.{owe}
 use Rattle.cast_history.specs.Rules.Requests.{is_home}
 use Rattle.cast_history.specs.Rules.Data.{counts_itself, is_well_formed}
-use Rattle.cast_history.specs.Rules.Home.{owe_of_home, start, wants, want, want_bodies, decide, lead_group, lead, on_installed, on_flushed, on_forward, forwardable, on_want}
-use Rattle.cast_history.proofs.Rules.Follows.{FollowsAll, choose, each, each_place, IsInvariant}
+use Rattle.cast_types.specs.declared.names.GroupNo.{GroupNo}
+use Rattle.cast_history.specs.Rules.Home.{want_eq, owe_of_home, start, wants, want, want_bodies, decide, lead_group, lead, on_installed, on_flushed, drop_want, drop_wants, release_site, suspect_in, suspect, on_forward, forwardable, on_want}
+use Rattle.cast_history.proofs.Rules.Follows.{FollowsAll, choose, each, each_place, IsInvariant, IsInvariantOfAll, AlsoHolds, SamePlace, follows_itself_in_all}
 use Rattle.cast_history.proofs.Rules.Owing.{owe_follows, owe_keeps}
 use Rattle.cast_history.proofs.Rules.Requests.{home_same}
 
@@ -105,6 +106,38 @@ module _ {R S H K : Type 0} (a : Site R H) (b : Site S K) (fits : R → S → Ty
       (all.move_home (a.pay r key) (b.pay s key) (all.follows.pay r s f key) h k at (Reported from view report)))
       (λ _. f)
 
+  drop_follows : (h : H) (k : K) → stands h k → (xs ys : List (SiteNo × Entry)) → xs ≡ ys → (r : R) (s : S) (w : SiteNo × Entry) → fits r s → fits (drop_want a h xs r w) (drop_want b k ys s w)
+  drop_follows h k at xs ys same r s w f =
+      let key : OwedKey = want_key (b.name s k) w in
+      choose fits (is_among want_eq w xs) (is_among want_eq w ys) r _ s (b.pay s key) (ap (is_among want_eq w) same)
+      (λ _. f)
+      (λ _. subst (λ g. fits (a.pay r (want_key g w)) (b.pay s key)) (sym (all.name r s f h k at)) (all.follows.pay r s f key))
+
+  drops_follow : (r : R) (s : S) → fits r s → (h : H) (k : K) → stands h k → (before : List (SiteNo × Entry)) → fits (drop_wants a r h before) (drop_wants b s k before)
+  drops_follow r s f h k at before =
+      each fits (drop_want a h (wants a r h)) (drop_want b k (wants b s k)) (drop_follows h k at (wants a r h) (wants b s k) (wants_same r s f h k at)) before r s f
+
+  release_follows : (r : R) (s : S) → fits r s → (h : H) (k : K) → stands h k → (site : SiteNo) → fits (release_site a r h site) (release_site b s k site)
+  release_follows r s f h k at site =
+      let g : GroupNo = b.name s k in
+      subst (λ x. fits (a.pay (a.pay r (home_key Prepare x site)) (home_key Install x site)) (release_site b s k site)) (sym (all.name r s f h k at))
+      (all.follows.pay (a.pay r (home_key Prepare g site)) (b.pay s (home_key Prepare g site)) (all.follows.pay r s f (home_key Prepare g site)) (home_key Install g site))
+
+  suspect_in_follows : (site : SiteNo) (r : R) (s : S) → fits r s → (h : H) (k : K) → stands h k → fits (suspect_in a site r h) (suspect_in b site s k)
+  suspect_in_follows site r s f h k at =
+      let freed : R = release_site a r h site in
+      let paid : S = release_site b s k site in
+      let next : R = a.move_home freed h (Suspected site) in
+      let after : S = b.move_home paid k (Suspected site) in
+      let now : fits next after = all.move_home freed paid (release_follows r s f h k at site) h k at (Suspected site) in
+      subst (λ ws. fits (drop_wants a next h ws) (suspect_in b site s k)) (sym (wants_same r s f h k at)) (drops_follow next after now h k at (wants b s k))
+
+  pub suspect_follows : (r : R) (s : S) → fits r s → (site : SiteNo) → fits (suspect a r site) (suspect b s site)
+  suspect_follows r s f site =
+      choose fits (is_home a r) (is_home b s) (fold (suspect_in a site) r (a.places r)) r (fold (suspect_in b site) s (b.places s)) s (home_same a b fits stands all r s f)
+      (λ _. each_place fits stands (suspect_in a site) (suspect_in b site) (suspect_in_follows site) (a.places r) (b.places s) (all.places r s f) r s f)
+      (λ _. f)
+
   -- a message is well formed at both sites or at neither
   formed_same : (r : R) (s : S) → fits r s → (x y : Home) → x ≡ y → (m : Message) → ((m.id.view == x.number) && is_well_formed a r x.members.list m) ≡ ((m.id.view == y.number) && is_well_formed b s y.members.list m)
   formed_same r s f x y same m =
@@ -176,3 +209,7 @@ module _ {S H : Type 0} (d : Site S H) (holds : S → Type 0) (keeps : IsInvaria
 
   pub lead_keeps : (s : S) → holds s → holds (lead d s)
   lead_keeps s l = either (is_home d s) _ s (groups_keep (d.places s) s l) l
+
+-- an invariant of all moves holds after a site is suspected
+pub suspect_keeps : {S H : Type 0} (d : Site S H) (holds : S → Type 0) → IsInvariantOfAll d holds → (s : S) → holds s → (site : SiteNo) → holds (suspect d s site)
+suspect_keeps d holds keeps s l site = (suspect_follows d d (AlsoHolds holds) SamePlace (follows_itself_in_all d holds keeps) s s (refl, l) site).1

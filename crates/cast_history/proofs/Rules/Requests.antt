@@ -87,8 +87,8 @@ module _ {R S H K : Type 0} (a : Site R H) (b : Site S K) (fits : R → S → Ty
       let name : a.name r h ≡ g = all.name r s f h k at in
       choose fits (is_joining_by (a.standing r p (a.name r h)) x.number) (is_joining_by (b.standing s p g) x.number) _ r _ s
       (ap (λ y. is_joining_by (a.standing r p y) x.number) name ∙ ap (λ v. is_joining_by v x.number) (all.standing r s f p g))
-      (λ joins. subst (λ y. fits (a.push (a.note_denied r p y) p (push.Denied y GroupFull)) (b.push (b.note_denied s p g) p (push.Denied g GroupFull))) (sym name)
-      (all.push (a.note_denied r p g) (b.note_denied s p g) (all.note_denied r s f p g (joining_inside (b.standing s p g) x.number joins)) p (push.Denied g GroupFull)))
+      (λ joins. subst (λ y. fits (a.push (a.note_outside r p y) p (push.Denied y GroupFull)) (b.push (b.note_outside s p g) p (push.Denied g GroupFull))) (sym name)
+      (all.push (a.note_outside r p g) (b.note_outside s p g) (all.note_outside r s f p g (joining_inside (b.standing s p g) x.number joins)) p (push.Denied g GroupFull)))
       (λ _. f)
 
   take_answer_follows : (r : R) (s : S) → fits r s → (h : H) (k : K) → stands h k → fits (take_answer a r h) (take_answer b s k)

@@ -1,10 +1,11 @@
--- The rules of commands: what a program asks for, when it is refused, and its reply.
+-- The rules of commands: what a program asks for, when it is refused, and its reply; and how a session ends.
 use Rattle.std.specs.Prelude.{ℕ, ◌+◌, not, ◌==◌, nat_lt, if◌then◌else◌, List, length, Option, Some, None}
+use Rattle.std.specs.List.{fold}
 use Rattle.std.specs.Option.{option_map_or}
 use Rattle.cast_types.specs.declared.names.GroupNo.{GroupNo}
 use Rattle.cast_types.specs.declared.names.Proc.{Proc}
 use Rattle.cast_types.specs.declared.refusal.Refusal.{Refusal}
-use Rattle.cast_types.specs.declared.refusal.Refusal.TheVariants.{NoGroup, NotMember, AlreadyMember, OwnAbcast, HeldFull, TooLong}
+use Rattle.cast_types.specs.declared.refusal.Refusal.TheVariants.{BadFrame, NoGroup, NotMember, AlreadyMember, OwnAbcast, HeldFull, TooLong}
 use Rattle.cast_types.specs.declared.limits.TheConstants.{MAX_NUMBER, MAX_PAYLOAD}
 use Rattle.cast_types.specs.Stamps.{ClockList}
 use Rattle.cast_clock.specs.Times.{view_of, count_in, bumped}
@@ -49,6 +50,25 @@ module _ {S H : Type 0} (d : Site S H) where
   abbrev pub join : S → ℕ → GroupNo → Attempt S
   join s k g = option_map_or (join_at s k g) (d.place s g) (s, Some NoGroup)
 
+  -- the process is outside from then on, and a request to leave is queued, while a number is left
+  abbrev pub leave_group : S → ℕ → GroupNo → H → S
+  leave_group s k g h =
+      if (d.group s h).asked == MAX_NUMBER then d.note_outside s k g
+      else request d (d.note_outside s k g) h change.Leave (named_here s k)
+
+  abbrev pub leave_at : S → ℕ → GroupNo → H → Attempt S
+  leave_at s k g h = if is_outside (d.standing s k g) then (s, Some NotMember) else (leave_group s k g h, None)
+
+  abbrev pub leave : S → ℕ → GroupNo → Attempt S
+  leave s k g = option_map_or (leave_at s k g) (d.place s g) (s, Some NoGroup)
+
+  -- the process leaves all groups that it joins or is a member of
+  abbrev pub leave_each : ℕ → S → H → S
+  leave_each k s h = (leave_at s k (d.name s h) h).0
+
+  abbrev pub leave_all : S → ℕ → S
+  leave_all s k = fold (leave_each k) s (d.places s)
+
   -- the process's next message: its time, with its own count raised, stamps it
   abbrev pub message_sent : S → ℕ → GroupNo → H → Body → Message
   message_sent s k g h content =
@@ -79,13 +99,20 @@ module _ {S H : Type 0} (d : Site S H) where
   abbrev pub reply : Attempt S → ℕ → ℕ → S
   reply a k tag = d.push a.0 k (push.Reply tag a.1)
 
-  -- there is no rule for leaves yet: they are ignored
   abbrev pub requested : S → ℕ → Request → S
   requested s k (Join tag g) = reply (join s k g) k tag
-  requested s k (Leave tag g) = s
+  requested s k (Leave tag g) = reply (leave s k g) k tag
   requested s k (Cast tag g kind payload) = reply (cast s k g kind payload) k tag
 
-  -- and so are bytes that are no frame, and all that is said in a session that is not open
+  -- a session is closed, and its process leaves all its groups
+  abbrev pub close_session : S → ℕ → Refusal → S
+  close_session s k refusal = leave_all (d.close s k refusal) k
+
+  -- bytes that are no frame close the session; what is said in one that is not open is ignored
   abbrev pub commanded : S → ℕ → Command → S
   commanded s k (command.Request q) = if d.is_open s k then requested s k q else s
-  commanded s k command.Bad = s
+  commanded s k command.Bad = if d.is_open s k then close_session s k BadFrame else s
+
+  -- a session whose program is gone is gone, and its process leaves all its groups
+  abbrev pub end_session : S → ℕ → S
+  end_session s k = if d.is_gone s k then s else leave_all (d.go s k) k

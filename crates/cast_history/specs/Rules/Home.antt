@@ -6,18 +6,23 @@ use Rattle.std.specs.Option.{option_or, option_map_or}
 use Rattle.cast_types.specs.declared.names.SiteNo.{SiteNo}
 use Rattle.cast_types.specs.declared.names.Uid.{Uid}
 use Rattle.cast_types.specs.Names.{Entry, site_eq, entry_eq, entry_of, uid_eq}
+use Rattle.cast_types.specs.Sets.{is_among}
 use Rattle.cast_message.specs.declared.message.Message.{Message}
 use Rattle.cast_message.specs.declared.site.SiteFrame.TheVariants as frame
 use Rattle.cast_timer.specs.declared.key.OwedKind.{OwedKind}
 use Rattle.cast_timer.specs.declared.key.OwedKind.TheVariants.{Prepare, Install}
 use Rattle.cast_flush.specs.declared.report.Report.{Report}
 use Rattle.cast_view.specs.Home.{may_start, awaited_of, wants_in, bodies_of, may_decide, waiting_of, takes_report, takes_installed}
-use Rattle.cast_view.specs.Home.HomeMove.{Started, Reported, Brought, Decided, Installed}
+use Rattle.cast_view.specs.Home.HomeMove.{Started, Suspected, Reported, Brought, Decided, Installed}
 use Rattle.cast_history.specs.Rules.Keys.{home_key, want_key}
 use Rattle.cast_history.specs.Rules.Interface.{Site}
 use Rattle.cast_history.specs.Rules.Owing.{owe}
 use Rattle.cast_history.specs.Rules.Requests.{is_home}
 use Rattle.cast_history.specs.Rules.Data.{is_well_formed}
+
+-- the same message, wanted from the same site
+abbrev pub want_eq : SiteNo × Entry → SiteNo × Entry → Bool
+want_eq v w = site_eq v.0 w.0 && entry_eq v.1 w.1
 
 -- each rule is of the group that stands at h
 module _ {S H : Type 0} (d : Site S H) where
@@ -71,6 +76,25 @@ module _ {S H : Type 0} (d : Site S H) where
       if is_home d s && takes_report (d.home s h) from view
       then d.move_home (d.pay s (home_key Prepare (d.name s h) from)) h (Reported from view report)
       else s
+
+  -- a message that was wanted is owed no more, unless it still is
+  abbrev pub drop_want : H → List (SiteNo × Entry) → S → SiteNo × Entry → S
+  drop_want h still s w = if is_among want_eq w still then s else d.pay s (want_key (d.name s h) w)
+
+  abbrev pub drop_wants : S → H → List (SiteNo × Entry) → S
+  drop_wants s h before = fold (drop_want h (wants s h)) s before
+
+  -- Prepare and Install are owed to a site no more
+  abbrev pub release_site : S → H → SiteNo → S
+  release_site s h site = d.pay (d.pay s (home_key Prepare (d.name s h) site)) (home_key Install (d.name s h) site)
+
+  -- a site is suspected: nothing is awaited from it any more, and what is not wanted without it is owed no more
+  abbrev pub suspect_in : SiteNo → S → H → S
+  suspect_in site s h = drop_wants (d.move_home (release_site s h site) h (Suspected site)) h (wants s h)
+
+  -- at the home, for each group
+  abbrev pub suspect : S → SiteNo → S
+  suspect s site = if is_home d s then fold (suspect_in site) s (d.places s) else s
 
   -- a message of the view that the home decided last, and well formed in it
   abbrev pub is_of_home : S → H → Message → Bool

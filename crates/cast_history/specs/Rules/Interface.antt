@@ -7,6 +7,7 @@ use Rattle.cast_types.specs.declared.names.GroupNo.{GroupNo}
 use Rattle.cast_types.specs.declared.names.Proc.{Proc}
 use Rattle.cast_types.specs.declared.names.Uid.{Uid}
 use Rattle.cast_types.specs.declared.names.Standing.{Standing}
+use Rattle.cast_types.specs.declared.refusal.Refusal.{Refusal}
 use Rattle.cast_types.specs.Counts.{CountList}
 use Rattle.cast_types.specs.Stamps.{ClockList}
 use Rattle.cast_message.specs.declared.message.Message.{Message}
@@ -48,7 +49,7 @@ pub record Site (S H : Type 0) : Type 0 where
   pub stable_upto : S → Uid → ℕ
   -- the kept message of an id
   pub message : S → Uid → Option Message
-  -- a session was opened
+  -- a session is open
   pub is_open : S → ℕ → Bool
   -- what a local process is in a group, its time, and that it has not delivered an ABCAST of its own; processes are named by their serials
   pub standing : S → ℕ → GroupNo → Standing
@@ -58,6 +59,8 @@ pub record Site (S H : Type 0) : Type 0 where
   pub is_owed : S → OwedKey → Bool
   -- the frames that are due to be sent again, in their order
   pub due : S → List OwedKey
+  -- a session is gone, or was never opened
+  pub is_gone : S → ℕ → Bool
   -- a frame is sent to a site
   pub send : S → SiteNo → SiteFrame → S
   -- a frame that is sent now is owed from now on, and is due again once the time to resend has passed
@@ -80,8 +83,8 @@ pub record Site (S H : Type 0) : Type 0 where
   pub push : S → ℕ → Push → S
   -- a local process joins a group by a request of this number, and had heard of views up to one
   pub note_joining : S → ℕ → GroupNo → ℕ → ℕ → S
-  -- a local process joins a group no more
-  pub note_denied : S → ℕ → GroupNo → S
+  -- a local process that joins a group or is a member is outside from now on
+  pub note_outside : S → ℕ → GroupNo → S
   -- a local process has sent a message, and has its time
   pub note_sent : S → ℕ → Message → S
   -- a message is received
@@ -98,6 +101,10 @@ pub record Site (S H : Type 0) : Type 0 where
   pub enter_view : S → H → Bool → ℕ → Membership → ℕ → CountList → S
   -- messages of a group's views that have ended are kept no longer
   pub release_ended : S → H → S
+  -- a session is closed: its program is told why, and nothing after that
+  pub close : S → ℕ → Refusal → S
+  -- a session is gone
+  pub go : S → ℕ → S
 
 -- the serials of a domain's sessions, which count from 1
 pub record Serials (S : Type 0) : Type 0 where

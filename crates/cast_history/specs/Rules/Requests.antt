@@ -57,7 +57,7 @@ module _ {S H : Type 0} (d : Site S H) where
   abbrev pub deny : S → H → Asking → S
   deny s h a =
       if is_joining_by (d.standing s a.proc.serial (d.name s h)) a.number
-      then d.push (d.note_denied s a.proc.serial (d.name s h)) a.proc.serial (push.Denied (d.name s h) GroupFull)
+      then d.push (d.note_outside s a.proc.serial (d.name s h)) a.proc.serial (push.Denied (d.name s h) GroupFull)
       else s
 
   abbrev pub deny_if : Bool → S → H → Asking → S

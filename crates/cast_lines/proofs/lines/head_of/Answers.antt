@@ -1,5 +1,5 @@
 use Rattle.std.proofs.Common.{◌≢◌, sym, ap, ◌∙◌}
-use Rattle.cast_lines.specs.declared.lines.Head.TheVariants.{Site, Domain, Open, Join, Leave, Cast, Abcast, Bad, Frame, Tick}
+use Rattle.cast_lines.specs.declared.lines.Head.TheVariants.{Site, Domain, Open, Join, Leave, Cast, Abcast, Bad, Gone, Frame, Suspect, Tick}
 use Rattle.cast_lines.specs.Lines.{head_text}
 use Rattle.cast_lines.specs.Readings.{head_of}
 use Rattle.cast_lines.proofs.Heads.{head_again, head_not}
@@ -29,8 +29,14 @@ returns-in-abcast c = sym (ap head_of c.in-abcast.is ∙ head_again Abcast)
 pub returns-in-bad : goal.returns-in-bad
 returns-in-bad c = sym (ap head_of c.in-bad.is ∙ head_again Bad)
 
+pub returns-in-gone : goal.returns-in-gone
+returns-in-gone c = sym (ap head_of c.in-gone.is ∙ head_again Gone)
+
 pub returns-in-frame : goal.returns-in-frame
 returns-in-frame c = sym (ap head_of c.in-frame.is ∙ head_again Frame)
+
+pub returns-in-suspect : goal.returns-in-suspect
+returns-in-suspect c = sym (ap head_of c.in-suspect.is ∙ head_again Suspect)
 
 pub returns-in-tick : goal.returns-in-tick
 returns-in-tick c = sym (ap head_of c.in-tick.is ∙ head_again Tick)
@@ -47,6 +53,8 @@ returns-in_default c =
       | Cast ↦ c.in_default.not-cast
       | Abcast ↦ c.in_default.not-abcast
       | Bad ↦ c.in_default.not-bad
+      | Gone ↦ c.in_default.not-gone
       | Frame ↦ c.in_default.not-frame
+      | Suspect ↦ c.in_default.not-suspect
       | Tick ↦ c.in_default.not-tick
     ]))

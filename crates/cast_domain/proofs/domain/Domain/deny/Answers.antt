@@ -7,7 +7,7 @@ use Rattle.cast_delay.specs.declared.row.Fact.TheVariants as fact
 use Rattle.cast_history.specs.Rules.Requests.{is_joining_by}
 use Rattle.cast_domain.specs.declared.record.GroupRecord.{GroupRecord}
 use Rattle.cast_domain.specs.Records.{records_of}
-use Rattle.cast_domain.specs.Calls.{local_in, note_denied_in, push_in, record_at, standing_of, tell_in}
+use Rattle.cast_domain.specs.Calls.{local_in, note_outside_in, push_in, record_at, standing_of, tell_in}
 use Rattle.cast_domain.proofs.domain.Domain.deny.Goals as goal
 
 pub returns-in_ok-push-clause-made : goal.returns-in_ok-push-clause-made
@@ -24,4 +24,4 @@ returns-in_ok-push-clause-made c o part =
     c.in_ok-push.ensures.made o part
     ∙ ap (λ x. push_in x k (push.Denied c.record.result.now.name GroupFull)) (c.in_ok-tell.ensures.made o part)
     ∙ (λ j. push_in (tell_in r (own j) (fact.Standing (name j) Outside)) k (push.Denied (name j) GroupFull))
-    ∙ sym (ap (λ b. if b then push_in (note_denied_in r k g) k (push.Denied g GroupFull) else r) joins)
+    ∙ sym (ap (λ b. if b then push_in (note_outside_in r k g) k (push.Denied g GroupFull) else r) joins)

@@ -1,0 +1,47 @@
+use Rattle.std.proofs.Common.{◌≡◌, ◌∙◌, sym, ap, true, false, arith}
+use Rattle.std.specs.Prelude.{◌==◌, if◌then◌else◌}
+use Rattle.std.proofs.lemmas.Bool.{eq-eqb, ne_eqb}
+use Rattle.cast_types.specs.declared.limits.TheConstants.{MAX_NUMBER}
+use Rattle.cast_types.specs.declared.names.Standing.TheVariants.{Outside}
+use Rattle.cast_message.specs.declared.site.Change.TheVariants as change
+use Rattle.cast_delay.specs.declared.row.Fact.TheVariants as fact
+use Rattle.cast_history.specs.Rules.Requests.{request}
+use Rattle.cast_domain.specs.declared.record.GroupRecord.{GroupRecord}
+use Rattle.cast_domain.specs.Records.{records_in}
+use Rattle.cast_domain.specs.Calls.{local_in, note_outside_in, record_at, records, tell_in}
+use Rattle.cast_domain.proofs.Loops.{seen_as}
+use Rattle.cast_domain.proofs.domain.Domain.leave_group.Goals as goal
+
+pub returns-then-asked-clause-made : goal.returns-then-asked-clause-made
+returns-then-asked-clause-made c =
+    let d = c.args.self.now in
+    let lent = c.args.lent.now in
+    let r = records_in d lent in
+    let k = c.args.serial in
+    let i = c.args.place in
+    let g = c.args.group in
+    let p : c.process-process.result ≡ local_in r k = c.process-process.ensures in
+    let told : records_in c.tell.new.self lent ≡ note_outside_in r k g =
+    seen_as d c.tell.new.self c.in_ok-tell.ensures.kept lent.shared.now lent.outs.now
+    ∙ c.in_ok-tell.ensures.made lent.outs.now r.part ∙ ap (λ q. tell_in r q (fact.Standing g Outside)) p in
+    let asked : c.record.result.now.here.asked ≡ (record_at r.groups i).here.asked = ap (λ (x : GroupRecord). x.here.asked) c.record.ensures in
+    let last : ((record_at r.groups i).here.asked == MAX_NUMBER) ≡ true = eq-eqb (record_at r.groups i).here.asked MAX_NUMBER (sym asked ∙ c.if-asked.true) in
+    told ∙ sym (ap (λ b. if b then note_outside_in r k g else request records (note_outside_in r k g) i change.Leave (local_in r k)) last)
+
+pub returns-clause-made : goal.returns-clause-made
+returns-clause-made c =
+    let d = c.args.self.now in
+    let lent = c.args.lent.now in
+    let r = records_in d lent in
+    let k = c.args.serial in
+    let i = c.args.place in
+    let g = c.args.group in
+    let p : c.process-process.result ≡ local_in r k = c.process-process.ensures in
+    let told : records_in c.tell.new.self lent ≡ note_outside_in r k g =
+    seen_as d c.tell.new.self c.in_ok-tell.ensures.kept lent.shared.now lent.outs.now
+    ∙ c.in_ok-tell.ensures.made lent.outs.now r.part ∙ ap (λ q. tell_in r q (fact.Standing g Outside)) p in
+    let asked : c.record.result.now.here.asked ≡ (record_at r.groups i).here.asked = ap (λ (x : GroupRecord). x.here.asked) c.record.ensures in
+    let left : ((record_at r.groups i).here.asked == MAX_NUMBER) ≡ false = ne_eqb (record_at r.groups i).here.asked MAX_NUMBER (λ same. c.if-asked.false (asked ∙ same)) in
+    c.in_ok-ask.ensures.made
+    ∙ (λ j. request records (told j) i change.Leave (p j))
+    ∙ sym (ap (λ b. if b then note_outside_in r k g else request records (note_outside_in r k g) i change.Leave (local_in r k)) left)
