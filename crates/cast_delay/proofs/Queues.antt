@@ -16,6 +16,7 @@ use Rattle.cast_types.specs.declared.names.Standing.{Standing}
 use Rattle.cast_types.specs.declared.names.Standing.TheVariants.{Outside}
 use Rattle.cast_types.specs.Names.{Entry, group_cmp, group_eq, proc_eq, named}
 use Rattle.cast_types.specs.Sets.{is_among, set_at}
+use Rattle.cast_types.specs.Counts.{CountList}
 use Rattle.cast_types.proofs.Orders.{same_group}
 use Rattle.cast_clock.proofs.Entries.{option_cases}
 use Rattle.cast_message.specs.declared.message.Message.{Message}
@@ -27,8 +28,9 @@ use Rattle.cast_delay.specs.declared.row.Row.{Row}
 use Rattle.cast_delay.specs.declared.row.Fact.{Fact}
 use Rattle.cast_delay.specs.declared.row.Fact.TheVariants as fact
 use Rattle.cast_delay.specs.declared.offered.Offered.{Offered}
-use Rattle.cast_delay.specs.Ready.{Process, Gate, is_member, is_outside, has_delivered, awaits, turn_in, is_causally_ready, is_ready}
-use Rattle.cast_delay.specs.Rows.{number_of, standing_in, is_causally_ready_row, is_ready_row, has_delivered_in, passed_by, awaits_row, delivered_row, told_row}
+use Rattle.cast_delay.specs.declared.gate.Gate.{Gate}
+use Rattle.cast_delay.specs.Ready.{Process, open_gate, frozen_gate, pending_gate, is_member, is_outside, has_delivered, awaits, turn_in, is_causally_ready, is_ready}
+use Rattle.cast_delay.specs.Rows.{gate_in, standing_in, is_causally_ready_row, is_ready_row, has_delivered_in, passed_by, awaits_row, delivered_row, told_row}
 use Rattle.cast_delay.specs.Queue.{Queue, new_row, row_of, change_row, first_for, offered_under, next_key, delivered_in, passed_in, but_offered, is_awaited, HasOneRowEach, after_delivery}
 use Rattle.cast_delay.specs.Fits.{IsSound, HasNotEnded, RowFits, StandsFor, HasNotBegun, offer_of, Fits, FirstReady, HasTurns, IsAwaited, set_process, told, delivering, FactFits}
 use Rattle.cast_delay.specs.Laws.{NewFits}
@@ -88,13 +90,13 @@ module _ (groups : List GroupNo) (gate : GroupNo → Gate) (processes : Proc →
   outside_at p none = subst (λ (o : Option Row). StandsFor gate (processes p) o) none (fits.rows p)
 
   -- the row of a process means the rule
-  pub row_rules : (p : Proc) (row : Row) (m : Message) → row_of q.rows p ≡ Some row → IsSound m → is_causally_ready_row q.numbers row m.id m.times ≡ is_causally_ready groups gate (processes p) m
-  row_rules p row m at sound = row_means gate (processes p) row (row_at p row at) m groups q.numbers fits.numbers (fits.groups_known p) sound
+  pub row_rules : (p : Proc) (row : Row) (m : Message) → row_of q.rows p ≡ Some row → IsSound m → is_causally_ready_row q.gates row m.id m.times ≡ is_causally_ready groups gate (processes p) m
+  row_rules p row m at sound = row_means gate (processes p) row (row_at p row at) m groups q.gates fits.gates (fits.groups_known p) sound
 
   module _ (p : Proc) (turns : List (GroupNo × Turn)) where
     module _ (turn : GroupNo → Turn) (agree : HasTurns (processes p) turns turn) where
       -- and with the turns of its groups
-      pub turn_rules : (row : Row) (r : Received) → row_of q.rows p ≡ Some row → IsSound r.message → is_ready_row turns q.numbers row (offer_of r) ≡ is_ready groups gate turn (processes p) r.message
+      pub turn_rules : (row : Row) (r : Received) → row_of q.rows p ≡ Some row → IsSound r.message → is_ready_row turns q.gates row (offer_of r) ≡ is_ready groups gate turn (processes p) r.message
       turn_rules row r at sound =
           ap (λ b. b && in_turn (turn_in turns) r.message) (row_rules p row r.message at sound)
           ∙ same_turns groups gate (processes p) (turn_in turns) turn agree r.message
@@ -103,11 +105,11 @@ module _ (groups : List GroupNo) (gate : GroupNo → Gate) (processes : Proc →
       ready_at r = is_ready groups gate turn (processes p) r.message
 
       -- the first that is ready by a row is the first that is ready
-      first_is : (row : Row) → row_of q.rows p ≡ Some row → first_for turns q.numbers q.offered row ≡ option_map offer_of (list.find ready_at received)
+      first_is : (row : Row) → row_of q.rows p ≡ Some row → first_for turns q.gates q.offered row ≡ option_map offer_of (list.find ready_at received)
       first_is row at =
-          ap (λ os. first_for turns q.numbers os row) fits.offered
-          ∙ find_mapped offer_of (is_ready_row turns q.numbers row) received
-          ∙ ap (λ (o : Option Received). option_map offer_of o) (find_agree (λ r. is_ready_row turns q.numbers row (offer_of r)) ready_at received (λ r in_it. turn_rules row r at (fits.sound r in_it)))
+          ap (λ os. first_for turns q.gates os row) fits.offered
+          ∙ find_mapped offer_of (is_ready_row turns q.gates row) received
+          ∙ ap (λ (o : Option Received). option_map offer_of o) (find_agree (λ r. is_ready_row turns q.gates row (offer_of r)) ready_at received (λ r in_it. turn_rules row r at (fits.sound r in_it)))
 
       first_from : (f : Option Received) → list.find ready_at received ≡ f → FirstReady groups gate turn (processes p) received (option_map (λ o. o.key) (option_map offer_of f))
       first_from None is = find_mapped (λ r. r.message) (is_ready groups gate turn (processes p)) received ∙ ap (λ (o : Option Received). option_map (λ r. r.message) o) is
@@ -121,11 +123,11 @@ module _ (groups : List GroupNo) (gate : GroupNo → Gate) (processes : Proc →
       pub next_rules : FirstReady groups gate turn (processes p) received (next_key turns q p)
       next_rules = elim (option_cases (row_of q.rows p)) [
         | inl none ↦
-            subst (λ k. FirstReady groups gate turn (processes p) received k) (sym (ap (λ (o : Option Row). option_map (λ x. x.key) (option_and_then (first_for turns q.numbers q.offered) o)) none))
+            subst (λ k. FirstReady groups gate turn (processes p) received k) (sym (ap (λ (o : Option Row). option_map (λ x. x.key) (option_and_then (first_for turns q.gates q.offered) o)) none))
             (never_found (is_ready groups gate turn (processes p)) (messages received) (never_ready groups gate turn (processes p) (outside_at p none)))
         | inr (row, some) ↦
             let next_is : next_key turns q p ≡ option_map (λ o. o.key) (option_map offer_of (list.find ready_at received)) =
-            ap (λ (o : Option Row). option_map (λ x. x.key) (option_and_then (first_for turns q.numbers q.offered) o)) some
+            ap (λ (o : Option Row). option_map (λ x. x.key) (option_and_then (first_for turns q.gates q.offered) o)) some
             ∙ ap (λ (o : Option Offered). option_map (λ x. x.key) o) (first_is row some) in
             subst (λ k. FirstReady groups gate turn (processes p) received k) (sym next_is) (first_from (list.find ready_at received) refl)
       ]
@@ -133,7 +135,7 @@ module _ (groups : List GroupNo) (gate : GroupNo → Gate) (processes : Proc →
   -- a process that is admitted has not begun, or had a row
   pub admit_fits : (p : Proc) → (row_of q.rows p ≡ None → HasNotBegun (processes p)) → Fits groups gate processes received (record q { rows = q.rows ++ new_row p ∷ [] })
   admit_fits p fresh = record {
-    numbers = fits.numbers;
+    gates = fits.gates;
     rows = row_admitted gate processes q.rows p fresh fits.rows;
     groups_known = fits.groups_known;
     offered = fits.offered;
@@ -224,7 +226,7 @@ module _ (groups : List GroupNo) (gate : GroupNo → Gate) (processes : Proc →
   tell_fits p f admitted ok =
       let (row, at) = some_row (row_of q.rows p) admitted in
       record {
-        numbers = fits.numbers;
+        gates = fits.gates;
         rows = rows_changed p (told_row f) (told_keeps f) gate processes (told f (processes p)) q.rows row at (told_fits gate (processes p) row (row_at p row at) f) fits.rows;
         groups_known = known_still p (told f (processes p)) (known_told p f ok);
         offered = fits.offered;
@@ -232,26 +234,42 @@ module _ (groups : List GroupNo) (gate : GroupNo → Gate) (processes : Proc →
         sound = fits.sound;
       }
 
-  -- and the number of a later view
-  pub view_fits : (g : GroupNo) (number : ℕ) → (gate g).number ≤ number → Fits groups (set_at group_eq gate g (record { number = number })) processes received (record q { numbers = put group_cmp g number q.numbers })
-  view_fits g number rise = record {
-    numbers = λ h. put_at_group q.numbers g h number 0 ∙ numbered h;
-    rows = λ p. stands_later gate (set_at group_eq gate g (record { number = number })) rises (processes p) (row_of q.rows p) (fits.rows p);
+  -- a group has another gate, whose view is the same or a later one
+  gate_fits : (g : GroupNo) (v : Gate) → (gate g).number ≤ v.number → Fits groups (set_at group_eq gate g v) processes received (record q { gates = put group_cmp g v q.gates })
+  gate_fits g v rise = record {
+    gates = λ h. put_at_group q.gates g h v (open_gate 0) ∙ gated h;
+    rows = λ p. stands_later gate (set_at group_eq gate g v) rises (processes p) (row_of q.rows p) (fits.rows p);
     groups_known = fits.groups_known;
     offered = fits.offered;
     named = fits.named;
     sound = fits.sound;
   }
     where
-      numbered : (h : GroupNo) → (if group_eq g h then number else number_of q.numbers h) ≡ (set_at group_eq gate g (record { number = number }) h).number
-      numbered h = elim (group_eq g h) as (λ b. (if b then number else number_of q.numbers h) ≡ (if b then record { number = number } else gate h).number) [ true ↦ refl | false ↦ fits.numbers h ]
+      gated : (h : GroupNo) → (if group_eq g h then v else gate_in q.gates h) ≡ set_at group_eq gate g v h
+      gated h = ap (λ x. if group_eq g h then v else x) (fits.gates h)
 
-      rises : (h : GroupNo) → (gate h).number ≤ (set_at group_eq gate g (record { number = number }) h).number
+      rises : (h : GroupNo) → (gate h).number ≤ (set_at group_eq gate g v h).number
       rises h = risen (group_eq g h) (λ same. same_group g h same)
         where
-          risen : (b : Bool) → (b ≡ true → g ≡ h) → (gate h).number ≤ (if b then record { number = number } else gate h).number
-          risen true same = subst (λ k. (gate k).number ≤ number) (same refl) rise
+          risen : (b : Bool) → (b ≡ true → g ≡ h) → (gate h).number ≤ (if b then v else gate h).number
+          risen true same = subst (λ k. (gate k).number ≤ v.number) (same refl) rise
           risen false other = omega arith
+
+  -- so it has the number of a later view
+  pub view_fits : (g : GroupNo) (number : ℕ) → (gate g).number ≤ number → Fits groups (set_at group_eq gate g (open_gate number)) processes received (record q { gates = put group_cmp g (open_gate number) q.gates })
+  view_fits g number rise = gate_fits g (open_gate number) rise
+
+  -- is frozen
+  pub freeze_fits : (g : GroupNo) → Fits groups (set_at group_eq gate g (frozen_gate (gate g))) processes received (record q { gates = put group_cmp g (frozen_gate (gate_in q.gates g)) q.gates })
+  freeze_fits g =
+      subst (λ x. Fits groups (set_at group_eq gate g (frozen_gate (gate g))) processes received (record q { gates = put group_cmp g (frozen_gate x) q.gates }))
+      (sym (fits.gates g)) (gate_fits g (frozen_gate (gate g)) (omega arith))
+
+  -- and has the cut of an Install that waits
+  pub pend_fits : (g : GroupNo) (cut : CountList) → Fits groups (set_at group_eq gate g (pending_gate cut (gate g))) processes received (record q { gates = put group_cmp g (pending_gate cut (gate_in q.gates g)) q.gates })
+  pend_fits g cut =
+      subst (λ x. Fits groups (set_at group_eq gate g (pending_gate cut (gate g))) processes received (record q { gates = put group_cmp g (pending_gate cut x) q.gates }))
+      (sym (fits.gates g)) (gate_fits g (pending_gate cut (gate g)) (omega arith))
 
   -- a process for which a message is ready was admitted
   ready_row : (p : Proc) (m : Message) → is_causally_ready groups gate (processes p) m ≡ true → (row : Row) × (row_of q.rows p ≡ Some row)
@@ -260,7 +278,7 @@ module _ (groups : List GroupNo) (gate : GroupNo → Gate) (processes : Proc →
   -- a message under a key of its own is the last one received
   pub offer_fits : (r : Received) → IsSound r.message → message_under received r.key ≡ None → Fits groups gate processes (received ++ r ∷ []) (record q { offered = q.offered ++ offer_of r ∷ [] })
   offer_fits r sound apart = record {
-    numbers = fits.numbers;
+    gates = fits.gates;
     rows = fits.rows;
     groups_known = fits.groups_known;
     offered = ap (λ os. os ++ offer_of r ∷ []) fits.offered ∙ sym (map-append offer_of received (r ∷ []));
@@ -283,7 +301,7 @@ module _ (groups : List GroupNo) (gate : GroupNo → Gate) (processes : Proc →
   -- what is let go is told of no more
   pub forget_fits : (key : Key) → Fits groups gate processes (filter (λ r. not (key_eq r.key key)) received) (record q { offered = but_offered key q.offered })
   forget_fits key = record {
-    numbers = fits.numbers;
+    gates = fits.gates;
     rows = fits.rows;
     groups_known = fits.groups_known;
     offered = ap (but_offered key) fits.offered ∙ filter_mapped offer_of (λ o. not (key_eq o.key key)) received;
@@ -314,11 +332,11 @@ module _ (groups : List GroupNo) (gate : GroupNo → Gate) (processes : Proc →
       ap (λ os. offered_under os key) fits.offered ∙ find_mapped offer_of (λ o. key_eq o.key key) received ∙ ap (λ (o : Option Received). option_map offer_of o) found in
       let after : after_delivery q.offered p key q.rows ≡ change_row p (delivered_row m.id m.times) q.rows =
       after_at q.offered p key q.rows (offer_of r) offer ∙ ap (λ (x : Message). change_row p (delivered_row x.id x.times) q.rows) same in
-      let parts = ready_parts q.numbers row m.id m.times (row_rules p row m here sound ∙ ready) in
+      let parts = ready_parts q.gates row m.id m.times (row_rules p row m here sound ∙ ready) in
       record {
-        numbers = fits.numbers;
+        gates = fits.gates;
         rows = subst (λ rows. (x : Proc) → StandsFor gate (set_process processes p (delivering m (processes p)) x) (row_of rows x)) (sym after)
-            (rows_changed p (delivered_row m.id m.times) (λ _. refl) gate processes (delivering m (processes p)) q.rows row here (delivered_fits gate (processes p) row (row_at p row here) m sound q.numbers parts) fits.rows);
+            (rows_changed p (delivered_row m.id m.times) (λ _. refl) gate processes (delivering m (processes p)) q.rows row here (delivered_fits gate (processes p) row (row_at p row here) m sound q.gates parts) fits.rows);
         groups_known = known_still p (delivering m (processes p)) (fits.groups_known p);
         offered = fits.offered;
         named = fits.named;
@@ -328,7 +346,7 @@ module _ (groups : List GroupNo) (gate : GroupNo → Gate) (processes : Proc →
 -- a new queue, and processes that have done nothing
 pub new_fits : NewFits
 new_fits groups = record {
-  numbers = λ g. refl;
+  gates = λ g. refl;
   rows = λ p g. refl;
   groups_known = λ p g inside. absurd (false≢true (sym inside));
   offered = refl;

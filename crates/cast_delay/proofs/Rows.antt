@@ -11,7 +11,8 @@ use Rattle.cast_types.specs.Sets.{is_among}
 use Rattle.cast_types.proofs.Orders.{same_proc}
 use Rattle.cast_clock.proofs.Entries.{option_cases}
 use Rattle.cast_delay.specs.declared.row.Row.{Row}
-use Rattle.cast_delay.specs.Ready.{Process, Gate}
+use Rattle.cast_delay.specs.declared.gate.Gate.{Gate}
+use Rattle.cast_delay.specs.Ready.{Process}
 use Rattle.cast_delay.specs.Queue.{new_row, row_of, change_row}
 use Rattle.cast_delay.specs.Fits.{RowFits, StandsFor, HasNotBegun, set_process}
 use Rattle.cast_delay.proofs.Finds.{find-append_some, find-append_none}

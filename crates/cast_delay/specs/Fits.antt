@@ -18,8 +18,9 @@ use Rattle.cast_delay.specs.declared.offered.Offered.{Offered}
 use Rattle.cast_delay.specs.declared.row.Row.{Row}
 use Rattle.cast_delay.specs.declared.row.Fact.{Fact}
 use Rattle.cast_delay.specs.declared.row.Fact.TheVariants as fact
-use Rattle.cast_delay.specs.Ready.{Process, Gate, is_member, is_outside, has_delivered, awaits, turn_in, first_ready}
-use Rattle.cast_delay.specs.Rows.{number_of, standing_in, done_in}
+use Rattle.cast_delay.specs.declared.gate.Gate.{Gate}
+use Rattle.cast_delay.specs.Ready.{Process, is_member, is_outside, has_delivered, awaits, turn_in, first_ready}
+use Rattle.cast_delay.specs.Rows.{gate_in, standing_in, done_in}
 use Rattle.cast_delay.specs.Queue.{Queue, row_of}
 
 -- the message's time has its own view and its own count, from 1 on
@@ -55,7 +56,7 @@ offer_of r = record { key = r.key; id = r.message.id; atomic = is_atomic (kind_o
 
 -- the queue tells of these groups, processes and messages in order of receipt
 pub record Fits (groups : List GroupNo) (gate : GroupNo → Gate) (processes : Proc → Process) (received : List Received) (q : Queue) : Type 0 where
-  pub numbers : (g : GroupNo) → number_of q.numbers g ≡ (gate g).number
+  pub gates : (g : GroupNo) → gate_in q.gates g ≡ gate g
   pub rows : (p : Proc) → StandsFor gate (processes p) (row_of q.rows p)
   pub groups_known : (p : Proc) (g : GroupNo) → is_outside ((processes p).standing g) ≡ false → is_among group_eq g groups ≡ true
   pub offered : q.offered ≡ map offer_of received

@@ -1,4 +1,4 @@
--- The queue as contracts see it: numbers of views, messages in order of receipt, and what is kept of each process.
+-- The queue as contracts see it: gates of groups, messages in order of receipt, and what is kept of each process.
 use Rattle.std.specs.Prelude.{◌≡◌, ℕ, Bool, false, not, if◌then◌else◌, List, [], map, filter, Contains, Option, Some, None}
 use Rattle.std.specs.List.{find, list_any}
 use Rattle.std.specs.Option.{option_map, option_map_or, option_and_then}
@@ -11,10 +11,11 @@ use Rattle.cast_message.specs.Receipts.{key_eq}
 use Rattle.cast_delay.specs.declared.turn.Turn.{Turn}
 use Rattle.cast_delay.specs.declared.row.Row.{Row}
 use Rattle.cast_delay.specs.declared.offered.Offered.{Offered}
+use Rattle.cast_delay.specs.declared.gate.Gate.{Gate}
 use Rattle.cast_delay.specs.Rows.{is_ready_row, has_delivered_in, passed_by, awaits_row, delivered_row}
 
 pub record Queue : Type 0 where
-  pub numbers : List (GroupNo × ℕ)
+  pub gates : List (GroupNo × Gate)
   pub offered : List Offered
   pub rows : List Row
 
@@ -29,15 +30,15 @@ abbrev pub change_row : Proc → (Row → Row) → List Row → List Row
 change_row p f rows = map (λ r. if proc_eq r.process p then f r else r) rows
 
 -- the first message offered that is ready for a row
-abbrev pub first_for : List (GroupNo × Turn) → List (GroupNo × ℕ) → List Offered → Row → Option Offered
-first_for turns numbers offered row = find (is_ready_row turns numbers row) offered
+abbrev pub first_for : List (GroupNo × Turn) → List (GroupNo × Gate) → List Offered → Row → Option Offered
+first_for turns gates offered row = find (is_ready_row turns gates row) offered
 
 abbrev pub offered_under : List Offered → Key → Option Offered
 offered_under offered key = find (λ o. key_eq o.key key) offered
 
 -- the key of the first message that is ready for a process, where these are the turns of groups
 abbrev pub next_key : List (GroupNo × Turn) → Queue → Proc → Option Key
-next_key turns q p = option_map (λ o. o.key) (option_and_then (first_for turns q.numbers q.offered) (row_of q.rows p))
+next_key turns q p = option_map (λ o. o.key) (option_and_then (first_for turns q.gates q.offered) (row_of q.rows p))
 
 -- whether a process has delivered a message; one that was not admitted has delivered none
 abbrev pub delivered_in : Queue → Proc → Uid → Bool

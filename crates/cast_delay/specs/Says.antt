@@ -12,7 +12,8 @@ use Rattle.cast_types.specs.Names.{Entry, named}
 use Rattle.cast_types.specs.Stamps.{ClockList}
 use Rattle.cast_message.specs.declared.message.Received.{Received}
 use Rattle.cast_delay.specs.declared.turn.Turn.{Turn}
-use Rattle.cast_delay.specs.Ready.{Process, Gate, is_member, has_delivered, turn_in}
+use Rattle.cast_delay.specs.declared.gate.Gate.{Gate}
+use Rattle.cast_delay.specs.Ready.{Process, is_member, has_delivered, turn_in}
 use Rattle.cast_delay.specs.Queue.{Queue, row_of, HasOneRowEach}
 use Rattle.cast_delay.specs.Fits.{Fits, HasNotEnded, FirstReady, IsAwaited}
 

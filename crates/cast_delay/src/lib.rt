@@ -22,12 +22,14 @@
 //! `Says` what its answers say of these, and `Laws` that it goes on so.
 #![tactic(auto)]
 
+mod gate;
 pub mod laws;
 mod offered;
 mod queue;
 mod row;
 mod turn;
 
+pub use gate::Gate;
 pub use offered::Offered;
 pub use queue::Delay;
 pub use row::{Fact, Row};

@@ -8,18 +8,19 @@ ghost use Rattle.cast_types.specs.declared.names.Proc.{Proc};
 ghost use Rattle.cast_types.specs.declared.names.Standing.TheVariants.{Outside};
 ghost use Rattle.cast_message.specs.Receipts.{key_eq};
 ghost use Rattle.cast_delay.specs.declared.turn.Turn.{Turn};
-ghost use Rattle.cast_delay.specs.Ready.{is_member, has_delivered};
-ghost use Rattle.cast_delay.specs.Rows.{told_row, standing_in, done_in};
+ghost use Rattle.cast_delay.specs.Ready.{open_gate, frozen_gate, pending_gate, is_member, has_delivered};
+ghost use Rattle.cast_delay.specs.Rows.{gate_in, told_row, standing_in, done_in};
 ghost use Rattle.cast_delay.specs.Queue.{new_row, row_of, change_row, first_for, offered_under, next_key, delivered_in, passed_in, but_offered, is_awaited, after_delivery};
 ghost use Rattle.cast_delay.specs.Fits.{offer_of};
 ghost use Rattle.cast_delay.specs.Says.{SaysAwaited, SaysFirstReady, SaysDelivered, SaysPassed, SaysTime, SaysStanding};
 
+use crate::gate::{Gate, frozen_in, number_in};
 use crate::offered::Offered;
 use crate::row::{Fact, Row};
 use crate::turn::Turn;
 use cast_clock::Times;
 use cast_message::Message;
-use cast_types::{GroupNo, Key, Keyed, NoMemory, Proc, Standing, Uid};
+use cast_types::{Counts, GroupNo, Key, Keyed, NoMemory, Proc, Standing, Uid};
 use std::alloc::Global;
 use std::marker::Model;
 
@@ -27,7 +28,7 @@ use std::marker::Model;
 /// it may deliver. Contracts see a `Queue`.
 #[derive(Drop)]
 pub struct Delay {
-    numbers: Keyed<GroupNo, u32>,
+    gates: Keyed<GroupNo, Gate>,
     offered: Vec<Offered>,
     rows: Vec<Row>,
 }
@@ -37,16 +38,16 @@ impl Model for Delay {
 
     ghost Value = { Queue };
 
-    ghost view = { λ d. record { numbers = d.numbers; offered = d.offered.items; rows = d.rows.items } };
+    ghost view = { λ d. record { gates = d.gates; offered = d.offered.items; rows = d.rows.items } };
 }
 
 impl Delay {
     /// No messages, no views and no processes.
     pub fn new(alloc: Global) -> Self
-        ensures { result ≡ record { numbers = []; offered = []; rows = [] } }
+        ensures { result ≡ record { gates = []; offered = []; rows = [] } }
     {
         Delay {
-            numbers: Keyed::new(alloc),
+            gates: Keyed::new(alloc),
             offered: Vec::new(alloc),
             rows: Vec::new(alloc),
         }
@@ -69,11 +70,36 @@ impl Delay {
         Ok(())
     }
 
-    /// Takes in the number of a group's new view.
+    /// Takes in the number of a group's new view, which no flush has frozen.
     pub fn view_changed(&mut self, group: GroupNo, number: u32) -> Result<(), NoMemory>
-        ensures { OnOk result (self.new ≡ record self.old { numbers = put group_cmp group number self.old.numbers }) }
+        ensures { OnOk result (self.new ≡ record self.old { gates = put group_cmp group (open_gate number) self.old.gates }) }
     {
-        self.numbers.put(group, number)?;
+        self.gates.put(group, Gate::new(number))?;
+        Ok(())
+    }
+
+    /// Freezes a group: of its messages only those are delivered that are within its cut, where an Install waits.
+    pub fn freeze(&mut self, group: GroupNo) -> Result<(), NoMemory>
+        ensures { OnOk result (self.new ≡ record self.old { gates = put group_cmp group (frozen_gate (gate_in self.old.gates group)) self.old.gates }) }
+    {
+        let gate = frozen_in(&self.gates, group)?;
+        self.gates.put(group, gate)?;
+        Ok(())
+    }
+
+    /// Takes in that the Install of a group's next view waits, with this cut: the group is frozen, and of its messages
+    /// those within the cut are delivered.
+    pub fn pend(&mut self, group: GroupNo, cut: &Counts) -> Result<(), NoMemory>
+        ensures { OnOk result (self.new ≡ record self.old { gates = put group_cmp group (pending_gate cut.now (gate_in self.old.gates group)) self.old.gates }) }
+    {
+        let number = number_in(&self.gates, group);
+        let cut = Some(cut.copy()?);
+        let gate = Gate {
+            number,
+            frozen: true,
+            cut,
+        };
+        self.gates.put(group, gate)?;
         Ok(())
     }
 
@@ -114,7 +140,7 @@ impl Delay {
         ensures meaning { SaysFirstReady self.now process turns.now result }
     {
         let row = row_in(&self.rows, process)?;
-        let offered = first_in(turns, &self.numbers, &self.offered, row)?;
+        let offered = first_in(turns, &self.gates, &self.offered, row)?;
         Some(offered.key)
     }
 
@@ -182,15 +208,15 @@ fn row_in(rows: &[Row], process: Proc) -> Option<&Row>
 // The first message that is ready for a row, where these are the turns of groups.
 fn first_in<'a>(
     turns: &[(GroupNo, Turn)],
-    numbers: &Keyed<GroupNo, u32>,
+    gates: &Keyed<GroupNo, Gate>,
     offered: &'a [Offered],
     row: &Row,
 ) -> Option<&'a Offered>
-    ensures { option_copied result ≡ first_for turns.now numbers.now offered.now row.now }
+    ensures { option_copied result ≡ first_for turns.now gates.now offered.now row.now }
 {
     offered
         .iter()
-        .find(|offered| row.is_ready(turns, numbers, offered))
+        .find(|offered| row.is_ready(turns, gates, offered))
 }
 
 // The message under a key.

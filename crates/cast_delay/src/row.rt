@@ -3,8 +3,9 @@ ghost use Rattle.std.specs.List.{list_all, position};
 ghost use Rattle.cast_types.specs.Names.{named};
 ghost use Rattle.cast_clock.specs.Times.{clock_of, view_of};
 ghost use Rattle.cast_delay.specs.Ready.{is_member};
-ghost use Rattle.cast_delay.specs.Rows.{number_of, needed};
+ghost use Rattle.cast_delay.specs.Rows.{needed};
 
+use crate::gate::{Gate, is_open_in, number_in};
 use crate::offered::Offered;
 use crate::turn::{Turn, turn_in};
 use cast_clock::{ClockFault, Times};
@@ -132,11 +133,11 @@ impl Row {
     }
 
     // Whether no group holds the message back.
-    fn all_allow(&self, numbers: &Keyed<GroupNo, u32>, id: Uid, times: &Stamp) -> bool
-        ensures { result ≡ all_allow numbers.now self.now id times.now }
+    fn all_allow(&self, gates: &Keyed<GroupNo, Gate>, id: Uid, times: &Stamp) -> bool
+        ensures { result ≡ all_allow gates.now self.now id times.now }
     {
         self.standings.entries().iter().all(|(group, standing)| self.allows(
-            number_in(numbers, *group),
+            number_in(gates, *group),
             id,
             times,
             *group,
@@ -145,14 +146,15 @@ impl Row {
     }
 
     /// Whether all that happened before a message was delivered to the process, a member of its group in the current
-    /// view that has not delivered the message.
-    pub fn is_causally_ready(&self, numbers: &Keyed<GroupNo, u32>, id: Uid, times: &Stamp) -> bool
-        ensures { result ≡ is_causally_ready_row numbers.now self.now id times.now }
+    /// view that has not delivered the message, where the group is not frozen or the message is within its cut.
+    pub fn is_causally_ready(&self, gates: &Keyed<GroupNo, Gate>, id: Uid, times: &Stamp) -> bool
+        ensures { result ≡ is_causally_ready_row gates.now self.now id times.now }
     {
         self.is_member(id.group)
-            && id.view == number_in(numbers, id.group)
+            && id.view == number_in(gates, id.group)
+            && is_open_in(gates, id)
             && self.done(id.group, id.view, id.proc) < id.count
-            && self.all_allow(numbers, id, times)
+            && self.all_allow(gates, id, times)
             && self.time.has_room_for(times)
     }
 
@@ -160,13 +162,13 @@ impl Row {
     pub fn is_ready(
         &self,
         turns: &[(GroupNo, Turn)],
-        numbers: &Keyed<GroupNo, u32>,
+        gates: &Keyed<GroupNo, Gate>,
         offered: &Offered,
     ) -> bool
-        ensures { result ≡ is_ready_row turns.now numbers.now self.now offered.now }
+        ensures { result ≡ is_ready_row turns.now gates.now self.now offered.now }
     {
         let id = offered.id;
-        self.is_causally_ready(numbers, id, &offered.times)
+        self.is_causally_ready(gates, id, &offered.times)
             && (!offered.atomic || turn_in(turns, id.group).is_of(id.proc, id.count))
     }
 
@@ -254,15 +256,5 @@ fn needed(id: Uid, group: GroupNo, view: u32, entry: (Proc, u32)) -> u32
         count.saturating_sub(1)
     } else {
         count
-    }
-}
-
-/// The number of a group's view, 0 where none was told.
-pub fn number_in(numbers: &Keyed<GroupNo, u32>, group: GroupNo) -> u32
-    ensures { result ≡ number_of numbers.now group }
-{
-    match numbers.get(&group) {
-        Some(number) => *number,
-        None => 0,
     }
 }

@@ -28,7 +28,8 @@ use Rattle.cast_message.specs.Membership.{Membership}
 use Rattle.cast_delay.specs.declared.row.Row.{Row}
 use Rattle.cast_delay.specs.declared.row.Fact.{Fact}
 use Rattle.cast_delay.specs.declared.row.Fact.TheVariants as fact
-use Rattle.cast_delay.specs.Ready.{Process, Gate, is_outside, has_delivered, is_member}
+use Rattle.cast_delay.specs.declared.gate.Gate.{Gate}
+use Rattle.cast_delay.specs.Ready.{Process, open_gate, is_outside, has_delivered, is_member}
 use Rattle.cast_delay.specs.Rows.{told_row}
 use Rattle.cast_delay.specs.Queue.{new_row, row_of, change_row}
 use Rattle.cast_message.specs.declared.message.Received.{Received}
@@ -289,16 +290,16 @@ fits_push r s fits k p =
 
 -- Changes of one group
 
--- the number of a group, as the queue has it
-gate_told : (s : State) (g : GroupNo) (v : Group) → set_at group_eq (gate_of s) g (record { number = v.number }) ≡ gate_of (set_group s g v)
+-- the gate of a group, as the queue has it
+gate_told : (s : State) (g : GroupNo) (v : Group) → set_at group_eq (gate_of s) g (open_gate v.number) ≡ gate_of (set_group s g v)
 gate_told s g v = λ i h. at_group h i
   where
-    at_group : (h : GroupNo) → set_at group_eq (gate_of s) g (record { number = v.number }) h ≡ gate_of (set_group s g v) h
+    at_group : (h : GroupNo) → set_at group_eq (gate_of s) g (open_gate v.number) h ≡ gate_of (set_group s g v) h
     at_group h =
-        elim (group_eq g h) as (λ b. ◌≡◌ {A = Gate} (if b then record { number = v.number } else record { number = (s.group h).number }) (record { number = (if b then v else s.group h).number })) [ true ↦ refl | false ↦ refl ]
+        elim (group_eq g h) as (λ b. ◌≡◌ {A = Gate} (if b then open_gate v.number else open_gate (s.group h).number) (open_gate (if b then v else s.group h).number)) [ true ↦ refl | false ↦ refl ]
 
 gate_same : (s : State) (g : GroupNo) (v : Group) → v.number ≡ (s.group g).number → gate_of s ≡ gate_of (set_group s g v)
-gate_same s g v same = λ i h. record { number = at_group h i }
+gate_same s g v same = λ i h. open_gate (at_group h i)
   where
     at_group : (h : GroupNo) → (s.group h).number ≡ ((set_group s g v).group h).number
     at_group h = elim (cases_Bool (group_eq g h)) [
@@ -346,9 +347,9 @@ fits_view r s fits lawful i g at n members newer = record {
   groups = (λ j. update (fits.groups j) i (λ x. record x { here = with_view (fits.core j).site n members x.here })) ∙ groups_here s lawful i g at (with_view s.here n members);
   messages = fits.messages;
   processes = record {
-    delay = subst (λ h. QueueFits s.config.groups (gate_of (set_group s g (with_view s.here n members (s.group g)))) (process_named s) r.part.kept (record r.delay { numbers = put group_cmp h n r.delay.numbers }))
+    delay = subst (λ h. QueueFits s.config.groups (gate_of (set_group s g (with_view s.here n members (s.group g)))) (process_named s) r.part.kept (record r.delay { gates = put group_cmp h (open_gate n) r.delay.gates }))
         (sym (ap (λ (x : GroupRecord). x.name) (record_there r s fits i g at)))
-        (subst (λ gate. QueueFits s.config.groups gate (process_named s) r.part.kept (record r.delay { numbers = put group_cmp g n r.delay.numbers })) (gate_told s g (with_view s.here n members (s.group g)))
+        (subst (λ gate. QueueFits s.config.groups gate (process_named s) r.part.kept (record r.delay { gates = put group_cmp g (open_gate n) r.delay.gates })) (gate_told s g (with_view s.here n members (s.group g)))
         (view_fits s.config.groups (gate_of s) (process_named s) r.part.kept r.delay fits.processes.delay g n (omega (arith, newer))));
     admitted = fits.processes.admitted;
     rows = fits.processes.rows;
@@ -660,7 +661,7 @@ fits_open r s fits = record {
     ]
 
 -- a new domain stands for the history before its first event
-pub fits_before : (here : SiteNo) (config : DomainConfig) → Fits (record { site = here; config = config; used = 0; sessions = []; groups = map (record_for (opening here config)) config.groups; moment = 0; part = no_part; delay = record { numbers = []; offered = []; rows = [] }; acks = new_ledger here; orders = []; frames = []; delivered = [] }) (before_event (opening here config))
+pub fits_before : (here : SiteNo) (config : DomainConfig) → Fits (record { site = here; config = config; used = 0; sessions = []; groups = map (record_for (opening here config)) config.groups; moment = 0; part = no_part; delay = record { gates = []; offered = []; rows = [] }; acks = new_ledger here; orders = []; frames = []; delivered = [] }) (before_event (opening here config))
 fits_before here config = record {
   core = refl;
   opened = record {
@@ -675,7 +676,7 @@ fits_before here config = record {
     counted = refl;
   };
   processes = record {
-    delay = subst (λ ps. QueueFits config.groups (λ g. record { number = 0 }) ps [] (record { numbers = []; offered = []; rows = [] })) (λ i p. idle p i) (new_fits config.groups);
+    delay = subst (λ ps. QueueFits config.groups (λ g. open_gate 0) ps [] (record { gates = []; offered = []; rows = [] })) (λ i p. idle p i) (new_fits config.groups);
     admitted = λ k was. absurd (false≢true (sym (none_given k) ∙ was));
     rows = refl;
     idle = λ k none. subst HasNotBegun (idle (record { site = here; serial = k })) (record { time = refl; delivered = refl });

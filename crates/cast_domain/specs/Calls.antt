@@ -28,7 +28,7 @@ use Rattle.cast_message.specs.Membership.{Membership}
 use Rattle.cast_message.specs.Stretch.{Stretch}
 use Rattle.cast_message.specs.Keeping.{KeptList}
 use Rattle.cast_flush.specs.declared.report.Report.{Report}
-use Rattle.cast_delay.specs.Ready.{is_member}
+use Rattle.cast_delay.specs.Ready.{open_gate, is_member}
 use Rattle.cast_delay.specs.declared.turn.Turn.{Turn}
 use Rattle.cast_delay.specs.declared.turn.Turn.TheVariants.{Holding, Following}
 use Rattle.cast_delay.specs.Fits.{offer_of}
@@ -206,7 +206,7 @@ abbrev pub view_in : Records → ℕ → ℕ → Membership → Records
 view_in r i n members =
     record r {
       groups = update r.groups i (λ x. record x { here = with_view r.site n members x.here });
-      delay = record r.delay { numbers = put group_cmp (record_at r.groups i).name n r.delay.numbers };
+      delay = record r.delay { gates = put group_cmp (record_at r.groups i).name (open_gate n) r.delay.gates };
       acks = told_ledger r.acks (record_at r.groups i).name (other_sites r.site (members_of (with_view r.site n members (record_at r.groups i).here)));
       orders = but_log (record_at r.groups i).name r.orders;
     }

@@ -15,7 +15,8 @@ use Rattle.cast_message.specs.Bodies.{kind_of}
 use Rattle.cast_message.specs.declared.site.SiteFrame.{SiteFrame}
 use Rattle.cast_stable.specs.Stable.{Acked, stable_upto, is_known_stable}
 use Rattle.cast_timer.specs.declared.key.Owed.{Owed}
-use Rattle.cast_delay.specs.Ready.{Process, Gate, is_member, has_delivered, awaits}
+use Rattle.cast_delay.specs.declared.gate.Gate.{Gate}
+use Rattle.cast_delay.specs.Ready.{Process, open_gate, is_member, has_delivered, awaits}
 use Rattle.cast_history.specs.Acts.{Act}
 use Rattle.cast_history.specs.Acts.Act.{Sent, Delivered}
 use Rattle.cast_model.specs.declared.session.Session.{Session}
@@ -203,7 +204,7 @@ releasing s passes = record s { kept = filter (λ m. not (passes m.id)) s.kept }
 -- Readiness
 
 abbrev pub gate_of : State → GroupNo → Gate
-gate_of s g = record { number = (s.group g).number }
+gate_of s g = open_gate (s.group g).number
 
 -- a process has not delivered an ABCAST of its own, of the view of a group of which it is a member
 abbrev pub awaits_own : State → ℕ → Bool

@@ -1,4 +1,4 @@
-use Rattle.cast_delay.proofs.Queues.{new_fits, admit_fits, tell_fits, view_fits, offer_fits, forget_fits, delivery_fits}
+use Rattle.cast_delay.proofs.Queues.{new_fits, admit_fits, tell_fits, view_fits, freeze_fits, pend_fits, offer_fits, forget_fits, delivery_fits}
 use Rattle.cast_delay.proofs.laws.queue_keeps_its_meaning.Goals as goal
 
 pub returns-clause-new : goal.returns-clause-new
@@ -12,6 +12,12 @@ returns-clause-tell c = tell_fits
 
 pub returns-clause-view_changed : goal.returns-clause-view_changed
 returns-clause-view_changed c = view_fits
+
+pub returns-clause-freeze : goal.returns-clause-freeze
+returns-clause-freeze c = freeze_fits
+
+pub returns-clause-pend : goal.returns-clause-pend
+returns-clause-pend c = pend_fits
 
 pub returns-clause-offer : goal.returns-clause-offer
 returns-clause-offer c = offer_fits
