@@ -1,10 +1,10 @@
 -- The queue names the first message that is ready, and keeps its meaning.
-use Rattle.std.proofs.Common.{◌≡◌, ◌↔◌, ℕ, ◌<◌, ◌≤◌, Bool, true, false, cond, not, ◌&&◌, List, length, take, [], ◌∷◌, ◌++◌, filter, Contains, Option, Some, None, unwrap_or, refl, sym, ap, subst, ◌∙◌, inl, inr, arith}
+use Rattle.std.proofs.Common.{◌≡◌, ◌↔◌, ℕ, ◌<◌, ◌≤◌, Bool, true, false, cond, not, ◌&&◌, ◌||◌, ◌⊎◌, List, length, take, [], ◌∷◌, ◌++◌, filter, Contains, Option, Some, None, unwrap_or, refl, sym, ap, subst, ◌∙◌, inl, inr, arith}
 use Rattle.std.specs.Prelude.{if◌then◌else◌, slice_get}
 use Rattle.std.specs.List as list
 use Rattle.std.specs.Option.{IsSome, option_map, option_map_or, option_and_then}
 use Rattle.std.specs.FinMap.Entries.{put}
-use Rattle.std.proofs.lemmas.Bool.{cases_Bool, false≢true, false_from_ne_true, not-false, and_parts, eqb-true, eq-eqb, ne_eqb}
+use Rattle.std.proofs.lemmas.Bool.{cases_Bool, false≢true, false_from_ne_true, not-false, and_parts, and_from, or_cases, or_left, or_right, eqb-true, eq-eqb, ne_eqb}
 use Rattle.std.proofs.lemmas.List.{map-append}
 use Rattle.std.proofs.lemmas.List.Folds.{find_at}
 use Rattle.std.proofs.lemmas.List.Elements.{Contains-push_cases}
@@ -14,10 +14,11 @@ use Rattle.cast_types.specs.declared.names.Key.{Key}
 use Rattle.cast_types.specs.declared.names.Uid.{Uid}
 use Rattle.cast_types.specs.declared.names.Standing.{Standing}
 use Rattle.cast_types.specs.declared.names.Standing.TheVariants.{Outside}
-use Rattle.cast_types.specs.Names.{Entry, group_cmp, group_eq, proc_eq, named}
+use Rattle.cast_types.specs.Names.{Entry, group_cmp, group_eq, proc_eq, uid_eq, named}
 use Rattle.cast_types.specs.Sets.{is_among, set_at}
 use Rattle.cast_types.specs.Counts.{CountList}
-use Rattle.cast_types.proofs.Orders.{same_group}
+use Rattle.cast_types.specs.Sources.{source}
+use Rattle.cast_types.proofs.Orders.{same_group, group_itself, same_proc, proc_itself, same_uid, uid_itself}
 use Rattle.cast_clock.proofs.Entries.{option_cases}
 use Rattle.cast_message.specs.declared.message.Message.{Message}
 use Rattle.cast_message.specs.declared.message.Received.{Received}
@@ -30,15 +31,19 @@ use Rattle.cast_delay.specs.declared.row.Fact.TheVariants as fact
 use Rattle.cast_delay.specs.declared.offered.Offered.{Offered}
 use Rattle.cast_delay.specs.declared.gate.Gate.{Gate}
 use Rattle.cast_delay.specs.Ready.{Process, open_gate, frozen_gate, pending_gate, is_member, is_outside, has_delivered, awaits, turn_in, is_causally_ready, is_ready}
+use Rattle.cast_delay.specs.Tallies.{Tally, raised_at, counts_in}
 use Rattle.cast_delay.specs.Rows.{gate_in, standing_in, is_causally_ready_row, is_ready_row, has_delivered_in, passed_by, awaits_row, delivered_row, told_row}
-use Rattle.cast_delay.specs.Queue.{Queue, new_row, row_of, change_row, first_for, offered_under, next_key, delivered_in, passed_in, but_offered, is_awaited, HasOneRowEach, after_delivery}
-use Rattle.cast_delay.specs.Fits.{IsSound, HasNotEnded, RowFits, StandsFor, HasNotBegun, offer_of, Fits, FirstReady, HasTurns, IsAwaited, set_process, told, delivering, FactFits}
+use Rattle.cast_delay.specs.Queue.{Queue, new_row, row_of, but_row, change_row, first_for, offered_under, next_key, delivered_in, passed_in, but_offered, is_awaited, HasOneRowEach, after_delivery, reached_after, queue_viewing, queue_delivering}
+use Rattle.cast_delay.specs.Fits.{IsSound, HasNotEnded, RowFits, StandsFor, HasNotBegun, Reaches, offer_of, Fits, FirstReady, HasTurns, IsAwaited, set_process, told, delivering, FactFits}
 use Rattle.cast_delay.specs.Laws.{NewFits}
+use Rattle.cast_delay.specs.Says.{SaysReached}
 use Rattle.cast_delay.proofs.Means.{row_means, awaits_means, delivered_means}
 use Rattle.cast_delay.proofs.Turns.{in_turn, same_turns, causally_member}
 use Rattle.cast_delay.proofs.Finds.{found_in, find_agree, find_mapped, never_found, find-append_some, find-append_none, find_kept, none_before, kept_parts, filter_mapped, any_in, found_any, put_at_group}
 use Rattle.cast_delay.proofs.Delivers.{told_fits, delivered_fits, ready_parts}
-use Rattle.cast_delay.proofs.Rows.{some_row, rows_changed, row_admitted, stands_later}
+use Rattle.cast_delay.proofs.Listed.{list_any-append}
+use Rattle.cast_delay.proofs.Reached.{reaches_later, reaches_ended, reaches_same, reaches_raised, reached_most, reached_each}
+use Rattle.cast_delay.proofs.Rows.{some_row, rows_changed, row_admitted, row_dismissed, stands_later, row_ended, row_of_ended}
 
 no_message : (m : Message) → None ≡ Some m → ⊥
 no_message m e = cc
@@ -74,6 +79,15 @@ received_under received key m at = elim (option_cases (list.find (λ x. key_eq x
 after_at : (offered : List Offered) (p : Proc) (key : Key) (rows : List Row) (o : Offered) → offered_under offered key ≡ Some o → after_delivery offered p key rows ≡ change_row p (delivered_row o.id o.times) rows
 after_at offered p key rows o at =
     ap (λ (x : Option Offered). elim x as (λ _. List Row) [ Some y ↦ change_row p (delivered_row y.id y.times) rows | None ↦ rows ]) at
+
+-- what is reached after it
+raised_to : (offered : List Offered) (key : Key) (reached : Tally) (o : Offered) → offered_under offered key ≡ Some o → reached_after offered key reached ≡ raised_at (source o.id.group o.id.view o.id.proc) o.id.count reached
+raised_to offered key reached o at =
+    ap (λ (x : Option Offered). elim x as (λ _. Tally) [ Some y ↦ raised_at (source y.id.group y.id.view y.id.proc) y.id.count reached | None ↦ reached ]) at
+
+or_false : (b : Bool) → (b || false) ≡ b
+or_false true = refl
+or_false false = refl
 
 -- of a process that is in no group no message is ready
 never_ready : (groups : List GroupNo) (gate : GroupNo → Gate) (turn : GroupNo → Turn) (v : Process) → ((g : GroupNo) → v.standing g ≡ Outside) → (m : Message) → is_ready groups gate turn v m ≡ false
@@ -141,6 +155,19 @@ module _ (groups : List GroupNo) (gate : GroupNo → Gate) (processes : Proc →
     offered = fits.offered;
     named = fits.named;
     sound = fits.sound;
+    reached = fits.reached;
+  }
+
+  -- and one that is dismissed is in no group
+  pub dismiss_fits : (p : Proc) → ((g : GroupNo) → (processes p).standing g ≡ Outside) → Fits groups gate processes received (record q { rows = but_row p q.rows })
+  dismiss_fits p outside = record {
+    gates = fits.gates;
+    rows = row_dismissed gate processes q.rows p outside fits.rows;
+    groups_known = fits.groups_known;
+    offered = fits.offered;
+    named = fits.named;
+    sound = fits.sound;
+    reached = fits.reached;
   }
 
   -- groups are known still where one process changes to one whose groups are known
@@ -221,6 +248,20 @@ module _ (groups : List GroupNo) (gate : GroupNo → Gate) (processes : Proc →
           let (row, at) = member_admitted p id.group (and_parts (is_member ((processes p).standing id.group)) (not (has_delivered (processes p) id)) waits).0 in
           found_any (λ r. awaits_row r id) (λ r. proc_eq r.process p) q.rows row at (awaited_by p row at id stands from_one ∙ waits)
 
+  -- a fact changes nothing of what processes delivered
+  told_delivered : (f : Fact) (v : Process) → (told f v).delivered ≡ v.delivered
+  told_delivered (fact.Standing h s) v = refl
+  told_delivered (fact.Time time) v = refl
+
+  told_same : (p : Proc) (f : Fact) (x : Proc) (u : Uid) → has_delivered (set_process processes p (told f (processes p)) x) u ≡ has_delivered (processes x) u
+  told_same p f x u = elim (cases_Bool (proc_eq p x)) [
+    | inl same ↦
+        ap (λ b. has_delivered (if b then told f (processes p) else processes x) u) same
+        ∙ ap (λ d. is_among uid_eq u d) (told_delivered f (processes p))
+        ∙ ap (λ y. has_delivered (processes y) u) (same_proc p x same)
+    | inr other ↦ ap (λ b. has_delivered (if b then told f (processes p) else processes x) u) other
+  ]
+
   -- a fact is taken in as the process takes it in
   pub tell_fits : (p : Proc) (f : Fact) → IsSome (row_of q.rows p) → FactFits groups f → Fits groups gate (set_process processes p (told f (processes p))) received (record q { rows = change_row p (told_row f) q.rows })
   tell_fits p f admitted ok =
@@ -232,6 +273,8 @@ module _ (groups : List GroupNo) (gate : GroupNo → Gate) (processes : Proc →
         offered = fits.offered;
         named = fits.named;
         sound = fits.sound;
+        reached = reaches_same gate processes q.reached fits.reached (set_process processes p (told f (processes p)))
+            (λ x u has. told_same p f x u ∙ has) (λ x u has. sym (told_same p f x u) ∙ has);
       }
 
   -- a group has another gate, whose view is the same or a later one
@@ -243,6 +286,7 @@ module _ (groups : List GroupNo) (gate : GroupNo → Gate) (processes : Proc →
     offered = fits.offered;
     named = fits.named;
     sound = fits.sound;
+    reached = reaches_later gate processes q.reached fits.reached (set_at group_eq gate g v) rises;
   }
     where
       gated : (h : GroupNo) → (if group_eq g h then v else gate_in q.gates h) ≡ set_at group_eq gate g v h
@@ -255,9 +299,21 @@ module _ (groups : List GroupNo) (gate : GroupNo → Gate) (processes : Proc →
           risen true same = subst (λ k. (gate k).number ≤ v.number) (same refl) rise
           risen false other = omega arith
 
-  -- so it has the number of a later view
-  pub view_fits : (g : GroupNo) (number : ℕ) → (gate g).number ≤ number → Fits groups (set_at group_eq gate g (open_gate number)) processes received (record q { gates = put group_cmp g (open_gate number) q.gates })
-  view_fits g number rise = gate_fits g (open_gate number) rise
+  -- so it has the number of a later view, and what was delivered before that is forgotten
+  pub view_fits : (g : GroupNo) (number : ℕ) → (gate g).number ≤ number → Fits groups (set_at group_eq gate g (open_gate number)) processes received (queue_viewing g number q)
+  view_fits g number rise =
+      let later : GroupNo → Gate = set_at group_eq gate g (open_gate number) in
+      let told : Fits groups later processes received (record q { gates = put group_cmp g (open_gate number) q.gates }) = gate_fits g (open_gate number) rise in
+      let reached : number ≤ (later g).number = subst (λ b. number ≤ (if b then open_gate number else gate g).number) (sym (group_itself g)) (omega arith) in
+      record {
+        gates = told.gates;
+        rows = λ p. subst (λ o. StandsFor later (processes p) o) (sym (row_of_ended g number q.rows p)) (row_ended later (processes p) g number reached (row_of q.rows p) (told.rows p));
+        groups_known = told.groups_known;
+        offered = told.offered;
+        named = told.named;
+        sound = told.sound;
+        reached = reaches_ended later processes q.reached told.reached g number reached;
+      }
 
   -- is frozen
   pub freeze_fits : (g : GroupNo) → Fits groups (set_at group_eq gate g (frozen_gate (gate g))) processes received (record q { gates = put group_cmp g (frozen_gate (gate_in q.gates g)) q.gates })
@@ -284,6 +340,7 @@ module _ (groups : List GroupNo) (gate : GroupNo → Gate) (processes : Proc →
     offered = ap (λ os. os ++ offer_of r ∷ []) fits.offered ∙ sym (map-append offer_of received (r ∷ []));
     named = named_now;
     sound = sound_now;
+    reached = fits.reached;
   }
     where
       sound_now : (x : Received) → Contains (received ++ r ∷ []) x → IsSound x.message
@@ -307,6 +364,7 @@ module _ (groups : List GroupNo) (gate : GroupNo → Gate) (processes : Proc →
     offered = ap (but_offered key) fits.offered ∙ filter_mapped offer_of (λ o. not (key_eq o.key key)) received;
     named = named_now;
     sound = λ r in_it. fits.sound r (kept_parts (λ x. not (key_eq x.key key)) received r in_it).0;
+    reached = fits.reached;
   }
     where
       -- what goes is under no other key
@@ -322,8 +380,36 @@ module _ (groups : List GroupNo) (gate : GroupNo → Gate) (processes : Proc →
           ap (λ (o : Option Received). option_map (λ x. x.message) o) (find_kept (λ x. key_eq x.key r.key) (λ x. not (key_eq x.key key)) (λ x out. goes r x parts.1 out) received)
           ∙ fits.named r parts.0
 
+  -- what processes have delivered once one has delivered a message more
+  delivered_now : (p : Proc) (m : Message) (x : Proc) (u : Uid) → has_delivered (set_process processes p (delivering m (processes p)) x) u ≡ (has_delivered (processes x) u || (proc_eq p x && uid_eq u m.id))
+  delivered_now p m x u = elim (cases_Bool (proc_eq p x)) [
+    | inl same ↦
+        ap (λ b. has_delivered (if b then delivering m (processes p) else processes x) u) same
+        ∙ list_any-append (uid_eq u) (processes p).delivered (m.id ∷ [])
+        ∙ (λ i. has_delivered (processes (same_proc p x same i)) u || or_false (uid_eq u m.id) i)
+        ∙ sym (ap (λ b. has_delivered (processes x) u || (b && uid_eq u m.id)) same)
+    | inr other ↦
+        ap (λ b. has_delivered (if b then delivering m (processes p) else processes x) u) other
+        ∙ sym (or_false (has_delivered (processes x) u))
+        ∙ sym (ap (λ b. has_delivered (processes x) u || (b && uid_eq u m.id)) other)
+  ]
+
+  delivered_still : (p : Proc) (m : Message) (x : Proc) (u : Uid) → has_delivered (processes x) u ≡ true → has_delivered (set_process processes p (delivering m (processes p)) x) u ≡ true
+  delivered_still p m x u has = delivered_now p m x u ∙ or_left (has_delivered (processes x) u) (proc_eq p x && uid_eq u m.id) has
+
+  delivered_own : (p : Proc) (m : Message) → has_delivered (set_process processes p (delivering m (processes p)) p) m.id ≡ true
+  delivered_own p m =
+      delivered_now p m p m.id
+      ∙ or_right (has_delivered (processes p) m.id) (proc_eq p p && uid_eq m.id m.id) (and_from (proc_eq p p) (uid_eq m.id m.id) (proc_itself p) (uid_itself m.id))
+
+  delivered_before : (p : Proc) (m : Message) (x : Proc) (u : Uid) → has_delivered (set_process processes p (delivering m (processes p)) x) u ≡ true → (has_delivered (processes x) u ≡ true) ⊎ (u ≡ m.id)
+  delivered_before p m x u has = elim (or_cases (has_delivered (processes x) u) (proc_eq p x && uid_eq u m.id) (sym (delivered_now p m x u) ∙ has)) [
+    | inl old ↦ inl old
+    | inr own ↦ inr (same_uid u m.id (and_parts (proc_eq p x) (uid_eq u m.id) own).1)
+  ]
+
   -- a delivery of a message that is ready is taken in as the process takes it in
-  pub delivery_fits : (p : Proc) (key : Key) (m : Message) → message_under received key ≡ Some m → is_causally_ready groups gate (processes p) m ≡ true → Fits groups gate (set_process processes p (delivering m (processes p))) received (record q { rows = after_delivery q.offered p key q.rows })
+  pub delivery_fits : (p : Proc) (key : Key) (m : Message) → message_under received key ≡ Some m → is_causally_ready groups gate (processes p) m ≡ true → Fits groups gate (set_process processes p (delivering m (processes p))) received (queue_delivering p key q)
   delivery_fits p key m at ready =
       let (r, found, same) = received_under received key m at in
       let sound : IsSound m = subst IsSound same (fits.sound r (found_in (λ x. key_eq x.key key) received r found)) in
@@ -341,6 +427,8 @@ module _ (groups : List GroupNo) (gate : GroupNo → Gate) (processes : Proc →
         offered = fits.offered;
         named = fits.named;
         sound = fits.sound;
+        reached = subst (λ c. Reaches gate (set_process processes p (delivering m (processes p))) c) (sym (raised_to q.offered key q.reached (offer_of r) offer ∙ ap (λ (x : Message). raised_at (source x.id.group x.id.view x.id.proc) x.id.count q.reached) same))
+            (reaches_raised gate processes q.reached fits.reached (set_process processes p (delivering m (processes p))) (delivered_still p m) m.id sound.from_one p (delivered_own p m) (delivered_before p m));
       }
 
 -- a new queue, and processes that have done nothing
@@ -352,6 +440,10 @@ new_fits groups = record {
   offered = refl;
   named = λ r in_it. absurd (omega (arith, in_it.1));
   sound = λ r in_it. absurd (omega (arith, in_it.1));
+  reached = record {
+    most = λ p u stands has. absurd (false≢true has);
+    each = λ x in_it. absurd (omega (arith, in_it.1));
+  };
 }
 
 -- the clauses on what the queue answers
@@ -385,3 +477,10 @@ standing_is q p g s is groups gate processes received fits = is ∙ elim (option
       ap (λ (o : Option Row). option_map_or (λ r. standing_in r g) o Outside) some
       ∙ (row_at groups gate processes received q fits p row some).standing g
 ]
+
+-- how far processes came
+pub reached_says : (q : Queue) (group : GroupNo) (view : ℕ) (counts : List Entry) → counts ≡ counts_in group view q.reached → SaysReached q group view counts
+reached_says q group view counts is = subst (λ c. SaysReached q group view c) (sym is) (record {
+  most = λ groups gate processes received fits. reached_most gate processes q.reached fits.reached group view;
+  each = λ groups gate processes received fits. reached_each gate processes q.reached fits.reached group view;
+})

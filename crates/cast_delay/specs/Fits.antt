@@ -6,7 +6,9 @@ use Rattle.cast_types.specs.declared.names.Proc.{Proc}
 use Rattle.cast_types.specs.declared.names.Key.{Key}
 use Rattle.cast_types.specs.declared.names.Uid.{Uid}
 use Rattle.cast_types.specs.declared.names.Standing.TheVariants.{Outside}
-use Rattle.cast_types.specs.Names.{group_cmp, group_eq, proc_eq, is_atomic}
+use Rattle.cast_types.specs.declared.source.Source.{Source}
+use Rattle.cast_types.specs.Sources.{source}
+use Rattle.cast_types.specs.Names.{group_cmp, group_eq, proc_eq, named, is_atomic}
 use Rattle.cast_types.specs.Sets.{is_among, set_at}
 use Rattle.cast_clock.specs.Times.{no_time, view_of, count_in, join}
 use Rattle.cast_message.specs.declared.message.Message.{Message}
@@ -20,6 +22,7 @@ use Rattle.cast_delay.specs.declared.row.Fact.{Fact}
 use Rattle.cast_delay.specs.declared.row.Fact.TheVariants as fact
 use Rattle.cast_delay.specs.declared.gate.Gate.{Gate}
 use Rattle.cast_delay.specs.Ready.{Process, is_member, is_outside, has_delivered, awaits, turn_in, first_ready}
+use Rattle.cast_delay.specs.Tallies.{Tally, count_at}
 use Rattle.cast_delay.specs.Rows.{gate_in, standing_in, done_in}
 use Rattle.cast_delay.specs.Queue.{Queue, row_of}
 
@@ -46,6 +49,12 @@ abbrev pub StandsFor : (GroupNo → Gate) → Process → Option Row → Type 0
 StandsFor gate p (Some row) = RowFits gate p row
 StandsFor gate p None = (g : GroupNo) → p.standing g ≡ Outside
 
+-- the counts tell how far processes came: in views that have not ended none has delivered a message of a source beyond its count, and
+-- each count is of a message that one has delivered
+pub record Reaches (gate : GroupNo → Gate) (processes : Proc → Process) (reached : Tally) : Type 0 where
+  pub most : (p : Proc) (u : Uid) → HasNotEnded gate u.group u.view → has_delivered (processes p) u ≡ true → u.count ≤ count_at reached (source u.group u.view u.proc)
+  pub each : (x : Source × ℕ) → Contains reached x → (p : Proc) × (has_delivered (processes p) (named x.0.group x.0.view (x.0.process, x.1)) ≡ true)
+
 -- a process that has no time yet and delivered nothing
 pub record HasNotBegun (p : Process) : Type 0 where
   pub time : p.time ≡ no_time
@@ -62,6 +71,7 @@ pub record Fits (groups : List GroupNo) (gate : GroupNo → Gate) (processes : P
   pub offered : q.offered ≡ map offer_of received
   pub named : (r : Received) → Contains received r → message_under received r.key ≡ Some r.message
   pub sound : (r : Received) → Contains received r → IsSound r.message
+  pub reached : Reaches gate processes q.reached
 
 -- the result is the key of the first message in order of receipt that is ready, and none only where none is
 abbrev pub FirstReady : List GroupNo → (GroupNo → Gate) → (GroupNo → Turn) → Process → List Received → Option Key → Type 0

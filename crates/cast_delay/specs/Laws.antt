@@ -20,7 +20,7 @@ use Rattle.cast_types.specs.Counts.{CountList}
 use Rattle.cast_delay.specs.declared.gate.Gate.{Gate}
 use Rattle.cast_delay.specs.Ready.{Process, open_gate, frozen_gate, pending_gate, has_delivered, awaits, is_causally_ready, is_ready}
 use Rattle.cast_delay.specs.Rows.{gate_in, told_row, is_causally_ready_row, is_ready_row, has_delivered_in, awaits_row}
-use Rattle.cast_delay.specs.Queue.{Queue, new_row, row_of, change_row, next_key, but_offered, after_delivery}
+use Rattle.cast_delay.specs.Queue.{Queue, new_row, row_of, but_row, change_row, next_key, but_offered, queue_viewing, queue_delivering}
 use Rattle.cast_delay.specs.Fits.{Fits, FirstReady, HasTurns, IsSound, HasNotEnded, HasNotBegun, offer_of, set_process, told, delivering, FactFits}
 
 -- by what the queue keeps of a process, a message is causally ready exactly if it is by what the process delivered
@@ -69,7 +69,7 @@ abbrev pub NewFits : Type 0
 NewFits =
     (groups : List GroupNo)
     → Fits groups (λ g. open_gate 0) (λ p. record { time = no_time; standing = λ g. Outside; delivered = [] }) []
-    (record { gates = []; offered = []; rows = [] })
+    (record { gates = []; offered = []; rows = []; reached = [] })
 
 -- a process gets a row; one that had none has not begun
 abbrev pub AdmitKeepsMeaning : Type 0
@@ -79,6 +79,14 @@ AdmitKeepsMeaning =
     → (row_of q.rows p ≡ None → HasNotBegun (processes p))
     → Fits groups gate processes received (record q { rows = q.rows ++ new_row p ∷ [] })
 
+-- the row of a process that is in no group goes
+abbrev pub DismissKeepsMeaning : Type 0
+DismissKeepsMeaning =
+    (groups : List GroupNo) (gate : GroupNo → Gate) (processes : Proc → Process) (received : List Received) (q : Queue)
+    → Fits groups gate processes received q → (p : Proc)
+    → ((g : GroupNo) → (processes p).standing g ≡ Outside)
+    → Fits groups gate processes received (record q { rows = but_row p q.rows })
+
 abbrev pub TellKeepsMeaning : Type 0
 TellKeepsMeaning =
     (groups : List GroupNo) (gate : GroupNo → Gate) (processes : Proc → Process) (received : List Received) (q : Queue)
@@ -87,13 +95,13 @@ TellKeepsMeaning =
     → Fits groups gate (set_process processes p (told f (processes p))) received
     (record q { rows = change_row p (told_row f) q.rows })
 
--- a group has a later view, which no flush has frozen
+-- a group has a later view, which no flush has frozen, and what was delivered of its earlier views is forgotten
 abbrev pub ViewKeepsMeaning : Type 0
 ViewKeepsMeaning =
     (groups : List GroupNo) (gate : GroupNo → Gate) (processes : Proc → Process) (received : List Received) (q : Queue)
     → Fits groups gate processes received q → (g : GroupNo) (number : ℕ) → (gate g).number ≤ number
     → Fits groups (set_at group_eq gate g (open_gate number)) processes received
-    (record q { gates = put group_cmp g (open_gate number) q.gates })
+    (queue_viewing g number q)
 
 -- a flush freezes a group
 abbrev pub FreezeKeepsMeaning : Type 0
@@ -133,4 +141,4 @@ DeliveryKeepsMeaning =
     → Fits groups gate processes received q → (p : Proc) (key : Key) (m : Message)
     → message_under received key ≡ Some m → is_causally_ready groups gate (processes p) m ≡ true
     → Fits groups gate (set_process processes p (delivering m (processes p))) received
-    (record q { rows = after_delivery q.offered p key q.rows })
+    (queue_delivering p key q)

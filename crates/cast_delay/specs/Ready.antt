@@ -23,15 +23,18 @@ pub record Process : Type 0 where
   pub standing : GroupNo → Standing
   pub delivered : List Uid
 
--- the gate of a group, what of it decides whether its messages may be delivered: the number of its view, whether a flush has
--- frozen it, and the cut of the Install that waits. One that no flush has frozen; the same that a flush freezes; and with the
--- cut of an Install that is to wait
+-- The gate of a group is what of it decides whether its messages may be delivered: the number of its view, whether a flush has
+-- frozen it, and the cut of the Install that waits
+
+-- no flush has frozen it
 abbrev pub open_gate : ℕ → Gate
 open_gate number = record { number = number; frozen = false; cut = None }
 
+-- one has
 abbrev pub frozen_gate : Gate → Gate
 frozen_gate gate = record gate { frozen = true }
 
+-- and an Install with this cut waits
 abbrev pub pending_gate : CountList → Gate → Gate
 pending_gate cut gate = record gate { frozen = true; cut = Some cut }
 

@@ -13,6 +13,7 @@ use Rattle.cast_clock.specs.Times.{clock_of, view_of, join, has_room}
 use Rattle.cast_delay.specs.declared.gate.Gate.{Gate}
 use Rattle.cast_delay.specs.Ready.{open_gate, is_open_to, is_member, has_turn, turn_in}
 use Rattle.cast_types.specs.Sources.{source, source_cmp}
+use Rattle.cast_delay.specs.Tallies.{count_at, but_ended}
 use Rattle.cast_delay.specs.declared.turn.Turn.{Turn}
 use Rattle.cast_delay.specs.declared.offered.Offered.{Offered}
 use Rattle.cast_delay.specs.declared.row.Row.{Row}
@@ -28,7 +29,7 @@ standing_in row g = unwrap_or (find group_cmp g row.standings) Outside
 
 -- how many messages of a process the row's process has delivered in a view of a group
 abbrev pub done_in : Row → GroupNo → ℕ → Proc → ℕ
-done_in row g view p = unwrap_or (find source_cmp (source g view p) row.done) 0
+done_in row g view p = count_at row.done (source g view p)
 
 -- how many messages of an entry must be delivered before a message: its own is left out
 abbrev pub needed : Uid → GroupNo → ℕ → Entry → ℕ
@@ -89,6 +90,10 @@ with_standing g standing row = record row { standings = put group_cmp g standing
 
 abbrev pub with_time : ClockList → Row → Row
 with_time time row = record row { time = time }
+
+-- the row once the group's views below a number have ended: of what the process delivered of these it has nothing more
+abbrev pub ended_row : GroupNo → ℕ → Row → Row
+ended_row g number row = record row { done = but_ended g number row.done }
 
 -- the row after a fact
 abbrev pub told_row : Fact → Row → Row

@@ -1,5 +1,5 @@
 ghost use Rattle.cast_delay.specs.Rule.{RuleInWords, TurnInWords};
-ghost use Rattle.cast_delay.specs.Laws.{RowMeansTheRule, TurnMeansTheRule, QueueMeansTheRule, AwaitedIsTheRule, DeliveredIsTheRule, NewFits, AdmitKeepsMeaning, TellKeepsMeaning, ViewKeepsMeaning, FreezeKeepsMeaning, PendKeepsMeaning, OfferKeepsMeaning, ForgetKeepsMeaning, DeliveryKeepsMeaning};
+ghost use Rattle.cast_delay.specs.Laws.{RowMeansTheRule, TurnMeansTheRule, QueueMeansTheRule, AwaitedIsTheRule, DeliveredIsTheRule, NewFits, AdmitKeepsMeaning, DismissKeepsMeaning, TellKeepsMeaning, ViewKeepsMeaning, FreezeKeepsMeaning, PendKeepsMeaning, OfferKeepsMeaning, ForgetKeepsMeaning, DeliveryKeepsMeaning};
 
 /// The test of readiness says what the delivery rule says in words: the process is a member of the message's group in
 /// its current view, which no flush has frozen or whose cut has the message, has not delivered the message, and has
@@ -23,12 +23,13 @@ pub fn queue_means_the_rule()
     ensures delivered { DeliveredIsTheRule }
 {}
 
-/// What each call does to the queue it does to what the queue means: a process that has not begun is admitted, one takes
-/// in a fact, a group has a later view, a flush freezes it, the Install of its next view waits, a message is received, one
+/// What each call does to the queue it does to what the queue means: a process that has not begun is admitted, one that is
+/// in no group is dismissed, one takes in a fact, a group has a later view, a flush freezes it, the Install of its next view waits, a message is received, one
 /// is let go, and a process delivers a message that is causally ready for it.
 pub fn queue_keeps_its_meaning()
     ensures new { NewFits }
     ensures admit { AdmitKeepsMeaning }
+    ensures dismiss { DismissKeepsMeaning }
     ensures tell { TellKeepsMeaning }
     ensures view_changed { ViewKeepsMeaning }
     ensures freeze { FreezeKeepsMeaning }

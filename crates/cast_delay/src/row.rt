@@ -7,6 +7,7 @@ ghost use Rattle.cast_delay.specs.Rows.{needed};
 
 use crate::gate::{Gate, is_open_in, number_in};
 use crate::offered::Offered;
+use crate::tally::Tally;
 use crate::turn::{Turn, turn_in};
 use cast_clock::{ClockFault, Times};
 use cast_types::{GroupNo, Keyed, NoMemory, Proc, Source, Stamp, Standing, Uid};
@@ -28,7 +29,7 @@ pub struct Row {
     pub standings: Keyed<GroupNo, Standing>,
     pub time: Times,
     /// How many messages of each source it has delivered.
-    pub done: Keyed<Source, u32>,
+    pub done: Tally,
 }
 
 // The clock's view, 0 of a group that the time says nothing of.
@@ -52,7 +53,7 @@ fn counts_in(times: &Stamp, group: GroupNo) -> &[(Proc, u32)]
 }
 
 impl Row {
-    ghost use Rattle.cast_delay.specs.Rows.{standing_in, done_in, needed, has_past, row_allows, all_allow, is_causally_ready_row, is_ready_row, has_delivered_in, passed_by, awaits_row, delivered_row, told_row};
+    ghost use Rattle.cast_delay.specs.Rows.{standing_in, done_in, needed, has_past, row_allows, all_allow, is_causally_ready_row, is_ready_row, has_delivered_in, passed_by, awaits_row, delivered_row, ended_row, told_row};
     ghost use Rattle.cast_delay.specs.Queue.{new_row};
 
     /// A process that is in no group.
@@ -63,7 +64,7 @@ impl Row {
             process,
             standings: Keyed::new(alloc),
             time: Times::new(alloc),
-            done: Keyed::new(alloc),
+            done: Tally::new(alloc),
         }
     }
 
@@ -86,10 +87,7 @@ impl Row {
             view,
             process,
         };
-        match self.done.get(&source) {
-            Some(count) => *count,
-            None => 0,
-        }
+        self.done.get(source)
     }
 
     // Whether the process is a member of a group.
@@ -225,6 +223,13 @@ impl Row {
             Err(ClockFault::TooMany) => Ok(()),
             Err(ClockFault::NoMemory) => Err(AllocError),
         }
+    }
+
+    /// Forgets what the process delivered of a group's views below a number. Takes no memory.
+    pub fn end(&mut self, group: GroupNo, number: u32)
+        ensures { self.new ≡ ended_row group number self.old }
+    {
+        self.done.end(group, number);
     }
 
     /// Takes a fact in. `NoMemory` changes nothing.

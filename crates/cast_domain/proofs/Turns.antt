@@ -19,7 +19,7 @@ use Rattle.cast_delay.specs.declared.row.Row.{Row}
 use Rattle.cast_delay.specs.declared.offered.Offered.{Offered}
 use Rattle.cast_delay.specs.Ready.{is_open_to, is_member, is_outside, has_delivered, is_causally_ready, is_ready, first_ready}
 use Rattle.cast_delay.specs.Rows.{delivered_row}
-use Rattle.cast_delay.specs.Queue.{row_of, change_row, offered_under, after_delivery, passed_in}
+use Rattle.cast_delay.specs.Queue.{row_of, change_row, offered_under, after_delivery, queue_delivering, passed_in}
 use Rattle.cast_message.specs.declared.message.Received.{Received}
 use Rattle.cast_message.specs.Receipts.{messages, message_under}
 use Rattle.cast_delay.specs.Fits.{FirstReady, HasTurns, Fits as QueueFits, delivering as delivering_to}
@@ -106,14 +106,14 @@ names_after offered p key rows = names_found (offered_under offered key)
 abbrev turned : Records → State → ℕ → Key → Message → Records
 turned r s k key m =
     record r {
-      delay = record r.delay { rows = after_delivery r.delay.offered (local s k) key r.delay.rows };
+      delay = queue_delivering (local s k) key r.delay;
       delivered = r.delivered ++ (r.config.domain, local s k, m.id) ∷ [];
     }
 
 -- how many places it passes then
 abbrev passing : Records → State → ℕ → Key → Message → ℕ
 passing r s k key m =
-    passed_in (record r.delay { rows = after_delivery r.delay.offered (local s k) key r.delay.rows }) (local s k) m.id.group m.id.view
+    passed_in (queue_delivering (local s k) key r.delay) (local s k) m.id.group m.id.view
     (next_in (log_of r.orders m.id.group) (local s k))
 
 -- what is ready is of the current view of a group of the process, and it has not delivered it
