@@ -8,7 +8,7 @@ use Rattle.cast_types.specs.declared.names.GroupNo.{GroupNo}
 use Rattle.cast_types.specs.declared.names.Uid.{Uid}
 use Rattle.cast_types.specs.declared.names.Standing.{Standing}
 use Rattle.cast_types.specs.declared.names.Standing.TheVariants.{Outside, Joining, Member}
-use Rattle.cast_types.specs.Names.{group_cmp, group_eq, uid_eq}
+use Rattle.cast_types.specs.Names.{group_cmp, group_eq, uid_eq, entry_of}
 use Rattle.cast_types.specs.Stamps.{ClockList}
 use Rattle.cast_types.proofs.Orders.{group_total, group_exact, proc_exact, same_uid, uid_itself, tie_self, tie_same}
 use Rattle.cast_types.proofs.CountLists.{sorted-put}
@@ -19,9 +19,10 @@ use Rattle.cast_types.specs.declared.source.Source.{Source}
 use Rattle.cast_delay.specs.declared.row.Row.{Row}
 use Rattle.cast_delay.specs.declared.row.Fact.{Fact}
 use Rattle.cast_delay.specs.declared.row.Fact.TheVariants as fact
-use Rattle.cast_delay.specs.Ready.{Process, Gate, is_member, has_delivered}
+use Rattle.cast_delay.specs.declared.gate.Gate.{Gate}
+use Rattle.cast_delay.specs.Ready.{Process, is_open_to, is_member, has_delivered}
 use Rattle.cast_types.specs.Sources.{source, source_cmp}
-use Rattle.cast_delay.specs.Rows.{number_of, standing_in, done_in, needed, has_past, row_allows, all_allow, is_causally_ready_row, delivered_row, told_row}
+use Rattle.cast_delay.specs.Rows.{gate_in, standing_in, done_in, needed, has_past, row_allows, all_allow, is_causally_ready_row, delivered_row, told_row}
 use Rattle.cast_delay.specs.Fits.{HasNotEnded, RowFits, IsSound, told, delivering}
 use Rattle.cast_delay.proofs.Listed.{list_any-append}
 use Rattle.cast_delay.proofs.Counted.{needed_own, within_entry}
@@ -49,28 +50,31 @@ only_member (Joining request heard) e = absurd (false≢true e)
 only_member Member e = refl
 
 -- the parts of readiness by a row
-pub record RowReady (numbers : List (GroupNo × ℕ)) (row : Row) (id : Uid) (times : ClockList) : Type 0 where
+pub record RowReady (gates : List (GroupNo × Gate)) (row : Row) (id : Uid) (times : ClockList) : Type 0 where
   pub member : standing_in row id.group ≡ Member
-  pub current : id.view ≡ number_of numbers id.group
+  pub current : id.view ≡ (gate_in gates id.group).number
   pub fresh : done_in row id.group id.view id.proc < id.count
-  pub allowed : all_allow numbers row id times ≡ true
+  pub allowed : all_allow gates row id times ≡ true
   pub room : has_room (join row.time times) ≡ true
 
-pub ready_parts : (numbers : List (GroupNo × ℕ)) (row : Row) (id : Uid) (times : ClockList) → is_causally_ready_row numbers row id times ≡ true → RowReady numbers row id times
-ready_parts numbers row id times ready =
-    let a = and_parts (is_member (standing_in row id.group)) ((id.view == number_of numbers id.group) && (nat_lt (done_in row id.group id.view id.proc) id.count && (all_allow numbers row id times && has_room (join row.time times)))) ready in
-    let b = and_parts (id.view == number_of numbers id.group) (nat_lt (done_in row id.group id.view id.proc) id.count && (all_allow numbers row id times && has_room (join row.time times))) a.1 in
-    let c = and_parts (nat_lt (done_in row id.group id.view id.proc) id.count) (all_allow numbers row id times && has_room (join row.time times)) b.1 in
-    let d = and_parts (all_allow numbers row id times) (has_room (join row.time times)) c.1 in
+pub ready_parts : (gates : List (GroupNo × Gate)) (row : Row) (id : Uid) (times : ClockList) → is_causally_ready_row gates row id times ≡ true → RowReady gates row id times
+ready_parts gates row id times ready =
+    let open_to = is_open_to (gate_in gates id.group) (entry_of id) in
+    let fresh = nat_lt (done_in row id.group id.view id.proc) id.count in
+    let rest = all_allow gates row id times && has_room (join row.time times) in
+    let a = and_parts (is_member (standing_in row id.group)) ((id.view == (gate_in gates id.group).number) && (open_to && (fresh && rest))) ready in
+    let b = and_parts (id.view == (gate_in gates id.group).number) (open_to && (fresh && rest)) a.1 in
+    let c = and_parts fresh rest (and_parts open_to (fresh && rest) b.1).1 in
+    let d = and_parts (all_allow gates row id times) (has_room (join row.time times)) c.1 in
     record {
       member = only_member (standing_in row id.group) a.0;
-      current = eqb-true id.view (number_of numbers id.group) b.0;
+      current = eqb-true id.view (gate_in gates id.group).number b.0;
       fresh = ltb-true (done_in row id.group id.view id.proc) id.count c.0;
       allowed = d.0;
       room = d.1;
     }
 
-module _ (gate : GroupNo → Gate) (p : Process) (row : Row) (fits : RowFits gate p row) (m : Message) (sound : IsSound m) (numbers : List (GroupNo × ℕ)) (ready : RowReady numbers row m.id m.times) where
+module _ (gate : GroupNo → Gate) (p : Process) (row : Row) (fits : RowFits gate p row) (m : Message) (sound : IsSound m) (gates : List (GroupNo × Gate)) (ready : RowReady gates row m.id m.times) where
   -- what was delivered of the message's sender
   abbrev before : ℕ
   before = done_in row m.id.group m.id.view m.id.proc
@@ -78,10 +82,10 @@ module _ (gate : GroupNo → Gate) (p : Process) (row : Row) (fits : RowFits gat
   own_past : has_past row m.id m.id.group (view_of m.times m.id.group) (clock_of m.times m.id.group).counts ≡ true
   own_past =
       let v = view_of m.times m.id.group in
-      let n = number_of numbers m.id.group in
+      let n = (gate_in gates m.id.group).number in
       let past = has_past row m.id m.id.group v (clock_of m.times m.id.group).counts in
       let here : row_allows row n m.id m.times m.id.group Member ≡ true =
-      subst (λ s. row_allows row n m.id m.times m.id.group s ≡ true) ready.member (found_or group_exact (λ h s. row_allows row (number_of numbers h) m.id m.times h s) Outside (λ q. refl) row.standings ready.allowed m.id.group) in
+      subst (λ s. row_allows row n m.id m.times m.id.group s ≡ true) ready.member (found_or group_exact (λ h s. row_allows row (gate_in gates h).number m.id m.times h s) Outside (λ q. refl) row.standings ready.allowed m.id.group) in
       elim (or_cases (nat_lt v n) ((v == n) && past) here) [
         | inl lower ↦ absurd (omega (arith, ltb-true v n lower, sound.view, ready.current))
         | inr rest ↦ (and_parts (v == n) past rest).1

@@ -73,6 +73,14 @@ find_kept t keep passed (x ∷ xs) = elim (cases_Bool (keep x)) [
   | inr goes ↦ rw (goes, passed x goes) (find_kept t keep passed xs)
 ]
 
+-- what is taken out is not found
+pub find_dropped : {A : Type 0} (t : A → Bool) (xs : List A) → list.find t (filter (λ x. not (t x)) xs) ≡ None
+find_dropped t [] = refl
+find_dropped t (x ∷ xs) = elim (cases_Bool (t x)) [
+  | inl passes ↦ rw passes (find_dropped t xs)
+  | inr fails ↦ rw fails (ap (λ b. cond b (Some x) (list.find t (filter (λ y. not (t y)) xs))) fails ∙ find_dropped t xs)
+]
+
 -- what a filter keeps is of the list, and passes
 kept_step : {A : Type 0} (keep : A → Bool) (y : A) (ys : List A) (x : A) → (Contains (filter keep ys) x → Contains ys x × (keep x ≡ true)) → (b : Bool) → keep y ≡ b → Contains (cond b (y ∷ filter keep ys) (filter keep ys)) x → Contains (y ∷ ys) x × (keep x ≡ true)
 kept_step keep y ys x rest true stays (zero, lt, at) = (subst (λ z. Contains (y ∷ ys) z) at (contains_here y ys), subst (λ z. keep z ≡ true) at stays)

@@ -5,5 +5,6 @@ pub mod Finds
 pub mod Turns
 pub mod Delivers
 pub mod Rows
+pub mod Reached
 pub mod Queues
 pub mod Words

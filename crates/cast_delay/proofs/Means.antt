@@ -8,15 +8,16 @@ use Rattle.cast_types.specs.declared.names.GroupNo.{GroupNo}
 use Rattle.cast_types.specs.declared.names.Uid.{Uid}
 use Rattle.cast_types.specs.declared.names.Standing.{Standing}
 use Rattle.cast_types.specs.declared.names.Standing.TheVariants.{Outside, Joining, Member}
-use Rattle.cast_types.specs.Names.{group_cmp, group_eq}
+use Rattle.cast_types.specs.Names.{group_cmp, group_eq, entry_of}
 use Rattle.cast_types.specs.Sets.{is_among}
 use Rattle.cast_types.proofs.Orders.{group_total, group_exact, same_group}
 use Rattle.cast_clock.specs.Times.{clock_of, view_of, join, has_room}
 use Rattle.cast_clock.proofs.Entries.{found_or, each_found, list_all_of, as_T}
 use Rattle.cast_message.specs.declared.message.Message.{Message}
 use Rattle.cast_delay.specs.declared.row.Row.{Row}
-use Rattle.cast_delay.specs.Ready.{Process, Gate, past_in, is_member, is_outside, has_delivered, awaits, group_allows, is_causally_ready}
-use Rattle.cast_delay.specs.Rows.{number_of, standing_in, done_in, row_allows, all_allow, has_past, is_causally_ready_row, has_delivered_in, awaits_row}
+use Rattle.cast_delay.specs.declared.gate.Gate.{Gate}
+use Rattle.cast_delay.specs.Ready.{Process, is_open_to, past_in, is_member, is_outside, has_delivered, awaits, group_allows, is_causally_ready}
+use Rattle.cast_delay.specs.Rows.{gate_in, standing_in, done_in, row_allows, all_allow, has_past, is_causally_ready_row, has_delivered_in, awaits_row}
 use Rattle.cast_delay.specs.Fits.{HasNotEnded, RowFits, IsSound}
 use Rattle.cast_delay.proofs.Counted.{past_counted}
 use Rattle.cast_delay.proofs.Turns.{and_agree}
@@ -78,12 +79,12 @@ module _ (gate : GroupNo → Gate) (p : Process) (row : Row) (fits : RowFits gat
       ∙ ap (λ b. nat_lt v (gate h).number || b) (and_agree (v == (gate h).number) counted all
       (λ same. past_counted gate p row fits m.id h v (let at = eqb-true v (gate h).number same in omega (arith, at)) (clock_of m.times h).counts))
 
-  module _ (groups : List GroupNo) (numbers : List (GroupNo × ℕ)) (numbered : (g : GroupNo) → number_of numbers g ≡ (gate g).number) where
+  module _ (groups : List GroupNo) (gates : List (GroupNo × Gate)) (gated : (g : GroupNo) → gate_in gates g ≡ gate g) where
     abbrev allows : GroupNo → Standing → Bool
-    allows h s = row_allows row (number_of numbers h) m.id m.times h s
+    allows h s = row_allows row (gate_in gates h).number m.id m.times h s
 
     -- what allows it in all of the row's groups allows it in each group
-    pub allowed_in : all_allow numbers row m.id m.times ≡ true → (h : GroupNo) → allows h (standing_in row h) ≡ true
+    pub allowed_in : all_allow gates row m.id m.times ≡ true → (h : GroupNo) → allows h (standing_in row h) ≡ true
     allowed_in all h = found_or group_exact allows Outside (λ q. refl) row.standings all h
 
     module _ (known : (g : GroupNo) → is_outside (p.standing g) ≡ false → is_among group_eq g groups ≡ true) where
@@ -91,7 +92,7 @@ module _ (gate : GroupNo → Gate) (p : Process) (row : Row) (fits : RowFits gat
       rule h = group_allows (p.standing h) p (gate h) m h
 
       rule_at : (h : GroupNo) → allows h (standing_in row h) ≡ rule h
-      rule_at h = ap (λ s. allows h s) (fits.standing h) ∙ group_means h (number_of numbers h) (numbered h) (p.standing h)
+      rule_at h = ap (λ s. allows h s) (fits.standing h) ∙ group_means h (gate_in gates h).number (ap (λ (x : Gate). x.number) (gated h)) (p.standing h)
 
       -- a group that is not the domain's holds nothing back
       rule_outside : (h : GroupNo) (s : Standing) → (is_outside s ≡ false → group_allows s p (gate h) m h ≡ true) → group_allows s p (gate h) m h ≡ true
@@ -102,22 +103,24 @@ module _ (gate : GroupNo → Gate) (p : Process) (row : Row) (fits : RowFits gat
       rule_everywhere : list_all rule groups ≡ true → (h : GroupNo) → rule h ≡ true
       rule_everywhere all h = rule_outside h (p.standing h) (λ inside. among_holds rule groups h all (known h inside))
 
-      all_means : all_allow numbers row m.id m.times ≡ list_all rule groups
-      all_means = same_bools (all_allow numbers row m.id m.times) (list_all rule groups)
+      all_means : all_allow gates row m.id m.times ≡ list_all rule groups
+      all_means = same_bools (all_allow gates row m.id m.times) (list_all rule groups)
           (λ all. list_all_of rule groups (λ h. sym (rule_at h) ∙ allowed_in all h))
           (λ all. each_found group_total allows row.standings (as_T (is_sorted group_cmp row.standings) fits.in_order) (λ q v is.
           ap (λ (o : Option Standing). allows q (unwrap_or o Outside)) (sym is) ∙ rule_at q ∙ rule_everywhere all q))
 
       -- the counts tell whether the message is ready
-      pub row_means : IsSound m → is_causally_ready_row numbers row m.id m.times ≡ is_causally_ready groups gate p m
+      pub row_means : IsSound m → is_causally_ready_row gates row m.id m.times ≡ is_causally_ready groups gate p m
       row_means sound =
           let g = m.id.group in
+          let open_to : Bool = is_open_to (gate g) (entry_of m.id) in
           let counted : Bool = nat_lt (done_in row g m.id.view m.id.proc) m.id.count in
           let rest : Bool = list_all rule groups && has_room (join p.time m.times) in
           (λ i. is_member (fits.standing g i)
-          && ((m.id.view == numbered g i)
+          && ((m.id.view == (gated g i).number)
+          && (is_open_to (gated g i) (entry_of m.id)
           && (counted
           && (all_means i
-          && has_room (join (fits.time i) m.times)))))
-          ∙ ap (λ b. is_member (p.standing g) && b) (and_agree (m.id.view == (gate g).number) (counted && rest) (not (has_delivered p m.id) && rest)
-          (λ same. ap (λ b. b && rest) (undelivered_means gate p row fits m.id (let at = eqb-true m.id.view (gate g).number same in omega (arith, at)) sound.from_one)))
+          && has_room (join (fits.time i) m.times))))))
+          ∙ ap (λ b. is_member (p.standing g) && b) (and_agree (m.id.view == (gate g).number) (open_to && (counted && rest)) (open_to && (not (has_delivered p m.id) && rest))
+          (λ same. ap (λ b. open_to && (b && rest)) (undelivered_means gate p row fits m.id (let at = eqb-true m.id.view (gate g).number same in omega (arith, at)) sound.from_one)))

@@ -1,10 +1,10 @@
 -- The queue names the first message that is ready, and keeps its meaning.
-use Rattle.std.proofs.Common.{◌≡◌, ◌↔◌, ℕ, ◌<◌, ◌≤◌, Bool, true, false, cond, not, ◌&&◌, List, length, take, [], ◌∷◌, ◌++◌, filter, Contains, Option, Some, None, unwrap_or, refl, sym, ap, subst, ◌∙◌, inl, inr, arith}
+use Rattle.std.proofs.Common.{◌≡◌, ◌↔◌, ℕ, ◌<◌, ◌≤◌, Bool, true, false, cond, not, ◌&&◌, ◌||◌, ◌⊎◌, List, length, take, [], ◌∷◌, ◌++◌, filter, Contains, Option, Some, None, unwrap_or, refl, sym, ap, subst, ◌∙◌, inl, inr, arith}
 use Rattle.std.specs.Prelude.{if◌then◌else◌, slice_get}
 use Rattle.std.specs.List as list
 use Rattle.std.specs.Option.{IsSome, option_map, option_map_or, option_and_then}
 use Rattle.std.specs.FinMap.Entries.{put}
-use Rattle.std.proofs.lemmas.Bool.{cases_Bool, false≢true, false_from_ne_true, not-false, and_parts, eqb-true, eq-eqb, ne_eqb}
+use Rattle.std.proofs.lemmas.Bool.{cases_Bool, false≢true, false_from_ne_true, not-false, and_parts, and_from, or_cases, or_left, or_right, eqb-true, eq-eqb, ne_eqb}
 use Rattle.std.proofs.lemmas.List.{map-append}
 use Rattle.std.proofs.lemmas.List.Folds.{find_at}
 use Rattle.std.proofs.lemmas.List.Elements.{Contains-push_cases}
@@ -14,9 +14,11 @@ use Rattle.cast_types.specs.declared.names.Key.{Key}
 use Rattle.cast_types.specs.declared.names.Uid.{Uid}
 use Rattle.cast_types.specs.declared.names.Standing.{Standing}
 use Rattle.cast_types.specs.declared.names.Standing.TheVariants.{Outside}
-use Rattle.cast_types.specs.Names.{Entry, group_cmp, group_eq, proc_eq, named}
+use Rattle.cast_types.specs.Names.{Entry, group_cmp, group_eq, proc_eq, uid_eq, named}
 use Rattle.cast_types.specs.Sets.{is_among, set_at}
-use Rattle.cast_types.proofs.Orders.{same_group}
+use Rattle.cast_types.specs.Counts.{CountList}
+use Rattle.cast_types.specs.Sources.{source}
+use Rattle.cast_types.proofs.Orders.{same_group, group_itself, same_proc, proc_itself, same_uid, uid_itself}
 use Rattle.cast_clock.proofs.Entries.{option_cases}
 use Rattle.cast_message.specs.declared.message.Message.{Message}
 use Rattle.cast_message.specs.declared.message.Received.{Received}
@@ -27,16 +29,21 @@ use Rattle.cast_delay.specs.declared.row.Row.{Row}
 use Rattle.cast_delay.specs.declared.row.Fact.{Fact}
 use Rattle.cast_delay.specs.declared.row.Fact.TheVariants as fact
 use Rattle.cast_delay.specs.declared.offered.Offered.{Offered}
-use Rattle.cast_delay.specs.Ready.{Process, Gate, is_member, is_outside, has_delivered, awaits, turn_in, is_causally_ready, is_ready}
-use Rattle.cast_delay.specs.Rows.{number_of, standing_in, is_causally_ready_row, is_ready_row, has_delivered_in, passed_by, awaits_row, delivered_row, told_row}
-use Rattle.cast_delay.specs.Queue.{Queue, new_row, row_of, change_row, first_for, offered_under, next_key, delivered_in, passed_in, but_offered, is_awaited, HasOneRowEach, after_delivery}
-use Rattle.cast_delay.specs.Fits.{IsSound, HasNotEnded, RowFits, StandsFor, HasNotBegun, offer_of, Fits, FirstReady, HasTurns, IsAwaited, set_process, told, delivering, FactFits}
+use Rattle.cast_delay.specs.declared.gate.Gate.{Gate}
+use Rattle.cast_delay.specs.Ready.{Process, open_gate, frozen_gate, pending_gate, is_member, is_outside, has_delivered, awaits, turn_in, is_causally_ready, is_ready}
+use Rattle.cast_delay.specs.Tallies.{Tally, raised_at, counts_in}
+use Rattle.cast_delay.specs.Rows.{gate_in, standing_in, is_causally_ready_row, is_ready_row, has_delivered_in, passed_by, awaits_row, delivered_row, told_row}
+use Rattle.cast_delay.specs.Queue.{Queue, new_row, row_of, but_row, change_row, first_for, offered_under, next_key, delivered_in, passed_in, but_offered, is_awaited, HasOneRowEach, after_delivery, reached_after, queue_viewing, queue_delivering}
+use Rattle.cast_delay.specs.Fits.{IsSound, HasNotEnded, RowFits, StandsFor, HasNotBegun, Reaches, offer_of, Fits, FirstReady, HasTurns, IsAwaited, set_process, told, delivering, FactFits}
 use Rattle.cast_delay.specs.Laws.{NewFits}
+use Rattle.cast_delay.specs.Says.{SaysReached}
 use Rattle.cast_delay.proofs.Means.{row_means, awaits_means, delivered_means}
 use Rattle.cast_delay.proofs.Turns.{in_turn, same_turns, causally_member}
 use Rattle.cast_delay.proofs.Finds.{found_in, find_agree, find_mapped, never_found, find-append_some, find-append_none, find_kept, none_before, kept_parts, filter_mapped, any_in, found_any, put_at_group}
 use Rattle.cast_delay.proofs.Delivers.{told_fits, delivered_fits, ready_parts}
-use Rattle.cast_delay.proofs.Rows.{some_row, rows_changed, row_admitted, stands_later}
+use Rattle.cast_delay.proofs.Listed.{list_any-append}
+use Rattle.cast_delay.proofs.Reached.{reaches_later, reaches_ended, reaches_same, reaches_raised, reached_most, reached_each}
+use Rattle.cast_delay.proofs.Rows.{some_row, rows_changed, row_admitted, row_dismissed, stands_later, row_ended, row_of_ended}
 
 no_message : (m : Message) → None ≡ Some m → ⊥
 no_message m e = cc
@@ -73,6 +80,15 @@ after_at : (offered : List Offered) (p : Proc) (key : Key) (rows : List Row) (o 
 after_at offered p key rows o at =
     ap (λ (x : Option Offered). elim x as (λ _. List Row) [ Some y ↦ change_row p (delivered_row y.id y.times) rows | None ↦ rows ]) at
 
+-- what is reached after it
+raised_to : (offered : List Offered) (key : Key) (reached : Tally) (o : Offered) → offered_under offered key ≡ Some o → reached_after offered key reached ≡ raised_at (source o.id.group o.id.view o.id.proc) o.id.count reached
+raised_to offered key reached o at =
+    ap (λ (x : Option Offered). elim x as (λ _. Tally) [ Some y ↦ raised_at (source y.id.group y.id.view y.id.proc) y.id.count reached | None ↦ reached ]) at
+
+or_false : (b : Bool) → (b || false) ≡ b
+or_false true = refl
+or_false false = refl
+
 -- of a process that is in no group no message is ready
 never_ready : (groups : List GroupNo) (gate : GroupNo → Gate) (turn : GroupNo → Turn) (v : Process) → ((g : GroupNo) → v.standing g ≡ Outside) → (m : Message) → is_ready groups gate turn v m ≡ false
 never_ready groups gate turn v outside m = false_from_ne_true (is_ready groups gate turn v m) (λ ready.
@@ -88,13 +104,13 @@ module _ (groups : List GroupNo) (gate : GroupNo → Gate) (processes : Proc →
   outside_at p none = subst (λ (o : Option Row). StandsFor gate (processes p) o) none (fits.rows p)
 
   -- the row of a process means the rule
-  pub row_rules : (p : Proc) (row : Row) (m : Message) → row_of q.rows p ≡ Some row → IsSound m → is_causally_ready_row q.numbers row m.id m.times ≡ is_causally_ready groups gate (processes p) m
-  row_rules p row m at sound = row_means gate (processes p) row (row_at p row at) m groups q.numbers fits.numbers (fits.groups_known p) sound
+  pub row_rules : (p : Proc) (row : Row) (m : Message) → row_of q.rows p ≡ Some row → IsSound m → is_causally_ready_row q.gates row m.id m.times ≡ is_causally_ready groups gate (processes p) m
+  row_rules p row m at sound = row_means gate (processes p) row (row_at p row at) m groups q.gates fits.gates (fits.groups_known p) sound
 
   module _ (p : Proc) (turns : List (GroupNo × Turn)) where
     module _ (turn : GroupNo → Turn) (agree : HasTurns (processes p) turns turn) where
       -- and with the turns of its groups
-      pub turn_rules : (row : Row) (r : Received) → row_of q.rows p ≡ Some row → IsSound r.message → is_ready_row turns q.numbers row (offer_of r) ≡ is_ready groups gate turn (processes p) r.message
+      pub turn_rules : (row : Row) (r : Received) → row_of q.rows p ≡ Some row → IsSound r.message → is_ready_row turns q.gates row (offer_of r) ≡ is_ready groups gate turn (processes p) r.message
       turn_rules row r at sound =
           ap (λ b. b && in_turn (turn_in turns) r.message) (row_rules p row r.message at sound)
           ∙ same_turns groups gate (processes p) (turn_in turns) turn agree r.message
@@ -103,11 +119,11 @@ module _ (groups : List GroupNo) (gate : GroupNo → Gate) (processes : Proc →
       ready_at r = is_ready groups gate turn (processes p) r.message
 
       -- the first that is ready by a row is the first that is ready
-      first_is : (row : Row) → row_of q.rows p ≡ Some row → first_for turns q.numbers q.offered row ≡ option_map offer_of (list.find ready_at received)
+      first_is : (row : Row) → row_of q.rows p ≡ Some row → first_for turns q.gates q.offered row ≡ option_map offer_of (list.find ready_at received)
       first_is row at =
-          ap (λ os. first_for turns q.numbers os row) fits.offered
-          ∙ find_mapped offer_of (is_ready_row turns q.numbers row) received
-          ∙ ap (λ (o : Option Received). option_map offer_of o) (find_agree (λ r. is_ready_row turns q.numbers row (offer_of r)) ready_at received (λ r in_it. turn_rules row r at (fits.sound r in_it)))
+          ap (λ os. first_for turns q.gates os row) fits.offered
+          ∙ find_mapped offer_of (is_ready_row turns q.gates row) received
+          ∙ ap (λ (o : Option Received). option_map offer_of o) (find_agree (λ r. is_ready_row turns q.gates row (offer_of r)) ready_at received (λ r in_it. turn_rules row r at (fits.sound r in_it)))
 
       first_from : (f : Option Received) → list.find ready_at received ≡ f → FirstReady groups gate turn (processes p) received (option_map (λ o. o.key) (option_map offer_of f))
       first_from None is = find_mapped (λ r. r.message) (is_ready groups gate turn (processes p)) received ∙ ap (λ (o : Option Received). option_map (λ r. r.message) o) is
@@ -121,11 +137,11 @@ module _ (groups : List GroupNo) (gate : GroupNo → Gate) (processes : Proc →
       pub next_rules : FirstReady groups gate turn (processes p) received (next_key turns q p)
       next_rules = elim (option_cases (row_of q.rows p)) [
         | inl none ↦
-            subst (λ k. FirstReady groups gate turn (processes p) received k) (sym (ap (λ (o : Option Row). option_map (λ x. x.key) (option_and_then (first_for turns q.numbers q.offered) o)) none))
+            subst (λ k. FirstReady groups gate turn (processes p) received k) (sym (ap (λ (o : Option Row). option_map (λ x. x.key) (option_and_then (first_for turns q.gates q.offered) o)) none))
             (never_found (is_ready groups gate turn (processes p)) (messages received) (never_ready groups gate turn (processes p) (outside_at p none)))
         | inr (row, some) ↦
             let next_is : next_key turns q p ≡ option_map (λ o. o.key) (option_map offer_of (list.find ready_at received)) =
-            ap (λ (o : Option Row). option_map (λ x. x.key) (option_and_then (first_for turns q.numbers q.offered) o)) some
+            ap (λ (o : Option Row). option_map (λ x. x.key) (option_and_then (first_for turns q.gates q.offered) o)) some
             ∙ ap (λ (o : Option Offered). option_map (λ x. x.key) o) (first_is row some) in
             subst (λ k. FirstReady groups gate turn (processes p) received k) (sym next_is) (first_from (list.find ready_at received) refl)
       ]
@@ -133,12 +149,25 @@ module _ (groups : List GroupNo) (gate : GroupNo → Gate) (processes : Proc →
   -- a process that is admitted has not begun, or had a row
   pub admit_fits : (p : Proc) → (row_of q.rows p ≡ None → HasNotBegun (processes p)) → Fits groups gate processes received (record q { rows = q.rows ++ new_row p ∷ [] })
   admit_fits p fresh = record {
-    numbers = fits.numbers;
+    gates = fits.gates;
     rows = row_admitted gate processes q.rows p fresh fits.rows;
     groups_known = fits.groups_known;
     offered = fits.offered;
     named = fits.named;
     sound = fits.sound;
+    reached = fits.reached;
+  }
+
+  -- and one that is dismissed is in no group
+  pub dismiss_fits : (p : Proc) → ((g : GroupNo) → (processes p).standing g ≡ Outside) → Fits groups gate processes received (record q { rows = but_row p q.rows })
+  dismiss_fits p outside = record {
+    gates = fits.gates;
+    rows = row_dismissed gate processes q.rows p outside fits.rows;
+    groups_known = fits.groups_known;
+    offered = fits.offered;
+    named = fits.named;
+    sound = fits.sound;
+    reached = fits.reached;
   }
 
   -- groups are known still where one process changes to one whose groups are known
@@ -219,39 +248,84 @@ module _ (groups : List GroupNo) (gate : GroupNo → Gate) (processes : Proc →
           let (row, at) = member_admitted p id.group (and_parts (is_member ((processes p).standing id.group)) (not (has_delivered (processes p) id)) waits).0 in
           found_any (λ r. awaits_row r id) (λ r. proc_eq r.process p) q.rows row at (awaited_by p row at id stands from_one ∙ waits)
 
+  -- a fact changes nothing of what processes delivered
+  told_delivered : (f : Fact) (v : Process) → (told f v).delivered ≡ v.delivered
+  told_delivered (fact.Standing h s) v = refl
+  told_delivered (fact.Time time) v = refl
+
+  told_same : (p : Proc) (f : Fact) (x : Proc) (u : Uid) → has_delivered (set_process processes p (told f (processes p)) x) u ≡ has_delivered (processes x) u
+  told_same p f x u = elim (cases_Bool (proc_eq p x)) [
+    | inl same ↦
+        ap (λ b. has_delivered (if b then told f (processes p) else processes x) u) same
+        ∙ ap (λ d. is_among uid_eq u d) (told_delivered f (processes p))
+        ∙ ap (λ y. has_delivered (processes y) u) (same_proc p x same)
+    | inr other ↦ ap (λ b. has_delivered (if b then told f (processes p) else processes x) u) other
+  ]
+
   -- a fact is taken in as the process takes it in
   pub tell_fits : (p : Proc) (f : Fact) → IsSome (row_of q.rows p) → FactFits groups f → Fits groups gate (set_process processes p (told f (processes p))) received (record q { rows = change_row p (told_row f) q.rows })
   tell_fits p f admitted ok =
       let (row, at) = some_row (row_of q.rows p) admitted in
       record {
-        numbers = fits.numbers;
+        gates = fits.gates;
         rows = rows_changed p (told_row f) (told_keeps f) gate processes (told f (processes p)) q.rows row at (told_fits gate (processes p) row (row_at p row at) f) fits.rows;
         groups_known = known_still p (told f (processes p)) (known_told p f ok);
         offered = fits.offered;
         named = fits.named;
         sound = fits.sound;
+        reached = reaches_same gate processes q.reached fits.reached (set_process processes p (told f (processes p)))
+            (λ x u has. told_same p f x u ∙ has) (λ x u has. sym (told_same p f x u) ∙ has);
       }
 
-  -- and the number of a later view
-  pub view_fits : (g : GroupNo) (number : ℕ) → (gate g).number ≤ number → Fits groups (set_at group_eq gate g (record { number = number })) processes received (record q { numbers = put group_cmp g number q.numbers })
-  view_fits g number rise = record {
-    numbers = λ h. put_at_group q.numbers g h number 0 ∙ numbered h;
-    rows = λ p. stands_later gate (set_at group_eq gate g (record { number = number })) rises (processes p) (row_of q.rows p) (fits.rows p);
+  -- a group has another gate, whose view is the same or a later one
+  gate_fits : (g : GroupNo) (v : Gate) → (gate g).number ≤ v.number → Fits groups (set_at group_eq gate g v) processes received (record q { gates = put group_cmp g v q.gates })
+  gate_fits g v rise = record {
+    gates = λ h. put_at_group q.gates g h v (open_gate 0) ∙ gated h;
+    rows = λ p. stands_later gate (set_at group_eq gate g v) rises (processes p) (row_of q.rows p) (fits.rows p);
     groups_known = fits.groups_known;
     offered = fits.offered;
     named = fits.named;
     sound = fits.sound;
+    reached = reaches_later gate processes q.reached fits.reached (set_at group_eq gate g v) rises;
   }
     where
-      numbered : (h : GroupNo) → (if group_eq g h then number else number_of q.numbers h) ≡ (set_at group_eq gate g (record { number = number }) h).number
-      numbered h = elim (group_eq g h) as (λ b. (if b then number else number_of q.numbers h) ≡ (if b then record { number = number } else gate h).number) [ true ↦ refl | false ↦ fits.numbers h ]
+      gated : (h : GroupNo) → (if group_eq g h then v else gate_in q.gates h) ≡ set_at group_eq gate g v h
+      gated h = ap (λ x. if group_eq g h then v else x) (fits.gates h)
 
-      rises : (h : GroupNo) → (gate h).number ≤ (set_at group_eq gate g (record { number = number }) h).number
+      rises : (h : GroupNo) → (gate h).number ≤ (set_at group_eq gate g v h).number
       rises h = risen (group_eq g h) (λ same. same_group g h same)
         where
-          risen : (b : Bool) → (b ≡ true → g ≡ h) → (gate h).number ≤ (if b then record { number = number } else gate h).number
-          risen true same = subst (λ k. (gate k).number ≤ number) (same refl) rise
+          risen : (b : Bool) → (b ≡ true → g ≡ h) → (gate h).number ≤ (if b then v else gate h).number
+          risen true same = subst (λ k. (gate k).number ≤ v.number) (same refl) rise
           risen false other = omega arith
+
+  -- so it has the number of a later view, and what was delivered before that is forgotten
+  pub view_fits : (g : GroupNo) (number : ℕ) → (gate g).number ≤ number → Fits groups (set_at group_eq gate g (open_gate number)) processes received (queue_viewing g number q)
+  view_fits g number rise =
+      let later : GroupNo → Gate = set_at group_eq gate g (open_gate number) in
+      let told : Fits groups later processes received (record q { gates = put group_cmp g (open_gate number) q.gates }) = gate_fits g (open_gate number) rise in
+      let reached : number ≤ (later g).number = subst (λ b. number ≤ (if b then open_gate number else gate g).number) (sym (group_itself g)) (omega arith) in
+      record {
+        gates = told.gates;
+        rows = λ p. subst (λ o. StandsFor later (processes p) o) (sym (row_of_ended g number q.rows p)) (row_ended later (processes p) g number reached (row_of q.rows p) (told.rows p));
+        groups_known = told.groups_known;
+        offered = told.offered;
+        named = told.named;
+        sound = told.sound;
+        reached = reaches_ended later processes q.reached told.reached g number reached;
+      }
+
+  -- is frozen
+  pub freeze_fits : (g : GroupNo) → Fits groups (set_at group_eq gate g (frozen_gate (gate g))) processes received (record q { gates = put group_cmp g (frozen_gate (gate_in q.gates g)) q.gates })
+  freeze_fits g =
+      subst (λ x. Fits groups (set_at group_eq gate g (frozen_gate (gate g))) processes received (record q { gates = put group_cmp g (frozen_gate x) q.gates }))
+      (sym (fits.gates g)) (gate_fits g (frozen_gate (gate g)) (omega arith))
+
+  -- and has the cut of an Install that waits
+  pub pend_fits : (g : GroupNo) (cut : CountList) → Fits groups (set_at group_eq gate g (pending_gate cut (gate g))) processes received (record q { gates = put group_cmp g (pending_gate cut (gate_in q.gates g)) q.gates })
+  pend_fits g cut =
+      subst (λ x. Fits groups (set_at group_eq gate g (pending_gate cut (gate g))) processes received (record q { gates = put group_cmp g (pending_gate cut x) q.gates }))
+      (sym (fits.gates g)) (gate_fits g (pending_gate cut (gate g)) (omega arith))
 
   -- a process for which a message is ready was admitted
   ready_row : (p : Proc) (m : Message) → is_causally_ready groups gate (processes p) m ≡ true → (row : Row) × (row_of q.rows p ≡ Some row)
@@ -260,12 +334,13 @@ module _ (groups : List GroupNo) (gate : GroupNo → Gate) (processes : Proc →
   -- a message under a key of its own is the last one received
   pub offer_fits : (r : Received) → IsSound r.message → message_under received r.key ≡ None → Fits groups gate processes (received ++ r ∷ []) (record q { offered = q.offered ++ offer_of r ∷ [] })
   offer_fits r sound apart = record {
-    numbers = fits.numbers;
+    gates = fits.gates;
     rows = fits.rows;
     groups_known = fits.groups_known;
     offered = ap (λ os. os ++ offer_of r ∷ []) fits.offered ∙ sym (map-append offer_of received (r ∷ []));
     named = named_now;
     sound = sound_now;
+    reached = fits.reached;
   }
     where
       sound_now : (x : Received) → Contains (received ++ r ∷ []) x → IsSound x.message
@@ -283,12 +358,13 @@ module _ (groups : List GroupNo) (gate : GroupNo → Gate) (processes : Proc →
   -- what is let go is told of no more
   pub forget_fits : (key : Key) → Fits groups gate processes (filter (λ r. not (key_eq r.key key)) received) (record q { offered = but_offered key q.offered })
   forget_fits key = record {
-    numbers = fits.numbers;
+    gates = fits.gates;
     rows = fits.rows;
     groups_known = fits.groups_known;
     offered = ap (but_offered key) fits.offered ∙ filter_mapped offer_of (λ o. not (key_eq o.key key)) received;
     named = named_now;
     sound = λ r in_it. fits.sound r (kept_parts (λ x. not (key_eq x.key key)) received r in_it).0;
+    reached = fits.reached;
   }
     where
       -- what goes is under no other key
@@ -304,8 +380,36 @@ module _ (groups : List GroupNo) (gate : GroupNo → Gate) (processes : Proc →
           ap (λ (o : Option Received). option_map (λ x. x.message) o) (find_kept (λ x. key_eq x.key r.key) (λ x. not (key_eq x.key key)) (λ x out. goes r x parts.1 out) received)
           ∙ fits.named r parts.0
 
+  -- what processes have delivered once one has delivered a message more
+  delivered_now : (p : Proc) (m : Message) (x : Proc) (u : Uid) → has_delivered (set_process processes p (delivering m (processes p)) x) u ≡ (has_delivered (processes x) u || (proc_eq p x && uid_eq u m.id))
+  delivered_now p m x u = elim (cases_Bool (proc_eq p x)) [
+    | inl same ↦
+        ap (λ b. has_delivered (if b then delivering m (processes p) else processes x) u) same
+        ∙ list_any-append (uid_eq u) (processes p).delivered (m.id ∷ [])
+        ∙ (λ i. has_delivered (processes (same_proc p x same i)) u || or_false (uid_eq u m.id) i)
+        ∙ sym (ap (λ b. has_delivered (processes x) u || (b && uid_eq u m.id)) same)
+    | inr other ↦
+        ap (λ b. has_delivered (if b then delivering m (processes p) else processes x) u) other
+        ∙ sym (or_false (has_delivered (processes x) u))
+        ∙ sym (ap (λ b. has_delivered (processes x) u || (b && uid_eq u m.id)) other)
+  ]
+
+  delivered_still : (p : Proc) (m : Message) (x : Proc) (u : Uid) → has_delivered (processes x) u ≡ true → has_delivered (set_process processes p (delivering m (processes p)) x) u ≡ true
+  delivered_still p m x u has = delivered_now p m x u ∙ or_left (has_delivered (processes x) u) (proc_eq p x && uid_eq u m.id) has
+
+  delivered_own : (p : Proc) (m : Message) → has_delivered (set_process processes p (delivering m (processes p)) p) m.id ≡ true
+  delivered_own p m =
+      delivered_now p m p m.id
+      ∙ or_right (has_delivered (processes p) m.id) (proc_eq p p && uid_eq m.id m.id) (and_from (proc_eq p p) (uid_eq m.id m.id) (proc_itself p) (uid_itself m.id))
+
+  delivered_before : (p : Proc) (m : Message) (x : Proc) (u : Uid) → has_delivered (set_process processes p (delivering m (processes p)) x) u ≡ true → (has_delivered (processes x) u ≡ true) ⊎ (u ≡ m.id)
+  delivered_before p m x u has = elim (or_cases (has_delivered (processes x) u) (proc_eq p x && uid_eq u m.id) (sym (delivered_now p m x u) ∙ has)) [
+    | inl old ↦ inl old
+    | inr own ↦ inr (same_uid u m.id (and_parts (proc_eq p x) (uid_eq u m.id) own).1)
+  ]
+
   -- a delivery of a message that is ready is taken in as the process takes it in
-  pub delivery_fits : (p : Proc) (key : Key) (m : Message) → message_under received key ≡ Some m → is_causally_ready groups gate (processes p) m ≡ true → Fits groups gate (set_process processes p (delivering m (processes p))) received (record q { rows = after_delivery q.offered p key q.rows })
+  pub delivery_fits : (p : Proc) (key : Key) (m : Message) → message_under received key ≡ Some m → is_causally_ready groups gate (processes p) m ≡ true → Fits groups gate (set_process processes p (delivering m (processes p))) received (queue_delivering p key q)
   delivery_fits p key m at ready =
       let (r, found, same) = received_under received key m at in
       let sound : IsSound m = subst IsSound same (fits.sound r (found_in (λ x. key_eq x.key key) received r found)) in
@@ -314,26 +418,32 @@ module _ (groups : List GroupNo) (gate : GroupNo → Gate) (processes : Proc →
       ap (λ os. offered_under os key) fits.offered ∙ find_mapped offer_of (λ o. key_eq o.key key) received ∙ ap (λ (o : Option Received). option_map offer_of o) found in
       let after : after_delivery q.offered p key q.rows ≡ change_row p (delivered_row m.id m.times) q.rows =
       after_at q.offered p key q.rows (offer_of r) offer ∙ ap (λ (x : Message). change_row p (delivered_row x.id x.times) q.rows) same in
-      let parts = ready_parts q.numbers row m.id m.times (row_rules p row m here sound ∙ ready) in
+      let parts = ready_parts q.gates row m.id m.times (row_rules p row m here sound ∙ ready) in
       record {
-        numbers = fits.numbers;
+        gates = fits.gates;
         rows = subst (λ rows. (x : Proc) → StandsFor gate (set_process processes p (delivering m (processes p)) x) (row_of rows x)) (sym after)
-            (rows_changed p (delivered_row m.id m.times) (λ _. refl) gate processes (delivering m (processes p)) q.rows row here (delivered_fits gate (processes p) row (row_at p row here) m sound q.numbers parts) fits.rows);
+            (rows_changed p (delivered_row m.id m.times) (λ _. refl) gate processes (delivering m (processes p)) q.rows row here (delivered_fits gate (processes p) row (row_at p row here) m sound q.gates parts) fits.rows);
         groups_known = known_still p (delivering m (processes p)) (fits.groups_known p);
         offered = fits.offered;
         named = fits.named;
         sound = fits.sound;
+        reached = subst (λ c. Reaches gate (set_process processes p (delivering m (processes p))) c) (sym (raised_to q.offered key q.reached (offer_of r) offer ∙ ap (λ (x : Message). raised_at (source x.id.group x.id.view x.id.proc) x.id.count q.reached) same))
+            (reaches_raised gate processes q.reached fits.reached (set_process processes p (delivering m (processes p))) (delivered_still p m) m.id sound.from_one p (delivered_own p m) (delivered_before p m));
       }
 
 -- a new queue, and processes that have done nothing
 pub new_fits : NewFits
 new_fits groups = record {
-  numbers = λ g. refl;
+  gates = λ g. refl;
   rows = λ p g. refl;
   groups_known = λ p g inside. absurd (false≢true (sym inside));
   offered = refl;
   named = λ r in_it. absurd (omega (arith, in_it.1));
   sound = λ r in_it. absurd (omega (arith, in_it.1));
+  reached = record {
+    most = λ p u stands has. absurd (false≢true has);
+    each = λ x in_it. absurd (omega (arith, in_it.1));
+  };
 }
 
 -- the clauses on what the queue answers
@@ -367,3 +477,10 @@ standing_is q p g s is groups gate processes received fits = is ∙ elim (option
       ap (λ (o : Option Row). option_map_or (λ r. standing_in r g) o Outside) some
       ∙ (row_at groups gate processes received q fits p row some).standing g
 ]
+
+-- how far processes came
+pub reached_says : (q : Queue) (group : GroupNo) (view : ℕ) (counts : List Entry) → counts ≡ counts_in group view q.reached → SaysReached q group view counts
+reached_says q group view counts is = subst (λ c. SaysReached q group view c) (sym is) (record {
+  most = λ groups gate processes received fits. reached_most gate processes q.reached fits.reached group view;
+  each = λ groups gate processes received fits. reached_each gate processes q.reached fits.reached group view;
+})

@@ -9,7 +9,8 @@ use Rattle.cast_clock.specs.Times.{join, has_room}
 use Rattle.cast_message.specs.declared.message.Message.{Message}
 use Rattle.cast_message.specs.Bodies.{kind_of}
 use Rattle.cast_delay.specs.declared.turn.Turn.{Turn}
-use Rattle.cast_delay.specs.Ready.{Process, Gate, is_member, has_delivered, group_allows, has_turn, is_causally_ready, is_ready}
+use Rattle.cast_delay.specs.declared.gate.Gate.{Gate}
+use Rattle.cast_delay.specs.Ready.{Process, is_open_to, is_member, has_delivered, group_allows, has_turn, is_causally_ready, is_ready}
 use Rattle.cast_delay.proofs.Finds.{find_agree}
 
 -- what is asked of a message beside causal readiness
@@ -25,15 +26,17 @@ module _ (groups : List GroupNo) (gate : GroupNo → Gate) (p : Process) where
   -- the process is a member of the group of what is causally ready
   pub causally_member : (m : Message) → is_causally_ready groups gate p m ≡ true → is_member (p.standing m.id.group) ≡ true
   causally_member m ready =
-      (and_parts (is_member (p.standing m.id.group)) ((m.id.view == (gate m.id.group).number) && (not (has_delivered p m.id) && (list.list_all (λ h. group_allows (p.standing h) p (gate h) m h) groups && has_room (join p.time m.times)))) ready).0
+      (and_parts (is_member (p.standing m.id.group)) ((m.id.view == (gate m.id.group).number) && (is_open_to (gate m.id.group) (entry_of m.id) && (not (has_delivered p m.id) && (list.list_all (λ h. group_allows (p.standing h) p (gate h) m h) groups && has_room (join p.time m.times))))) ready).0
 
   -- and has not delivered it
   pub causally_undelivered : (m : Message) → is_causally_ready groups gate p m ≡ true → has_delivered p m.id ≡ false
   causally_undelivered m ready =
       let rest = list.list_all (λ h. group_allows (p.standing h) p (gate h) m h) groups && has_room (join p.time m.times) in
-      let a = and_parts (is_member (p.standing m.id.group)) ((m.id.view == (gate m.id.group).number) && (not (has_delivered p m.id) && rest)) ready in
-      let b = and_parts (m.id.view == (gate m.id.group).number) (not (has_delivered p m.id) && rest) a.1 in
-      not-true (has_delivered p m.id) (and_parts (not (has_delivered p m.id)) rest b.1).0
+      let open_to = is_open_to (gate m.id.group) (entry_of m.id) in
+      let a = and_parts (is_member (p.standing m.id.group)) ((m.id.view == (gate m.id.group).number) && (open_to && (not (has_delivered p m.id) && rest))) ready in
+      let b = and_parts (m.id.view == (gate m.id.group).number) (open_to && (not (has_delivered p m.id) && rest)) a.1 in
+      let c = and_parts open_to (not (has_delivered p m.id) && rest) b.1 in
+      not-true (has_delivered p m.id) (and_parts (not (has_delivered p m.id)) rest c.1).0
 
   -- turns that agree on the groups that the process is a member of let the same be delivered
   pub same_turns : (turn other : GroupNo → Turn) → ((g : GroupNo) → is_member (p.standing g) ≡ true → turn g ≡ other g) → (m : Message) → is_ready groups gate turn p m ≡ is_ready groups gate other p m

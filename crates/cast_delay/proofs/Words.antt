@@ -12,7 +12,7 @@ use Rattle.cast_types.specs.declared.names.Kind.{Kind}
 use Rattle.cast_types.specs.declared.names.Kind.TheVariants.{Causal, Atomic, Order}
 use Rattle.cast_types.specs.Names.{Entry, group_cmp, proc_cmp, uid_eq, named, entry_of, is_atomic}
 use Rattle.cast_types.specs.Sets.{is_among}
-use Rattle.cast_types.specs.Counts.{count_of}
+use Rattle.cast_types.specs.Counts.{CountList, count_of}
 use Rattle.cast_types.proofs.Orders.{group_exact, proc_total, proc_exact, same_uid, uid_itself, same_entry, entry_itself}
 use Rattle.cast_clock.specs.Times.{first_clock, clock_of, view_of, join, has_room}
 use Rattle.cast_clock.specs.Laws.{is_in_order}
@@ -21,8 +21,9 @@ use Rattle.cast_message.specs.declared.message.Message.{Message}
 use Rattle.cast_message.specs.Bodies.{kind_of}
 use Rattle.cast_delay.specs.declared.turn.Turn.{Turn}
 use Rattle.cast_delay.specs.declared.turn.Turn.TheVariants.{Holding, Following}
-use Rattle.cast_delay.specs.Ready.{Process, Gate, is_member, has_delivered, past_in, group_allows, has_turn, is_causally_ready, is_ready}
-use Rattle.cast_delay.specs.Rule.{HappenedBefore, Allows, MayBeDelivered, IsTurnOf, MayBeDeliveredInTurn, RuleInWords, TurnInWords}
+use Rattle.cast_delay.specs.declared.gate.Gate.{Gate}
+use Rattle.cast_delay.specs.Ready.{Process, is_cut_by, is_open_to, is_member, has_delivered, past_in, group_allows, has_turn, is_causally_ready, is_ready}
+use Rattle.cast_delay.specs.Rule.{HappenedBefore, Allows, IsCutBy, IsOpenTo, MayBeDelivered, IsTurnOf, MayBeDeliveredInTurn, RuleInWords, TurnInWords}
 use Rattle.cast_delay.proofs.Listed.{range_holds, holds_range}
 use Rattle.cast_delay.proofs.Counted.{past_spelled}
 use Rattle.cast_delay.proofs.Delivers.{only_member}
@@ -63,6 +64,25 @@ each_all : {A : Type 0} (t : A → Bool) (xs : List A) → ((x : A) → Contains
 each_all t [] each = refl
 each_all t (y ∷ xs) each =
     and_from (t y) (list_all t xs) (each y (contains_here y xs)) (each_all t xs (λ x has. each x (contains_later x y xs has)))
+
+-- the test of a cut and of a gate say what they say in words
+cut_there : (cut : Option CountList) (e : Entry) → is_cut_by cut e ≡ true → IsCutBy cut e
+cut_there None e is = false≢true is
+cut_there (Some cut) e is = leb-true e.1 (count_of cut e.0) is
+
+cut_back : (cut : Option CountList) (e : Entry) → IsCutBy cut e → is_cut_by cut e ≡ true
+cut_back None e is = absurd is
+cut_back (Some cut) e is = le-leb e.1 (count_of cut e.0) is
+
+open_there : (gate : Gate) (e : Entry) → is_open_to gate e ≡ true → IsOpenTo gate e
+open_there gate e is = elim (or_cases (not gate.frozen) (is_cut_by gate.cut e) is) [
+  | inl moves ↦ inl (not-true gate.frozen moves)
+  | inr within ↦ inr (cut_there gate.cut e within)
+]
+
+open_back : (gate : Gate) (e : Entry) → IsOpenTo gate e → is_open_to gate e ≡ true
+open_back gate e (inl moves) = or_left (not gate.frozen) (is_cut_by gate.cut e) (not_from_false gate.frozen moves)
+open_back gate e (inr within) = or_right (not gate.frozen) (is_cut_by gate.cut e) (cut_back gate.cut e within)
 
 module _ (p : Process) (m : Message) (ordered : IsTrue (is_in_order m.times)) where
   abbrev passes : Uid → Bool
@@ -130,13 +150,15 @@ module _ (p : Process) (m : Message) (ordered : IsTrue (is_in_order m.times)) wh
 
     words_there : is_causally_ready groups gate p m ≡ true → MayBeDelivered groups gate p m
     words_there ready =
-        let a = and_parts (is_member (p.standing m.id.group)) ((m.id.view == (gate m.id.group).number) && (not (has_delivered p m.id) && (list_all rule groups && has_room (join p.time m.times)))) ready in
-        let b = and_parts (m.id.view == (gate m.id.group).number) (not (has_delivered p m.id) && (list_all rule groups && has_room (join p.time m.times))) a.1 in
-        let c = and_parts (not (has_delivered p m.id)) (list_all rule groups && has_room (join p.time m.times)) b.1 in
+        let a = and_parts (is_member (p.standing m.id.group)) ((m.id.view == (gate m.id.group).number) && (is_open_to (gate m.id.group) (entry_of m.id) && (not (has_delivered p m.id) && (list_all rule groups && has_room (join p.time m.times))))) ready in
+        let b = and_parts (m.id.view == (gate m.id.group).number) (is_open_to (gate m.id.group) (entry_of m.id) && (not (has_delivered p m.id) && (list_all rule groups && has_room (join p.time m.times)))) a.1 in
+        let o = and_parts (is_open_to (gate m.id.group) (entry_of m.id)) (not (has_delivered p m.id) && (list_all rule groups && has_room (join p.time m.times))) b.1 in
+        let c = and_parts (not (has_delivered p m.id)) (list_all rule groups && has_room (join p.time m.times)) o.1 in
         let d = and_parts (list_all rule groups) (has_room (join p.time m.times)) c.1 in
         record {
           member = only_member (p.standing m.id.group) a.0;
           current = eqb-true m.id.view (gate m.id.group).number b.0;
+          opened = open_there (gate m.id.group) (entry_of m.id) o.0;
           undelivered = λ has. false≢true (sym (not-true (has_delivered p m.id) c.0) ∙ in_delivered p.delivered m.id has);
           allowed = λ h known. allows_there (gate h) h (p.standing h) (all_each rule groups d.0 h known);
           room = d.1;
@@ -144,11 +166,12 @@ module _ (p : Process) (m : Message) (ordered : IsTrue (is_in_order m.times)) wh
 
     words_back : MayBeDelivered groups gate p m → is_causally_ready groups gate p m ≡ true
     words_back may =
-        and_from (is_member (p.standing m.id.group)) ((m.id.view == (gate m.id.group).number) && (not (has_delivered p m.id) && (list_all rule groups && has_room (join p.time m.times)))) (ap is_member may.member)
-        (and_from (m.id.view == (gate m.id.group).number) (not (has_delivered p m.id) && (list_all rule groups && has_room (join p.time m.times))) (eq-eqb m.id.view (gate m.id.group).number may.current)
+        and_from (is_member (p.standing m.id.group)) ((m.id.view == (gate m.id.group).number) && (is_open_to (gate m.id.group) (entry_of m.id) && (not (has_delivered p m.id) && (list_all rule groups && has_room (join p.time m.times))))) (ap is_member may.member)
+        (and_from (m.id.view == (gate m.id.group).number) (is_open_to (gate m.id.group) (entry_of m.id) && (not (has_delivered p m.id) && (list_all rule groups && has_room (join p.time m.times)))) (eq-eqb m.id.view (gate m.id.group).number may.current)
+        (and_from (is_open_to (gate m.id.group) (entry_of m.id)) (not (has_delivered p m.id) && (list_all rule groups && has_room (join p.time m.times))) (open_back (gate m.id.group) (entry_of m.id) may.opened)
         (and_from (not (has_delivered p m.id)) (list_all rule groups && has_room (join p.time m.times))
         (not_from_false (has_delivered p m.id) (false_from_ne_true (has_delivered p m.id) (λ has. may.undelivered (delivered_in p.delivered m.id has))))
-        (and_from (list_all rule groups) (has_room (join p.time m.times)) (each_all rule groups (λ h known. allows_back (gate h) h (p.standing h) (may.allowed h known))) may.room)))
+        (and_from (list_all rule groups) (has_room (join p.time m.times)) (each_all rule groups (λ h known. allows_back (gate h) h (p.standing h) (may.allowed h known))) may.room))))
 
 pub rule_in_words : RuleInWords
 rule_in_words groups gate p m ordered = (words_there p m ordered groups gate, words_back p m ordered groups gate)

@@ -6,7 +6,9 @@ use Rattle.cast_types.specs.declared.names.Proc.{Proc}
 use Rattle.cast_types.specs.declared.names.Key.{Key}
 use Rattle.cast_types.specs.declared.names.Uid.{Uid}
 use Rattle.cast_types.specs.declared.names.Standing.TheVariants.{Outside}
-use Rattle.cast_types.specs.Names.{group_cmp, group_eq, proc_eq, is_atomic}
+use Rattle.cast_types.specs.declared.source.Source.{Source}
+use Rattle.cast_types.specs.Sources.{source}
+use Rattle.cast_types.specs.Names.{group_cmp, group_eq, proc_eq, named, is_atomic}
 use Rattle.cast_types.specs.Sets.{is_among, set_at}
 use Rattle.cast_clock.specs.Times.{no_time, view_of, count_in, join}
 use Rattle.cast_message.specs.declared.message.Message.{Message}
@@ -18,8 +20,10 @@ use Rattle.cast_delay.specs.declared.offered.Offered.{Offered}
 use Rattle.cast_delay.specs.declared.row.Row.{Row}
 use Rattle.cast_delay.specs.declared.row.Fact.{Fact}
 use Rattle.cast_delay.specs.declared.row.Fact.TheVariants as fact
-use Rattle.cast_delay.specs.Ready.{Process, Gate, is_member, is_outside, has_delivered, awaits, turn_in, first_ready}
-use Rattle.cast_delay.specs.Rows.{number_of, standing_in, done_in}
+use Rattle.cast_delay.specs.declared.gate.Gate.{Gate}
+use Rattle.cast_delay.specs.Ready.{Process, is_member, is_outside, has_delivered, awaits, turn_in, first_ready}
+use Rattle.cast_delay.specs.Tallies.{Tally, count_at}
+use Rattle.cast_delay.specs.Rows.{gate_in, standing_in, done_in}
 use Rattle.cast_delay.specs.Queue.{Queue, row_of}
 
 -- the message's time has its own view and its own count, from 1 on
@@ -45,6 +49,12 @@ abbrev pub StandsFor : (GroupNo → Gate) → Process → Option Row → Type 0
 StandsFor gate p (Some row) = RowFits gate p row
 StandsFor gate p None = (g : GroupNo) → p.standing g ≡ Outside
 
+-- the counts tell how far processes came: in views that have not ended none has delivered a message of a source beyond its count, and
+-- each count is of a message that one has delivered
+pub record Reaches (gate : GroupNo → Gate) (processes : Proc → Process) (reached : Tally) : Type 0 where
+  pub most : (p : Proc) (u : Uid) → HasNotEnded gate u.group u.view → has_delivered (processes p) u ≡ true → u.count ≤ count_at reached (source u.group u.view u.proc)
+  pub each : (x : Source × ℕ) → Contains reached x → (p : Proc) × (has_delivered (processes p) (named x.0.group x.0.view (x.0.process, x.1)) ≡ true)
+
 -- a process that has no time yet and delivered nothing
 pub record HasNotBegun (p : Process) : Type 0 where
   pub time : p.time ≡ no_time
@@ -55,12 +65,13 @@ offer_of r = record { key = r.key; id = r.message.id; atomic = is_atomic (kind_o
 
 -- the queue tells of these groups, processes and messages in order of receipt
 pub record Fits (groups : List GroupNo) (gate : GroupNo → Gate) (processes : Proc → Process) (received : List Received) (q : Queue) : Type 0 where
-  pub numbers : (g : GroupNo) → number_of q.numbers g ≡ (gate g).number
+  pub gates : (g : GroupNo) → gate_in q.gates g ≡ gate g
   pub rows : (p : Proc) → StandsFor gate (processes p) (row_of q.rows p)
   pub groups_known : (p : Proc) (g : GroupNo) → is_outside ((processes p).standing g) ≡ false → is_among group_eq g groups ≡ true
   pub offered : q.offered ≡ map offer_of received
   pub named : (r : Received) → Contains received r → message_under received r.key ≡ Some r.message
   pub sound : (r : Received) → Contains received r → IsSound r.message
+  pub reached : Reaches gate processes q.reached
 
 -- the result is the key of the first message in order of receipt that is ready, and none only where none is
 abbrev pub FirstReady : List GroupNo → (GroupNo → Gate) → (GroupNo → Turn) → Process → List Received → Option Key → Type 0

@@ -16,9 +16,11 @@ use Rattle.cast_message.specs.Receipts.{key_eq, message_under}
 use Rattle.cast_delay.specs.declared.turn.Turn.{Turn}
 use Rattle.cast_delay.specs.declared.row.Row.{Row}
 use Rattle.cast_delay.specs.declared.row.Fact.{Fact}
-use Rattle.cast_delay.specs.Ready.{Process, Gate, has_delivered, awaits, is_causally_ready, is_ready}
-use Rattle.cast_delay.specs.Rows.{told_row, is_causally_ready_row, is_ready_row, has_delivered_in, awaits_row}
-use Rattle.cast_delay.specs.Queue.{Queue, new_row, row_of, change_row, next_key, but_offered, after_delivery}
+use Rattle.cast_types.specs.Counts.{CountList}
+use Rattle.cast_delay.specs.declared.gate.Gate.{Gate}
+use Rattle.cast_delay.specs.Ready.{Process, open_gate, frozen_gate, pending_gate, has_delivered, awaits, is_causally_ready, is_ready}
+use Rattle.cast_delay.specs.Rows.{gate_in, told_row, is_causally_ready_row, is_ready_row, has_delivered_in, awaits_row}
+use Rattle.cast_delay.specs.Queue.{Queue, new_row, row_of, but_row, change_row, next_key, but_offered, queue_viewing, queue_delivering}
 use Rattle.cast_delay.specs.Fits.{Fits, FirstReady, HasTurns, IsSound, HasNotEnded, HasNotBegun, offer_of, set_process, told, delivering, FactFits}
 
 -- by what the queue keeps of a process, a message is causally ready exactly if it is by what the process delivered
@@ -27,7 +29,7 @@ RowMeansTheRule =
     (groups : List GroupNo) (gate : GroupNo → Gate) (processes : Proc → Process) (received : List Received) (q : Queue)
     → Fits groups gate processes received q → (p : Proc) (row : Row) (m : Message)
     → row_of q.rows p ≡ Some row → IsSound m
-    → is_causally_ready_row q.numbers row m.id m.times ≡ is_causally_ready groups gate (processes p) m
+    → is_causally_ready_row q.gates row m.id m.times ≡ is_causally_ready groups gate (processes p) m
 
 -- and with the turns of its groups, a message that is offered is ready exactly if it is by what the process delivered
 abbrev pub TurnMeansTheRule : Type 0
@@ -36,7 +38,7 @@ TurnMeansTheRule =
     → Fits groups gate processes received q → (p : Proc) (turns : List (GroupNo × Turn)) (turn : GroupNo → Turn)
     → HasTurns (processes p) turns turn → (row : Row) (r : Received)
     → row_of q.rows p ≡ Some row → IsSound r.message
-    → is_ready_row turns q.numbers row (offer_of r) ≡ is_ready groups gate turn (processes p) r.message
+    → is_ready_row turns q.gates row (offer_of r) ≡ is_ready groups gate turn (processes p) r.message
 
 -- by what the queue keeps of a process, it has delivered a message of a view that has not ended exactly if that is among what it delivered
 abbrev pub DeliveredIsTheRule : Type 0
@@ -62,12 +64,12 @@ QueueMeansTheRule =
     → HasTurns (processes p) turns turn
     → FirstReady groups gate turn (processes p) received (next_key turns q p)
 
--- a new queue means views of number 0, processes in no group, and no messages
+-- a new queue means views of number 0 that no flush has frozen, processes in no group, and no messages
 abbrev pub NewFits : Type 0
 NewFits =
     (groups : List GroupNo)
-    → Fits groups (λ g. record { number = 0 }) (λ p. record { time = no_time; standing = λ g. Outside; delivered = [] }) []
-    (record { numbers = []; offered = []; rows = [] })
+    → Fits groups (λ g. open_gate 0) (λ p. record { time = no_time; standing = λ g. Outside; delivered = [] }) []
+    (record { gates = []; offered = []; rows = []; reached = [] })
 
 -- a process gets a row; one that had none has not begun
 abbrev pub AdmitKeepsMeaning : Type 0
@@ -77,6 +79,14 @@ AdmitKeepsMeaning =
     → (row_of q.rows p ≡ None → HasNotBegun (processes p))
     → Fits groups gate processes received (record q { rows = q.rows ++ new_row p ∷ [] })
 
+-- the row of a process that is in no group goes
+abbrev pub DismissKeepsMeaning : Type 0
+DismissKeepsMeaning =
+    (groups : List GroupNo) (gate : GroupNo → Gate) (processes : Proc → Process) (received : List Received) (q : Queue)
+    → Fits groups gate processes received q → (p : Proc)
+    → ((g : GroupNo) → (processes p).standing g ≡ Outside)
+    → Fits groups gate processes received (record q { rows = but_row p q.rows })
+
 abbrev pub TellKeepsMeaning : Type 0
 TellKeepsMeaning =
     (groups : List GroupNo) (gate : GroupNo → Gate) (processes : Proc → Process) (received : List Received) (q : Queue)
@@ -85,13 +95,29 @@ TellKeepsMeaning =
     → Fits groups gate (set_process processes p (told f (processes p))) received
     (record q { rows = change_row p (told_row f) q.rows })
 
--- a group has a later view
+-- a group has a later view, which no flush has frozen, and what was delivered of its earlier views is forgotten
 abbrev pub ViewKeepsMeaning : Type 0
 ViewKeepsMeaning =
     (groups : List GroupNo) (gate : GroupNo → Gate) (processes : Proc → Process) (received : List Received) (q : Queue)
     → Fits groups gate processes received q → (g : GroupNo) (number : ℕ) → (gate g).number ≤ number
-    → Fits groups (set_at group_eq gate g (record { number = number })) processes received
-    (record q { numbers = put group_cmp g number q.numbers })
+    → Fits groups (set_at group_eq gate g (open_gate number)) processes received
+    (queue_viewing g number q)
+
+-- a flush freezes a group
+abbrev pub FreezeKeepsMeaning : Type 0
+FreezeKeepsMeaning =
+    (groups : List GroupNo) (gate : GroupNo → Gate) (processes : Proc → Process) (received : List Received) (q : Queue)
+    → Fits groups gate processes received q → (g : GroupNo)
+    → Fits groups (set_at group_eq gate g (frozen_gate (gate g))) processes received
+    (record q { gates = put group_cmp g (frozen_gate (gate_in q.gates g)) q.gates })
+
+-- the Install of a group's next view waits
+abbrev pub PendKeepsMeaning : Type 0
+PendKeepsMeaning =
+    (groups : List GroupNo) (gate : GroupNo → Gate) (processes : Proc → Process) (received : List Received) (q : Queue)
+    → Fits groups gate processes received q → (g : GroupNo) (cut : CountList)
+    → Fits groups (set_at group_eq gate g (pending_gate cut (gate g))) processes received
+    (record q { gates = put group_cmp g (pending_gate cut (gate_in q.gates g)) q.gates })
 
 -- the message under a key is let go
 abbrev pub ForgetKeepsMeaning : Type 0
@@ -115,4 +141,4 @@ DeliveryKeepsMeaning =
     → Fits groups gate processes received q → (p : Proc) (key : Key) (m : Message)
     → message_under received key ≡ Some m → is_causally_ready groups gate (processes p) m ≡ true
     → Fits groups gate (set_process processes p (delivering m (processes p))) received
-    (record q { rows = after_delivery q.offered p key q.rows })
+    (queue_delivering p key q)

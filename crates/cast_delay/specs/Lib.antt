@@ -1,4 +1,5 @@
 pub mod Ready
+pub mod Tallies
 pub mod Rows
 pub mod Queue
 pub mod Fits

@@ -8,11 +8,12 @@ use Rattle.cast_types.specs.declared.names.Standing.{Standing}
 use Rattle.cast_types.specs.declared.names.Standing.TheVariants.{Outside, Joining, Member}
 use Rattle.cast_types.specs.Names.{Entry, group_eq, entry_eq, uid_eq, named, entry_of, is_atomic}
 use Rattle.cast_types.specs.Sets.{is_among}
-use Rattle.cast_types.specs.Counts.{CountList}
+use Rattle.cast_types.specs.Counts.{CountList, is_within}
 use Rattle.cast_types.specs.Stamps.{ClockList}
 use Rattle.cast_clock.specs.Times.{clock_of, view_of, join, has_room}
 use Rattle.cast_message.specs.declared.message.Message.{Message}
 use Rattle.cast_message.specs.Bodies.{kind_of}
+use Rattle.cast_delay.specs.declared.gate.Gate.{Gate}
 use Rattle.cast_delay.specs.declared.turn.Turn.{Turn}
 use Rattle.cast_delay.specs.declared.turn.Turn.TheVariants.{Holding, Following}
 
@@ -22,9 +23,29 @@ pub record Process : Type 0 where
   pub standing : GroupNo → Standing
   pub delivered : List Uid
 
--- what of a group decides whether its messages may be delivered: the number of its view
-pub record Gate : Type 0 where
-  pub number : ℕ
+-- The gate of a group is what of it decides whether its messages may be delivered: the number of its view, whether a flush has
+-- frozen it, and the cut of the Install that waits
+
+-- no flush has frozen it
+abbrev pub open_gate : ℕ → Gate
+open_gate number = record { number = number; frozen = false; cut = None }
+
+-- one has
+abbrev pub frozen_gate : Gate → Gate
+frozen_gate gate = record gate { frozen = true }
+
+-- and an Install with this cut waits
+abbrev pub pending_gate : CountList → Gate → Gate
+pending_gate cut gate = record gate { frozen = true; cut = Some cut }
+
+-- there is a cut that covers the message
+abbrev pub is_cut_by : Option CountList → Entry → Bool
+is_cut_by None e = false
+is_cut_by (Some cut) e = is_within cut e
+
+-- the group delivers the message: it is not frozen, or the message is within the cut of the Install that waits
+abbrev pub is_open_to : Gate → Entry → Bool
+is_open_to gate e = not gate.frozen || is_cut_by gate.cut e
 
 abbrev pub is_member : Standing → Bool
 is_member Outside = false
@@ -67,15 +88,16 @@ group_allows (Joining request heard) p gate m h = nat_le (view_of m.times h) hea
 group_allows Member p gate m h =
     nat_lt (view_of m.times h) gate.number || ((view_of m.times h == gate.number) && list_all (has_delivered p) (past_in m h))
 
--- causally ready: of the current view of a group of the process, not delivered, nothing before it undelivered, and
--- the join of the times within its bound
+-- causally ready: of the current view of a group of the process, which is not frozen or cuts behind it, not delivered,
+-- nothing before it undelivered, and the join of the times within its bound
 abbrev pub is_causally_ready : List GroupNo → (GroupNo → Gate) → Process → Message → Bool
 is_causally_ready groups gate p m =
     is_member (p.standing m.id.group)
     && ((m.id.view == (gate m.id.group).number)
+    && (is_open_to (gate m.id.group) (entry_of m.id)
     && (not (has_delivered p m.id)
     && (list_all (λ h. group_allows (p.standing h) p (gate h) m h) groups
-    && has_room (join p.time m.times))))
+    && has_room (join p.time m.times)))))
 
 -- whether it is an ABCAST's turn. Where the order is held here, each gets the next place while there is room;
 -- elsewhere it must be the one that stands next in the known order

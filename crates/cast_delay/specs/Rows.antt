@@ -10,24 +10,26 @@ use Rattle.cast_types.specs.declared.names.Standing.TheVariants.{Outside, Joinin
 use Rattle.cast_types.specs.Names.{Entry, group_cmp, uid_eq, named, entry_of}
 use Rattle.cast_types.specs.Stamps.{ClockList}
 use Rattle.cast_clock.specs.Times.{clock_of, view_of, join, has_room}
-use Rattle.cast_delay.specs.Ready.{is_member, has_turn, turn_in}
+use Rattle.cast_delay.specs.declared.gate.Gate.{Gate}
+use Rattle.cast_delay.specs.Ready.{open_gate, is_open_to, is_member, has_turn, turn_in}
 use Rattle.cast_types.specs.Sources.{source, source_cmp}
+use Rattle.cast_delay.specs.Tallies.{count_at, but_ended}
 use Rattle.cast_delay.specs.declared.turn.Turn.{Turn}
 use Rattle.cast_delay.specs.declared.offered.Offered.{Offered}
 use Rattle.cast_delay.specs.declared.row.Row.{Row}
 use Rattle.cast_delay.specs.declared.row.Fact.{Fact}
 use Rattle.cast_delay.specs.declared.row.Fact.TheVariants as fact
 
--- the number of a group's view, 0 where none was told
-abbrev pub number_of : List (GroupNo × ℕ) → GroupNo → ℕ
-number_of numbers g = unwrap_or (find group_cmp g numbers) 0
+-- the gate of a group: number 0 and not frozen where nothing was told of it
+abbrev pub gate_in : List (GroupNo × Gate) → GroupNo → Gate
+gate_in gates g = unwrap_or (find group_cmp g gates) (open_gate 0)
 
 abbrev pub standing_in : Row → GroupNo → Standing
 standing_in row g = unwrap_or (find group_cmp g row.standings) Outside
 
 -- how many messages of a process the row's process has delivered in a view of a group
 abbrev pub done_in : Row → GroupNo → ℕ → Proc → ℕ
-done_in row g view p = unwrap_or (find source_cmp (source g view p) row.done) 0
+done_in row g view p = count_at row.done (source g view p)
 
 -- how many messages of an entry must be delivered before a message: its own is left out
 abbrev pub needed : Uid → GroupNo → ℕ → Entry → ℕ
@@ -43,22 +45,23 @@ row_allows row number id times g Member =
     nat_lt (view_of times g) number
     || ((view_of times g == number) && has_past row id g (view_of times g) (clock_of times g).counts)
 
-abbrev pub all_allow : List (GroupNo × ℕ) → Row → Uid → ClockList → Bool
-all_allow numbers row id times = list_all (λ s. row_allows row (number_of numbers s.0) id times s.0 s.1) row.standings
+abbrev pub all_allow : List (GroupNo × Gate) → Row → Uid → ClockList → Bool
+all_allow gates row id times = list_all (λ s. row_allows row (gate_in gates s.0).number id times s.0 s.1) row.standings
 
 -- causally ready, by what the queue keeps
-abbrev pub is_causally_ready_row : List (GroupNo × ℕ) → Row → Uid → ClockList → Bool
-is_causally_ready_row numbers row id times =
+abbrev pub is_causally_ready_row : List (GroupNo × Gate) → Row → Uid → ClockList → Bool
+is_causally_ready_row gates row id times =
     is_member (standing_in row id.group)
-    && ((id.view == number_of numbers id.group)
+    && ((id.view == (gate_in gates id.group).number)
+    && (is_open_to (gate_in gates id.group) (entry_of id)
     && (nat_lt (done_in row id.group id.view id.proc) id.count
-    && (all_allow numbers row id times
-    && has_room (join row.time times))))
+    && (all_allow gates row id times
+    && has_room (join row.time times)))))
 
 -- ready, by what the queue keeps and these turns of groups
-abbrev pub is_ready_row : List (GroupNo × Turn) → List (GroupNo × ℕ) → Row → Offered → Bool
-is_ready_row turns numbers row o =
-    is_causally_ready_row numbers row o.id o.times
+abbrev pub is_ready_row : List (GroupNo × Turn) → List (GroupNo × Gate) → Row → Offered → Bool
+is_ready_row turns gates row o =
+    is_causally_ready_row gates row o.id o.times
     && (not o.atomic || has_turn (turn_in turns o.id.group) (entry_of o.id))
 
 -- the process has delivered it, by what the queue keeps
@@ -87,6 +90,10 @@ with_standing g standing row = record row { standings = put group_cmp g standing
 
 abbrev pub with_time : ClockList → Row → Row
 with_time time row = record row { time = time }
+
+-- the row once the group's views below a number have ended: of what the process delivered of these it has nothing more
+abbrev pub ended_row : GroupNo → ℕ → Row → Row
+ended_row g number row = record row { done = but_ended g number row.done }
 
 -- the row after a fact
 abbrev pub told_row : Fact → Row → Row

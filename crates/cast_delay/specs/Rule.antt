@@ -1,5 +1,5 @@
 -- The delivery rule in words, id by id.
-use Rattle.std.specs.Prelude.{◌≡◌, ◌≢◌, ◌↔◌, ◌⊎◌, ◌<◌, ◌≤◌, true, IsTrue, List, Contains, Some, None}
+use Rattle.std.specs.Prelude.{◌≡◌, ◌≢◌, ◌↔◌, ◌⊎◌, ◌<◌, ◌≤◌, true, false, IsTrue, List, Contains, Option, Some, None}
 use Rattle.cast_types.specs.declared.names.GroupNo.{GroupNo}
 use Rattle.cast_types.specs.declared.names.Uid.{Uid}
 use Rattle.cast_types.specs.declared.names.Standing.{Standing}
@@ -12,7 +12,9 @@ use Rattle.cast_message.specs.declared.message.Message.{Message}
 use Rattle.cast_message.specs.Bodies.{kind_of}
 use Rattle.cast_delay.specs.declared.turn.Turn.{Turn}
 use Rattle.cast_delay.specs.declared.turn.Turn.TheVariants.{Holding, Following}
-use Rattle.cast_delay.specs.Ready.{Process, Gate, is_causally_ready, is_ready}
+use Rattle.cast_types.specs.Counts.{CountList, count_of}
+use Rattle.cast_delay.specs.declared.gate.Gate.{Gate}
+use Rattle.cast_delay.specs.Ready.{Process, is_causally_ready, is_ready}
 
 -- a message of a group that the time of m covers, other than m
 pub record HappenedBefore (m : Message) (h : GroupNo) (u : Uid) : Type 0 where
@@ -32,10 +34,20 @@ Allows Member p gate m h =
     (view_of m.times h < gate.number)
     ⊎ ((view_of m.times h ≡ gate.number) × ((u : Uid) → HappenedBefore m h u → Contains p.delivered u))
 
+-- there is a cut, and it has as many messages of the process as the count says
+abbrev pub IsCutBy : Option CountList → Entry → Type 0
+IsCutBy None e = ⊥
+IsCutBy (Some cut) e = e.1 ≤ count_of cut e.0
+
+-- a group delivers a message: no flush has frozen it, or the message is within the cut of the Install that waits
+abbrev pub IsOpenTo : Gate → Entry → Type 0
+IsOpenTo gate e = (gate.frozen ≡ false) ⊎ IsCutBy gate.cut e
+
 -- m may be delivered to p now, as far as what happened before it goes
 pub record MayBeDelivered (groups : List GroupNo) (gate : GroupNo → Gate) (p : Process) (m : Message) : Type 0 where
   pub member : p.standing m.id.group ≡ Member
   pub current : m.id.view ≡ (gate m.id.group).number
+  pub opened : IsOpenTo (gate m.id.group) (entry_of m.id)
   pub undelivered : ¬ (Contains p.delivered m.id)
   pub allowed : (h : GroupNo) → Contains groups h → Allows (p.standing h) p (gate h) m h
   pub room : has_room (join p.time m.times) ≡ true

@@ -1,5 +1,5 @@
 -- What the queue's answers say of groups, processes and messages, whichever it tells of.
-use Rattle.std.specs.Prelude.{◌≡◌, ◌<◌, ◌↔◌, ℕ, Bool, true, not, IsTrue, List, length, Option, MatchOption, unwrap_or}
+use Rattle.std.specs.Prelude.{◌≡◌, ◌<◌, ◌≤◌, ◌↔◌, ℕ, Bool, true, not, IsTrue, List, length, Contains, Option, MatchOption, unwrap_or}
 use Rattle.std.specs.List.{position}
 use Rattle.std.specs.Option.{IsSome}
 use Rattle.cast_types.specs.declared.names.GroupNo.{GroupNo}
@@ -12,7 +12,8 @@ use Rattle.cast_types.specs.Names.{Entry, named}
 use Rattle.cast_types.specs.Stamps.{ClockList}
 use Rattle.cast_message.specs.declared.message.Received.{Received}
 use Rattle.cast_delay.specs.declared.turn.Turn.{Turn}
-use Rattle.cast_delay.specs.Ready.{Process, Gate, is_member, has_delivered, turn_in}
+use Rattle.cast_delay.specs.declared.gate.Gate.{Gate}
+use Rattle.cast_delay.specs.Ready.{Process, is_member, has_delivered, turn_in}
 use Rattle.cast_delay.specs.Queue.{Queue, row_of, HasOneRowEach}
 use Rattle.cast_delay.specs.Fits.{Fits, HasNotEnded, FirstReady, IsAwaited}
 
@@ -45,6 +46,17 @@ SaysPassed q p group view ids result =
     (groups : List GroupNo) (gate : GroupNo → Gate) (processes : Proc → Process) (received : List Received)
     → Fits groups gate processes received q → IsSome (row_of q.rows p) → HasNotEnded gate group view
     → result ≡ unwrap_or (position (λ e. not (has_delivered (processes p) (named group view e))) ids) (length ids)
+
+-- the counts of a view that has not ended say how far processes came in it: for each message of it that some process has
+-- delivered there is one as great, and each is of a message that one has delivered
+pub record SaysReached (q : Queue) (group : GroupNo) (view : ℕ) (counts : List Entry) : Type 0 where
+  pub most : (groups : List GroupNo) (gate : GroupNo → Gate) (processes : Proc → Process) (received : List Received)
+      → Fits groups gate processes received q → HasNotEnded gate group view
+      → (p : Proc) (e : Entry) → 0 < e.1 → has_delivered (processes p) (named group view e) ≡ true
+      → (n : ℕ) × Contains counts (e.0, n) × (e.1 ≤ n)
+  pub each : (groups : List GroupNo) (gate : GroupNo → Gate) (processes : Proc → Process) (received : List Received)
+      → Fits groups gate processes received q
+      → (e : Entry) → Contains counts e → (p : Proc) × (has_delivered (processes p) (named group view e) ≡ true)
 
 -- the time of a process, and none only of one that is in no group
 abbrev pub SaysTime : {X : Type 0} → Queue → Proc → (X → ClockList) → Option X → Type 0

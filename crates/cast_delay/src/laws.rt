@@ -1,8 +1,9 @@
 ghost use Rattle.cast_delay.specs.Rule.{RuleInWords, TurnInWords};
-ghost use Rattle.cast_delay.specs.Laws.{RowMeansTheRule, TurnMeansTheRule, QueueMeansTheRule, AwaitedIsTheRule, DeliveredIsTheRule, NewFits, AdmitKeepsMeaning, TellKeepsMeaning, ViewKeepsMeaning, OfferKeepsMeaning, ForgetKeepsMeaning, DeliveryKeepsMeaning};
+ghost use Rattle.cast_delay.specs.Laws.{RowMeansTheRule, TurnMeansTheRule, QueueMeansTheRule, AwaitedIsTheRule, DeliveredIsTheRule, NewFits, AdmitKeepsMeaning, DismissKeepsMeaning, TellKeepsMeaning, ViewKeepsMeaning, FreezeKeepsMeaning, PendKeepsMeaning, OfferKeepsMeaning, ForgetKeepsMeaning, DeliveryKeepsMeaning};
 
 /// The test of readiness says what the delivery rule says in words: the process is a member of the message's group in
-/// its current view, has not delivered the message, and has delivered all that happened before it. With the turns of
+/// its current view, which no flush has frozen or whose cut has the message, has not delivered the message, and has
+/// delivered all that happened before it. With the turns of
 /// groups the test says also that an ABCAST stands at its turn: where its order is held here there is room for one more
 /// place, and elsewhere it is the one that stands next.
 pub fn readiness_is_the_rule_in_words()
@@ -22,14 +23,17 @@ pub fn queue_means_the_rule()
     ensures delivered { DeliveredIsTheRule }
 {}
 
-/// What each call does to the queue it does to what the queue means: a process that has not begun is admitted, one takes
-/// in a fact, a group has a later view, a message is received, one is let go, and a process delivers a message that is
-/// causally ready for it.
+/// What each call does to the queue it does to what the queue means: a process that has not begun is admitted, one that is
+/// in no group is dismissed, one takes in a fact, a group has a later view, a flush freezes it, the Install of its next view waits, a message is received, one
+/// is let go, and a process delivers a message that is causally ready for it.
 pub fn queue_keeps_its_meaning()
     ensures new { NewFits }
     ensures admit { AdmitKeepsMeaning }
+    ensures dismiss { DismissKeepsMeaning }
     ensures tell { TellKeepsMeaning }
     ensures view_changed { ViewKeepsMeaning }
+    ensures freeze { FreezeKeepsMeaning }
+    ensures pend { PendKeepsMeaning }
     ensures offer { OfferKeepsMeaning }
     ensures forget { ForgetKeepsMeaning }
     ensures delivered { DeliveryKeepsMeaning }

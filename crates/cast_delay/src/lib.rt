@@ -5,30 +5,39 @@
 //! ABCAST, a message of the atomic kind, waits also for its turn: the place of ABCASTs in the order of their view is
 //! not kept here, but given with each question, a `Turn` for each group.
 //!
+//! Once a flush has frozen a group, its messages wait until its next view, but those within the cut of the Install that
+//! waits.
+//!
 //! Promised: `next_ready` gives the key of the first message in order of receipt that a process may deliver, and
 //! `None` only where there is none, for all processes, groups and messages that the queue tells of and all turns.
 //! `is_awaited` says whether some member of a message's group has not delivered it, so that it may not be let go yet.
 //! `has_delivered` says whether a process that was admitted has delivered a message, and `passed` how far it has
-//! delivered a list of them. These three speak of messages of views that have not ended, and of a process that was not
-//! admitted the queue says only that it is in no group. The rule speaks of the ids that a process delivered; the queue
-//! keeps counts in their place. It tells of what it was told: each call does to the queue what it does to these
-//! processes, groups and messages, where a process is admitted before it has begun, a group's views come in order, a
-//! message comes under a key of its own and names its own view and count, and is noted as delivered only when all that
-//! happened before it was (`laws`). No answer takes memory, nor does `forget`. Where memory is refused, the queue is of
-//! no further use.
+//! delivered a list of them. `reached` says how far the messages of each process were delivered here in a view, to
+//! whichever process. These four speak of views that have not ended: what was delivered of a view is forgotten with its
+//! end. Of a process that was not admitted, or was dismissed, the queue says only that it is in no group. The rule speaks
+//! of the ids that a process delivered; the queue keeps counts in their place. It tells of what it was told: each call
+//! does to the queue what it does to these processes, groups and messages, where a process is admitted before it has
+//! begun and dismissed when it is in no group, a group's views come in order, a message comes under a key of its own and
+//! names its own view and count, and is noted as delivered only when all that happened before it was (`laws`). Of the
+//! answers `reached` alone takes memory; `forget` and `dismiss` take none. Where memory is refused, the queue is of no
+//! further use.
 //!
-//! The definitions are in `specs/`: `Ready` has the rule over delivered ids as a test and `Rule` in words, `Rows` and
-//! `Queue` what the queue keeps and does, exactly, `Fits` when it tells of given processes, groups and messages,
+//! The definitions are in `specs/`: `Ready` has the rule over delivered ids as a test and `Rule` in words, `Tallies`,
+//! `Rows` and `Queue` what the queue keeps and does, exactly, `Fits` when it tells of given processes, groups and messages,
 //! `Says` what its answers say of these, and `Laws` that it goes on so.
 #![tactic(auto)]
 
+mod gate;
 pub mod laws;
 mod offered;
 mod queue;
 mod row;
+mod tally;
 mod turn;
 
+pub use gate::Gate;
 pub use offered::Offered;
 pub use queue::Delay;
 pub use row::{Fact, Row};
+pub use tally::Tally;
 pub use turn::Turn;

@@ -1,25 +1,28 @@
-ghost use Rattle.std.specs.Prelude.{◌≡◌, ◌<◌, ◌&&◌, ◌++◌, ◌∷◌, [], OnOk, nat_lt, not, filter};
+ghost use Rattle.std.specs.Prelude.{◌≡◌, ◌<◌, ◌&&◌, ◌++◌, ◌∷◌, [], IfOk, OnOk, nat_lt, not, map, filter};
 ghost use Rattle.std.specs.List.{list_any};
 ghost use Rattle.std.specs.Option.{option_copied, option_map, option_map_or};
 ghost use Rattle.std.specs.FinMap.Entries.{put};
-ghost use Rattle.cast_types.specs.Names.{group_cmp};
+ghost use Rattle.cast_types.specs.Names.{group_cmp, proc_eq};
 ghost use Rattle.cast_types.specs.declared.names.GroupNo.{GroupNo};
 ghost use Rattle.cast_types.specs.declared.names.Proc.{Proc};
 ghost use Rattle.cast_types.specs.declared.names.Standing.TheVariants.{Outside};
 ghost use Rattle.cast_message.specs.Receipts.{key_eq};
 ghost use Rattle.cast_delay.specs.declared.turn.Turn.{Turn};
-ghost use Rattle.cast_delay.specs.Ready.{is_member, has_delivered};
-ghost use Rattle.cast_delay.specs.Rows.{told_row, standing_in, done_in};
-ghost use Rattle.cast_delay.specs.Queue.{new_row, row_of, change_row, first_for, offered_under, next_key, delivered_in, passed_in, but_offered, is_awaited, after_delivery};
+ghost use Rattle.cast_delay.specs.Ready.{frozen_gate, pending_gate, is_member, has_delivered};
+ghost use Rattle.cast_delay.specs.Rows.{gate_in, ended_row, told_row, standing_in, done_in};
+ghost use Rattle.cast_delay.specs.Tallies.{counts_in};
+ghost use Rattle.cast_delay.specs.Queue.{new_row, row_of, but_row, change_row, first_for, offered_under, next_key, delivered_in, passed_in, but_offered, is_awaited, after_delivery, reached_after, queue_viewing, queue_delivering};
 ghost use Rattle.cast_delay.specs.Fits.{offer_of};
-ghost use Rattle.cast_delay.specs.Says.{SaysAwaited, SaysFirstReady, SaysDelivered, SaysPassed, SaysTime, SaysStanding};
+ghost use Rattle.cast_delay.specs.Says.{SaysAwaited, SaysFirstReady, SaysDelivered, SaysPassed, SaysReached, SaysTime, SaysStanding};
 
+use crate::gate::{Gate, frozen_in, number_in};
 use crate::offered::Offered;
 use crate::row::{Fact, Row};
+use crate::tally::Tally;
 use crate::turn::Turn;
 use cast_clock::Times;
 use cast_message::Message;
-use cast_types::{GroupNo, Key, Keyed, NoMemory, Proc, Standing, Uid};
+use cast_types::{Counts, GroupNo, Key, Keyed, NoMemory, Proc, Source, Standing, Uid};
 use std::alloc::Global;
 use std::marker::Model;
 
@@ -27,9 +30,10 @@ use std::marker::Model;
 /// it may deliver. Contracts see a `Queue`.
 #[derive(Drop)]
 pub struct Delay {
-    numbers: Keyed<GroupNo, u32>,
+    gates: Keyed<GroupNo, Gate>,
     offered: Vec<Offered>,
     rows: Vec<Row>,
+    reached: Tally,
 }
 
 impl Model for Delay {
@@ -37,18 +41,19 @@ impl Model for Delay {
 
     ghost Value = { Queue };
 
-    ghost view = { λ d. record { numbers = d.numbers; offered = d.offered.items; rows = d.rows.items } };
+    ghost view = { λ d. record { gates = d.gates; offered = d.offered.items; rows = d.rows.items; reached = d.reached } };
 }
 
 impl Delay {
     /// No messages, no views and no processes.
     pub fn new(alloc: Global) -> Self
-        ensures { result ≡ record { numbers = []; offered = []; rows = [] } }
+        ensures { result ≡ record { gates = []; offered = []; rows = []; reached = [] } }
     {
         Delay {
-            numbers: Keyed::new(alloc),
+            gates: Keyed::new(alloc),
             offered: Vec::new(alloc),
             rows: Vec::new(alloc),
+            reached: Tally::new(alloc),
         }
     }
 
@@ -61,6 +66,13 @@ impl Delay {
         Ok(())
     }
 
+    /// Forgets a process that is in no group. Takes no memory.
+    pub fn dismiss(&mut self, process: Proc)
+        ensures { self.new ≡ record self.old { rows = filter (λ r. not (proc_eq r.process process)) self.old.rows } }
+    {
+        dismiss_in(&mut self.rows, process);
+    }
+
     /// Takes in a fact about a process.
     pub fn tell(&mut self, process: Proc, fact: &Fact) -> Result<(), NoMemory>
         ensures { OnOk result (self.new ≡ record self.old { rows = change_row process (told_row fact.now) self.old.rows }) }
@@ -69,11 +81,39 @@ impl Delay {
         Ok(())
     }
 
-    /// Takes in the number of a group's new view.
+    /// Takes in the number of a group's new view, which no flush has frozen. What was delivered of views below it is
+    /// forgotten.
     pub fn view_changed(&mut self, group: GroupNo, number: u32) -> Result<(), NoMemory>
-        ensures { OnOk result (self.new ≡ record self.old { numbers = put group_cmp group number self.old.numbers }) }
+        ensures { OnOk result (self.new ≡ queue_viewing group number self.old) }
     {
-        self.numbers.put(group, number)?;
+        self.gates.put(group, Gate::new(number))?;
+        end_in(&mut self.rows, group, number);
+        self.reached.end(group, number);
+        Ok(())
+    }
+
+    /// Freezes a group: of its messages only those are delivered that are within its cut, where an Install waits.
+    pub fn freeze(&mut self, group: GroupNo) -> Result<(), NoMemory>
+        ensures { OnOk result (self.new ≡ record self.old { gates = put group_cmp group (frozen_gate (gate_in self.old.gates group)) self.old.gates }) }
+    {
+        let gate = frozen_in(&self.gates, group)?;
+        self.gates.put(group, gate)?;
+        Ok(())
+    }
+
+    /// Takes in that the Install of a group's next view waits, with this cut: the group is frozen, and of its messages
+    /// those within the cut are delivered.
+    pub fn pend(&mut self, group: GroupNo, cut: &Counts) -> Result<(), NoMemory>
+        ensures { OnOk result (self.new ≡ record self.old { gates = put group_cmp group (pending_gate cut.now (gate_in self.old.gates group)) self.old.gates }) }
+    {
+        let number = number_in(&self.gates, group);
+        let cut = Some(cut.copy()?);
+        let gate = Gate {
+            number,
+            frozen: true,
+            cut,
+        };
+        self.gates.put(group, gate)?;
         Ok(())
     }
 
@@ -114,7 +154,7 @@ impl Delay {
         ensures meaning { SaysFirstReady self.now process turns.now result }
     {
         let row = row_in(&self.rows, process)?;
-        let offered = first_in(turns, &self.numbers, &self.offered, row)?;
+        let offered = first_in(turns, &self.gates, &self.offered, row)?;
         Some(offered.key)
     }
 
@@ -143,13 +183,23 @@ impl Delay {
 
     /// Takes in that the process delivered a message.
     pub fn delivered(&mut self, process: Proc, key: Key) -> Result<(), NoMemory>
-        ensures { OnOk result (self.new ≡ record self.old { rows = after_delivery self.old.offered process key self.old.rows }) }
+        ensures { OnOk result (self.new ≡ queue_delivering process key self.old) }
     {
         deliver_in(&mut self.rows, &self.offered, process, key)?;
+        reach_in(&mut self.reached, &self.offered, key)?;
         Ok(())
     }
 
-    /// The time of a process, `None` of one that was not admitted.
+    /// How far processes came in a view of a group that has not ended: of each process of whose messages one was delivered
+    /// to a process here, also to one that is no member any more or was dismissed, the greatest count of these.
+    pub fn reached(&self, group: GroupNo, view: u32) -> Result<Vec<(Proc, u32)>, NoMemory>
+        ensures value { IfOk result (λ counts. counts.items ≡ counts_in group view self.now.reached) }
+        ensures meaning { IfOk result (λ counts. SaysReached self.now group view counts.items) }
+    {
+        self.reached.counts(group, view)
+    }
+
+    /// The time of a process, `None` of one that was not admitted or was dismissed.
     pub fn time(&self, process: Proc) -> Option<&Times>
         ensures value { option_copied result ≡ option_map (λ r. r.time) (row_of self.now.rows process) }
         ensures meaning { SaysTime self.now process (λ t. t.now) result }
@@ -182,15 +232,15 @@ fn row_in(rows: &[Row], process: Proc) -> Option<&Row>
 // The first message that is ready for a row, where these are the turns of groups.
 fn first_in<'a>(
     turns: &[(GroupNo, Turn)],
-    numbers: &Keyed<GroupNo, u32>,
+    gates: &Keyed<GroupNo, Gate>,
     offered: &'a [Offered],
     row: &Row,
 ) -> Option<&'a Offered>
-    ensures { option_copied result ≡ first_for turns.now numbers.now offered.now row.now }
+    ensures { option_copied result ≡ first_for turns.now gates.now offered.now row.now }
 {
     offered
         .iter()
-        .find(|offered| row.is_ready(turns, numbers, offered))
+        .find(|offered| row.is_ready(turns, gates, offered))
 }
 
 // The message under a key.
@@ -212,6 +262,22 @@ fn awaited_in(rows: &[Row], id: Uid) -> bool
     ensures { result ≡ is_awaited rows.now id }
 {
     rows.iter().any(|row| row.awaits(id))
+}
+
+// Keeps the rows of other processes.
+fn dismiss_in(rows: &mut Vec<Row>, process: Proc)
+    ensures { rows.new.items ≡ but_row process rows.old.items }
+{
+    rows.retain(|row| row.process != process);
+}
+
+// Each row forgets what was delivered of a group's views below a number.
+fn end_in(rows: &mut Vec<Row>, group: GroupNo, number: u32)
+    ensures { rows.new.items ≡ map (ended_row group number) rows.old.items }
+{
+    for row in rows.iter_mut() {
+        row.end(group, number);
+    }
 }
 
 // Each row of the process takes in a fact.
@@ -243,5 +309,21 @@ fn deliver_in(
             row.deliver(message.id, &message.times)?;
         }
     }
+    Ok(())
+}
+
+// Raises what is reached to the message under a key.
+fn reach_in(reached: &mut Tally, offered: &[Offered], key: Key) -> Result<(), NoMemory>
+    ensures { OnOk result (reached.new ≡ reached_after offered.now key reached.old) }
+{
+    let Some(message) = under(offered, key) else {
+        return Ok(());
+    };
+    let source = Source {
+        group: message.id.group,
+        view: message.id.view,
+        process: message.id.proc,
+    };
+    reached.raise(source, message.id.count)?;
     Ok(())
 }

@@ -3,9 +3,11 @@ ghost use Rattle.std.specs.List.{list_all, position};
 ghost use Rattle.cast_types.specs.Names.{named};
 ghost use Rattle.cast_clock.specs.Times.{clock_of, view_of};
 ghost use Rattle.cast_delay.specs.Ready.{is_member};
-ghost use Rattle.cast_delay.specs.Rows.{number_of, needed};
+ghost use Rattle.cast_delay.specs.Rows.{needed};
 
+use crate::gate::{Gate, is_open_in, number_in};
 use crate::offered::Offered;
+use crate::tally::Tally;
 use crate::turn::{Turn, turn_in};
 use cast_clock::{ClockFault, Times};
 use cast_types::{GroupNo, Keyed, NoMemory, Proc, Source, Stamp, Standing, Uid};
@@ -27,7 +29,7 @@ pub struct Row {
     pub standings: Keyed<GroupNo, Standing>,
     pub time: Times,
     /// How many messages of each source it has delivered.
-    pub done: Keyed<Source, u32>,
+    pub done: Tally,
 }
 
 // The clock's view, 0 of a group that the time says nothing of.
@@ -51,7 +53,7 @@ fn counts_in(times: &Stamp, group: GroupNo) -> &[(Proc, u32)]
 }
 
 impl Row {
-    ghost use Rattle.cast_delay.specs.Rows.{standing_in, done_in, needed, has_past, row_allows, all_allow, is_causally_ready_row, is_ready_row, has_delivered_in, passed_by, awaits_row, delivered_row, told_row};
+    ghost use Rattle.cast_delay.specs.Rows.{standing_in, done_in, needed, has_past, row_allows, all_allow, is_causally_ready_row, is_ready_row, has_delivered_in, passed_by, awaits_row, delivered_row, ended_row, told_row};
     ghost use Rattle.cast_delay.specs.Queue.{new_row};
 
     /// A process that is in no group.
@@ -62,7 +64,7 @@ impl Row {
             process,
             standings: Keyed::new(alloc),
             time: Times::new(alloc),
-            done: Keyed::new(alloc),
+            done: Tally::new(alloc),
         }
     }
 
@@ -85,10 +87,7 @@ impl Row {
             view,
             process,
         };
-        match self.done.get(&source) {
-            Some(count) => *count,
-            None => 0,
-        }
+        self.done.get(source)
     }
 
     // Whether the process is a member of a group.
@@ -132,11 +131,11 @@ impl Row {
     }
 
     // Whether no group holds the message back.
-    fn all_allow(&self, numbers: &Keyed<GroupNo, u32>, id: Uid, times: &Stamp) -> bool
-        ensures { result ≡ all_allow numbers.now self.now id times.now }
+    fn all_allow(&self, gates: &Keyed<GroupNo, Gate>, id: Uid, times: &Stamp) -> bool
+        ensures { result ≡ all_allow gates.now self.now id times.now }
     {
         self.standings.entries().iter().all(|(group, standing)| self.allows(
-            number_in(numbers, *group),
+            number_in(gates, *group),
             id,
             times,
             *group,
@@ -145,14 +144,15 @@ impl Row {
     }
 
     /// Whether all that happened before a message was delivered to the process, a member of its group in the current
-    /// view that has not delivered the message.
-    pub fn is_causally_ready(&self, numbers: &Keyed<GroupNo, u32>, id: Uid, times: &Stamp) -> bool
-        ensures { result ≡ is_causally_ready_row numbers.now self.now id times.now }
+    /// view that has not delivered the message, where the group is not frozen or the message is within its cut.
+    pub fn is_causally_ready(&self, gates: &Keyed<GroupNo, Gate>, id: Uid, times: &Stamp) -> bool
+        ensures { result ≡ is_causally_ready_row gates.now self.now id times.now }
     {
         self.is_member(id.group)
-            && id.view == number_in(numbers, id.group)
+            && id.view == number_in(gates, id.group)
+            && is_open_in(gates, id)
             && self.done(id.group, id.view, id.proc) < id.count
-            && self.all_allow(numbers, id, times)
+            && self.all_allow(gates, id, times)
             && self.time.has_room_for(times)
     }
 
@@ -160,13 +160,13 @@ impl Row {
     pub fn is_ready(
         &self,
         turns: &[(GroupNo, Turn)],
-        numbers: &Keyed<GroupNo, u32>,
+        gates: &Keyed<GroupNo, Gate>,
         offered: &Offered,
     ) -> bool
-        ensures { result ≡ is_ready_row turns.now numbers.now self.now offered.now }
+        ensures { result ≡ is_ready_row turns.now gates.now self.now offered.now }
     {
         let id = offered.id;
-        self.is_causally_ready(numbers, id, &offered.times)
+        self.is_causally_ready(gates, id, &offered.times)
             && (!offered.atomic || turn_in(turns, id.group).is_of(id.proc, id.count))
     }
 
@@ -225,6 +225,13 @@ impl Row {
         }
     }
 
+    /// Forgets what the process delivered of a group's views below a number. Takes no memory.
+    pub fn end(&mut self, group: GroupNo, number: u32)
+        ensures { self.new ≡ ended_row group number self.old }
+    {
+        self.done.end(group, number);
+    }
+
     /// Takes a fact in. `NoMemory` changes nothing.
     pub fn tell(&mut self, fact: &Fact) -> Result<(), NoMemory>
         ensures { OnOk result (self.new ≡ told_row fact.now self.old) }
@@ -254,15 +261,5 @@ fn needed(id: Uid, group: GroupNo, view: u32, entry: (Proc, u32)) -> u32
         count.saturating_sub(1)
     } else {
         count
-    }
-}
-
-/// The number of a group's view, 0 where none was told.
-pub fn number_in(numbers: &Keyed<GroupNo, u32>, group: GroupNo) -> u32
-    ensures { result ≡ number_of numbers.now group }
-{
-    match numbers.get(&group) {
-        Some(number) => *number,
-        None => 0,
     }
 }

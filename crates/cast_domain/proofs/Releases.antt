@@ -16,7 +16,8 @@ use Rattle.cast_message.specs.declared.message.Received.{Received}
 use Rattle.cast_message.specs.Receipts.{key_eq, messages, message_under}
 use Rattle.cast_delay.specs.declared.row.Row.{Row}
 use Rattle.cast_delay.specs.declared.offered.Offered.{Offered}
-use Rattle.cast_delay.specs.Ready.{Process, Gate, is_member, has_delivered}
+use Rattle.cast_delay.specs.declared.gate.Gate.{Gate}
+use Rattle.cast_delay.specs.Ready.{Process, is_member, has_delivered}
 use Rattle.cast_delay.specs.Rows.{standing_in, done_in}
 use Rattle.cast_delay.specs.Queue.{Queue, row_of, is_awaited}
 use Rattle.cast_delay.specs.Fits.{HasNotEnded, Fits as QueueFits}

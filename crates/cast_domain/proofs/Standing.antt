@@ -2,7 +2,6 @@
 use Rattle.std.proofs.Common.{◌≡◌, ℕ, zero, suc, ◌+◌, ◌-◌, ◌<◌, ◌≤◌, Bool, true, false, cond, ◌&&◌, List, [], ◌∷◌, ◌++◌, length, map, Option, Some, None, unwrap_or, refl, sym, ap, subst, ◌∙◌, inl, inr, arith}
 use Rattle.std.specs.Prelude.{◌==◌, nat_lt, nat_le, if◌then◌else◌, slice_get, is_some}
 use Rattle.std.specs.List.{find, range_with_len}
-use Rattle.std.specs.FinMap.Entries.{put}
 use Rattle.std.specs.Option.{IsSome, option_map, option_map_or}
 use Rattle.std.proofs.lemmas.Bool.{cases_Bool, cases_eq, cases_lt, false≢true, false_from_ne_true, and_parts, and_from, eqb-true, eq-eqb, ne_eqb, ltb-true, lt-ltb, leb-true, le-leb, or_from, or_left, or_right}
 use Rattle.std.proofs.lemmas.List.{map-append, length-append}
@@ -13,7 +12,7 @@ use Rattle.cast_types.specs.declared.names.Proc.{Proc}
 use Rattle.cast_types.specs.declared.names.Standing.{Standing}
 use Rattle.cast_types.specs.declared.names.Standing.TheVariants.{Member}
 use Rattle.cast_types.specs.declared.names.Uid.{Uid}
-use Rattle.cast_types.specs.Names.{site_eq, group_cmp, group_eq, proc_eq, uid_eq, is_order, named}
+use Rattle.cast_types.specs.Names.{site_eq, group_eq, proc_eq, uid_eq, is_order, named}
 use Rattle.cast_types.specs.Places.{update}
 use Rattle.cast_types.specs.Sets.{is_among, set_at}
 use Rattle.cast_types.specs.Stamps.{ClockList}
@@ -28,9 +27,10 @@ use Rattle.cast_message.specs.Membership.{Membership}
 use Rattle.cast_delay.specs.declared.row.Row.{Row}
 use Rattle.cast_delay.specs.declared.row.Fact.{Fact}
 use Rattle.cast_delay.specs.declared.row.Fact.TheVariants as fact
-use Rattle.cast_delay.specs.Ready.{Process, Gate, is_outside, has_delivered, is_member}
+use Rattle.cast_delay.specs.declared.gate.Gate.{Gate}
+use Rattle.cast_delay.specs.Ready.{Process, open_gate, is_outside, has_delivered, is_member}
 use Rattle.cast_delay.specs.Rows.{told_row}
-use Rattle.cast_delay.specs.Queue.{new_row, row_of, change_row}
+use Rattle.cast_delay.specs.Queue.{new_row, row_of, change_row, queue_viewing}
 use Rattle.cast_message.specs.declared.message.Received.{Received}
 use Rattle.cast_message.specs.Receipts.{key_eq, message_under}
 use Rattle.cast_stable.specs.Ledger.{new_ledger, told_ledger, received_ledger}
@@ -38,7 +38,7 @@ use Rattle.cast_stable.specs.Fits.{Fits as AcksFits}
 use Rattle.cast_stable.proofs.Meanings.{new_fits as acks_new_fits, tell_fits as acks_tell_fits, receive_fits as acks_receive_fits}
 use Rattle.cast_delay.specs.Fits.{IsSound, HasNotBegun, FactFits, Fits as QueueFits, set_process as set_named, told as told_of}
 use Rattle.cast_delay.proofs.Queues.{new_fits, admit_fits, tell_fits, view_fits, offer_fits, standing_is, time_is}
-use Rattle.cast_delay.proofs.Rows.{some_row}
+use Rattle.cast_delay.proofs.Rows.{some_row, row_of_some, names_ended}
 use Rattle.cast_delay.proofs.Finds.{find-append_some, find-append_none}
 use Rattle.cast_order.specs.Log.{Log, new_log, log_of, but_log, place_of}
 use Rattle.cast_order.proofs.Meanings.{new_fits as order_new_fits}
@@ -328,16 +328,16 @@ fits_go r s fits k = fits_session r s fits k gone refl
 
 -- Changes of one group
 
--- the number of a group, as the queue has it
-gate_told : (s : State) (g : GroupNo) (v : MemberSide) → set_at group_eq (gate_of s) g (record { number = v.number }) ≡ gate_of (set_group s g v)
+-- the gate of a group, as the queue has it
+gate_told : (s : State) (g : GroupNo) (v : MemberSide) → set_at group_eq (gate_of s) g (open_gate v.number) ≡ gate_of (set_group s g v)
 gate_told s g v = λ i h. at_group h i
   where
-    at_group : (h : GroupNo) → set_at group_eq (gate_of s) g (record { number = v.number }) h ≡ gate_of (set_group s g v) h
+    at_group : (h : GroupNo) → set_at group_eq (gate_of s) g (open_gate v.number) h ≡ gate_of (set_group s g v) h
     at_group h =
-        elim (group_eq g h) as (λ b. ◌≡◌ {A = Gate} (if b then record { number = v.number } else record { number = (s.group h).number }) (record { number = (if b then v else s.group h).number })) [ true ↦ refl | false ↦ refl ]
+        elim (group_eq g h) as (λ b. ◌≡◌ {A = Gate} (if b then open_gate v.number else open_gate (s.group h).number) (open_gate (if b then v else s.group h).number)) [ true ↦ refl | false ↦ refl ]
 
 gate_same : (s : State) (g : GroupNo) (v : MemberSide) → v.number ≡ (s.group g).number → gate_of s ≡ gate_of (set_group s g v)
-gate_same s g v same = λ i h. record { number = at_group h i }
+gate_same s g v same = λ i h. open_gate (at_group h i)
   where
     at_group : (h : GroupNo) → (s.group h).number ≡ ((set_group s g v).group h).number
     at_group h = elim (cases_Bool (group_eq g h)) [
@@ -385,12 +385,12 @@ fits_view r s fits lawful i g at n members newer = record {
   groups = (λ j. update (fits.groups j) i (λ x. record x { here = with_view (fits.core j).site n members x.here })) ∙ groups_here s lawful i g at (with_view s.here n members);
   messages = fits.messages;
   processes = record {
-    delay = subst (λ h. QueueFits s.config.groups (gate_of (set_group s g (with_view s.here n members (s.group g)))) (process_named s) r.part.kept (record r.delay { numbers = put group_cmp h n r.delay.numbers }))
+    delay = subst (λ h. QueueFits s.config.groups (gate_of (set_group s g (with_view s.here n members (s.group g)))) (process_named s) r.part.kept (queue_viewing h n r.delay))
         (sym (ap (λ (x : GroupRecord). x.name) (record_there r s fits i g at)))
-        (subst (λ gate. QueueFits s.config.groups gate (process_named s) r.part.kept (record r.delay { numbers = put group_cmp g n r.delay.numbers })) (gate_told s g (with_view s.here n members (s.group g)))
+        (subst (λ gate. QueueFits s.config.groups gate (process_named s) r.part.kept (queue_viewing g n r.delay)) (gate_told s g (with_view s.here n members (s.group g)))
         (view_fits s.config.groups (gate_of s) (process_named s) r.part.kept r.delay fits.processes.delay g n (omega (arith, newer))));
-    admitted = fits.processes.admitted;
-    rows = fits.processes.rows;
+    admitted = λ k was. row_of_some (record_at r.groups i).name n r.delay.rows (local s k) (fits.processes.admitted k was);
+    rows = names_ended (record_at r.groups i).name n r.delay.rows ∙ fits.processes.rows;
     idle = fits.processes.idle;
   };
   acks = subst (λ others. AcksFits (record (past_of (set_group s g (with_view s.here n members (s.group g)))) { others = others }) (view_in r i n members).acks) (others_told s g (with_view s.here n members (s.group g)))
@@ -687,7 +687,7 @@ fits_open r s fits = record {
     ]
 
 -- a new domain stands for the history before its first event
-pub fits_before : (here : SiteNo) (config : DomainConfig) → Fits (record { site = here; config = config; used = 0; sessions = []; groups = map (record_for (opening here config)) config.groups; moment = 0; part = no_part; delay = record { numbers = []; offered = []; rows = [] }; acks = new_ledger here; orders = []; frames = []; delivered = [] }) (before_event (opening here config))
+pub fits_before : (here : SiteNo) (config : DomainConfig) → Fits (record { site = here; config = config; used = 0; sessions = []; groups = map (record_for (opening here config)) config.groups; moment = 0; part = no_part; delay = record { gates = []; offered = []; rows = []; reached = [] }; acks = new_ledger here; orders = []; frames = []; delivered = [] }) (before_event (opening here config))
 fits_before here config = record {
   core = refl;
   opened = record {
@@ -701,7 +701,7 @@ fits_before here config = record {
     counted = refl;
   };
   processes = record {
-    delay = subst (λ ps. QueueFits config.groups (λ g. record { number = 0 }) ps [] (record { numbers = []; offered = []; rows = [] })) (λ i p. idle p i) (new_fits config.groups);
+    delay = subst (λ ps. QueueFits config.groups (λ g. open_gate 0) ps [] (record { gates = []; offered = []; rows = []; reached = [] })) (λ i p. idle p i) (new_fits config.groups);
     admitted = λ k was. absurd (false≢true (sym (none_given k) ∙ was));
     rows = refl;
     idle = λ k none. subst HasNotBegun (idle (record { site = here; serial = k })) (record { time = refl; delivered = refl });

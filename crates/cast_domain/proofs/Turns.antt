@@ -17,9 +17,9 @@ use Rattle.cast_message.specs.Bodies.{kind_of}
 use Rattle.cast_message.specs.declared.client.Push.{Push}
 use Rattle.cast_delay.specs.declared.row.Row.{Row}
 use Rattle.cast_delay.specs.declared.offered.Offered.{Offered}
-use Rattle.cast_delay.specs.Ready.{is_member, is_outside, has_delivered, is_causally_ready, is_ready, first_ready}
+use Rattle.cast_delay.specs.Ready.{is_open_to, is_member, is_outside, has_delivered, is_causally_ready, is_ready, first_ready}
 use Rattle.cast_delay.specs.Rows.{delivered_row}
-use Rattle.cast_delay.specs.Queue.{row_of, change_row, offered_under, after_delivery, passed_in}
+use Rattle.cast_delay.specs.Queue.{row_of, change_row, offered_under, after_delivery, queue_delivering, passed_in}
 use Rattle.cast_message.specs.declared.message.Received.{Received}
 use Rattle.cast_message.specs.Receipts.{messages, message_under}
 use Rattle.cast_delay.specs.Fits.{FirstReady, HasTurns, Fits as QueueFits, delivering as delivering_to}
@@ -106,14 +106,14 @@ names_after offered p key rows = names_found (offered_under offered key)
 abbrev turned : Records → State → ℕ → Key → Message → Records
 turned r s k key m =
     record r {
-      delay = record r.delay { rows = after_delivery r.delay.offered (local s k) key r.delay.rows };
+      delay = queue_delivering (local s k) key r.delay;
       delivered = r.delivered ++ (r.config.domain, local s k, m.id) ∷ [];
     }
 
 -- how many places it passes then
 abbrev passing : Records → State → ℕ → Key → Message → ℕ
 passing r s k key m =
-    passed_in (record r.delay { rows = after_delivery r.delay.offered (local s k) key r.delay.rows }) (local s k) m.id.group m.id.view
+    passed_in (queue_delivering (local s k) key r.delay) (local s k) m.id.group m.id.view
     (next_in (log_of r.orders m.id.group) (local s k))
 
 -- what is ready is of the current view of a group of the process, and it has not delivered it
@@ -200,7 +200,8 @@ spent_not_ready : (s : State) (k : ℕ) → was_given s.used k ≡ true → (m :
 spent_not_ready s k given m spent = false_from_ne_true (is_ready_for s k m) (λ ready.
     let a = and_parts (is_member ((s.process k).standing m.id.group)) _ (ready_causally s k m ready) in
     let b = and_parts (m.id.view == (s.group m.id.group).number) _ a.1 in
-    let c = and_parts (not (has_delivered (s.process k) m.id)) _ b.1 in
+    let o = and_parts (is_open_to (gate_of s m.id.group) (entry_of m.id)) _ b.1 in
+    let c = and_parts (not (has_delivered (s.process k) m.id)) _ o.1 in
     let done = spent.delivered k given a.0 (eqb-true m.id.view (s.group m.id.group).number b.0) in
     false≢true (sym (ap not done) ∙ c.0))
 

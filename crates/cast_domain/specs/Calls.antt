@@ -2,7 +2,6 @@
 use Rattle.std.specs.Prelude.{ℕ, ◌+◌, ◌-◌, min, max, Bool, false, not, ◌&&◌, ◌||◌, nat_lt, if◌then◌else◌, List, [], ◌∷◌, ◌++◌, length, map, filter, get_or, slice_get, Option, Some, None}
 use Rattle.std.specs.List.{fold, find, list_any, range_with_len}
 use Rattle.std.specs.Option.{option_map, option_map_or}
-use Rattle.std.specs.FinMap.Entries.{put}
 use Rattle.cast_types.specs.declared.names.SiteNo.{SiteNo}
 use Rattle.cast_types.specs.declared.names.GroupNo.{GroupNo}
 use Rattle.cast_types.specs.declared.names.Proc.{Proc}
@@ -12,7 +11,7 @@ use Rattle.cast_types.specs.declared.names.Standing.{Standing}
 use Rattle.cast_types.specs.declared.names.Standing.TheVariants.{Outside, Joining, Member}
 use Rattle.cast_types.specs.declared.refusal.Refusal.{Refusal}
 use Rattle.cast_types.specs.declared.limits.TheConstants.{MAX_NUMBER, MAX_MOMENT}
-use Rattle.cast_types.specs.Names.{site_eq, group_eq, group_cmp, proc_eq, uid_eq, is_atomic, named, entry_of}
+use Rattle.cast_types.specs.Names.{site_eq, group_eq, proc_eq, uid_eq, is_atomic, named, entry_of}
 use Rattle.cast_types.specs.Sets.{is_among}
 use Rattle.cast_types.specs.Places.{update}
 use Rattle.cast_types.specs.Counts.{CountList}
@@ -37,7 +36,7 @@ use Rattle.cast_delay.specs.Fits.{offer_of}
 use Rattle.cast_delay.specs.Rows.{standing_in, told_row}
 use Rattle.cast_delay.specs.declared.row.Fact.{Fact}
 use Rattle.cast_delay.specs.declared.row.Fact.TheVariants as fact
-use Rattle.cast_delay.specs.Queue.{Queue, new_row, row_of, change_row, next_key, after_delivery, is_awaited, delivered_in, passed_in}
+use Rattle.cast_delay.specs.Queue.{Queue, new_row, row_of, change_row, next_key, queue_viewing, queue_delivering, is_awaited, delivered_in, passed_in}
 use Rattle.cast_order.specs.Log.{Log, log_of, change_log, but_log, learnt, next_in, passed, told, next_places, assigned, has_room_in as has_room_in_log}
 use Rattle.cast_stable.specs.Ledger.{others_in, is_received_in, has_acked_in, upto_in, is_stable_in, told_ledger, received_ledger, acked_ledger, learnt_ledger}
 use Rattle.cast_timer.specs.declared.key.OwedKey.{OwedKey}
@@ -220,7 +219,7 @@ abbrev pub view_in : Records → ℕ → ℕ → Membership → Records
 view_in r i n members =
     record r {
       groups = update r.groups i (λ x. record x { here = with_view r.site n members x.here });
-      delay = record r.delay { numbers = put group_cmp (record_at r.groups i).name n r.delay.numbers };
+      delay = queue_viewing (record_at r.groups i).name n r.delay;
       acks = told_ledger r.acks (record_at r.groups i).name (other_sites r.site (members_of (with_view r.site n members (record_at r.groups i).here)));
       orders = but_log (record_at r.groups i).name r.orders;
     }
@@ -370,7 +369,7 @@ note_delivery_in r p u =
 abbrev pub take_delivery_in : Records → Proc → Key → Uid → Records
 take_delivery_in r p key u =
     record r {
-      delay = record r.delay { rows = after_delivery r.delay.offered p key r.delay.rows };
+      delay = queue_delivering p key r.delay;
       delivered = r.delivered ++ (r.config.domain, p, u) ∷ [];
     }
 

@@ -8,7 +8,8 @@ use Rattle.cast_types.specs.declared.names.GroupNo.{GroupNo}
 use Rattle.cast_types.specs.declared.names.Proc.{Proc}
 use Rattle.cast_types.specs.declared.limits.TheConstants.{MAX_NUMBER}
 use Rattle.cast_types.specs.Names.{Entry, site_eq, named}
-use Rattle.cast_delay.specs.Ready.{Process, Gate, is_member, has_delivered}
+use Rattle.cast_delay.specs.declared.gate.Gate.{Gate}
+use Rattle.cast_delay.specs.Ready.{Process, is_member, has_delivered}
 use Rattle.cast_delay.specs.Queue.{Queue, row_of}
 use Rattle.cast_delay.specs.Fits.{HasNotBegun, Fits as QueueFits}
 use Rattle.cast_message.specs.Receipts.{messages, message_under}

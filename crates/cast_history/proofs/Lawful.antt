@@ -15,7 +15,7 @@ use Rattle.cast_types.specs.declared.names.Uid.{Uid}
 use Rattle.cast_types.specs.declared.names.Standing.{Standing}
 use Rattle.cast_types.specs.declared.names.Standing.TheVariants.{Outside, Joining, Member}
 use Rattle.cast_types.specs.declared.clock.Clock.{Clock}
-use Rattle.cast_types.specs.Names.{site_eq, group_eq, group_cmp, proc_eq, uid_eq, is_atomic}
+use Rattle.cast_types.specs.Names.{site_eq, group_eq, group_cmp, proc_eq, uid_eq, is_atomic, entry_of}
 use Rattle.cast_types.specs.Sets.{set_at, at_order, is_among}
 use Rattle.cast_types.specs.Stamps.{ClockList}
 use Rattle.cast_types.proofs.Orders.{same_site, site_itself, same_group, group_itself, same_uid, uid_itself}
@@ -34,7 +34,8 @@ use Rattle.cast_types.specs.Rising.{is_rising}
 use Rattle.cast_stable.specs.Stable.{Acked}
 use Rattle.cast_timer.specs.declared.key.Owed.{Owed}
 use Rattle.cast_timer.specs.declared.key.OwedKey.{OwedKey}
-use Rattle.cast_delay.specs.Ready.{Process, Gate, is_member, is_outside, has_delivered, past_in, group_allows, is_causally_ready}
+use Rattle.cast_delay.specs.declared.gate.Gate.{Gate}
+use Rattle.cast_delay.specs.Ready.{Process, is_open_to, is_member, is_outside, has_delivered, past_in, group_allows, is_causally_ready}
 use Rattle.cast_delay.proofs.Delivers.{only_member}
 use Rattle.cast_delay.proofs.Means.{among_holds}
 use Rattle.cast_model.specs.declared.session.Session.{Session}
@@ -557,7 +558,8 @@ ready_allows s k m ready =
     let a = and_parts (is_causally_ready s.config.groups (gate_of s) (s.process k) m) _ ready in
     let b = and_parts (is_member ((s.process k).standing m.id.group)) _ a.0 in
     let c = and_parts (m.id.view == (gate_of s m.id.group).number) _ b.1 in
-    let d = and_parts _ _ c.1 in
+    let o = and_parts (is_open_to (gate_of s m.id.group) (entry_of m.id)) _ c.1 in
+    let d = and_parts (not (has_delivered (s.process k) m.id)) _ o.1 in
     (and_parts (list_all (λ h. group_allows ((s.process k).standing h) (s.process k) (gate_of s h) m h) s.config.groups) (has_room (join (s.process k).time m.times)) d.1).0
 
 -- a member that takes what is ready stays in its view

@@ -1,5 +1,5 @@
 -- A history counts members alone, and each effect keeps it so: a member's count can always be raised.
-use Rattle.std.proofs.Common.{◌≡◌, ℕ, ◌+◌, ◌<◌, ◌≤◌, Bool, true, false, cond, [], ◌∷◌, ◌++◌, length, Contains, Option, Some, None, unwrap_or, refl, sym, ap, subst, ◌∙◌, ◌⊎◌, inl, inr, arith}
+use Rattle.std.proofs.Common.{◌≡◌, ℕ, ◌+◌, ◌<◌, ◌≤◌, Bool, true, false, cond, not, [], ◌∷◌, ◌++◌, length, Contains, Option, Some, None, unwrap_or, refl, sym, ap, subst, ◌∙◌, ◌⊎◌, inl, inr, arith}
 use Rattle.std.specs.Prelude.{◌&&◌, ◌==◌, nat_lt, nat_le, if◌then◌else◌, filter}
 use Rattle.std.specs.List.{list_all, list_any}
 use Rattle.std.specs.Ordering.{eq_by_cmp}
@@ -15,7 +15,7 @@ use Rattle.cast_types.specs.declared.names.Standing.{Standing}
 use Rattle.cast_types.specs.declared.names.Standing.TheVariants.{Outside, Joining, Member}
 use Rattle.cast_types.specs.declared.clock.Clock.{Clock}
 use Rattle.cast_types.specs.declared.limits.TheConstants.{MAX_NUMBER, MAX_GROUPS, MAX_MEMBERS}
-use Rattle.cast_types.specs.Names.{group_eq, group_cmp, proc_eq, proc_cmp, uid_eq}
+use Rattle.cast_types.specs.Names.{group_eq, group_cmp, proc_eq, proc_cmp, uid_eq, entry_of}
 use Rattle.cast_types.specs.Sets.{is_among, set_at}
 use Rattle.cast_types.specs.Counts.{CountList}
 use Rattle.cast_types.specs.Stamps.{ClockList, is_stamp}
@@ -29,7 +29,8 @@ use Rattle.cast_message.specs.declared.message.Message.{Message}
 use Rattle.cast_message.specs.declared.client.Push.TheVariants as push
 use Rattle.cast_message.specs.Membership.{Membership, is_members, is_held}
 use Rattle.cast_types.specs.Rising.{is_rising}
-use Rattle.cast_delay.specs.Ready.{Process, Gate, is_member, is_outside, has_delivered, past_in, group_allows, is_causally_ready}
+use Rattle.cast_delay.specs.declared.gate.Gate.{Gate}
+use Rattle.cast_delay.specs.Ready.{Process, is_open_to, is_member, is_outside, has_delivered, past_in, group_allows, is_causally_ready}
 use Rattle.cast_delay.proofs.Delivers.{only_member}
 use Rattle.cast_delay.proofs.Means.{among_holds}
 use Rattle.cast_model.specs.Session.{is_open, first_session}
@@ -247,7 +248,8 @@ ready_room s k m ready =
     let a = and_parts (is_causally_ready s.config.groups (gate_of s) (s.process k) m) _ ready in
     let b = and_parts (is_member ((s.process k).standing m.id.group)) _ a.0 in
     let d = and_parts (m.id.view == (gate_of s m.id.group).number) _ b.1 in
-    let e = and_parts _ _ d.1 in
+    let o = and_parts (is_open_to (gate_of s m.id.group) (entry_of m.id)) _ d.1 in
+    let e = and_parts (not (has_delivered (s.process k) m.id)) _ o.1 in
     (and_parts (list_all (λ h. group_allows ((s.process k).standing h) (s.process k) (gate_of s h) m h) s.config.groups) (has_room (join (s.process k).time m.times)) e.1).1
 
 -- what a process has delivered once it delivers one message more

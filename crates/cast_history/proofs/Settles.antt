@@ -3,13 +3,13 @@ use Rattle.std.proofs.Common.{◌≡◌, ℕ, ◌<◌, ◌≤◌, zero, suc, tru
 use Rattle.std.specs.Prelude.{◌==◌, if◌then◌else◌}
 use Rattle.std.specs.List.{list_any, find}
 use Rattle.std.proofs.lemmas.Bool.{and_parts, not-true, eq-eqb}
-use Rattle.cast_types.specs.Names.{uid_eq}
+use Rattle.cast_types.specs.Names.{uid_eq, entry_of}
 use Rattle.cast_types.specs.Repeat.{iterate}
 use Rattle.cast_types.proofs.Iterates.{iterate_once, iterate_still}
 use Rattle.cast_clock.specs.Times.{join}
 use Rattle.cast_message.specs.declared.client.Push.{Push}
 use Rattle.cast_message.specs.declared.message.Message.{Message}
-use Rattle.cast_delay.specs.Ready.{Process, has_delivered, is_member, is_causally_ready}
+use Rattle.cast_delay.specs.Ready.{Process, is_open_to, has_delivered, is_member, is_causally_ready}
 use Rattle.cast_history.specs.State.{State, gate_of, pushing, abcasts_with, with_delivery}
 use Rattle.cast_history.specs.Order.{is_ready_for}
 use Rattle.cast_history.specs.Effects.{delivering}
@@ -64,7 +64,8 @@ pub ready_new : (s : State) (k : ℕ) (m : Message) → is_ready_for s k m ≡ t
 ready_new s k m e =
     let b = and_parts (is_member ((s.process k).standing m.id.group)) _ (ready_causally s k m e) in
     let c = and_parts (m.id.view == (gate_of s m.id.group).number) _ b.1 in
-    not-true (has_delivered (s.process k) m.id) (and_parts (not (has_delivered (s.process k) m.id)) _ c.1).0
+    let d = and_parts (is_open_to (gate_of s m.id.group) (entry_of m.id)) _ c.1 in
+    not-true (has_delivered (s.process k) m.id) (and_parts (not (has_delivered (s.process k) m.id)) _ d.1).0
 
 pub delivered_first : (s : State) (k : ℕ) (m : Message) → find (is_ready_for s k) s.got ≡ Some m → deliver_first k s ≡ delivering_one s k m
 delivered_first s k m e = ap (λ (o : Option Message). elim o [ Some m ↦ delivering_one s k m | None ↦ s ]) e

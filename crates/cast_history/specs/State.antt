@@ -15,7 +15,8 @@ use Rattle.cast_message.specs.Bodies.{kind_of}
 use Rattle.cast_message.specs.declared.site.SiteFrame.{SiteFrame}
 use Rattle.cast_stable.specs.Stable.{Acked, stable_upto, is_known_stable}
 use Rattle.cast_timer.specs.declared.key.Owed.{Owed}
-use Rattle.cast_delay.specs.Ready.{Process, Gate, is_member, has_delivered, awaits}
+use Rattle.cast_delay.specs.declared.gate.Gate.{Gate}
+use Rattle.cast_delay.specs.Ready.{Process, open_gate, is_member, has_delivered, awaits}
 use Rattle.cast_history.specs.Acts.{Act}
 use Rattle.cast_history.specs.Acts.Act.{Sent, Delivered, Left}
 use Rattle.cast_model.specs.declared.session.Session.{Session}
@@ -227,7 +228,7 @@ releasing_ended s g = releasing s (is_ended s g)
 -- Readiness
 
 abbrev pub gate_of : State → GroupNo → Gate
-gate_of s g = record { number = (s.group g).number }
+gate_of s g = open_gate (s.group g).number
 
 -- a process has not delivered an ABCAST of its own, of the view of a group of which it is a member
 abbrev pub awaits_own : State → ℕ → Bool

@@ -2,7 +2,7 @@ use crate::messages::{GROUP, SENDER, atomic, causal, holds, id_of, time_at};
 use cast_clock::Times;
 use cast_delay::{Delay, Fact, Turn};
 use cast_message::Message;
-use cast_types::{GroupNo, Key, NoMemory, Proc, SiteNo, Standing};
+use cast_types::{Counts, GroupNo, Key, NoMemory, Proc, SiteNo, Standing};
 use std::alloc::Global;
 use std::test::Fail;
 
@@ -32,6 +32,14 @@ enum Step {
     Joins,
     // The process is told that it is in view 1.
     Enters,
+    // A flush freezes the group.
+    Freezes,
+    // The Install of the next view waits, with so many of the sender's messages in its cut.
+    Pends(u32),
+    // The group has a view of a number.
+    Changes(u32),
+    // The process has left the group, and is dismissed.
+    Goes,
     // The message under a key is the next one, where the process has no turn.
     Next(usize),
     // There is none for a process.
@@ -48,6 +56,8 @@ enum Step {
     Passed(Proc, u32, usize),
     // How many of its messages the time of the process has.
     Counts(u32),
+    // The greatest count of its messages that was delivered in view 1, where one was.
+    Reached(Option<u32>),
 }
 
 fn tells(queue: &mut Delay, fact: Fact) -> Result<(), NoMemory> {
@@ -72,6 +82,28 @@ fn comes(queue: &mut Delay, key: usize, message: Message) -> Result<(), NoMemory
 fn enters(queue: &mut Delay, time: Times) -> Result<(), NoMemory> {
     tells(queue, Fact::Time(time))?;
     stands(queue, Standing::Member)
+}
+
+fn pends(alloc: Global, queue: &mut Delay, count: u32) -> Result<(), NoMemory> {
+    let mut cut = Counts::new(alloc);
+    if 0 < count {
+        cut.set(SENDER, count)?;
+    }
+    queue.pend(GROUP, &cut)
+}
+
+fn goes_away(queue: &mut Delay) -> Result<(), NoMemory> {
+    stands(queue, Standing::Outside)?;
+    queue.dismiss(MEMBER);
+    Ok(())
+}
+
+fn reached(queue: &Delay) -> Result<Option<u32>, NoMemory> {
+    let counts = queue.reached(GROUP, 1)?;
+    match counts.first() {
+        Some(entry) => Ok(Some(entry.1)),
+        None => Ok(None),
+    }
 }
 
 // The key of the message that a process may deliver now.
@@ -121,11 +153,16 @@ fn does(alloc: Global, queue: &mut Delay, step: Step) -> Result<bool, Fail> {
         Step::ComesAtomic(key, count) => comes(queue, key, atomic(alloc, count)?),
         Step::Joins => stands(queue, JOINING),
         Step::Enters => enters(queue, time_at(alloc, 0)?),
+        Step::Freezes => queue.freeze(GROUP),
+        Step::Pends(count) => pends(alloc, queue, count),
+        Step::Changes(number) => queue.view_changed(GROUP, number),
+        Step::Goes => goes_away(queue),
         Step::Forgets(key) => {
             queue.forget(Key(key));
             Ok(())
         }
         Step::Takes(key) => return Ok(takes(queue, key)?),
+        Step::Reached(count) => return Ok(reached(queue)? == count),
         _ => return Ok(shows(queue, step)),
     };
     done?;
@@ -200,6 +237,53 @@ fn an_abcast_waits_for_its_turn(rt: HostRuntime) -> Result<(), Fail> {
             Step::InTurn(Turn::Following(Some((SENDER, 2))), 0, true),
             Step::InTurn(Turn::Holding(false), 0, false),
             Step::InTurn(Turn::Holding(true), 0, true),
+        ],
+    )
+}
+
+#[test]
+fn a_frozen_group_delivers_what_its_cut_has(rt: HostRuntime) -> Result<(), Fail> {
+    goes(
+        rt.alloc(),
+        &[
+            Step::Comes(0, 1),
+            Step::Comes(1, 2),
+            Step::Next(0),
+            Step::Freezes,
+            Step::Waits(MEMBER),
+            Step::Pends(1),
+            Step::Takes(0),
+            Step::Waits(MEMBER),
+            Step::Pends(2),
+            Step::Freezes,
+            Step::Takes(1),
+            Step::Has(MEMBER, 2, true),
+            Step::Changes(2),
+            Step::Has(MEMBER, 2, false),
+            Step::Passed(MEMBER, 1, 0),
+            Step::Waits(MEMBER),
+        ],
+    )
+}
+
+#[test]
+fn what_was_reached_stays_until_the_view_ends(rt: HostRuntime) -> Result<(), Fail> {
+    goes(
+        rt.alloc(),
+        &[
+            Step::Comes(0, 1),
+            Step::Reached(None),
+            Step::Takes(0),
+            Step::Reached(Some(1)),
+            Step::Comes(1, 2),
+            Step::Takes(1),
+            Step::Reached(Some(2)),
+            Step::Goes,
+            Step::Stands(MEMBER, Standing::Outside),
+            Step::Has(MEMBER, 2, false),
+            Step::Reached(Some(2)),
+            Step::Changes(2),
+            Step::Reached(None),
         ],
     )
 }

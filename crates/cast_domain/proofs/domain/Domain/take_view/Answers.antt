@@ -1,7 +1,6 @@
 use Rattle.std.proofs.Common.{◌≡◌, ◌<◌, ◌∙◌, ap, length, arith}
-use Rattle.std.specs.FinMap.Entries.{put}
-use Rattle.cast_types.specs.Names.{group_cmp}
 use Rattle.cast_types.specs.Places.{update}
+use Rattle.cast_delay.specs.Queue.{queue_viewing}
 use Rattle.cast_stable.specs.Ledger.{told_ledger}
 use Rattle.cast_order.specs.Log.{but_log}
 use Rattle.cast_view.specs.MemberSide.{members_of, with_view}
@@ -31,7 +30,7 @@ returns-clause-made c o part =
     })
     ∙ (λ j. record r {
       groups = update r.groups i (λ x. record x { here = with_view r.site n members x.here });
-      delay = record r.delay { numbers = put group_cmp (name j) n r.delay.numbers };
+      delay = queue_viewing (name j) n r.delay;
       acks = told_ledger r.acks (name j) (others j);
       orders = but_log (name j) r.orders;
     })

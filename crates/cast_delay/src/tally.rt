@@ -1,0 +1,95 @@
+ghost use Rattle.std.specs.Prelude.{◌≡◌, [], IfOk, OnOk};
+ghost use Rattle.std.specs.FinMap.Entries.{put};
+ghost use Rattle.cast_types.specs.Sources.{source_cmp};
+ghost use Rattle.cast_delay.specs.Tallies.{is_ended, but_ended, count_at, counts_in, raised_at};
+
+use cast_types::{GroupNo, NoMemory, Proc, Source, sorted};
+use std::alloc::Global;
+use std::marker::Model;
+
+/// How many messages of each source, 0 where none is kept. Contracts see the list of counts in rising order of their
+/// sources.
+#[derive(Drop)]
+pub struct Tally {
+    counts: Vec<(Source, u32)>,
+}
+
+impl Model for Tally {
+    ghost use Rattle.std.specs.Prelude.{List, ℕ};
+    ghost use Rattle.cast_types.specs.declared.source.Source.{Source};
+
+    ghost Value = { List (Source × ℕ) };
+
+    ghost view = { λ t. t.counts.items };
+}
+
+impl Tally {
+    /// No counts.
+    pub fn new(alloc: Global) -> Self
+        ensures { result ≡ [] }
+    {
+        Tally {
+            counts: Vec::new(alloc),
+        }
+    }
+
+    /// The count of a source, 0 where none is kept.
+    pub fn get(&self, source: Source) -> u32
+        ensures { result ≡ count_at self.now source }
+    {
+        match sorted::find(&self.counts, &source) {
+            Some(count) => *count,
+            None => 0,
+        }
+    }
+
+    /// Sets the count of a source.
+    pub fn put(&mut self, source: Source, count: u32) -> Result<(), NoMemory>
+        ensures { OnOk result (self.new ≡ put source_cmp source count self.old) }
+    {
+        sorted::put(&mut self.counts, source, count)?;
+        Ok(())
+    }
+
+    /// Raises the count of a source to this one, where this is greater.
+    pub fn raise(&mut self, source: Source, count: u32) -> Result<(), NoMemory>
+        ensures { OnOk result (self.new ≡ raised_at source count self.old) }
+    {
+        let greatest = self.get(source).max(count);
+        self.put(source, greatest)
+    }
+
+    /// The counts of one view of a group.
+    pub fn counts(&self, group: GroupNo, view: u32) -> Result<Vec<(Proc, u32)>, NoMemory>
+        ensures { IfOk result (λ counts. counts.items ≡ counts_in group view self.now) }
+    {
+        let mut counts = Vec::new(*self.counts.allocator());
+        for (source, count) in &self.counts {
+            if source.group == group && source.view == view {
+                counts.push((source.process, *count))?;
+            }
+        }
+        Ok(counts)
+    }
+
+    /// Forgets the counts of a group's views below a number. Takes no memory.
+    pub fn end(&mut self, group: GroupNo, number: u32)
+        ensures { self.new ≡ but_ended group number self.old }
+    {
+        end_in(&mut self.counts, group, number);
+    }
+}
+
+// Keeps what is of other groups, or of views from this number on.
+fn end_in(counts: &mut Vec<(Source, u32)>, group: GroupNo, number: u32)
+    ensures { counts.new.items ≡ but_ended group number counts.old.items }
+{
+    counts.retain(|entry| !is_ended(group, number, entry.0));
+}
+
+// Whether a source's view of the group has ended, where this is the number of the view that stands.
+fn is_ended(group: GroupNo, number: u32, source: Source) -> bool
+    ensures { result ≡ is_ended group number source }
+{
+    source.group == group && source.view < number
+}
