@@ -157,7 +157,7 @@ impl Domain {
         ensures len { vec_len self.new.groups ≡ vec_len self.old.groups }
     {
         let process = self.process(serial);
-        let asked = self.record(place).here.asked;
+        let asked = self.record(place).here.asked();
         self.tell(process, Fact::Standing(group, Standing::Outside))?;
         if asked == MAX_NUMBER {
             return Ok(());
