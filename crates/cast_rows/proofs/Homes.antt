@@ -41,7 +41,8 @@ requests_at_the_home_prints : printed requests_at_the_home ≡ Ok (
 unfolding everything requests_at_the_home
 requests_at_the_home_prints = refl
 
--- frames for a home at a site that is none; Installs lower, repeated, without a local process
+-- frames for a home at a site that is none; Installs lower, repeated, without a local process. The view names a process of this site, so the Install
+-- of view 3 is the next one of a site that has a view, for which there is no rule yet; that of view 4 skips it
 frames_where_no_home_is : List ℕ
 frames_where_no_home_is =
     lines
@@ -62,9 +63,11 @@ frames_where_no_home_is_prints : printed frames_where_no_home_is ≡ Ok (
     lines
     (codes "push 1 1 opened 1.1"
     ∷ codes "push 1 1 reply 7 0"
+    ∷ codes "push 1 1 view 1 4 holder 2.1 members 1.1 2.1"
     ∷ codes "send 1 9 4344010b010001000100000001"
     ∷ codes "send 1 9 4344010b010001000100000002"
     ∷ codes "send 1 9 4344010401000100010000000101000100000001"
+    ∷ codes "send 1 9 4344010b010001000100000004"
     ∷ codes "send 1 9 4344010b010001000100000001"
     ∷ codes "send 1 9 4344010b010001000100000002" ∷ [])
     )
