@@ -6,8 +6,8 @@
 //! safe and returns. Want of memory inside a step adds nothing and halts the domain, which then answers each event with
 //! `Refused(Halted)`.
 //!
-//! The history is that of `cast_history`, with its definitions, and the values that a domain is made of, as sessions and
-//! groups, are those of `cast_model`. The definitions here are in `specs/`: `Records` is what the code keeps, with its
+//! The history is that of `cast_history`, with its definitions; sessions are those of `cast_model`, and groups those of
+//! `cast_view`, at the site and at the home. The definitions here are in `specs/`: `Records` is what the code keeps, with its
 //! part of what domains share (`Shared`), `Calls` what its calls do to that, exactly, and the records as the rules of
 //! `cast_history` see them (`records`, `records_serials`, `resting_records`), and `Fits` when records stand for a history;
 //! `Stepped` is what the contract of a step says.

@@ -16,8 +16,8 @@
 //! says what a domain that is served alone answers, pushes and sends. `Lawful` is what holds of each history that
 //! events lead to, `Endings` what its rest promises, and `Raising` that a member counts members alone. The values that
 //! they speak of are those of `cast_model`, and of the parts only the definitions are named. Worked examples are
-//! computed in `proofs/`: `FirstCast`, `Waiting`, `Overlapping`, `Ignored`, `Keeping`, `Placing`, `Delivering`, `Leading` and
-//! `Leaving`.
+//! computed in `proofs/`: `FirstCast`, `Waiting`, `Overlapping`, `Ignored`, `Keeping`, `Placing`, `Delivering`, `Leading`,
+//! `Leaving` and `Parting`.
 #![tactic(auto)]
 
 pub mod laws;
