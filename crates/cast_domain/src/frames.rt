@@ -141,7 +141,7 @@ impl Domain {
             SiteFrame::Want(id) => self.wanted(place, from, *id, lent),
             SiteFrame::Forward(message) => self.forwarded(place, message, lent),
             SiteFrame::Out { view, .. } => {
-                self.out(place, *view, lent)?;
+                self.on_out(place, *view, lent)?;
                 Ok(())
             }
             SiteFrame::Prepare { .. } => Ok(()),

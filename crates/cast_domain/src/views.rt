@@ -78,7 +78,7 @@ impl Domain {
 
     // Out: a view of the group at a place has no member here. It counts where the site has not reached its number: then the members
     // here are put out.
-    pub(crate) fn out(
+    pub(crate) fn on_out(
         &mut self,
         place: usize,
         view: u32,

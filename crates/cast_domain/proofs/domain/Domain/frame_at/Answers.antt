@@ -10,7 +10,7 @@ returns-in_ok-install-in-Install-clause-made c =
     c.in_ok-install-in-Install.ensures.made c.in-Install.cut
     ∙ sym (ap (λ f. on_frame records (records_in c.args.self.now c.args.lent.now) c.args.place c.args.from f) c.in-Install.is)
 
-pub returns-in_ok-out-in-Out-clause-made : goal.returns-in_ok-out-in-Out-clause-made
-returns-in_ok-out-in-Out-clause-made c =
-    c.in_ok-out-in-Out.ensures.made
+pub returns-in_ok-on_out-in-Out-clause-made : goal.returns-in_ok-on_out-in-Out-clause-made
+returns-in_ok-on_out-in-Out-clause-made c =
+    c.in_ok-on_out-in-Out.ensures.made
     ∙ sym (ap (λ f. on_frame records (records_in c.args.self.now c.args.lent.now) c.args.place c.args.from f) c.in-Out.is)

@@ -5,7 +5,7 @@ use Rattle.cast_view.specs.MemberSide.{is_put_out_by}
 use Rattle.cast_history.specs.Rules.Views.{change_view, no_members}
 use Rattle.cast_domain.specs.Records.{records_in}
 use Rattle.cast_domain.specs.Calls.{record_at, records}
-use Rattle.cast_domain.proofs.domain.Domain.out.Goals as goal
+use Rattle.cast_domain.proofs.domain.Domain.on_out.Goals as goal
 
 pub returns-in_ok-change_view-clause-made : goal.returns-in_ok-change_view-clause-made
 returns-in_ok-change_view-clause-made c =
