@@ -8,3 +8,4 @@ pub mod Rows
 pub mod Reached
 pub mod Queues
 pub mod Words
+pub mod Least

@@ -1,23 +1,24 @@
 -- The queue as contracts see it: gates of groups, messages in order of receipt, what is kept of each process, and what the
 -- processes have reached.
-use Rattle.std.specs.Prelude.{◌≡◌, ℕ, Bool, false, not, if◌then◌else◌, List, [], map, filter, Contains, Option, Some, None}
-use Rattle.std.specs.List.{find, list_any}
+use Rattle.std.specs.Prelude.{◌≡◌, ℕ, min, Bool, false, not, if◌then◌else◌, List, [], map, filter, Contains, Option, Some, None}
+use Rattle.std.specs.List.{fold, find, list_any}
 use Rattle.std.specs.Option.{option_map, option_map_or, option_and_then}
 use Rattle.std.specs.FinMap.Entries.{put}
 use Rattle.cast_types.specs.declared.names.GroupNo.{GroupNo}
 use Rattle.cast_types.specs.declared.names.Proc.{Proc}
 use Rattle.cast_types.specs.declared.names.Key.{Key}
 use Rattle.cast_types.specs.declared.names.Uid.{Uid}
+use Rattle.cast_types.specs.declared.limits.TheConstants.{MAX_NUMBER}
 use Rattle.cast_types.specs.Names.{Entry, group_cmp, proc_eq}
 use Rattle.cast_message.specs.Receipts.{key_eq}
 use Rattle.cast_delay.specs.declared.turn.Turn.{Turn}
 use Rattle.cast_delay.specs.declared.row.Row.{Row}
 use Rattle.cast_delay.specs.declared.offered.Offered.{Offered}
 use Rattle.cast_delay.specs.declared.gate.Gate.{Gate}
-use Rattle.cast_delay.specs.Ready.{open_gate}
+use Rattle.cast_delay.specs.Ready.{open_gate, is_member}
 use Rattle.cast_types.specs.Sources.{source}
 use Rattle.cast_delay.specs.Tallies.{Tally, raised_at, but_ended}
-use Rattle.cast_delay.specs.Rows.{is_ready_row, has_delivered_in, passed_by, awaits_row, ended_row, delivered_row}
+use Rattle.cast_delay.specs.Rows.{standing_in, done_in, is_ready_row, has_delivered_in, passed_by, awaits_row, ended_row, delivered_row}
 
 pub record Queue : Type 0 where
   pub gates : List (GroupNo × Gate)
@@ -96,6 +97,15 @@ queue_delivering p key q =
 -- whether some process that is a member of the message's group has not delivered it
 abbrev pub is_awaited : List Row → Uid → Bool
 is_awaited rows id = list_any (λ row. awaits_row row id) rows
+
+-- the lesser of a count and of how many messages of a process in a view of a group the row's process has delivered, where that
+-- is a member of the group
+abbrev pub lesser_by : GroupNo → ℕ → Proc → ℕ → Row → ℕ
+lesser_by group view p least row = if is_member (standing_in row group) then min least (done_in row group view p) else least
+
+-- the least count of a process's messages of a view that each member of the group has delivered, MAX_NUMBER of no member
+abbrev pub least_in : List Row → GroupNo → ℕ → Proc → ℕ
+least_in rows group view p = fold (lesser_by group view p) MAX_NUMBER rows
 
 -- no process has two rows
 abbrev pub HasOneRowEach : List Row → Type 0

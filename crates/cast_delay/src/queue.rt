@@ -11,7 +11,7 @@ ghost use Rattle.cast_delay.specs.declared.turn.Turn.{Turn};
 ghost use Rattle.cast_delay.specs.Ready.{frozen_gate, pending_gate, is_member, has_delivered};
 ghost use Rattle.cast_delay.specs.Rows.{gate_in, ended_row, told_row, standing_in, done_in};
 ghost use Rattle.cast_delay.specs.Tallies.{counts_in};
-ghost use Rattle.cast_delay.specs.Queue.{new_row, row_of, but_row, change_row, first_for, offered_under, next_key, delivered_in, passed_in, but_offered, is_awaited, after_delivery, reached_after, queue_viewing, queue_delivering};
+ghost use Rattle.cast_delay.specs.Queue.{new_row, row_of, but_row, change_row, first_for, offered_under, next_key, delivered_in, passed_in, but_offered, is_awaited, least_in, after_delivery, reached_after, queue_viewing, queue_delivering};
 ghost use Rattle.cast_delay.specs.Fits.{offer_of};
 ghost use Rattle.cast_delay.specs.Says.{SaysAwaited, SaysFirstReady, SaysDelivered, SaysPassed, SaysReached, SaysTime, SaysStanding};
 
@@ -22,6 +22,7 @@ use crate::tally::Tally;
 use crate::turn::Turn;
 use cast_clock::Times;
 use cast_message::Message;
+use cast_types::limits::MAX_NUMBER;
 use cast_types::{Counts, GroupNo, Key, Keyed, NoMemory, Proc, Source, Standing, Uid};
 use std::alloc::Global;
 use std::marker::Model;
@@ -146,6 +147,14 @@ impl Delay {
         awaited_in(&self.rows, id)
     }
 
+    /// The least count of a process's messages of a view that each member of the group here has delivered, 4,294,967,295
+    /// where there is no member. Takes no memory.
+    pub fn least_delivered(&self, group: GroupNo, view: u32, process: Proc) -> u32
+        ensures value { result ≡ least_in self.now.rows group view process }
+    {
+        least_in(&self.rows, group, view, process)
+    }
+
     /// The first message in order of receipt that the process may deliver now, `None` where there is none. The first
     /// entry for a group in `turns` tells the process's turn there; an ABCAST of a group with none is not delivered.
     /// Takes no memory.
@@ -262,6 +271,15 @@ fn awaited_in(rows: &[Row], id: Uid) -> bool
     ensures { result ≡ is_awaited rows.now id }
 {
     rows.iter().any(|row| row.awaits(id))
+}
+
+// The least count of a process's messages of a view that each member of the group has delivered.
+fn least_in(rows: &[Row], group: GroupNo, view: u32, process: Proc) -> u32
+    ensures { result ≡ least_in rows.now group view process }
+{
+    rows.iter().fold(MAX_NUMBER, |least, row| {
+        row.lesser(least, group, view, process)
+    })
 }
 
 // Keeps the rows of other processes.

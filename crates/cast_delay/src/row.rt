@@ -54,7 +54,7 @@ fn counts_in(times: &Stamp, group: GroupNo) -> &[(Proc, u32)]
 
 impl Row {
     ghost use Rattle.cast_delay.specs.Rows.{standing_in, done_in, needed, has_past, row_allows, all_allow, is_causally_ready_row, is_ready_row, has_delivered_in, passed_by, awaits_row, delivered_row, ended_row, told_row};
-    ghost use Rattle.cast_delay.specs.Queue.{new_row};
+    ghost use Rattle.cast_delay.specs.Queue.{new_row, lesser_by};
 
     /// A process that is in no group.
     pub fn new(alloc: Global, process: Proc) -> Self
@@ -98,6 +98,17 @@ impl Row {
             Standing::Member => true,
             Standing::Outside | Standing::Joining { .. } => false,
         }
+    }
+
+    /// The lesser of a count and of how many messages of a process in a view of a group were delivered, where the row's
+    /// process is a member of the group.
+    pub fn lesser(&self, least: u32, group: GroupNo, view: u32, process: Proc) -> u32
+        ensures { result ≡ lesser_by group view process least self.now }
+    {
+        if self.is_member(group) {
+            return least.min(self.done(group, view, process));
+        }
+        least
     }
 
     // Whether all of these counts but the message itself is delivered.

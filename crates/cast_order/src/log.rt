@@ -1,8 +1,10 @@
 ghost use Rattle.std.specs.Prelude.{◌≡◌, ◌+◌, min, nat_lt, filter, take, drop, OnOk, IfOk};
 ghost use Rattle.std.specs.List.{enumerate_from};
 ghost use Rattle.cast_types.specs.Counts.{is_within};
+ghost use Rattle.cast_types.specs.Names.{entry_eq};
+ghost use Rattle.cast_types.specs.Sets.{is_among};
 ghost use Rattle.cast_order.specs.Order.{id_at};
-ghost use Rattle.cast_order.specs.Log.{length_of, new_log, with_fact, with_facts, with_next, past, settled, learnt, place_of, next_in, passed, told, waits_in, next_places, assigned, ids_above, has_room_in, tail_start_in, tail_ids_in, closed_by, forgot};
+ghost use Rattle.cast_order.specs.Log.{length_of, new_log, with_fact, with_facts, with_next, past, settled, learnt, place_of, next_in, passed, told, waits_in, next_places, assigned, ids_above, has_room_in, whole_kept, tail_start_in, tail_ids_in, closed_by, forgot};
 
 use cast_message::{Placement, Tail};
 use cast_types::limits::{MAX_PLACED, MAX_POSITION, MAX_TAIL, MAX_UNSETTLED};
@@ -184,6 +186,13 @@ impl OrderLog {
             && self.length().saturating_add(self.waiting.len()) < MAX_POSITION as usize
     }
 
+    /// Whether an id is kept of the order known, or waits to be listed.
+    pub fn knows(&self, id: (Proc, u32)) -> bool
+        ensures { result ≡ is_among entry_eq id (whole_kept self.now) }
+    {
+        holds(&self.window, id) || holds(&self.waiting, id)
+    }
+
     /// How many ids stand before the tail of the whole order, and its ids, as far as they are kept.
     pub fn tail(&self) -> Result<(usize, Listed<(Proc, u32)>), NoMemory>
         ensures { IfOk result (λ t. t ≡ (tail_start_in self.now, tail_ids_in self.now)) }
@@ -200,6 +209,13 @@ impl OrderLog {
         ids.extend_from_slice(past_first(&self.waiting, start.saturating_sub(known)))?;
         Ok((start, Listed::from_vec(ids)))
     }
+}
+
+// Whether an id is one of these.
+fn holds(ids: &[(Proc, u32)], id: (Proc, u32)) -> bool
+    ensures { result ≡ is_among entry_eq id ids.now }
+{
+    ids.iter().any(|other| id == *other)
 }
 
 // The ids behind the first ones.

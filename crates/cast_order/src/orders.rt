@@ -2,8 +2,9 @@ ghost use Rattle.std.specs.Prelude.{◌≡◌, [], not, filter, OnOk, IfOk};
 ghost use Rattle.std.specs.List.{find, list_any};
 ghost use Rattle.std.specs.Option.{option_copied};
 ghost use Rattle.cast_types.specs.Counts.{is_within};
-ghost use Rattle.cast_types.specs.Names.{group_eq};
-ghost use Rattle.cast_order.specs.Log.{length_of, log_of, change_in, opened, change_log, but_log, learnt, next_in, passed, told, waits_in, next_places, assigned, has_room_in, tail_start_in, tail_ids_in, closed_by, forgot};
+ghost use Rattle.cast_types.specs.Names.{entry_eq, group_eq};
+ghost use Rattle.cast_types.specs.Sets.{is_among};
+ghost use Rattle.cast_order.specs.Log.{length_of, log_of, change_in, opened, change_log, but_log, learnt, next_in, passed, told, waits_in, next_places, assigned, has_room_in, whole_kept, tail_start_in, tail_ids_in, closed_by, forgot};
 
 use crate::log::OrderLog;
 use cast_message::{Placement, Tail};
@@ -131,6 +132,17 @@ impl Orders {
     {
         match log_in(&self.logs, group) {
             Some(log) => log.waits(),
+            None => false,
+        }
+    }
+
+    /// Whether an id has a place in the order known, or waits for one, having been delivered by the holder here: of what is
+    /// not forgotten. Takes no memory.
+    pub fn knows(&self, group: GroupNo, id: (Proc, u32)) -> bool
+        ensures { result ≡ is_among entry_eq id (whole_kept (log_of self.now group)) }
+    {
+        match log_in(&self.logs, group) {
+            Some(log) => log.knows(id),
             None => false,
         }
     }

@@ -4,3 +4,4 @@ pub mod Witnesses
 pub mod Lists
 pub mod Greatest
 pub mod Meanings
+pub mod Last

@@ -1,11 +1,11 @@
 -- What a site keeps of receipts means: the other sites of each group's view, and of what rules may still ask of the messages
 -- received, acknowledged and told to be stable.
-use Rattle.std.specs.Prelude.{◌≡◌, ◌<◌, ℕ, Bool, true, nat_le, List}
+use Rattle.std.specs.Prelude.{◌≡◌, ◌<◌, ◌≤◌, ℕ, Bool, true, nat_le, List}
 use Rattle.cast_types.specs.declared.names.SiteNo.{SiteNo}
 use Rattle.cast_types.specs.declared.names.GroupNo.{GroupNo}
 use Rattle.cast_types.specs.declared.names.Uid.{Uid}
 use Rattle.cast_types.specs.declared.source.Source.{Source}
-use Rattle.cast_types.specs.Names.{uid_eq}
+use Rattle.cast_types.specs.Names.{uid_eq, named}
 use Rattle.cast_types.specs.Sets.{is_among}
 use Rattle.cast_stable.specs.Runs.{is_run}
 use Rattle.cast_stable.specs.Stable.{Acked, has_acked, was_told, stable_upto, is_known_stable}
@@ -37,3 +37,8 @@ pub record Fits (past : Past) (l : Ledger) : Type 0 where
   pub acked : (from : SiteNo) (u : Uid) → past.is_live (source_of u) ≡ true → 0 < u.count → has_acked_in l from u ≡ has_acked past.acks u from
   pub runs : (s : Source) (from : SiteNo) → is_run (acked_run l s from) ≡ true
   pub learnt : (u : Uid) → past.is_live (source_of u) ≡ true → 0 < u.count → nat_le u.count (told_count l (source_of u)) ≡ was_told past.told u
+
+-- no message of the source with a greater count was received, and one with this count was, unless it is 0
+pub record SaysLast (received : List Uid) (s : Source) (last : ℕ) : Type 0 where
+  pub most : (count : ℕ) → 0 < count → is_among uid_eq (named s.group s.view (s.process, count)) received ≡ true → count ≤ last
+  pub was : 0 < last → is_among uid_eq (named s.group s.view (s.process, last)) received ≡ true

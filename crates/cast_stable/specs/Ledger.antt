@@ -9,7 +9,7 @@ use Rattle.cast_types.specs.declared.source.Source.{Source}
 use Rattle.cast_types.specs.Names.{group_cmp, site_eq}
 use Rattle.cast_types.specs.Sources.{source_cmp, source}
 use Rattle.cast_stable.specs.declared.witness.Witness.{Witness}
-use Rattle.cast_stable.specs.Runs.{Run, no_counts, contains, inserted}
+use Rattle.cast_stable.specs.Runs.{Run, no_counts, contains, greatest, inserted}
 use Rattle.cast_stable.specs.Witnesses.{witness_cmp, witness}
 
 -- the site itself, the other sites of each group's view, the counts received of each source, those that each site
@@ -40,6 +40,10 @@ told_count l s = unwrap_or (find source_cmp s l.told) 0
 
 abbrev pub is_received_in : Ledger → Uid → Bool
 is_received_in l u = contains (received_run l (source_of u)) u.count
+
+-- the greatest count received of a source, 0 where none was
+abbrev pub last_received_in : Ledger → Source → ℕ
+last_received_in l s = greatest (received_run l s)
 
 abbrev pub has_acked_in : Ledger → SiteNo → Uid → Bool
 has_acked_in l from u = contains (acked_run l (source_of u) from) u.count

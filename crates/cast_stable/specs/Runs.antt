@@ -1,6 +1,6 @@
 -- A set of counts from 1 on: all counts to some count, and further ones in rising order.
-use Rattle.std.specs.Prelude.{ℕ, suc, ◌+◌, Bool, true, ◌&&◌, ◌||◌, ◌==◌, nat_lt, nat_le, if◌then◌else◌, List, [], ◌∷◌, drop}
-use Rattle.std.specs.List.{list_any}
+use Rattle.std.specs.Prelude.{ℕ, suc, ◌+◌, Bool, true, ◌&&◌, ◌||◌, ◌==◌, nat_lt, nat_le, max, if◌then◌else◌, List, [], ◌∷◌, drop}
+use Rattle.std.specs.List.{fold, list_any}
 use Rattle.std.specs.Ordering.{nat_cmp}
 use Rattle.cast_types.specs.Sets.{with_item}
 
@@ -22,6 +22,10 @@ is_run r = rises_above (r.upto + 1) r.above
 
 abbrev pub contains : Run → ℕ → Bool
 contains r m = (nat_lt 0 m && nat_le m r.upto) || list_any (λ x. x == m) r.above
+
+-- the greatest count, 0 of no counts
+abbrev pub greatest : Run → ℕ
+greatest r = fold max r.upto r.above
 
 -- the last count of a run that goes on from n, and how many counts of the list it takes
 abbrev pub run_after : ℕ → List ℕ → ℕ × ℕ

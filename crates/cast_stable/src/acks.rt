@@ -3,14 +3,15 @@ ghost use Rattle.std.specs.List.{reduce};
 ghost use Rattle.std.specs.Option.{option_copied};
 ghost use Rattle.cast_types.specs.Names.{uid_eq};
 ghost use Rattle.cast_types.specs.Sets.{is_among};
+ghost use Rattle.cast_types.specs.Sources.{source};
 ghost use Rattle.cast_stable.specs.Stable.{has_acked, stable_upto};
-ghost use Rattle.cast_stable.specs.Fits.{Past, upto_by, is_stable_by, Fits};
+ghost use Rattle.cast_stable.specs.Fits.{Past, upto_by, is_stable_by, Fits, SaysLast};
 ghost use Rattle.cast_stable.specs.Runs.{no_counts, contains, inserted};
-ghost use Rattle.cast_stable.specs.Ledger.{new_ledger, source_of, others_in, acked_run, told_count, told_ledger, received_ledger, acked_ledger, learnt_ledger, is_received_in, has_acked_in, upto_in, is_stable_in};
+ghost use Rattle.cast_stable.specs.Ledger.{new_ledger, source_of, others_in, acked_run, told_count, told_ledger, received_ledger, acked_ledger, learnt_ledger, is_received_in, last_received_in, has_acked_in, upto_in, is_stable_in};
 
 use crate::counted::Counted;
 use crate::witness::Witness;
-use cast_types::{GroupNo, Keyed, Listed, NoMemory, SiteNo, Source, Uid};
+use cast_types::{GroupNo, Keyed, Listed, NoMemory, Proc, SiteNo, Source, Uid};
 use std::alloc::Global;
 use std::marker::Model;
 
@@ -76,6 +77,22 @@ impl Acks {
         ensures meaning { (past : Past) → Fits past self.now → past.is_live (source_of id) ≡ true → 0 < id.count → result ≡ is_among uid_eq id past.received }
     {
         contains(self.received.get(&source_of(id)), id.count)
+    }
+
+    /// The greatest count of the messages of a process in a view of a group that this site received, 0 where it
+    /// received none. Takes no memory.
+    pub fn last_received(&self, group: GroupNo, view: u32, process: Proc) -> u32
+        ensures value { result ≡ last_received_in self.now (source group view process) }
+        ensures meaning { (past : Past) → Fits past self.now → past.is_live (source group view process) ≡ true → SaysLast past.received (source group view process) result }
+    {
+        match self.received.get(&Source {
+            group,
+            view,
+            process,
+        }) {
+            Some(run) => run.greatest(),
+            None => 0,
+        }
     }
 
     /// Takes in that a site acknowledged a message. `NoMemory` changes nothing.

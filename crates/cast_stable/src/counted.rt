@@ -1,5 +1,5 @@
 ghost use Rattle.std.specs.Prelude.{◌≡◌, ℕ, ◌+◌, ◌<◌, ◌≤◌, ◌||◌, ◌==◌, true, false, OnOk, OnErr, IfOk, length};
-ghost use Rattle.cast_stable.specs.Runs.{no_counts, contains, run_after, absorbed, inserted};
+ghost use Rattle.cast_stable.specs.Runs.{no_counts, contains, greatest, run_after, absorbed, inserted};
 
 use cast_types::{NoMemory, sorted};
 use std::alloc::Global;
@@ -67,6 +67,15 @@ impl Counted {
         ensures next { contains self.now (result + 1) ≡ false }
     {
         self.upto
+    }
+
+    /// The greatest count in the set, 0 where it is empty. Takes no memory.
+    pub fn greatest(&self) -> u32
+        ensures value { result ≡ greatest self.now }
+    {
+        self.above
+            .iter()
+            .fold(self.upto, |greatest, count| greatest.max(*count))
     }
 
     /// An equal value.

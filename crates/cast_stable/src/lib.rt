@@ -4,11 +4,11 @@
 //! of its process in that view; a message of another site once that site said so; and any message at once in a view
 //! of this site alone.
 //!
-//! Promised: `stable_upto`, `is_stable` and `may_free` answer so, and `is_received` and `has_acked` answer of what was
-//! received and acknowledged, by all that the records were ever told of live sources (`Fits`), those of which somebody may
-//! still ask; each call does to the records what it does to that (`laws`). An acknowledgement counts for its own view
-//! alone. Counts that came without a gap take no memory, and no answer takes any. A call that is refused memory changes
-//! nothing. Records of an old view stay, though nobody may count on it.
+//! Promised: `stable_upto`, `is_stable` and `may_free` answer so, and `is_received`, `last_received` and `has_acked` answer
+//! of what was received and acknowledged, by all that the records were ever told of live sources (`Fits`), those of which
+//! somebody may still ask; each call does to the records what it does to that (`laws`). An acknowledgement counts for its
+//! own view alone. Counts that came without a gap take no memory, and no answer takes any. A call that is refused memory
+//! changes nothing. Records of an old view stay, though nobody may count on it.
 //!
 //! The definitions are in `specs/`: `Stable` has the rule over acknowledgements as a test and in words, `Runs` sets of
 //! counts, `Ledger` what a site keeps and does, exactly, `Witnesses` its keys, `Fits` when that tells of given views,

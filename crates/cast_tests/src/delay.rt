@@ -11,6 +11,12 @@ const MEMBER: Proc = Proc {
     serial: 2,
 };
 
+// Another process of the same site.
+const OTHER: Proc = Proc {
+    site: SiteNo(1),
+    serial: 3,
+};
+
 // A process that asked to join, and had heard of no view then.
 const JOINING: Standing = Standing::Joining {
     request: 1,
@@ -28,6 +34,10 @@ enum Step {
     Takes(usize),
     // The message under a key is let go.
     Forgets(usize),
+    // The other process enters the group, in its view 1.
+    OtherEnters,
+    // The other process delivers the message under a key.
+    OtherTakes(usize),
     // The process asks to join.
     Joins,
     // The process is told that it is in view 1.
@@ -58,6 +68,8 @@ enum Step {
     Counts(u32),
     // The greatest count of its messages that was delivered in view 1, where one was.
     Reached(Option<u32>),
+    // The least count of its messages of a view that each member has delivered.
+    Least(u32, u32),
 }
 
 fn tells(queue: &mut Delay, fact: Fact) -> Result<(), NoMemory> {
@@ -73,6 +85,14 @@ fn admits(queue: &mut Delay) -> Result<(), NoMemory> {
     queue.admit(MEMBER)?;
     queue.view_changed(GROUP, 1)?;
     stands(queue, Standing::Member)
+}
+
+// The other process is in the same view.
+fn other_enters(alloc: Global, queue: &mut Delay) -> Result<(), Fail> {
+    queue.admit(OTHER)?;
+    queue.tell(OTHER, &Fact::Time(time_at(alloc, 0)?))?;
+    queue.tell(OTHER, &Fact::Standing(GROUP, Standing::Member))?;
+    Ok(())
 }
 
 fn comes(queue: &mut Delay, key: usize, message: Message) -> Result<(), NoMemory> {
@@ -142,6 +162,7 @@ fn shows(queue: &Delay, step: Step) -> bool {
         Step::Has(process, count, has) => queue.has_delivered(process, id_of(count)) == has,
         Step::Passed(process, view, count) => passed(queue, process, view) == count,
         Step::Counts(count) => count_of_the_sender(queue) == count,
+        Step::Least(view, count) => queue.least_delivered(GROUP, view, SENDER) == count,
         _ => false,
     }
 }
@@ -151,6 +172,11 @@ fn does(alloc: Global, queue: &mut Delay, step: Step) -> Result<bool, Fail> {
     let done = match step {
         Step::Comes(key, count) => comes(queue, key, causal(alloc, count)?),
         Step::ComesAtomic(key, count) => comes(queue, key, atomic(alloc, count)?),
+        Step::OtherEnters => {
+            other_enters(alloc, queue)?;
+            Ok(())
+        }
+        Step::OtherTakes(key) => queue.delivered(OTHER, Key(key)),
         Step::Joins => stands(queue, JOINING),
         Step::Enters => enters(queue, time_at(alloc, 0)?),
         Step::Freezes => queue.freeze(GROUP),
@@ -285,5 +311,37 @@ fn what_was_reached_stays_until_the_view_ends(rt: HostRuntime) -> Result<(), Fai
             Step::Changes(2),
             Step::Reached(None),
         ],
+    )
+}
+
+// Two members have the messages as far as the one that has fewer of them; one that has not entered the group does not count.
+#[test]
+fn the_least_delivered_is_what_each_member_has(rt: HostRuntime) -> Result<(), Fail> {
+    goes(
+        rt.alloc(),
+        &[
+            Step::Least(1, 0),
+            Step::Comes(0, 1),
+            Step::Comes(1, 2),
+            Step::Takes(0),
+            Step::Takes(1),
+            Step::Least(1, 2),
+            Step::OtherEnters,
+            Step::Least(1, 0),
+            Step::OtherTakes(0),
+            Step::Least(1, 1),
+            Step::Least(2, 0),
+            Step::Goes,
+            Step::Least(1, 1),
+        ],
+    )
+}
+
+// Where nobody is a member, nothing holds the count back.
+#[test]
+fn the_least_delivered_of_nobody_is_the_greatest_count(rt: HostRuntime) -> Result<(), Fail> {
+    goes(
+        rt.alloc(),
+        &[Step::Least(1, 0), Step::Goes, Step::Least(1, 4_294_967_295)],
     )
 }

@@ -31,6 +31,8 @@ enum Row {
     Requests(u32, usize, u32),
     // The home asks what the site has of this view.
     Prepare(u32, bool),
+    // Whether the site would tell what it has of this view.
+    Answers(u32, bool),
     // The second process sent so many messages, of which one process here delivered all and another all but one: so many are reported.
     Flushed(u32, u32),
     // An Install of this number comes, after the first request was applied.
@@ -93,6 +95,7 @@ fn is_seen(side: &MemberSide, row: &Row) -> bool {
                 && side.is_held_by(FIRST) == holder.is_some()
         }
         Row::Frozen(frozen) => side.is_frozen() == *frozen,
+        Row::Answers(view, answers) => side.answers_prepare(*view) == *answers,
         Row::Waits(waits) => waiting(side) == *waits,
         _ => false,
     }
@@ -172,9 +175,12 @@ fn an_install_waits_in_a_frozen_view(rt: HostRuntime) -> Result<(), Fail> {
             Row::View(1, 2),
             Row::Holder(Some(FIRST)),
             Row::Prepare(2, false),
+            Row::Answers(2, false),
+            Row::Answers(1, true),
             Row::Frozen(false),
             Row::Prepare(1, true),
             Row::Prepare(1, true),
+            Row::Answers(1, true),
             Row::Frozen(true),
             Row::Flushed(3, 3),
             Row::Waits(None),
@@ -182,6 +188,7 @@ fn an_install_waits_in_a_frozen_view(rt: HostRuntime) -> Result<(), Fail> {
             Row::Waits(Some((1, 1))),
             Row::Install(2, Named::Both, Verdict::Ignored),
             Row::Waits(Some((1, 1))),
+            Row::Answers(1, false),
             Row::Prepare(1, false),
             Row::Complete(2, Named::One),
             Row::View(2, 1),

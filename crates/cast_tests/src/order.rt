@@ -55,6 +55,8 @@ enum Step<'a> {
     LongNext(Proc, (usize, u32, u32)),
     // Whether ABCASTs wait to be listed.
     Waits(bool),
+    // Whether the ABCAST of a count has a place in a group's order, or waits for one.
+    Knows(GroupNo, u32, bool),
     // Whether the holder of a group may deliver one more, where its messages up to a count are stable.
     HasRoom(GroupNo, u32, bool),
 }
@@ -166,6 +168,7 @@ fn shows(orders: &Orders, step: Step<'_>) -> bool {
         Step::Next(process, counts) => are(orders.next(GROUP, process), counts),
         Step::LongNext(process, run) => is_run(orders.next(GROUP, process), run),
         Step::Waits(waits) => orders.waits(GROUP) == waits,
+        Step::Knows(group, count, knows) => orders.knows(group, cast(count)) == knows,
         Step::HasRoom(group, stable, has_room) => orders.has_room(group, stable) == has_room,
         _ => false,
     }
@@ -320,6 +323,30 @@ fn a_closed_order_stays(rt: HostRuntime) -> Result<(), Fail> {
             Step::Waits(false),
             Step::Learns(GROUP, (5, 12, 10)),
             Step::Known(GROUP, &[11, 14, 13, 15]),
+        ],
+    )
+}
+
+// An ABCAST behind a gap has no place yet; the holder's own has one to wait for. Each group has an order of its own, and what
+// is forgotten is not known.
+#[test]
+fn an_abcast_is_known_once_it_has_a_place_or_waits_for_one(rt: HostRuntime) -> Result<(), Fail> {
+    goes(
+        rt.alloc(),
+        &[
+            Step::Knows(GROUP, 11, false),
+            Step::Learns(GROUP, (1, 11, 12)),
+            Step::Learns(GROUP, (4, 14, 15)),
+            Step::Knows(GROUP, 11, true),
+            Step::Knows(GROUP, 12, true),
+            Step::Knows(GROUP, 14, false),
+            Step::Knows(GroupNo(2), 11, false),
+            Step::Tells(21, 22),
+            Step::Knows(GROUP, 21, true),
+            Step::Knows(GROUP, 22, false),
+            Step::Forgets,
+            Step::Knows(GROUP, 11, false),
+            Step::Knows(GROUP, 21, false),
         ],
     )
 }

@@ -34,6 +34,8 @@ enum Step {
     Acked(SiteNo, Name, bool),
     // Whether this site received one.
     Received(Name, bool),
+    // It is the last one of its process in its view that this site received: its count is 0 where there is none.
+    Last(Name),
     // How many other sites share the view of the group.
     Others(usize),
 }
@@ -56,10 +58,11 @@ fn counted_of(alloc: Global, counts: &[u32]) -> Result<Counted, NoMemory> {
     Ok(counted)
 }
 
-// Whether a set runs to 3, has 5 too, and so has its copy.
+// Whether a set runs to 3, has 5 too, which is the last, and so has its copy.
 fn runs_to_3(counted: Counted) -> Result<bool, NoMemory> {
     let copied = counted.copy()?;
-    Ok(counted.upto() == 3 && copied.contains(5) && !copied.contains(4))
+    let ends_at_5 = counted.greatest() == 5 && copied.contains(5) && !copied.contains(4);
+    Ok(counted.upto() == 3 && ends_at_5)
 }
 
 #[test]
@@ -75,6 +78,11 @@ fn others(alloc: Global) -> Result<Listed<SiteNo>, NoMemory> {
     Ok(others)
 }
 
+// The count of the last message of the same process and view that this site received.
+fn last_with(acks: &Acks, id: Uid) -> u32 {
+    acks.last_received(id.group, id.view, id.proc)
+}
+
 // Whether the records are as a step says that changes nothing.
 fn shows(acks: &Acks, step: Step) -> bool {
     match step {
@@ -83,6 +91,7 @@ fn shows(acks: &Acks, step: Step) -> bool {
         Step::MayFree(name, is_awaited, may) => acks.may_free(id(name), is_awaited) == may,
         Step::Acked(site, name, has_acked) => acks.has_acked(site, id(name)) == has_acked,
         Step::Received(name, is_received) => acks.is_received(id(name)) == is_received,
+        Step::Last(name) => last_with(acks, id(name)) == name.2,
         Step::Others(count) => acks.others(GROUP).len() == count,
         _ => false,
     }
@@ -158,6 +167,30 @@ fn a_message_of_another_site_is_stable_once_that_site_says_so(rt: HostRuntime) -
             Step::Stable((SECOND, 1, 2), false),
             Step::Learns((SECOND, 1, 2)),
             Step::Stable((SECOND, 1, 2), true),
+        ],
+    )
+}
+
+// What comes late and what comes again is not the last one. Another view and another site's process have a last one of
+// their own.
+#[test]
+fn the_last_message_is_the_one_of_the_greatest_count(rt: HostRuntime) -> Result<(), Fail> {
+    goes(
+        rt.alloc(),
+        &[
+            Step::Last((SECOND, 1, 0)),
+            Step::Receives((SECOND, 1, 1)),
+            Step::Last((SECOND, 1, 1)),
+            Step::Receives((SECOND, 1, 4)),
+            Step::Last((SECOND, 1, 4)),
+            Step::Receives((SECOND, 1, 3)),
+            Step::Receives((SECOND, 1, 1)),
+            Step::Receives((SECOND, 2, 6)),
+            Step::Receives((THIRD, 1, 5)),
+            Step::Last((SECOND, 1, 4)),
+            Step::Last((SECOND, 2, 6)),
+            Step::Last((THIRD, 1, 5)),
+            Step::Last((THIRD, 2, 0)),
         ],
     )
 }

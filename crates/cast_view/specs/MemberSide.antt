@@ -86,8 +86,11 @@ abbrev pub answers_prepare : MemberSide → ℕ → Bool
 answers_prepare g view = is_current g view && not (is_pending g)
 
 -- from the first answer on the group is frozen
+abbrev pub frozen_side : MemberSide → MemberSide
+frozen_side g = record g { frozen = true }
+
 abbrev pub after_prepare : MemberSide → ℕ → MemberSide
-after_prepare g view = if answers_prepare g view then record g { frozen = true } else g
+after_prepare g view = if answers_prepare g view then frozen_side g else g
 
 -- the greatest of the counts that are lent for a process
 abbrev pub greatest_of : List Entry → Proc → ℕ

@@ -13,7 +13,7 @@
 //! joins, and nobody else (`laws`). At a site only a view is frozen; an Install waits only in a frozen view, and is the next
 //! one; what the home tells a site again changes nothing (`laws`); and the requests that are not answered have numbers
 //! without a gap, up to how many there were. Where memory is refused, a `MemberSide` stays as it was, and a `HomeSide` is of
-//! no further use. A domain has a `MemberSide` for each group, and does not call `prepare`, `flushed` and `install` yet.
+//! no further use.
 //!
 //! The definitions are in `specs/`: `Home` has the group at the home with its requests, suspicions and flush, over
 //! `Reports` and `Decisions` of `cast_flush`; `MemberSide` the group at a site with its view, its part in a flush and its

@@ -74,7 +74,7 @@ impl Model for MemberSide {
 impl MemberSide {
     ghost use Rattle.std.specs.Prelude.{IfSome};
     ghost use Rattle.cast_types.specs.declared.limits.TheConstants.{MAX_NUMBER};
-    ghost use Rattle.cast_view.specs.MemberSide.{no_group, members_of, holder_of, is_process, holder_at, is_current, with_request, first_asking, with_answer, are_numbered_to, answers_prepare, after_prepare, report_of, verdict_of, after_install, with_end, with_view, is_put_out_by, after_out};
+    ghost use Rattle.cast_view.specs.MemberSide.{no_group, members_of, holder_of, is_process, holder_at, is_current, is_pending, with_request, first_asking, with_answer, are_numbered_to, answers_prepare, after_prepare, report_of, verdict_of, after_install, with_end, with_view, is_put_out_by, after_out};
 
     /// A group of which the site knows no view.
     pub fn new(alloc: Global) -> Self
@@ -221,13 +221,27 @@ impl MemberSide {
         self.requests = Listed::from_vec(requests);
     }
 
+    /// Whether the home is to be told what the site has of a view: it is the site's view, and no Install waits.
+    pub fn answers_prepare(&self, view: u32) -> bool
+        ensures { result ≡ answers_prepare self.now view }
+    {
+        self.is_current(view) && !self.is_waiting()
+    }
+
+    // Whether an Install waits.
+    fn is_waiting(&self) -> bool
+        ensures { result ≡ is_pending self.now }
+    {
+        self.pending.is_some()
+    }
+
     /// Takes in that the home asks what the site has of a view, and answers whether it is to be told: it is the site's view,
     /// and no Install waits. Then the group is frozen from now on; else nothing changes. Takes no memory.
     pub fn prepare(&mut self, view: u32) -> bool
         ensures value { result ≡ answers_prepare self.old view }
         ensures new { self.new ≡ after_prepare self.old view }
     {
-        let answers = self.is_current(view) && self.pending.is_none();
+        let answers = self.answers_prepare(view);
         if answers {
             self.frozen = true;
         }
