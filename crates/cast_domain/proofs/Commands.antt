@@ -151,4 +151,4 @@ fits_sent_here r s f l k given i g at content plain member =
         subst (λ y. Fits y (receiving now m)) (sym same)
         (fits_receive (tell_in x p (fact.Time m.times)) now (fits_sent x s w k given m) m (next_sound s g k content l member)
         (eq-eqb (s.group g).number (s.group g).number refl)
-        (λ j. ap (λ b. b && proc_eq p (local s j)) plain))
+        (λ _ j. ap (λ b. b && proc_eq p (local s j)) plain))

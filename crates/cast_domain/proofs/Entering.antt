@@ -30,10 +30,10 @@ use Rattle.cast_order.specs.Log.{new_log, log_of, but_log}
 use Rattle.cast_order.proofs.Logs.{log_of_forget}
 use Rattle.cast_model.specs.declared.session.Session.{Session}
 use Rattle.cast_model.specs.Session.{is_open, pushed_to, told}
-use Rattle.cast_view.specs.MemberSide.{with_view, is_taken_in}
+use Rattle.cast_view.specs.MemberSide.{is_pending, with_view, is_taken_in}
 use Rattle.cast_history.specs.Acts.{Act}
 use Rattle.cast_history.specs.State.{State, local, serials, is_group, set_session, set_process, set_group, set_standing, was_given, pushing}
-use Rattle.cast_history.specs.Entering.{enters, in_view, push_view, completing, all_in_view}
+use Rattle.cast_history.specs.Entering.{enters, in_view, completing, all_in_view}
 use Rattle.cast_domain.specs.Records.{Records}
 use Rattle.cast_domain.specs.Calls.{record_at, standing_of, time_of, push_in, tell_in, enter_in, take_in, view_in, complete_in}
 use Rattle.cast_history.specs.Lawful.{IsLawful}
@@ -252,9 +252,9 @@ module _ (g : GroupNo) (n : ℕ) (members : Membership) (request : ℕ) (t : Sta
     | false ↦ refl
   ]
 
-  -- nothing is kept of the group's order yet
+  -- nothing is kept of the group's order yet, and no Install waits
   abbrev IsNew : Records → Type 0
-  IsNew r = log_of r.orders g ≡ new_log g
+  IsNew r = (log_of r.orders g ≡ new_log g) × (is_pending (t.group g) ≡ false)
 
   -- among the records: a process enters
   fits_enter : (r : Records) (e : ℕ → Bool) → Fits r (entered e) → IsNew r → is_group t g ≡ true → (k : ℕ) → e k ≡ false → taken k ≡ true → Fits (enter_in g n members r (local t k)) (entered (λ j. e j || (k == j)))
@@ -269,7 +269,7 @@ module _ (g : GroupNo) (n : ℕ) (members : Membership) (request : ℕ) (t : Sta
       let f1 : Fits r1 u1 = fits_told r u f k row (fact.Time time) tt tt in
       let r2 : Records = tell_in r1 p (fact.Standing g Member) in
       let u2 : State = set_standing u1 k g Member in
-      let f2 : Fits r2 u2 = fits_member r1 u1 f1 k (still_in p (told_row (fact.Time time)) (λ _. refl) p r.delay.rows row) g listed new in
+      let f2 : Fits r2 u2 = fits_member r1 u1 f1 k (still_in p (told_row (fact.Time time)) (λ _. refl) p r.delay.rows row) g listed new.1 new.0 in
       subst (λ x. Fits (push_in (tell_in (tell_in r p (fact.Time (entering x g n))) p (fact.Standing g Member)) k view) (entered (λ j. e j || (k == j)))) (sym (time_there r u f k row))
       (subst (λ x. Fits (push_in r2 k view) x) (enter_one e k fresh) (fits_push r2 u2 f2 k view))
 
@@ -327,7 +327,7 @@ module _ (g : GroupNo) (n : ℕ) (members : Membership) (request : ℕ) (t : Sta
       let apart : (k : ℕ) → is_among proc_eq (local t k) ps ≡ true → proc_eq (local t k) p ≡ false =
       (λ k later. false_from_ne_true (proc_eq (local t k) p) (λ own. below_none p ps parts.0 (subst (λ x. is_among proc_eq x ps ≡ true) (same_proc (local t k) p own) later))) in
       subst (λ x. Fits (fold take (take r p) ps) (entered x)) (λ i k. either_of (e k) (taken k) (proc_eq (local t k) p) (is_among proc_eq (local t k) ps) i)
-      (fits_take_all ps (take r p) next step (ap (λ orders. log_of orders g) (take_orders r p) ∙ new) listed parts.1
+      (fits_take_all ps (take r p) next step (ap (λ orders. log_of orders g) (take_orders r p) ∙ new.0, new.1) listed parts.1
       (λ k later. or_from (e k) (taken k && proc_eq (local t k) p) (fresh k (or_right (proc_eq (local t k) p) (is_among proc_eq (local t k) ps) later)) (ap (λ b. taken k && b) (apart k later) ∙ and_none (taken k))))
 
 -- a view is complete
@@ -342,6 +342,7 @@ fits_complete r s f l i g at listed n members request cut typed newer =
     let name : (record_at r.groups i).name ≡ g = ap (λ (x : GroupRecord). x.name) (record_there r s f i g at) in
     let new : log_of first.orders g ≡ new_log g =
     ap (λ h. log_of (but_log h r.orders) g) name ∙ log_of_forget r.orders g g ∙ ap (λ b. if b then new_log g else log_of r.orders g) (group_itself g) in
-    let all = fits_take_all g n members request now members.list first (λ k. false) f0 new listed rising (λ k _. refl) in
+    let unclosed : is_pending (now.group g) ≡ false = ap (λ b. is_pending (if b then with_view s.here n members (s.group g) else s.group g)) (group_itself g) in
+    let all = fits_take_all g n members request now members.list first (λ k. false) f0 (new, unclosed) listed rising (λ k _. refl) in
     let one_by_one = subst (λ x. Fits (fold (take_in g n members request) first members.list) x) (sym (changed_at_once (in_view g n) (push.View g n members) now (enters s g members request) (open_given first now f0))) all in
     subst (λ h. Fits (fold (take_in h n members request) first members.list) (completing s g n members request cut)) (sym name) one_by_one

@@ -1,7 +1,7 @@
 -- What a rule changes of a domain's records it changes of their history.
 use Rattle.std.proofs.Common.{◌≡◌, ◌<◌, Bool, true, false, ◌&&◌, ◌||◌, List, [], ◌∷◌, length, map, filter, ℕ, zero, suc, ◌+◌, Some, refl, sym, ap, subst, ◌∙◌, Option, None, arith}
 use Rattle.std.specs.Prelude.{◌==◌, nat_lt, slice_get}
-use Rattle.std.specs.List.{list_any, range_with_len}
+use Rattle.std.specs.List.{list_all, list_any, range_with_len}
 use Rattle.std.proofs.lemmas.Bool.{and_parts, eqb-true, eq-eqb, ltb-true, or_right}
 use Rattle.std.proofs.lemmas.List.{length-map}
 use Rattle.cast_types.specs.declared.names.SiteNo.{SiteNo}
@@ -13,7 +13,10 @@ use Rattle.cast_types.specs.Sets.{is_among}
 use Rattle.cast_types.proofs.Bools.{same_bools, and_none}
 use Rattle.cast_types.proofs.Orders.{same_uid, uid_itself}
 use Rattle.cast_clock.specs.Times.{clock_of, count_in}
-use Rattle.cast_types.specs.Counts.{CountList}
+use Rattle.cast_types.specs.Counts.{CountList, is_within}
+use Rattle.cast_types.specs.Names.{group_eq}
+use Rattle.cast_message.specs.Stretch.{Stretch}
+use Rattle.cast_order.specs.Log.{log_of, change_log, closed_by}
 use Rattle.cast_message.specs.declared.message.Message.{Message}
 use Rattle.cast_message.specs.declared.message.Received.{Received}
 use Rattle.cast_message.specs.declared.site.SiteFrame.{SiteFrame}
@@ -25,24 +28,29 @@ use Rattle.cast_stable.specs.Ledger.{is_received_in, source_of}
 use Rattle.cast_stable.proofs.Meanings.{stable_meant}
 use Rattle.std.specs.Prelude.{IsSome}
 use Rattle.std.proofs.lemmas.Bool.{false≢true}
-use Rattle.cast_delay.specs.Ready.{Process, is_outside}
+use Rattle.cast_delay.specs.Ready.{Process, frozen_gate, pending_gate, is_outside}
+use Rattle.cast_delay.proofs.Queues.{freeze_fits, pend_fits}
 use Rattle.cast_delay.specs.declared.row.Row.{Row}
 use Rattle.cast_delay.specs.Queue.{row_of}
 use Rattle.cast_delay.specs.Fits.{IsSound, StandsFor}
 use Rattle.cast_delay.specs.declared.row.Fact.TheVariants as fact
-use Rattle.cast_view.specs.MemberSide.{with_request, with_answer, with_view, has_view, is_current, members_of}
+use Rattle.cast_timer.specs.declared.key.OwedKind.TheVariants.{Want}
+use Rattle.cast_timer.specs.Owed.{is_owed}
+use Rattle.cast_view.specs.declared.member.Pending.{Pending}
+use Rattle.cast_view.specs.MemberSide.{is_pending, with_request, with_answer, frozen_side, with_pending, with_view, has_view, is_current, members_of}
 use Rattle.cast_model.specs.Session.{is_open, is_gone}
 use Rattle.cast_view.specs.Home.{moved}
 use Rattle.cast_history.specs.State.{State, gate_of, local, serials, set_group, set_standing, outside, acts_outside, is_received, receiving, others_of, noting_sent}
 use Rattle.cast_history.specs.Effects.{next_message}
-use Rattle.cast_history.specs.Entering.{enters, all_in_view, push_view, putting_out, passing}
+use Rattle.cast_history.specs.Entering.{freezing, pending_install, enters, all_in_view, push_view, putting_out, passing}
 use Rattle.cast_history.specs.History.{history}
 use Rattle.cast_history.specs.Lawful.{IsLawful, IsTypedFrame}
-use Rattle.cast_history.specs.Rules.Data.{counts_itself}
+use Rattle.cast_history.specs.Rules.Keys.{message_key}
+use Rattle.cast_history.specs.Rules.Data.{counts_itself, is_well_formed}
 use Rattle.cast_history.specs.Rules.Commands.{message_sent, commanded, end_session}
 use Rattle.cast_history.specs.Rules.Home.{suspect}
 use Rattle.cast_history.specs.Rules.Frames.{framed}
-use Rattle.cast_history.proofs.Rules.Follows.{FollowsAll, AllAt, IsTaken, sent_here, with_invariant, invariant_asks}
+use Rattle.cast_history.proofs.Rules.Follows.{FollowsAll, AllAt, IsTaken, IsBrought, sent_here, with_invariant, invariant_asks}
 use Rattle.cast_history.proofs.Rules.Data.{used_counts}
 use Rattle.cast_history.proofs.Rules.Commands.{commanded_follows, ended_follows}
 use Rattle.cast_history.proofs.Rules.Home.{suspect_follows}
@@ -51,9 +59,11 @@ use Rattle.cast_history.proofs.Lawful.{same_fold, same_pushing, put_out_same, lo
 use Rattle.cast_history.proofs.LawfulSteps.{placed_at, taken_current, entered, all_lawful, taken_foreign, taken_speaks}
 use Rattle.cast_domain.specs.declared.record.GroupRecord.{GroupRecord}
 use Rattle.cast_domain.specs.Records.{Records}
-use Rattle.cast_domain.specs.Calls.{standing_of, time_of, tell_in, receive_in, awaits_own_in, records}
-use Rattle.cast_domain.specs.Fits.{process_named, record_for, Fits, past_of}
-use Rattle.cast_domain.proofs.Standing.{process_here, record_there, standing_there, time_there, open_given, fits_push, fits_close, fits_go, fits_standing, fits_told, fits_acts, fits_here, fits_home, fits_receive}
+use Rattle.cast_domain.specs.Calls.{record_at, standing_of, time_of, tell_in, receive_in, freeze_in, pend_in, awaits_own_in, records}
+use Rattle.cast_domain.specs.Fits.{process_named, record_for, LogFits, Fits, past_of}
+use Rattle.cast_domain.proofs.Standing.{process_here, record_there, standing_there, time_there, open_given, fits_push, fits_close, fits_go, fits_standing, fits_told, fits_acts, fits_here, fits_gated, orders_group, fits_home, fits_receive}
+use Rattle.cast_domain.proofs.Logs.{logs_close}
+use Rattle.cast_domain.proofs.Reports.{report_there}
 use Rattle.cast_domain.proofs.Following.{records_ask, FitsIn, IsAt, records_follow, asked_of}
 use Rattle.cast_domain.proofs.Passing.{fits_pass}
 use Rattle.cast_domain.proofs.Releases.{fits_release_ended}
@@ -110,7 +120,42 @@ fits_taken : (r : Records) (s : State) → Fits r s → (g : GroupNo) (from : Si
 fits_taken r s f g from m taken =
     fits_receive r s f m (sound_counts m (used_counts history s g from m taken.used))
     (eq-eqb m.id.view (s.group m.id.group).number (taken_current s g from m taken))
-    (none_ours s m (taken_foreign s g from m taken))
+    (λ _. none_ours s m (taken_foreign s g from m taken))
+
+-- a message that the home forwards is of the view of its group, in which an Install waits, and well formed in it
+brought_waits : (s : State) (g : GroupNo) (m : Message) → IsBrought history s g m → is_pending (s.group m.id.group) ≡ true
+brought_waits s g m brought =
+    let there = placed_at s m.id.group g brought.at in
+    let waits = and_parts (is_pending (s.group g)) _ brought.wanted in
+    ap (λ h. is_pending (s.group h)) there.1 ∙ waits.0
+
+fits_brought : (r : Records) (s : State) → Fits r s → (g : GroupNo) (m : Message) → IsBrought history s g m → Fits (receive_in r m) (receiving s m)
+fits_brought r s f g m brought =
+    let there = placed_at s m.id.group g brought.at in
+    let a = and_parts (is_pending (s.group g)) _ brought.wanted in
+    let b = and_parts (is_owed s.owed (message_key Want m.id s.config.home)) _ a.1 in
+    let c = and_parts (m.id.view == (s.group g).number) (is_well_formed history s (members_of (s.group g)) m) b.1 in
+    let d = and_parts (list_all (λ x. is_among group_eq x.0 s.config.groups) m.times) _ c.1 in
+    fits_receive r s f m (sound_counts m (and_parts (is_among proc_eq m.id.proc (members_of (s.group g))) (counts_itself m) d.1).1)
+    (ap (λ h. m.id.view == (s.group h).number) there.1 ∙ c.0)
+    (λ none. absurd (false≢true (sym none ∙ brought_waits s g m brought)))
+
+-- A flush at a site
+
+-- its group is frozen
+fits_freeze : (r : Records) (s : State) → Fits r s → IsLawful s → (i : ℕ) (g : GroupNo) → slice_get s.config.groups i ≡ Some g → Fits (freeze_in r i) (freezing s g)
+fits_freeze r s f l i g at =
+    fits_gated r s f l i g at frozen_side refl refl frozen_gate refl (freeze_fits s.config.groups (gate_of s) (process_named s) r.part.kept r.delay f.processes.delay g) r.orders s.closed
+    (orders_group s g (frozen_side (s.group g)) r.orders refl refl refl f.orders)
+
+-- an Install waits, and the order is closed
+fits_pend : (r : Records) (s : State) → Fits r s → IsLawful s → (i : ℕ) (g : GroupNo) → slice_get s.config.groups i ≡ Some g → (p : Pending) (tail : Stretch) → is_pending (s.group g) ≡ false → Fits (pend_in r i p tail) (pending_install s g p tail)
+fits_pend r s f l i g at p tail first =
+    let name : (record_at r.groups i).name ≡ g = ap (λ (x : GroupRecord). x.name) (record_there r s f i g at) in
+    fits_gated r s f l i g at (λ x. with_pending x p) refl refl (pending_gate p.cut) refl (pend_fits s.config.groups (gate_of s) (process_named s) r.part.kept r.delay f.processes.delay g p.cut)
+    (change_log (record_at r.groups i).name (closed_by (is_within p.cut) tail.start tail.ids) r.orders) (pending_install s g p tail).closed
+    (subst (λ h. (x : GroupNo) → LogFits (pending_install s g p tail) x (log_of (change_log h (closed_by (is_within p.cut) tail.start tail.ids) r.orders) x)) (sym name)
+    (logs_close s g p tail r.orders first f.orders))
 
 -- who is in a group, or joins it, has a row
 placed_row : (r : Records) (s : State) → Fits r s → (k : ℕ) (g : GroupNo) → is_outside ((s.process k).standing g) ≡ false → IsSome (row_of r.delay.rows (local s k))
@@ -197,10 +242,14 @@ module _ (groups : List GroupNo) where
           all_lawful.sends s f.1 h k g content sent,
         );
     receive = λ r s f g from m taken. ((fits_taken r s f.0.0 g from m taken, f.0.1), all_lawful.receive s f.1 g from m taken);
+    brings = λ r s f g m brought. ((fits_brought r s f.0.0 g m brought, f.0.1), all_lawful.brings s f.1 g m brought);
+    report = λ r s f i g at first. report_there r s f.0.0 f.1 i g (there r s f i g at) first;
+    freeze = λ r s f i g at. ((fits_freeze r s f.0.0 f.1 i g (there r s f i g at), f.0.1), all_lawful.freeze s f.1 g);
+    pend = λ r s f i g at p tail pended. ((fits_pend r s f.0.0 f.1 i g (there r s f i g at) p tail pended.first, f.0.1), all_lawful.pend s f.1 g p tail pended);
     note_request = λ r s f i g at what p.
-        ((fits_here r s f.0.0 f.1 i g (there r s f i g at) (λ x. with_request x what p) refl refl, f.0.1), all_lawful.note_request s f.1 g what p);
+        ((fits_here r s f.0.0 f.1 i g (there r s f i g at) (λ x. with_request x what p) refl refl refl refl, f.0.1), all_lawful.note_request s f.1 g what p);
     note_answer = λ r s f i g at.
-        ((fits_here r s f.0.0 f.1 i g (there r s f i g at) with_answer refl refl, f.0.1), all_lawful.note_answer s f.1 g);
+        ((fits_here r s f.0.0 f.1 i g (there r s f i g at) with_answer refl refl refl refl, f.0.1), all_lawful.note_answer s f.1 g);
     move_home = λ r s f i g at move. ((fits_home r s f.0.0 f.1 i g (there r s f i g at) (moved move), f.0.1), all_lawful.move_home s f.1 g move);
     enter_view = λ r s f i g at h skips n members request cut is. let e = entered s g h n members is in (
       (

@@ -23,3 +23,6 @@ pub mod Resting
 pub mod Standstill
 pub mod Events
 pub mod Passes
+pub mod Reports
+pub mod Least
+pub mod Marks

@@ -14,6 +14,7 @@ use Rattle.cast_types.specs.declared.names.Uid.{Uid}
 use Rattle.cast_types.specs.declared.limits.TheConstants.{MAX_NUMBER}
 use Rattle.cast_types.specs.Names.{Entry, site_eq, group_eq, proc_eq, entry_eq, uid_eq, is_atomic, is_order, named, entry_of}
 use Rattle.cast_types.specs.Sets.{is_among, set_at}
+use Rattle.cast_types.specs.Counts.{CountList}
 use Rattle.cast_types.proofs.Orders.{same_group, group_itself, same_proc, proc_itself, site_itself}
 use Rattle.cast_clock.specs.Times.{join}
 use Rattle.cast_message.specs.declared.message.Body.TheVariants as body
@@ -23,14 +24,18 @@ use Rattle.cast_message.specs.Sequence.{Sequence}
 use Rattle.cast_delay.specs.Ready.{Process, is_member, has_delivered}
 use Rattle.cast_order.specs.Order.{facts_of}
 use Rattle.cast_order.specs.Log.{Log, log_of, change_log, learnt, next_in, next_places, passed, told, assigned}
+use Rattle.cast_order.specs.Fits.{FitsClosed}
 use Rattle.cast_order.proofs.Meanings.{learnt_group, learn_fits, tell_fits, assign_fits, pass_fits, more_fits}
+use Rattle.cast_order.proofs.Closed.{closed_pass, closed_more, closed_tell}
 use Rattle.cast_order.proofs.Logs.{log_of_change}
-use Rattle.cast_view.specs.MemberSide.{holder_of, is_process, holder_at}
-use Rattle.cast_history.specs.State.{State, no_process, local, receiving, abcasts_with, with_delivery}
-use Rattle.cast_history.specs.Order.{told_by, is_of_view, facts_in, holds, abcasts_delivered}
+use Rattle.cast_delay.specs.Ready.{is_cut_by, is_open_to}
+use Rattle.cast_view.specs.declared.member.Pending.{Pending}
+use Rattle.cast_view.specs.MemberSide.{holder_of, is_process, is_pending, holder_at}
+use Rattle.cast_history.specs.State.{State, no_process, local, cut_of, gate_of, receiving, abcasts_with, with_delivery}
+use Rattle.cast_history.specs.Order.{told_by, is_of_view, facts_in, holds, sets_order, abcasts_delivered}
 use Rattle.cast_history.specs.Lawful.{IsTraced}
-use Rattle.cast_domain.specs.Fits.{process_named, told_here, lists_here, settled_here, goes_on, LogFits}
-use Rattle.cast_domain.proofs.Logs.{has_passed, WereMembers, sets, list_in, lists_by, filter_skips, filter_takes, facts_push, log_made, log_alike, log_apart, other_group}
+use Rattle.cast_domain.specs.Fits.{process_named, told_here, lists_here, settled_here, goes_on, has_passed, TellsOrder, LogFits}
+use Rattle.cast_domain.proofs.Logs.{WereMembers, sets, list_in, lists_by, filter_skips, filter_takes, facts_push, tells_made, log_alike, learnt_base, log_apart, other_group}
 
 -- The holder
 
@@ -158,18 +163,26 @@ none_left t (x ∷ xs) none =
       | false ↦ λ found. absurd (none-some x (sym found))
     ] none
 
--- the logs once a process has delivered a message: the holder of the group's view has one more ABCAST to list, another
+-- the logs once a process has delivered a message: the holder that sets the order has one more ABCAST to list, another
 -- process passed so many places
 abbrev pub noting : State → ℕ → Message → ℕ → List Log → List Log
 noting s k m n orders =
     if is_atomic (kind_of m.body)
-    then (if holds s m.id.group k then change_log m.id.group (told (entry_of m.id)) orders else change_log m.id.group (passed (local s k) n) orders)
+    then (if sets_order s m.id.group k then change_log m.id.group (told (entry_of m.id)) orders else change_log m.id.group (passed (local s k) n) orders)
     else orders
+
+-- a group that delivers a message while a flush has frozen it has an Install that waits
+frozen_waits : (s : State) (g : GroupNo) (e : Entry) → is_open_to (gate_of s g) e ≡ true → (s.group g).frozen ≡ true → is_pending (s.group g) ≡ false → ⊥
+frozen_waits s g e opens frozen none = false≢true (sym (ap (λ b. not b || is_cut_by (cut_of (s.group g)) e) frozen ∙ nothing (s.group g).pending none) ∙ opens)
+  where
+    nothing : (o : Option Pending) → (elim o as (λ _. Bool) [ Some p ↦ true | None ↦ false ]) ≡ false → is_cut_by (elim o as (λ _. Option CountList) [ Some p ↦ Some p.cut | None ↦ None ]) e ≡ false
+    nothing (Some p) none = absurd (false≢true (sym none))
+    nothing None none = refl
 
 -- the logs tell of the orders still once a process has delivered a message of a current view that it had not delivered,
 -- and passed places of ids that it has delivered
-pub logs_deliver : (s : State) (k : ℕ) (m : Message) (n : ℕ) (orders : List Log) → IsTraced s → ((h : GroupNo) → LogFits s h (log_of orders h)) → has_delivered (s.process k) m.id ≡ false → is_of_view s m.id.group m.id ≡ true → find (λ e. not (has_passed (with_delivery s k m) m.id.group (local s k) e)) (take n (next_in (log_of orders m.id.group) (local s k))) ≡ None → (h : GroupNo) → LogFits (with_delivery s k m) h (log_of (noting s k m n orders) h)
-logs_deliver s k m n orders traced fits fresh current passes h = at (is_atomic (kind_of m.body)) refl (holds s m.id.group k) refl
+pub logs_deliver : (s : State) (k : ℕ) (m : Message) (n : ℕ) (orders : List Log) → IsTraced s → ((h : GroupNo) → LogFits s h (log_of orders h)) → has_delivered (s.process k) m.id ≡ false → is_of_view s m.id.group m.id ≡ true → is_open_to (gate_of s m.id.group) (entry_of m.id) ≡ true → find (λ e. not (has_passed (with_delivery s k m) m.id.group (local s k) e)) (take n (next_in (log_of orders m.id.group) (local s k))) ≡ None → (h : GroupNo) → LogFits (with_delivery s k m) h (log_of (noting s k m n orders) h)
+logs_deliver s k m n orders traced fits fresh current opens passes h = at (is_atomic (kind_of m.body)) refl (sets_order s m.id.group k) refl
   where
     g : GroupNo
     g = m.id.group
@@ -177,14 +190,20 @@ logs_deliver s k m n orders traced fits fresh current passes h = at (is_atomic (
     t : State
     t = with_delivery s k m
 
-    -- a log that stays, where the ABCASTs of the holder here do
-    stays : (x : GroupNo) → told_here t x ≡ told_here s x → LogFits t x (log_of orders x)
-    stays x same =
-        let f = fits x in
-        log_made t x (log_of orders x) (facts_in s x) (told_here s x) (lists_here s x) refl same refl f.stable f.reached
+    tells_still : (x : GroupNo) → told_here t x ≡ told_here s x → TellsOrder s x (log_of orders x) → TellsOrder t x (log_of orders x)
+    tells_still x same f =
+        tells_made t x (log_of orders x) (facts_in s x) (told_here s x) (lists_here s x) refl same refl f.stable f.reached
         (more_fits (facts_in s x) (told_here s x) (lists_here s x) (goes_on s x) (has_passed s x) f.stable (log_of orders x) f.fits (goes_on t x) (has_passed t x) f.stable (same_standing s k m x)
         (λ p e is. more_delivered s k m p (named x (s.group x).number e) is) (omega arith))
         f.counted
+
+    -- a closed order stays, and processes deliver more of it
+    closed_still : (x : GroupNo) (l : Log) → FitsClosed (s.closed x) (goes_on s x) (has_passed s x) l → FitsClosed (t.closed x) (goes_on t x) (has_passed t x) l
+    closed_still x l f = closed_more (s.closed x) (goes_on s x) (has_passed s x) l f (goes_on t x) (has_passed t x) (same_standing s k m x) (λ p e is. more_delivered s k m p (named x (s.group x).number e) is)
+
+    -- a log that stays, where the ABCASTs of the holder here do
+    stays : (x : GroupNo) → told_here t x ≡ told_here s x → LogFits t x (log_of orders x)
+    stays x same = record { whole = (fits x).whole; tells = λ none. tells_still x same ((fits x).tells none); closed = λ waits. closed_still x (log_of orders x) ((fits x).closed waits) }
 
     changed : (f : Log → Log) → ((l : Log) → (f l).group ≡ l.group) → LogFits t g (f (log_of orders g)) → (group_eq g h ≡ false → LogFits t h (log_of orders h)) → LogFits t h (log_of (change_log g f orders) h)
     changed f keeps own other =
@@ -199,29 +218,51 @@ logs_deliver s k m n orders traced fits fresh current passes h = at (is_atomic (
     apart_stays : group_eq g h ≡ false → LogFits t h (log_of orders h)
     apart_stays apart = stays h (told_same s k m h (λ p is same. other_group s h m apart))
 
-    tells : is_atomic (kind_of m.body) ≡ true → holds s g k ≡ true → LogFits t g (told (entry_of m.id) (log_of orders g))
-    tells atomic here =
-        let f = fits g in
+    tells_more : is_atomic (kind_of m.body) ≡ true → holds s g k ≡ true → TellsOrder s g (log_of orders g) → TellsOrder t g (told (entry_of m.id) (log_of orders g))
+    tells_more atomic here f =
         let unnoted : is_among uid_eq m.id (s.abcasts k) ≡ false = false_from_ne_true (is_among uid_eq m.id (s.abcasts k)) (λ is. false≢true (sym fresh ∙ traced.delivered k m.id is)) in
         let unlisted : is_among entry_eq (entry_of m.id) (told_here s g) ≡ false =
         ap (λ o. is_among entry_eq (entry_of m.id) (option_map_or (λ p. abcasts_delivered s g p.serial) o [])) (holder_is s g k here) ∙ not_noted s g m.id (s.abcasts k) current unnoted in
-        log_made t g (told (entry_of m.id) (log_of orders g)) (facts_in s g) (told_here s g ++ entry_of m.id ∷ []) (lists_here s g) refl (told_more s k m atomic current here) refl f.stable f.reached
+        tells_made t g (told (entry_of m.id) (log_of orders g)) (facts_in s g) (told_here s g ++ entry_of m.id ∷ []) (lists_here s g) refl (told_more s k m atomic current here) refl f.stable f.reached
         (more_fits (facts_in s g) (told_here s g ++ entry_of m.id ∷ []) (lists_here s g) (goes_on s g) (has_passed s g) f.stable (told (entry_of m.id) (log_of orders g))
         (tell_fits (facts_in s g) (told_here s g) (lists_here s g) (goes_on s g) (has_passed s g) f.stable (log_of orders g) f.fits (entry_of m.id) unlisted)
         (goes_on t g) (has_passed t g) f.stable (same_standing s k m g) (λ p e is. more_delivered s k m p (named g (s.group g).number e) is) (omega arith))
         f.counted
 
-    passes_on : holds s g k ≡ false → LogFits t g (passed (local s k) n (log_of orders g))
-    passes_on away =
-        let f = stays g (told_same s k m g (λ p is same. absurd (false≢true (sym (holder_not s g k away p is) ∙ same)))) in
-        log_made t g (passed (local s k) n (log_of orders g)) (facts_in t g) (told_here t g) (lists_here t g) refl refl refl f.stable f.reached
-        (pass_fits (facts_in t g) (told_here t g) (lists_here t g) (goes_on t g) (has_passed t g) f.stable (log_of orders g) f.fits (local s k) n
-        (none_left (has_passed t g (local s k)) (take n (next_in (log_of orders g) (local s k))) passes))
+    tells : is_atomic (kind_of m.body) ≡ true → sets_order s g k ≡ true → LogFits t g (told (entry_of m.id) (log_of orders g))
+    tells atomic sets = record {
+      whole = (fits g).whole;
+      tells = λ none. tells_more atomic (and_parts (holds s g k) (not (s.group g).frozen) sets).0 ((fits g).tells none);
+      closed = λ waits. closed_tell (t.closed g) (goes_on t g) (has_passed t g) (log_of orders g) (closed_still g (log_of orders g) ((fits g).closed waits)) (entry_of m.id);
+    }
+
+    all_passed : list_all (has_passed t g (local s k)) (take n (next_in (log_of orders g) (local s k))) ≡ true
+    all_passed = none_left (has_passed t g (local s k)) (take n (next_in (log_of orders g) (local s k))) passes
+
+    tells_passed : holds s g k ≡ false → TellsOrder s g (log_of orders g) → TellsOrder t g (passed (local s k) n (log_of orders g))
+    tells_passed away before =
+        let f = tells_still g (told_same s k m g (λ p is same. absurd (false≢true (sym (holder_not s g k away p is) ∙ same)))) before in
+        tells_made t g (passed (local s k) n (log_of orders g)) (facts_in t g) (told_here t g) (lists_here t g) refl refl refl f.stable f.reached
+        (pass_fits (facts_in t g) (told_here t g) (lists_here t g) (goes_on t g) (has_passed t g) f.stable (log_of orders g) f.fits (local s k) n all_passed)
         f.counted
 
-    at : (b : Bool) → is_atomic (kind_of m.body) ≡ b → (c : Bool) → holds s g k ≡ c → LogFits t h (log_of (if b then (if c then change_log g (told (entry_of m.id)) orders else change_log g (passed (local s k) n) orders) else orders) h)
+    passes_on : sets_order s g k ≡ false → LogFits t g (passed (local s k) n (log_of orders g))
+    passes_on follows = record {
+      whole = (fits g).whole;
+      tells = λ none. elim (cases_Bool (holds s g k)) [
+        | inl here ↦ absurd (frozen_waits s g (entry_of m.id) opens (is_frozen (s.group g).frozen (sym (ap (λ b. b && not (s.group g).frozen) here) ∙ follows)) none)
+        | inr away ↦ tells_passed away ((fits g).tells none)
+      ];
+      closed = λ waits. closed_pass (t.closed g) (goes_on t g) (has_passed t g) (log_of orders g) (closed_still g (log_of orders g) ((fits g).closed waits)) (local s k) n all_passed;
+    }
+      where
+        is_frozen : (b : Bool) → not b ≡ false → b ≡ true
+        is_frozen true is = refl
+        is_frozen false is = absurd (false≢true (sym is))
+
+    at : (b : Bool) → is_atomic (kind_of m.body) ≡ b → (c : Bool) → sets_order s g k ≡ c → LogFits t h (log_of (if b then (if c then change_log g (told (entry_of m.id)) orders else change_log g (passed (local s k) n) orders) else orders) h)
     at false plain c held =
-        log_alike s t h (log_of orders h) refl refl refl refl (λ j. ap (λ b. (if b then set_at (λ x y. x == y) s.abcasts k (s.abcasts k ++ m.id ∷ []) else s.abcasts) j) plain) (omega arith) (same_standing s k m h) (more_delivered s k m) (fits h)
+        log_alike s t h (log_of orders h) refl refl refl refl refl refl (λ j. ap (λ b. (if b then set_at (λ x y. x == y) s.abcasts k (s.abcasts k ++ m.id ∷ []) else s.abcasts) j) plain) (omega arith) (same_standing s k m h) (more_delivered s k m) (fits h)
     at true atomic true held = changed (told (entry_of m.id)) (λ l. refl) (tells atomic held) apart_stays
     at true atomic false held = changed (passed (local s k) n) (λ l. refl) (passes_on held) apart_stays
 
@@ -229,8 +270,8 @@ logs_deliver s k m n orders traced fits fresh current passes h = at (is_atomic (
 
 -- the logs tell of the orders still once the holder has sent a set-order message with the places that are next, noted
 -- when so many of its messages were stable
-pub logs_place : (s : State) (k : ℕ) (m : Message) (q : Sequence) (n : ℕ) (orders : List Log) → ((h : GroupNo) → LogFits s h (log_of orders h)) → holds s m.id.group k ≡ true → is_of_view s m.id.group m.id ≡ true → m.id.proc ≡ local s k → m.body ≡ body.Order q → Some q ≡ next_places (log_of orders m.id.group) → n ≡ settled_here s m.id.group → m.id.count ≤ MAX_NUMBER → (h : GroupNo) → LogFits (receiving s m) h (log_of (change_log m.id.group (learnt q) (change_log m.id.group (assigned m.id.count n) orders)) h)
-logs_place s k m q n orders fits here current own is next settled most h =
+pub logs_place : (s : State) (k : ℕ) (m : Message) (q : Sequence) (n : ℕ) (orders : List Log) → ((h : GroupNo) → LogFits s h (log_of orders h)) → is_pending (s.group m.id.group) ≡ false → holds s m.id.group k ≡ true → is_of_view s m.id.group m.id ≡ true → m.id.proc ≡ local s k → m.body ≡ body.Order q → Some q ≡ next_places (log_of orders m.id.group) → n ≡ settled_here s m.id.group → m.id.count ≤ MAX_NUMBER → (h : GroupNo) → LogFits (receiving s m) h (log_of (change_log m.id.group (learnt q) (change_log m.id.group (assigned m.id.count n) orders)) h)
+logs_place s k m q n orders fits unclosed here current own is next settled most h =
     subst (LogFits t h) (sym (log_of_change noted g h (learnt q) (learnt_group q)))
     (elim (cases_Bool (group_eq g h)) [
       | inl same ↦
@@ -263,11 +304,10 @@ logs_place s k m q n orders fits here current own is next settled most h =
         ∙ ap (λ b. lists_by s.here (s.group g).number g s.got k ++ list_in (record m { body = b }) ∷ []) is
         ∙ ap (λ o. option_map_or (λ p. lists_by s.here (s.group g).number g s.got p.serial) o [] ++ (m.id.count, q.ids) ∷ []) (sym (holder_is s g k here))
 
-    places : LogFits t g (learnt q (assigned m.id.count n (log_of orders g)))
-    places =
-        let f = fits g in
+    tells_placed : TellsOrder s g (log_of orders g) → TellsOrder t g (learnt q (assigned m.id.count n (log_of orders g)))
+    tells_placed f =
         let reached = f.reached in
-        log_made t g (learnt q (assigned m.id.count n (log_of orders g))) (facts_in s g ++ facts_of q) (told_here s g) (lists_here s g ++ (m.id.count, q.ids) ∷ [])
+        tells_made t g (learnt q (assigned m.id.count n (log_of orders g))) (facts_in s g ++ facts_of q) (told_here s g) (lists_here s g ++ (m.id.count, q.ids) ∷ [])
         (facts_push s g m current ∙ ap (λ b. facts_in s g ++ told_by b) is) refl lists n (omega (arith, settled))
         (learn_fits (facts_in s g) (told_here s g) (lists_here s g ++ (m.id.count, q.ids) ∷ []) (goes_on s g) (has_passed s g) n (assigned m.id.count n (log_of orders g))
         (assign_fits (facts_in s g) (told_here s g) (lists_here s g) (goes_on s g) (has_passed s g) f.stable (log_of orders g) f.fits m.id.count n q next (omega (arith, reached, settled)))
@@ -276,3 +316,10 @@ logs_place s k m q n orders fits here current own is next settled most h =
           | inl before ↦ f.counted x before
           | inr last ↦ subst (λ (y : ℕ × List Entry). y.0 ≤ MAX_NUMBER) last most
         ])
+
+    places : LogFits t g (learnt q (assigned m.id.count n (log_of orders g)))
+    places = record {
+      whole = learnt_base q (assigned m.id.count n (log_of orders g)) ∙ (fits g).whole;
+      tells = λ _. tells_placed ((fits g).tells unclosed);
+      closed = λ waits. absurd (false≢true (sym unclosed ∙ waits));
+    }

@@ -1,9 +1,10 @@
 -- What is kept of a group's order goes on telling of the order of its view.
 use Rattle.std.proofs.Common.{◌≡◌, ℕ, ◌+◌, ◌<◌, ◌≤◌, Bool, true, false, cond, List, [], ◌∷◌, ◌++◌, map, Contains, Option, Some, None, refl, sym, ap, subst, ◌∙◌, inl, inr, arith}
-use Rattle.std.specs.Prelude.{◌&&◌, ◌==◌, if◌then◌else◌, filter}
-use Rattle.std.specs.List.{flat_map}
+use Rattle.std.specs.Prelude.{◌&&◌, ◌==◌, min, if◌then◌else◌, take, filter}
+use Rattle.std.specs.List.{flat_map, list_all}
 use Rattle.std.specs.Option.{option_map_or}
 use Rattle.std.proofs.lemmas.Bool.{cases_Bool, cases_lt, false≢true, false_from_ne_true, and_parts, or_left, or_right, eqb-true}
+use Rattle.std.proofs.Math.Nat.{zero-min}
 use Rattle.std.proofs.lemmas.List.{append-nil}
 use Rattle.std.proofs.lemmas.List.Elements.{filter-append}
 use Rattle.std.proofs.lemmas.List.Folds.{list_any-append}
@@ -22,29 +23,31 @@ use Rattle.cast_message.specs.declared.message.Message.{Message}
 use Rattle.cast_message.specs.Bodies.{kind_of}
 use Rattle.cast_message.specs.Membership.{Membership}
 use Rattle.cast_message.specs.Sequence.{Sequence}
+use Rattle.cast_message.specs.Stretch.{Stretch}
+use Rattle.cast_types.specs.Counts.{is_within}
 use Rattle.cast_stable.specs.Stable.{Acked, has_acked, stable_upto}
 use Rattle.cast_stable.proofs.Greatest.{stable_greatest}
 use Rattle.cast_delay.specs.Ready.{has_delivered}
 use Rattle.cast_types.proofs.Contains.{contains_here, contains_later}
-use Rattle.cast_order.specs.Order.{Facts, facts_of, Listing}
-use Rattle.cast_order.specs.Log.{Log, new_log, log_of, but_log, learnt, place_of}
+use Rattle.cast_order.specs.Order.{Facts, facts_of, Listing, closed_order}
+use Rattle.cast_order.specs.Log.{Log, length_of, new_log, log_of, but_log, change_log, closed_by, with_facts, settled, learnt, place_of}
 use Rattle.cast_order.specs.Fits.{Fits as OrderFits}
+use Rattle.cast_order.specs.Fits.{FitsClosed}
 use Rattle.cast_order.proofs.Meanings.{new_fits as order_new_fits, learnt_group, learn_fits, more_fits, at_start}
+use Rattle.cast_order.proofs.Closed.{close_fits, closed_learns, closed_more}
 use Rattle.cast_order.proofs.Logs.{log_of_change, log_of_forget}
-use Rattle.cast_view.specs.MemberSide.{MemberSide, no_group, holder_at, members_of, with_view}
+use Rattle.cast_view.specs.declared.member.Pending.{Pending}
+use Rattle.cast_view.specs.MemberSide.{MemberSide, no_group, is_pending, holder_at, members_of, with_pending, with_view}
 use Rattle.cast_view.specs.Sites.{other_sites}
 use Rattle.cast_view.specs.Home.{is_empty}
 use Rattle.cast_history.specs.State.{State, local, others_of, noting_ack, set_group, receiving}
-use Rattle.cast_history.specs.Order.{told_by, ids_told, is_of_view, facts_in}
+use Rattle.cast_history.specs.Order.{told_by, ids_told, is_of_view, facts_in, order_told}
+use Rattle.cast_history.specs.Entering.{pending_install}
 use Rattle.cast_domain.specs.Calls.{learn_in}
 use Rattle.cast_history.specs.Lawful.{IsTraced}
-use Rattle.cast_domain.specs.Fits.{process_named, told_here, lists_here, settled_of, settled_here, goes_on, LogFits}
+use Rattle.cast_domain.specs.Fits.{process_named, told_here, lists_here, settled_of, settled_here, goes_on, has_passed, TellsOrder, LogFits}
 
 -- Parts of a history that the order of a view is made of
-
--- a process has delivered an id of the group's view
-abbrev pub has_passed : State → GroupNo → Proc → Entry → Bool
-has_passed s g p e = has_delivered (process_named s p) (named g (s.group g).number e)
 
 -- an id of a view of a group
 abbrev is_in : ℕ → GroupNo → Uid → Bool
@@ -73,8 +76,8 @@ abbrev lists_as : SiteNo → Option Membership → ℕ → GroupNo → List Mess
 lists_as here view n g got = option_map_or (λ p. lists_by here n g got p.serial) (holder_at here (viewing view)) []
 
 -- a log tells of these facts, these ABCASTs and these lists, if they are those of the history
-pub log_made : (t : State) (g : GroupNo) (l : Log) (facts : Facts) (told : List Entry) (lists : Listing) → facts_in t g ≡ facts → told_here t g ≡ told → lists_here t g ≡ lists → (stable : ℕ) → stable ≤ settled_here t g → OrderFits facts told lists (goes_on t g) (has_passed t g) stable l → ((x : ℕ × List Entry) → Contains lists x → x.0 ≤ MAX_NUMBER) → LogFits t g l
-log_made t g l facts told lists at_facts at_told at_lists stable reached fits counted = record {
+pub tells_made : (t : State) (g : GroupNo) (l : Log) (facts : Facts) (told : List Entry) (lists : Listing) → facts_in t g ≡ facts → told_here t g ≡ told → lists_here t g ≡ lists → (stable : ℕ) → stable ≤ settled_here t g → OrderFits facts told lists (goes_on t g) (has_passed t g) stable l → ((x : ℕ × List Entry) → Contains lists x → x.0 ≤ MAX_NUMBER) → TellsOrder t g l
+tells_made t g l facts told lists at_facts at_told at_lists stable reached fits counted = record {
   stable = stable;
   reached = reached;
   fits = subst (λ (a : Facts × List Entry × Listing). OrderFits a.0 a.1 a.2 (goes_on t g) (has_passed t g) stable l) (λ i. (sym at_facts i, sym at_told i, sym at_lists i)) fits;
@@ -87,9 +90,9 @@ WereMembers s t g = (p : Proc) → goes_on t g p ≡ true → goes_on s g p ≡ 
 
 -- a history that has the same of a group's order, where processes may have delivered more, none is a member that was not,
 -- and more may be stable
-pub log_alike : (s t : State) (g : GroupNo) (l : Log) → t.here ≡ s.here → (t.group g).view ≡ (s.group g).view → (t.group g).number ≡ (s.group g).number → t.got ≡ s.got → ((k : ℕ) → t.abcasts k ≡ s.abcasts k) → settled_here s g ≤ settled_here t g → WereMembers s t g → ((p : Proc) (u : Uid) → has_delivered (process_named s p) u ≡ true → has_delivered (process_named t p) u ≡ true) → LogFits s g l → LogFits t g l
-log_alike s t g l here view number got abcasts settled were more f =
-    log_made t g l (facts_in s g) (told_here s g) (lists_here s g)
+pub tells_alike : (s t : State) (g : GroupNo) (l : Log) → t.here ≡ s.here → (t.group g).view ≡ (s.group g).view → (t.group g).number ≡ (s.group g).number → t.got ≡ s.got → ((k : ℕ) → t.abcasts k ≡ s.abcasts k) → settled_here s g ≤ settled_here t g → WereMembers s t g → ((p : Proc) (u : Uid) → has_delivered (process_named s p) u ≡ true → has_delivered (process_named t p) u ≡ true) → TellsOrder s g l → TellsOrder t g l
+tells_alike s t g l here view number got abcasts settled were more f =
+    tells_made t g l (facts_in s g) (told_here s g) (lists_here s g)
     (λ i. facts_as (number i) g (got i))
     (λ i. told_as (here i) (view i) (number i) g (λ k. abcasts k i))
     (λ i. lists_as (here i) (view i) (number i) g (got i))
@@ -98,19 +101,33 @@ log_alike s t g l here view number got abcasts settled were more f =
     (λ p e is. ap (λ n. has_delivered (process_named t p) (named g n e)) number ∙ more p (named g (s.group g).number e) is) (omega arith))
     f.counted
 
+-- the same of a log, and of one that is closed, where an Install waits as before
+pub log_alike : (s t : State) (g : GroupNo) (l : Log) → t.here ≡ s.here → (t.group g).view ≡ (s.group g).view → (t.group g).number ≡ (s.group g).number → is_pending (t.group g) ≡ is_pending (s.group g) → t.closed g ≡ s.closed g → t.got ≡ s.got → ((k : ℕ) → t.abcasts k ≡ s.abcasts k) → settled_here s g ≤ settled_here t g → WereMembers s t g → ((p : Proc) (u : Uid) → has_delivered (process_named s p) u ≡ true → has_delivered (process_named t p) u ≡ true) → LogFits s g l → LogFits t g l
+log_alike s t g l here view number waits closed got abcasts settled were more f = record {
+  whole = f.whole;
+  tells = λ none. tells_alike s t g l here view number got abcasts settled were more (f.tells (sym waits ∙ none));
+  closed = λ waiting.
+      subst (λ order. FitsClosed order (goes_on t g) (has_passed t g) l) (sym closed)
+      (closed_more (s.closed g) (goes_on s g) (has_passed s g) l (f.closed (sym waits ∙ waiting)) (goes_on t g) (has_passed t g) were
+      (λ p e is. ap (λ n. has_delivered (process_named t p) (named g n e)) number ∙ more p (named g (s.group g).number e) is));
+}
+
 -- or where any may be a member, if each is to go through all of the order
-pub log_starts : (s t : State) (g : GroupNo) (l : Log) → t.here ≡ s.here → (t.group g).view ≡ (s.group g).view → (t.group g).number ≡ (s.group g).number → t.got ≡ s.got → ((k : ℕ) → t.abcasts k ≡ s.abcasts k) → settled_here s g ≤ settled_here t g → ((p : Proc) → place_of l p ≡ 0) → ((p : Proc) (u : Uid) → has_delivered (process_named s p) u ≡ true → has_delivered (process_named t p) u ≡ true) → LogFits s g l → LogFits t g l
-log_starts s t g l here view number got abcasts settled none more f =
-    log_made t g l (facts_in s g) (told_here s g) (lists_here s g)
-    (λ i. facts_as (number i) g (got i))
-    (λ i. told_as (here i) (view i) (number i) g (λ k. abcasts k i))
-    (λ i. lists_as (here i) (view i) (number i) g (got i))
-    f.stable (let reached = f.reached in omega (arith, reached, settled))
-    (more_fits (facts_in s g) (told_here s g) (lists_here s g) (goes_on t g) (has_passed s g) f.stable l
-    (at_start (facts_in s g) (told_here s g) (lists_here s g) (goes_on s g) (has_passed s g) f.stable l f.fits none (goes_on t g))
-    (goes_on t g) (has_passed t g) f.stable (λ p is. is)
-    (λ p e is. ap (λ n. has_delivered (process_named t p) (named g n e)) number ∙ more p (named g (s.group g).number e) is) (omega arith))
-    f.counted
+pub log_starts : (s t : State) (g : GroupNo) (l : Log) → t.here ≡ s.here → (t.group g).view ≡ (s.group g).view → (t.group g).number ≡ (s.group g).number → is_pending (t.group g) ≡ false → is_pending (s.group g) ≡ false → t.got ≡ s.got → ((k : ℕ) → t.abcasts k ≡ s.abcasts k) → settled_here s g ≤ settled_here t g → ((p : Proc) → place_of l p ≡ 0) → ((p : Proc) (u : Uid) → has_delivered (process_named s p) u ≡ true → has_delivered (process_named t p) u ≡ true) → LogFits s g l → LogFits t g l
+log_starts s t g l here view number unclosed opened got abcasts settled none more whole = let f : TellsOrder s g l = whole.tells opened in record {
+  whole = whole.whole;
+  closed = λ waiting. absurd (false≢true (sym unclosed ∙ waiting));
+  tells = λ _. tells_made t g l (facts_in s g) (told_here s g) (lists_here s g)
+      (λ i. facts_as (number i) g (got i))
+      (λ i. told_as (here i) (view i) (number i) g (λ k. abcasts k i))
+      (λ i. lists_as (here i) (view i) (number i) g (got i))
+      f.stable (let reached = f.reached in omega (arith, reached, settled))
+      (more_fits (facts_in s g) (told_here s g) (lists_here s g) (goes_on t g) (has_passed s g) f.stable l
+      (at_start (facts_in s g) (told_here s g) (lists_here s g) (goes_on s g) (has_passed s g) f.stable l f.fits none (goes_on t g))
+      (goes_on t g) (has_passed t g) f.stable (λ p is. is)
+      (λ p e is. ap (λ n. has_delivered (process_named t p) (named g n e)) number ∙ more p (named g (s.group g).number e) is) (omega arith))
+      f.counted;
+}
 
 -- what is settled is the same where the group's view and the acknowledgements are
 abbrev settled_as : SiteNo → Option Membership → ℕ → GroupNo → List Acked → ℕ
@@ -152,44 +169,68 @@ lists_skip s g m foreign = at (holder_at s.here (s.group g))
     at (Some p) = ap (map list_in) (filter_skips (sets (s.group g).number g (local s p.serial)) s.got m (foreign p.serial))
 
 -- a message of another group, or another view
-pub log_apart : (s : State) (g : GroupNo) (m : Message) (l : Log) → is_of_view s g m.id ≡ false → LogFits s g l → LogFits (receiving s m) g l
-log_apart s g m l other f =
-    log_made (receiving s m) g l (facts_in s g) (told_here s g) (lists_here s g) (facts_skip s g m other) refl
+tells_apart : (s : State) (g : GroupNo) (m : Message) (l : Log) → is_of_view s g m.id ≡ false → TellsOrder s g l → TellsOrder (receiving s m) g l
+tells_apart s g m l other f =
+    tells_made (receiving s m) g l (facts_in s g) (told_here s g) (lists_here s g) (facts_skip s g m other) refl
     (lists_skip s g m (λ k. ap (λ b. b && (is_order (kind_of m.body) && proc_eq m.id.proc (local s k))) other))
     f.stable f.reached f.fits f.counted
+
+pub log_apart : (s : State) (g : GroupNo) (m : Message) (l : Log) → is_of_view s g m.id ≡ false → LogFits s g l → LogFits (receiving s m) g l
+log_apart s g m l other f = record { whole = f.whole; tells = λ none. tells_apart s g m l other (f.tells none); closed = f.closed }
 
 pub other_group : (s : State) (h : GroupNo) (m : Message) → group_eq m.id.group h ≡ false → is_of_view s h m.id ≡ false
 other_group s h m apart = ap (λ b. b && (m.id.view == (s.group h).number)) apart
 
 -- a message that tells nothing of an order
-log_silent : (s : State) (g : GroupNo) (m : Message) (l : Log) → told_by m.body ≡ [] → is_order (kind_of m.body) ≡ false → LogFits s g l → LogFits (receiving s m) g l
-log_silent s g m l silent plain f = elim (cases_Bool (is_of_view s g m.id)) [
-  | inr other ↦ log_apart s g m l other f
+tells_silent : (s : State) (g : GroupNo) (m : Message) (l : Log) → told_by m.body ≡ [] → is_order (kind_of m.body) ≡ false → TellsOrder s g l → TellsOrder (receiving s m) g l
+tells_silent s g m l silent plain f = elim (cases_Bool (is_of_view s g m.id)) [
+  | inr other ↦ tells_apart s g m l other f
   | inl current ↦
-      log_made (receiving s m) g l (facts_in s g) (told_here s g) (lists_here s g)
+      tells_made (receiving s m) g l (facts_in s g) (told_here s g) (lists_here s g)
       (facts_push s g m current ∙ ap (λ fs. facts_in s g ++ fs) silent ∙ append-nil (facts_in s g)) refl
       (lists_skip s g m (λ k. ap (λ b. b && (is_order (kind_of m.body) && proc_eq m.id.proc (local s k))) current ∙ ap (λ b. b && proc_eq m.id.proc (local s k)) plain))
       f.stable f.reached f.fits f.counted
 ]
 
+log_silent : (s : State) (g : GroupNo) (m : Message) (l : Log) → told_by m.body ≡ [] → is_order (kind_of m.body) ≡ false → LogFits s g l → LogFits (receiving s m) g l
+log_silent s g m l silent plain f = record { whole = f.whole; tells = λ none. tells_silent s g m l silent plain (f.tells none); closed = f.closed }
+
 -- a set-order message of another process
-log_learns : (s : State) (m : Message) (q : Sequence) (l : Log) → m.body ≡ body.Order q → is_of_view s m.id.group m.id ≡ true → IsForeign s m.id.group m → LogFits s m.id.group l → LogFits (receiving s m) m.id.group (learnt q l)
-log_learns s m q l is current foreign f =
+tells_learns : (s : State) (m : Message) (q : Sequence) (l : Log) → m.body ≡ body.Order q → is_of_view s m.id.group m.id ≡ true → IsForeign s m.id.group m → TellsOrder s m.id.group l → TellsOrder (receiving s m) m.id.group (learnt q l)
+tells_learns s m q l is current foreign f =
     let g : GroupNo = m.id.group in
-    log_made (receiving s m) g (learnt q l) (facts_in s g ++ facts_of q) (told_here s g) (lists_here s g)
+    tells_made (receiving s m) g (learnt q l) (facts_in s g ++ facts_of q) (told_here s g) (lists_here s g)
     (facts_push s g m current ∙ ap (λ b. facts_in s g ++ told_by b) is) refl (lists_skip s g m foreign)
     f.stable f.reached (learn_fits (facts_in s g) (told_here s g) (lists_here s g) (goes_on s g) (has_passed s g) f.stable l f.fits q) f.counted
 
+-- nothing of an order is forgotten as one is learnt
+pub learnt_base : (q : Sequence) (l : Log) → (learnt q l).base ≡ l.base
+learnt_base q l = elim l.closed as (λ b. (if b then l else settled (record l { later = with_facts (length_of l) l.later (facts_of q) })).base ≡ l.base) [ true ↦ refl | false ↦ refl ]
+
+-- one that is closed stays
+closed_stays : (s : State) (m : Message) (q : Sequence) (l : Log) → FitsClosed (s.closed m.id.group) (goes_on s m.id.group) (has_passed s m.id.group) l → FitsClosed ((receiving s m).closed m.id.group) (goes_on (receiving s m) m.id.group) (has_passed (receiving s m) m.id.group) (learnt q l)
+closed_stays s m q l f =
+    let g : GroupNo = m.id.group in
+    subst (λ x. FitsClosed (s.closed g) (goes_on s g) (has_passed s g) x) (sym (closed_learns (s.closed g) (goes_on s g) (has_passed s g) l f q)) f
+
+-- a set-order message: of a process here only where the order is closed
+log_learns : (s : State) (m : Message) (q : Sequence) (l : Log) → m.body ≡ body.Order q → is_of_view s m.id.group m.id ≡ true → (is_pending (s.group m.id.group) ≡ false → IsForeign s m.id.group m) → LogFits s m.id.group l → LogFits (receiving s m) m.id.group (learnt q l)
+log_learns s m q l is current foreign f = record {
+  whole = learnt_base q l ∙ f.whole;
+  tells = λ none. tells_learns s m q l is current (foreign none) (f.tells none);
+  closed = λ waits. closed_stays s m q l (f.closed waits);
+}
+
 -- each log tells of its order still once a message of the current view of its group is received, which is no set-order
--- message of the holder here
-pub logs_receive : (s : State) (m : Message) (orders : List Log) → ((g : GroupNo) → LogFits s g (log_of orders g)) → m.id.view == (s.group m.id.group).number ≡ true → ((k : ℕ) → (is_order (kind_of m.body) && proc_eq m.id.proc (local s k)) ≡ false) → (h : GroupNo) → LogFits (receiving s m) h (log_of (learn_in orders m.id.group m.body) h)
+-- message of the holder here, but where an Install waits
+pub logs_receive : (s : State) (m : Message) (orders : List Log) → ((g : GroupNo) → LogFits s g (log_of orders g)) → m.id.view == (s.group m.id.group).number ≡ true → (is_pending (s.group m.id.group) ≡ false → (k : ℕ) → (is_order (kind_of m.body) && proc_eq m.id.proc (local s k)) ≡ false) → (h : GroupNo) → LogFits (receiving s m) h (log_of (learn_in orders m.id.group m.body) h)
 logs_receive s m orders fits current foreign h = at m.body refl
   where
     now : is_of_view s m.id.group m.id ≡ true
     now = ap (λ b. b && (m.id.view == (s.group m.id.group).number)) (group_itself m.id.group) ∙ current
 
-    not_ours : IsForeign s m.id.group m
-    not_ours k = ap (λ b. b && (is_order (kind_of m.body) && proc_eq m.id.proc (local s k))) now ∙ foreign k
+    not_ours : is_pending (s.group m.id.group) ≡ false → IsForeign s m.id.group m
+    not_ours none k = ap (λ b. b && (is_order (kind_of m.body) && proc_eq m.id.proc (local s k))) now ∙ foreign none k
 
     at : (b : Body) → m.body ≡ b → LogFits (receiving s m) h (log_of (learn_in orders m.id.group b) h)
     at (body.Causal payload) is = log_silent s h m (log_of orders h) (ap told_by is) (ap (λ b. is_order (kind_of b)) is) (fits h)
@@ -227,10 +268,10 @@ old_view s h n u reached later = false_from_ne_true (is_in n h u) (λ is.
     omega (arith, here, same, reached, later))
 
 -- of a later view nothing was told, delivered or listed
-log_new : (s t : State) (h : GroupNo) (l : Log) → IsTraced s → t.got ≡ s.got → ((k : ℕ) → t.abcasts k ≡ s.abcasts k) → (s.group h).number < (t.group h).number → OrderFits [] [] [] (goes_on t h) (has_passed t h) 0 l → LogFits t h l
+log_new : (s t : State) (h : GroupNo) (l : Log) → IsTraced s → t.got ≡ s.got → ((k : ℕ) → t.abcasts k ≡ s.abcasts k) → (s.group h).number < (t.group h).number → OrderFits [] [] [] (goes_on t h) (has_passed t h) 0 l → TellsOrder t h l
 log_new s t h l traced got noted later fits =
     let n : ℕ = (t.group h).number in
-    log_made t h l [] [] []
+    tells_made t h l [] [] []
     (ap (facts_as n h) got ∙ ap (flat_map (λ m. told_by m.body)) (all_fail (λ m. is_in n h m.id) s.got (λ m at. old_view s h n m.id (traced.reached m at) later)))
     (told_none (holder_at t.here (t.group h)))
     (lists_none (holder_at t.here (t.group h)))
@@ -260,14 +301,68 @@ logs_view s g n members orders traced later fits h =
           let number : (t.group h).number ≡ n = ap (λ b. (if b then w else s.group h).number) same in
           let before : (s.group h).number < n = subst (λ x. (s.group x).number < n) (same_group g h same) later in
           subst (LogFits t h) (sym (ap (λ b. if b then new_log g else log_of orders h) same))
-          (log_new s t h (new_log g) traced refl (λ k. refl) (omega (arith, number, before)) (order_new_fits g (goes_on t h) (has_passed t h)))
+          (record {
+            whole = refl;
+            tells = λ _. log_new s t h (new_log g) traced refl (λ k. refl) (omega (arith, number, before)) (order_new_fits g (goes_on t h) (has_passed t h));
+            closed = λ waits. absurd (false≢true (sym (ap (λ b. is_pending (if b then w else s.group h)) same) ∙ waits));
+          })
       | inr apart ↦
           let view : (t.group h).view ≡ (s.group h).view = ap (λ b. (if b then w else s.group h).view) apart in
           let number : (t.group h).number ≡ (s.group h).number = ap (λ b. (if b then w else s.group h).number) apart in
           let settled = settled_same s t h refl view number refl in
           subst (LogFits t h) (sym (ap (λ b. if b then new_log g else log_of orders h) apart))
-          (log_alike s t h (log_of orders h) refl view number refl (λ k. refl) (omega (arith, settled)) (λ p is. is) (λ p u is. is) (fits h))
+          (log_alike s t h (log_of orders h) refl view number (ap (λ b. is_pending (if b then w else s.group h)) apart) refl refl (λ k. refl) (omega (arith, settled)) (λ p is. is) (λ p u is. is) (fits h))
     ])
+
+-- An order that is closed
+
+-- with an Install that waits a group's log has the order that the view ends with, and the others' stay
+pub logs_close : (s : State) (g : GroupNo) (p : Pending) (tail : Stretch) (orders : List Log) → is_pending (s.group g) ≡ false → ((h : GroupNo) → LogFits s h (log_of orders h)) → (h : GroupNo) → LogFits (pending_install s g p tail) h (log_of (change_log g (closed_by (is_within p.cut) tail.start tail.ids) orders) h)
+logs_close s g p tail orders first fits h =
+    let close : Log → Log = closed_by (is_within p.cut) tail.start tail.ids in
+    let t : State = pending_install s g p tail in
+    subst (LogFits t h) (sym (log_of_change orders g h close (λ l. refl)))
+    (elim (cases_Bool (group_eq g h)) [
+      | inl same ↦
+          subst (LogFits t h) (sym (ap (λ b. if b then close (log_of orders g) else log_of orders h) same))
+          (subst (λ x. LogFits t x (close (log_of orders g))) (same_group g h same) closed)
+      | inr apart ↦
+          let view : (t.group h).view ≡ (s.group h).view = ap (λ b. (if b then with_pending (s.group g) p else s.group h).view) apart in
+          let number : (t.group h).number ≡ (s.group h).number = ap (λ b. (if b then with_pending (s.group g) p else s.group h).number) apart in
+          let settled = settled_same s t h refl view number refl in
+          subst (LogFits t h) (sym (ap (λ b. if b then close (log_of orders g) else log_of orders h) apart))
+          (log_alike s t h (log_of orders h) refl view number (ap (λ b. is_pending (if b then with_pending (s.group g) p else s.group h)) apart)
+          (ap (λ b. if b then closed_order (is_within p.cut) tail.start tail.ids (order_told s g) else s.closed h) apart)
+          refl (λ k. refl) (omega (arith, settled)) (λ q is. is) (λ q u is. is) (fits h))
+    ])
+  where
+    l : Log
+    l = log_of orders g
+
+    number : ((pending_install s g p tail).group g).number ≡ (s.group g).number
+    number = ap (λ b. (if b then with_pending (s.group g) p else s.group g).number) (group_itself g)
+
+    -- nothing is forgotten, so the cut leaves out nothing that is
+    none_forgotten : list_all (is_within p.cut) (take l.base (order_told s g)) ≡ true
+    none_forgotten = ap (λ n. list_all (is_within p.cut) (take n (order_told s g))) (fits g).whole
+
+    order : (pending_install s g p tail).closed g ≡ closed_order (is_within p.cut) tail.start tail.ids (order_told s g)
+    order = ap (λ b. if b then closed_order (is_within p.cut) tail.start tail.ids (order_told s g) else s.closed g) (group_itself g)
+
+    closed : LogFits (pending_install s g p tail) g (closed_by (is_within p.cut) tail.start tail.ids l)
+    closed =
+        let t : State = pending_install s g p tail in
+        let tells = (fits g).tells first in
+        let ended : FitsClosed (closed_order (is_within p.cut) tail.start tail.ids (order_told s g)) (goes_on s g) (has_passed s g) (closed_by (is_within p.cut) tail.start tail.ids l) =
+        close_fits (facts_in s g) (told_here s g) (lists_here s g) (goes_on s g) (has_passed s g) tells.stable l tells.fits (is_within p.cut) tail.start tail.ids none_forgotten in
+        record {
+          whole = ap (λ n. min n tail.start) (fits g).whole ∙ zero-min tail.start;
+          tells = λ none. absurd (false≢true (sym none ∙ ap (λ b. is_pending (if b then with_pending (s.group g) p else s.group g)) (group_itself g)));
+          closed = λ _.
+              subst (λ x. FitsClosed x (goes_on t g) (has_passed t g) (closed_by (is_within p.cut) tail.start tail.ids l)) (sym order)
+              (closed_more (closed_order (is_within p.cut) tail.start tail.ids (order_told s g)) (goes_on s g) (has_passed s g) (closed_by (is_within p.cut) tail.start tail.ids l) ended (goes_on t g) (has_passed t g) (λ q is. is)
+              (λ q e is. ap (λ n. has_delivered (process_named s q) (named g n e)) number ∙ is));
+        }
 
 -- Acknowledgements
 
@@ -288,7 +383,7 @@ upto_grows acks x others g v p some =
     ]
 
 pub logs_ack : (s : State) (from : SiteNo) (u : Uid) (h : GroupNo) (l : Log) → LogFits s h l → LogFits (noting_ack s from u) h l
-logs_ack s from u h l f = log_alike s (noting_ack s from u) h l refl refl refl refl (λ k. refl) (grows (holder_at s.here (s.group h))) (λ p is. is) (λ p v is. is) f
+logs_ack s from u h l f = log_alike s (noting_ack s from u) h l refl refl refl refl refl refl (λ k. refl) (grows (holder_at s.here (s.group h))) (λ p is. is) (λ p v is. is) f
   where
     grown : (others : List SiteNo) (p : Proc) → (if is_empty others then MAX_NUMBER else stable_upto s.acks others h (s.group h).number p) ≤ (if is_empty others then MAX_NUMBER else stable_upto (s.acks ++ (from, u) ∷ []) others h (s.group h).number p)
     grown [] p = omega arith

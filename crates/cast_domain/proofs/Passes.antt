@@ -30,7 +30,7 @@ fits_between r s fits = record {
   messages = fits.messages;
   processes = fits.processes;
   acks = fits.acks;
-  orders = orders_same s (before_event s) r.orders refl refl refl refl refl refl fits.orders;
+  orders = orders_same s (before_event s) r.orders refl refl refl refl refl refl refl fits.orders;
   frames = refl;
   delivered = refl;
 }
@@ -47,5 +47,5 @@ led_pass w v made s led = led_on Stands pass w v s led (stands_pass w v made)
 pub led_end : (w v : Records) → v ≡ rest.pass records resting_records w → v ≡ w → (s : State) → Led Stands pass w s → (t : State) × RestsAt s t × Fits v t
 led_end w v made still s led =
     let rest = led_rests Stands pass w v s led (stands_pass w v made)
-    (λ t h. still_pass w t h.0 (subst (λ r. Fits r (pass t)) still (stands_pass w v made t h).0)) in
+    (λ t h. still_pass w t h.0 h.1 (subst (λ r. Fits r (pass t)) still (stands_pass w v made t h).0)) in
     (rest.0, rest.1, rest.2.0)

@@ -1,18 +1,16 @@
 -- Members that a view lacks are put out one by one, and in the history at once; then processes enter it.
-use Rattle.std.proofs.Common.{◌≡◌, ℕ, zero, suc, ◌+◌, ◌<◌, ◌≤◌, Bool, true, false, not, ◌&&◌, ◌||◌, List, [], ◌∷◌, ◌++◌, Option, Some, None, ◌⊎◌, inl, inr, refl, sym, ap, subst, ◌∙◌, arith}
-use Rattle.std.specs.Prelude.{◌==◌, nat_lt, nat_le, if◌then◌else◌, filter, slice_get}
+use Rattle.std.proofs.Common.{◌≡◌, ℕ, zero, suc, ◌+◌, ◌<◌, ◌≤◌, Bool, true, false, not, ◌&&◌, ◌||◌, [], ◌∷◌, ◌++◌, Option, Some, None, ◌⊎◌, inl, inr, refl, sym, ap, subst, ◌∙◌, arith}
+use Rattle.std.specs.Prelude.{◌==◌, nat_lt, nat_le, if◌then◌else◌, slice_get}
 use Rattle.std.specs.List.{fold, range_with_len}
 use Rattle.std.specs.Option.{IsSome, is_some}
-use Rattle.std.proofs.lemmas.Bool.{cases_Bool, false≢true, false_from_ne_true, eqb-true, eq-eqb, ne_eqb, ltb-true, leb-true, and_parts, or_from}
+use Rattle.std.proofs.lemmas.Bool.{cases_Bool, false≢true, false_from_ne_true, eqb-true, ne_eqb, ltb-true, leb-true, and_parts, or_from}
 use Rattle.cast_types.specs.declared.names.GroupNo.{GroupNo}
-use Rattle.cast_types.specs.declared.names.Proc.{Proc}
 use Rattle.cast_types.specs.declared.names.Standing.{Standing}
 use Rattle.cast_types.specs.declared.names.Standing.TheVariants.{Outside, Joining, Member}
 use Rattle.cast_types.specs.Names.{group_eq, proc_eq}
 use Rattle.cast_types.specs.Sets.{is_among}
 use Rattle.cast_types.specs.Counts.{CountList}
 use Rattle.cast_types.proofs.Bools.{and_none}
-use Rattle.cast_message.specs.declared.client.Push.{Push}
 use Rattle.cast_message.specs.declared.client.Push.TheVariants as push
 use Rattle.cast_message.specs.Membership.{Membership, is_members}
 use Rattle.cast_delay.specs.declared.row.Fact.TheVariants as fact
@@ -21,8 +19,8 @@ use Rattle.cast_delay.specs.declared.row.Row.{Row}
 use Rattle.cast_delay.specs.Queue.{row_of}
 use Rattle.cast_delay.specs.Fits.{StandsFor}
 use Rattle.cast_domain.specs.declared.record.GroupRecord.{GroupRecord}
-use Rattle.cast_history.specs.State.{State, local, serials, is_group, was_given, gate_of, set_process, set_standing, pushing}
-use Rattle.cast_history.specs.Entering.{parted, is_put_out, all_parted, push_out, putting_out, passing}
+use Rattle.cast_history.specs.State.{State, local, serials, is_group, was_given, gate_of, set_standing, pushing}
+use Rattle.cast_history.specs.Entering.{parted, is_put_out, putting_out, passing}
 use Rattle.cast_history.specs.Acts.Act.{Left}
 use Rattle.cast_history.specs.Lawful.{IsLawful}
 use Rattle.cast_history.proofs.Lawful.{put_out_same, lawful_putting_out}

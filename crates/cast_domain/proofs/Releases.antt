@@ -30,7 +30,7 @@ use Rattle.cast_history.specs.State.{State, local, local_members, gate_of, is_st
 use Rattle.cast_history.specs.Rest.{is_free, let_go}
 use Rattle.cast_domain.specs.Records.{Records}
 use Rattle.cast_history.specs.Rules.Release as release
-use Rattle.cast_domain.specs.Calls.{place_in, record_at, is_current_in, is_ended_in, release_in, release_all_in, records, resting_records}
+use Rattle.cast_domain.specs.Calls.{place_in, record_at, is_current_in, is_open_in, is_ended_in, release_in, release_all_in, records, resting_records}
 use Rattle.cast_history.specs.Lawful.{IsLawful, IsSpent, AreKept}
 use Rattle.cast_domain.specs.Fits.{process_named, Fits, is_live, past_of}
 use Rattle.cast_history.proofs.Totals.{In}
@@ -106,13 +106,22 @@ current_same r s fits l u =
 pub current_stands : (x : MemberSide) (view : ℕ) → is_current x view ≡ true → x.number ≤ view
 current_stands x view is = let same = eqb-true x.number view (and_parts (has_view x) (x.number == view) is).1 in omega (arith, same)
 
+-- and of one that is not frozen
+open_same : (r : Records) (s : State) → Fits r s → IsLawful s → (u : Uid) → is_open_in r u ≡ (is_current (s.group u.group) u.view && not (s.group u.group).frozen)
+open_same r s fits l u =
+    elim (place_in r u.group) as (λ o. place_in r u.group ≡ o → option_map_or (λ i. is_current (record_at r.groups i).here u.view && not (record_at r.groups i).here.frozen) o false ≡ (is_current (s.group u.group) u.view && not (s.group u.group).frozen)) [
+      | Some i ↦ λ is. ap (λ (x : GroupRecord). is_current x.here u.view && not x.here.frozen) (record_there r s fits i u.group (place_some r s fits u.group i is).0)
+      | None ↦ λ is. sym (ap (λ b. (b && ((s.group u.group).number == u.view)) && not (s.group u.group).frozen) (false_from_ne_true (has_view (s.group u.group)) (λ seen. false≢true (sym (place_none r s fits u.group is) ∙ l.listed u.group seen))))
+    ] refl
+
 pub free_same : (r : Records) (s : State) → Fits r s → IsLawful s → (u : Uid) → 0 < u.count → (is_current (s.group u.group) u.view ≡ true → is_live s (source_of u) ≡ true) → release.is_free records resting_records r u ≡ is_free s u
 free_same r s fits l u counted live =
     let current : Bool = is_current (s.group u.group) u.view in
+    let unfrozen : Bool = not (s.group u.group).frozen in
     let waiting : Bool = not (is_awaited r.delay.rows u) in
-    ap (λ b. b && (is_stable_in r.acks u && waiting)) (current_same r s fits l u)
-    ∙ and_agree current (is_stable_in r.acks u && waiting) (is_stable s u && is_delivered s u)
-    (λ is i. stable_meant (past_of s) r.acks fits.acks u (live is) counted i && awaited_same r s fits u (current_stands (s.group u.group) u.view is) counted i)
+    ap (λ b. b && (is_stable_in r.acks u && waiting)) (open_same r s fits l u)
+    ∙ and_agree (current && unfrozen) (is_stable_in r.acks u && waiting) (is_stable s u && is_delivered s u)
+    (λ opens. let is = (and_parts current unfrozen opens).0 in λ i. stable_meant (past_of s) r.acks fits.acks u (live is) counted i && awaited_same r s fits u (current_stands (s.group u.group) u.view is) counted i)
 
 -- what is kept was received
 kept_got : (P : Message → Type 0) (got kept : List Message) → AreKept P got kept → (m : Message) → In m kept → Contains got m
@@ -276,7 +285,7 @@ fits_release r s fits p q same =
         idle = fits.processes.idle;
       };
       acks = fits.acks;
-      orders = orders_same s (releasing s q) r.orders refl refl refl refl refl refl fits.orders;
+      orders = orders_same s (releasing s q) r.orders refl refl refl refl refl refl refl fits.orders;
       frames = fits.frames;
       delivered = fits.delivered;
     })

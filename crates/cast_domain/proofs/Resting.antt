@@ -1,8 +1,8 @@
 -- What a domain does of itself it does to its records and to their history.
-use Rattle.std.proofs.Common.{◌≡◌, ◌<◌, ◌≤◌, ◌+◌, ℕ, zero, suc, true, List, refl, ap, ◌∙◌, inl, inr, arith}
+use Rattle.std.proofs.Common.{◌≡◌, ◌<◌, ◌≤◌, ◌+◌, ℕ, zero, suc, true, List, [], ◌∷◌, Option, Some, None, refl, sym, ap, subst, ◌∙◌, inl, inr, arith}
 use Rattle.std.specs.Prelude.{nat_lt, nat_le}
 use Rattle.std.specs.List.{range_with_len}
-use Rattle.std.proofs.lemmas.Bool.{and_from, lt-ltb, le-leb}
+use Rattle.std.proofs.lemmas.Bool.{and_from, or_left, or_right, lt-ltb, le-leb}
 use Rattle.cast_types.specs.declared.names.GroupNo.{GroupNo}
 use Rattle.cast_history.specs.State.{State, was_given, serials}
 use Rattle.cast_history.specs.History.{history}
@@ -19,6 +19,23 @@ use Rattle.cast_domain.specs.Fits.{Fits}
 use Rattle.cast_domain.proofs.Following.{IsAt}
 use Rattle.cast_domain.proofs.Framing.{StandsIn, there, records_follow_all}
 use Rattle.cast_domain.proofs.Turns.{kept_all, fits_deliver_all}
+use Rattle.std.specs.Prelude.{if◌then◌else◌, slice_get}
+use Rattle.std.specs.List.{fold}
+use Rattle.std.proofs.lemmas.Option.{none-some, same_Some}
+use Rattle.cast_types.specs.Names.{group_eq}
+use Rattle.cast_types.specs.Sets.{is_among}
+use Rattle.cast_types.proofs.Orders.{group_itself}
+use Rattle.cast_view.specs.declared.member.Pending.{Pending}
+use Rattle.cast_history.specs.State.{is_group}
+use Rattle.cast_history.specs.Reports.{has_delivered_cut, missing_in}
+use Rattle.cast_history.specs.Rules.Flushes.{want_own, complete_or_want, go_on}
+use Rattle.cast_history.specs.Lawful.{Waits}
+use Rattle.cast_history.proofs.Rules.Follows.{choose, each}
+use Rattle.cast_history.proofs.Rules.Flushes.{want_own_follows, complete_follows}
+use Rattle.cast_domain.specs.declared.record.GroupRecord.{GroupRecord}
+use Rattle.cast_domain.specs.Calls.{record_at, has_cut_of}
+use Rattle.cast_domain.proofs.Standing.{record_there}
+use Rattle.cast_domain.proofs.Reports.{cut_there, missing_there}
 use Rattle.cast_domain.proofs.SetOrders.{holder_local, fits_set_order_by, kept_set_order_by}
 
 -- what is in a range is within it
@@ -31,6 +48,32 @@ was_given_in : (s : State) (k : ℕ) → In k (serials s) → was_given s.used k
 was_given_in s k at =
     let within = in_range 1 s.used k at in
     and_from (nat_lt 0 k) (nat_le k s.used) (lt-ltb 0 k (omega (arith, within.0))) (le-leb k s.used (omega (arith, within.1)))
+
+-- a group that stands at a place is one of these
+at_listed : (gs : List GroupNo) (i : ℕ) (g : GroupNo) → slice_get gs i ≡ Some g → is_among group_eq g gs ≡ true
+at_listed [] i g at = absurd (none-some g at)
+at_listed (h ∷ gs) zero g at = or_left (group_eq g h) (is_among group_eq g gs) (ap (group_eq g) (same_Some h g at) ∙ group_itself g)
+at_listed (h ∷ gs) (suc i) g at = or_right (group_eq g h) (is_among group_eq g gs) (at_listed gs i g at)
+
+-- the Install that waits is completed on both sides, or the same is wanted
+stands_go_on : (groups : List GroupNo) (r : Records) (s : State) → StandsIn groups r s → (i : ℕ) (g : GroupNo) → IsAt groups i g → StandsIn groups (go_on records resting_records r i) (go_on history resting s g)
+stands_go_on groups r s f i g at =
+    subst (λ (x : GroupRecord). StandsIn groups (elim x.here.pending [ Some p ↦ complete_or_want records resting_records r i p | None ↦ r ]) (go_on history resting s g)) (sym (record_there r s f.0.0 i g here))
+    (waits (s.group g).pending (f.1.waiting g))
+  where
+    here : slice_get s.config.groups i ≡ Some g
+    here = there groups r s f i g at
+
+    placed : (if is_group s g then Some g else None) ≡ Some g
+    placed = ap (λ b. if b then Some g else None) (at_listed s.config.groups i g here)
+
+    waits : (o : Option Pending) → Waits (s.group g).frozen o → StandsIn groups (elim o [ Some p ↦ complete_or_want records resting_records r i p | None ↦ r ]) (elim o [ Some p ↦ complete_or_want history resting s g p | None ↦ s ])
+    waits None known = f
+    waits (Some p) known =
+        choose (StandsIn groups) (has_cut_of r (record_at r.groups i) p.cut) (has_delivered_cut s g p.cut) _ _ _ _ (cut_there r s f.0.0 i g here p.cut)
+        (λ _. complete_follows records history (StandsIn groups) (IsAt groups) (records_follow_all groups) r s f i g at g placed p known.1)
+        (λ _. subst (λ es. StandsIn groups (fold (want_own records i) r es) (fold (want_own history g) s (missing_in s g p.cut))) (sym (missing_there r s f.0.0 f.1 i g here p.cut))
+        (each (StandsIn groups) (want_own records i) (want_own history g) (want_own_follows records history (StandsIn groups) (IsAt groups) (records_follow_all groups) i g at) (missing_in s g p.cut) r s f))
 
 records_follow_to_rest : (groups : List GroupNo) → FollowsToRest records history resting_records resting (StandsIn groups) (IsAt groups)
 records_follow_to_rest groups = record {
@@ -48,6 +91,7 @@ records_follow_to_rest groups = record {
     ),
     lawful_set_order_by s g p.serial f.1,
   );
+  goes_on = stands_go_on groups;
 }
 
 -- so the records go on standing for the history by each pass

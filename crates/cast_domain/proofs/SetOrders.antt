@@ -23,7 +23,7 @@ use Rattle.cast_history.specs.Rules.Room.{may_order}
 use Rattle.cast_history.specs.History.{history}
 use Rattle.cast_history.specs.Rules.Sending.{send_message, may_raise}
 use Rattle.cast_domain.specs.declared.record.GroupRecord.{GroupRecord}
-use Rattle.cast_view.specs.MemberSide.{holder_of, is_process, holder_at}
+use Rattle.cast_view.specs.MemberSide.{holder_of, is_process, is_pending, holder_at}
 use Rattle.cast_view.specs.Home.{is_empty}
 use Rattle.cast_history.specs.State.{State, local, gate_of, was_given, noting_sent}
 use Rattle.cast_history.specs.Order.{order_of, holds, unlisted, has_place, is_of_view}
@@ -40,7 +40,8 @@ use Rattle.cast_domain.specs.Fits.{process_named, record_for, Fits}
 use Rattle.cast_history.proofs.Alikes.{alike_sending}
 use Rattle.cast_history.proofs.LawfulSteps.{lawful_order_sent}
 use Rattle.cast_domain.proofs.LogSteps.{logs_place}
-use Rattle.cast_domain.proofs.Ordering.{order_room_there, settled_there, settled_of_holder, places_there}
+use Rattle.cast_domain.proofs.Ordering.{order_room_there, settled_there, settled_of_holder, unfrozen_waits, places_there}
+use Rattle.cast_types.proofs.Bools.{and_none}
 use Rattle.cast_domain.proofs.Standing.{record_there, process_here, standing_there, time_there, fits_sent}
 use Rattle.cast_delay.proofs.Queues.{member_admitted}
 use Rattle.cast_domain.proofs.Rows.{row_given}
@@ -75,11 +76,11 @@ sent_at r p x places =
       body = body.Order places;
     })
 
-fits_places : (r : Records) (s : State) → Fits r s → IsLawful s → (k : ℕ) (g : GroupNo) → holds s g k ≡ true → is_member ((s.process k).standing g) ≡ true → may_raise (s.process k).time g (local s k) ≡ true → (q : Sequence) → Some q ≡ next_places (log_of r.orders g) → Fits (sent_at r (local s k) (record_for s g) q) (sending s g k (body.Order q))
-fits_places r s f l k g here member raised q next =
+fits_places : (r : Records) (s : State) → Fits r s → IsLawful s → (k : ℕ) (g : GroupNo) → is_pending (s.group g) ≡ false → holds s g k ≡ true → is_member ((s.process k).standing g) ≡ true → may_raise (s.process k).time g (local s k) ≡ true → (q : Sequence) → Some q ≡ next_places (log_of r.orders g) → Fits (sent_at r (local s k) (record_for s g) q) (sending s g k (body.Order q))
+fits_places r s f l k g unclosed here member raised q next =
     subst (λ x. Fits x (sending s g k (body.Order q))) (sym same)
     (fits_send_message_with (tell_in r p (fact.Time m.times)) s1 (fits_sent r s f k (member_given r s f k g member) m) m (next_sound s g k (body.Order q) l member) (live_now s1 (source_of m.id) refl (local_speaks s1 g k)) (learn_in noted g (body.Order q))
-    (logs_place s1 k m q settled r.orders (fits_sent r s f k (member_given r s f k g member) m).orders here current refl refl next (settled_there r s f g p (site_itself s.here) ∙ sym (settled_of_holder s g k here)) most))
+    (logs_place s1 k m q settled r.orders (fits_sent r s f k (member_given r s f k g member) m).orders unclosed here current refl refl next (settled_there r s f g p (site_itself s.here) ∙ sym (settled_of_holder s g k here)) most))
   where
     p : Proc
     p = local s k
@@ -117,19 +118,20 @@ fits_places r s f l k g here member raised q next =
           body = body.Order q;
         })
 
--- five tests, one after another
-choose : (m o e h y : Bool) (x : Sequence → Records) (z : Sequence → State) (q : Sequence) (r : Records) (s : State) → Fits r s → (m ≡ true → o ≡ true → e ≡ true → h ≡ true → y ≡ true → Fits (x q) (z q)) → Fits (if m && o then option_map_or (λ p. if y then x p else r) (if e && h then Some q else None) r else r) (if m && o then option_map_or (λ p. if y then z p else s) (if e && h then Some q else None) s else s)
-choose false o e h y x z q r s f go = f
-choose true false e h y x z q r s f go = f
-choose true true false h y x z q r s f go = f
-choose true true true false y x z q r s f go = f
-choose true true true true false x z q r s f go = f
-choose true true true true true x z q r s f go = go refl refl refl refl refl
+-- six tests, one after another
+choose : (m w o e h y : Bool) (x : Sequence → Records) (z : Sequence → State) (q : Sequence) (r : Records) (s : State) → Fits r s → (m ≡ true → w ≡ true → o ≡ true → e ≡ true → h ≡ true → y ≡ true → Fits (x q) (z q)) → Fits (if m && (w && o) then option_map_or (λ p. if y then x p else r) (if e && h then Some q else None) r else r) (if m && (w && o) then option_map_or (λ p. if y then z p else s) (if e && h then Some q else None) s else s)
+choose false w o e h y x z q r s f go = f
+choose true false o e h y x z q r s f go = f
+choose true true false e h y x z q r s f go = f
+choose true true true false h y x z q r s f go = f
+choose true true true true false y x z q r s f go = f
+choose true true true true true false x z q r s f go = f
+choose true true true true true true x z q r s f go = go refl refl refl refl refl refl
 
 -- over the name of the holder, and a record of the group that is at hand
 abbrev set_at_hand : Records → Proc → GroupRecord → Records
 set_at_hand r p x =
-    if is_member (standing_of r.delay p x.name) && may_order records r
+    if is_member (standing_of r.delay p x.name) && (not x.here.frozen && may_order records r)
     then option_map_or (λ places. if may_raise (time_of r.delay p) x.name p then release.let_go records resting_records (sent_at r p x places) else r) (next_places (log_in r x.name)) r
     else r
 
@@ -138,13 +140,16 @@ fits_set_order_by r s f l i g at k here =
     subst (λ t. Fits (set_at_hand r (record { site = t; serial = k }) (record_at r.groups i)) (set_order_by s g k)) (sym (ap (λ c. c.site) f.core))
     (subst (λ x. Fits (set_at_hand r p x) (set_order_by s g k)) (sym (record_there r s f i g at))
     (subst (λ x. Fits x (set_order_by s g k)) (sym tested)
-    (choose member room some place raised (λ q. release.let_go records resting_records (sent_at r p (record_for s g) q)) (λ q. let_go (sending s g k (body.Order q))) (places_of s g k) r s f sets)))
+    (choose member unfrozen room some place raised (λ q. release.let_go records resting_records (sent_at r p (record_for s g) q)) (λ q. let_go (sending s g k (body.Order q))) (places_of s g k) r s f sets)))
   where
     p : Proc
     p = local s k
 
     member : Bool
     member = is_member ((s.process k).standing g)
+
+    unfrozen : Bool
+    unfrozen = not (s.group g).frozen
 
     room : Bool
     room = may_order history s
@@ -162,25 +167,35 @@ fits_set_order_by r s f l i g at k here =
     at_hand : Records
     at_hand = option_map_or (λ q. if may_raise (time_of r.delay p) g p then release.let_go records resting_records (sent_at r p (record_for s g) q) else r) (next_places (log_in r g)) r
 
-    tested : set_at_hand r p (record_for s g) ≡ (if member && room then option_map_or (λ q. if raised then release.let_go records resting_records (sent_at r p (record_for s g) q) else r) (if some && place then Some (places_of s g k) else None) r else r)
+    listing : Records
+    listing = option_map_or (λ q. if raised then release.let_go records resting_records (sent_at r p (record_for s g) q) else r) (if some && place then Some (places_of s g k) else None) r
+
+    tested : set_at_hand r p (record_for s g) ≡ (if member && (unfrozen && room) then listing else r)
     tested = elim (cases_Bool member) [
-      | inl is ↦
-          let row = f.processes.admitted k (member_given r s f k g is) in
-          (λ j.
-          if is_member (standing_there r s f k g j) && order_room_there r s f j
-          then option_map_or (λ q. if may_raise (time_there r s f k row j) g p then release.let_go records resting_records (sent_at r p (record_for s g) q) else r) (places_there r s f g k here j) r
-          else r)
+      | inl is ↦ elim (cases_Bool unfrozen) [
+        | inl goes ↦
+            let row = f.processes.admitted k (member_given r s f k g is) in
+            (λ j.
+            if is_member (standing_there r s f k g j) && (unfrozen && order_room_there r s f j)
+            then option_map_or (λ q. if may_raise (time_there r s f k row j) g p then release.let_go records resting_records (sent_at r p (record_for s g) q) else r) (places_there r s f g k (unfrozen_waits s l g goes) here j) r
+            else r)
+        | inr frozen ↦
+            ap (λ b. if is_member (standing_of r.delay p g) && (b && may_order records r) then at_hand else r) frozen
+            ∙ ap (λ b. if b then at_hand else r) (and_none (is_member (standing_of r.delay p g)))
+            ∙ sym (ap (λ b. if member && (b && room) then listing else r) frozen ∙ ap (λ b. if b then listing else r) (and_none member))
+      ]
       | inr away ↦
-          ap (λ b. if b && may_order records r then at_hand else r) (ap is_member (standing_there r s f k g) ∙ away)
-          ∙ sym (ap (λ b. if b && room then option_map_or (λ q. if raised then release.let_go records resting_records (sent_at r p (record_for s g) q) else r) (if some && place then Some (places_of s g k) else None) r else r) away)
+          ap (λ b. if b && (unfrozen && may_order records r) then at_hand else r) (ap is_member (standing_there r s f k g) ∙ away)
+          ∙ sym (ap (λ b. if b && (unfrozen && room) then listing else r) away)
     ]
 
-    sets : member ≡ true → room ≡ true → some ≡ true → place ≡ true → raised ≡ true → Fits (release.let_go records resting_records (sent_at r p (record_for s g) (places_of s g k))) (let_go (sending s g k (body.Order (places_of s g k))))
-    sets a b c d e =
+    sets : member ≡ true → unfrozen ≡ true → room ≡ true → some ≡ true → place ≡ true → raised ≡ true → Fits (release.let_go records resting_records (sent_at r p (record_for s g) (places_of s g k))) (let_go (sending s g k (body.Order (places_of s g k))))
+    sets a w b c d e =
         let q : Sequence = places_of s g k in
-        let may : may_set_order s g k ≡ true = and_from member _ a (and_from room _ b (and_from some _ c (and_from place raised d e))) in
+        let unclosed = unfrozen_waits s l g w in
+        let may : may_set_order s g k ≡ true = and_from member _ a (and_from unfrozen _ w (and_from room _ b (and_from some _ c (and_from place raised d e)))) in
         fits_let_go (sent_at r p (record_for s g) q) (sending s g k (body.Order q))
-        (fits_places r s f l k g here a e q (sym (places_there r s f g k here ∙ ap (λ x. if x then Some q else None) (and_from some place c d))))
+        (fits_places r s f l k g unclosed here a e q (sym (places_there r s f g k unclosed here ∙ ap (λ x. if x then Some q else None) (and_from some place c d))))
         (lawful_order_sent s g k (body.Order q) l may)
 
 -- the holder here is a process of this site

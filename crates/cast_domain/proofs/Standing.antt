@@ -12,7 +12,7 @@ use Rattle.cast_types.specs.declared.names.Proc.{Proc}
 use Rattle.cast_types.specs.declared.names.Standing.{Standing}
 use Rattle.cast_types.specs.declared.names.Standing.TheVariants.{Member}
 use Rattle.cast_types.specs.declared.names.Uid.{Uid}
-use Rattle.cast_types.specs.Names.{site_eq, group_eq, proc_eq, uid_eq, is_order, named}
+use Rattle.cast_types.specs.Names.{Entry, site_eq, group_eq, group_cmp, proc_eq, uid_eq, is_order, named}
 use Rattle.cast_types.specs.Places.{update}
 use Rattle.cast_types.specs.Sets.{is_among, set_at}
 use Rattle.cast_types.specs.Stamps.{ClockList}
@@ -29,7 +29,8 @@ use Rattle.cast_delay.specs.declared.row.Fact.{Fact}
 use Rattle.cast_delay.specs.declared.row.Fact.TheVariants as fact
 use Rattle.cast_delay.specs.declared.gate.Gate.{Gate}
 use Rattle.cast_delay.specs.Ready.{Process, open_gate, is_outside, has_delivered, is_member}
-use Rattle.cast_delay.specs.Rows.{told_row}
+use Rattle.cast_delay.specs.Rows.{gate_in, told_row}
+use Rattle.std.specs.FinMap.Entries.{put}
 use Rattle.cast_delay.specs.Queue.{new_row, row_of, change_row, queue_viewing}
 use Rattle.cast_message.specs.declared.message.Received.{Received}
 use Rattle.cast_message.specs.Receipts.{key_eq, message_under}
@@ -45,13 +46,13 @@ use Rattle.cast_order.proofs.Meanings.{new_fits as order_new_fits}
 use Rattle.cast_model.specs.declared.config.DomainConfig.{DomainConfig}
 use Rattle.cast_domain.specs.declared.record.GroupRecord.{GroupRecord}
 use Rattle.cast_model.specs.declared.session.Session.{Session}
-use Rattle.cast_view.specs.MemberSide.{MemberSide, members_of, with_view}
+use Rattle.cast_view.specs.MemberSide.{MemberSide, is_pending, members_of, with_view}
 use Rattle.cast_view.specs.Home.{Home}
 use Rattle.cast_model.specs.Session.{no_session, first_session, is_open, pushed_to, told, closed, gone}
 use Rattle.cast_types.specs.declared.refusal.Refusal.{Refusal}
 use Rattle.cast_view.specs.MemberSide.{members_of, with_view}
 use Rattle.cast_view.specs.Sites.{other_sites}
-use Rattle.cast_history.specs.State.{State, opening, no_process, local, is_group, gate_of, others_of, set_session, set_process, set_group, set_home, set_standing, emitted, was_given, pushing, closing, going, receiving, noting_act, noting_sent}
+use Rattle.cast_history.specs.State.{State, opening, no_process, local, is_group, gate_for, gate_of, others_of, set_session, set_process, set_group, set_home, set_standing, emitted, was_given, pushing, closing, going, receiving, noting_act, noting_sent}
 use Rattle.cast_history.specs.Acts.{Act}
 use Rattle.cast_history.specs.Acts.Act.{Sent}
 use Rattle.cast_history.specs.Step.{opening_next}
@@ -60,7 +61,7 @@ use Rattle.cast_domain.specs.Shared.{no_part}
 use Rattle.cast_domain.specs.Records.{Records}
 use Rattle.cast_domain.specs.Calls.{place_among, local_in, place_in, no_record, record_at, standing_of, time_of, send_in, change_session_in, push_in, close_in, go_in, tell_in, open_in, learn_in, receive_in, view_in}
 use Rattle.cast_history.specs.Lawful.{IsLawful}
-use Rattle.cast_domain.specs.Fits.{process_named, record_for, session_in, is_live, past_of, LogFits, Fits, goes_on}
+use Rattle.cast_domain.specs.Fits.{process_named, record_for, session_in, is_live, past_of, LogFits, Fits, goes_on, has_passed}
 use Rattle.cast_domain.proofs.Receipts.{group_same, others_told, past_same, was_live}
 use Rattle.cast_domain.proofs.Rows.{row_given}
 use Rattle.cast_domain.proofs.Logs.{log_alike, settled_same, logs_receive, logs_view, log_starts}
@@ -78,10 +79,10 @@ fits_if a b x y u v same then_fits else_fits = choose Fits a b x y u v same (λ 
 -- The order of views
 
 -- each log tells still of a history that has the same of groups, processes, messages and acknowledgements
-pub orders_same : (s t : State) (orders : List Log) → t.here ≡ s.here → t.group ≡ s.group → t.process ≡ s.process → t.got ≡ s.got → t.abcasts ≡ s.abcasts → t.acks ≡ s.acks → ((g : GroupNo) → LogFits s g (log_of orders g)) → (g : GroupNo) → LogFits t g (log_of orders g)
-orders_same s t orders here group process got abcasts acks fits g =
+pub orders_same : (s t : State) (orders : List Log) → t.here ≡ s.here → t.group ≡ s.group → t.closed ≡ s.closed → t.process ≡ s.process → t.got ≡ s.got → t.abcasts ≡ s.abcasts → t.acks ≡ s.acks → ((g : GroupNo) → LogFits s g (log_of orders g)) → (g : GroupNo) → LogFits t g (log_of orders g)
+orders_same s t orders here group closed process got abcasts acks fits g =
     let settled = settled_same s t g here (λ i. (group i g).view) (λ i. (group i g).number) acks in
-    log_alike s t g (log_of orders g) here (λ i. (group i g).view) (λ i. (group i g).number) got (λ k i. abcasts i k)
+    log_alike s t g (log_of orders g) here (λ i. (group i g).view) (λ i. (group i g).number) (λ i. is_pending (group i g)) (λ i. closed i g) got (λ k i. abcasts i k)
     (omega (arith, settled))
     (λ p is. (λ i. is_member ((if site_eq p.site (sym here i) then sym process i p.serial else no_process).standing g)) ∙ is)
     (λ p u is. (λ i. has_delivered (if site_eq p.site (here i) then process i p.serial else no_process) u) ∙ is)
@@ -90,7 +91,7 @@ orders_same s t orders here group process got abcasts acks fits g =
 -- or where a process changed that has delivered the same, and is a member of no group of which it was none
 pub orders_process : (s : State) (k : ℕ) (v : Process) (orders : List Log) → v.delivered ≡ (s.process k).delivered → ((g : GroupNo) → is_member (v.standing g) ≡ true → is_member ((s.process k).standing g) ≡ true) → ((g : GroupNo) → LogFits s g (log_of orders g)) → (g : GroupNo) → LogFits (set_process s k v) g (log_of orders g)
 orders_process s k v orders same were fits g =
-    log_alike s (set_process s k v) g (log_of orders g) refl refl refl refl (λ j. refl) (omega arith)
+    log_alike s (set_process s k v) g (log_of orders g) refl refl refl refl refl refl (λ j. refl) (omega arith)
     (λ p is. was p (site_eq p.site s.here) (k == p.serial) (eqb-true k p.serial) is)
     (λ p u is. ap (is_among uid_eq u) (at p (site_eq p.site s.here) (k == p.serial) (eqb-true k p.serial)) ∙ is)
     (fits g)
@@ -105,13 +106,13 @@ orders_process s k v orders same were fits g =
     at p true false is = refl
     at p false b is = refl
 
--- or where a group changed that has the same number and view
-orders_group : (s : State) (g : GroupNo) (v : MemberSide) (orders : List Log) → v.number ≡ (s.group g).number → v.view ≡ (s.group g).view → ((h : GroupNo) → LogFits s h (log_of orders h)) → (h : GroupNo) → LogFits (set_group s g v) h (log_of orders h)
-orders_group s g v orders number view fits h =
+-- or where a group changed that has the same number and view, and an Install that waits as before
+pub orders_group : (s : State) (g : GroupNo) (v : MemberSide) (orders : List Log) → v.number ≡ (s.group g).number → v.view ≡ (s.group g).view → is_pending v ≡ is_pending (s.group g) → ((h : GroupNo) → LogFits s h (log_of orders h)) → (h : GroupNo) → LogFits (set_group s g v) h (log_of orders h)
+orders_group s g v orders number view waits fits h =
     let views = group_same (λ x. x.view) s g v view h in
     let numbers = group_same (λ x. x.number) s g v number h in
     let settled = settled_same s (set_group s g v) h refl views numbers refl in
-    log_alike s (set_group s g v) h (log_of orders h) refl views numbers refl (λ k. refl) (omega (arith, settled)) (λ p is. is) (λ p u is. is) (fits h)
+    log_alike s (set_group s g v) h (log_of orders h) refl views numbers (group_same (λ x. is_pending x) s g v waits h) refl refl (λ k. refl) (omega (arith, settled)) (λ p is. is) (λ p u is. is) (fits h)
 
 -- Groups
 
@@ -222,7 +223,7 @@ fits_send r s fits to f = record {
   messages = fits.messages;
   processes = fits.processes;
   acks = fits.acks;
-  orders = orders_same s (emitted s to f) r.orders refl refl refl refl refl refl fits.orders;
+  orders = orders_same s (emitted s to f) r.orders refl refl refl refl refl refl refl fits.orders;
   frames = (λ i. fits.frames i ++ ((fits.core i).config.domain, to, f) ∷ []) ∙ sym (map-append (λ (x : SiteNo × SiteFrame). (s.config.domain, x.0, x.1)) s.frames ((to, f) ∷ []));
   delivered = fits.delivered;
 }
@@ -266,7 +267,7 @@ fits_session r s fits k change none =
       messages = fits.messages;
       processes = fits.processes;
       acks = fits.acks;
-      orders = orders_same s (set_session s k (change (s.session k))) r.orders refl refl refl refl refl refl fits.orders;
+      orders = orders_same s (set_session s k (change (s.session k))) r.orders refl refl refl refl refl refl refl fits.orders;
       frames = fits.frames;
       delivered = fits.delivered;
     }
@@ -329,20 +330,20 @@ fits_go r s fits k = fits_session r s fits k gone refl
 -- Changes of one group
 
 -- the gate of a group, as the queue has it
-gate_told : (s : State) (g : GroupNo) (v : MemberSide) → set_at group_eq (gate_of s) g (open_gate v.number) ≡ gate_of (set_group s g v)
-gate_told s g v = λ i h. at_group h i
+pub gate_told : (s : State) (g : GroupNo) (v : MemberSide) (gate : Gate) → gate ≡ gate_for v → set_at group_eq (gate_of s) g gate ≡ gate_of (set_group s g v)
+gate_told s g v gate same = λ i h. at_group h i
   where
-    at_group : (h : GroupNo) → set_at group_eq (gate_of s) g (open_gate v.number) h ≡ gate_of (set_group s g v) h
+    at_group : (h : GroupNo) → set_at group_eq (gate_of s) g gate h ≡ gate_of (set_group s g v) h
     at_group h =
-        elim (group_eq g h) as (λ b. ◌≡◌ {A = Gate} (if b then open_gate v.number else open_gate (s.group h).number) (open_gate (if b then v else s.group h).number)) [ true ↦ refl | false ↦ refl ]
+        elim (group_eq g h) as (λ b. ◌≡◌ {A = Gate} (if b then gate else gate_for (s.group h)) (gate_for (if b then v else s.group h))) [ true ↦ same | false ↦ refl ]
 
-gate_same : (s : State) (g : GroupNo) (v : MemberSide) → v.number ≡ (s.group g).number → gate_of s ≡ gate_of (set_group s g v)
-gate_same s g v same = λ i h. open_gate (at_group h i)
+gate_same : (s : State) (g : GroupNo) (v : MemberSide) → gate_for v ≡ gate_of s g → gate_of s ≡ gate_of (set_group s g v)
+gate_same s g v same = λ i h. at_group h i
   where
-    at_group : (h : GroupNo) → (s.group h).number ≡ ((set_group s g v).group h).number
+    at_group : (h : GroupNo) → gate_of s h ≡ gate_of (set_group s g v) h
     at_group h = elim (cases_Bool (group_eq g h)) [
-      | inl here ↦ ap (λ k. (s.group k).number) (sym (same_group g h here)) ∙ sym same ∙ ap (λ b. (if b then v else s.group h).number) (sym here)
-      | inr other ↦ ap (λ b. (if b then v else s.group h).number) (sym other)
+      | inl here ↦ ap (gate_of s) (sym (same_group g h here)) ∙ sym same ∙ ap (λ b. gate_for (if b then v else s.group h)) (sym here)
+      | inr other ↦ ap (λ b. gate_for (if b then v else s.group h)) (sym other)
     ]
 
 -- the record of a group with another state
@@ -358,21 +359,43 @@ groups_home s lawful i g at change =
     (ap (λ b. record { name = g; here = s.group g; home = if b then change (s.home g) else s.home g }) (sym (group_itself g)))
     (λ h other. ap (λ b. record { name = h; here = s.group h; home = if b then change (s.home g) else s.home h }) (sym other))
 
--- a change of the group at this site that leaves its number
-pub fits_here : (r : Records) (s : State) → Fits r s → IsLawful s → (i : ℕ) (g : GroupNo) → slice_get s.config.groups i ≡ Some g → (change : MemberSide → MemberSide) → (change (s.group g)).number ≡ (s.group g).number → (change (s.group g)).view ≡ (s.group g).view → Fits (record r { groups = update r.groups i (λ x. record x { here = change x.here }) }) (set_group s g (change (s.group g)))
-fits_here r s fits lawful i g at change same seen = record {
+-- a change of the group at this site that leaves its number, its view, and how far a flush of it has come
+pub fits_here : (r : Records) (s : State) → Fits r s → IsLawful s → (i : ℕ) (g : GroupNo) → slice_get s.config.groups i ≡ Some g → (change : MemberSide → MemberSide) → (change (s.group g)).number ≡ (s.group g).number → (change (s.group g)).view ≡ (s.group g).view → gate_for (change (s.group g)) ≡ gate_of s g → is_pending (change (s.group g)) ≡ is_pending (s.group g) → Fits (record r { groups = update r.groups i (λ x. record x { here = change x.here }) }) (set_group s g (change (s.group g)))
+fits_here r s fits lawful i g at change same seen gate waits = record {
   core = fits.core;
   opened = fits.opened;
   groups = ap (λ gs. update gs i (λ x. record x { here = change x.here })) fits.groups ∙ groups_here s lawful i g at change;
   messages = fits.messages;
   processes = record {
-    delay = subst (λ gate. QueueFits s.config.groups gate (process_named s) r.part.kept r.delay) (gate_same s g (change (s.group g)) same) fits.processes.delay;
+    delay = subst (λ gate. QueueFits s.config.groups gate (process_named s) r.part.kept r.delay) (gate_same s g (change (s.group g)) gate) fits.processes.delay;
     admitted = fits.processes.admitted;
     rows = fits.processes.rows;
     idle = fits.processes.idle;
   };
   acks = subst (λ past. AcksFits past r.acks) (past_same s g (change (s.group g)) same seen) fits.acks;
-  orders = orders_group s g (change (s.group g)) r.orders same seen fits.orders;
+  orders = orders_group s g (change (s.group g)) r.orders same seen waits fits.orders;
+  frames = fits.frames;
+  delivered = fits.delivered;
+}
+
+-- a change of the group at this site that leaves its number and its view, of which the queue is told by its gate, beside a change of what is
+-- kept of orders
+pub fits_gated : (r : Records) (s : State) → Fits r s → IsLawful s → (i : ℕ) (g : GroupNo) → slice_get s.config.groups i ≡ Some g → (change : MemberSide → MemberSide) → (change (s.group g)).number ≡ (s.group g).number → (change (s.group g)).view ≡ (s.group g).view → (gate : Gate → Gate) → gate (gate_of s g) ≡ gate_for (change (s.group g)) → QueueFits s.config.groups (set_at group_eq (gate_of s) g (gate (gate_of s g))) (process_named s) r.part.kept (record r.delay { gates = put group_cmp g (gate (gate_in r.delay.gates g)) r.delay.gates }) → (orders : List Log) (closed : GroupNo → List Entry) → ((h : GroupNo) → LogFits (record (set_group s g (change (s.group g))) { closed = closed }) h (log_of orders h)) → Fits (record r { groups = update r.groups i (λ x. record x { here = change x.here }); delay = record r.delay { gates = put group_cmp (record_at r.groups i).name (gate (gate_in r.delay.gates (record_at r.groups i).name)) r.delay.gates }; orders = orders }) (record (set_group s g (change (s.group g))) { closed = closed })
+fits_gated r s fits lawful i g at change same seen gate told delay orders closed logs = record {
+  core = fits.core;
+  opened = fits.opened;
+  groups = ap (λ gs. update gs i (λ x. record x { here = change x.here })) fits.groups ∙ groups_here s lawful i g at change;
+  messages = fits.messages;
+  processes = record {
+    delay = subst (λ h. QueueFits s.config.groups (gate_of (set_group s g (change (s.group g)))) (process_named s) r.part.kept (record r.delay { gates = put group_cmp h (gate (gate_in r.delay.gates h)) r.delay.gates }))
+        (sym (ap (λ (x : GroupRecord). x.name) (record_there r s fits i g at)))
+        (subst (λ gates. QueueFits s.config.groups gates (process_named s) r.part.kept (record r.delay { gates = put group_cmp g (gate (gate_in r.delay.gates g)) r.delay.gates })) (gate_told s g (change (s.group g)) (gate (gate_of s g)) told) delay);
+    admitted = fits.processes.admitted;
+    rows = fits.processes.rows;
+    idle = fits.processes.idle;
+  };
+  acks = subst (λ past. AcksFits past r.acks) (past_same s g (change (s.group g)) same seen) fits.acks;
+  orders = logs;
   frames = fits.frames;
   delivered = fits.delivered;
 }
@@ -387,7 +410,7 @@ fits_view r s fits lawful i g at n members newer = record {
   processes = record {
     delay = subst (λ h. QueueFits s.config.groups (gate_of (set_group s g (with_view s.here n members (s.group g)))) (process_named s) r.part.kept (queue_viewing h n r.delay))
         (sym (ap (λ (x : GroupRecord). x.name) (record_there r s fits i g at)))
-        (subst (λ gate. QueueFits s.config.groups gate (process_named s) r.part.kept (queue_viewing g n r.delay)) (gate_told s g (with_view s.here n members (s.group g)))
+        (subst (λ gate. QueueFits s.config.groups gate (process_named s) r.part.kept (queue_viewing g n r.delay)) (gate_told s g (with_view s.here n members (s.group g)) (open_gate n) refl)
         (view_fits s.config.groups (gate_of s) (process_named s) r.part.kept r.delay fits.processes.delay g n (omega (arith, newer))));
     admitted = λ k was. row_of_some (record_at r.groups i).name n r.delay.rows (local s k) (fits.processes.admitted k was);
     rows = names_ended (record_at r.groups i).name n r.delay.rows ∙ fits.processes.rows;
@@ -414,7 +437,7 @@ fits_home r s fits lawful i g at change = record {
   messages = fits.messages;
   processes = fits.processes;
   acks = fits.acks;
-  orders = orders_same s (set_home s g (change (s.home g))) r.orders refl refl refl refl refl refl fits.orders;
+  orders = orders_same s (set_home s g (change (s.home g))) r.orders refl refl refl refl refl refl refl fits.orders;
   frames = fits.frames;
   delivered = fits.delivered;
 }
@@ -501,8 +524,8 @@ fits_told r s fits k row f ok none =
     (orders_process s k (told_of f (s.process k)) r.orders (told_delivered f (s.process k)) (told_members f (s.process k) none) fits.orders)
 
 -- a process enters the view of a group of whose order nothing is kept yet
-pub fits_member : (r : Records) (s : State) → Fits r s → (k : ℕ) → IsSome (row_of r.delay.rows (local s k)) → (g : GroupNo) → is_group s g ≡ true → log_of r.orders g ≡ new_log g → Fits (tell_in r (local s k) (fact.Standing g Member)) (set_standing s k g Member)
-fits_member r s fits k row g listed new = fits_told_with r s fits k row (fact.Standing g Member) (λ _. listed) logs
+pub fits_member : (r : Records) (s : State) → Fits r s → (k : ℕ) → IsSome (row_of r.delay.rows (local s k)) → (g : GroupNo) → is_group s g ≡ true → is_pending (s.group g) ≡ false → log_of r.orders g ≡ new_log g → Fits (tell_in r (local s k) (fact.Standing g Member)) (set_standing s k g Member)
+fits_member r s fits k row g listed unclosed new = fits_told_with r s fits k row (fact.Standing g Member) (λ _. listed) logs
   where
     t : State
     t = set_standing s k g Member
@@ -523,14 +546,14 @@ fits_member r s fits k row g listed new = fits_told_with r s fits k row (fact.St
     logs h = elim (cases_Bool (group_eq g h)) [
       | inl here ↦ subst (λ x. LogFits t x (log_of r.orders x)) (same_group g h here) own
       | inr apart ↦
-          log_alike s t h (log_of r.orders h) refl refl refl refl (λ j. refl) (omega arith)
+          log_alike s t h (log_of r.orders h) refl refl refl refl refl refl (λ j. refl) (omega arith)
           (λ p is. same p h apart (site_eq p.site s.here) (k == p.serial) (eqb-true k p.serial) is)
           (λ p u is. delivered p u (site_eq p.site s.here) (k == p.serial) (eqb-true k p.serial) is)
           (fits.orders h)
     ]
       where
         own : LogFits t g (log_of r.orders g)
-        own = log_starts s t g (log_of r.orders g) refl refl refl refl (λ j. refl) (omega arith) (λ p. ap (λ l. place_of l p) new)
+        own = log_starts s t g (log_of r.orders g) refl refl refl unclosed unclosed refl (λ j. refl) (omega arith) (λ p. ap (λ l. place_of l p) new)
             (λ p u is. delivered p u (site_eq p.site s.here) (k == p.serial) (eqb-true k p.serial) is)
             (fits.orders g)
 
@@ -553,7 +576,7 @@ fits_acts r s fits acts = record {
   messages = fits.messages;
   processes = fits.processes;
   acks = fits.acks;
-  orders = orders_same s (record s { acts = acts }) r.orders refl refl refl refl refl refl fits.orders;
+  orders = orders_same s (record s { acts = acts }) r.orders refl refl refl refl refl refl refl fits.orders;
   frames = fits.frames;
   delivered = fits.delivered;
 }
@@ -597,8 +620,8 @@ fits_receive_with r s fits m sound orders logs = record {
   delivered = fits.delivered;
 }
 
--- a message of the current view of its group is received, which is no set-order message of a process here
-pub fits_receive : (r : Records) (s : State) → Fits r s → (m : Message) → IsSound m → (m.id.view == (s.group m.id.group).number) ≡ true → ((k : ℕ) → (is_order (kind_of m.body) && proc_eq m.id.proc (local s k)) ≡ false) → Fits (receive_in r m) (receiving s m)
+-- a message of the current view of its group is received, which is no set-order message of a process here, unless an Install waits
+pub fits_receive : (r : Records) (s : State) → Fits r s → (m : Message) → IsSound m → (m.id.view == (s.group m.id.group).number) ≡ true → (is_pending (s.group m.id.group) ≡ false → (k : ℕ) → (is_order (kind_of m.body) && proc_eq m.id.proc (local s k)) ≡ false) → Fits (receive_in r m) (receiving s m)
 fits_receive r s fits m sound current foreign = fits_receive_with r s fits m sound (learn_in r.orders m.id.group m.body) (logs_receive s m r.orders fits.orders current foreign)
 
 -- which serials were given after one more
@@ -651,7 +674,7 @@ fits_open r s fits = record {
     idle = λ k none. fits.processes.idle k (given_before s.used k none);
   };
   acks = fits.acks;
-  orders = orders_same s (opening_next s) r.orders refl refl refl refl refl refl fits.orders;
+  orders = orders_same s (opening_next s) r.orders refl refl refl refl refl refl refl fits.orders;
   frames = fits.frames;
   delivered = fits.delivered;
 }
@@ -707,7 +730,11 @@ fits_before here config = record {
     idle = λ k none. subst HasNotBegun (idle (record { site = here; serial = k })) (record { time = refl; delivered = refl });
   };
   acks = acks_new_fits here (is_live (before_event (opening here config)));
-  orders = λ g. record { stable = 0; reached = omega arith; fits = order_new_fits g (goes_on (before_event (opening here config)) g) (λ p e. has_delivered (process_named (before_event (opening here config)) p) (named g 0 e)); counted = λ x in_it. absurd (omega (arith, in_it.1)) };
+  orders = λ g. record {
+    whole = refl;
+    tells = λ _. record { stable = 0; reached = omega arith; fits = order_new_fits g (goes_on (before_event (opening here config)) g) (has_passed (before_event (opening here config)) g); counted = λ x in_it. absurd (omega (arith, in_it.1)) };
+    closed = λ waits. absurd (false≢true waits);
+  };
   frames = refl;
   delivered = refl;
 }

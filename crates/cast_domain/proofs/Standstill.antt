@@ -23,28 +23,35 @@ use Rattle.cast_delay.proofs.Queues.{delivered_by}
 use Rattle.cast_order.specs.Log.{log_of}
 use Rattle.cast_history.specs.History.{history}
 use Rattle.cast_domain.specs.declared.record.GroupRecord.{GroupRecord}
-use Rattle.cast_view.specs.MemberSide.{holder_at}
+use Rattle.cast_types.specs.Names.{named}
+use Rattle.cast_timer.specs.declared.key.OwedKind.TheVariants.{Want}
+use Rattle.cast_delay.specs.Ready.{covered}
+use Rattle.cast_view.specs.MemberSide.{MemberSide, holder_at, is_pending}
 use Rattle.cast_history.specs.State.{State, local, serials, gate_of, was_given}
-use Rattle.cast_history.specs.Order.{unlisted, is_ready_for}
+use Rattle.cast_history.specs.Order.{unlisted}
+use Rattle.cast_history.specs.Turns.{is_ready_for}
 use Rattle.cast_history.specs.Effects.{sending, next_message}
 use Rattle.cast_history.specs.Rest.{deliver_first, deliver_all, settle, set_order_by, set_order, set_orders, pass, let_go}
 use Rattle.cast_history.proofs.Setting.{may_set_order, set_order_is}
-use Rattle.cast_history.specs.Resting.{places_of}
+use Rattle.cast_history.specs.Resting.{resting, places_of}
+use Rattle.cast_history.specs.Lawful.{IsLawful}
 use Rattle.cast_timer.specs.Owed.{is_owed}
 use Rattle.cast_view.specs.Home.{wants_in}
-use Rattle.cast_history.specs.Rules.Keys.{want_key}
+use Rattle.cast_history.specs.Rules.Keys.{want_key, message_key}
+use Rattle.cast_history.specs.Rules.Flushes.{go_on_all}
 use Rattle.cast_history.specs.Rules.Home.{lead}
-use Rattle.cast_history.specs.Endings.{total, one_if, left, rank, ranks, undelivered, is_to_come, to_list_by, to_list_in, to_list, to_do, unowed_in, unowed}
+use Rattle.cast_history.specs.Endings.{total, one_if, left, rank, ranks, undelivered, is_to_come, to_list_by, to_list_here, to_list_in, to_list, to_do, site_unowed, unowed_in, unowed, pendings}
 use Rattle.cast_domain.specs.Records.{Records}
 use Rattle.cast_domain.specs.Fits.{record_for, process_named, Fits}
-use Rattle.cast_history.proofs.Alikes.{alike_sending}
+use Rattle.cast_history.proofs.Alikes.{Alike, alike_sending}
+use Rattle.cast_history.proofs.Going.{goes_on}
 use Rattle.cast_history.proofs.Settles.{Delivers, delivering_one, delivers, ready_causally}
 use Rattle.cast_history.proofs.Spots.{found_passes}
-use Rattle.cast_history.proofs.Rests.{moves_pass}
+use Rattle.cast_history.proofs.Rests.{moves_settle, moves_set_orders, moves_lead, moves_pass, never_more}
 use Rattle.cast_history.proofs.Totals.{total_same}
-use Rattle.cast_history.proofs.LawfulSteps.{same_lead}
+use Rattle.cast_history.proofs.LawfulSteps.{same_lead, lawful_pass}
 use Rattle.cast_domain.proofs.Standing.{process_here}
-use Rattle.cast_domain.proofs.Ordering.{waiting_there}
+use Rattle.cast_domain.proofs.Ordering.{waiting_there, unfrozen_waits}
 use Rattle.cast_domain.proofs.SetOrders.{holder_local}
 
 -- What a pass receives comes last
@@ -59,7 +66,8 @@ same_on before after same = ([], same ∙ sym (append-nil before))
 on_then : (a b c : List Message) → GoesOn a b → GoesOn b c → GoesOn a c
 on_then a b c (x, first) (y, second) = (x ++ y, second ∙ ap (λ ms. ms ++ y) first ∙ append_assoc a x y)
 
--- what a pass leaves: the messages received go on, groups stay in their views, and so does what was delivered of views that ended
+-- what a pass leaves where no Install is completed: the messages received go on, groups stay in their views, and so does what was
+-- delivered of views that ended
 pub record Goes (s t : State) : Type 0 where
   pub got : GoesOn s.got t.got
   pub number : (g : GroupNo) → (t.group g).number ≡ (s.group g).number
@@ -151,12 +159,28 @@ goes_lead s = let a = same_lead s in record {
   ended = λ k u old. ap (λ p. has_delivered p u) (a.process k);
 }
 
-goes_pass : (s : State) → Goes s (pass s)
-goes_pass s =
+goes_alike : (s t : State) → Alike s t → Goes s t
+goes_alike s t a = record {
+  got = same_on s.got t.got a.got;
+  number = λ g. ap (λ groups. (groups g).number) a.group;
+  ended = λ k u old. ap (is_among uid_eq u) (a.delivered k);
+}
+
+goes_pass : (s : State) → pendings (pass s) ≡ pendings s → Goes s (pass s)
+goes_pass s as_many =
     let t : State = settle s in
     let u : State = set_orders t in
-    goes_then s t (lead history u) (goes_fold deliver_all (λ x k. goes_iterate (length x.got) k x) (serials s) s)
-    (goes_then t u (lead history u) (goes_fold set_order goes_order t.config.groups t) (goes_lead u))
+    let v : State = go_on_all history resting u in
+    goes_then s t (pass s) (goes_fold deliver_all (λ x k. goes_iterate (length x.got) k x) (serials s) s)
+    (goes_then t u (pass s) (goes_fold set_order goes_order t.config.groups t)
+    (goes_then u v (pass s) (elim (goes_on u).way [
+      | inl fewer ↦
+          let first = never_more s t (moves_settle s) in
+          let second = never_more t u (moves_set_orders t) in
+          let last = never_more v (pass s) (moves_lead v) in
+          absurd (omega (arith, as_many, fewer, first, second, last))
+      | inr alike ↦ goes_alike u v alike
+    ]) (goes_lead v)))
 
 -- what goes on no longer is the same
 no_more : (before after : List Message) → GoesOn before after → length after ≡ length before → after ≡ before
@@ -169,8 +193,8 @@ no_more before after (more, is) same = is ∙ at more (let long = ap length is �
 -- Histories of the same messages and records
 
 -- they have the same to do, where one goes on from the other
-pub same_to_do : (r : Records) (s t : State) → Fits r s → Fits r t → Goes s t → t.got ≡ s.got → to_do t ≡ to_do s
-same_to_do r s t a b goes got = λ i. undelivered_same i + ranks_same i + (used_same i + 1) * lists_same i
+pub same_to_do : (r : Records) (s t : State) → Fits r s → Fits r t → IsLawful s → IsLawful t → Goes s t → t.got ≡ s.got → to_do t ≡ to_do s
+same_to_do r s t a b l m goes got = λ i. undelivered_same i + ranks_same i + (used_same i + 1) * lists_same i
   where
     here_same : t.here ≡ s.here
     here_same = sym (ap (λ c. c.site) b.core) ∙ (ap (λ c. c.site) a.core)
@@ -233,18 +257,31 @@ same_to_do r s t a b goes got = λ i. undelivered_same i + ranks_same i + (used_
         filter_step : Bool → Message → List Message → List Message
         filter_step x y ys = if x then y ∷ ys else ys
 
-    list_same : (g : GroupNo) → t.group g ≡ s.group g → to_list_in t g ≡ to_list_in s g
-    list_same g same =
+    -- what holders here have to list is the same, unless the group is frozen
+    here_listed : (g : GroupNo) → t.group g ≡ s.group g → not (s.group g).frozen ≡ true → to_list_here t g ≡ to_list_here s g
+    here_listed g same unfrozen =
         (λ i. elim (holder_at (here_same i) (same i)) [ Some p ↦ to_list_by t g p.serial | None ↦ 0 ])
         ∙ at (holder_at s.here (s.group g)) refl
       where
+        unclosed : is_pending (s.group g) ≡ false
+        unclosed = unfrozen_waits s l g unfrozen
+
         at : (o : Option Proc) → holder_at s.here (s.group g) ≡ o → ◌≡◌ {A = ℕ} (elim o [ Some p ↦ to_list_by t g p.serial | None ↦ 0 ]) (elim o [ Some p ↦ to_list_by s g p.serial | None ↦ 0 ])
         at None is = refl
         at (Some p) is =
             let mine = holder_local s g p is in
             let theirs = holder_local t g p ((λ i. holder_at (here_same i) (same i)) ∙ is) in
-            let waiting : unlisted t g p.serial ≡ unlisted s g p.serial = sym (waiting_there t g p.serial (log_of r.orders g) (b.orders g) theirs.1) ∙ waiting_there s g p.serial (log_of r.orders g) (a.orders g) mine.1 in
+            let waiting : unlisted t g p.serial ≡ unlisted s g p.serial =
+            sym (waiting_there t g p.serial (log_of r.orders g) ((b.orders g).tells (ap is_pending same ∙ unclosed)) theirs.1)
+            ∙ waiting_there s g p.serial (log_of r.orders g) ((a.orders g).tells unclosed) mine.1 in
             λ i. length (waiting i) + length (((λ j. filter (is_to_come t g p.serial) (got j)) ∙ come_same g same p.serial s.got) i)
+
+    list_same : (g : GroupNo) → t.group g ≡ s.group g → to_list_in t g ≡ to_list_in s g
+    list_same g same = ap (λ (v : MemberSide). if v.frozen then 0 else to_list_here t g) same ∙ by_frozen (s.group g).frozen refl
+      where
+        by_frozen : (frozen : Bool) → (s.group g).frozen ≡ frozen → ◌≡◌ {A = ℕ} (if frozen then 0 else to_list_here t g) (if frozen then 0 else to_list_here s g)
+        by_frozen true is = refl
+        by_frozen false is = here_listed g same (ap not is)
 
     lists_in : (gs : List GroupNo) → map (record_for t) gs ≡ map (record_for s) gs → total (to_list_in t) gs ≡ total (to_list_in s) gs
     lists_in [] same = refl
@@ -271,21 +308,42 @@ same_unowed r s t a b = (λ i. total (unowed_in t) (config_same i).groups) ∙ u
     owed_same : t.owed ≡ s.owed
     owed_same = sym (ap (λ c. c.owed) b.core) ∙ (ap (λ c. c.owed) a.core)
 
+    site_same : (g : GroupNo) → t.group g ≡ s.group g → site_unowed t g ≡ site_unowed s g
+    site_same g same = λ i. elim (same i).pending as (λ _. ℕ) [
+      | Some p ↦ total (λ e. one_if (not (is_owed (owed_same i) (message_key Want (named g (same i).number e) (config_same i).home)))) (covered p.cut)
+      | None ↦ 0
+    ]
+
     unowed_groups : (gs : List GroupNo) → map (record_for t) gs ≡ map (record_for s) gs → total (unowed_in t) gs ≡ total (unowed_in s) gs
     unowed_groups [] same = refl
     unowed_groups (g ∷ gs) same =
         let first : record_for t g ≡ record_for s g = cc in
         let rest : map (record_for t) gs ≡ map (record_for s) gs = cc in
         let home : t.home g ≡ s.home g = ap (λ (x : GroupRecord). x.home) first in
-        λ i. total (λ w. one_if (not (is_owed (owed_same i) (want_key g w)))) (wants_in g (home i) (home i).phase) + unowed_groups gs rest i
+        λ i. (total (λ w. one_if (not (is_owed (owed_same i) (want_key g w)))) (wants_in g (home i) (home i).phase) + site_same g (ap (λ (x : GroupRecord). x.here) first) i) + unowed_groups gs rest i
+
+-- as many Installs wait
+same_pendings : (r : Records) (s t : State) → Fits r s → Fits r t → pendings t ≡ pendings s
+same_pendings r s t a b = (λ i. total (λ g. one_if (is_pending (t.group g))) (config_same i).groups) ∙ in_groups s.config.groups ((λ i. map (record_for t) (sym config_same i).groups) ∙ (sym b.groups ∙ a.groups))
+  where
+    config_same : t.config ≡ s.config
+    config_same = sym (ap (λ c. c.config) b.core) ∙ (ap (λ c. c.config) a.core)
+
+    in_groups : (gs : List GroupNo) → map (record_for t) gs ≡ map (record_for s) gs → total (λ g. one_if (is_pending (t.group g))) gs ≡ total (λ g. one_if (is_pending (s.group g))) gs
+    in_groups [] same = refl
+    in_groups (g ∷ gs) same =
+        let first : record_for t g ≡ record_for s g = cc in
+        let rest : map (record_for t) gs ≡ map (record_for s) gs = cc in
+        λ i. one_if (is_pending (ap (λ (x : GroupRecord). x.here) first i)) + in_groups gs rest i
 
 -- records that a pass leaves as they are stand at rest
-pub still_pass : (r : Records) (s : State) → Fits r s → Fits r (pass s) → pass s ≡ s
-still_pass r s before after = elim (moves_pass s).way [
+pub still_pass : (r : Records) (s : State) → Fits r s → IsLawful s → Fits r (pass s) → pass s ≡ s
+still_pass r s before lawful after = elim (moves_pass s).way [
   | inl same ↦ same
-  | inr (inl less) ↦
-      let goes : Goes s (pass s) = goes_pass s in
+  | inr (inl fewer) ↦ let same = same_pendings r s (pass s) before after in absurd (omega (arith, fewer, same))
+  | inr (inr (as_many, inl less)) ↦
+      let goes : Goes s (pass s) = goes_pass s as_many in
       let got : (pass s).got ≡ s.got = no_more s.got (pass s).got goes.got (sym after.messages.counted ∙ before.messages.counted) in
-      let same = same_to_do r s (pass s) before after goes got in absurd (omega (arith, less, same))
-  | inr (inr fewer) ↦ let less = fewer.1 in let same = same_unowed r s (pass s) before after in absurd (omega (arith, less, same))
+      let same = same_to_do r s (pass s) before after lawful (lawful_pass s lawful) goes got in absurd (omega (arith, less, same))
+  | inr (inr (as_many, inr fewer)) ↦ let less = fewer.1 in let same = same_unowed r s (pass s) before after in absurd (omega (arith, less, same))
 ]

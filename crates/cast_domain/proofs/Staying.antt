@@ -1,5 +1,5 @@
 -- As processes are put out of a view and enter the next one, there are as many groups as before.
-use Rattle.std.proofs.Common.{◌≡◌, ℕ, ◌-◌, Bool, true, false, not, ◌&&◌, ◌||◌, List, [], ◌∷◌, length, refl, ap, ◌∙◌}
+use Rattle.std.proofs.Common.{◌≡◌, ℕ, ◌-◌, Bool, true, false, ◌&&◌, List, [], ◌∷◌, length, refl, ap, ◌∙◌}
 use Rattle.std.specs.Prelude.{if◌then◌else◌}
 use Rattle.std.specs.List.{fold, range_with_len}
 use Rattle.cast_types.specs.declared.names.GroupNo.{GroupNo}
@@ -17,7 +17,7 @@ use Rattle.cast_model.specs.Session.{told}
 use Rattle.cast_view.specs.MemberSide.{with_view, is_taken_in}
 use Rattle.cast_history.specs.State.{was_given}
 use Rattle.cast_domain.specs.Records.{Records}
-use Rattle.cast_domain.specs.Calls.{record_at, standing_of, time_of, local_in, push_in, tell_in, enter_in, take_in, view_in, complete_in, put_out_in, is_put_out_in, put_out_if_in, put_out_all_in, pass_in}
+use Rattle.cast_domain.specs.Calls.{record_at, standing_of, time_of, local_in, push_in, tell_in, enter_in, take_in, view_in, put_out_in, is_put_out_in, put_out_if_in, put_out_all_in, pass_in}
 
 push_groups : (r : Records) (k : ℕ) (p : Push) → (push_in r k p).groups ≡ r.groups
 push_groups r k p = elim (was_given (length r.sessions) k) as (λ b. (if b then record r { sessions = update r.sessions (k - 1) (told p) } else r).groups ≡ r.groups) [ true ↦ refl | false ↦ refl ]

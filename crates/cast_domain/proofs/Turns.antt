@@ -29,20 +29,21 @@ use Rattle.cast_order.specs.Log.{Log, log_of, change_log, next_in, told, passed}
 use Rattle.cast_history.specs.History.{history}
 use Rattle.cast_model.specs.Session.{is_open, pushed_to}
 use Rattle.cast_history.specs.State.{State, local, is_group, gate_of, set_session, was_given, pushing, with_delivery}
-use Rattle.cast_history.specs.Order.{is_of_view, holds, turn_of, is_ready_for}
+use Rattle.cast_history.specs.Order.{is_of_view, sets_order}
+use Rattle.cast_history.specs.Turns.{turn_of, is_ready_for}
 use Rattle.cast_history.specs.Effects.{delivering}
 use Rattle.cast_history.specs.Rules.Rest.{told_of, tell}
 use Rattle.cast_history.specs.Rest.{deliver_first, deliver_all, is_free}
 use Rattle.cast_history.specs.Endings.{left}
 use Rattle.cast_domain.specs.Records.{Records}
 use Rattle.cast_history.specs.Rules.Release as release
-use Rattle.cast_domain.specs.Calls.{records, resting_records, holds_in, turns_in, note_delivery_in, note_delivered_under, ready_key_in}
+use Rattle.cast_domain.specs.Calls.{records, resting_records, sets_order_in, turns_in, note_delivery_in, note_delivered_under, ready_key_in}
 use Rattle.cast_history.specs.Rules.Rest as rest
 use Rattle.cast_history.specs.Lawful.{IsSpent, AreKept, IsLawful}
 use Rattle.cast_domain.specs.Fits.{process_named, Fits}
 use Rattle.cast_history.proofs.Settles.{delivering_one, delivers, ready_causally, ready_new, delivered_first, delivered_none, turns_are_enough}
 use Rattle.cast_domain.proofs.LogSteps.{noting, logs_deliver}
-use Rattle.cast_domain.proofs.Ordering.{holds_there, turns_there}
+use Rattle.cast_domain.proofs.Ordering.{sets_order_there, turns_there}
 use Rattle.cast_history.proofs.Totals.{left_found, left_le}
 use Rattle.cast_history.proofs.Spots.{found_passes}
 use Rattle.cast_history.proofs.Lawful.{lawful_delivering}
@@ -122,6 +123,13 @@ ready_current s k m ready =
     let a = and_parts (is_member ((s.process k).standing m.id.group)) _ (ready_causally s k m ready) in
     ap (λ b. b && (m.id.view == (s.group m.id.group).number)) (group_itself m.id.group) ∙ (and_parts (m.id.view == (s.group m.id.group).number) _ a.1).0
 
+-- and its group delivers it
+ready_opens : (s : State) (k : ℕ) (m : Message) → is_ready_for s k m ≡ true → is_open_to (gate_of s m.id.group) (entry_of m.id) ≡ true
+ready_opens s k m ready =
+    let a = and_parts (is_member ((s.process k).standing m.id.group)) _ (ready_causally s k m ready) in
+    let b = and_parts (m.id.view == (s.group m.id.group).number) _ a.1 in
+    (and_parts (is_open_to (gate_of s m.id.group) (entry_of m.id)) _ b.1).0
+
 ready_listed : (s : State) (k : ℕ) (m : Message) → IsLawful s → is_ready_for s k m ≡ true → is_group s m.id.group ≡ true
 ready_listed s k m l ready =
     let a = and_parts (is_member ((s.process k).standing m.id.group)) _ (ready_causally s k m ready) in
@@ -141,7 +149,7 @@ fits_turn r s fits l k given key m under ready = record {
     idle = still_idle s k (delivering_to m (s.process k)) given fits.processes.idle;
   };
   acks = fits.acks;
-  orders = logs_deliver s k m (passing r s k key m) r.orders l.traced fits.orders (ready_new s k m ready) (ready_current s k m ready)
+  orders = logs_deliver s k m (passing r s k key m) r.orders l.traced fits.orders (ready_new s k m ready) (ready_current s k m ready) (ready_opens s k m ready)
       (subst (λ v. find (λ e. not (has_delivered (process_named (with_delivery s k m) (local s k)) (named m.id.group v e))) (take (passing r s k key m) ids) ≡ None) view
       (passed_delivered s.config.groups (gate_of s) (process_named (with_delivery s k m)) r.part.kept (turned r s k key m).delay delay_now (local s k) m.id.group m.id.view ids
       (still_after r.delay.offered (local s k) key (local s k) r.delay.rows (fits.processes.admitted k given)) (omega (arith, view))));
@@ -174,10 +182,10 @@ noted_as r s fits l k key m ready = at (is_atomic (kind_of m.body))
     passes : List Log
     passes = change_log g (passed (local s k) (passing r s k key m)) r.orders
 
-    same : holds_in (turned r s k key m) g (local s k) ≡ holds s g k
-    same = holds_there r s fits g (ready_listed s k m l ready) k
+    same : sets_order_in (turned r s k key m) g (local s k) ≡ sets_order s g k
+    same = sets_order_there r s fits g (ready_listed s k m l ready) k
 
-    at : (b : Bool) → (if b then note_delivery_in (turned r s k key m) (local s k) m.id else turned r s k key m) ≡ record (turned r s k key m) { orders = if b then (if holds s g k then tells else passes) else r.orders }
+    at : (b : Bool) → (if b then note_delivery_in (turned r s k key m) (local s k) m.id else turned r s k key m) ≡ record (turned r s k key m) { orders = if b then (if sets_order s g k then tells else passes) else r.orders }
     at true = λ i. record (turned r s k key m) { orders = if same i then tells else passes }
     at false = refl
 
@@ -230,7 +238,7 @@ fits_first r s fits l k given =
   where
     -- the turns of the groups that it is a member of
     turns : HasTurns (process_named s (local s k)) (turns_in r (local s k)) (turn_of s k)
-    turns g member = turns_there r s fits k (fits.processes.admitted k given) g (l.known k g (ap is_outside (only_member ((s.process k).standing g) (ap (λ p. is_member (p.standing g)) (sym (process_here s k)) ∙ member)))) member
+    turns g member = turns_there r s fits l k (fits.processes.admitted k given) g (l.known k g (ap is_outside (only_member ((s.process k).standing g) (ap (λ p. is_member (p.standing g)) (sym (process_here s k)) ∙ member)))) member
 
     found_is : first_ready s.config.groups (gate_of s) (turn_of s k) (process_named s (local s k)) (messages r.part.kept) ≡ find (is_ready_for s k) s.got
     found_is = (λ i. find (is_ready s.config.groups (gate_of s) (turn_of s k) (process_here s k i)) (fits.messages.kept_in i)) ∙ sym (ready_kept s k given l)

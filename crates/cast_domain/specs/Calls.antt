@@ -1,6 +1,7 @@
 -- What the calls of a domain do to its records, exactly.
-use Rattle.std.specs.Prelude.{ℕ, ◌+◌, ◌-◌, min, max, Bool, false, not, ◌&&◌, ◌||◌, nat_lt, if◌then◌else◌, List, [], ◌∷◌, ◌++◌, length, map, filter, get_or, slice_get, Option, Some, None}
-use Rattle.std.specs.List.{fold, find, list_any, range_with_len}
+use Rattle.std.specs.Prelude.{ℕ, ◌+◌, ◌-◌, min, max, Bool, false, not, ◌&&◌, ◌||◌, ◌==◌, nat_lt, if◌then◌else◌, List, [], ◌∷◌, ◌++◌, length, take, map, filter, get_or, slice_get, Option, Some, None}
+use Rattle.std.specs.List.{fold, find, list_all, list_any, range_with_len}
+use Rattle.std.specs.FinMap.Entries.{put}
 use Rattle.std.specs.Option.{option_map, option_map_or}
 use Rattle.cast_types.specs.declared.names.SiteNo.{SiteNo}
 use Rattle.cast_types.specs.declared.names.GroupNo.{GroupNo}
@@ -10,11 +11,12 @@ use Rattle.cast_types.specs.declared.names.Key.{Key}
 use Rattle.cast_types.specs.declared.names.Standing.{Standing}
 use Rattle.cast_types.specs.declared.names.Standing.TheVariants.{Outside, Joining, Member}
 use Rattle.cast_types.specs.declared.refusal.Refusal.{Refusal}
-use Rattle.cast_types.specs.declared.limits.TheConstants.{MAX_NUMBER, MAX_MOMENT}
-use Rattle.cast_types.specs.Names.{site_eq, group_eq, proc_eq, uid_eq, is_atomic, named, entry_of}
+use Rattle.cast_types.specs.declared.limits.TheConstants.{MAX_NUMBER, MAX_MOMENT, MAX_PLACED, MAX_POSITION}
+use Rattle.cast_types.specs.Names.{Entry, site_eq, group_eq, group_cmp, proc_eq, uid_eq, is_atomic, named, entry_of}
 use Rattle.cast_types.specs.Sets.{is_among}
 use Rattle.cast_types.specs.Places.{update}
-use Rattle.cast_types.specs.Counts.{CountList}
+use Rattle.cast_types.specs.Counts.{CountList, is_within}
+use Rattle.cast_types.specs.Sources.{source}
 use Rattle.cast_types.specs.Stamps.{ClockList}
 use Rattle.cast_clock.specs.Times.{no_time, count_in, bumped, entering}
 use Rattle.cast_message.specs.declared.message.Body.{Body}
@@ -29,24 +31,26 @@ use Rattle.cast_message.specs.Membership.{Membership}
 use Rattle.cast_message.specs.Stretch.{Stretch}
 use Rattle.cast_message.specs.Keeping.{KeptList}
 use Rattle.cast_flush.specs.declared.report.Report.{Report}
-use Rattle.cast_delay.specs.Ready.{is_member}
+use Rattle.cast_delay.specs.Ready.{frozen_gate, pending_gate, is_member, covered}
+use Rattle.cast_delay.specs.Tallies.{counts_in}
 use Rattle.cast_delay.specs.declared.turn.Turn.{Turn}
 use Rattle.cast_delay.specs.declared.turn.Turn.TheVariants.{Holding, Following}
 use Rattle.cast_delay.specs.Fits.{offer_of}
-use Rattle.cast_delay.specs.Rows.{standing_in, told_row}
+use Rattle.cast_delay.specs.Rows.{gate_in, standing_in, told_row}
 use Rattle.cast_delay.specs.declared.row.Fact.{Fact}
 use Rattle.cast_delay.specs.declared.row.Fact.TheVariants as fact
 use Rattle.cast_delay.specs.Queue.{Queue, new_row, row_of, change_row, next_key, queue_viewing, queue_delivering, is_awaited, delivered_in, passed_in}
-use Rattle.cast_order.specs.Log.{Log, log_of, change_log, but_log, learnt, next_in, passed, told, next_places, assigned, has_room_in as has_room_in_log}
-use Rattle.cast_stable.specs.Ledger.{others_in, is_received_in, has_acked_in, upto_in, is_stable_in, told_ledger, received_ledger, acked_ledger, learnt_ledger}
+use Rattle.cast_order.specs.Log.{Log, log_of, change_log, but_log, learnt, next_in, passed, told, next_places, assigned, closed_by, whole_kept, tail_start_in, tail_ids_in, has_room_in as has_room_in_log}
+use Rattle.cast_stable.specs.Ledger.{others_in, last_received_in, is_received_in, has_acked_in, upto_in, is_stable_in, told_ledger, received_ledger, acked_ledger, learnt_ledger}
 use Rattle.cast_timer.specs.declared.key.OwedKey.{OwedKey}
 use Rattle.cast_timer.specs.Owed.{is_owed, due_at}
-use Rattle.cast_message.specs.Receipts.{key_eq, message_under}
+use Rattle.cast_message.specs.Receipts.{key_eq, messages, message_under}
 use Rattle.cast_domain.specs.declared.record.GroupRecord.{GroupRecord}
 use Rattle.cast_model.specs.Session.{first_session, told as told_session, is_open, is_gone, closed, gone}
-use Rattle.cast_view.specs.MemberSide.{no_group, members_of, holder_of, is_process, is_current, with_request, with_answer, with_view, is_taken_in}
+use Rattle.cast_view.specs.declared.member.Pending.{Pending}
+use Rattle.cast_view.specs.MemberSide.{MemberSide, no_group, members_of, holder_of, is_process, is_current, with_request, with_answer, frozen_side, report_of, with_pending, with_view, is_taken_in}
 use Rattle.cast_model.specs.declared.session.Session.{Session}
-use Rattle.cast_view.specs.Sites.{other_sites}
+use Rattle.cast_view.specs.Sites.{is_at, other_sites}
 use Rattle.cast_view.specs.Home.{HomeMove, first_home, is_empty, moved}
 use Rattle.cast_domain.specs.Shared.{part_with, part_without, part_owing, part_renewing, part_paying, part_paying_upto, part_paying_view}
 use Rattle.cast_history.specs.Rules.Interface.{Site, Serials, Resting}
@@ -54,6 +58,7 @@ use Rattle.cast_history.specs.Rules.Rest.{tell, told_of}
 use Rattle.cast_history.specs.Rules.Room.{may_order}
 use Rattle.cast_history.specs.Rules.Sending.{may_raise}
 use Rattle.cast_history.specs.State.{was_given}
+use Rattle.cast_history.specs.Reports.{kept_list}
 use Rattle.cast_domain.specs.Records.{Records}
 use Rattle.cast_domain.specs.Fits.{session_in}
 
@@ -247,6 +252,66 @@ put_out_all_in g skips n members r = fold (put_out_if_in g skips n members) r (r
 abbrev pub pass_in : Records → ℕ → Bool → ℕ → Membership → ℕ → Records
 pass_in r i skips n members request = complete_in (put_out_all_in (record_at r.groups i).name skips n members r) i n members request
 
+-- The site's part in a flush
+
+-- a flush has frozen the group at a place
+abbrev pub freeze_in : Records → ℕ → Records
+freeze_in r i =
+    let g : GroupNo = (record_at r.groups i).name in
+    record r {
+      groups = update r.groups i (λ x. record x { here = frozen_side x.here });
+      delay = record r.delay { gates = put group_cmp g (frozen_gate (gate_in r.delay.gates g)) r.delay.gates };
+    }
+
+-- the Install of its next view waits, and its order is closed
+abbrev pub pend_in : Records → ℕ → Pending → Stretch → Records
+pend_in r i p tail =
+    let g : GroupNo = (record_at r.groups i).name in
+    record r {
+      groups = update r.groups i (λ x. record x { here = with_pending x.here p });
+      delay = record r.delay { gates = put group_cmp g (pending_gate p.cut (gate_in r.delay.gates g)) r.delay.gates };
+      orders = change_log g (closed_by (is_within p.cut) tail.start tail.ids) r.orders;
+    }
+
+-- how far the messages of each process were delivered here in the view of a group, and the last ones that members here sent
+abbrev pub had_of : Records → GroupRecord → List Entry
+had_of r x =
+    counts_in x.name x.here.number r.delay.reached
+    ++ map (λ p. (p, last_received_in r.acks (source x.name x.here.number p))) (filter (is_at r.site) (members_of x.here))
+
+-- a kept message of the group's view
+abbrev pub is_kept_of : GroupRecord → Message → Bool
+is_kept_of x m = group_eq m.id.group x.name && (m.id.view == x.here.number)
+
+-- the end of the order that a log has
+abbrev pub tail_in : Log → Stretch
+tail_in l = record { start = min MAX_POSITION (tail_start_in l); ids = tail_ids_in l }
+
+abbrev pub report_at : Records → GroupRecord → Report
+report_at r x =
+    report_of x.here (had_of r x) (tail_in (log_of r.orders x.name))
+    (kept_list (filter (is_kept_of x) (messages r.part.kept)) (whole_kept (log_of r.orders x.name)))
+
+-- some member here has not delivered a message of the view of a group
+abbrev pub is_awaited_of : Records → GroupRecord → Entry → Bool
+is_awaited_of r x e = is_awaited r.delay.rows (named x.name x.here.number e)
+
+-- it was received: of a process that is no member, and of another site, nothing was
+abbrev pub is_received_of : Records → GroupRecord → Entry → Bool
+is_received_of r x e =
+    (is_among proc_eq e.0 (members_of x.here) || site_eq e.0.site r.site) && is_received_in r.acks (named x.name x.here.number e)
+
+abbrev pub has_cut_of : Records → GroupRecord → CountList → Bool
+has_cut_of r x cut = list_all (λ e. not (is_awaited_of r x e)) cut
+
+abbrev pub missing_of : Records → GroupRecord → CountList → List Entry
+missing_of r x cut = take MAX_PLACED (filter (λ e. is_awaited_of r x e && not (is_received_of r x e)) (covered cut))
+
+-- a message is of the view that its group has here, which no flush has frozen
+abbrev pub is_open_in : Records → Uid → Bool
+is_open_in r u =
+    option_map_or (λ i. is_current (record_at r.groups i).here u.view && not (record_at r.groups i).here.frozen) (place_in r u.group) false
+
 -- Messages that are let go
 
 -- a message is kept and offered no longer
@@ -293,6 +358,7 @@ records = record {
   is_owed = λ r key. is_owed r.part.owed key;
   due = λ r. due_at r.moment r.part.owed;
   is_gone = λ r k. is_gone (session_in r.sessions k);
+  report = λ r i. report_at r (record_at r.groups i);
   send = send_in;
   note_owed = note_owed_in;
   note_resent = note_resent_in;
@@ -309,6 +375,8 @@ records = record {
   receive = receive_in;
   note_request = note_request_in;
   note_answer = note_answer_in;
+  freeze = freeze_in;
+  pend = pend_in;
   move_home = move_home_in;
   enter_view = λ r i skips n members request cut. pass_in r i skips n members request;
   release_ended = λ r i. release_all_in r (is_ended_in r i);
@@ -335,18 +403,21 @@ records_serials = record { used = λ r. r.used; open_next = open_in }
 abbrev pub log_in : Records → GroupNo → Log
 log_in r g = log_of r.orders g
 
--- a process is the holder of a group's view
-abbrev pub holds_in : Records → GroupNo → Proc → Bool
-holds_in r g p = option_map_or (λ i. is_process p (holder_of (record_at r.groups i).here)) (place_in r g) false
-
 -- how many messages of a process of this site are stable in a view: all in a view of this site alone
 abbrev pub settled_in : Records → GroupNo → ℕ → Proc → ℕ
 settled_in r g view p = if is_empty (others_in r.acks g) then MAX_NUMBER else upto_in r.acks (named g view (p, 0))
 
+-- a process is the holder of a group's view, and sets its order, while no flush has frozen it
+abbrev pub sets_order_at : Proc → MemberSide → Bool
+sets_order_at p here = is_process p (holder_of here) && not here.frozen
+
+abbrev pub sets_order_in : Records → GroupNo → Proc → Bool
+sets_order_in r g p = option_map_or (λ i. sets_order_at p (record_at r.groups i).here) (place_in r g) false
+
 -- the turn of a process in a group
 abbrev pub turn_at : Records → Proc → GroupRecord → Turn
 turn_at r p x =
-    if is_process p (holder_of x.here)
+    if sets_order_at p x.here
     then Holding (may_order records r && has_room_in_log (settled_in r x.name x.here.number p) (log_in r x.name))
     else Following (slice_get (next_in (log_in r x.name) p) (passed_in r.delay p x.name x.here.number (next_in (log_in r x.name) p)))
 
@@ -359,7 +430,7 @@ abbrev pub note_delivery_in : Records → Proc → Uid → Records
 note_delivery_in r p u =
     record r {
       orders =
-          if holds_in r u.group p then change_log u.group (told (entry_of u)) r.orders
+          if sets_order_in r u.group p then change_log u.group (told (entry_of u)) r.orders
           else change_log u.group (passed p (passed_in r.delay p u.group u.view (next_in (log_in r u.group) p))) r.orders;
     }
 
@@ -410,8 +481,10 @@ resting_records = record {
   serials = λ r. range_with_len 1 r.used;
   turns = λ r. length r.part.kept;
   next_ready = next_ready_in;
-  is_current = is_current_in;
+  is_open = is_open_in;
   is_delivered = λ r u. not (is_awaited r.delay.rows u);
+  has_cut = λ r i cut. has_cut_of r (record_at r.groups i) cut;
+  missing = λ r i cut. missing_of r (record_at r.groups i) cut;
   next_places = λ r i k. next_places (log_in r (record_at r.groups i).name);
   note_delivered = note_delivered_in;
   note_listed = note_listed_in;

@@ -19,14 +19,14 @@ use Rattle.cast_types.specs.declared.source.Source.{Source}
 use Rattle.cast_stable.specs.Fits.{Past, Fits as AcksFits}
 use Rattle.cast_order.specs.Order.{Listing}
 use Rattle.cast_order.specs.Log.{Log, log_of}
-use Rattle.cast_order.specs.Fits.{Fits as OrderFits}
+use Rattle.cast_order.specs.Fits.{Fits as OrderFits, FitsClosed}
 use Rattle.cast_domain.specs.declared.domain.Domain.{Domain}
 use Rattle.cast_domain.specs.declared.record.GroupRecord.{GroupRecord}
 use Rattle.cast_timer.specs.declared.key.Owed.{Owed}
 use Rattle.cast_model.specs.declared.config.DomainConfig.{DomainConfig}
 use Rattle.cast_model.specs.declared.session.Session.{Session}
-use Rattle.cast_model.specs.Session.{no_session, is_open}
-use Rattle.cast_view.specs.MemberSide.{holder_at}
+use Rattle.cast_model.specs.Session.{no_session}
+use Rattle.cast_view.specs.MemberSide.{holder_at, is_pending}
 use Rattle.cast_view.specs.Home.{is_empty}
 use Rattle.cast_history.specs.Lawful.{IsLawful}
 use Rattle.cast_history.specs.State.{State, no_process, gate_of, others_of, may_speak, upto, was_given}
@@ -89,14 +89,24 @@ settled_here s g = option_map_or (settled_of s g) (holder_at s.here (s.group g))
 abbrev pub goes_on : State → GroupNo → Proc → Bool
 goes_on s g p = is_member ((process_named s p).standing g)
 
--- a group's log tells of the order of its view, as it was told, delivered and listed here
-pub record LogFits (s : State) (g : GroupNo) (l : Log) : Type 0 where
+-- a member here has delivered an id of the view
+abbrev pub has_passed : State → GroupNo → Proc → Entry → Bool
+has_passed s g p e = has_delivered (process_named s p) (named g (s.group g).number e)
+
+-- a log tells of the order of a group's view, as it was told, delivered and listed here
+pub record TellsOrder (s : State) (g : GroupNo) (l : Log) : Type 0 where
   -- so many messages of the holder were stable when it listed last
   pub stable : ℕ
   pub reached : stable ≤ settled_here s g
-  pub fits : OrderFits (facts_in s g) (told_here s g) (lists_here s g) (goes_on s g)
-      (λ p e. has_delivered (process_named s p) (named g (s.group g).number e)) stable l
+  pub fits : OrderFits (facts_in s g) (told_here s g) (lists_here s g) (goes_on s g) (has_passed s g) stable l
   pub counted : (x : ℕ × List Entry) → Contains (lists_here s g) x → x.0 ≤ MAX_NUMBER
+
+-- a group's log does so until the Install of its next view waits, and then it has the order that the view ends with; nothing of it is
+-- forgotten before the view has ended
+pub record LogFits (s : State) (g : GroupNo) (l : Log) : Type 0 where
+  pub whole : l.base ≡ 0
+  pub tells : is_pending (s.group g) ≡ false → TellsOrder s g l
+  pub closed : is_pending (s.group g) ≡ true → FitsClosed (s.closed g) (goes_on s g) (has_passed s g) l
 
 -- The records of a step so far, beside a state
 

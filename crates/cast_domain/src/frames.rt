@@ -33,7 +33,7 @@ pub(crate) fn promised_by_types(frame: &SiteFrame)
     ensures { IsTypedFrame frame.now }
 {
     match frame {
-        SiteFrame::Data(message) => {
+        SiteFrame::Data(message) | SiteFrame::Forward(message) => {
             promised_by_counts(message.times.clocks());
         }
         SiteFrame::Install { members, .. } => {
@@ -46,7 +46,6 @@ pub(crate) fn promised_by_types(frame: &SiteFrame)
         | SiteFrame::Prepare { .. }
         | SiteFrame::Flushed { .. }
         | SiteFrame::Want(_)
-        | SiteFrame::Forward(_)
         | SiteFrame::Installed { .. }
         | SiteFrame::Out { .. } => {}
     }
@@ -123,9 +122,11 @@ impl Domain {
                 view,
                 members,
                 request,
+                cut,
+                tail,
                 ..
             } => {
-                self.install(place, from, *view, members, *request, lent)?;
+                self.install(place, from, *view, members, *request, cut, tail, lent)?;
                 Ok(())
             }
             SiteFrame::Installed { view, .. } => self.installed(place, from, *view, lent),
@@ -139,12 +140,15 @@ impl Domain {
                 ..
             } => self.flushed(place, from, *view, counts, tail, kept, lent),
             SiteFrame::Want(id) => self.wanted(place, from, *id, lent),
-            SiteFrame::Forward(message) => self.forwarded(place, message, lent),
+            SiteFrame::Forward(message) => {
+                self.forwarded_here(place, from, message, lent)?;
+                self.forwarded(place, message, lent)
+            }
             SiteFrame::Out { view, .. } => {
                 self.on_out(place, *view, lent)?;
                 Ok(())
             }
-            SiteFrame::Prepare { .. } => Ok(()),
+            SiteFrame::Prepare { view, .. } => self.prepared(place, from, *view, lent),
         }
     }
 
@@ -202,6 +206,7 @@ impl Domain {
         }
         self.receive(message.copy()?, lent)?;
         self.acknowledge(from, message.id, lent)?;
+        self.want_no_more(message.id, lent);
         Ok(())
     }
 

@@ -14,6 +14,7 @@
 #![tactic(auto)]
 
 mod domain;
+mod flushes;
 mod frames;
 mod home;
 mod leaving;

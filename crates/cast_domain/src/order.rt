@@ -1,8 +1,8 @@
-ghost use Rattle.std.specs.Prelude.{◌≡◌, ◌<◌, ◌&&◌, false, IfOk, OnOk, vec_len};
+ghost use Rattle.std.specs.Prelude.{◌≡◌, ◌<◌, ◌&&◌, not, false, IfOk, OnOk, vec_len};
 ghost use Rattle.std.specs.List.{list_any};
 ghost use Rattle.cast_delay.specs.Ready.{is_member};
 ghost use Rattle.cast_model.specs.Outs.{no_outs};
-ghost use Rattle.cast_domain.specs.Calls.{learn_in};
+ghost use Rattle.cast_domain.specs.Calls.{learn_in, record_at, sets_order_at};
 ghost use Rattle.cast_history.specs.Rules.Room.{may_order, may_take};
 ghost use Rattle.cast_history.specs.Rules.Order.{may_list, send_places, set_order_by, set_order, set_orders};
 
@@ -16,12 +16,13 @@ use cast_model::Outs;
 use cast_order::Orders;
 use cast_types::limits::MAX_NUMBER;
 use cast_types::{GroupNo, Key, Kind, NoMemory, Proc, Stamp, Standing, Uid};
+use cast_view::MemberSide;
 
 impl Domain {
     ghost use Rattle.cast_model.specs.declared.event.Outs.{Outs};
     ghost use Rattle.cast_domain.specs.Records.{Keeps, KeepsBeside, records_in, records_of};
     ghost use Rattle.cast_domain.specs.Shared.{Part, no_part};
-    ghost use Rattle.cast_domain.specs.Calls.{awaits_own_in, records, resting_records, holds_in, is_own_in, note_delivery_in, ready_key_in, settled_in, raised_at, standing_of, turn_at, turns_in};
+    ghost use Rattle.cast_domain.specs.Calls.{awaits_own_in, records, resting_records, sets_order_in, is_own_in, note_delivery_in, ready_key_in, settled_in, raised_at, standing_of, turn_at, turns_in};
 
     // Whether a set-order message may be sent or received beside the messages that are kept, and a holder may deliver
     // an ABCAST.
@@ -90,7 +91,7 @@ impl Domain {
     fn turn(&self, process: Proc, kept: &GroupRecord, lent: &Lent<'_>) -> Turn
         ensures { result ≡ turn_at (records_in self.now lent.now) process kept.now }
     {
-        if kept.here.is_held_by(process) {
+        if sets_order(&kept.here, process) {
             let settled = self.settled(kept.name, kept.here.number(), process);
             return Turn::Holding(
                 self.has_order_room(lent) && self.orders.has_room(kept.name, settled),
@@ -118,12 +119,13 @@ impl Domain {
         })
     }
 
-    // Notes that a process delivered an ABCAST: the holder has one more to list, another process may have passed places.
+    // Notes that a process delivered an ABCAST: the holder of a group that is not frozen has one more to list, another process
+    // may have passed places.
     pub(crate) fn note_delivery(&mut self, process: Proc, id: Uid) -> Result<(), NoMemory>
         ensures same { Keeps self.old self.new }
         ensures made { OnOk result ((o : Outs) (part : Part) → records_of self.new part o ≡ note_delivery_in (records_of self.old part o) process id) }
     {
-        if self.holds(id.group, process) {
+        if self.sets_order(id.group, process) {
             return self.orders.tell(id.group, (id.proc, id.count));
         }
         let ids = self.orders.next(id.group, process);
@@ -131,12 +133,12 @@ impl Domain {
         self.orders.pass(id.group, process, passed)
     }
 
-    // Whether a process is the holder of a group's view.
-    fn holds(&self, group: GroupNo, process: Proc) -> bool
-        ensures { (o : Outs) (part : Part) → result ≡ holds_in (records_of self.now part o) group process }
+    // Whether a process is the holder of a group's view and sets its order, which it does while no flush has frozen the group.
+    fn sets_order(&self, group: GroupNo, process: Proc) -> bool
+        ensures { (o : Outs) (part : Part) → result ≡ sets_order_in (records_of self.now part o) group process }
     {
         match self.place_of(group) {
-            Some(place) => self.record(place).here.is_held_by(process),
+            Some(place) => sets_order(&self.record(place).here, process),
             None => false,
         }
     }
@@ -184,7 +186,7 @@ impl Domain {
     {
         let holder = self.process(serial);
         let group = self.record(place).name;
-        if !self.may_list(holder, group, lent) {
+        if !self.may_list(place, holder, lent) {
             return Ok(false);
         }
         let Some(places) = self.orders.assign(group)? else {
@@ -198,11 +200,16 @@ impl Domain {
         Ok(true)
     }
 
-    // Whether the holder is a member, and there is room for one more set-order message.
-    fn may_list(&self, holder: Proc, group: GroupNo, lent: &Lent<'_>) -> bool
-        ensures { result ≡ (is_member (standing_of self.now.delay holder group) && may_order records (records_in self.now lent.now)) }
+    // Whether the holder is a member of the group at a place, which no flush has frozen, and there is room for one more set-order
+    // message.
+    fn may_list(&self, place: usize, holder: Proc, lent: &Lent<'_>) -> bool
+        requires { place < vec_len self.now.groups }
+        ensures { result ≡ (is_member (standing_of self.now.delay holder (record_at self.now.groups.items place).name) && (not (record_at self.now.groups.items place).here.frozen && may_order records (records_in self.now lent.now))) }
     {
-        is_member(self.delay.standing(holder, group)) && self.has_order_room(lent)
+        let record = self.record(place);
+        is_member(self.delay.standing(holder, record.name))
+            && !record.here.is_frozen()
+            && self.has_order_room(lent)
     }
 
     // The holder of the group at a place lists ABCASTs in a set-order message.
@@ -241,6 +248,13 @@ impl Domain {
         self.send_message(message, lent)?;
         Ok(())
     }
+}
+
+// Whether a process is the holder of a view at a site and sets its order, which it does while no flush has frozen the group.
+fn sets_order(here: &MemberSide, process: Proc) -> bool
+    ensures { result ≡ sets_order_at process here.now }
+{
+    here.is_held_by(process) && !here.is_frozen()
 }
 
 // Takes in what a received message tells of the order of its view.

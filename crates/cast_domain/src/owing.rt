@@ -5,7 +5,7 @@ ghost use Rattle.cast_types.specs.Names.{uid_eq};
 ghost use Rattle.cast_message.specs.declared.site.SiteFrame.TheVariants as frame;
 ghost use Rattle.cast_view.specs.MemberSide.{first_asking};
 ghost use Rattle.cast_history.specs.Rules.Keys.{ask_key, home_key, id_in, message_key, want_key};
-ghost use Rattle.cast_history.specs.Rules.Owing.{ask_frame, install_frame, frame_for, frame_of_kind, owe, resend, resend_due, send_for, tick};
+ghost use Rattle.cast_history.specs.Rules.Owing.{ask_frame, install_frame, frame_for, frame_of_kind, owe, resend, resend_due, send_for, tick, wanted_view};
 
 use crate::domain::Domain;
 use crate::lent::Lent;
@@ -119,7 +119,9 @@ pub(crate) fn message_among(kept: &[Received], id: Uid) -> Option<&Message>
 }
 
 impl Domain {
-    ghost use Rattle.cast_domain.specs.Records.{GivesBack, KeepsBeside, records_in};
+    ghost use Rattle.cast_model.specs.declared.event.Outs.{Outs};
+    ghost use Rattle.cast_domain.specs.Shared.{Part};
+    ghost use Rattle.cast_domain.specs.Records.{GivesBack, KeepsBeside, records_in, records_of};
     ghost use Rattle.cast_domain.specs.Calls.{message_in, pay_in, record_at, records};
 
     // Sends a frame, and owes it from then on, unless it is owed already.
@@ -188,9 +190,20 @@ impl Domain {
             OwedKind::Prepare => Ok(Some(self.prepare_frame(place, key.group))),
             OwedKind::Install => install_frame(key.group, &self.record(place).home, key.site),
             OwedKind::Want => Ok(Some(SiteFrame::Want(id_in(
-                self.record(place).home.number(),
+                self.wanted_view(place, key.side),
                 key,
             )))),
+        }
+    }
+
+    // The number of the view that a side of a flush of the group at a place wants messages of.
+    fn wanted_view(&self, place: usize, side: Side) -> u32
+        requires { place < vec_len self.now.groups }
+        ensures { (o : Outs) (part : Part) → result ≡ wanted_view records (records_of self.now part o) place side }
+    {
+        match side {
+            Side::Site => self.record(place).here.number(),
+            Side::Home => self.record(place).home.number(),
         }
     }
 

@@ -2,14 +2,15 @@ ghost use Rattle.std.specs.Prelude.{◌≡◌, ◌<◌, true, IfOk, IfSome, OnOk
 ghost use Rattle.std.specs.List.{position};
 ghost use Rattle.cast_types.specs.Names.{group_eq};
 ghost use Rattle.cast_types.specs.Places.{update};
-ghost use Rattle.cast_view.specs.MemberSide.{with_answer, with_request, with_view};
+ghost use Rattle.cast_view.specs.MemberSide.{answers_prepare, frozen_side, verdict_of, with_answer, with_pending, with_request, with_view};
+ghost use Rattle.cast_view.specs.declared.member.Verdict.TheVariants.{Pends};
 ghost use Rattle.cast_view.specs.Home.{answer_to, may_decide};
 ghost use Rattle.cast_view.specs.Home.HomeMove.{Asked, Brought, Decided, Installed, Reported, Started, Suspected};
 ghost use Rattle.cast_domain.specs.Calls.{moved_home, record_at};
 
 use cast_flush::Report;
 use cast_message::{Change, Members, Message};
-use cast_types::{GroupNo, NoMemory, Proc, SiteNo};
+use cast_types::{Counts, GroupNo, NoMemory, Proc, SiteNo};
 use cast_view::{HomeSide, MemberSide};
 
 /// What a domain keeps of a group: the site's side, and, at the home's site, the home's.
@@ -55,6 +56,38 @@ pub(crate) fn answer_at(groups: &mut Vec<GroupRecord>, place: usize)
 {
     let record = &mut groups[place];
     record.here.take_answer();
+}
+
+/// Freezes the group of a place: the home asks what the site has of its view.
+#[tactic(auto, using(cast_types::proofs::Updates::set_update))]
+pub(crate) fn freeze_at(groups: &mut Vec<GroupRecord>, place: usize, view: u32)
+    requires placed { place < vec_len groups.old }
+    requires answered { answers_prepare (record_at groups.old.items place).here view ≡ true }
+    ensures items { groups.new.items ≡ update groups.old.items place (λ x. record x { here = frozen_side x.here }) }
+    ensures len { vec_len groups.new ≡ vec_len groups.old }
+{
+    let record = &mut groups[place];
+    record.here.prepare(view);
+}
+
+/// Lets an Install wait at the group of a place, where it is to wait.
+#[tactic(auto, using(cast_types::proofs::Updates::set_update))]
+pub(crate) fn pend_at(
+    groups: &mut Vec<GroupRecord>,
+    place: usize,
+    number: u32,
+    members: &Members,
+    request: u32,
+    cut: &Counts,
+) -> Result<(), NoMemory>
+    requires placed { place < vec_len groups.old }
+    requires waits { verdict_of (record_at groups.old.items place).here number ≡ Pends }
+    ensures items { OnOk result (groups.new.items ≡ update groups.old.items place (λ x. record x { here = with_pending x.here (record { members = members.now; request = request; cut = cut.now }) })) }
+    ensures len { vec_len groups.new ≡ vec_len groups.old }
+{
+    let record = &mut groups[place];
+    record.here.install(number, members, request, cut)?;
+    Ok(())
 }
 
 /// Takes over a view at the group of a place.

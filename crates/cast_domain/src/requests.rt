@@ -236,6 +236,9 @@ impl Domain {
                 return Ok(Some(Refusal::NotMember));
             }
         }
+        if self.record(at).here.is_frozen() {
+            return Ok(Some(Refusal::Flushing));
+        }
         if self.awaits_own(process, lent) {
             return Ok(Some(Refusal::OwnAbcast));
         }

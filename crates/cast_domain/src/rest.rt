@@ -28,7 +28,8 @@ impl Domain {
         Err(AllocError)
     }
 
-    // Deliveries by serial; then by group set-order messages; then by group the home. Answers whether anything changed.
+    // Deliveries by serial; then by group set-order messages; then by group Installs and what the site wants; then by group the
+    // home. Answers whether anything changed.
     fn pass(&mut self, lent: &mut Lent<'_>) -> Result<bool, NoMemory>
         ensures stays { KeepsBeside self.old lent.old self.new lent.new }
         ensures made { OnOk result (records_in self.new lent.new ≡ pass records resting_records (records_in self.old lent.old)) }
@@ -36,8 +37,9 @@ impl Domain {
     {
         let settled = self.settle(lent)?;
         let ordered = self.set_orders(lent)?;
+        let gone_on = self.go_on_all(lent)?;
         let led = self.lead(lent)?;
-        Ok(settled | ordered | led)
+        Ok(settled | ordered | gone_on | led)
     }
 
     // Each process delivers until nothing is ready for it.

@@ -18,7 +18,7 @@ impl Domain {
     ghost use Rattle.cast_history.specs.Rules.Stability.{is_used_ack, on_ack, on_stable, tell_more, tell_stable, with_ack};
     ghost use Rattle.cast_domain.specs.Records.{GivesBack, Keeps, KeepsBeside, records_in, records_of};
     ghost use Rattle.cast_domain.specs.Shared.{Part, no_part};
-    ghost use Rattle.cast_domain.specs.Calls.{is_current_in, records, resting_records, release_in};
+    ghost use Rattle.cast_domain.specs.Calls.{is_current_in, is_open_in, records, resting_records, release_in};
 
     // Acknowledges a received message: its site is owed that until it tells that the message is stable.
     pub(crate) fn acknowledge(
@@ -158,11 +158,24 @@ impl Domain {
             .collect(alloc)
     }
 
-    // Whether a message is of the current view, stable, and delivered to each member here.
+    // Whether a message is of the current view, which is not frozen, stable, and delivered to each member here.
     fn is_free(&self, id: Uid) -> bool
         ensures { result ≡ is_free records resting_records (records_of self.now no_part no_outs) id }
     {
-        self.is_current(id) && self.acks.may_free(id, self.delay.is_awaited(id))
+        self.is_open_to(id) && self.acks.may_free(id, self.delay.is_awaited(id))
+    }
+
+    // Whether a message is of the current view of its group, which no flush has frozen.
+    fn is_open_to(&self, id: Uid) -> bool
+        ensures { result ≡ is_open_in (records_of self.now no_part no_outs) id }
+    {
+        match self.place_of(id.group) {
+            Some(place) => {
+                let here = &self.record(place).here;
+                here.is_current(id.view) && !here.is_frozen()
+            }
+            None => false,
+        }
     }
 
     // Whether a message is of the current view of its group.

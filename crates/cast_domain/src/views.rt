@@ -9,9 +9,9 @@ use crate::frames::is_named;
 use crate::lent::Lent;
 use crate::order::is_member;
 use cast_delay::Fact;
-use cast_message::{Members, Message, Push, Received, SiteFrame};
+use cast_message::{Members, Message, Push, Received, SiteFrame, Tail};
 use cast_model::Outs;
-use cast_types::{GroupNo, Key, NoMemory, Proc, SiteNo, Standing, Uid};
+use cast_types::{Counts, GroupNo, Key, NoMemory, Proc, SiteNo, Standing, Uid};
 use cast_view::Verdict;
 
 impl Domain {
@@ -25,7 +25,7 @@ impl Domain {
     ghost use Rattle.cast_domain.specs.Calls.{is_ended_in, is_put_out_in, pass_in, put_out_all_in, put_out_if_in, put_out_in, records, release_in};
 
     // Install: answered again where the site knows its number; else completed where the site has no view, and where it skips
-    // a view. What comes of it does not depend on its cut.
+    // a view. The Install of the next view of a site that has one waits, unless one does.
     pub(crate) fn install(
         &mut self,
         place: usize,
@@ -33,11 +33,13 @@ impl Domain {
         view: u32,
         members: &Members,
         request: u32,
+        cut: &Counts,
+        tail: &Tail,
         lent: &mut Lent<'_>,
     ) -> Result<(), NoMemory>
         requires { place < vec_len self.old.groups }
         ensures stays { KeepsBeside self.old lent.old self.new lent.new }
-        ensures made { OnOk result ((cut : CountList) → records_in self.new lent.new ≡ on_install records (records_in self.old lent.old) place from view members.now request cut) }
+        ensures made { OnOk result (records_in self.new lent.new ≡ on_install records (records_in self.old lent.old) place from view members.now request cut.now tail.now) }
     {
         if !self.is_from_home(from) {
             return Ok(());
@@ -51,12 +53,16 @@ impl Domain {
             Verdict::Completes => self.install_view(
                 false, place, from, view, members, request, lent,
             ),
-            Verdict::Pends | Verdict::Ignored => Ok(()),
+            Verdict::Pends => {
+                self.pend(place, view, members, request, cut, tail)?;
+                Ok(())
+            }
+            Verdict::Ignored => Ok(()),
         }
     }
 
     // The site passes to a view, and tells the home.
-    fn install_view(
+    pub(crate) fn install_view(
         &mut self,
         skips: bool,
         place: usize,

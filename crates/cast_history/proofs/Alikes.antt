@@ -1,25 +1,32 @@
 -- What leaves a state alike.
 use Rattle.std.proofs.Common.{◌≡◌, ℕ, Bool, true, false, List, [], ◌∷◌, ◌++◌, refl, ap, ◌∙◌}
-use Rattle.std.specs.Prelude.{◌==◌, if◌then◌else◌}
+use Rattle.std.specs.Prelude.{◌==◌, filter, if◌then◌else◌}
 use Rattle.std.specs.List.{fold}
 use Rattle.std.proofs.lemmas.Bool.{eqb-true}
 use Rattle.cast_types.specs.declared.names.SiteNo.{SiteNo}
 use Rattle.cast_types.specs.declared.names.GroupNo.{GroupNo}
 use Rattle.cast_types.specs.declared.names.Uid.{Uid}
 use Rattle.cast_types.specs.Sets.{set_at}
+use Rattle.cast_types.specs.Counts.{CountList}
 use Rattle.cast_message.specs.declared.message.Body.{Body}
 use Rattle.cast_message.specs.declared.message.Message.{Message}
 use Rattle.cast_message.specs.declared.site.SiteFrame.{SiteFrame}
+use Rattle.cast_message.specs.declared.site.SiteFrame.TheVariants as frame
 use Rattle.cast_message.specs.declared.client.Push.{Push}
+use Rattle.cast_message.specs.declared.client.Push.TheVariants as push
+use Rattle.cast_message.specs.Membership.{Membership}
 use Rattle.cast_stable.specs.Stable.{Acked}
 use Rattle.cast_timer.specs.declared.key.Owed.{Owed}
 use Rattle.cast_delay.specs.Ready.{Process}
+use Rattle.cast_view.specs.MemberSide.{with_view}
 use Rattle.cast_model.specs.declared.session.Session.{Session}
 use Rattle.cast_model.specs.Session.{is_open, pushed_to}
-use Rattle.cast_history.specs.State.{State, set_session, set_process, emitted, others_of, noting_ack, noting_stable, pushing, receiving, noting_sent}
+use Rattle.cast_history.specs.State.{State, serials, set_session, set_process, set_group, emitted, others_of, noting_ack, noting_stable, pushing, receiving, noting_sent, releasing, is_ended, releasing_ended}
+use Rattle.cast_history.specs.Entering.{parted, is_put_out, all_parted, push_out, putting_out, enters, in_view, all_in_view, push_view, passing}
 use Rattle.cast_history.specs.Rest.{let_go}
 use Rattle.cast_history.specs.Owing.{noting_owed, noting_resent, paying, paying_upto, paying_view, at_moment}
 use Rattle.cast_history.specs.Rules.Sending.{send_data}
+use Rattle.cast_history.specs.Rules.Views.{install}
 use Rattle.cast_history.specs.History.{history}
 use Rattle.cast_history.proofs.Rules.Follows.{IsInvariant}
 use Rattle.cast_timer.specs.declared.key.OwedKey.{OwedKey}
@@ -136,3 +143,52 @@ alike_sending s g k content =
     alike_then (receiving s m) u (fold (send_data history m.id) u (others_of s g))
     (alike_receiving s t m (alike_sent s k m))
     (alike_fold (send_data history m.id) (alike_send_data m.id) (others_of s g) u)
+
+-- Views
+
+alike_kept : (s : State) (passes : Uid → Bool) → Alike s (releasing s passes)
+alike_kept s passes = record { here = refl; config = refl; used = refl; group = refl; home = refl; got = refl; abcasts = refl; delivered = λ j. refl }
+
+-- processes are put out, all at once: what they delivered stands
+alike_parted : (s : State) (g : GroupNo) (goes : ℕ → Bool) → Alike s (all_parted s g goes)
+alike_parted s g goes = record { here = refl; config = refl; used = refl; group = refl; home = refl; got = refl; abcasts = refl; delivered = λ j. same j (goes j) }
+  where
+    same : (j : ℕ) (b : Bool) → (if b then parted g (s.process j) else s.process j).delivered ≡ (s.process j).delivered
+    same j true = refl
+    same j false = refl
+
+pub alike_putting_out : (s : State) (g : GroupNo) (skips : Bool) (n : ℕ) (members : Membership) → Alike s (putting_out s g skips n members)
+alike_putting_out s g skips n members =
+    let t : State = all_parted s g (is_put_out s g skips members) in
+    alike_then s t (putting_out s g skips n members) (alike_parted s g (is_put_out s g skips members))
+    (alike_fold (push_out g n) (λ x k. alike_pushing x k (push.Ejected g n)) (filter (is_put_out s g skips members) (serials s)) t)
+
+-- and taken in
+alike_entered : (s : State) (g : GroupNo) (n : ℕ) (members : Membership) (request : ℕ) (cut : CountList) → Alike s (all_in_view s g n members request cut)
+alike_entered s g n members request cut = record { here = refl; config = refl; used = refl; group = refl; home = refl; got = refl; abcasts = refl; delivered = λ j. same j (enters s g members request j) }
+  where
+    same : (j : ℕ) (b : Bool) → (if b then in_view g n (s.process j) else s.process j).delivered ≡ (s.process j).delivered
+    same j true = refl
+    same j false = refl
+
+-- a group with its next view, once members that it lacks are put out
+abbrev pub with_next_view : State → GroupNo → Bool → ℕ → Membership → State
+with_next_view s g skips n members =
+    let t : State = putting_out s g skips n members in set_group t g (with_view t.here n members (t.group g))
+
+-- all else that a site does where it passes to a view leaves that alike
+pub alike_installing : (s : State) (g : GroupNo) (skips : Bool) (from : SiteNo) (n : ℕ) (members : Membership) (request : ℕ) (cut : CountList) → Alike (with_next_view s g skips n members) (install history skips s g from n members request cut)
+alike_installing s g skips from n members request cut =
+    let t : State = putting_out s g skips n members in
+    let now : State = with_next_view s g skips n members in
+    let entered : State = all_in_view now g n members request cut in
+    let told : State = passing s g skips n members request cut in
+    let released : State = releasing_ended told g in
+    let paid : State = paying_view released g in
+    let end : State = install history skips s g from n members request cut in
+    alike_then now entered end (alike_entered now g n members request cut)
+    (alike_then entered told end
+    (alike_fold (push_view g n members) (λ x k. alike_pushing x k (push.View g n members)) (filter (enters t g members request) (serials t)) entered)
+    (alike_then told released end (alike_kept told (is_ended told g))
+    (alike_then released paid end (alike_owed released paid.owed)
+    (alike_emitted paid from (frame.Installed g n)))))

@@ -7,10 +7,10 @@ use Rattle.cast_model.specs.declared.event.Taken.TheVariants as taken
 use Rattle.cast_history.specs.Run.{Ran}
 use Rattle.cast_history.proofs.Words.{group, uid, alone, asks_leave, sends_bad, comes, in_second_view, then_run, pushed_after, p21}
 
--- the frames whose rules are not there yet
+-- each has another view, or is wanted by nobody
 frames : List Event
 frames =
-    comes 9 (frame.Prepare (group 1) 2)
+    comes 9 (frame.Prepare (group 1) 1) ∷ comes 2 (frame.Prepare (group 1) 2)
     ∷ comes 2 (frame.Flushed (group 1) 2 [] (record { start = 0; ids = [] }) []) ∷ comes 2 (frame.Want (uid 1 2 p21 1))
     ∷ comes 9 (frame.Forward (alone 1 2 p21 1)) ∷ comes 2 (frame.Out (group 1) 2) ∷ []
 

@@ -15,7 +15,7 @@ use Rattle.cast_types.specs.declared.names.Uid.{Uid}
 use Rattle.cast_types.specs.declared.names.Standing.{Standing}
 use Rattle.cast_types.specs.declared.names.Standing.TheVariants.{Outside, Joining, Member}
 use Rattle.cast_types.specs.declared.clock.Clock.{Clock}
-use Rattle.cast_types.specs.Names.{site_eq, group_eq, group_cmp, proc_eq, uid_eq, is_atomic, entry_of}
+use Rattle.cast_types.specs.Names.{Entry, site_eq, group_eq, group_cmp, proc_eq, uid_eq, is_atomic, entry_of}
 use Rattle.cast_types.specs.Sets.{set_at, at_order, is_among}
 use Rattle.cast_types.specs.Stamps.{ClockList}
 use Rattle.cast_types.proofs.Orders.{same_site, site_itself, same_group, group_itself, same_uid, uid_itself}
@@ -29,7 +29,8 @@ use Rattle.cast_message.specs.declared.site.Change.{Change}
 use Rattle.cast_message.specs.declared.site.SiteFrame.{SiteFrame}
 use Rattle.cast_message.specs.declared.client.Push.{Push}
 use Rattle.cast_message.specs.declared.client.Push.TheVariants as push
-use Rattle.cast_message.specs.Membership.{Membership}
+use Rattle.cast_message.specs.Membership.{Membership, is_members}
+use Rattle.cast_message.specs.Stretch.{Stretch}
 use Rattle.cast_types.specs.Rising.{is_rising}
 use Rattle.cast_stable.specs.Stable.{Acked}
 use Rattle.cast_timer.specs.declared.key.Owed.{Owed}
@@ -40,7 +41,8 @@ use Rattle.cast_delay.proofs.Delivers.{only_member}
 use Rattle.cast_delay.proofs.Means.{among_holds}
 use Rattle.cast_model.specs.declared.session.Session.{Session}
 use Rattle.cast_model.specs.Session.{is_open, pushed_to, closed, gone}
-use Rattle.cast_view.specs.MemberSide.{MemberSide, no_group, has_view, members_of, is_current, with_request, with_view, is_taken_in}
+use Rattle.cast_view.specs.declared.member.Pending.{Pending}
+use Rattle.cast_view.specs.MemberSide.{MemberSide, no_group, has_view, members_of, is_current, with_request, frozen_side, with_pending, with_view, is_taken_in}
 use Rattle.cast_view.specs.Sites.{is_at}
 use Rattle.cast_view.specs.Home.{Home, is_empty}
 use Rattle.cast_model.specs.declared.config.DomainConfig.{DomainConfig}
@@ -51,7 +53,7 @@ use Rattle.cast_history.specs.Acts.{Act}
 use Rattle.cast_history.specs.Acts.Act.{Sent}
 use Rattle.cast_types.specs.Counts.{CountList}
 use Rattle.cast_history.specs.Rest.{is_free, let_go}
-use Rattle.cast_history.specs.Order.{is_ready_for}
+use Rattle.cast_history.specs.Turns.{is_ready_for}
 use Rattle.cast_history.specs.Owing.{noting_owed, noting_resent, paying, paying_upto, paying_view, at_moment}
 use Rattle.cast_history.specs.Rules.Keys.{ask_key}
 use Rattle.cast_history.specs.Rules.Owing.{owe}
@@ -63,9 +65,9 @@ use Rattle.cast_history.proofs.Rules.Owing.{owe_keeps}
 use Rattle.cast_history.proofs.Rules.Sending.{send_data_keeps}
 use Rattle.cast_history.specs.Effects.{next_message, sending_message, sending, delivering}
 use Rattle.cast_history.specs.Rules.Rest.{told_of}
-use Rattle.cast_history.specs.Entering.{parted, is_put_out, all_parted, push_out, putting_out, enters, in_view, all_in_view, push_view, completing, passing}
+use Rattle.cast_history.specs.Entering.{freezing, pending_install, parted, is_put_out, all_parted, push_out, putting_out, enters, in_view, all_in_view, push_view, completing, passing}
 use Rattle.cast_history.specs.Run.{before_event}
-use Rattle.cast_history.specs.Lawful.{IsSpent, AreKept, IsTraced, IsLawful}
+use Rattle.cast_history.specs.Lawful.{IsSpent, AreKept, IsTraced, Waits, IsLawful}
 
 -- One process in one group
 
@@ -82,8 +84,8 @@ pub placed_of : (s : State) → IsLawful s → (k : ℕ) (g : GroupNo) → Place
 placed_of s l k g = record { known = l.known k g; current = l.current k g; viewed = l.viewed k g }
 
 -- a state with the configuration of a lawful one is lawful if each process is lawful in each group, and messages are in order
-pub lawful_from : (s t : State) → IsLawful s → t.config ≡ s.config → ((k : ℕ) (g : GroupNo) → PlacedIn t (t.process k) g) → ((m : Message) → Contains t.got m → is_sorted group_cmp m.times ≡ true) → AreKept (IsSpent t) t.got t.kept → ((g : GroupNo) → has_view (t.group g) ≡ true → is_group t g ≡ true) → IsTraced t → IsLawful t
-lawful_from s t l config placed stamped spent listed traced = record {
+pub lawful_from : (s t : State) → IsLawful s → t.config ≡ s.config → ((k : ℕ) (g : GroupNo) → PlacedIn t (t.process k) g) → ((m : Message) → Contains t.got m → is_sorted group_cmp m.times ≡ true) → AreKept (IsSpent t) t.got t.kept → ((g : GroupNo) → has_view (t.group g) ≡ true → is_group t g ≡ true) → IsTraced t → ((g : GroupNo) → Waits (t.group g).frozen (t.group g).pending) → IsLawful t
+lawful_from s t l config placed stamped spent listed traced waiting = record {
   rising = subst (λ c. is_rising group_cmp c.groups ≡ true) (sym config) l.rising;
   known = λ k g. (placed k g).known;
   current = λ k g. (placed k g).current;
@@ -92,6 +94,7 @@ lawful_from s t l config placed stamped spent listed traced = record {
   spent = spent;
   listed = listed;
   traced = traced;
+  waiting = waiting;
 }
 
 -- What is traced
@@ -165,8 +168,9 @@ range_all p test a (suc n) all k low high is =
 -- a free message is spent
 pub free_spent : (s : State) (m : Message) → is_free s m.id ≡ true → IsSpent s m
 free_spent s m free =
-    let a = and_parts (is_current (s.group m.id.group) m.id.view) _ free in
-    let now = and_parts (has_view (s.group m.id.group)) ((s.group m.id.group).number == m.id.view) a.0 in
+    let a = and_parts (is_current (s.group m.id.group) m.id.view && not (s.group m.id.group).frozen) _ free in
+    let o = and_parts (is_current (s.group m.id.group) m.id.view) (not (s.group m.id.group).frozen) a.0 in
+    let now = and_parts (has_view (s.group m.id.group)) ((s.group m.id.group).number == m.id.view) o.0 in
     let same : (s.group m.id.group).number ≡ m.id.view = eqb-true (s.group m.id.group).number m.id.view now.1 in
     let all = (and_parts (is_stable s m.id) (list_all (λ k. has_delivered (s.process k) m.id) (local_members s m.id.group)) a.1).1 in
     record {
@@ -199,6 +203,8 @@ pub record SameLaw (s : State) (t : State) : Type 0 where
   pub abcasts : (k : ℕ) → t.abcasts k ≡ s.abcasts k
   pub number : (g : GroupNo) → (t.group g).number ≡ (s.group g).number
   pub view : (g : GroupNo) → (t.group g).view ≡ (s.group g).view
+  -- what waits in a frozen group, with the members of a view, waits so still, or other such things do
+  pub waiting : (g : GroupNo) → Waits (s.group g).frozen (s.group g).pending → Waits (t.group g).frozen (t.group g).pending
   -- no session opens
   pub opens : (k : ℕ) → is_open (t.session k) ≡ true → is_open (s.session k) ≡ true
 
@@ -222,9 +228,10 @@ lawful_same s t a l = lawful_from s t l a.config
     (traced_on s t a.got a.abcasts (λ g. let same = a.number g in omega (arith, same))
     (λ g p _ is. (λ i. is_among proc_eq p (members_of (record no_group { view = a.view g i })) || site_eq p.site (a.here i)) ∙ is)
     (λ k u is. ap (λ p. has_delivered p u) (a.process k) ∙ is) l.traced)
+    (λ g. a.waiting g (l.waiting g))
 
 pub same_self : (s : State) → SameLaw s s
-same_self s = record { here = refl; config = refl; used = refl; process = λ k. refl; got = refl; kept = refl; abcasts = λ k. refl; number = λ g. refl; view = λ g. refl; opens = λ k is. is }
+same_self s = record { here = refl; config = refl; used = refl; process = λ k. refl; got = refl; kept = refl; abcasts = λ k. refl; number = λ g. refl; view = λ g. refl; waiting = λ g w. w; opens = λ k is. is }
 
 pub same_then : (s t u : State) → SameLaw s t → SameLaw t u → SameLaw s u
 same_then s t u a b = record {
@@ -237,6 +244,7 @@ same_then s t u a b = record {
   abcasts = λ k. b.abcasts k ∙ a.abcasts k;
   number = λ g. b.number g ∙ a.number g;
   view = λ g. b.view g ∙ a.view g;
+  waiting = λ g w. b.waiting g (a.waiting g w);
   opens = λ k is. a.opens k (b.opens k is);
 }
 
@@ -259,6 +267,7 @@ same_session s k v opens = record {
   abcasts = λ j. refl;
   number = λ g. refl;
   view = λ g. refl;
+  waiting = λ g w. w;
   opens = λ j. elim (k == j) as (λ b. k == j ≡ b → is_open (if b then v else s.session j) ≡ true → is_open (s.session j) ≡ true) [
     | true ↦ λ same is. ap (λ i. is_open (s.session i)) (sym (eqb-true k j same)) ∙ opens is
     | false ↦ λ _ is. is
@@ -266,10 +275,10 @@ same_session s k v opens = record {
 }
 
 pub same_home : (s : State) (g : GroupNo) (v : Home) → SameLaw s (set_home s g v)
-same_home s g v = record { here = refl; config = refl; used = refl; process = λ k. refl; got = refl; kept = refl; abcasts = λ k. refl; number = λ g. refl; view = λ g. refl; opens = λ k is. is }
+same_home s g v = record { here = refl; config = refl; used = refl; process = λ k. refl; got = refl; kept = refl; abcasts = λ k. refl; number = λ g. refl; view = λ g. refl; waiting = λ g w. w; opens = λ k is. is }
 
 pub same_emitted : (s : State) (to : SiteNo) (f : SiteFrame) → SameLaw s (emitted s to f)
-same_emitted s to f = record { here = refl; config = refl; used = refl; process = λ k. refl; got = refl; kept = refl; abcasts = λ k. refl; number = λ g. refl; view = λ g. refl; opens = λ k is. is }
+same_emitted s to f = record { here = refl; config = refl; used = refl; process = λ k. refl; got = refl; kept = refl; abcasts = λ k. refl; number = λ g. refl; view = λ g. refl; waiting = λ g w. w; opens = λ k is. is }
 
 pub same_pushing : (s : State) (k : ℕ) (p : Push) → SameLaw s (pushing s k p)
 same_pushing s k p = same_if s (set_session s k (pushed_to (s.session k) p)) s (is_open (s.session k)) (same_session s k (pushed_to (s.session k) p) (λ is. is)) (same_self s)
@@ -288,11 +297,11 @@ same_going s k = same_session s k (gone (s.session k)) (λ is. absurd (false≢t
 
 -- what processes did is no matter
 pub same_acts : (s : State) (acts : ℕ → List Act) → SameLaw s (record s { acts = acts })
-same_acts s acts = record { here = refl; config = refl; used = refl; process = λ k. refl; got = refl; kept = refl; abcasts = λ k. refl; number = λ g. refl; view = λ g. refl; opens = λ k is. is }
+same_acts s acts = record { here = refl; config = refl; used = refl; process = λ k. refl; got = refl; kept = refl; abcasts = λ k. refl; number = λ g. refl; view = λ g. refl; waiting = λ g w. w; opens = λ k is. is }
 
--- a group that keeps its number and its view
-pub same_group_set : (s : State) (g : GroupNo) (v : MemberSide) → v.number ≡ (s.group g).number → v.view ≡ (s.group g).view → SameLaw s (set_group s g v)
-same_group_set s g v number view = record {
+-- a group that keeps its number and its view, and in which what waits may wait
+pub same_group_but : (s : State) (g : GroupNo) (v : MemberSide) → v.number ≡ (s.group g).number → v.view ≡ (s.group g).view → (Waits (s.group g).frozen (s.group g).pending → Waits v.frozen v.pending) → SameLaw s (set_group s g v)
+same_group_but s g v number view waits = record {
   here = refl;
   config = refl;
   used = refl;
@@ -309,17 +318,43 @@ same_group_set s g v number view = record {
     | true ↦ λ is. subst (λ x. v.view ≡ (s.group x).view) (same_group g h is) view
     | false ↦ λ is. refl
   ] refl;
+  waiting = λ h. elim (group_eq g h) as (λ b. group_eq g h ≡ b → Waits (s.group h).frozen (s.group h).pending → Waits (if b then v else s.group h).frozen (if b then v else s.group h).pending) [
+    | true ↦ λ is. subst (λ x. Waits (s.group x).frozen (s.group x).pending → Waits v.frozen v.pending) (same_group g h is) waits
+    | false ↦ λ _ w. w
+  ] refl;
 }
 
+-- and one in which all of that stays
+pub same_group_set : (s : State) (g : GroupNo) (v : MemberSide) → v.number ≡ (s.group g).number → v.view ≡ (s.group g).view → v.frozen ≡ (s.group g).frozen → v.pending ≡ (s.group g).pending → SameLaw s (set_group s g v)
+same_group_set s g v number view frozen pending = same_group_but s g v number view (λ w. subst (λ b. Waits b v.pending) (sym frozen) (subst (Waits (s.group g).frozen) (sym pending) w))
+
+-- a flush has frozen a group
+pub same_freezing : (s : State) (g : GroupNo) → SameLaw s (freezing s g)
+same_freezing s g = same_group_but s g (frozen_side (s.group g)) refl refl (still (s.group g).frozen (s.group g).pending)
+  where
+    still : (frozen : Bool) (o : Option Pending) → Waits frozen o → Waits true o
+    still frozen (Some p) w = (refl, w.1)
+    still frozen None w = tt
+
+-- the order that a view ends with is no matter
+same_closed : (s : State) (closed : GroupNo → List Entry) → SameLaw s (record s { closed = closed })
+same_closed s closed = record { here = refl; config = refl; used = refl; process = λ k. refl; got = refl; kept = refl; abcasts = λ k. refl; number = λ g. refl; view = λ g. refl; waiting = λ g w. w; opens = λ k is. is }
+
+-- an Install waits that has the members of a view
+pub same_pending : (s : State) (g : GroupNo) (p : Pending) (tail : Stretch) → is_members p.members ≡ true → SameLaw s (pending_install s g p tail)
+same_pending s g p tail typed =
+    let now : State = set_group s g (with_pending (s.group g) p) in
+    same_then s now (pending_install s g p tail) (same_group_but s g (with_pending (s.group g) p) refl refl (λ _. (refl, typed))) (same_closed now (pending_install s g p tail).closed)
+
 pub same_owed : (s : State) (owed : List Owed) → SameLaw s (record s { owed = owed })
-same_owed s owed = record { here = refl; config = refl; used = refl; process = λ k. refl; got = refl; kept = refl; abcasts = λ k. refl; number = λ g. refl; view = λ g. refl; opens = λ k is. is }
+same_owed s owed = record { here = refl; config = refl; used = refl; process = λ k. refl; got = refl; kept = refl; abcasts = λ k. refl; number = λ g. refl; view = λ g. refl; waiting = λ g w. w; opens = λ k is. is }
 
 -- what is acknowledged and told is no matter
 same_known : (s : State) (acks : List Acked) (told : List Uid) → SameLaw s (record s { acks = acks; told = told })
-same_known s acks told = record { here = refl; config = refl; used = refl; process = λ k. refl; got = refl; kept = refl; abcasts = λ k. refl; number = λ g. refl; view = λ g. refl; opens = λ k is. is }
+same_known s acks told = record { here = refl; config = refl; used = refl; process = λ k. refl; got = refl; kept = refl; abcasts = λ k. refl; number = λ g. refl; view = λ g. refl; waiting = λ g w. w; opens = λ k is. is }
 
 same_moment : (s : State) (moment : ℕ) → SameLaw s (record s { moment = moment })
-same_moment s moment = record { here = refl; config = refl; used = refl; process = λ k. refl; got = refl; kept = refl; abcasts = λ k. refl; number = λ g. refl; view = λ g. refl; opens = λ k is. is }
+same_moment s moment = record { here = refl; config = refl; used = refl; process = λ k. refl; got = refl; kept = refl; abcasts = λ k. refl; number = λ g. refl; view = λ g. refl; waiting = λ g w. w; opens = λ k is. is }
 
 -- the moves of the rules change nothing that a lawful history is about
 pub moves_same : (s : State) → IsInvariant history (SameLaw s)
@@ -358,7 +393,7 @@ same_ask_home s g = same_if s s (owe history s (ask_key g s.config.home)) (is_em
 pub same_request : (s : State) (g : GroupNo) (what : Change) (p : Proc) → SameLaw s (request history s g what p)
 same_request s g what p =
     let next : State = set_group s g (with_request (s.group g) what p) in
-    let a : SameLaw s next = same_group_set s g (with_request (s.group g) what p) refl refl in
+    let a : SameLaw s next = same_group_set s g (with_request (s.group g) what p) refl refl refl refl in
     same_if s (ask_home history next g) next (is_empty (s.group g).requests) (same_then s next (ask_home history next g) a (same_ask_home next g)) a
 
 pub lawful_pushing : (s : State) (k : ℕ) (p : Push) → IsLawful s → IsLawful (pushing s k p)
@@ -391,6 +426,7 @@ lawful_opening here config rising = record {
   stamped = λ m at. let inside = at.1 in absurd (omega arith);
   spent = refl;
   listed = λ g seen. absurd (false≢true seen);
+  waiting = λ g. tt;
   traced = record { reached = λ m at. let inside = at.1 in absurd (omega arith); spoken = λ m at same. let inside = at.1 in absurd (omega arith); delivered = λ k u is. absurd (false≢true is); seen = λ k u is. absurd (false≢true is) };
 }
 
@@ -403,6 +439,7 @@ lawful_before s l = record {
   stamped = l.stamped;
   spent = kept_map (IsSpent s) (IsSpent (before_event s)) (λ m h. record { reached = h.reached; delivered = h.delivered }) s.got s.kept l.spent;
   listed = l.listed;
+  waiting = l.waiting;
   traced = record { reached = l.traced.reached; spoken = l.traced.spoken; delivered = l.traced.delivered; seen = l.traced.seen };
 }
 
@@ -415,6 +452,7 @@ lawful_after s l = record {
   stamped = l.stamped;
   spent = kept_map (IsSpent (before_event s)) (IsSpent s) (λ m h. record { reached = h.reached; delivered = h.delivered }) s.got s.kept l.spent;
   listed = l.listed;
+  waiting = l.waiting;
   traced = record { reached = l.traced.reached; spoken = l.traced.spoken; delivered = l.traced.delivered; seen = l.traced.seen };
 }
 
@@ -428,6 +466,7 @@ lawful_process s k v l placed member more = lawful_from s (set_process s k v) l 
     (kept_map (IsSpent s) (IsSpent (set_process s k v)) (spent_on s (set_process s k v) refl (λ g. refl) members grown) s.got s.kept l.spent)
     l.listed
     (traced_on s (set_process s k v) refl (λ j. refl) (λ g. omega arith) (λ g p _ is. is) grown l.traced)
+    l.waiting
   where
     members : (j : ℕ) (g : GroupNo) → is_member ((if k == j then v else s.process j).standing g) ≡ true → is_member ((s.process j).standing g) ≡ true
     members j g = elim (k == j) as (λ b. k == j ≡ b → is_member ((if b then v else s.process j).standing g) ≡ true → is_member ((s.process j).standing g) ≡ true) [
@@ -486,6 +525,7 @@ lawful_receiving s m l sorted reached speaks = lawful_from s (receiving s m) l r
       delivered = l.traced.delivered;
       seen = l.traced.seen;
     })
+    l.waiting
 
 -- what is free is let go
 -- messages are let go that are spent
@@ -495,6 +535,7 @@ lawful_releasing s passes l spent = lawful_from s (releasing s passes) l refl (p
     (kept_filter (IsSpent s) (λ m. not (passes m.id)) (λ m fails. spent m (not-false (passes m.id) fails)) s.got s.kept l.spent))
     l.listed
     (record { reached = l.traced.reached; spoken = l.traced.spoken; delivered = l.traced.delivered; seen = l.traced.seen })
+    l.waiting
 
 pub lawful_let_go : (s : State) → IsLawful s → IsLawful (let_go s)
 lawful_let_go s l = lawful_releasing s (is_free s) l (free_spent s)
@@ -507,7 +548,7 @@ same_send_data u s to = send_data_keeps history (SameLaw s) (moves_same s) u s (
 
 -- what a process did is noted
 pub same_noting : (s : State) (k : ℕ) (a : Act) → SameLaw s (noting_act s k a)
-same_noting s k a = record { here = refl; config = refl; used = refl; process = λ k. refl; got = refl; kept = refl; abcasts = λ k. refl; number = λ g. refl; view = λ g. refl; opens = λ k is. is }
+same_noting s k a = record { here = refl; config = refl; used = refl; process = λ k. refl; got = refl; kept = refl; abcasts = λ k. refl; number = λ g. refl; view = λ g. refl; waiting = λ g w. w; opens = λ k is. is }
 
 -- a process sends a message whose time has the views of its own
 pub lawful_sent_here : (s : State) (k : ℕ) (m : Message) → IsLawful s → ((g : GroupNo) → view_of m.times g ≡ view_of (s.process k).time g) → is_sorted group_cmp m.times ≡ true → m.id.view ≤ (s.group m.id.group).number → may_speak s m.id.group m.id.proc ≡ true → IsLawful (receiving (noting_sent s k m) m)
@@ -620,7 +661,8 @@ lawful_delivering s k m l at ready =
     (lawful_from set now taken refl (placed_of set taken) taken.stamped
     (kept_map (IsSpent set) (IsSpent now) (λ x h. record { reached = h.reached; delivered = h.delivered }) s.got s.kept taken.spent)
     taken.listed
-    (traced_delivery s k m l taken at))
+    (traced_delivery s k m l taken at)
+    taken.waiting)
 
 -- Views
 
@@ -697,6 +739,10 @@ lawful_all_in_view s g n members request cut l listed stays later =
     (traced_on s (all_in_view now g n members request cut) refl (λ k. refl) risen speaking
     (λ k u is. elim (enters now g members request k) as (λ b. has_delivered (if b then in_view g n (s.process k) else s.process k) u ≡ true) [ true ↦ is | false ↦ is ])
     l.traced)
+    (λ h. elim (group_eq g h) as (λ b. Waits (if b then with_view s.here n members (s.group g) else s.group h).frozen (if b then with_view s.here n members (s.group g) else s.group h).pending) [
+      | true ↦ tt
+      | false ↦ l.waiting h
+    ])
   where
     risen : (h : GroupNo) → (s.group h).number ≤ ((set_group s g (with_view s.here n members (s.group g))).group h).number
     risen h = elim (group_eq g h) as (λ b. group_eq g h ≡ b → (s.group h).number ≤ (if b then with_view s.here n members (s.group g) else s.group h).number) [
@@ -752,6 +798,7 @@ lawful_all_parted s g goes l =
     (kept_map (IsSpent s) (IsSpent (all_parted s g goes)) (spent_on s (all_parted s g goes) refl (λ h. refl) members same) s.got s.kept l.spent)
     l.listed
     (traced_on s (all_parted s g goes) refl (λ k. refl) (λ h. omega arith) (λ h p _ may. may) same l.traced)
+    l.waiting
   where
     same : (k : ℕ) (u : Uid) → has_delivered (s.process k) u ≡ true → has_delivered ((all_parted s g goes).process k) u ≡ true
     same k u is = elim (goes k) as (λ b. has_delivered (if b then parted g (s.process k) else s.process k) u ≡ true) [ true ↦ is | false ↦ is ]
@@ -803,3 +850,12 @@ lawful_passing s g skips n members request cut l listed later =
     let number = same.number g in
     lawful_completing (putting_out s g skips n members) g n members request cut (lawful_putting_out s g skips n members l)
     (ap (λ c. is_among group_eq g c.groups) same.config ∙ listed) (stays_then s g skips n members) (omega (arith, number, later))
+
+-- and its configuration stays
+pub passing_config : (s : State) (g : GroupNo) (skips : Bool) (n : ℕ) (members : Membership) (request : ℕ) (cut : CountList) → (passing s g skips n members request cut).config ≡ s.config
+passing_config s g skips n members request cut =
+    let left : State = putting_out s g skips n members in
+    let now : State = set_group left g (with_view left.here n members (left.group g)) in
+    let told : SameLaw (all_in_view now g n members request cut) (passing s g skips n members request cut) =
+    same_fold (push_view g n members) (λ t k. same_pushing t k (push.View g n members)) (filter (enters left g members request) (serials left)) (all_in_view now g n members request cut) in
+    told.config ∙ (put_out_same s g skips n members).config

@@ -1,27 +1,29 @@
 -- What holds of each history that events lead to is kept by each event, and until the state rests.
-use Rattle.std.proofs.Common.{◌≡◌, ℕ, ◌+◌, ◌<◌, zero, suc, Bool, true, false, not, length, Some, None, refl, sym, ap, subst, ◌∙◌, inl, inr, arith}
+use Rattle.std.proofs.Common.{◌≡◌, ℕ, ◌+◌, ◌<◌, zero, suc, Bool, true, false, not, List, [], ◌∷◌, length, Option, Some, None, refl, sym, ap, subst, ◌∙◌, inl, inr, arith}
 use Rattle.std.specs.Prelude.{◌&&◌, ◌==◌, nat_lt, nat_le, if◌then◌else◌}
-use Rattle.std.specs.List.{find}
+use Rattle.std.specs.List.{fold, find}
 use Rattle.std.specs.FinMap.Entries.{is_sorted}
-use Rattle.std.proofs.lemmas.Bool.{cases_eq, eqb-true, false≢true, and_parts, and_from, or_left, leb-true, le-leb, not-true}
+use Rattle.std.proofs.lemmas.Bool.{cases_eq, eqb-true, false≢true, and_parts, and_from, or_left, or_right, leb-true, le-leb, not-true}
 use Rattle.std.proofs.lemmas.Option.{none-some, same_Some}
 use Rattle.cast_types.specs.declared.names.SiteNo.{SiteNo}
 use Rattle.cast_types.specs.declared.names.GroupNo.{GroupNo}
 use Rattle.cast_types.specs.declared.names.Proc.{Proc}
 use Rattle.cast_types.specs.declared.names.Standing.TheVariants.{Joining}
 use Rattle.cast_types.specs.declared.limits.TheConstants.{MAX_NUMBER}
-use Rattle.cast_types.specs.Names.{group_cmp, site_eq, proc_eq}
+use Rattle.cast_types.specs.Names.{Entry, group_eq, group_cmp, site_eq, proc_eq}
 use Rattle.cast_types.specs.Repeat.{iterate}
 use Rattle.cast_types.specs.Stamps.{ClockList, is_stamp}
 use Rattle.cast_clock.specs.Times.{count_in, bumped, has_room}
 use Rattle.cast_types.specs.Sets.{is_among}
-use Rattle.cast_types.proofs.Orders.{same_site}
+use Rattle.cast_types.proofs.Orders.{same_site, group_itself}
 use Rattle.cast_message.specs.declared.message.Body.{Body}
 use Rattle.cast_message.specs.declared.message.Body.TheVariants as body
 use Rattle.cast_message.specs.declared.message.Message.{Message}
-use Rattle.cast_message.specs.Membership.{Membership}
+use Rattle.cast_message.specs.Membership.{Membership, is_members}
 use Rattle.cast_delay.specs.Ready.{is_member}
 use Rattle.cast_delay.proofs.Finds.{found_in}
+use Rattle.cast_model.specs.declared.config.DomainConfig.{DomainConfig}
+use Rattle.cast_view.specs.declared.member.Pending.{Pending}
 use Rattle.cast_view.specs.MemberSide.{members_of, with_request, holder_at, with_answer}
 use Rattle.cast_view.specs.Home.{HomeMove, is_empty, moved}
 use Rattle.cast_model.specs.declared.event.Event.{Event}
@@ -30,25 +32,30 @@ use Rattle.cast_clock.proofs.Raised.{bump_leaves_views}
 use Rattle.cast_history.specs.Rules.Commands.{message_sent}
 use Rattle.cast_history.specs.State.{State, receiving, noting_sent, local, serials, is_group, may_speak, set_home, was_given}
 use Rattle.cast_history.specs.Rules.Room.{may_order}
-use Rattle.cast_history.specs.Order.{order_of, unlisted, has_place, is_ready_for}
+use Rattle.cast_history.specs.Order.{order_of, unlisted, has_place}
+use Rattle.cast_history.specs.Turns.{is_ready_for}
 use Rattle.cast_history.specs.Rules.Owing.{tick}
 use Rattle.cast_history.proofs.Rules.Owing.{tick_keeps}
 use Rattle.cast_history.specs.Effects.{next_message, sending, delivering}
 use Rattle.cast_history.specs.Rules.Sending.{may_raise}
 use Rattle.cast_history.specs.Step.{opening_next, acted}
 use Rattle.cast_history.specs.Rules.Home.{start, want_bodies, decide, lead}
+use Rattle.cast_history.specs.Rules.Flushes.{own_want_key, complete, want_own, complete_or_want, go_on, go_on_all}
 use Rattle.cast_history.specs.Rest.{deliver_first, deliver_all, settle, set_order_by, set_order, set_orders, pass, RestsAt, let_go}
 use Rattle.cast_history.proofs.Setting.{may_set_order, set_order_is}
-use Rattle.cast_history.specs.Resting.{places_of}
-use Rattle.cast_history.specs.Lawful.{IsSpent, IsLawful, IsTyped}
+use Rattle.cast_history.specs.Resting.{places_of, resting}
+use Rattle.cast_history.specs.Reports.{has_delivered_cut, missing_in}
+use Rattle.cast_history.specs.Lawful.{IsSpent, Waits, IsLawful, IsTyped}
+use Rattle.cast_history.proofs.Totals.{In}
 use Rattle.cast_history.proofs.Spots.{found_passes}
 use Rattle.cast_history.specs.History.{history}
-use Rattle.cast_history.proofs.Rules.Follows.{IsTaken, IsEntered, IsInvariantOfAll}
+use Rattle.cast_history.proofs.Rules.Follows.{IsTaken, IsBrought, IsEntered, IsInvariantOfAll}
 use Rattle.cast_history.proofs.Rules.Data.{used_current, used_from_its_site, used_of_another, used_of_member}
 use Rattle.cast_history.proofs.Rules.Commands.{commanded_keeps, ended_keeps}
 use Rattle.cast_history.proofs.Rules.Home.{start_keeps, want_bodies_keeps, decide_keeps, lead_keeps, suspect_keeps}
 use Rattle.cast_history.proofs.Rules.Frames.{framed_keeps}
-use Rattle.cast_history.proofs.Lawful.{SameLaw, same_self, same_then, same_home, same_group_set, moves_same, invariant_by_same, kept_map, lawful_same, lawful_pushing, lawful_sent_here, local_speaks, lawful_if, lawful_fold, lawful_standing, lawful_receiving, lawful_let_go, lawful_sending, lawful_delivering, lawful_passing, lawful_releasing_ended, lawful_outside, same_closing, same_going}
+use Rattle.cast_history.proofs.Rules.Flushes.{wanted_current, wanted_of_member, go_on_keeps}
+use Rattle.cast_history.proofs.Lawful.{SameLaw, same_self, same_then, same_fold, same_owe, passing_config, same_home, same_group_set, same_freezing, same_pending, moves_same, invariant_by_same, kept_map, lawful_same, lawful_pushing, lawful_sent_here, local_speaks, lawful_if, lawful_fold, lawful_standing, lawful_receiving, lawful_let_go, lawful_sending, lawful_delivering, lawful_passing, lawful_releasing_ended, lawful_outside, same_closing, same_going}
 
 -- a stamp is in order
 stamp_sorted : (t : ClockList) → is_stamp t ≡ true → is_sorted group_cmp t ≡ true
@@ -89,6 +96,18 @@ taken_foreign s g from m taken =
     ap (λ t. site_eq t s.here) (same_site m.id.proc.site from (used_from_its_site history s g from m taken.used))
     ∙ not-true (site_eq from s.here) (used_of_another history s g from m taken.used)
 
+-- what the home brings is of the view that its group has reached
+pub brought_current : (s : State) (h : GroupNo) (m : Message) → IsBrought history s h m → m.id.view ≡ (s.group m.id.group).number
+brought_current s h m brought =
+    let there = placed_at s m.id.group h brought.at in
+    eqb-true m.id.view (s.group h).number (wanted_current history s h m brought.wanted) ∙ ap (λ g. (s.group g).number) (sym there.1)
+
+-- and its process is one of the view's members
+pub brought_of_member : (s : State) (h : GroupNo) (m : Message) → IsBrought history s h m → is_among proc_eq m.id.proc (members_of (s.group m.id.group)) ≡ true
+brought_of_member s h m brought =
+    let there = placed_at s m.id.group h brought.at in
+    ap (λ g. is_among proc_eq m.id.proc (members_of (s.group g))) there.1 ∙ wanted_of_member history s h m brought.wanted
+
 -- a view is entered by a configured group, and is a later one
 pub record Enters (s : State) (h : GroupNo) (n : ℕ) : Type 0 where
   pub listed : is_group s h ≡ true
@@ -111,8 +130,13 @@ all_lawful = record {
       subst (λ m. IsLawful (receiving (noting_sent s k m) m)) (sym same)
       (lawful_sent_here s k (next_message s g k content) l (λ i. bump_leaves_views (s.process k).time g i (local s k)) (raised_sorted (s.process k).time g (local s k) sent.raises) (omega arith) (local_speaks s g k));
   receive = λ s l h from m taken. let same = taken_current s h from m taken in lawful_receiving s m l (stamp_sorted m.times taken.typed.0) (omega (arith, same)) (taken_speaks s h from m taken);
-  note_request = λ s l g what p. lawful_same s _ (same_group_set s g (with_request (s.group g) what p) refl refl) l;
-  note_answer = λ s l g. lawful_same s _ (same_group_set s g (with_answer (s.group g)) refl refl) l;
+  brings = λ s l h m brought. let same = brought_current s h m brought in
+      lawful_receiving s m l (stamp_sorted m.times brought.typed.0) (omega (arith, same))
+      (or_left (is_among proc_eq m.id.proc (members_of (s.group m.id.group))) (site_eq m.id.proc.site s.here) (brought_of_member s h m brought));
+  freeze = λ s l g. lawful_same s _ (same_freezing s g) l;
+  pend = λ s l g p tail pended. lawful_same s _ (same_pending s g p tail pended.typed) l;
+  note_request = λ s l g what p. lawful_same s _ (same_group_set s g (with_request (s.group g) what p) refl refl refl refl) l;
+  note_answer = λ s l g. lawful_same s _ (same_group_set s g (with_answer (s.group g)) refl refl refl refl) l;
   move_home = λ s l g move. lawful_same s _ (same_home s g (moved move (s.home g))) l;
   enter_view = λ s l h g skips n members request cut is. let e = entered s h g n members is in lawful_passing s h skips n members request cut l e.listed e.later;
   release_ended = λ s l g. lawful_releasing_ended s g l;
@@ -141,6 +165,7 @@ lawful_opened s l unborn = record {
     ];
   }) s.got s.kept l.spent;
   listed = l.listed;
+  waiting = l.waiting;
   traced = record { reached = l.traced.reached; spoken = l.traced.spoken; delivered = l.traced.delivered; seen = l.traced.seen };
 }
   where
@@ -193,8 +218,9 @@ lawful_order_sent s g k content l may =
     let raises = may_raise (s.process k).time g (local s k) in
     let place = has_place (order_of s g) in
     let some = not (is_empty (unlisted s g k)) in
-    let a = and_parts (is_member ((s.process k).standing g)) (may_order history s && (some && (place && raises))) may in
-    let b = and_parts (may_order history s) (some && (place && raises)) a.1 in
+    let a = and_parts (is_member ((s.process k).standing g)) (not (s.group g).frozen && (may_order history s && (some && (place && raises)))) may in
+    let o = and_parts (not (s.group g).frozen) (may_order history s && (some && (place && raises))) a.1 in
+    let b = and_parts (may_order history s) (some && (place && raises)) o.1 in
     let c = and_parts some (place && raises) b.1 in
     lawful_sending s g k content l (raised_sorted (s.process k).time g (local s k) (and_parts place raises c.1).1)
 
@@ -215,6 +241,52 @@ lawful_set_order s g l =
 
 pub lawful_set_orders : (s : State) → IsLawful s → IsLawful (set_orders s)
 lawful_set_orders s l = lawful_fold set_order lawful_set_order s.config.groups s l
+
+-- The Installs that wait
+
+-- an Install that waits has the members of a view
+pub waits_typed : (s : State) (g : GroupNo) → IsLawful s → (p : Pending) → (s.group g).pending ≡ Some p → is_members p.members ≡ true
+waits_typed s g l p is = (subst (Waits (s.group g).frozen) is (l.waiting g)).1
+
+-- it is completed, or what it lacks is wanted
+pub lawful_go_on : (s : State) (g : GroupNo) → is_group s g ≡ true → IsLawful s → IsLawful (go_on history resting s g)
+lawful_go_on s g listed l =
+    go_on_keeps history resting IsLawful all_lawful s l g g (ap (λ b. if b then Some g else None) listed) (waits_typed s g l)
+
+-- that a site wants messages changes nothing of this
+pub same_want_own : (g : GroupNo) (es : List Entry) (s : State) → SameLaw s (fold (want_own history g) s es)
+same_want_own g es s = same_fold (want_own history g) (λ t e. same_owe t (own_want_key history t g e)) es s
+
+-- the configuration stays
+pub go_on_config : (s : State) (g : GroupNo) → (go_on history resting s g).config ≡ s.config
+go_on_config s g = waits (s.group g).pending
+  where
+    of_cut : (b : Bool) (p : Pending) → (if b then complete history s g p else fold (want_own history g) s (missing_in s g p.cut)).config ≡ s.config
+    of_cut true p = passing_config s g false ((s.group g).number + 1) p.members p.request p.cut
+    of_cut false p = (same_want_own g (missing_in s g p.cut) s).config
+
+    waits : (o : Option Pending) → (elim o as (λ _. State) [ Some p ↦ complete_or_want history resting s g p | None ↦ s ]).config ≡ s.config
+    waits (Some p) = of_cut (has_delivered_cut s g p.cut) p
+    waits None = refl
+
+-- what holds after each group holds after all of them
+pub go_on_each : (holds : State → Type 0) → ((s : State) (g : GroupNo) → is_group s g ≡ true → holds s → holds (go_on history resting s g)) → (s : State) → holds s → holds (go_on_all history resting s)
+go_on_each holds step s l = each s.config.groups s (λ g at. listed g s.config.groups at) l
+  where
+    listed : (g : GroupNo) (gs : List GroupNo) → In g gs → is_among group_eq g gs ≡ true
+    listed g [] at = absurd at
+    listed g (x ∷ gs) (inl same) = or_left (group_eq g x) (is_among group_eq g gs) (subst (λ y. group_eq g y ≡ true) same (group_itself g))
+    listed g (x ∷ gs) (inr at) = or_right (group_eq g x) (is_among group_eq g gs) (listed g gs at)
+
+    each : (gs : List GroupNo) (t : State) → ((g : GroupNo) → In g gs → is_group t g ≡ true) → holds t → holds (fold (go_on history resting) t gs)
+    each [] t among h = h
+    each (g ∷ gs) t among h =
+        each gs (go_on history resting t g) (λ x at. ap (λ (c : DomainConfig). is_among group_eq x c.groups) (go_on_config t g) ∙ among x (inr at))
+        (step t g (among g (inl refl)) h)
+
+-- in each group
+pub lawful_go_on_all : (s : State) → IsLawful s → IsLawful (go_on_all history resting s)
+lawful_go_on_all s l = go_on_each IsLawful lawful_go_on s l
 
 -- The home
 
@@ -239,7 +311,8 @@ same_lead s = lead_keeps history (SameLaw s) (moves_same s) (moves_home_same s) 
 pub lawful_pass : (s : State) → IsLawful s → IsLawful (pass s)
 lawful_pass s l =
     let t : State = set_orders (settle s) in
-    lawful_same t (pass s) (same_lead t) (lawful_set_orders (settle s) (lawful_settle s l))
+    let u : State = go_on_all history resting t in
+    lawful_same u (pass s) (same_lead u) (lawful_go_on_all t (lawful_set_orders (settle s) (lawful_settle s l)))
 
 pub lawful_rests : (s t : State) → IsLawful s → RestsAt s t → IsLawful t
 lawful_rests s t l rests = subst IsLawful rests.1 (lawful_iterate rests.0 pass lawful_pass s l)

@@ -2,6 +2,7 @@ pub mod Words
 pub mod FirstCast
 pub mod Leading
 pub mod Parting
+pub mod Flushing
 pub mod Leaving
 pub mod Waiting
 pub mod Overlapping
@@ -16,6 +17,7 @@ pub mod Setting
 pub mod Alikes
 pub mod Settles
 pub mod Rests
+pub mod Going
 pub mod Spots
 pub mod Lawful
 pub mod LawfulSteps

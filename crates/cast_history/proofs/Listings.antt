@@ -20,9 +20,10 @@ use Rattle.cast_order.specs.Order.{listed_ids, still_to_list, ids_to_list, place
 use Rattle.cast_view.specs.Home.{is_empty}
 use Rattle.cast_view.specs.MemberSide.{holder_at}
 use Rattle.cast_history.specs.State.{State, local, receiving, with_delivery}
-use Rattle.cast_history.specs.Order.{ids_told, is_of_view, lists_of, abcasts_delivered, order_of, unlisted, is_ready_for}
+use Rattle.cast_history.specs.Order.{ids_told, is_of_view, lists_of, abcasts_delivered, order_of, unlisted}
+use Rattle.cast_history.specs.Turns.{is_ready_for}
 use Rattle.cast_history.specs.Effects.{next_message}
-use Rattle.cast_history.specs.Endings.{one_if, is_to_come, to_list_by, to_list_in}
+use Rattle.cast_history.specs.Endings.{one_if, is_to_come, to_list_by, to_list_here, to_list_in}
 use Rattle.cast_history.proofs.Totals.{In, one_le, one_mono, not_mono, among_push, among_last}
 use Rattle.cast_history.proofs.Settles.{delivered_at, ready_new}
 
@@ -153,11 +154,15 @@ delivered_to_list s k m g j at new = by_kind (is_atomic (kind_of m.body)) refl
 
 -- a delivery leaves the holders no more to list
 pub to_list_delivered : (s : State) (k : ℕ) (m : Message) → find (is_ready_for s k) s.got ≡ Some m → (g : GroupNo) → to_list_in (with_delivery s k m) g ≤ to_list_in s g
-to_list_delivered s k m found g = of_holder (holder_at s.here (s.group g))
+to_list_delivered s k m found g = of_frozen (s.group g).frozen
   where
     of_holder : (o : Option Proc) → elim o as (λ _. ℕ) [ Some p ↦ to_list_by (with_delivery s k m) g p.serial | None ↦ 0 ] ≤ elim o as (λ _. ℕ) [ Some p ↦ to_list_by s g p.serial | None ↦ 0 ]
     of_holder (Some p) = let is = in_found (is_ready_for s k) s.got m found in delivered_to_list s k m g p.serial is.1 (ready_new s k m is.0)
     of_holder None = omega arith
+
+    of_frozen : (b : Bool) → ◌≤◌ (if b then 0 else to_list_here (with_delivery s k m) g) (if b then 0 else to_list_here s g)
+    of_frozen true = omega arith
+    of_frozen false = of_holder (holder_at s.here (s.group g))
 
 -- A set-order message
 
@@ -237,16 +242,22 @@ less_unlisted s g k some = by_first (unlisted s g k) refl some
 
 -- what is received as no ABCAST leaves the holders no more to list
 pub to_list_received : (s : State) (m : Message) → is_atomic (kind_of m.body) ≡ false → (g : GroupNo) → to_list_in (receiving s m) g ≤ to_list_in s g
-to_list_received s m other g = of_holder (holder_at s.here (s.group g))
+to_list_received s m other g = of_frozen (s.group g).frozen
   where
     of_holder : (o : Option Proc) → elim o as (λ _. ℕ) [ Some p ↦ to_list_by (receiving s m) g p.serial | None ↦ 0 ] ≤ elim o as (λ _. ℕ) [ Some p ↦ to_list_by s g p.serial | None ↦ 0 ]
     of_holder (Some p) = let fewer = fewer_unlisted s m g p.serial in let same = to_come_same s m g p.serial other in omega (arith, fewer, same)
     of_holder None = omega arith
 
--- and a set-order message less
-pub to_list_ordered : (s : State) (g : GroupNo) (p : Proc) → holder_at s.here (s.group g) ≡ Some p → not (is_empty (unlisted s g p.serial)) ≡ true → to_list_in (receiving s (order_message s g p.serial)) g < to_list_in s g
-to_list_ordered s g p holder some =
+    of_frozen : (b : Bool) → ◌≤◌ (if b then 0 else to_list_here (receiving s m) g) (if b then 0 else to_list_here s g)
+    of_frozen true = omega arith
+    of_frozen false = of_holder (holder_at s.here (s.group g))
+
+-- and a set-order message less, which is sent in no frozen group
+pub to_list_ordered : (s : State) (g : GroupNo) (p : Proc) → holder_at s.here (s.group g) ≡ Some p → (s.group g).frozen ≡ false → not (is_empty (unlisted s g p.serial)) ≡ true → to_list_in (receiving s (order_message s g p.serial)) g < to_list_in s g
+to_list_ordered s g p holder unfrozen some =
     let m : Message = order_message s g p.serial in
     let less = less_unlisted s g p.serial some in
     let same = to_come_same s m g p.serial refl in
-    subst (λ o. elim o as (λ _. ℕ) [ Some p ↦ to_list_by (receiving s m) g p.serial | None ↦ 0 ] < elim o as (λ _. ℕ) [ Some p ↦ to_list_by s g p.serial | None ↦ 0 ]) (sym holder) (omega (arith, less, same))
+    let here : to_list_here (receiving s m) g < to_list_here s g =
+    subst (λ o. elim o as (λ _. ℕ) [ Some p ↦ to_list_by (receiving s m) g p.serial | None ↦ 0 ] < elim o as (λ _. ℕ) [ Some p ↦ to_list_by s g p.serial | None ↦ 0 ]) (sym holder) (omega (arith, less, same)) in
+    subst (λ b. ◌<◌ (if b then 0 else to_list_here (receiving s m) g) (if b then 0 else to_list_here s g)) (sym unfrozen) here

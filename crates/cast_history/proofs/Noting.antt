@@ -1,6 +1,6 @@
 -- In each state that a history passes its acts say what each process did.
-use Rattle.std.proofs.Common.{◌≡◌, ℕ, Bool, true, false, List, [], ◌∷◌, ◌++◌, cond, filter, Option, Some, None, refl, sym, ap, subst, ◌∙◌}
-use Rattle.std.specs.Prelude.{◌==◌, ◌&&◌, if◌then◌else◌}
+use Rattle.std.proofs.Common.{◌≡◌, ℕ, Bool, true, false, List, [], ◌∷◌, ◌++◌, cond, filter, Option, Some, None, refl, sym, ap, subst, ◌∙◌, inl, inr}
+use Rattle.std.specs.Prelude.{◌==◌, ◌+◌, ◌&&◌, if◌then◌else◌}
 use Rattle.std.specs.List.{fold, find}
 use Rattle.std.proofs.lemmas.Bool.{eqb-true}
 use Rattle.std.proofs.lemmas.List.{append-nil}
@@ -8,7 +8,7 @@ use Rattle.std.proofs.lemmas.List.Elements.{filter-append}
 use Rattle.cast_types.specs.declared.names.GroupNo.{GroupNo}
 use Rattle.cast_types.specs.declared.names.Standing.TheVariants.{Outside}
 use Rattle.cast_types.specs.declared.limits.TheConstants.{MAX_NUMBER}
-use Rattle.cast_types.specs.Names.{site_eq, group_eq, proc_eq, is_atomic}
+use Rattle.cast_types.specs.Names.{group_eq, proc_eq, is_atomic}
 use Rattle.cast_types.specs.Sets.{set_at}
 use Rattle.cast_types.specs.Counts.{CountList}
 use Rattle.cast_types.proofs.Orders.{site_itself}
@@ -22,6 +22,7 @@ use Rattle.cast_message.specs.Bodies.{kind_of}
 use Rattle.cast_message.specs.Membership.{Membership}
 use Rattle.cast_delay.specs.Ready.{Process, is_member}
 use Rattle.cast_model.specs.Session.{is_open, pushed_to}
+use Rattle.cast_view.specs.declared.member.Pending.{Pending}
 use Rattle.cast_view.specs.MemberSide.{holder_at, with_view}
 use Rattle.cast_model.specs.declared.event.Event.{Event}
 use Rattle.cast_model.specs.declared.event.Event.TheVariants as event
@@ -29,26 +30,27 @@ use Rattle.cast_history.specs.Acts.{Act}
 use Rattle.cast_history.specs.Acts.Act.{Sent, Delivered, Entered, Left}
 use Rattle.cast_history.specs.State.{State, local, serials, receiving, noting_sent, pushing, set_session, set_process, set_group, with_delivery, noting_act, outside, acts_outside, set_standing}
 use Rattle.cast_history.specs.Entering.{parted, is_put_out, all_parted, push_out, putting_out, enters, in_view, all_in_view, push_view, completing, passing}
-use Rattle.cast_history.specs.Order.{is_ready_for}
+use Rattle.cast_history.specs.Turns.{is_ready_for}
 use Rattle.cast_history.specs.Lawful.{IsTyped}
 use Rattle.cast_history.specs.History.{history}
 use Rattle.cast_history.specs.Step.{opening_next, acted}
 use Rattle.cast_history.specs.Effects.{next_message, sending, delivering}
-use Rattle.cast_history.specs.Resting.{places_of}
+use Rattle.cast_history.specs.Resting.{places_of, resting}
+use Rattle.cast_history.specs.Reports.{has_delivered_cut, missing_in}
+use Rattle.cast_history.specs.Rules.Flushes.{own_want_key, complete, want_own, complete_or_want, go_on}
 use Rattle.cast_history.specs.Rest.{deliver_first, set_order_by, set_order, let_go}
 use Rattle.cast_history.specs.Rules.Commands.{message_sent}
 use Rattle.cast_history.specs.Rules.Sending.{send_data}
 use Rattle.cast_history.specs.Rules.Rest.{told_of, tell}
-use Rattle.cast_history.specs.Raising.{opens, begins, acts, lets_go, delivers, orders, starts, wants, decides}
-use Rattle.cast_history.specs.Noted.{sent_by, delivered_by, abcasts_by, IsNoted, ActsAreNoted}
+use Rattle.cast_history.specs.Raising.{opens, begins, acts, lets_go, delivers, orders, goes_on, starts, wants, decides}
+use Rattle.cast_history.specs.Noted.{sent_by, delivered_by, abcasts_by, AreWithin, IsNoted, ActsAreNoted}
 use Rattle.cast_history.proofs.Setting.{may_set_order, set_order_is}
 use Rattle.cast_history.proofs.Rules.Follows.{IsInvariant, IsInvariantOfAll}
 use Rattle.cast_history.proofs.Rules.Sending.{send_data_keeps}
-use Rattle.cast_history.proofs.Rules.Owing.{tick_keeps}
+use Rattle.cast_history.proofs.Rules.Owing.{owe_keeps, tick_keeps}
 use Rattle.cast_history.proofs.Rules.Commands.{commanded_keeps, ended_keeps}
 use Rattle.cast_history.proofs.Rules.Frames.{framed_keeps}
 use Rattle.cast_history.proofs.Rules.Home.{start_keeps, want_bodies_keeps, decide_keeps, suspect_keeps}
-use Rattle.cast_history.proofs.LawfulSteps.{taken_foreign}
 
 -- What acts say, one after another
 
@@ -87,6 +89,27 @@ nothing_delivered xs a none = sym (append-nil (delivered_by xs)) ∙ ap (λ us. 
 no_abcast : (xs : List Act) (a : Act) → abcasts_by (a ∷ []) ≡ [] → abcasts_by xs ≡ abcasts_by (xs ++ a ∷ [])
 no_abcast xs a none = sym (append-nil (abcasts_by xs)) ∙ ap (λ us. abcasts_by xs ++ us) (sym none) ∙ sym (abcasts_append xs (a ∷ []))
 
+-- Lists within lists
+
+-- nothing is within each
+nothing_within : {A : Type 0} (ys : List A) → AreWithin [] ys
+nothing_within [] = refl
+nothing_within (y ∷ ys) = inr (nothing_within ys)
+
+-- each list is within itself
+all_within : {A : Type 0} (xs : List A) → AreWithin xs xs
+all_within [] = refl
+all_within (x ∷ xs) = inl (xs, refl, all_within xs)
+
+within_append : {A : Type 0} (xs ys us vs : List A) → AreWithin xs ys → AreWithin us vs → AreWithin (xs ++ us) (ys ++ vs)
+within_append xs [] us vs none more = subst (λ zs. AreWithin (zs ++ us) vs) (sym none) more
+within_append xs (y ∷ ys) us vs (inl (rest, is, within)) more = inl (rest ++ us, ap (λ zs. zs ++ us) is, within_append rest ys us vs within more)
+within_append xs (y ∷ ys) us vs (inr within) more = inr (within_append xs ys us vs within more)
+
+-- a list is within one that goes on
+within_more : {A : Type 0} (xs ys vs : List A) → AreWithin xs ys → AreWithin xs (ys ++ vs)
+within_more xs ys vs within = subst (λ zs. AreWithin zs (ys ++ vs)) (append-nil xs) (within_append xs ys [] vs within (nothing_within vs))
+
 -- The moves of the rules
 
 -- the messages of a process that were received
@@ -113,7 +136,7 @@ noted_process s n k p same = record {
 -- a process is outside a group, and left it where it was a member
 noted_outside : (s : State) → IsNoted s → (k : ℕ) (g : GroupNo) → IsNoted (outside s k g)
 noted_outside s n k g = record {
-  sent = λ j. n.sent j ∙ left_same sent_by (λ xs. nothing_sent xs (Left g) refl) j;
+  sent = λ j. subst (λ ms. AreWithin ms (own s j)) (left_same sent_by (λ xs. nothing_sent xs (Left g) refl) j) (n.sent j);
   delivered = λ j. now.delivered j ∙ left_same delivered_by (λ xs. nothing_delivered xs (Left g) refl) j;
   abcasts = λ j. n.abcasts j ∙ left_same abcasts_by (λ xs. no_abcast xs (Left g) refl) j;
 }
@@ -130,13 +153,13 @@ noted_outside s n k g = record {
       | false ↦ refl
     ]
 
-noted_receiving : (s : State) → IsNoted s → (m : Message) → site_eq m.id.proc.site s.here ≡ false → IsNoted (receiving s m)
-noted_receiving s n m foreign = record {
+-- a message is received: of another site, or one that the home brings, which may be under the name of a process of this site
+noted_receiving : (s : State) → IsNoted s → (m : Message) → IsNoted (receiving s m)
+noted_receiving s n m = record {
   sent = λ k.
-      filter-append (λ x. proc_eq x.id.proc (local s k)) s.got (m ∷ [])
-      ∙ ap (λ b. own s k ++ cond (b && (m.id.proc.serial == k)) (m ∷ []) []) foreign
-      ∙ append-nil (own s k)
-      ∙ n.sent k;
+      let is_own : Message → Bool = λ x. proc_eq x.id.proc (local s k) in
+      subst (AreWithin (sent_by (s.acts k))) (sym (filter-append is_own s.got (m ∷ [])))
+      (within_more (sent_by (s.acts k)) (own s k) (filter is_own (m ∷ [])) (n.sent k));
   delivered = n.delivered;
   abcasts = n.abcasts;
 }
@@ -145,13 +168,18 @@ noted_receiving s n m foreign = record {
 noted_sent : (s : State) → IsNoted s → (k : ℕ) (m : Message) → m.id.proc ≡ local s k → IsNoted (receiving (noting_sent s k m) m)
 noted_sent s n k m named = record {
   sent = λ j.
+      let grown : filter (λ x. proc_eq x.id.proc (local s j)) (s.got ++ m ∷ []) ≡ own s j ++ cond (k == j) (m ∷ []) [] =
       filter-append (λ x. proc_eq x.id.proc (local s j)) s.got (m ∷ [])
       ∙ ap (λ p. own s j ++ cond (proc_eq p (local s j)) (m ∷ []) []) named
-      ∙ ap (λ b. own s j ++ cond (b && (k == j)) (m ∷ []) []) (site_itself s.here)
-      ∙ elim (k == j) as (λ b. k == j ≡ b → own s j ++ cond b (m ∷ []) [] ≡ sent_by (if b then s.acts k ++ Sent m ∷ [] else s.acts j)) [
-        | true ↦ λ is. ap (λ i. own s i ++ m ∷ []) (sym (eqb-true k j is)) ∙ ap (λ ms. ms ++ m ∷ []) (n.sent k) ∙ sym (sent_append (s.acts k) (Sent m ∷ []))
-        | false ↦ λ _. append-nil (own s j) ∙ n.sent j
-      ] refl;
+      ∙ ap (λ b. own s j ++ cond (b && (k == j)) (m ∷ []) []) (site_itself s.here) in
+      subst (AreWithin (sent_by (if k == j then s.acts k ++ Sent m ∷ [] else s.acts j))) (sym grown)
+      (elim (k == j) as (λ b. k == j ≡ b → AreWithin (sent_by (if b then s.acts k ++ Sent m ∷ [] else s.acts j)) (own s j ++ cond b (m ∷ []) [])) [
+        | true ↦ λ is.
+            subst (λ i. AreWithin (sent_by (s.acts k ++ Sent m ∷ [])) (own s i ++ m ∷ [])) (eqb-true k j is)
+            (subst (λ ms. AreWithin ms (own s k ++ m ∷ [])) (sym (sent_append (s.acts k) (Sent m ∷ [])))
+            (within_append (sent_by (s.acts k)) (own s k) (m ∷ []) (m ∷ []) (n.sent k) (all_within (m ∷ []))))
+        | false ↦ λ _. subst (AreWithin (sent_by (s.acts j))) (sym (append-nil (own s j))) (n.sent j)
+      ] refl);
   delivered = λ j. elim (k == j) as (λ b. (if b then record (s.process k) { time = m.times } else s.process j).delivered ≡ delivered_by (if b then s.acts k ++ Sent m ∷ [] else s.acts j)) [
     | true ↦ n.delivered k ∙ nothing_delivered (s.acts k) (Sent m) refl
     | false ↦ n.delivered j
@@ -164,8 +192,10 @@ noted_sent s n k m named = record {
 
 noted_delivery : (s : State) → IsNoted s → (k : ℕ) (m : Message) → IsNoted (with_delivery s k m)
 noted_delivery s n k m = record {
-  sent = λ j. elim (k == j) as (λ b. k == j ≡ b → own s j ≡ sent_by (if b then s.acts k ++ Delivered m ∷ [] else s.acts j)) [
-    | true ↦ λ is. ap (own s) (sym (eqb-true k j is)) ∙ n.sent k ∙ nothing_sent (s.acts k) (Delivered m) refl
+  sent = λ j. elim (k == j) as (λ b. k == j ≡ b → AreWithin (sent_by (if b then s.acts k ++ Delivered m ∷ [] else s.acts j)) (own s j)) [
+    | true ↦ λ is.
+        subst (λ ms. AreWithin ms (own s j)) (nothing_sent (s.acts k) (Delivered m) refl)
+        (subst (λ i. AreWithin (sent_by (s.acts i)) (own s j)) (sym (eqb-true k j is)) (n.sent j))
     | false ↦ λ _. n.sent j
   ] refl;
   delivered = λ j. elim (k == j) as (λ b. (if b then now else s.process j).delivered ≡ delivered_by (if b then s.acts k ++ Delivered m ∷ [] else s.acts j)) [
@@ -192,10 +222,10 @@ noted_delivery s n k m = record {
 -- processes enter a view
 noted_in_view : (s : State) → IsNoted s → (g : GroupNo) (v : ℕ) (members : Membership) (request : ℕ) (cut : CountList) → IsNoted (all_in_view s g v members request cut)
 noted_in_view s n g v members request cut = record {
-  sent = λ k. n.sent k ∙ (elim (enters s g members request k) as (λ b. sent_by (s.acts k) ≡ sent_by (if b then s.acts k ++ Entered g v cut ∷ [] else s.acts k)) [
-    | true ↦ nothing_sent (s.acts k) (Entered g v cut) refl
-    | false ↦ refl
-  ]);
+  sent = λ k. elim (enters s g members request k) as (λ b. AreWithin (sent_by (if b then s.acts k ++ Entered g v cut ∷ [] else s.acts k)) (own s k)) [
+    | true ↦ subst (λ ms. AreWithin ms (own s k)) (nothing_sent (s.acts k) (Entered g v cut) refl) (n.sent k)
+    | false ↦ n.sent k
+  ];
   delivered = λ k. elim (enters s g members request k) as (λ b. (if b then in_view g v (s.process k) else s.process k).delivered ≡ delivered_by (if b then s.acts k ++ Entered g v cut ∷ [] else s.acts k)) [
     | true ↦ n.delivered k ∙ nothing_delivered (s.acts k) (Entered g v cut) refl
     | false ↦ n.delivered k
@@ -219,7 +249,10 @@ noted_completing s n g v members request cut =
 -- members are put out
 noted_all_parted : (s : State) → IsNoted s → (g : GroupNo) (goes : ℕ → Bool) → IsNoted (all_parted s g goes)
 noted_all_parted s n g goes = record {
-  sent = λ k. n.sent k ∙ (elim (goes k) as (λ b. sent_by (s.acts k) ≡ sent_by (if b then s.acts k ++ Left g ∷ [] else s.acts k)) [ true ↦ nothing_sent (s.acts k) (Left g) refl | false ↦ refl ]);
+  sent = λ k. elim (goes k) as (λ b. AreWithin (sent_by (if b then s.acts k ++ Left g ∷ [] else s.acts k)) (own s k)) [
+    | true ↦ subst (λ ms. AreWithin ms (own s k)) (nothing_sent (s.acts k) (Left g) refl) (n.sent k)
+    | false ↦ n.sent k
+  ];
   delivered = λ k. elim (goes k) as (λ b. (if b then parted g (s.process k) else s.process k).delivered ≡ delivered_by (if b then s.acts k ++ Left g ∷ [] else s.acts k)) [
     | true ↦ n.delivered k ∙ nothing_delivered (s.acts k) (Left g) refl
     | false ↦ n.delivered k
@@ -254,7 +287,10 @@ all_noted = record {
   note_joining = λ s n k given g h at number heard. noted_process s n k _ refl;
   note_outside = λ s n k g is. noted_outside s n k g;
   sends = λ s n h k g content sent. noted_sent s n k (message_sent history s k g h content) refl;
-  receive = λ s n h from m taken. noted_receiving s n m (taken_foreign s h from m taken);
+  receive = λ s n h from m taken. noted_receiving s n m;
+  brings = λ s n h m brought. noted_receiving s n m;
+  freeze = λ s n g. record { sent = n.sent; delivered = n.delivered; abcasts = n.abcasts };
+  pend = λ s n g p tail pended. record { sent = n.sent; delivered = n.delivered; abcasts = n.abcasts };
   note_request = λ s n g what p. record { sent = n.sent; delivered = n.delivered; abcasts = n.abcasts };
   note_answer = λ s n g. record { sent = n.sent; delivered = n.delivered; abcasts = n.abcasts };
   move_home = λ s n g move. record { sent = n.sent; delivered = n.delivered; abcasts = n.abcasts };
@@ -311,6 +347,22 @@ noted_set_order s g n = elim (holder_at s.here (s.group g)) as (λ o. IsNoted (e
   | None ↦ n
 ]
 
+-- the Install that waits is completed
+noted_complete : (s : State) (g : GroupNo) (p : Pending) → IsNoted s → IsNoted (complete history s g p)
+noted_complete s g p n =
+    let entered : IsNoted (passing s g false ((s.group g).number + 1) p.members p.request p.cut) = noted_passing s n g false ((s.group g).number + 1) p.members p.request p.cut in
+    record { sent = entered.sent; delivered = entered.delivered; abcasts = entered.abcasts }
+
+-- or what it lacks is wanted
+noted_go_on : (s : State) (g : GroupNo) → IsNoted s → IsNoted (go_on history resting s g)
+noted_go_on s g n = elim (s.group g).pending as (λ o. IsNoted (elim o [ Some p ↦ complete_or_want history resting s g p | None ↦ s ])) [
+  | Some p ↦ elim (has_delivered_cut s g p.cut) as (λ b. IsNoted (if b then complete history s g p else fold (want_own history g) s (missing_in s g p.cut))) [
+    | true ↦ noted_complete s g p n
+    | false ↦ noted_fold (want_own history g) (λ t e m. owe_keeps history IsNoted noted_moves t m (own_want_key history t g e)) (missing_in s g p.cut) s n
+  ]
+  | None ↦ n
+]
+
 pub acts_are_noted : ActsAreNoted
 acts_are_noted here config s opens = record { sent = λ k. refl; delivered = λ k. refl; abcasts = λ k. refl }
 acts_are_noted here config s (begins t p) = let n = acts_are_noted here config t p in record { sent = n.sent; delivered = n.delivered; abcasts = n.abcasts }
@@ -318,6 +370,7 @@ acts_are_noted here config s (acts t e typed p) = noted_acted t e (acts_are_note
 acts_are_noted here config s (lets_go t p) = noted_let_go t (acts_are_noted here config t p)
 acts_are_noted here config s (delivers t k p) = noted_first t k (acts_are_noted here config t p)
 acts_are_noted here config s (orders t g p) = noted_set_order t g (acts_are_noted here config t p)
+acts_are_noted here config s (goes_on t g listed p) = noted_go_on t g (acts_are_noted here config t p)
 acts_are_noted here config s (starts t g p) = start_keeps history IsNoted noted_moves all_noted.move_home t (acts_are_noted here config t p) g
 acts_are_noted here config s (wants t g p) = want_bodies_keeps history IsNoted noted_moves all_noted.move_home t (acts_are_noted here config t p) g
 acts_are_noted here config s (decides t g p) = decide_keeps history IsNoted noted_moves all_noted.move_home t (acts_are_noted here config t p) g

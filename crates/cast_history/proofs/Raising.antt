@@ -40,7 +40,7 @@ use Rattle.cast_view.specs.Sites.{is_at}
 use Rattle.cast_history.specs.State.{State, opening, local, serials, is_group, set_process, set_group, set_standing, others_of, gate_of, was_given, receiving, releasing, pushing, with_delivery, noting_sent}
 use Rattle.cast_history.specs.Acts.Act.{Sent}
 use Rattle.cast_history.specs.Rest.{is_free, let_go}
-use Rattle.cast_history.specs.Order.{is_ready_for}
+use Rattle.cast_history.specs.Turns.{is_ready_for}
 use Rattle.cast_history.specs.History.{history}
 use Rattle.cast_history.specs.Rules.Sending.{send_data}
 use Rattle.cast_history.specs.Effects.{next_message, sending, delivering}

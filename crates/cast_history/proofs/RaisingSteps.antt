@@ -11,6 +11,7 @@ use Rattle.cast_types.specs.Names.{group_cmp, proc_eq}
 use Rattle.cast_types.specs.Sets.{is_among}
 use Rattle.cast_types.specs.Repeat.{iterate}
 use Rattle.cast_types.specs.Counts.{is_counts}
+use Rattle.cast_types.specs.Stamps.{is_stamp}
 use Rattle.cast_message.specs.declared.message.Body.{Body}
 use Rattle.cast_message.specs.declared.message.Body.TheVariants as body
 use Rattle.cast_message.specs.declared.message.Message.{Message}
@@ -28,26 +29,28 @@ use Rattle.cast_model.specs.declared.event.Taken.{Taken}
 use Rattle.cast_history.specs.Rules.Commands.{message_sent}
 use Rattle.cast_history.specs.State.{State, receiving, noting_sent, opening, serials, is_group, is_ended, set_standing, outside, acts_outside}
 use Rattle.cast_history.specs.Rules.Requests.{is_home}
-use Rattle.cast_history.specs.Order.{is_ready_for}
+use Rattle.cast_history.specs.Turns.{is_ready_for}
 use Rattle.cast_history.specs.Effects.{next_message, sending, delivering}
 use Rattle.cast_history.specs.Rules.Owing.{tick}
 use Rattle.cast_history.specs.Step.{opening_next, acted}
 use Rattle.cast_history.specs.Rest.{deliver_first, deliver_all, settle, set_order_by, set_order, set_orders, pass, let_go}
-use Rattle.cast_history.specs.Resting.{places_of}
+use Rattle.cast_history.specs.Resting.{places_of, resting}
+use Rattle.cast_history.specs.Rules.Flushes.{go_on, go_on_all}
 use Rattle.cast_history.proofs.Setting.{may_set_order, set_order_is}
 use Rattle.cast_history.specs.Rules.Home.{start, want_bodies, decide, lead_group, lead}
 use Rattle.cast_history.specs.Run.{before_event, after_event, IsRun}
 use Rattle.cast_history.specs.Lawful.{IsLawful, IsTyped}
 use Rattle.cast_history.specs.History.{history}
-use Rattle.cast_history.specs.Raising.{IsTimeOf, IsFromMember, CountsMembers, IsPassed, opens, begins, acts, lets_go, delivers, orders, starts, wants, decides, CountsCanBeRaised, CountsCanBeRaisedWithin, MembersAreCounted, RunsArePassed}
+use Rattle.cast_history.specs.Raising.{IsTimeOf, IsFromMember, CountsMembers, IsPassed, opens, begins, acts, lets_go, delivers, orders, goes_on, starts, wants, decides, CountsCanBeRaised, CountsCanBeRaisedWithin, MembersAreCounted, RunsArePassed}
 use Rattle.cast_history.proofs.Spots.{found_passes}
-use Rattle.cast_history.proofs.Rules.Follows.{IsTaken, IsInvariantOfAll}
+use Rattle.cast_history.proofs.Rules.Follows.{IsTaken, IsBrought, IsInvariantOfAll}
 use Rattle.cast_history.proofs.Rules.Data.{used_known, used_of_member}
+use Rattle.cast_history.proofs.Rules.Flushes.{wanted_known, go_on_keeps}
 use Rattle.cast_history.proofs.Rules.Commands.{commanded_keeps, ended_keeps}
 use Rattle.cast_history.proofs.Rules.Home.{suspect_keeps}
 use Rattle.cast_history.proofs.Rules.Frames.{framed_keeps}
-use Rattle.cast_history.proofs.Lawful.{same_home, same_group_set, same_acts, same_closing, same_going, invariant_by_same, lawful_same, same_pushing, lawful_opening, lawful_before, lawful_let_go}
-use Rattle.cast_history.proofs.LawfulSteps.{same_tick, same_start, same_want_bodies, same_decide, placed_at, taken_current, entered, all_lawful, lawful_acted, lawful_first, lawful_set_order}
+use Rattle.cast_history.proofs.Lawful.{same_home, same_group_set, same_freezing, same_pending, same_acts, same_closing, same_going, invariant_by_same, lawful_same, same_pushing, lawful_opening, lawful_before, lawful_let_go}
+use Rattle.cast_history.proofs.LawfulSteps.{same_tick, same_start, same_want_bodies, same_decide, placed_at, taken_current, brought_current, brought_of_member, entered, all_lawful, lawful_acted, lawful_first, lawful_set_order, waits_typed, lawful_go_on, go_on_each}
 use Rattle.cast_history.proofs.Counting.{is_clock_of, all_both}
 use Rattle.cast_history.proofs.Raising.{counts_same, counts_let_go, counts_before, counts_opening, counts_standing, counts_receiving, counts_sent_here, counts_sending, counts_delivering, counts_passing, counts_releasing, counts_opened, next_unborn, can_raise}
 
@@ -57,16 +60,20 @@ counts_if x y false p q = q refl
 
 -- The moves of the rules
 
--- what is received has a time of configured groups, and is from a member of the group's view
-taken_time : (s : State) (h : GroupNo) (from : SiteNo) (m : Message) → IsTaken history s h from m → IsTimeOf s.config.groups m.times
-taken_time s h from m taken =
-    let x = and_parts (is_sorted group_cmp m.times) _ taken.typed.0 in
+-- a message with the types of its parts, whose groups are configured, has a time of these
+stamped_time : (s : State) (m : Message) → is_stamp m.times ≡ true → list_all (λ e. is_counts e.1.counts) m.times ≡ true → list_all (λ e. is_group s e.0) m.times ≡ true → IsTimeOf s.config.groups m.times
+stamped_time s m stamp counts known =
+    let x = and_parts (is_sorted group_cmp m.times) _ stamp in
     let y = and_parts (nat_lt 0 (length m.times)) _ x.1 in
     let seen = (and_parts (nat_le (length m.times) 32) (list_all (λ e. nat_lt 0 e.1.view) m.times) y.1).1 in
     record {
-      valid = and_from (is_sorted group_cmp m.times) (list_all (λ e. is_counts e.1.counts) m.times) x.0 taken.typed.1;
-      named = all_both (λ e. is_group s e.0) (λ e. nat_lt 0 e.1.view) (λ e. is_clock_of s.config.groups e.0 e.1) (λ e p q. and_from (is_group s e.0) (nat_lt 0 e.1.view) p q) m.times (used_known history s h from m taken.used) seen;
+      valid = and_from (is_sorted group_cmp m.times) (list_all (λ e. is_counts e.1.counts) m.times) x.0 counts;
+      named = all_both (λ e. is_group s e.0) (λ e. nat_lt 0 e.1.view) (λ e. is_clock_of s.config.groups e.0 e.1) (λ e p q. and_from (is_group s e.0) (nat_lt 0 e.1.view) p q) m.times known seen;
     }
+
+-- what is received has a time of configured groups, and is from a member of the group's view
+taken_time : (s : State) (h : GroupNo) (from : SiteNo) (m : Message) → IsTaken history s h from m → IsTimeOf s.config.groups m.times
+taken_time s h from m taken = stamped_time s m taken.typed.0 taken.typed.1 (used_known history s h from m taken.used)
 
 taken_from : (s : State) (h : GroupNo) (from : SiteNo) (m : Message) → IsTaken history s h from m → IsFromMember (s.group m.id.group) m.id
 taken_from s h from m taken =
@@ -76,6 +83,15 @@ taken_from s h from m taken =
       reached = omega (arith, same);
       member = λ _. subst (λ g. is_among proc_eq m.id.proc (members_of (s.group g)) ≡ true) (sym there.1) (used_of_member history s h from m taken.used);
     }
+
+-- and so is what the home brings
+brought_time : (s : State) (h : GroupNo) (m : Message) → IsBrought history s h m → IsTimeOf s.config.groups m.times
+brought_time s h m brought = stamped_time s m brought.typed.0 brought.typed.1 (wanted_known history s h m brought.wanted)
+
+brought_from : (s : State) (h : GroupNo) (m : Message) → IsBrought history s h m → IsFromMember (s.group m.id.group) m.id
+brought_from s h m brought =
+    let same = brought_current s h m brought in
+    record { reached = omega (arith, same); member = λ _. brought_of_member s h m brought }
 
 -- it is lawful, and counts members alone
 abbrev IsCounted : State → Type 0
@@ -94,8 +110,11 @@ all_counted = record {
         subst (λ m. CountsMembers (receiving (noting_sent s k m) m)) (sym same) (counts_sent_here s g k content c.0 c.1 sent.member),
       );
   receive = λ s c h from m taken. (all_lawful.receive s c.0 h from m taken, counts_receiving s m c.1 (taken_time s h from m taken) (taken_from s h from m taken));
-  note_request = λ s c g what p. (all_lawful.note_request s c.0 g what p, counts_same s _ (same_group_set s g (with_request (s.group g) what p) refl refl) c.1);
-  note_answer = λ s c g. (all_lawful.note_answer s c.0 g, counts_same s _ (same_group_set s g (with_answer (s.group g)) refl refl) c.1);
+  brings = λ s c h m brought. (all_lawful.brings s c.0 h m brought, counts_receiving s m c.1 (brought_time s h m brought) (brought_from s h m brought));
+  freeze = λ s c g. (all_lawful.freeze s c.0 g, counts_same s _ (same_freezing s g) c.1);
+  pend = λ s c g p tail pended. (all_lawful.pend s c.0 g p tail pended, counts_same s _ (same_pending s g p tail pended.typed) c.1);
+  note_request = λ s c g what p. (all_lawful.note_request s c.0 g what p, counts_same s _ (same_group_set s g (with_request (s.group g) what p) refl refl refl refl) c.1);
+  note_answer = λ s c g. (all_lawful.note_answer s c.0 g, counts_same s _ (same_group_set s g (with_answer (s.group g)) refl refl refl refl) c.1);
   move_home = λ s c g move. (all_lawful.move_home s c.0 g move, counts_same s _ (same_home s g (moved move (s.home g))) c.1);
   enter_view = λ s c h g skips n members request cut is. let e = entered s h g n members is in
       (all_lawful.enter_view s c.0 h g skips n members request cut is, counts_passing s h skips n members request cut c.0 c.1 e.listed is.typed e.later);
@@ -142,6 +161,11 @@ counts_set_order s g l c =
       | None ↦ c
     ]
 
+-- the Install that waits is completed, or what it lacks is wanted
+pub counts_go_on : (s : State) (g : GroupNo) → is_group s g ≡ true → IsLawful s → CountsMembers s → CountsMembers (go_on history resting s g)
+counts_go_on s g listed l c =
+    (go_on_keeps history resting IsCounted all_counted s (l, c) g g (ap (λ b. if b then Some g else None) listed) (waits_typed s g l)).1
+
 pub counts_start : (s : State) (g : GroupNo) → CountsMembers s → CountsMembers (start history s g)
 counts_start s g c = counts_same s (start history s g) (same_start s g) c
 
@@ -167,6 +191,9 @@ passed_counts here config rising few s (delivers t k p) =
 passed_counts here config rising few s (orders t g p) =
     let h = passed_counts here config rising few t p in
     (lawful_set_order t g h.0, counts_set_order t g h.0 h.1)
+passed_counts here config rising few s (goes_on t g listed p) =
+    let h = passed_counts here config rising few t p in
+    (lawful_go_on t g listed h.0, counts_go_on t g listed h.0 h.1)
 passed_counts here config rising few s (starts t g p) =
     let h = passed_counts here config rising few t p in
     (lawful_same t (start history t g) (same_start t g) h.0, counts_start t g h.1)
@@ -202,7 +229,9 @@ module _ (here : SiteNo) (config : DomainConfig) where
   passed_pass : (s : State) → Passed s → Passed (pass s)
   passed_pass s p =
       let settled : State = settle s in
-      passed_lead (set_orders settled) (passed_fold set_order (λ t g q. orders t g q) settled.config.groups settled (passed_settle s p))
+      let ordered : State = set_orders settled in
+      passed_lead (go_on_all history resting ordered)
+      (go_on_each Passed (λ t g listed q. goes_on t g listed q) ordered (passed_fold set_order (λ t g q. orders t g q) settled.config.groups settled (passed_settle s p)))
 
   pub passed_run : (events : List Event) (answers : List Taken) (sent : List (SiteNo × SiteFrame)) (s t : State) → AllByRecursion IsTyped events → Passed s → IsRun s events answers sent t → Passed t
   passed_run [] [] sent s t typed p run = subst Passed (sym run.1) p

@@ -8,5 +8,6 @@ pub mod Requests
 pub mod Commands
 pub mod Home
 pub mod Views
+pub mod Flushes
 pub mod Frames
 pub mod Rest

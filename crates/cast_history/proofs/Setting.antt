@@ -16,26 +16,28 @@ use Rattle.cast_history.specs.Rest.{set_order_by, let_go}
 use Rattle.cast_history.specs.Rules.Room.{may_order}
 use Rattle.cast_history.specs.Rules.Sending.{may_raise}
 
--- the holder is a member here and has ABCASTs to list, there is room for one more message and a place for them, and its
--- count may be raised
+-- the holder is a member here and has ABCASTs to list, no flush has frozen the group, there is room for one more message and a place for
+-- them, and its count may be raised
 abbrev pub may_set_order : State → GroupNo → ℕ → Bool
 may_set_order s g k =
     is_member ((s.process k).standing g)
+    && (not (s.group g).frozen
     && (may_order history s
     && (not (is_empty (unlisted s g k))
     && (has_place (order_of s g)
-    && may_raise (s.process k).time g (local s k))))
+    && may_raise (s.process k).time g (local s k)))))
 
--- five tests, one after another
-five_tests : (m o e h y : Bool) (f : Sequence → State) (q : Sequence) (s : State) → (if m && o then option_map_or (λ p. if y then f p else s) (if e && h then Some q else None) s else s) ≡ (if m && (o && (e && (h && y))) then f q else s)
-five_tests false o e h y f q s = refl
-five_tests true false e h y f q s = refl
-five_tests true true false h y f q s = refl
-five_tests true true true false y f q s = refl
-five_tests true true true true true f q s = refl
-five_tests true true true true false f q s = refl
+-- six tests, one after another
+six_tests : (m w o e h y : Bool) (f : Sequence → State) (q : Sequence) (s : State) → (if m && (w && o) then option_map_or (λ p. if y then f p else s) (if e && h then Some q else None) s else s) ≡ (if m && (w && (o && (e && (h && y)))) then f q else s)
+six_tests false w o e h y f q s = refl
+six_tests true false o e h y f q s = refl
+six_tests true true false e h y f q s = refl
+six_tests true true true false h y f q s = refl
+six_tests true true true true false y f q s = refl
+six_tests true true true true true true f q s = refl
+six_tests true true true true true false f q s = refl
 
 pub set_order_is : (s : State) (g : GroupNo) (k : ℕ) → set_order_by s g k ≡ (if may_set_order s g k then let_go (sending s g k (body.Order (places_of s g k))) else s)
 set_order_is s g k =
-    five_tests (is_member ((s.process k).standing g)) (may_order history s) (not (is_empty (unlisted s g k))) (has_place (order_of s g)) (may_raise (s.process k).time g (local s k))
+    six_tests (is_member ((s.process k).standing g)) (not (s.group g).frozen) (may_order history s) (not (is_empty (unlisted s g k))) (has_place (order_of s g)) (may_raise (s.process k).time g (local s k))
     (λ q. let_go (sending s g k (body.Order q))) (places_of s g k) s

@@ -11,7 +11,7 @@ use Rattle.cast_message.specs.declared.client.Push.{Push}
 use Rattle.cast_message.specs.declared.message.Message.{Message}
 use Rattle.cast_delay.specs.Ready.{Process, is_open_to, has_delivered, is_member, is_causally_ready}
 use Rattle.cast_history.specs.State.{State, gate_of, pushing, abcasts_with, with_delivery}
-use Rattle.cast_history.specs.Order.{is_ready_for}
+use Rattle.cast_history.specs.Turns.{is_ready_for}
 use Rattle.cast_history.specs.Effects.{delivering}
 use Rattle.cast_history.specs.Rules.Rest.{told_of}
 use Rattle.cast_history.specs.Rest.{deliver_first, deliver_all, let_go}

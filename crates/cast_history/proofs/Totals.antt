@@ -1,5 +1,6 @@
 -- Sums over lists, and what is left of a list of messages.
-use Rattle.std.proofs.Common.{◌≡◌, ℕ, ◌+◌, ◌<◌, ◌≤◌, Bool, true, false, not, cond, List, [], ◌∷◌, ◌++◌, length, Some, None, refl, sym, ap, subst, ◌∙◌, ◌⊎◌, inl, inr, arith}
+use Rattle.std.proofs.Common.{◌≡◌, ℕ, ◌+◌, ◌<◌, ◌≤◌, zero, suc, Bool, true, false, not, cond, List, [], ◌∷◌, ◌++◌, length, Some, None, refl, sym, ap, subst, ◌∙◌, ◌⊎◌, inl, inr, arith}
+use Rattle.std.specs.Prelude.{take}
 use Rattle.std.specs.List.{list_any, find}
 use Rattle.std.proofs.lemmas.Bool.{cases_Bool, true≢false, or_left, or_right}
 use Rattle.std.proofs.lemmas.List.Folds.{list_any-append}
@@ -79,3 +80,10 @@ left_le ids (m ∷ got) = omega (arith, one_le (not (list_any (uid_eq m.id) ids)
 pub left_more : (ids : List Uid) (m : Message) (got : List Message) → left ids (got ++ m ∷ []) ≤ left ids got + 1
 left_more ids m [] = omega (arith, one_le (not (list_any (uid_eq m.id) ids)))
 left_more ids m (x ∷ got) = omega (arith, left_more ids m got)
+
+-- one of the first items is an item
+pub in_take : {A : Type 0} (n : ℕ) (xs : List A) (x : A) → In x (take n xs) → In x xs
+in_take zero xs x at = absurd at
+in_take (suc n) [] x at = absurd at
+in_take (suc n) (y ∷ xs) x (inl here) = inl here
+in_take (suc n) (y ∷ xs) x (inr there) = inr (in_take n xs x there)

@@ -7,17 +7,19 @@ use Rattle.cast_types.specs.Names.{uid_eq, is_atomic}
 use Rattle.cast_types.specs.Repeat.{iterate}
 use Rattle.cast_message.specs.declared.message.Message.{Message}
 use Rattle.cast_message.specs.Bodies.{kind_of}
-use Rattle.cast_delay.specs.Ready.{has_delivered}
+use Rattle.cast_delay.specs.Ready.{has_delivered, covered}
 use Rattle.cast_view.specs.declared.phase.Phase.{Phase}
 use Rattle.cast_view.specs.declared.phase.Phase.TheVariants.{Idle, Gathering, Installing}
 use Rattle.cast_view.specs.Home.{Home, is_empty}
-use Rattle.cast_view.specs.MemberSide.{holder_at}
+use Rattle.cast_view.specs.MemberSide.{holder_at, is_pending}
 use Rattle.cast_timer.specs.Owed.{is_owed}
 use Rattle.cast_history.specs.Rules.Keys.{want_key}
 use Rattle.cast_history.specs.Rules.Home.{wants}
+use Rattle.cast_history.specs.Rules.Flushes.{own_want_key}
 use Rattle.cast_history.specs.History.{history}
 use Rattle.cast_history.specs.State.{State, serials}
-use Rattle.cast_history.specs.Order.{is_of_view, unlisted, is_ready_for}
+use Rattle.cast_history.specs.Order.{is_of_view, unlisted}
+use Rattle.cast_history.specs.Turns.{is_ready_for}
 use Rattle.cast_history.specs.Rest.{deliver_first, deliver_all, pass, RestsAt}
 
 -- the sum over a list
@@ -59,8 +61,12 @@ abbrev pub to_list_by : State → GroupNo → ℕ → ℕ
 to_list_by s g k = length (unlisted s g k) + length (filter (is_to_come s g k) s.got)
 
 -- how many the holder has, where it is a process of this site
+abbrev pub to_list_here : State → GroupNo → ℕ
+to_list_here s g = elim (holder_at s.here (s.group g)) [ Some p ↦ to_list_by s g p.serial | None ↦ 0 ]
+
+-- of a frozen group it lists none
 abbrev pub to_list_in : State → GroupNo → ℕ
-to_list_in s g = elim (holder_at s.here (s.group g)) [ Some p ↦ to_list_by s g p.serial | None ↦ 0 ]
+to_list_in s g = if (s.group g).frozen then 0 else to_list_here s g
 
 abbrev pub to_list : State → ℕ
 to_list s = total (to_list_in s) s.config.groups
@@ -70,23 +76,42 @@ abbrev pub to_do : State → ℕ
 to_do s = undelivered s + ranks s + (s.used + 1) * to_list s
 
 -- how many frames Want that a group's home is to owe are not owed yet
+abbrev pub home_unowed : State → GroupNo → ℕ
+home_unowed s g = total (λ w. one_if (not (is_owed s.owed (want_key g w)))) (wants history s g)
+
+-- and how many that the site is to owe at the most, for what the cut of an Install that waits covers
+abbrev pub site_unowed : State → GroupNo → ℕ
+site_unowed s g =
+    elim (s.group g).pending [
+      | Some p ↦ total (λ e. one_if (not (is_owed s.owed (own_want_key history s g e)))) (covered p.cut)
+      | None ↦ 0
+    ]
+
 abbrev pub unowed_in : State → GroupNo → ℕ
-unowed_in s g = total (λ w. one_if (not (is_owed s.owed (want_key g w)))) (wants history s g)
+unowed_in s g = home_unowed s g + site_unowed s g
 
 abbrev pub unowed : State → ℕ
 unowed s = total (unowed_in s) s.config.groups
 
--- less is to be done, or as much, and fewer Wants are still to be owed
-abbrev pub Falls : State → State → Type 0
-Falls s t = (to_do t < to_do s) ⊎ ((to_do t ≡ to_do s) × (unowed t < unowed s))
+-- in how many groups an Install waits
+abbrev pub pendings : State → ℕ
+pendings s = total (λ g. one_if (is_pending (s.group g))) s.config.groups
 
--- a move of a pass changes nothing, or lowers what is to be done
+-- less is to be done, or as much, and fewer Wants are still to be owed
+abbrev pub Lessens : State → State → Type 0
+Lessens s t = (to_do t < to_do s) ⊎ ((to_do t ≡ to_do s) × (unowed t < unowed s))
+
+-- fewer Installs wait, whatever is to be done then; or as many, and less is to be done
+abbrev pub Falls : State → State → Type 0
+Falls s t = (pendings t < pendings s) ⊎ ((pendings t ≡ pendings s) × Lessens s t)
+
+-- a move of a pass changes nothing, or lowers one of these
 pub record Moves (s : State) (t : State) : Type 0 where
   pub config : t.config ≡ s.config
   pub used : t.used ≡ s.used
   pub way : (t ≡ s) ⊎ Falls s t
 
--- a pass changes nothing, or lowers what is to be done
+-- a pass changes nothing, or lowers one of these
 abbrev pub PassMoves : Type 0
 PassMoves = (s : State) → Moves s (pass s)
 

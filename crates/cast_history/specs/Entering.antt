@@ -1,18 +1,34 @@
--- How the processes of a site pass to the next view of a group: members that it lacks are put out, and those that it takes in enter it.
+-- How a site passes to the next view of a group: a flush freezes it, the Install of the next one waits, members that the next one lacks are put
+-- out, and those that it takes in enter it.
 use Rattle.std.specs.Prelude.{ℕ, Bool, not, ◌&&◌, ◌||◌, if◌then◌else◌, [], ◌∷◌, ◌++◌, filter}
 use Rattle.std.specs.List.{fold}
 use Rattle.cast_types.specs.declared.names.GroupNo.{GroupNo}
 use Rattle.cast_types.specs.declared.names.Standing.TheVariants.{Outside, Member}
 use Rattle.cast_types.specs.Names.{group_eq, proc_eq}
 use Rattle.cast_types.specs.Sets.{is_among, set_at}
-use Rattle.cast_types.specs.Counts.{CountList}
+use Rattle.cast_types.specs.Counts.{CountList, is_within}
 use Rattle.cast_clock.specs.Times.{entering}
 use Rattle.cast_message.specs.declared.client.Push.TheVariants as push
 use Rattle.cast_message.specs.Membership.{Membership}
+use Rattle.cast_message.specs.Stretch.{Stretch}
+use Rattle.cast_order.specs.Order.{closed_order}
+use Rattle.cast_view.specs.declared.member.Pending.{Pending}
 use Rattle.cast_delay.specs.Ready.{Process, is_member}
-use Rattle.cast_view.specs.MemberSide.{with_view, is_taken_in}
+use Rattle.cast_view.specs.MemberSide.{frozen_side, with_pending, with_view, is_taken_in}
 use Rattle.cast_history.specs.Acts.Act.{Entered, Left}
 use Rattle.cast_history.specs.State.{State, local, serials, set_group, pushing}
+use Rattle.cast_history.specs.Order.{order_told}
+
+-- a flush has frozen a group
+abbrev pub freezing : State → GroupNo → State
+freezing s g = set_group s g (frozen_side (s.group g))
+
+-- the Install of a group's next view waits, with the end of the order of the one that ends
+abbrev pub pending_install : State → GroupNo → Pending → Stretch → State
+pending_install s g p tail =
+    record (set_group s g (with_pending (s.group g) p)) {
+      closed = set_at group_eq s.closed g (closed_order (is_within p.cut) tail.start tail.ids (order_told s g));
+    }
 
 -- a process that is outside a group
 abbrev pub parted : GroupNo → Process → Process

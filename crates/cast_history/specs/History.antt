@@ -9,7 +9,8 @@ use Rattle.cast_view.specs.MemberSide.{with_request, with_answer}
 use Rattle.cast_view.specs.Home.{moved}
 use Rattle.cast_history.specs.State.{State, is_group, set_group, set_home, set_standing, emitted, pushing, receiving, noting_sent, awaits_own, is_received, held, message_of, others_of, is_stable, upto, noting_ack, noting_stable, releasing_ended, outside, closing, going}
 use Rattle.cast_history.specs.Owing.{noting_owed, noting_resent, paying, paying_upto, paying_view, at_moment}
-use Rattle.cast_history.specs.Entering.{passing}
+use Rattle.cast_history.specs.Entering.{freezing, pending_install, passing}
+use Rattle.cast_history.specs.Reports.{report_in}
 use Rattle.cast_history.specs.Rules.Interface.{Site}
 
 -- a group stands under its name
@@ -36,6 +37,7 @@ history = record {
   is_owed = λ s key. is_owed s.owed key;
   due = λ s. due_at s.moment s.owed;
   is_gone = λ s k. is_gone (s.session k);
+  report = report_in;
   send = emitted;
   note_owed = noting_owed;
   note_resent = noting_resent;
@@ -52,6 +54,8 @@ history = record {
   receive = receiving;
   note_request = λ s g what p. set_group s g (with_request (s.group g) what p);
   note_answer = λ s g. set_group s g (with_answer (s.group g));
+  freeze = freezing;
+  pend = pending_install;
   move_home = λ s g move. set_home s g (moved move (s.home g));
   enter_view = passing;
   release_ended = releasing_ended;

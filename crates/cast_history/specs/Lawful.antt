@@ -1,5 +1,5 @@
 -- What holds of each history that events lead to.
-use Rattle.std.specs.Prelude.{◌≡◌, ℕ, ◌≤◌, ◌⊎◌, true, false, List, [], ◌∷◌, Contains}
+use Rattle.std.specs.Prelude.{◌≡◌, ℕ, ◌≤◌, ◌⊎◌, Bool, true, false, List, [], ◌∷◌, Contains, Option, Some, None}
 use Rattle.std.specs.List.{list_all}
 use Rattle.std.specs.FinMap.Entries.{is_sorted}
 use Rattle.cast_types.specs.declared.names.GroupNo.{GroupNo}
@@ -17,6 +17,7 @@ use Rattle.cast_message.specs.Membership.{is_members}
 use Rattle.cast_delay.specs.Ready.{is_member, is_outside, has_delivered}
 use Rattle.cast_model.specs.declared.event.Event.{Event}
 use Rattle.cast_model.specs.declared.event.Event.TheVariants as event
+use Rattle.cast_view.specs.declared.member.Pending.{Pending}
 use Rattle.cast_view.specs.MemberSide.{has_view}
 use Rattle.cast_history.specs.State.{State, was_given, is_group, may_speak}
 
@@ -40,6 +41,11 @@ pub record IsTraced (s : State) : Type 0 where
   pub delivered : (k : ℕ) (u : Uid) → is_among uid_eq u (s.abcasts k) ≡ true → has_delivered (s.process k) u ≡ true
   pub seen : (k : ℕ) (u : Uid) → is_among uid_eq u (s.abcasts k) ≡ true → u.view ≤ (s.group u.group).number
 
+-- an Install that waits has the members of a view, and waits in a group that a flush has frozen
+abbrev pub Waits : Bool → Option Pending → Type 0
+Waits frozen (Some p) = (frozen ≡ true) × (is_members p.members ≡ true)
+Waits frozen None = Unit {0}
+
 -- what holds of each history that events lead to: a member's time is in the view of its group, and the site has that
 -- view; groups are those that are configured, each once; and the times of messages are in order
 pub record IsLawful (s : State) : Type 0 where
@@ -50,6 +56,7 @@ pub record IsLawful (s : State) : Type 0 where
   pub viewed : (k : ℕ) (g : GroupNo) → is_member ((s.process k).standing g) ≡ true → has_view (s.group g) ≡ true
   pub stamped : (m : Message) → Contains s.got m → is_sorted group_cmp m.times ≡ true
   pub traced : IsTraced s
+  pub waiting : (g : GroupNo) → Waits (s.group g).frozen (s.group g).pending
   -- what was let go is of no use any more
   pub spent : AreKept (IsSpent s) s.got s.kept
 
@@ -63,7 +70,7 @@ IsTypedFrame (frame.Asked g number full) = Unit {0}
 IsTypedFrame (frame.Prepare g view) = Unit {0}
 IsTypedFrame (frame.Flushed g view counts tail kept) = Unit {0}
 IsTypedFrame (frame.Want u) = Unit {0}
-IsTypedFrame (frame.Forward m) = Unit {0}
+IsTypedFrame (frame.Forward m) = (is_stamp m.times ≡ true) × (list_all (λ c. is_counts c.1.counts) m.times ≡ true)
 IsTypedFrame (frame.Install g view members request cut tail) = is_members members ≡ true
 IsTypedFrame (frame.Installed g view) = Unit {0}
 IsTypedFrame (frame.Out g view) = Unit {0}

@@ -5,6 +5,8 @@ pub mod Owing
 pub mod Entering
 pub mod History
 pub mod Order
+pub mod Reports
+pub mod Turns
 pub mod Resting
 pub mod Effects
 pub mod Rest

@@ -1,5 +1,5 @@
 -- What a history notes of a process is what it did.
-use Rattle.std.specs.Prelude.{◌≡◌, ℕ, if◌then◌else◌, List, [], ◌∷◌, filter}
+use Rattle.std.specs.Prelude.{◌≡◌, ℕ, ◌⊎◌, if◌then◌else◌, List, [], ◌∷◌, filter}
 use Rattle.cast_types.specs.declared.names.SiteNo.{SiteNo}
 use Rattle.cast_types.specs.declared.names.Uid.{Uid}
 use Rattle.cast_types.specs.Names.{proc_eq, is_atomic}
@@ -35,9 +35,15 @@ abcasts_by (Delivered m ∷ acts) = if is_atomic (kind_of m.body) then m.id ∷ 
 abcasts_by (Entered g view cut ∷ acts) = abcasts_by acts
 abcasts_by (Left g ∷ acts) = abcasts_by acts
 
--- each process's messages that were received here are those that it sent, and it delivered what it is said to have delivered
+-- the items of one list stand in another, in their order
+abbrev pub AreWithin : {A : Type 0} → List A → List A → Type 0
+AreWithin xs [] = xs ≡ []
+AreWithin {A} xs (y ∷ ys) = ((rest : List A) × (xs ≡ y ∷ rest) × AreWithin rest ys) ⊎ AreWithin xs ys
+
+-- what each process sent was received here, in that order: beside it stand under its name only messages that a home forwarded here, which
+-- the process did not send; and it delivered what it is said to have delivered
 pub record IsNoted (s : State) : Type 0 where
-  pub sent : (k : ℕ) → filter (λ m. proc_eq m.id.proc (local s k)) s.got ≡ sent_by (s.acts k)
+  pub sent : (k : ℕ) → AreWithin (sent_by (s.acts k)) (filter (λ m. proc_eq m.id.proc (local s k)) s.got)
   pub delivered : (k : ℕ) → (s.process k).delivered ≡ delivered_by (s.acts k)
   pub abcasts : (k : ℕ) → s.abcasts k ≡ abcasts_by (s.acts k)
 

@@ -1,23 +1,16 @@
--- The order of a view's ABCASTs, as a site knows it from all set-order messages that it received, and when a message is
--- ready for a process.
-use Rattle.std.specs.Prelude.{ℕ, Bool, ◌&&◌, ◌==◌, nat_lt, if◌then◌else◌, List, [], ◌++◌, length, map, filter}
+-- The order of a view's ABCASTs, as a site knows it from all set-order messages that it received, and what its holder has still to list.
+use Rattle.std.specs.Prelude.{ℕ, Bool, not, ◌&&◌, ◌==◌, nat_lt, if◌then◌else◌, List, [], length, map, filter}
 use Rattle.std.specs.List.{flat_map}
 use Rattle.cast_types.specs.declared.names.GroupNo.{GroupNo}
 use Rattle.cast_types.specs.declared.names.Uid.{Uid}
-use Rattle.cast_types.specs.declared.limits.TheConstants.{MAX_UNSETTLED, MAX_POSITION}
+use Rattle.cast_types.specs.declared.limits.TheConstants.{MAX_POSITION}
 use Rattle.cast_types.specs.Names.{Entry, group_eq, proc_eq, is_order, named, entry_of}
 use Rattle.cast_message.specs.declared.message.Body.{Body}
 use Rattle.cast_message.specs.declared.message.Body.TheVariants as body
-use Rattle.cast_message.specs.declared.message.Message.{Message}
 use Rattle.cast_message.specs.Bodies.{kind_of}
-use Rattle.cast_order.specs.Order.{Facts, facts_of, known_order, next_of, Listing, listed_ids, still_to_list}
-use Rattle.cast_delay.specs.declared.turn.Turn.{Turn}
-use Rattle.cast_delay.specs.declared.turn.Turn.TheVariants.{Holding, Following}
-use Rattle.cast_delay.specs.Ready.{has_delivered, is_ready}
-use Rattle.cast_view.specs.MemberSide.{holder_of, is_process}
-use Rattle.cast_history.specs.State.{State, local, is_stable, gate_of}
-use Rattle.cast_history.specs.Rules.Room.{may_order}
-use Rattle.cast_history.specs.History.{history}
+use Rattle.cast_order.specs.Order.{Facts, facts_of, known_order, Listing, listed_ids, still_to_list}
+use Rattle.cast_view.specs.MemberSide.{holder_of, is_process, is_pending}
+use Rattle.cast_history.specs.State.{State, local, is_stable}
 
 -- Set-order messages
 
@@ -40,15 +33,23 @@ is_of_view s g u = group_eq u.group g && (u.view == (s.group g).number)
 abbrev pub facts_in : State → GroupNo → Facts
 facts_in s g = flat_map (λ m. told_by m.body) (filter (λ m. is_of_view s g m.id) s.got)
 
--- the known order of the view
+-- the order of the view, as far as they tell it without a gap
+abbrev pub order_told : State → GroupNo → List Entry
+order_told s g = known_order (facts_in s g)
+
+-- the known order of the view: while the Install of the next one waits, the order that the view ends with
 abbrev pub order_of : State → GroupNo → List Entry
-order_of s g = known_order (facts_in s g)
+order_of s g = if is_pending (s.group g) then s.closed g else order_told s g
 
 -- The holder
 
 -- a process of this site is the holder of the group's view
 abbrev pub holds : State → GroupNo → ℕ → Bool
 holds s g k = is_process (local s k) (holder_of (s.group g))
+
+-- it sets the order, while no flush has frozen the group
+abbrev pub sets_order : State → GroupNo → ℕ → Bool
+sets_order s g k = holds s g k && not (s.group g).frozen
 
 -- the messages that a process of this site sent in the view to set its order: the count of each, and the ids that it lists
 abbrev pub lists_of : State → GroupNo → ℕ → Listing
@@ -73,19 +74,3 @@ unsettled s g k =
 -- there is a place after these
 abbrev pub has_place : List Entry → Bool
 has_place order = nat_lt (length order) MAX_POSITION
-
--- the holder may deliver one more ABCAST: fewer than 512 are unsettled, and there is a place for it
-abbrev pub has_room_for_order : State → GroupNo → ℕ → Bool
-has_room_for_order s g k =
-    may_order history s && (nat_lt (length (unsettled s g k)) MAX_UNSETTLED && has_place (order_of s g ++ unlisted s g k))
-
--- Readiness
-
--- the holder gives ABCASTs their places as it delivers them; any other process delivers the one whose place is next
-abbrev pub turn_of : State → ℕ → GroupNo → Turn
-turn_of s k g =
-    if holds s g k then Holding (has_room_for_order s g k)
-    else Following (next_of (λ e. has_delivered (s.process k) (named g (s.group g).number e)) (order_of s g))
-
-abbrev pub is_ready_for : State → ℕ → Message → Bool
-is_ready_for s k m = is_ready s.config.groups (gate_of s) (turn_of s k) (s.process k) m

@@ -21,10 +21,12 @@ use Rattle.cast_model.specs.declared.event.Event.{Event}
 use Rattle.cast_model.specs.declared.event.Taken.{Taken}
 use Rattle.cast_view.specs.MemberSide.{MemberSide, members_of, has_view}
 use Rattle.cast_model.specs.Session.{is_open}
-use Rattle.cast_history.specs.State.{State, opening, local, was_given}
+use Rattle.cast_history.specs.State.{State, opening, local, is_group, was_given}
 use Rattle.cast_history.specs.Rules.Sending.{may_raise}
 use Rattle.cast_history.specs.Step.{acted}
 use Rattle.cast_history.specs.History.{history}
+use Rattle.cast_history.specs.Resting.{resting}
+use Rattle.cast_history.specs.Rules.Flushes.{go_on}
 use Rattle.cast_history.specs.Rules.Home.{start, want_bodies, decide}
 use Rattle.cast_history.specs.Rest.{deliver_first, set_order, let_go}
 use Rattle.cast_history.specs.Run.{before_event, IsRun}
@@ -79,6 +81,7 @@ pub data IsPassed (here : SiteNo) (config : DomainConfig) : State → Type 0 whe
   lets_go : (s : State) → IsPassed here config s → IsPassed here config (let_go s)
   delivers : (s : State) (k : ℕ) → IsPassed here config s → IsPassed here config (deliver_first k s)
   orders : (s : State) (g : GroupNo) → IsPassed here config s → IsPassed here config (set_order s g)
+  goes_on : (s : State) (g : GroupNo) → is_group s g ≡ true → IsPassed here config s → IsPassed here config (go_on history resting s g)
   starts : (s : State) (g : GroupNo) → IsPassed here config s → IsPassed here config (start history s g)
   wants : (s : State) (g : GroupNo) → IsPassed here config s → IsPassed here config (want_bodies history s g)
   decides : (s : State) (g : GroupNo) → IsPassed here config s → IsPassed here config (decide history s g)

@@ -7,7 +7,9 @@ use Rattle.cast_order.specs.Order.{ids_to_list, place_after}
 use Rattle.cast_view.specs.Home.{is_empty}
 use Rattle.cast_view.specs.MemberSide.{is_current}
 use Rattle.cast_history.specs.State.{State, serials, is_delivered, with_delivery, releasing}
-use Rattle.cast_history.specs.Order.{order_of, unlisted, has_place, is_ready_for}
+use Rattle.cast_history.specs.Order.{order_of, unlisted, has_place}
+use Rattle.cast_history.specs.Turns.{is_ready_for}
+use Rattle.cast_history.specs.Reports.{has_delivered_cut, missing_in}
 use Rattle.cast_history.specs.Rules.Interface.{Resting}
 
 -- a process of this site lists the first of the ABCASTs that it has to list, at the places after the known order
@@ -24,8 +26,10 @@ resting = record {
   serials = serials;
   turns = λ s. length s.got;
   next_ready = λ s k. find (is_ready_for s k) s.got;
-  is_current = λ s u. is_current (s.group u.group) u.view;
+  is_open = λ s u. is_current (s.group u.group) u.view && not (s.group u.group).frozen;
   is_delivered = is_delivered;
+  has_cut = has_delivered_cut;
+  missing = missing_in;
   next_places = next_places;
   note_delivered = with_delivery;
   note_listed = λ s g k. s;

@@ -9,6 +9,7 @@ pub mod Requests
 pub mod Commands
 pub mod Home
 pub mod Views
+pub mod Flushes
 pub mod Frames
 pub mod Events
 pub mod Release

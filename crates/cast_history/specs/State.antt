@@ -1,5 +1,5 @@
 -- The state of one domain at one site, with its whole history, and what its parts say together.
-use Rattle.std.specs.Prelude.{ℕ, Bool, not, ◌&&◌, ◌||◌, ◌==◌, nat_lt, nat_le, if◌then◌else◌, List, [], ◌∷◌, ◌++◌, length, filter, Option}
+use Rattle.std.specs.Prelude.{ℕ, Bool, not, ◌&&◌, ◌||◌, ◌==◌, nat_lt, nat_le, if◌then◌else◌, List, [], ◌∷◌, ◌++◌, length, filter, Option, Some, None}
 use Rattle.std.specs.List.{find, list_any, list_all, range_with_len}
 use Rattle.cast_types.specs.declared.names.SiteNo.{SiteNo}
 use Rattle.cast_types.specs.declared.names.GroupNo.{GroupNo}
@@ -7,8 +7,9 @@ use Rattle.cast_types.specs.declared.names.Proc.{Proc}
 use Rattle.cast_types.specs.declared.names.Uid.{Uid}
 use Rattle.cast_types.specs.declared.names.Standing.{Standing}
 use Rattle.cast_types.specs.declared.names.Standing.TheVariants.{Outside}
-use Rattle.cast_types.specs.Names.{site_eq, group_eq, proc_eq, uid_eq, is_atomic}
+use Rattle.cast_types.specs.Names.{Entry, site_eq, group_eq, proc_eq, uid_eq, is_atomic}
 use Rattle.cast_types.specs.Sets.{is_among, set_at}
+use Rattle.cast_types.specs.Counts.{CountList}
 use Rattle.cast_clock.specs.Times.{no_time, join}
 use Rattle.cast_message.specs.declared.message.Message.{Message}
 use Rattle.cast_message.specs.Bodies.{kind_of}
@@ -16,7 +17,7 @@ use Rattle.cast_message.specs.declared.site.SiteFrame.{SiteFrame}
 use Rattle.cast_stable.specs.Stable.{Acked, stable_upto, is_known_stable}
 use Rattle.cast_timer.specs.declared.key.Owed.{Owed}
 use Rattle.cast_delay.specs.declared.gate.Gate.{Gate}
-use Rattle.cast_delay.specs.Ready.{Process, open_gate, is_member, has_delivered, awaits}
+use Rattle.cast_delay.specs.Ready.{Process, is_member, has_delivered, awaits}
 use Rattle.cast_history.specs.Acts.{Act}
 use Rattle.cast_history.specs.Acts.Act.{Sent, Delivered, Left}
 use Rattle.cast_model.specs.declared.session.Session.{Session}
@@ -42,6 +43,8 @@ pub record State : Type 0 where
   -- the ABCASTs that each process ever delivered, in order
   pub abcasts : ℕ → List Uid
   pub group : GroupNo → MemberSide
+  -- the order that a group's view ends with, while the Install of the next view waits
+  pub closed : GroupNo → List Entry
   pub home : GroupNo → Home
   -- every message ever received, in order, and those of them that were not let go
   pub got : List Message
@@ -71,6 +74,7 @@ opening here config =
       acts = λ k. [];
       abcasts = λ k. [];
       group = λ g. no_group;
+      closed = λ g. [];
       home = λ g. first_home;
       got = [];
       kept = [];
@@ -227,8 +231,15 @@ releasing_ended s g = releasing s (is_ended s g)
 
 -- Readiness
 
+-- how many messages of each process belong to the view that ends, while an Install waits
+abbrev pub cut_of : MemberSide → Option CountList
+cut_of group = elim group.pending [ Some p ↦ Some p.cut | None ↦ None ]
+
+abbrev pub gate_for : MemberSide → Gate
+gate_for group = record { number = group.number; frozen = group.frozen; cut = cut_of group }
+
 abbrev pub gate_of : State → GroupNo → Gate
-gate_of s g = open_gate (s.group g).number
+gate_of s g = gate_for (s.group g)
 
 -- a process has not delivered an ABCAST of its own, of the view of a group of which it is a member
 abbrev pub awaits_own : State → ℕ → Bool

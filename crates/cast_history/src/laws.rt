@@ -2,8 +2,8 @@ ghost use Rattle.cast_history.specs.Endings.{EachComesToRest, PassMoves, RestIsO
 ghost use Rattle.cast_history.specs.Noted.{ActsAreNoted};
 ghost use Rattle.cast_history.specs.Raising.{CountsCanBeRaised, CountsCanBeRaisedWithin, MembersAreCounted, RunsArePassed};
 
-/// After each event, from whatever state, the rest ends, and in one state alone: a pass that changes something lowers
-/// the number of what is to be done.
+/// After each event, from whatever state, the rest ends, and in one state alone: a pass that changes something
+/// leaves fewer Installs that wait, or less to be done, or fewer Wants to be owed, and none of the numbers before it rises.
 pub fn rest_ends()
     ensures passes { PassMoves }
     ensures ends { EachComesToRest }
@@ -26,8 +26,9 @@ pub fn counts_can_be_raised()
     ensures passed { RunsArePassed }
 {}
 
-/// What a history notes of each process is what it did: in each state that a run passes, its messages that were received
-/// here are those that it sent, and it has delivered what it noted as delivered, each in that order; its ABCASTs too.
+/// What a history notes of each process is what it did: in each state that a run passes, what it noted as sent was received
+/// here under its name, in that order, and it has delivered what it noted as delivered, in that order; its ABCASTs too.
+/// Beside what it sent, messages may bear its name that a home forwarded here as a view ended.
 pub fn acts_are_noted()
     ensures noted { ActsAreNoted }
 {}

@@ -41,8 +41,8 @@ requests_at_the_home_prints : printed requests_at_the_home ≡ Ok (
 unfolding everything requests_at_the_home
 requests_at_the_home_prints = refl
 
--- frames for a home at a site that is none; Installs lower, repeated, without a local process. The view names a process of this site, so the Install
--- of view 3 is the next one of a site that has a view, for which there is no rule yet; that of view 4 skips it
+-- frames for a home at a site that is none; Installs lower, repeated, without a local process. View 2 names a process of this site that is not open,
+-- so the Install of view 3 is the next one of a site that has a view, where no member waits: it is complete at once, and so is that of view 4
 frames_where_no_home_is : List ℕ
 frames_where_no_home_is =
     lines
@@ -67,6 +67,7 @@ frames_where_no_home_is_prints : printed frames_where_no_home_is ≡ Ok (
     ∷ codes "send 1 9 4344010b010001000100000001"
     ∷ codes "send 1 9 4344010b010001000100000002"
     ∷ codes "send 1 9 4344010401000100010000000101000100000001"
+    ∷ codes "send 1 9 4344010b010001000100000003"
     ∷ codes "send 1 9 4344010b010001000100000004"
     ∷ codes "send 1 9 4344010b010001000100000001"
     ∷ codes "send 1 9 4344010b010001000100000002" ∷ [])

@@ -5,7 +5,7 @@ use Rattle.std.specs.List.{fold}
 use Rattle.std.specs.Option.{option_map_or}
 use Rattle.std.proofs.lemmas.Bool.{not-false, lt-ltb}
 use Rattle.cast_types.specs.declared.names.GroupNo.{GroupNo}
-use Rattle.cast_types.specs.declared.refusal.Refusal.TheVariants.{BadFrame, NoGroup, NotMember, AlreadyMember, OwnAbcast, HeldFull, TooLong}
+use Rattle.cast_types.specs.declared.refusal.Refusal.TheVariants.{BadFrame, NoGroup, NotMember, AlreadyMember, Flushing, OwnAbcast, HeldFull, TooLong}
 use Rattle.cast_types.specs.declared.limits.TheConstants.{MAX_NUMBER, MAX_PAYLOAD}
 use Rattle.cast_types.specs.Names.{is_order}
 use Rattle.cast_types.specs.declared.names.Uid.{Uid}
@@ -141,7 +141,10 @@ module _ {R S H K : Type 0} (a : Site R H) (b : Site S K) (fits : R → S → Ty
           (λ _. choose Attempts (not (is_member (a.standing r k g))) (not (is_member (b.standing s k g))) (r, Some NotMember) _ (s, Some NotMember) _
           (ap (λ v. not (is_member v)) standing)
           (λ _. (f, refl))
-          (λ member. choose Attempts (a.awaits_own r k) (b.awaits_own s k) (r, Some OwnAbcast) _ (s, Some OwnAbcast) _
+          (λ member. choose Attempts (a.group r h).frozen (b.group s l).frozen (r, Some Flushing) _ (s, Some Flushing) _
+          (ap (λ (x : MemberSide). x.frozen) (all.follows.group r s f h l at))
+          (λ _. (f, refl))
+          (λ unfrozen. choose Attempts (a.awaits_own r k) (b.awaits_own s k) (r, Some OwnAbcast) _ (s, Some OwnAbcast) _
           (all.awaits_own r s f k given)
           (λ _. (f, refl))
           (λ _. choose Attempts (not (may_receive a r)) (not (may_receive b s)) (r, Some HeldFull) _ (s, Some HeldFull) _
@@ -152,9 +155,9 @@ module _ {R S H K : Type 0} (a : Site R H) (b : Site S K) (fits : R → S → Ty
           (λ _. (f, refl))
           (λ raises. (
             all_sent h l at
-                (record { given = given; at = there; member = not-false (is_member (b.standing s k g)) member; raises = not-false (may_raise (b.time s k) g (named_here b s k)) raises; plain = cast_plain kind payload }),
+                (record { given = given; at = there; member = not-false (is_member (b.standing s k g)) member; unfrozen = unfrozen; raises = not-false (may_raise (b.time s k) g (named_here b s k)) raises; plain = cast_plain kind payload }),
             refl,
-          ))))))
+          )))))))
 
   replied : (k tag : ℕ) (x : Attempt R) (y : Attempt S) → Attempts x y → fits (reply a x k tag) (reply b y k tag)
   replied k tag x y same = subst (λ o. fits (a.push x.0 k (push.Reply tag o)) (reply b y k tag)) (sym same.1) (all.push x.0 y.0 same.0 k (push.Reply tag y.1))

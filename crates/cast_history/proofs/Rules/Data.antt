@@ -1,5 +1,5 @@
 -- By the rules of messages that come from other sites a site that follows another goes on standing for it.
-use Rattle.std.proofs.Common.{◌≡◌, ap, Some, true, not, ◌&&◌}
+use Rattle.std.proofs.Common.{◌≡◌, sym, ap, subst, Some, true, not, ◌&&◌}
 use Rattle.std.specs.Prelude.{◌==◌, nat_lt, if◌then◌else◌}
 use Rattle.std.specs.List.{list_all, list_any}
 use Rattle.std.proofs.lemmas.Bool.{and_parts}
@@ -9,15 +9,17 @@ use Rattle.cast_types.specs.Names.{site_eq, group_eq, proc_eq}
 use Rattle.cast_types.specs.Sets.{is_among}
 use Rattle.cast_message.specs.declared.message.Message.{Message}
 use Rattle.cast_message.specs.declared.site.SiteFrame.TheVariants as frame
+use Rattle.cast_timer.specs.declared.key.OwedKey.{OwedKey}
 use Rattle.cast_timer.specs.declared.key.OwedKind.TheVariants as kinds
 use Rattle.cast_view.specs.MemberSide.{MemberSide, members_of, has_view}
 use Rattle.cast_view.specs.Sites.{is_at}
+use Rattle.cast_model.specs.declared.config.DomainConfig.{DomainConfig}
 use Rattle.cast_history.specs.Lawful.{IsTypedFrame}
 use Rattle.cast_history.specs.Rules.Keys.{message_key}
 use Rattle.cast_history.specs.Rules.Interface.{Site}
 use Rattle.cast_history.specs.Rules.Room.{may_take}
 use Rattle.cast_history.specs.Rules.Owing.{owe}
-use Rattle.cast_history.specs.Rules.Data.{counts_itself, is_well_formed, is_used, is_outdated, acknowledge, use_data, on_data}
+use Rattle.cast_history.specs.Rules.Data.{counts_itself, is_well_formed, is_used, is_outdated, acknowledge, want_no_more, use_data, on_data}
 use Rattle.cast_history.proofs.Rules.Follows.{FollowsAll, IsTaken, choose}
 use Rattle.cast_history.proofs.Rules.Owing.{owe_follows}
 use Rattle.cast_history.proofs.Rules.Requests.{send_as}
@@ -67,15 +69,23 @@ module _ {R S H K : Type 0} (a : Site R H) (b : Site S K) (fits : R → S → Ty
       (λ _. all.follows.send r s f to (frame.Ack u))
       (λ _. owe_follows a b fits stands all.follows r s f (message_key kinds.Ack u to))
 
+  -- a message is wanted from the same home no more
+  pub want_no_more_follows : (r : R) (s : S) → fits r s → (u : Uid) → fits (want_no_more a r u) (want_no_more b s u)
+  want_no_more_follows r s f u =
+      let key : OwedKey = message_key kinds.Want u (b.config s).home in
+      subst (λ (c : DomainConfig). fits (a.pay r (message_key kinds.Want u c.home)) (b.pay s key)) (sym (all.follows.config r s f)) (all.follows.pay r s f key)
+
   use_data_follows : (r : R) (s : S) → fits r s → (k : K) (from : SiteNo) (m : Message) → IsTaken b s k from m → fits (use_data a r from m) (use_data b s from m)
   use_data_follows r s f k from m taken =
-      let next : R = acknowledge a (a.receive r m) from m.id in
-      let after : S = acknowledge b (b.receive s m) from m.id in
+      let noted : R = acknowledge a (a.receive r m) from m.id in
+      let told : S = acknowledge b (b.receive s m) from m.id in
+      let next : R = want_no_more a noted m.id in
+      let after : S = want_no_more b told m.id in
       choose fits (a.is_received r m.id) (b.is_received s m.id) (a.send r from (frame.Ack m.id)) (if may_take a r m.body then next else r) (b.send s from (frame.Ack m.id)) (if may_take b s m.body then after else s)
       (all.is_received r s f k from m taken)
       (λ _. all.follows.send r s f from (frame.Ack m.id))
       (λ _. choose fits (may_take a r m.body) (may_take b s m.body) next r after s (take_same a b fits stands all r s f m.body)
-      (λ _. acknowledge_follows (a.receive r m) (b.receive s m) (all.receive r s f k from m taken) from m.id (all.is_stable r s f k from m taken))
+      (λ _. want_no_more_follows noted told (acknowledge_follows (a.receive r m) (b.receive s m) (all.receive r s f k from m taken) from m.id (all.is_stable r s f k from m taken)) m.id)
       (λ _. f))
 
   pub data_follows : (r : R) (s : S) → fits r s → (h : H) (k : K) → stands h k → (from : SiteNo) (m : Message) → b.place s m.id.group ≡ Some k → IsTypedFrame (frame.Data m) → fits (on_data a r h from m) (on_data b s k from m)

@@ -22,6 +22,9 @@ use Rattle.cast_message.specs.declared.site.Change.{Change}
 use Rattle.cast_message.specs.declared.site.SiteFrame.{SiteFrame}
 use Rattle.cast_message.specs.declared.site.SiteFrame.TheVariants as frame
 use Rattle.cast_message.specs.Membership.{Membership, is_members}
+use Rattle.cast_message.specs.Stretch.{Stretch}
+use Rattle.cast_view.specs.declared.member.Pending.{Pending}
+use Rattle.cast_view.specs.MemberSide.{is_pending}
 use Rattle.cast_timer.specs.declared.key.OwedKey.{OwedKey}
 use Rattle.cast_history.specs.Lawful.{IsTypedFrame}
 use Rattle.cast_history.specs.Rules.Interface.{Site}
@@ -29,6 +32,7 @@ use Rattle.cast_history.specs.Rules.Sending.{may_raise}
 use Rattle.cast_history.specs.Rules.Data.{is_used}
 use Rattle.cast_history.specs.Rules.Stability.{is_used_ack}
 use Rattle.cast_history.specs.Rules.Commands.{named_here, message_sent}
+use Rattle.cast_history.specs.Rules.Flushes.{is_wanted_here}
 
 -- something stands at both places, or there is none
 abbrev pub AtBoth : {H K : Type 0} → (H → K → Type 0) → Option H → Option K → Type 0
@@ -89,6 +93,19 @@ pub record IsTaken {S H : Type 0} (d : Site S H) (s : S) (h : H) (from : SiteNo)
   pub used : is_used d s h from m ≡ true
   pub typed : IsTypedFrame (frame.Data m)
 
+-- and of a message that the home forwards
+
+pub record IsBrought {S H : Type 0} (d : Site S H) (s : S) (h : H) (m : Message) : Type 0 where
+  pub at : d.place s m.id.group ≡ Some h
+  pub wanted : is_wanted_here d s h m ≡ true
+  pub typed : IsTypedFrame (frame.Forward m)
+
+-- and of an Install that is to wait: none waits
+
+pub record IsPended {S H : Type 0} (d : Site S H) (s : S) (h : H) (p : Pending) : Type 0 where
+  pub first : is_pending (d.group s h) ≡ false
+  pub typed : is_members p.members ≡ true
+
 -- and of a view that is entered: it is a later one
 
 pub record IsEntered {S H : Type 0} (d : Site S H) (s : S) (h : H) (g : GroupNo) (n : ℕ) (members : Membership) : Type 0 where
@@ -102,6 +119,7 @@ pub record IsSent {S H : Type 0} (d : Site S H) (s : S) (h : H) (k : ℕ) (g : G
   pub given : d.is_open s k ≡ true
   pub at : d.place s g ≡ Some h
   pub member : is_member (d.standing s k g) ≡ true
+  pub unfrozen : (d.group s h).frozen ≡ false
   pub raises : may_raise (d.time s k) g (named_here d s k) ≡ true
   pub plain : is_order (kind_of content) ≡ false
 
@@ -129,6 +147,10 @@ pub record FollowsAll {R S H K : Type 0} (a : Site R H) (b : Site S K) (fits : R
   pub note_outside : (r : R) (s : S) → fits r s → (k : ℕ) (g : GroupNo) → is_outside (b.standing s k g) ≡ false → fits (a.note_outside r k g) (b.note_outside s k g)
   pub sends : (r : R) (s : S) → fits r s → (h : H) (l : K) → stands h l → (k : ℕ) (g : GroupNo) (content : Body) → IsSent b s l k g content → fits (sent_here a r h k g content) (sent_here b s l k g content)
   pub receive : (r : R) (s : S) → fits r s → (k : K) (from : SiteNo) (m : Message) → IsTaken b s k from m → fits (a.receive r m) (b.receive s m)
+  pub brings : (r : R) (s : S) → fits r s → (k : K) (m : Message) → IsBrought b s k m → fits (a.receive r m) (b.receive s m)
+  pub report : (r : R) (s : S) → fits r s → (h : H) (k : K) → stands h k → is_pending (b.group s k) ≡ false → a.report r h ≡ b.report s k
+  pub freeze : (r : R) (s : S) → fits r s → (h : H) (k : K) → stands h k → fits (a.freeze r h) (b.freeze s k)
+  pub pend : (r : R) (s : S) → fits r s → (h : H) (k : K) → stands h k → (p : Pending) (tail : Stretch) → IsPended b s k p → fits (a.pend r h p tail) (b.pend s k p tail)
   pub note_request : (r : R) (s : S) → fits r s → (h : H) (k : K) → stands h k → (what : Change) (p : Proc) → fits (a.note_request r h what p) (b.note_request s k what p)
   pub note_answer : (r : R) (s : S) → fits r s → (h : H) (k : K) → stands h k → fits (a.note_answer r h) (b.note_answer s k)
   pub move_home : (r : R) (s : S) → fits r s → (h : H) (k : K) → stands h k → (move : HomeMove) → fits (a.move_home r h move) (b.move_home s k move)
@@ -177,6 +199,9 @@ pub record IsInvariantOfAll {S H : Type 0} (d : Site S H) (holds : S → Type 0)
   pub note_outside : (s : S) → holds s → (k : ℕ) (g : GroupNo) → is_outside (d.standing s k g) ≡ false → holds (d.note_outside s k g)
   pub sends : (s : S) → holds s → (h : H) (k : ℕ) (g : GroupNo) (content : Body) → IsSent d s h k g content → holds (sent_here d s h k g content)
   pub receive : (s : S) → holds s → (h : H) (from : SiteNo) (m : Message) → IsTaken d s h from m → holds (d.receive s m)
+  pub brings : (s : S) → holds s → (h : H) (m : Message) → IsBrought d s h m → holds (d.receive s m)
+  pub freeze : (s : S) → holds s → (h : H) → holds (d.freeze s h)
+  pub pend : (s : S) → holds s → (h : H) (p : Pending) (tail : Stretch) → IsPended d s h p → holds (d.pend s h p tail)
   pub note_request : (s : S) → holds s → (h : H) (what : Change) (p : Proc) → holds (d.note_request s h what p)
   pub note_answer : (s : S) → holds s → (h : H) → holds (d.note_answer s h)
   pub move_home : (s : S) → holds s → (h : H) (move : HomeMove) → holds (d.move_home s h move)
@@ -267,6 +292,10 @@ follows_itself_in_all d holds keeps = record {
   note_outside = λ r s f k g is. (λ i. d.note_outside (f.0 i) k g, keeps.note_outside s f.1 k g is);
   sends = λ r s f h l at k g content sent. (λ i. sent_here d (f.0 i) (at i) k g content, keeps.sends s f.1 l k g content sent);
   receive = λ r s f k from m taken. (λ i. d.receive (f.0 i) m, keeps.receive s f.1 k from m taken);
+  brings = λ r s f k m brought. (λ i. d.receive (f.0 i) m, keeps.brings s f.1 k m brought);
+  report = λ r s f h k at first. λ i. d.report (f.0 i) (at i);
+  freeze = λ r s f h k at. (λ i. d.freeze (f.0 i) (at i), keeps.freeze s f.1 k);
+  pend = λ r s f h k at p tail pended. (λ i. d.pend (f.0 i) (at i) p tail, keeps.pend s f.1 k p tail pended);
   note_request = λ r s f h k at what p. (λ i. d.note_request (f.0 i) (at i) what p, keeps.note_request s f.1 k what p);
   note_answer = λ r s f h k at. (λ i. d.note_answer (f.0 i) (at i), keeps.note_answer s f.1 k);
   move_home = λ r s f h k at move. (λ i. d.move_home (f.0 i) (at i) move, keeps.move_home s f.1 k move);

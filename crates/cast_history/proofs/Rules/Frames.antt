@@ -8,6 +8,7 @@ use Rattle.cast_message.specs.declared.site.SiteFrame.{SiteFrame}
 use Rattle.cast_message.specs.declared.site.SiteFrame.TheVariants as frame
 use Rattle.cast_history.specs.Lawful.{IsTypedFrame}
 use Rattle.cast_history.specs.Rules.Interface.{Site}
+use Rattle.cast_history.specs.Rules.Flushes.{on_wanted}
 use Rattle.cast_history.specs.Rules.Frames.{group_of, on_frame, framed}
 use Rattle.cast_history.proofs.Rules.Follows.{FollowsAll, AtBoth, choose, IsInvariantOfAll, AlsoHolds, SamePlace, follows_itself_in_all}
 use Rattle.cast_history.proofs.Rules.Data.{data_follows}
@@ -15,6 +16,7 @@ use Rattle.cast_history.proofs.Rules.Stability.{ack_follows, stable_follows}
 use Rattle.cast_history.proofs.Rules.Requests.{ask_follows, asked_follows}
 use Rattle.cast_history.proofs.Rules.Home.{installed_follows, flushed_follows, forward_follows, want_answered_follows}
 use Rattle.cast_history.proofs.Rules.Views.{install_follows, out_follows}
+use Rattle.cast_history.proofs.Rules.Flushes.{prepare_follows, wanted_follows}
 
 module _ {R S H K : Type 0} (a : Site R H) (b : Site S K) (fits : R → S → Type 0) (stands : H → K → Type 0) (all : FollowsAll a b fits stands) where
   frame_follows : (r : R) (s : S) → fits r s → (h : H) (k : K) → stands h k → (from : SiteNo) (x : SiteFrame) → b.place s (group_of x) ≡ Some k → IsTypedFrame x → fits (on_frame a r h from x) (on_frame b s k from x)
@@ -23,11 +25,12 @@ module _ {R S H K : Type 0} (a : Site R H) (b : Site S K) (fits : R → S → Ty
   frame_follows r s f h k at from (frame.Stable u) there typed = stable_follows a b fits stands all.follows r s f h k at from u
   frame_follows r s f h k at from (frame.Ask g number what p) there typed = ask_follows a b fits stands all r s f h k at from number what p
   frame_follows r s f h k at from (frame.Asked g number full) there typed = asked_follows a b fits stands all r s f h k at from number full
-  frame_follows r s f h k at from (frame.Prepare g view) there typed = f
+  frame_follows r s f h k at from (frame.Prepare g view) there typed = prepare_follows a b fits stands all r s f h k at from view
   frame_follows r s f h k at from (frame.Flushed g view counts tail kept) there typed = flushed_follows a b fits stands all r s f h k at from view (record { counts = counts; tail = tail; kept = kept })
   frame_follows r s f h k at from (frame.Want u) there typed = want_answered_follows a b fits stands all r s f h k at from u
-  frame_follows r s f h k at from (frame.Forward m) there typed = forward_follows a b fits stands all r s f h k at m
-  frame_follows r s f h k at from (frame.Install g view members request cut tail) there typed = install_follows a b fits stands all r s f h k at from g there view members request cut typed
+  frame_follows r s f h k at from (frame.Forward m) there typed =
+      forward_follows a b fits stands all (on_wanted a r h from m) (on_wanted b s k from m) (wanted_follows a b fits stands all r s f h k at from m there typed) h k at m
+  frame_follows r s f h k at from (frame.Install g view members request cut tail) there typed = install_follows a b fits stands all r s f h k at from g there view members request cut tail typed
   frame_follows r s f h k at from (frame.Installed g view) there typed = installed_follows a b fits stands all r s f h k at from view
   frame_follows r s f h k at from (frame.Out g view) there typed = out_follows a b fits stands all r s f h k at g there view
 

@@ -7,21 +7,28 @@ use Rattle.cast_message.specs.declared.site.SiteFrame.TheVariants as frame
 use Rattle.cast_timer.specs.declared.key.OwedKey.{OwedKey}
 use Rattle.cast_timer.specs.declared.key.OwedKind.{OwedKind}
 use Rattle.cast_timer.specs.declared.key.OwedKind.TheVariants.{Ask, Data, Prepare, Want, Install, Ack}
+use Rattle.cast_timer.specs.declared.key.Side.{Side}
+use Rattle.cast_timer.specs.declared.key.Side.TheVariants as side
 use Rattle.cast_view.specs.MemberSide.{MemberSide, first_asking}
 use Rattle.cast_view.specs.Home.{Home}
 use Rattle.cast_history.specs.Rules.Keys.{id_in}
 use Rattle.cast_history.specs.Rules.Interface.{Site}
-use Rattle.cast_history.specs.Rules.Owing.{ask_frame, install_frame, frame_of_kind, frame_for, send_for, owe, resend, resend_due, tick}
+use Rattle.cast_history.specs.Rules.Owing.{ask_frame, install_frame, wanted_view, frame_of_kind, frame_for, send_for, owe, resend, resend_due, tick}
 use Rattle.cast_history.proofs.Rules.Follows.{Follows, AtBoth, choose, each, IsInvariant, AlsoHolds, SamePlace, follows_itself}
 
 module _ {R S H K : Type 0} (a : Site R H) (b : Site S K) (fits : R → S → Type 0) (stands : H → K → Type 0) (follows : Follows a b fits stands) where
+  -- either side of a flush wants messages of the same view
+  wanted_same : (r : R) (s : S) → fits r s → (h : H) (k : K) → stands h k → (x : Side) → wanted_view a r h x ≡ wanted_view b s k x
+  wanted_same r s f h k at side.Site = ap (λ (x : MemberSide). x.number) (follows.group r s f h k at)
+  wanted_same r s f h k at side.Home = ap (λ (x : Home). x.number) (follows.home r s f h k at)
+
   kind_same : (r : R) (s : S) → fits r s → (h : H) (k : K) → stands h k → (key : OwedKey) (kind : OwedKind) → frame_of_kind a r h key kind ≡ frame_of_kind b s k key kind
   kind_same r s f h k at key Ask = ap (λ (x : MemberSide). option_map (ask_frame key.group) (first_asking x.requests)) (follows.group r s f h k at)
   kind_same r s f h k at key Data =
       ap (λ (x : MemberSide). option_map frame.Data (a.message r (id_in x.number key))) (follows.group r s f h k at)
       ∙ ap (option_map frame.Data) (follows.message r s f (id_in (b.group s k).number key))
   kind_same r s f h k at key Prepare = ap (λ (x : Home). Some (frame.Prepare key.group x.number)) (follows.home r s f h k at)
-  kind_same r s f h k at key Want = ap (λ (x : Home). Some (frame.Want (id_in x.number key))) (follows.home r s f h k at)
+  kind_same r s f h k at key Want = ap (λ n. Some (frame.Want (id_in n key))) (wanted_same r s f h k at key.side)
   kind_same r s f h k at key Install = ap (λ (x : Home). install_frame key.group x key.site x.phase) (follows.home r s f h k at)
   kind_same r s f h k at key Ack = ap (λ (x : MemberSide). Some (frame.Ack (id_in x.number key))) (follows.group r s f h k at)
 

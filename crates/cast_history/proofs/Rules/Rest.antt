@@ -5,19 +5,21 @@ use Rattle.cast_types.specs.declared.names.Proc.{Proc}
 use Rattle.cast_view.specs.MemberSide.{holder_at}
 use Rattle.cast_history.specs.Rules.Interface.{Site, Resting}
 use Rattle.cast_history.specs.Rules.Order.{set_order_by, set_order, set_orders}
+use Rattle.cast_history.specs.Rules.Flushes.{go_on, go_on_all}
 use Rattle.cast_history.specs.Rules.Rest.{deliver_all, settle, pass}
 use Rattle.cast_history.proofs.Totals.{In}
 use Rattle.cast_history.proofs.Rules.Follows.{FollowsAll, each_place}
 use Rattle.cast_history.proofs.Rules.Home.{lead_follows}
 
--- beside all that other rules ask and do: both have the same serials, and stand for each other after all deliveries of one process, and
--- after what the holder of one group lists
+-- beside all that other rules ask and do: both have the same serials, and stand for each other after all deliveries of one process,
+-- after what the holder of one group lists, and after the Install that waits in one group, or what the site wants for it
 pub record FollowsToRest {R S H K : Type 0} (a : Site R H) (b : Site S K) (x : Resting R H) (y : Resting S K) (fits : R → S → Type 0) (stands : H → K → Type 0) : Type 1 where
   pub all : FollowsAll a b fits stands
   pub serials : (r : R) (s : S) → fits r s → x.serials r ≡ y.serials s
   pub same_serials : (s : S) (k : ℕ) → y.serials (deliver_all b y s k) ≡ y.serials s
   pub delivers : (r : R) (s : S) → fits r s → (k : ℕ) → In k (y.serials s) → fits (deliver_all a x r k) (deliver_all b y s k)
   pub orders : (r : R) (s : S) → fits r s → (h : H) (l : K) → stands h l → (p : Proc) → holder_at (b.here s) (b.group s l) ≡ Some p → fits (set_order_by a x r h p.serial) (set_order_by b y s l p.serial)
+  pub goes_on : (r : R) (s : S) → fits r s → (h : H) (l : K) → stands h l → fits (go_on a x r h) (go_on b y s l)
 
 module _ {R S H K : Type 0} (a : Site R H) (b : Site S K) (x : Resting R H) (y : Resting S K) (fits : R → S → Type 0) (stands : H → K → Type 0) (rests : FollowsToRest a b x y fits stands) where
   each_delivers : (ks : List ℕ) (r : R) (s : S) → fits r s → ((k : ℕ) → In k ks → In k (y.serials s)) → fits (fold (deliver_all a x) r ks) (fold (deliver_all b y) s ks)
@@ -47,5 +49,8 @@ module _ {R S H K : Type 0} (a : Site R H) (b : Site S K) (x : Resting R H) (y :
       let t : R = settle a x r in
       let u : S = settle b y s in
       let settled : fits t u = settle_follows r s f in
-      lead_follows a b fits stands rests.all (set_orders a x t) (set_orders b y u)
-      (each_place fits stands (set_order a x) (set_order b y) set_order_follows (a.places t) (b.places u) (rests.all.places t u settled) t u settled)
+      let v : R = set_orders a x t in
+      let w : S = set_orders b y u in
+      let ordered : fits v w = each_place fits stands (set_order a x) (set_order b y) set_order_follows (a.places t) (b.places u) (rests.all.places t u settled) t u settled in
+      lead_follows a b fits stands rests.all (go_on_all a x v) (go_on_all b y w)
+      (each_place fits stands (go_on a x) (go_on b y) rests.goes_on (a.places v) (b.places w) (rests.all.places v w ordered) v w ordered)

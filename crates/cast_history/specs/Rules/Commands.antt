@@ -5,7 +5,7 @@ use Rattle.std.specs.Option.{option_map_or}
 use Rattle.cast_types.specs.declared.names.GroupNo.{GroupNo}
 use Rattle.cast_types.specs.declared.names.Proc.{Proc}
 use Rattle.cast_types.specs.declared.refusal.Refusal.{Refusal}
-use Rattle.cast_types.specs.declared.refusal.Refusal.TheVariants.{BadFrame, NoGroup, NotMember, AlreadyMember, OwnAbcast, HeldFull, TooLong}
+use Rattle.cast_types.specs.declared.refusal.Refusal.TheVariants.{BadFrame, NoGroup, NotMember, AlreadyMember, Flushing, OwnAbcast, HeldFull, TooLong}
 use Rattle.cast_types.specs.declared.limits.TheConstants.{MAX_NUMBER, MAX_PAYLOAD}
 use Rattle.cast_types.specs.Stamps.{ClockList}
 use Rattle.cast_clock.specs.Times.{view_of, count_in, bumped}
@@ -87,6 +87,7 @@ module _ {S H : Type 0} (d : Site S H) where
   cast_at s k g cast payload h =
       if nat_lt MAX_PAYLOAD (length payload) then (s, Some TooLong)
       else if not (is_member (d.standing s k g)) then (s, Some NotMember)
+      else if (d.group s h).frozen then (s, Some Flushing)
       else if d.awaits_own s k then (s, Some OwnAbcast)
       else if not (may_receive d s) then (s, Some HeldFull)
       else if not (may_raise (d.time s k) g (named_here s k)) then (s, Some HeldFull)

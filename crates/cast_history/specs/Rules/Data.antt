@@ -39,11 +39,15 @@ module _ {S H : Type 0} (d : Site S H) where
   abbrev pub acknowledge : S → SiteNo → Uid → S
   acknowledge s to u = if d.is_stable s u then d.send s to (frame.Ack u) else owe d s (message_key kinds.Ack u to)
 
+  -- it is wanted from the home no more, once it is received
+  abbrev pub want_no_more : S → Uid → S
+  want_no_more s u = d.pay s (message_key kinds.Want u (d.config s).home)
+
   -- a message is received once, if there is room for it; what was received is acknowledged again
   abbrev pub use_data : S → SiteNo → Message → S
   use_data s from m =
       if d.is_received s m.id then d.send s from (frame.Ack m.id)
-      else if may_take d s m.body then acknowledge (d.receive s m) from m.id else s
+      else if may_take d s m.body then want_no_more (acknowledge (d.receive s m) from m.id) m.id else s
 
   -- a message of an older view, from a site that has no member in the one that the group has here
   abbrev pub is_outdated : S → H → SiteNo → Message → Bool

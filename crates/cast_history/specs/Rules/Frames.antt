@@ -13,6 +13,7 @@ use Rattle.cast_history.specs.Rules.Stability.{on_ack, on_stable}
 use Rattle.cast_history.specs.Rules.Requests.{on_ask, on_asked}
 use Rattle.cast_history.specs.Rules.Home.{on_flushed, on_forward, on_want, on_installed}
 use Rattle.cast_history.specs.Rules.Views.{on_install, on_out}
+use Rattle.cast_history.specs.Rules.Flushes.{on_prepare, on_wanted}
 
 -- the group that a frame is about
 abbrev pub group_of : SiteFrame → GroupNo
@@ -37,12 +38,12 @@ module _ {S H : Type 0} (d : Site S H) where
   on_frame s h from (frame.Stable u) = on_stable d s h from u
   on_frame s h from (frame.Ask g number what p) = on_ask d s h from number what p
   on_frame s h from (frame.Asked g number full) = on_asked d s h from number full
-  on_frame s h from (frame.Prepare g view) = s
+  on_frame s h from (frame.Prepare g view) = on_prepare d s h from view
   on_frame s h from (frame.Flushed g view counts tail kept) =
       on_flushed d s h from view (record { counts = counts; tail = tail; kept = kept })
   on_frame s h from (frame.Want u) = on_want d s h from u
-  on_frame s h from (frame.Forward m) = on_forward d s h m
-  on_frame s h from (frame.Install g view members request cut tail) = on_install d s h from view members request cut
+  on_frame s h from (frame.Forward m) = on_forward d (on_wanted d s h from m) h m
+  on_frame s h from (frame.Install g view members request cut tail) = on_install d s h from view members request cut tail
   on_frame s h from (frame.Installed g view) = on_installed d s h from view
   on_frame s h from (frame.Out g view) = on_out d s h view
 

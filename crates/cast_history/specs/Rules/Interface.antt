@@ -8,6 +8,7 @@ use Rattle.cast_types.specs.declared.names.Proc.{Proc}
 use Rattle.cast_types.specs.declared.names.Uid.{Uid}
 use Rattle.cast_types.specs.declared.names.Standing.{Standing}
 use Rattle.cast_types.specs.declared.refusal.Refusal.{Refusal}
+use Rattle.cast_types.specs.Names.{Entry}
 use Rattle.cast_types.specs.Counts.{CountList}
 use Rattle.cast_types.specs.Stamps.{ClockList}
 use Rattle.cast_message.specs.declared.message.Message.{Message}
@@ -16,8 +17,11 @@ use Rattle.cast_message.specs.declared.site.SiteFrame.{SiteFrame}
 use Rattle.cast_message.specs.declared.client.Push.{Push}
 use Rattle.cast_message.specs.Membership.{Membership}
 use Rattle.cast_message.specs.Sequence.{Sequence}
+use Rattle.cast_message.specs.Stretch.{Stretch}
 use Rattle.cast_timer.specs.declared.key.OwedKey.{OwedKey}
 use Rattle.cast_model.specs.declared.config.DomainConfig.{DomainConfig}
+use Rattle.cast_flush.specs.declared.report.Report.{Report}
+use Rattle.cast_view.specs.declared.member.Pending.{Pending}
 use Rattle.cast_view.specs.MemberSide.{MemberSide}
 use Rattle.cast_view.specs.Home.{Home, HomeMove}
 
@@ -61,6 +65,8 @@ pub record Site (S H : Type 0) : Type 0 where
   pub due : S → List OwedKey
   -- a session is gone, or was never opened
   pub is_gone : S → ℕ → Bool
+  -- what the site has of a group's view: what it reports where the view is flushed
+  pub report : S → H → Report
   -- a frame is sent to a site
   pub send : S → SiteNo → SiteFrame → S
   -- a frame that is sent now is owed from now on, and is due again once the time to resend has passed
@@ -93,6 +99,10 @@ pub record Site (S H : Type 0) : Type 0 where
   pub note_request : S → H → Change → Proc → S
   -- the first request of a group is answered
   pub note_answer : S → H → S
+  -- a flush has frozen a group
+  pub freeze : S → H → S
+  -- the Install of a group's next view waits, which tells the end of the order of the one that ends
+  pub pend : S → H → Pending → Stretch → S
   -- the home of a group moves on
   pub move_home : S → H → HomeMove → S
   -- a group passes to a view of this number, with these members. The local members that it lacks are put out, and told; all of them, where a view
@@ -121,10 +131,14 @@ pub record Resting (S H : Type 0) : Type 0 where
   pub turns : S → ℕ
   -- the first message that is ready for a local process
   pub next_ready : S → ℕ → Option Message
-  -- a message is of the view that its group has here
-  pub is_current : S → Uid → Bool
+  -- a message is of the view that its group has here, which no flush has frozen
+  pub is_open : S → Uid → Bool
   -- each local member of its group has delivered a message; a count is at least 1
   pub is_delivered : S → Uid → Bool
+  -- each local member of a group has delivered all messages of its view that a cut covers
+  pub has_cut : S → H → CountList → Bool
+  -- of those, the first 64 that some local member has not delivered and that were not received
+  pub missing : S → H → CountList → List Entry
   -- what a local process, the holder of a group's view, has to list, at the places after those that are known
   pub next_places : S → H → ℕ → Option Sequence
   -- a local process has delivered a message, the first one that was ready for it

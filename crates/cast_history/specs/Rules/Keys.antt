@@ -25,7 +25,7 @@ home_key kind g to = record { kind = kind; group = g; proc = nobody; count = 0; 
 abbrev pub want_key : GroupNo → SiteNo × Entry → OwedKey
 want_key g w = record { kind = Want; group = g; proc = w.1.0; count = w.1.1; site = w.0; side = Home }
 
--- a frame of this kind about a message is owed to a site
+-- a frame of this kind about a message is owed to a site, by this one as a site of the message's view
 abbrev pub message_key : OwedKind → Uid → SiteNo → OwedKey
 message_key kind u to = record { kind = kind; group = u.group; proc = u.proc; count = u.count; site = to; side = Site }
 

@@ -1,5 +1,5 @@
 -- The rules of set-order messages: the holder of a group's view gives ABCASTs their places.
-use Rattle.std.specs.Prelude.{ℕ, Bool, ◌&&◌, if◌then◌else◌, Some, None}
+use Rattle.std.specs.Prelude.{ℕ, Bool, not, ◌&&◌, if◌then◌else◌, Some, None}
 use Rattle.std.specs.List.{fold}
 use Rattle.std.specs.Option.{option_map_or}
 use Rattle.cast_message.specs.declared.message.Body.TheVariants as body
@@ -14,9 +14,9 @@ use Rattle.cast_history.specs.Rules.Commands.{named_here, message_sent, send_own
 
 -- each rule is of the group that stands at h, and of the local process of serial k
 module _ {S H : Type 0} (d : Site S H) (q : Resting S H) where
-  -- the holder is a member, and there is room for one more set-order message
+  -- the holder is a member, no flush has frozen the group, and there is room for one more set-order message
   abbrev pub may_list : S → H → ℕ → Bool
-  may_list s h k = is_member (d.standing s k (d.name s h)) && may_order d s
+  may_list s h k = is_member (d.standing s k (d.name s h)) && (not (d.group s h).frozen && may_order d s)
 
   -- the holder lists ABCASTs at these places in a set-order message
   abbrev pub send_places : S → H → ℕ → Sequence → S

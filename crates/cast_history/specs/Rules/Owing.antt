@@ -9,6 +9,8 @@ use Rattle.cast_message.specs.declared.site.SiteFrame.TheVariants as frame
 use Rattle.cast_timer.specs.declared.key.OwedKey.{OwedKey}
 use Rattle.cast_timer.specs.declared.key.OwedKind.{OwedKind}
 use Rattle.cast_timer.specs.declared.key.OwedKind.TheVariants.{Ask, Data, Prepare, Want, Install, Ack}
+use Rattle.cast_timer.specs.declared.key.Side.{Side}
+use Rattle.cast_timer.specs.declared.key.Side.TheVariants as side
 use Rattle.cast_view.specs.declared.phase.Phase.{Phase}
 use Rattle.cast_view.specs.declared.phase.Phase.TheVariants.{Idle, Gathering, Installing}
 use Rattle.cast_view.specs.Home.{Home, answer_in}
@@ -29,12 +31,17 @@ install_frame g home to (Installing waiting decision bodies) =
     Some (frame.Install g home.number home.members (answer_in decision.answers to).number decision.cut decision.tail)
 
 module _ {S H : Type 0} (d : Site S H) where
-  -- the frame that a key of this kind stands for, of the group that stands at h. The home alone owes Wants
+  -- the number of the view that a side of a flush wants messages of
+  abbrev pub wanted_view : S → H → Side → ℕ
+  wanted_view s h side.Site = (d.group s h).number
+  wanted_view s h side.Home = (d.home s h).number
+
+  -- the frame that a key of this kind stands for, of the group that stands at h
   abbrev pub frame_of_kind : S → H → OwedKey → OwedKind → Option SiteFrame
   frame_of_kind s h key Ask = option_map (ask_frame key.group) (first_asking (d.group s h).requests)
   frame_of_kind s h key Data = option_map frame.Data (d.message s (id_in (d.group s h).number key))
   frame_of_kind s h key Prepare = Some (frame.Prepare key.group (d.home s h).number)
-  frame_of_kind s h key Want = Some (frame.Want (id_in (d.home s h).number key))
+  frame_of_kind s h key Want = Some (frame.Want (id_in (wanted_view s h key.side) key))
   frame_of_kind s h key Install = install_frame key.group (d.home s h) key.site (d.home s h).phase
   frame_of_kind s h key Ack = Some (frame.Ack (id_in (d.group s h).number key))
 

@@ -1,5 +1,5 @@
--- The rules of what a domain does of itself after each event, until nothing changes: its processes deliver, holders set orders, and the
--- home decides views.
+-- The rules of what a domain does of itself after each event, until nothing changes: its processes deliver, holders set orders, Installs are
+-- completed, and the home decides views.
 use Rattle.std.specs.Prelude.{ℕ, Option, Some, None}
 use Rattle.std.specs.List.{fold}
 use Rattle.cast_types.specs.declared.names.Uid.{Uid}
@@ -13,6 +13,7 @@ use Rattle.cast_message.specs.declared.client.Push.TheVariants as push
 use Rattle.cast_history.specs.Rules.Interface.{Site, Resting}
 use Rattle.cast_history.specs.Rules.Release.{let_go}
 use Rattle.cast_history.specs.Rules.Order.{set_orders}
+use Rattle.cast_history.specs.Rules.Flushes.{go_on_all}
 use Rattle.cast_history.specs.Rules.Home.{lead}
 
 -- what a program is told of a message that its process delivers: of a set-order message nothing
@@ -42,6 +43,6 @@ module _ {S H : Type 0} (d : Site S H) (q : Resting S H) where
   abbrev pub settle : S → S
   settle s = fold deliver_all s (q.serials s)
 
-  -- deliveries by serial; then by group set-order messages; then by group the home
+  -- deliveries by serial; then by group set-order messages; then by group Installs and what the site wants; then by group the home
   abbrev pub pass : S → S
-  pass s = lead d (set_orders d q (settle s))
+  pass s = lead d (go_on_all d q (set_orders d q (settle s)))

@@ -4,6 +4,7 @@ use Rattle.cast_types.specs.declared.names.SiteNo.{SiteNo}
 use Rattle.cast_types.specs.Counts.{CountList}
 use Rattle.cast_message.specs.declared.site.SiteFrame.TheVariants as frame
 use Rattle.cast_message.specs.Membership.{Membership}
+use Rattle.cast_message.specs.Stretch.{Stretch}
 use Rattle.cast_view.specs.declared.member.Verdict.TheVariants.{Again, Skips, Completes, Pends, Ignored}
 use Rattle.cast_view.specs.MemberSide.{verdict_of, is_put_out_by}
 use Rattle.cast_history.specs.Rules.Interface.{Site}
@@ -26,16 +27,16 @@ module _ {S H : Type 0} (d : Site S H) where
   install skips s h from n members request cut =
       d.send (change_view skips s h n members request cut) from (frame.Installed (d.name s h) n)
 
-  -- a view is installed by a site that has none, and where it skips a number; of one that the site knows the home is told again. There is no
-  -- rule yet for the next view of a site that has one
-  abbrev pub on_install : S → H → SiteNo → ℕ → Membership → ℕ → CountList → S
-  on_install s h from n members request cut =
+  -- a view is installed by a site that has none, and where it skips a number; of one that the site knows the home is told again. The Install
+  -- of the next view of a site that has one waits, until the members here have delivered its cut
+  abbrev pub on_install : S → H → SiteNo → ℕ → Membership → ℕ → CountList → Stretch → S
+  on_install s h from n members request cut tail =
       if is_from_home d s from
       then elim (verdict_of (d.group s h) n) [
         | Again ↦ d.send s from (frame.Installed (d.name s h) n)
         | Skips ↦ install true s h from n members request cut
         | Completes ↦ install false s h from n members request cut
-        | Pends ↦ s
+        | Pends ↦ d.pend s h (record { members = members; request = request; cut = cut }) tail
         | Ignored ↦ s
       ]
       else s

@@ -17,20 +17,22 @@ use Rattle.cast_domain.proofs.domain.Domain.cast_at.Goals as goal
 pub returns-then-not-has_room-clause-made : goal.returns-then-not-has_room-clause-made
 returns-then-not-has_room-clause-made c =
     let r = records_in c.args.self.now c.args.lent.now in
+    let going : (record_at r.groups c.args.at).here.frozen ≡ false = sym (c.is_frozen.ensures ∙ ap (λ x. x.here.frozen) c.record.ensures) ∙ c.if-is_frozen.false in
     let short : nat_lt MAX_PAYLOAD (length c.args.payload.now) ≡ false = grind (arith, nat_tests) in
     let member : is_member (standing_of r.delay (local_in r c.args.serial) c.args.group) ≡ true =
     ap is_member (sym (c.standing.ensures.value ∙ ap (λ x. standing_of r.delay x c.args.group) c.process-process.ensures) ∙ c.in-Member.is) in
     let own_is : c.awaits_own.result ≡ awaits_own_in r (local_in r c.args.serial) = c.awaits_own.ensures ∙ ap (awaits_own_in r) c.process-process.ensures in
-    sym (cast_full r c.args.serial c.args.group c.args.kind c.args.payload.now c.args.at short member (sym own_is ∙ c.if-awaits_own.false) (sym c.has_room.ensures ∙ c.if-not-has_room.true))
+    sym (cast_full r c.args.serial c.args.group c.args.kind c.args.payload.now c.args.at short member going (sym own_is ∙ c.if-awaits_own.false) (sym c.has_room.ensures ∙ c.if-not-has_room.true))
 
 pub returns-then-awaits_own-clause-made : goal.returns-then-awaits_own-clause-made
 returns-then-awaits_own-clause-made c =
     let r = records_in c.args.self.now c.args.lent.now in
+    let going : (record_at r.groups c.args.at).here.frozen ≡ false = sym (c.is_frozen.ensures ∙ ap (λ x. x.here.frozen) c.record.ensures) ∙ c.if-is_frozen.false in
     let short : nat_lt MAX_PAYLOAD (length c.args.payload.now) ≡ false = grind (arith, nat_tests) in
     let member : is_member (standing_of r.delay (local_in r c.args.serial) c.args.group) ≡ true =
     ap is_member (sym (c.standing.ensures.value ∙ ap (λ x. standing_of r.delay x c.args.group) c.process-process.ensures) ∙ c.in-Member.is) in
     let own_is : c.awaits_own.result ≡ awaits_own_in r (local_in r c.args.serial) = c.awaits_own.ensures ∙ ap (awaits_own_in r) c.process-process.ensures in
-    sym (cast_owned r c.args.serial c.args.group c.args.kind c.args.payload.now c.args.at short member (sym own_is ∙ c.if-awaits_own.true))
+    sym (cast_owned r c.args.serial c.args.group c.args.kind c.args.payload.now c.args.at short member going (sym own_is ∙ c.if-awaits_own.true))
 
 pub returns-in_default-clause-made : goal.returns-in_default-clause-made
 returns-in_default-clause-made c =
@@ -39,13 +41,14 @@ returns-in_default-clause-made c =
     let g = c.args.group in
     let p : c.process-process.result ≡ local_in r k = c.process-process.ensures in
     let q = c.process-process.result in
+    let going : (record_at r.groups c.args.at).here.frozen ≡ false = sym (c.is_frozen.ensures ∙ ap (λ x. x.here.frozen) c.record.ensures) ∙ c.if-is_frozen.false in
     let short : nat_lt MAX_PAYLOAD (length c.args.payload.now) ≡ false = grind (arith, nat_tests) in
     let member : is_member (standing_of r.delay (local_in r k) g) ≡ true =
     ap is_member (sym (c.standing.ensures.value ∙ ap (λ x. standing_of r.delay x g) p) ∙ c.in-Member.is) in
     let own : awaits_own_in r (local_in r k) ≡ false = sym (c.awaits_own.ensures ∙ ap (awaits_own_in r) p) ∙ c.if-awaits_own.false in
     let room : may_receive records r ≡ true = sym c.has_room.ensures ∙ c.if-not-has_room.false in
     let may : may_raise (time_of r.delay q) g q ≡ false = raised_none (may_raise (time_of r.delay q) g q) (bumped (time_of r.delay q) g q) (sym c.in_default.is ∙ c.in_ok-time.ensures) in
-    sym (cast_unraised r k g c.args.kind c.args.payload.now c.args.at short member own room (ap (λ x. may_raise (time_of r.delay x) g x) (sym p) ∙ may))
+    sym (cast_unraised r k g c.args.kind c.args.payload.now c.args.at short member going own room (ap (λ x. may_raise (time_of r.delay x) g x) (sym p) ∙ may))
 
 pub returns-clause-made : goal.returns-clause-made
 returns-clause-made c =
@@ -59,8 +62,9 @@ returns-clause-made c =
     (sym c.in-Some.is ∙ c.in_ok-time.ensures) in
     let time : c.in-Some.time ≡ bumped (time_of r.delay (local_in r k)) g (local_in r k) = raised.1 ∙ ap (λ x. bumped (time_of r.delay x) g x) p in
     let stamp : c.in-Some.stamp ≡ bumped (time_of r.delay (local_in r k)) g (local_in r k) = raised.2 ∙ ap (λ x. bumped (time_of r.delay x) g x) p in
-    let view : c.number.result ≡ (record_at r.groups i).here.number = c.number.ensures ∙ ap (λ x. x.here.number) c.record.ensures in
+    let view : c.number.result ≡ (record_at r.groups i).here.number = c.number.ensures ∙ ap (λ x. x.here.number) c.record-2.ensures in
     let count : c.count.result ≡ count_in (bumped (time_of r.delay (local_in r k)) g (local_in r k)) g (local_in r k) = c.count.ensures ∙ λ j. count_in (time j) g (p j) in
+    let going : (record_at r.groups c.args.at).here.frozen ≡ false = sym (c.is_frozen.ensures ∙ ap (λ x. x.here.frozen) c.record.ensures) ∙ c.if-is_frozen.false in
     let short : nat_lt MAX_PAYLOAD (length c.args.payload.now) ≡ false = grind (arith, nat_tests) in
     let member : is_member (standing_of r.delay (local_in r k) g) ≡ true =
     ap is_member (sym (c.standing.ensures.value ∙ ap (λ x. standing_of r.delay x g) p) ∙ c.in-Member.is) in
@@ -80,4 +84,4 @@ returns-clause-made c =
       times = stamp j;
       body = body_of c.args.kind c.args.payload.now;
     })))
-    (sym (cast_made r k g c.args.kind c.args.payload.now i short member own room may))
+    (sym (cast_made r k g c.args.kind c.args.payload.now i short member going own room may))

@@ -5,7 +5,7 @@ use Rattle.cast_types.specs.Names.{entry_of}
 use Rattle.cast_order.specs.Log.{change_log, log_of, next_in, passed, told}
 use Rattle.cast_delay.specs.Queue.{passed_in}
 use Rattle.cast_domain.specs.Records.{records_of}
-use Rattle.cast_domain.specs.Calls.{holds_in}
+use Rattle.cast_domain.specs.Calls.{sets_order_in}
 use Rattle.cast_domain.proofs.domain.Domain.note_delivery.Goals as goal
 
 pub returns-clause-made : goal.returns-clause-made
@@ -16,7 +16,7 @@ returns-clause-made c =
     on_ok_weaker c.pass.result
     (λ made o part.
     let r = records_of d part o in
-    let other : holds_in r u.group p ≡ false = sym (c.holds.ensures o part) ∙ c.if-holds.false in
+    let other : sets_order_in r u.group p ≡ false = sym (c.sets_order.ensures o part) ∙ c.if-sets_order.false in
     λ i. record r {
       orders = (
           made

@@ -1,5 +1,6 @@
 use Rattle.std.proofs.Common.{◌∙◌, ap}
 use Rattle.std.proofs.lemmas.Bool.{or_parts}
+use Rattle.cast_history.specs.Rules.Flushes.{go_on_all}
 use Rattle.cast_history.specs.Rules.Home.{lead}
 use Rattle.cast_history.specs.Rules.Order.{set_orders}
 use Rattle.cast_domain.specs.Calls.{records, resting_records}
@@ -8,12 +9,16 @@ use Rattle.cast_domain.proofs.domain.Domain.pass.Goals as goal
 pub returns-clause-made : goal.returns-clause-made
 returns-clause-made c =
     c.in_ok-led.ensures.made
-    ∙ ap (lead records) (c.in_ok-ordered.ensures.made ∙ ap (set_orders records resting_records) c.in_ok-settled.ensures.made)
+    ∙ ap (lead records)
+    (c.in_ok-gone_on.ensures.made
+    ∙ ap (go_on_all records resting_records) (c.in_ok-ordered.ensures.made ∙ ap (set_orders records resting_records) c.in_ok-settled.ensures.made))
 
 pub returns-clause-still : goal.returns-clause-still
 returns-clause-still c e =
     let outer = or_parts _ _ e in
-    let inner = or_parts _ _ outer.0 in
+    let middle = or_parts _ _ outer.0 in
+    let inner = or_parts _ _ middle.0 in
     c.in_ok-led.ensures.still outer.1
+    ∙ c.in_ok-gone_on.ensures.still middle.1
     ∙ c.in_ok-ordered.ensures.still inner.1
     ∙ c.in_ok-settled.ensures.still inner.0

@@ -1,4 +1,4 @@
-use Rattle.std.proofs.Common.{◌≡◌, ◌<◌, ◌∙◌, ap, length, arith}
+use Rattle.std.proofs.Common.{◌≡◌, ◌∙◌, ap, length, arith}
 use Rattle.cast_model.specs.Outs.{no_outs}
 use Rattle.cast_domain.specs.Shared.{no_part}
 use Rattle.cast_domain.specs.Records.{records_of}

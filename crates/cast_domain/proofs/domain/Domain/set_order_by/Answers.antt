@@ -1,4 +1,4 @@
-use Rattle.std.proofs.Common.{◌≡◌, ◌∙◌, sym, ap, true, Some}
+use Rattle.std.proofs.Common.{◌≡◌, ◌∙◌, sym, ap, true, not, Some}
 use Rattle.std.specs.Prelude.{◌&&◌}
 use Rattle.cast_clock.specs.Times.{bumped}
 use Rattle.cast_delay.specs.Ready.{is_member}
@@ -16,9 +16,8 @@ pub returns-then-not-may_list-clause-made : goal.returns-then-not-may_list-claus
 returns-then-not-may_list-clause-made c =
     let r = records_in c.args.self.now c.args.lent.now in
     let p = c.process-holder.ensures in
-    let name : c.record.result.now.name ≡ (record_at r.groups c.args.place).name = ap (λ x. x.name) c.record.ensures in
     sym (places_none r c.args.place c.args.serial
-    ((λ j. is_member (standing_of r.delay (sym p j) (sym name j)) && may_order records r) ∙ sym c.may_list.ensures ∙ c.if-not-may_list.true))
+    ((λ j. is_member (standing_of r.delay (sym p j) (record_at r.groups c.args.place).name) && (not (record_at r.groups c.args.place).here.frozen && may_order records r)) ∙ sym c.may_list.ensures ∙ c.if-not-may_list.true))
 
 pub returns-in_default-clause-made : goal.returns-in_default-clause-made
 returns-in_default-clause-made c =
@@ -27,7 +26,7 @@ returns-in_default-clause-made c =
     let i = c.args.place in
     let name : c.record.result.now.name ≡ (record_at r.groups i).name = ap (λ x. x.name) c.record.ensures in
     let may : may_list records resting_records r i c.args.serial ≡ true =
-    (λ j. is_member (standing_of r.delay (sym p j) (sym name j)) && may_order records r) ∙ sym c.may_list.ensures ∙ c.if-not-may_list.false in
+    (λ j. is_member (standing_of r.delay (sym p j) (record_at r.groups c.args.place).name) && (not (record_at r.groups c.args.place).here.frozen && may_order records r)) ∙ sym c.may_list.ensures ∙ c.if-not-may_list.false in
     sym (places_missing r i c.args.serial may (ap (λ g. next_places (log_of r.orders g)) (sym name) ∙ sym c.in_ok-places.ensures ∙ c.in_default.is))
 
 pub returns-in_default-2-clause-made : goal.returns-in_default-2-clause-made
@@ -39,7 +38,7 @@ returns-in_default-2-clause-made c =
     let holder = c.process-holder.result in
     let name : h ≡ (record_at r.groups i).name = ap (λ x. x.name) c.record.ensures in
     let may : may_list records resting_records r i c.args.serial ≡ true =
-    (λ j. is_member (standing_of r.delay (sym p j) (sym name j)) && may_order records r) ∙ sym c.may_list.ensures ∙ c.if-not-may_list.false in
+    (λ j. is_member (standing_of r.delay (sym p j) (record_at r.groups c.args.place).name) && (not (record_at r.groups c.args.place).here.frozen && may_order records r)) ∙ sym c.may_list.ensures ∙ c.if-not-may_list.false in
     let next : next_places (log_of r.orders (record_at r.groups i).name) ≡ Some c.in-Some.places =
     ap (λ g. next_places (log_of r.orders g)) (sym name) ∙ sym c.in_ok-places.ensures ∙ c.in-Some.is in
     let raised = raised_none (may_raise (time_of r.delay holder) h holder) (bumped (time_of r.delay holder) h holder) (sym c.in_default-2.is ∙ c.in_ok-time.ensures) in
@@ -54,7 +53,7 @@ returns-clause-made c =
     let holder = c.process-holder.result in
     let name : h ≡ (record_at r.groups i).name = ap (λ x. x.name) c.record.ensures in
     let may : may_list records resting_records r i c.args.serial ≡ true =
-    (λ j. is_member (standing_of r.delay (sym p j) (sym name j)) && may_order records r) ∙ sym c.may_list.ensures ∙ c.if-not-may_list.false in
+    (λ j. is_member (standing_of r.delay (sym p j) (record_at r.groups c.args.place).name) && (not (record_at r.groups c.args.place).here.frozen && may_order records r)) ∙ sym c.may_list.ensures ∙ c.if-not-may_list.false in
     let next : next_places (log_of r.orders (record_at r.groups i).name) ≡ Some c.in-Some.places =
     ap (λ g. next_places (log_of r.orders g)) (sym name) ∙ sym c.in_ok-places.ensures ∙ c.in-Some.is in
     let raised = raised_some (may_raise (time_of r.delay holder) h holder) (bumped (time_of r.delay holder) h holder) c.in-Some-2.time c.in-Some-2.stamp (sym c.in-Some-2.is ∙ c.in_ok-time.ensures) in

@@ -1,0 +1,14 @@
+use Rattle.std.proofs.Common.{◌≡◌, ◌-◌, false, length}
+use Rattle.std.specs.List.{fold, range_with_len}
+use Rattle.cast_history.specs.Rules.Flushes.{go_on, go_on_all}
+use Rattle.cast_domain.specs.Calls.{records, resting_records}
+use Rattle.cast_domain.specs.Records.{KeepsBeside, records_in}
+use Rattle.cast_domain.proofs.domain.Domain.go_on_all.Given as goal
+
+-- the places that are left lead to the same records
+abbrev pub invariant-loop-place : goal.invariant-loop-place
+invariant-loop-place l = record {
+  stays : KeepsBeside l.fn.self l.fn.lent l.self l.lent;
+  left : fold (go_on records resting_records) (records_in l.self l.lent) (range_with_len l.place (length l.fn.self.groups.items - l.place)) ≡ go_on_all records resting_records (records_in l.fn.self l.fn.lent);
+  still : l.changed ≡ false → records_in l.self l.lent ≡ records_in l.fn.self l.fn.lent;
+}

@@ -1,0 +1,14 @@
+use Rattle.std.proofs.Common.{◌≡◌, false, drop}
+use Rattle.std.specs.List.{fold}
+use Rattle.cast_history.specs.Rules.Flushes.{want_own}
+use Rattle.cast_domain.specs.Calls.{records}
+use Rattle.cast_domain.specs.Records.{GivesBack, records_in}
+use Rattle.cast_domain.proofs.domain.Domain.want_all_missing.Given as goal
+
+-- what is left to want leads to the same records
+abbrev pub invariant-loop-name : goal.invariant-loop-name
+invariant-loop-name l = record {
+  back : GivesBack l.self.config.domain l.fn.lent l.lent;
+  left : fold (want_own records l.place) (records_in l.self l.lent) (drop l.name-index l.missing) ≡ fold (want_own records l.place) (records_in l.self l.fn.lent) l.missing;
+  still : l.changed ≡ false → records_in l.self l.lent ≡ records_in l.self l.fn.lent;
+}

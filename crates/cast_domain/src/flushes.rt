@@ -1,0 +1,506 @@
+ghost use Rattle.std.specs.Prelude.{◌≡◌, ◌<◌, ◌≤◌, ◌&&◌, ◌||◌, ◌==◌, ◌++◌, true, false, not, min, if◌then◌else◌, IfOk, OnOk, [], ◌∷◌, filter, length, map, take, vec_len};
+ghost use Rattle.std.specs.List.{fold, list_all, list_any};
+ghost use Rattle.cast_types.specs.Counts.{CountList};
+ghost use Rattle.cast_types.specs.Names.{entry_cmp, entry_eq, entry_of, group_eq, is_atomic};
+ghost use Rattle.cast_types.specs.Sets.{set_of, with_item};
+ghost use Rattle.cast_types.specs.Sources.{source};
+ghost use Rattle.cast_types.specs.declared.limits.TheConstants.{MAX_PLACED, MAX_POSITION};
+ghost use Rattle.cast_delay.specs.Ready.{first_of};
+ghost use Rattle.cast_message.specs.Bodies.{kind_of};
+ghost use Rattle.cast_message.specs.Receipts.{messages};
+ghost use Rattle.cast_order.specs.Log.{log_of, whole_kept};
+ghost use Rattle.cast_stable.specs.Ledger.{last_received_in};
+ghost use Rattle.cast_view.specs.Sites.{is_at};
+ghost use Rattle.cast_view.specs.MemberSide.{answers_prepare, verdict_of};
+ghost use Rattle.cast_view.specs.declared.member.Pending.{Pending};
+ghost use Rattle.cast_view.specs.declared.member.Verdict.TheVariants.{Pends};
+ghost use Rattle.cast_history.specs.Reports.{is_unplaced, kept_list};
+ghost use Rattle.cast_domain.specs.Calls.{is_kept_of};
+ghost use Rattle.cast_history.specs.Rules.Data.{want_no_more};
+ghost use Rattle.cast_history.specs.Rules.Flushes.{complete, complete_or_want, go_on, go_on_all, is_wanted_here, on_prepare, on_wanted, own_want_key, want_own};
+
+use crate::domain::Domain;
+use crate::frames::is_named;
+use crate::lent::Lent;
+use crate::owing::message_key;
+use crate::record::{GroupRecord, freeze_at, pend_at};
+use cast_flush::Report;
+use cast_message::{Kept, Members, Message, Received, SiteFrame, Tail};
+use cast_model::Outs;
+use cast_timer::OwedKind;
+use cast_types::limits::{MAX_KEPT, MAX_PLACED, MAX_POSITION};
+use cast_types::{Counts, Listed, NoMemory, Proc, SiteNo, Uid, sorted};
+
+impl Domain {
+    ghost use Rattle.cast_types.specs.Names.{Entry};
+    ghost use Rattle.cast_model.specs.declared.event.Outs.{Outs};
+    ghost use Rattle.cast_model.specs.Outs.{no_outs};
+    ghost use Rattle.cast_history.specs.Rules.Requests.{is_from_home};
+    ghost use Rattle.cast_domain.specs.Records.{GivesBack, Keeps, KeepsBeside, records_in, records_of};
+    ghost use Rattle.cast_domain.specs.Shared.{Part, no_part};
+    ghost use Rattle.cast_domain.specs.Calls.{freeze_in, had_of, has_cut_of, is_awaited_of, is_received_of, missing_of, pend_in, record_at, records, report_at, resting_records, tail_in};
+
+    // Prepare: the home asks what the site has of a view. From the first answer on the group is frozen, and the site answers as
+    // often as it is asked, until an Install waits.
+    pub(crate) fn prepared(
+        &mut self,
+        place: usize,
+        from: SiteNo,
+        view: u32,
+        lent: &mut Lent<'_>,
+    ) -> Result<(), NoMemory>
+        requires { place < vec_len self.old.groups }
+        ensures stays { KeepsBeside self.old lent.old self.new lent.new }
+        ensures made { OnOk result (records_in self.new lent.new ≡ on_prepare records (records_in self.old lent.old) place from view) }
+    {
+        if !self.is_asked(place, from, view) {
+            return Ok(());
+        }
+        let group = self.record(place).name;
+        let report = self.report(place, lent)?;
+        self.freeze(place, view)?;
+        let frame = SiteFrame::Flushed {
+            group,
+            view,
+            counts: report.counts,
+            tail: report.tail,
+            kept: report.kept,
+        };
+        self.send(lent.outs, from, frame)?;
+        Ok(())
+    }
+
+    // Whether the home asks for a report of the view of the group at a place, and no Install waits.
+    fn is_asked(&self, place: usize, from: SiteNo, view: u32) -> bool
+        requires { place < vec_len self.now.groups }
+        ensures { (o : Outs) (part : Part) → result ≡ (is_from_home records (records_of self.now part o) from && answers_prepare (record_at self.now.groups.items place).here view) }
+    {
+        self.is_from_home(from) && self.record(place).here.answers_prepare(view)
+    }
+
+    // A flush has frozen the group at a place, whose view it is.
+    fn freeze(&mut self, place: usize, view: u32) -> Result<(), NoMemory>
+        requires placed { place < vec_len self.old.groups }
+        requires answered { answers_prepare (record_at self.old.groups.items place).here view ≡ true }
+        ensures same { Keeps self.old self.new }
+        ensures made { OnOk result ((o : Outs) (part : Part) → records_of self.new part o ≡ freeze_in (records_of self.old part o) place) }
+    {
+        let group = self.record(place).name;
+        freeze_at(&mut self.groups, place, view);
+        self.delay.freeze(group)?;
+        Ok(())
+    }
+
+    // The Install of the next view waits at the group of a place, and tells the end of the order of the one that ends.
+    pub(crate) fn pend(
+        &mut self,
+        place: usize,
+        view: u32,
+        members: &Members,
+        request: u32,
+        cut: &Counts,
+        tail: &Tail,
+    ) -> Result<(), NoMemory>
+        requires placed { place < vec_len self.old.groups }
+        requires waits { verdict_of (record_at self.old.groups.items place).here view ≡ Pends }
+        ensures same { Keeps self.old self.new }
+        ensures made { OnOk result ((o : Outs) (part : Part) → records_of self.new part o ≡ pend_in (records_of self.old part o) place (record { members = members.now; request = request; cut = cut.now }) tail.now) }
+    {
+        let group = self.record(place).name;
+        pend_at(&mut self.groups, place, view, members, request, cut)?;
+        self.delay.pend(group, cut)?;
+        self.orders.close(group, tail, cut)?;
+        Ok(())
+    }
+
+    // What the site has of the view of the group at a place.
+    fn report(&self, place: usize, lent: &Lent<'_>) -> Result<Report, NoMemory>
+        requires { place < vec_len self.now.groups }
+        ensures { IfOk result (λ report. report ≡ report_at (records_in self.now lent.now) (record_at self.now.groups.items place)) }
+    {
+        let record = self.record(place);
+        let had = self.had(record)?;
+        let (start, ids) = self.orders.tail(record.name)?;
+        let tail = tail_from(start, ids);
+        let kept = self.kept_of(record, lent.shared.store.kept(self.config.domain))?;
+        record.here.flushed(had.as_slice(), tail, kept)
+    }
+
+    // How far the messages of each process were delivered here in the view of a group, and the last ones that members here sent.
+    fn had(&self, group: &GroupRecord) -> Result<Vec<(Proc, u32)>, NoMemory>
+        ensures { IfOk result (λ had. had.items ≡ had_of (records_of self.now no_part no_outs) group.now) }
+    {
+        let mut had = self.delay.reached(group.name, group.here.number())?;
+        for member in group.here.members() {
+            self.add_sent(group, *member, &mut had)?;
+        }
+        Ok(had)
+    }
+
+    // Adds the last message of the view of a group that a member sent, if it is here.
+    fn add_sent(
+        &self,
+        group: &GroupRecord,
+        member: Proc,
+        had: &mut Vec<(Proc, u32)>,
+    ) -> Result<(), NoMemory>
+        ensures { OnOk result (had.new.items ≡ (if is_at self.now.site member then had.old.items ++ (member, last_received_in self.now.acks (source group.now.name group.now.here.number member)) ∷ [] else had.old.items)) }
+    {
+        if member.site != self.site {
+            return Ok(());
+        }
+        let sent = self
+            .acks
+            .last_received(group.name, group.here.number(), member);
+        had.push((member, sent))?;
+        Ok(())
+    }
+
+    // The names of kept messages of the view of a group, in order, each marked where it is an ABCAST for which its order has no place.
+    fn kept_of(&self, group: &GroupRecord, kept: &[Received]) -> Result<Kept, NoMemory>
+        ensures { IfOk result (λ list. list ≡ kept_list (filter (is_kept_of group.now) (messages kept.now)) (whole_kept (log_of self.now.orders group.now.name))) }
+    {
+        let mut names = self.names_of(group, kept)?;
+        names.truncate(MAX_KEPT);
+        let marked = self.marked(group, kept, names.as_slice())?;
+        Ok(Kept::from_entries(marked))
+    }
+
+    // The names of kept messages of the view of a group, in order.
+    fn names_of(&self, group: &GroupRecord, kept: &[Received]) -> Result<Vec<(Proc, u32)>, NoMemory>
+        ensures { IfOk result (λ names. names.items ≡ set_of entry_cmp (map (λ m. entry_of m.id) (filter (is_kept_of group.now) (messages kept.now)))) }
+    {
+        let mut names = Vec::new(*self.groups.allocator());
+        for received in kept {
+            add_name(group, &received.message, &mut names)?;
+        }
+        Ok(names)
+    }
+
+    // Names of messages of the view of a group, each marked where it is an ABCAST for which its order has no place.
+    fn marked(
+        &self,
+        group: &GroupRecord,
+        kept: &[Received],
+        names: &[(Proc, u32)],
+    ) -> Result<Vec<((Proc, u32), bool)>, NoMemory>
+        ensures { IfOk result (λ marked. marked.items ≡ map (λ e. (e, is_unplaced (filter (is_kept_of group.now) (messages kept.now)) (whole_kept (log_of self.now.orders group.now.name)) e)) names.now) }
+    {
+        let mut marked = Vec::new(*self.groups.allocator());
+        for name in names {
+            marked.push((*name, self.is_unplaced(group, kept, *name)))?;
+        }
+        Ok(marked)
+    }
+
+    // Whether a kept message of the view of a group is an ABCAST for which its order has no place.
+    fn is_unplaced(&self, group: &GroupRecord, kept: &[Received], name: (Proc, u32)) -> bool
+        ensures { result ≡ is_unplaced (filter (is_kept_of group.now) (messages kept.now)) (whole_kept (log_of self.now.orders group.now.name)) name }
+    {
+        is_abcast_among(group, kept, name) && !self.orders.knows(group.name, name)
+    }
+
+    // Forward: a message that the site wants is received, for which no room is needed.
+    pub(crate) fn forwarded_here(
+        &mut self,
+        place: usize,
+        from: SiteNo,
+        message: &Message,
+        lent: &mut Lent<'_>,
+    ) -> Result<(), NoMemory>
+        requires { place < vec_len self.old.groups }
+        ensures stays { KeepsBeside self.old lent.old self.new lent.new }
+        ensures made { OnOk result (records_in self.new lent.new ≡ on_wanted records (records_in self.old lent.old) place from message.now) }
+        ensures len { OnOk result (vec_len self.new.groups ≡ vec_len self.old.groups) }
+    {
+        if !self.is_from_home(from) || !self.is_wanted_here(place, message, lent) {
+            return Ok(());
+        }
+        self.receive(message.copy()?, lent)?;
+        self.want_no_more(message.id, lent);
+        Ok(())
+    }
+
+    // Whether an Install waits at the group of a place, and a message is wanted, of the view that ends and well formed in it.
+    fn is_wanted_here(&self, place: usize, message: &Message, lent: &Lent<'_>) -> bool
+        requires { place < vec_len self.now.groups }
+        ensures { result ≡ is_wanted_here records (records_in self.now lent.now) place message.now }
+    {
+        let here = &self.record(place).here;
+        let key = message_key(OwedKind::Want, message.id, self.config.home);
+        here.pending().is_some()
+            && lent.shared.timers.is_owed(self.config.domain, &key)
+            && message.id.view == here.number()
+            && self.is_well_formed(here.members(), message)
+    }
+
+    // A message is wanted from the home no more.
+    pub(crate) fn want_no_more(&self, id: Uid, lent: &mut Lent<'_>)
+        ensures back { GivesBack self.now.config.domain lent.old lent.new }
+        ensures made { records_in self.now lent.new ≡ want_no_more records (records_in self.now lent.old) id }
+    {
+        self.pay(&message_key(OwedKind::Want, id, self.config.home), lent);
+    }
+
+    // Installs that wait are completed, or what the site lacks is wanted, by group. Answers whether anything changed.
+    pub(crate) fn go_on_all(&mut self, lent: &mut Lent<'_>) -> Result<bool, NoMemory>
+        ensures stays { KeepsBeside self.old lent.old self.new lent.new }
+        ensures made { OnOk result (records_in self.new lent.new ≡ go_on_all records resting_records (records_in self.old lent.old)) }
+        ensures still { IfOk result (λ changed. changed ≡ false → records_in self.new lent.new ≡ records_in self.old lent.old) }
+    {
+        let mut changed = false;
+        for place in 0..self.groups.len() {
+            let gone_on = self.go_on(place, lent)?;
+            changed = changed | gone_on;
+        }
+        Ok(changed)
+    }
+
+    // The Install that waits at the group of a place, where one does, is completed once each member here has delivered its cut;
+    // until then the site wants what is missing.
+    fn go_on(&mut self, place: usize, lent: &mut Lent<'_>) -> Result<bool, NoMemory>
+        ensures stays { KeepsBeside self.old lent.old self.new lent.new }
+        ensures made { OnOk result (records_in self.new lent.new ≡ go_on records resting_records (records_in self.old lent.old) place) }
+        ensures still { IfOk result (λ changed. changed ≡ false → records_in self.new lent.new ≡ records_in self.old lent.old) }
+    {
+        if place >= self.groups.len() {
+            return Ok(false);
+        }
+        let Some(pending) = self.record(place).here.pending() else {
+            return Ok(false);
+        };
+        if !self.has_cut(place, &pending.cut) {
+            return self.want_missing(place, &pending.cut, lent);
+        }
+        let members = pending.members.copy()?;
+        let request = pending.request;
+        self.complete_pending(place, &members, request, lent)?;
+        Ok(true)
+    }
+
+    // The Install of the next view is completed.
+    fn complete_pending(
+        &mut self,
+        place: usize,
+        members: &Members,
+        request: u32,
+        lent: &mut Lent<'_>,
+    ) -> Result<(), NoMemory>
+        requires placed { place < vec_len self.old.groups }
+        requires below { (record_at self.old.groups.items place).here.number < 4294967295 }
+        ensures stays { KeepsBeside self.old lent.old self.new lent.new }
+        ensures made { OnOk result ((cut : CountList) → records_in self.new lent.new ≡ complete records (records_in self.old lent.old) place (record { members = members.now; request = request; cut = cut })) }
+    {
+        let next = self.record(place).here.number() + 1;
+        self.install_view(false, place, self.config.home, next, members, request, lent)?;
+        Ok(())
+    }
+
+    // Whether each member here has delivered all messages of the view of the group at a place that a cut covers: the last one of
+    // each process.
+    fn has_cut(&self, place: usize, cut: &Counts) -> bool
+        requires { place < vec_len self.now.groups }
+        ensures { result ≡ has_cut_of (records_of self.now no_part no_outs) (record_at self.now.groups.items place) cut.now }
+    {
+        let record = self.record(place);
+        cut.entries()
+            .iter()
+            .all(|last| !self.is_awaited_of(record, last.0, last.1))
+    }
+
+    // Whether some member here has not delivered a message of the view of a group.
+    fn is_awaited_of(&self, group: &GroupRecord, proc: Proc, count: u32) -> bool
+        ensures { result ≡ is_awaited_of (records_of self.now no_part no_outs) group.now (proc, count) }
+    {
+        self.delay.is_awaited(Uid {
+            group: group.name,
+            view: group.here.number(),
+            proc,
+            count,
+        })
+    }
+
+    // Owes Want for what is missing of a cut. Answers whether one of these was not owed.
+    fn want_missing(
+        &self,
+        place: usize,
+        cut: &Counts,
+        lent: &mut Lent<'_>,
+    ) -> Result<bool, NoMemory>
+        requires { place < vec_len self.now.groups }
+        ensures back { GivesBack self.now.config.domain lent.old lent.new }
+        ensures made { OnOk result (records_in self.now lent.new ≡ fold (want_own records place) (records_in self.now lent.old) (missing_of (records_in self.now lent.old) (record_at self.now.groups.items place) cut.now)) }
+        ensures still { IfOk result (λ changed. changed ≡ false → records_in self.now lent.new ≡ records_in self.now lent.old) }
+    {
+        let missing = self.missing(place, cut)?;
+        let changed = self.want_all_missing(place, missing.as_slice(), lent)?;
+        Ok(changed)
+    }
+
+    // Owes Want for messages of the view of the group at a place. Answers whether one of them was not owed.
+    fn want_all_missing(
+        &self,
+        place: usize,
+        missing: &[(Proc, u32)],
+        lent: &mut Lent<'_>,
+    ) -> Result<bool, NoMemory>
+        requires { place < vec_len self.now.groups }
+        ensures back { GivesBack self.now.config.domain lent.old lent.new }
+        ensures made { OnOk result (records_in self.now lent.new ≡ fold (want_own records place) (records_in self.now lent.old) missing.now) }
+        ensures still { IfOk result (λ changed. changed ≡ false → records_in self.now lent.new ≡ records_in self.now lent.old) }
+    {
+        let mut changed = false;
+        for name in missing {
+            let owed = self.want_own(place, *name, lent)?;
+            changed = changed | owed;
+        }
+        Ok(changed)
+    }
+
+    // Owes Want for a message of the view of the group at a place. Answers whether it was not owed.
+    fn want_own(
+        &self,
+        place: usize,
+        name: (Proc, u32),
+        lent: &mut Lent<'_>,
+    ) -> Result<bool, NoMemory>
+        requires { place < vec_len self.now.groups }
+        ensures back { GivesBack self.now.config.domain lent.old lent.new }
+        ensures made { OnOk result (records_in self.now lent.new ≡ want_own records place (records_in self.now lent.old) name) }
+        ensures still { IfOk result (λ changed. changed ≡ false → records_in self.now lent.new ≡ records_in self.now lent.old) }
+    {
+        let record = self.record(place);
+        let id = Uid {
+            group: record.name,
+            view: record.here.number(),
+            proc: name.0,
+            count: name.1,
+        };
+        let key = message_key(OwedKind::Want, id, self.config.home);
+        if lent.shared.timers.is_owed(self.config.domain, &key) {
+            return Ok(false);
+        }
+        self.owe(key, lent)?;
+        Ok(true)
+    }
+
+    // The first messages of a cut that some member here has not delivered, and that were not received. It looks at those alone that
+    // not all have delivered: at most at the kept ones, and at 64 more.
+    fn missing(&self, place: usize, cut: &Counts) -> Result<Vec<(Proc, u32)>, NoMemory>
+        requires { place < vec_len self.now.groups }
+        ensures { IfOk result (λ missing. missing.items ≡ missing_of (records_of self.now no_part no_outs) (record_at self.now.groups.items place) cut.now) }
+    {
+        let record = self.record(place);
+        let mut missing = Vec::new(*self.groups.allocator());
+        for (proc, last) in cut.entries() {
+            self.add_missing(record, *proc, *last, &mut missing)?;
+        }
+        Ok(missing)
+    }
+
+    // Adds the missing ones of a process, up to the last that is given, until there are 64.
+    fn add_missing(
+        &self,
+        group: &GroupRecord,
+        proc: Proc,
+        last: u32,
+        missing: &mut Vec<(Proc, u32)>,
+    ) -> Result<(), NoMemory>
+        requires { length missing.old.items ≤ 64 }
+        ensures { OnOk result (missing.new.items ≡ take MAX_PLACED (missing.old.items ++ filter (λ e. is_awaited_of (records_of self.now no_part no_outs) group.now e && not (is_received_of (records_of self.now no_part no_outs) group.now e)) (first_of (proc, last)))) }
+    {
+        let delivered = self
+            .delay
+            .least_delivered(group.name, group.here.number(), proc);
+        for before in delivered..last {
+            if missing.len() >= MAX_PLACED {
+                return Ok(());
+            }
+            self.add_unless_received(group, proc, before + 1, missing)?;
+        }
+        Ok(())
+    }
+
+    // Adds a message of the view of a group, unless it was received.
+    fn add_unless_received(
+        &self,
+        group: &GroupRecord,
+        proc: Proc,
+        count: u32,
+        missing: &mut Vec<(Proc, u32)>,
+    ) -> Result<(), NoMemory>
+        ensures { OnOk result (missing.new.items ≡ (if is_received_of (records_of self.now no_part no_outs) group.now (proc, count) then missing.old.items else missing.old.items ++ (proc, count) ∷ [])) }
+    {
+        if self.is_received_of(group, proc, count) {
+            return Ok(());
+        }
+        missing.push((proc, count))?;
+        Ok(())
+    }
+
+    // Whether a message of the view of a group was received: of a process that is no member, and of another site, nothing was.
+    fn is_received_of(&self, group: &GroupRecord, proc: Proc, count: u32) -> bool
+        ensures { result ≡ is_received_of (records_of self.now no_part no_outs) group.now (proc, count) }
+    {
+        let id = Uid {
+            group: group.name,
+            view: group.here.number(),
+            proc,
+            count,
+        };
+        (is_named(proc, group.here.members()) || proc.site == self.site)
+            && self.acks.is_received(id)
+    }
+}
+
+// Whether a kept message is of the view of a group.
+fn is_kept_of(group: &GroupRecord, message: &Message) -> bool
+    ensures { result ≡ is_kept_of group.now message.now }
+{
+    message.id.group == group.name && message.id.view == group.here.number()
+}
+
+// Adds the name of a kept message to a set, if it is of the view of a group.
+fn add_name(
+    group: &GroupRecord,
+    message: &Message,
+    names: &mut Vec<(Proc, u32)>,
+) -> Result<(), NoMemory>
+    ensures { OnOk result (names.new.items ≡ (if is_kept_of group.now message.now then with_item entry_cmp (entry_of message.now.id) names.old.items else names.old.items)) }
+{
+    if !is_kept_of(group, message) {
+        return Ok(());
+    }
+    sorted::insert(names, (message.id.proc, message.id.count))?;
+    Ok(())
+}
+
+// Whether one of the kept messages of the view of a group is an ABCAST of this name.
+fn is_abcast_among(group: &GroupRecord, kept: &[Received], name: (Proc, u32)) -> bool
+    ensures { result ≡ list_any (λ r. is_kept_of group.now r.message && (is_atomic (kind_of r.message.body) && entry_eq (entry_of r.message.id) name)) kept.now }
+{
+    kept.iter()
+        .any(|received| is_kept_abcast(group, &received.message, name))
+}
+
+// Whether a kept message is of the view of a group, and an ABCAST of this name.
+fn is_kept_abcast(group: &GroupRecord, message: &Message, name: (Proc, u32)) -> bool
+    ensures { result ≡ (is_kept_of group.now message.now && (is_atomic (kind_of message.now.body) && entry_eq (entry_of message.now.id) name)) }
+{
+    is_kept_of(group, message) && is_abcast(message, name)
+}
+
+// Whether a message is an ABCAST of this name.
+fn is_abcast(message: &Message, name: (Proc, u32)) -> bool
+    ensures { result ≡ (is_atomic (kind_of message.now.body) && entry_eq (entry_of message.now.id) name) }
+{
+    message.kind().is_atomic() && (message.id.proc, message.id.count) == name
+}
+
+// The end of an order, behind so many ids: before it stand no more than there are places.
+fn tail_from(start: usize, ids: Listed<(Proc, u32)>) -> Tail
+    requires { length ids ≤ 512 }
+    ensures { result ≡ record { start = min MAX_POSITION start; ids = ids } }
+{
+    Tail::from_parts(start.min(MAX_POSITION as usize) as u32, ids.into_vec())
+}
