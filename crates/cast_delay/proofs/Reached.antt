@@ -9,7 +9,7 @@ use Rattle.cast_types.specs.declared.names.GroupNo.{GroupNo}
 use Rattle.cast_types.specs.declared.names.Proc.{Proc}
 use Rattle.cast_types.specs.declared.names.Uid.{Uid}
 use Rattle.cast_types.specs.declared.source.Source.{Source}
-use Rattle.cast_types.specs.Sources.{source, source_cmp}
+use Rattle.cast_types.specs.Sources.{source, source_cmp, is_ended, but_ended}
 use Rattle.cast_types.specs.Names.{Entry, group_eq, named}
 use Rattle.cast_types.proofs.Contains.{contains_here, contains_later}
 use Rattle.cast_types.proofs.Orders.{same_group, group_itself, tie_self, tie_same}
@@ -17,7 +17,7 @@ use Rattle.cast_types.proofs.Sources.{source_total, source_exact}
 use Rattle.cast_clock.proofs.Entries.{option_cases}
 use Rattle.cast_delay.specs.declared.gate.Gate.{Gate}
 use Rattle.cast_delay.specs.Ready.{Process, has_delivered}
-use Rattle.cast_delay.specs.Tallies.{Tally, count_at, raised_at, counts_in, is_ended, but_ended}
+use Rattle.cast_delay.specs.Tallies.{Tally, count_at, raised_at, counts_in}
 use Rattle.cast_delay.specs.Fits.{HasNotEnded, Reaches}
 use Rattle.cast_delay.proofs.Finds.{kept_parts}
 use Rattle.cast_delay.proofs.Rows.{count_kept, not_ended}

@@ -1,7 +1,6 @@
 -- The rows of a queue, where the row of one process changes or one is added.
 use Rattle.std.proofs.Common.{◌≡◌, ◌↔◌, ℕ, ◌<◌, ◌≤◌, Bool, true, false, cond, not, ◌&&◌, List, [], ◌∷◌, ◌++◌, map, Option, Some, None, unwrap_or, refl, sym, ap, subst, ◌∙◌, inl, inr, arith}
 use Rattle.std.specs.Prelude.{nat_lt, is_some, if◌then◌else◌}
-use Rattle.std.specs.FinMap.Entries.{find, find-where_key}
 use Rattle.std.specs.Option.{IsSome, option_map}
 use Rattle.std.proofs.lemmas.Bool.{cases_Bool, false≢true, not-false, le-ltb}
 use Rattle.cast_types.specs.declared.names.GroupNo.{GroupNo}
@@ -11,14 +10,14 @@ use Rattle.cast_types.specs.declared.names.Standing.TheVariants.{Outside}
 use Rattle.cast_types.specs.declared.source.Source.{Source}
 use Rattle.cast_types.specs.Names.{group_eq, proc_eq, uid_eq}
 use Rattle.cast_types.specs.Sets.{is_among}
-use Rattle.cast_types.specs.Sources.{source, source_cmp}
+use Rattle.cast_types.specs.Sources.{source, is_ended, but_ended}
 use Rattle.cast_types.proofs.Orders.{same_group, same_proc}
-use Rattle.cast_types.proofs.Sources.{source_exact}
+use Rattle.cast_types.proofs.Sources.{find_but_ended}
 use Rattle.cast_clock.proofs.Entries.{option_cases}
 use Rattle.cast_delay.specs.declared.row.Row.{Row}
 use Rattle.cast_delay.specs.declared.gate.Gate.{Gate}
 use Rattle.cast_delay.specs.Ready.{Process, has_delivered}
-use Rattle.cast_delay.specs.Tallies.{Tally, count_at, is_ended, but_ended}
+use Rattle.cast_delay.specs.Tallies.{Tally, count_at}
 use Rattle.cast_delay.specs.Rows.{ended_row}
 use Rattle.cast_delay.specs.Queue.{new_row, row_of, but_row, change_row}
 use Rattle.cast_delay.specs.Fits.{HasNotEnded, RowFits, StandsFor, HasNotBegun, set_process}
@@ -122,9 +121,7 @@ stands_later gate later rises v (Some row) fits = record {
 -- what is counted of a view that has not ended is counted still
 pub count_kept : (g : GroupNo) (number : ℕ) (s : Source) → is_ended g number s ≡ false → (tally : Tally) → count_at (but_ended g number tally) s ≡ count_at tally s
 count_kept g number s stands tally =
-    ap (λ (o : Option ℕ). unwrap_or o 0)
-    (find-where_key source_cmp (λ x. not (is_ended g number x)) s (λ x tie. ap (λ y. not (is_ended g number y)) (sym (source_exact s x tie))) tally
-    ∙ ap (λ b. cond (not b) (find source_cmp s tally) None) stands)
+    ap (λ (o : Option ℕ). unwrap_or o 0) (find_but_ended g number s stands tally)
 
 -- a source of a view that has not ended
 pub not_ended : (gate : GroupNo → Gate) (g : GroupNo) (number : ℕ) → number ≤ (gate g).number → (u : Uid) → HasNotEnded gate u.group u.view → is_ended g number (source u.group u.view u.proc) ≡ false

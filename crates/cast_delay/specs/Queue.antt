@@ -16,8 +16,8 @@ use Rattle.cast_delay.specs.declared.row.Row.{Row}
 use Rattle.cast_delay.specs.declared.offered.Offered.{Offered}
 use Rattle.cast_delay.specs.declared.gate.Gate.{Gate}
 use Rattle.cast_delay.specs.Ready.{open_gate, is_member}
-use Rattle.cast_types.specs.Sources.{source}
-use Rattle.cast_delay.specs.Tallies.{Tally, raised_at, but_ended}
+use Rattle.cast_types.specs.Sources.{source, but_ended}
+use Rattle.cast_delay.specs.Tallies.{Tally, raised_at}
 use Rattle.cast_delay.specs.Rows.{standing_in, done_in, is_ready_row, has_delivered_in, passed_by, awaits_row, ended_row, delivered_row}
 
 pub record Queue : Type 0 where

@@ -12,8 +12,8 @@ use Rattle.cast_types.specs.Stamps.{ClockList}
 use Rattle.cast_clock.specs.Times.{clock_of, view_of, join, has_room}
 use Rattle.cast_delay.specs.declared.gate.Gate.{Gate}
 use Rattle.cast_delay.specs.Ready.{open_gate, is_open_to, is_member, has_turn, turn_in}
-use Rattle.cast_types.specs.Sources.{source, source_cmp}
-use Rattle.cast_delay.specs.Tallies.{count_at, but_ended}
+use Rattle.cast_types.specs.Sources.{source, source_cmp, but_ended}
+use Rattle.cast_delay.specs.Tallies.{count_at}
 use Rattle.cast_delay.specs.declared.turn.Turn.{Turn}
 use Rattle.cast_delay.specs.declared.offered.Offered.{Offered}
 use Rattle.cast_delay.specs.declared.row.Row.{Row}

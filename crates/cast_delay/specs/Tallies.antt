@@ -1,5 +1,5 @@
 -- How many messages of each source: of each process in each view of a group.
-use Rattle.std.specs.Prelude.{ℕ, max, Bool, not, ◌&&◌, ◌==◌, nat_lt, List, map, filter, unwrap_or}
+use Rattle.std.specs.Prelude.{ℕ, max, ◌&&◌, ◌==◌, List, map, filter, unwrap_or}
 use Rattle.std.specs.FinMap.Entries.{find, put}
 use Rattle.cast_types.specs.declared.names.GroupNo.{GroupNo}
 use Rattle.cast_types.specs.Names.{Entry, group_eq}
@@ -19,11 +19,3 @@ raised_at s count tally = put source_cmp s (max (count_at tally s) count) tally
 -- the counts of one view of a group
 abbrev pub counts_in : GroupNo → ℕ → Tally → List Entry
 counts_in g view tally = map (λ e. (e.0.process, e.1)) (filter (λ e. group_eq e.0.group g && (e.0.view == view)) tally)
-
--- a source whose view of the group has ended, where this is the number of the view that stands
-abbrev pub is_ended : GroupNo → ℕ → Source → Bool
-is_ended g number s = group_eq s.group g && nat_lt s.view number
-
--- the counts of views that have not
-abbrev pub but_ended : GroupNo → ℕ → Tally → Tally
-but_ended g number tally = filter (λ e. not (is_ended g number e.0)) tally

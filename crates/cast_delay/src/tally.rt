@@ -1,7 +1,7 @@
 ghost use Rattle.std.specs.Prelude.{◌≡◌, [], IfOk, OnOk};
 ghost use Rattle.std.specs.FinMap.Entries.{put};
-ghost use Rattle.cast_types.specs.Sources.{source_cmp};
-ghost use Rattle.cast_delay.specs.Tallies.{is_ended, but_ended, count_at, counts_in, raised_at};
+ghost use Rattle.cast_types.specs.Sources.{source_cmp, but_ended};
+ghost use Rattle.cast_delay.specs.Tallies.{count_at, counts_in, raised_at};
 
 use cast_types::{GroupNo, NoMemory, Proc, Source, sorted};
 use std::alloc::Global;
@@ -84,12 +84,5 @@ impl Tally {
 fn end_in(counts: &mut Vec<(Source, u32)>, group: GroupNo, number: u32)
     ensures { counts.new.items ≡ but_ended group number counts.old.items }
 {
-    counts.retain(|entry| !is_ended(group, number, entry.0));
-}
-
-// Whether a source's view of the group has ended, where this is the number of the view that stands.
-fn is_ended(group: GroupNo, number: u32, source: Source) -> bool
-    ensures { result ≡ is_ended group number source }
-{
-    source.group == group && source.view < number
+    counts.retain(|entry| !entry.0.is_ended(group, number));
 }

@@ -1,13 +1,14 @@
 -- What a history says of receipts, as a group of it changes.
-use Rattle.std.proofs.Common.{◌≡◌, ◌<◌, true, false, ◌&&◌, ◌||◌, List, refl, sym, ap, subst, ◌∙◌, inl, inr, arith}
+use Rattle.std.proofs.Common.{◌≡◌, ◌<◌, ◌≤◌, true, false, ◌&&◌, ◌||◌, List, refl, sym, ap, subst, ◌∙◌, inl, inr, arith}
 use Rattle.std.specs.Prelude.{◌==◌, nat_lt, if◌then◌else◌}
-use Rattle.std.proofs.lemmas.Bool.{cases_Bool, and_parts, and_from, or_cases, or_left, or_right, eqb-true, eq-eqb, ltb-true, lt-ltb}
+use Rattle.std.proofs.lemmas.Bool.{cases_Bool, and_parts, and_from, or_cases, or_left, or_right, eqb-true, eq-eqb, ltb-true, lt-ltb, false_from_ne_true}
 use Rattle.cast_types.specs.declared.names.SiteNo.{SiteNo}
 use Rattle.cast_types.specs.declared.names.GroupNo.{GroupNo}
 use Rattle.cast_types.specs.declared.source.Source.{Source}
 use Rattle.cast_types.specs.Names.{site_eq, group_eq, proc_eq}
 use Rattle.cast_types.specs.Sets.{is_among, set_at}
-use Rattle.cast_types.proofs.Orders.{same_group}
+use Rattle.cast_types.specs.Sources.{is_ended}
+use Rattle.cast_types.proofs.Orders.{same_group, group_itself}
 use Rattle.cast_view.specs.MemberSide.{MemberSide, no_group, members_of}
 use Rattle.cast_view.specs.Sites.{other_sites}
 use Rattle.cast_history.specs.State.{State, set_group, others_of, may_speak}
@@ -58,16 +59,34 @@ past_same s g v number view =
           || ((sym (numbers x.group) i == x.view) && (is_among proc_eq x.process (members_of (record no_group { view = sym (views x.group) i })) || site_eq x.process.site s.here));
     }
 
+-- a source of a group that is live in a view of it is of that view or a later one
+reached : (s : State) (g : GroupNo) (v : MemberSide) (x : Source) → group_eq g x.group ≡ true → is_live (set_group s g v) x ≡ true → v.number ≤ x.view
+reached s g v x here live =
+    let now : (nat_lt v.number x.view || ((v.number == x.view) && may_speak (set_group s g v) x.group x.process)) ≡ true = subst (λ b. (nat_lt (if b then v else s.group x.group).number x.view || (((if b then v else s.group x.group).number == x.view) && may_speak (set_group s g v) x.group x.process)) ≡ true) here live in
+    elim (or_cases (nat_lt v.number x.view) ((v.number == x.view) && may_speak (set_group s g v) x.group x.process) now) [
+      | inl later ↦ let up = ltb-true v.number x.view later in omega (arith, up)
+      | inr this ↦ let same = eqb-true v.number x.view (and_parts (v.number == x.view) (may_speak (set_group s g v) x.group x.process) this).0 in omega (arith, same)
+    ]
+
 -- a source that is live in a later view of a group was live before
-pub was_live : (s : State) (g : GroupNo) (v : MemberSide) → (s.group g).number < v.number → (x : Source) → is_live (set_group s g v) x ≡ true → is_live s x ≡ true
-was_live s g v newer x = elim (cases_Bool (group_eq g x.group)) [
-  | inl here ↦ λ live.
+was_live : (s : State) (g : GroupNo) (v : MemberSide) → (s.group g).number < v.number → (x : Source) → is_live (set_group s g v) x ≡ true → is_live s x ≡ true
+was_live s g v newer x live = elim (cases_Bool (group_eq g x.group)) [
+  | inl here ↦
       let before : (s.group x.group).number < v.number = subst (λ h. (s.group h).number < v.number) (same_group g x.group here) newer in
-      let now : (nat_lt v.number x.view || ((v.number == x.view) && may_speak (set_group s g v) x.group x.process)) ≡ true = subst (λ b. (nat_lt (if b then v else s.group x.group).number x.view || (((if b then v else s.group x.group).number == x.view) && may_speak (set_group s g v) x.group x.process)) ≡ true) here live in
+      let up = reached s g v x here live in
       or_left (nat_lt (s.group x.group).number x.view) (((s.group x.group).number == x.view) && may_speak s x.group x.process)
-      (elim (or_cases (nat_lt v.number x.view) ((v.number == x.view) && may_speak (set_group s g v) x.group x.process) now) [
-        | inl later ↦ let up = ltb-true v.number x.view later in lt-ltb (s.group x.group).number x.view (omega (arith, before, up))
-        | inr this ↦ let same = eqb-true v.number x.view (and_parts (v.number == x.view) (may_speak (set_group s g v) x.group x.process) this).0 in lt-ltb (s.group x.group).number x.view (omega (arith, before, same))
-      ])
-  | inr other ↦ λ live. subst (λ b. (nat_lt (if b then v else s.group x.group).number x.view || (((if b then v else s.group x.group).number == x.view) && (is_among proc_eq x.process (members_of (if b then v else s.group x.group)) || site_eq x.process.site s.here))) ≡ true) other live
+      (lt-ltb (s.group x.group).number x.view (omega (arith, before, up)))
+  | inr other ↦ subst (λ b. (nat_lt (if b then v else s.group x.group).number x.view || (((if b then v else s.group x.group).number == x.view) && (is_among proc_eq x.process (members_of (if b then v else s.group x.group)) || site_eq x.process.site s.here))) ≡ true) other live
 ]
+
+-- and it is of no view before that one
+pub live_and_stands : (s : State) (g : GroupNo) (v : MemberSide) → (s.group g).number < v.number → (x : Source) → is_live (set_group s g v) x ≡ true → (is_live s x ≡ true) × (is_ended g v.number x ≡ false)
+live_and_stands s g v newer x live = (
+  was_live s g v newer x live,
+  false_from_ne_true (is_ended g v.number x) (λ over.
+      let parts = and_parts (group_eq x.group g) (nat_lt x.view v.number) over in
+      let here : group_eq g x.group ≡ true = ap (λ h. group_eq g h) (same_group x.group g parts.0) ∙ group_itself g in
+      let below = ltb-true x.view v.number parts.1 in
+      let up = reached s g v x here live in
+      absurd (omega (arith, below, up))),
+)

@@ -62,7 +62,7 @@ use Rattle.cast_domain.specs.Records.{Records}
 use Rattle.cast_domain.specs.Calls.{place_among, local_in, place_in, no_record, record_at, standing_of, time_of, send_in, change_session_in, push_in, close_in, go_in, tell_in, open_in, learn_in, receive_in, view_in}
 use Rattle.cast_history.specs.Lawful.{IsLawful}
 use Rattle.cast_domain.specs.Fits.{process_named, record_for, session_in, is_live, past_of, LogFits, Fits, goes_on, has_passed}
-use Rattle.cast_domain.proofs.Receipts.{group_same, others_told, past_same, was_live}
+use Rattle.cast_domain.proofs.Receipts.{group_same, others_told, past_same, live_and_stands}
 use Rattle.cast_domain.proofs.Rows.{row_given}
 use Rattle.cast_domain.proofs.Logs.{log_alike, settled_same, logs_receive, logs_view, log_starts}
 use Rattle.cast_history.proofs.Rules.Follows.{choose}
@@ -418,9 +418,9 @@ fits_view r s fits lawful i g at n members newer = record {
   };
   acks = subst (λ others. AcksFits (record (past_of (set_group s g (with_view s.here n members (s.group g)))) { others = others }) (view_in r i n members).acks) (others_told s g (with_view s.here n members (s.group g)))
       (subst (λ l. AcksFits (record (past_of (set_group s g (with_view s.here n members (s.group g)))) { others = set_at group_eq (others_of s) g (other_sites s.here (members_of (with_view s.here n members (s.group g)))) }) l)
-      (λ j. told_ledger r.acks (sym (record_there r s fits i g at) j).name (other_sites ((sym fits.core j).site) (members_of (with_view ((sym fits.core j).site) n members (sym (record_there r s fits i g at) j).here))))
-      (acks_tell_fits (past_of s) r.acks fits.acks g (other_sites s.here (members_of (with_view s.here n members (s.group g))))
-      (is_live (set_group s g (with_view s.here n members (s.group g)))) (was_live s g (with_view s.here n members (s.group g)) newer)));
+      (λ j. told_ledger r.acks (sym (record_there r s fits i g at) j).name n (other_sites ((sym fits.core j).site) (members_of (with_view ((sym fits.core j).site) n members (sym (record_there r s fits i g at) j).here))))
+      (acks_tell_fits (past_of s) r.acks fits.acks g n (other_sites s.here (members_of (with_view s.here n members (s.group g))))
+      (is_live (set_group s g (with_view s.here n members (s.group g)))) (live_and_stands s g (with_view s.here n members (s.group g)) newer)));
   orders = subst (λ h. (x : GroupNo) → LogFits (set_group s g (with_view s.here n members (s.group g))) x (log_of (but_log h r.orders) x))
       (sym (ap (λ (x : GroupRecord). x.name) (record_there r s fits i g at)))
       (logs_view s g n members r.orders lawful.traced newer fits.orders);

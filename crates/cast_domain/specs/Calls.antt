@@ -225,7 +225,7 @@ view_in r i n members =
     record r {
       groups = update r.groups i (λ x. record x { here = with_view r.site n members x.here });
       delay = queue_viewing (record_at r.groups i).name n r.delay;
-      acks = told_ledger r.acks (record_at r.groups i).name (other_sites r.site (members_of (with_view r.site n members (record_at r.groups i).here)));
+      acks = told_ledger r.acks (record_at r.groups i).name n (other_sites r.site (members_of (with_view r.site n members (record_at r.groups i).here)));
       orders = but_log (record_at r.groups i).name r.orders;
     }
 

@@ -325,7 +325,7 @@ impl Domain {
         self.delay.view_changed(group, view)?;
         let alloc = *self.groups.allocator();
         let others = other_sites(alloc, self.site, self.record(place).here.members())?;
-        self.acks.tell(group, others)?;
+        self.acks.tell(group, view, others)?;
         self.orders.forget(group);
         Ok(())
     }

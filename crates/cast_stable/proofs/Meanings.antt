@@ -1,10 +1,11 @@
 -- The ledger means what it tells of, and keeps that meaning.
-use Rattle.std.proofs.Common.{◌≡◌, ℕ, ◌+◌, ◌<◌, ◌≤◌, max, Bool, true, false, ◌&&◌, ◌||◌, List, [], ◌∷◌, ◌++◌, map, Contains, refl, sym, ap, subst, ◌∙◌, inl, inr, arith}
+use Rattle.std.proofs.Common.{◌≡◌, ℕ, ◌+◌, ◌<◌, ◌≤◌, max, Bool, true, false, ◌&&◌, ◌||◌, cond, None, unwrap_or, List, [], ◌∷◌, ◌++◌, map, Contains, refl, sym, ap, subst, ◌∙◌, inl, inr, arith}
 use Rattle.std.specs.Prelude.{if◌then◌else◌, not, ◌≢◌, ◌==◌, min, nat_lt, nat_le}
 use Rattle.std.specs.List.{list_any, fold}
+use Rattle.std.specs.FinMap.Entries.{find}
 use Rattle.std.proofs.Math.Bool.{or_comm}
 use Rattle.std.proofs.Math.Nat.{le-max_left, le-max_right}
-use Rattle.std.proofs.lemmas.Bool.{and_parts, and_from, or_cases, or_left, or_right, cases_lt, lt-ltb, le-leb, lt-leb, leb-true, eq-eqb, eqb-true, false_from_ne_true}
+use Rattle.std.proofs.lemmas.Bool.{and_parts, and_from, or_cases, or_left, or_right, cases_Bool, cases_lt, lt-ltb, le-leb, lt-leb, leb-true, eq-eqb, eqb-true, false_from_ne_true}
 use Rattle.std.proofs.lemmas.List.Folds.{list_any-append}
 use Rattle.cast_types.specs.declared.names.SiteNo.{SiteNo}
 use Rattle.cast_types.specs.declared.names.GroupNo.{GroupNo}
@@ -12,17 +13,17 @@ use Rattle.cast_types.specs.declared.names.Uid.{Uid}
 use Rattle.cast_types.specs.declared.source.Source.{Source}
 use Rattle.cast_types.specs.Names.{site_eq, group_eq, proc_eq, uid_eq, named}
 use Rattle.cast_types.specs.Sets.{is_among, set_at}
-use Rattle.cast_types.specs.Sources.{source}
+use Rattle.cast_types.specs.Sources.{source, is_ended}
 use Rattle.cast_types.proofs.Orders.{group_total, group_exact, same_site, same_group, same_proc, same_uid, site_itself, group_itself, proc_itself}
-use Rattle.cast_types.proofs.Sources.{source_total, source_exact}
+use Rattle.cast_types.proofs.Sources.{source_total, source_exact, find_but_ended}
 use Rattle.cast_stable.specs.declared.witness.Witness.{Witness}
 use Rattle.cast_stable.specs.Runs.{no_counts, is_run, contains, inserted}
-use Rattle.cast_stable.specs.Witnesses.{witness}
+use Rattle.cast_stable.specs.Witnesses.{witness_cmp, witness}
 use Rattle.cast_stable.specs.Stable.{Acked, has_acked, stable_upto, was_told, is_known_stable}
 use Rattle.cast_stable.specs.Ledger.{Ledger, source_of, others_in, received_run, acked_run, told_count, is_received_in, has_acked_in, least_acked, upto_in, is_stable_among, is_stable_in, new_ledger, told_ledger, received_ledger, acked_ledger, learnt_ledger}
 use Rattle.cast_stable.specs.Fits.{Past, Fits}
 use Rattle.cast_stable.proofs.Runs.{and_false, eqb_sym, next_apart, inserted_is, contains_inserted}
-use Rattle.cast_stable.proofs.Witnesses.{witness_total, witness_exact, key_cases, put_here, put_elsewhere}
+use Rattle.cast_stable.proofs.Witnesses.{witness_total, witness_exact, key_cases, find_acked, put_here, put_elsewhere}
 use Rattle.cast_stable.proofs.Lists.{contains_cases, least_first, least_each, least_reached}
 use Rattle.cast_types.proofs.Contains.{contains_here, contains_later}
 use Rattle.cast_stable.proofs.Greatest.{stable_greatest, one_greatest}
@@ -87,18 +88,33 @@ new_fits here is_live = record {
 }
 
 module _ (past : Past) (l : Ledger) (fits : Fits past l) where
-  -- a group's new view, in which no more sources are live
-  pub tell_fits : (g : GroupNo) (sites : List SiteNo) (is_live : Source → Bool) → ((x : Source) → is_live x ≡ true → past.is_live x ≡ true) → Fits (record past { others = set_at group_eq past.others g sites; is_live = is_live }) (told_ledger l g sites)
-  tell_fits g sites is_live was = record {
+  -- a group's new view, in which no more sources are live, and none of the views before it
+  pub tell_fits : (g : GroupNo) (number : ℕ) (sites : List SiteNo) (is_live : Source → Bool) → ((x : Source) → is_live x ≡ true → (past.is_live x ≡ true) × (is_ended g number x ≡ false)) → Fits (record past { others = set_at group_eq past.others g sites; is_live = is_live }) (told_ledger l g number sites)
+  tell_fits g number sites is_live was = record {
     site = fits.site;
     views = views_now;
-    receipts = λ u live. fits.receipts u (was (source_of u) live);
-    acked = λ from u live. fits.acked from u (was (source_of u) live);
-    runs = fits.runs;
-    learnt = λ u live. fits.learnt u (was (source_of u) live);
+    receipts = λ u live positive.
+        ap (λ o. contains (unwrap_or o no_counts) u.count) (find_but_ended g number (source_of u) (was (source_of u) live).1 l.received)
+        ∙ fits.receipts u (was (source_of u) live).0 positive;
+    acked = λ from u live positive.
+        ap (λ o. contains (unwrap_or o no_counts) u.count)
+        (find_acked g number (source_of u) from l.acked ∙ ap (λ b. cond (not b) (find witness_cmp (witness (source_of u) from) l.acked) None) (was (source_of u) live).1)
+        ∙ fits.acked from u (was (source_of u) live).0 positive;
+    runs = runs_now;
+    learnt = λ u live positive.
+        ap (λ o. nat_le u.count (unwrap_or o 0)) (find_but_ended g number (source_of u) (was (source_of u) live).1 l.told)
+        ∙ fits.learnt u (was (source_of u) live).0 positive;
   }
     where
-      views_now : (h : GroupNo) → others_in (told_ledger l g sites) h ≡ set_at group_eq past.others g sites h
+      runs_now : (s : Source) (from : SiteNo) → is_run (acked_run (told_ledger l g number sites) s from) ≡ true
+      runs_now s from = elim (cases_Bool (is_ended g number s)) [
+        | inl over ↦ ap (λ o. is_run (unwrap_or o no_counts)) (find_acked g number s from l.acked ∙ ap (λ b. cond (not b) (find witness_cmp (witness s from) l.acked) None) over)
+        | inr stands ↦
+            ap (λ o. is_run (unwrap_or o no_counts)) (find_acked g number s from l.acked ∙ ap (λ b. cond (not b) (find witness_cmp (witness s from) l.acked) None) stands)
+            ∙ fits.runs s from
+      ]
+
+      views_now : (h : GroupNo) → others_in (told_ledger l g number sites) h ≡ set_at group_eq past.others g sites h
       views_now h = elim (key_cases group_total group_exact h g) [
         | inl same ↦
             let is : group_eq g h ≡ true = ap (λ k. group_eq g k) same ∙ group_itself g in

@@ -1,11 +1,12 @@
 -- The ledger keeps its meaning: what changes it changes what it means in the same way; and what it means.
-use Rattle.std.specs.Prelude.{◌≡◌, ◌≢◌, ◌<◌, Bool, true, List, [], ◌∷◌, ◌++◌}
+use Rattle.std.specs.Prelude.{◌≡◌, ◌≢◌, ◌<◌, ℕ, Bool, true, false, List, [], ◌∷◌, ◌++◌}
 use Rattle.cast_types.specs.declared.names.SiteNo.{SiteNo}
 use Rattle.cast_types.specs.declared.names.GroupNo.{GroupNo}
 use Rattle.cast_types.specs.declared.names.Uid.{Uid}
 use Rattle.cast_types.specs.declared.source.Source.{Source}
 use Rattle.cast_types.specs.Names.{group_eq}
 use Rattle.cast_types.specs.Sets.{set_at}
+use Rattle.cast_types.specs.Sources.{is_ended}
 use Rattle.cast_stable.specs.Ledger.{Ledger, source_of, upto_in, is_stable_in, new_ledger, told_ledger, received_ledger, acked_ledger, learnt_ledger}
 use Rattle.cast_stable.specs.Fits.{Past, upto_by, is_stable_by, Fits}
 
@@ -15,12 +16,12 @@ NewFits =
     (here : SiteNo) (is_live : Source → Bool)
     → Fits (record { here = here; others = λ _. []; is_live = is_live; received = []; acks = []; told = [] }) (new_ledger here)
 
--- a group has a new view, and no more sources are live
+-- a group has a new view of this number; no more sources are live, and none of the views before it
 abbrev pub TellKeepsMeaning : Type 0
 TellKeepsMeaning =
-    (past : Past) (l : Ledger) → Fits past l → (g : GroupNo) (sites : List SiteNo) (is_live : Source → Bool)
-    → ((x : Source) → is_live x ≡ true → past.is_live x ≡ true)
-    → Fits (record past { others = set_at group_eq past.others g sites; is_live = is_live }) (told_ledger l g sites)
+    (past : Past) (l : Ledger) → Fits past l → (g : GroupNo) (number : ℕ) (sites : List SiteNo) (is_live : Source → Bool)
+    → ((x : Source) → is_live x ≡ true → (past.is_live x ≡ true) × (is_ended g number x ≡ false))
+    → Fits (record past { others = set_at group_eq past.others g sites; is_live = is_live }) (told_ledger l g number sites)
 
 abbrev pub ReceiveKeepsMeaning : Type 0
 ReceiveKeepsMeaning =

@@ -1,5 +1,5 @@
 -- What a site keeps of receipts, as contracts see it, and what each call does to it.
-use Rattle.std.specs.Prelude.{ℕ, Bool, true, nat_le, max, min, if◌then◌else◌, List, [], ◌∷◌, map, unwrap_or}
+use Rattle.std.specs.Prelude.{ℕ, Bool, true, not, nat_le, max, min, if◌then◌else◌, List, [], ◌∷◌, map, filter, unwrap_or}
 use Rattle.std.specs.List.{reduce}
 use Rattle.std.specs.FinMap.Entries.{find, put}
 use Rattle.cast_types.specs.declared.names.SiteNo.{SiteNo}
@@ -7,7 +7,7 @@ use Rattle.cast_types.specs.declared.names.GroupNo.{GroupNo}
 use Rattle.cast_types.specs.declared.names.Uid.{Uid}
 use Rattle.cast_types.specs.declared.source.Source.{Source}
 use Rattle.cast_types.specs.Names.{group_cmp, site_eq}
-use Rattle.cast_types.specs.Sources.{source_cmp, source}
+use Rattle.cast_types.specs.Sources.{source_cmp, source, is_ended, but_ended}
 use Rattle.cast_stable.specs.declared.witness.Witness.{Witness}
 use Rattle.cast_stable.specs.Runs.{Run, no_counts, contains, greatest, inserted}
 use Rattle.cast_stable.specs.Witnesses.{witness_cmp, witness}
@@ -70,8 +70,19 @@ is_stable_in l u = is_stable_among l (others_in l u.group) u
 abbrev pub new_ledger : SiteNo → Ledger
 new_ledger here = record { here = here; others = []; received = []; acked = []; told = [] }
 
-abbrev pub told_ledger : Ledger → GroupNo → List SiteNo → Ledger
-told_ledger l g sites = record l { others = put group_cmp g sites l.others }
+-- what sites acknowledged of sources whose views of the group have not ended
+abbrev pub acked_but_ended : GroupNo → ℕ → List (Witness × Run) → List (Witness × Run)
+acked_but_ended g number es = filter (λ e. not (is_ended g number e.0.source)) es
+
+-- the other sites of a group's view of this number; of the views before it nothing is kept
+abbrev pub told_ledger : Ledger → GroupNo → ℕ → List SiteNo → Ledger
+told_ledger l g number sites =
+    record l {
+      others = put group_cmp g sites l.others;
+      received = but_ended g number l.received;
+      acked = acked_but_ended g number l.acked;
+      told = but_ended g number l.told;
+    }
 
 abbrev pub received_ledger : Ledger → Uid → Ledger
 received_ledger l u =

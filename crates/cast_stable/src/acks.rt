@@ -3,11 +3,11 @@ ghost use Rattle.std.specs.List.{reduce};
 ghost use Rattle.std.specs.Option.{option_copied};
 ghost use Rattle.cast_types.specs.Names.{uid_eq};
 ghost use Rattle.cast_types.specs.Sets.{is_among};
-ghost use Rattle.cast_types.specs.Sources.{source};
+ghost use Rattle.cast_types.specs.Sources.{source, but_ended};
 ghost use Rattle.cast_stable.specs.Stable.{has_acked, stable_upto};
 ghost use Rattle.cast_stable.specs.Fits.{Past, upto_by, is_stable_by, Fits, SaysLast};
 ghost use Rattle.cast_stable.specs.Runs.{no_counts, contains, inserted};
-ghost use Rattle.cast_stable.specs.Ledger.{new_ledger, source_of, others_in, acked_run, told_count, told_ledger, received_ledger, acked_ledger, learnt_ledger, is_received_in, last_received_in, has_acked_in, upto_in, is_stable_in};
+ghost use Rattle.cast_stable.specs.Ledger.{new_ledger, source_of, others_in, acked_run, acked_but_ended, told_count, told_ledger, received_ledger, acked_ledger, learnt_ledger, is_received_in, last_received_in, has_acked_in, upto_in, is_stable_in};
 
 use crate::counted::Counted;
 use crate::witness::Witness;
@@ -51,12 +51,21 @@ impl Acks {
         }
     }
 
-    /// Takes in the other sites of a group's new view. `NoMemory` changes nothing.
-    pub fn tell(&mut self, group: GroupNo, others: Listed<SiteNo>) -> Result<(), NoMemory>
-        ensures ok { OnOk result (self.new ≡ told_ledger self.old group others) }
+    /// Takes in the other sites of a group's new view, of this number. What was received, acknowledged and told of the
+    /// views before it is forgotten. `NoMemory` changes nothing.
+    pub fn tell(
+        &mut self,
+        group: GroupNo,
+        number: u32,
+        others: Listed<SiteNo>,
+    ) -> Result<(), NoMemory>
+        ensures ok { OnOk result (self.new ≡ told_ledger self.old group number others) }
         ensures err { OnErr result (self.new ≡ self.old) }
     {
         self.others.put(group, others)?;
+        end_in(&mut self.received, group, number);
+        end_acked_in(&mut self.acked, group, number);
+        end_in(&mut self.told, group, number);
         Ok(())
     }
 
@@ -206,6 +215,20 @@ impl Acks {
             None => 0,
         }
     }
+}
+
+// Keeps what is of other groups, or of views from this number on.
+fn end_in<V: Drop>(entries: &mut Keyed<Source, V>, group: GroupNo, number: u32)
+    ensures { entries.new ≡ but_ended group number entries.old }
+{
+    entries.retain(|entry| !entry.0.is_ended(group, number));
+}
+
+// Keeps what sites acknowledged of other groups, or of views from this number on.
+fn end_acked_in(entries: &mut Keyed<Witness, Counted>, group: GroupNo, number: u32)
+    ensures { entries.new ≡ acked_but_ended group number entries.old }
+{
+    entries.retain(|entry| !entry.0.source.is_ended(group, number));
 }
 
 // The process of a message in its view.

@@ -8,7 +8,7 @@
 //! of what was received and acknowledged, by all that the records were ever told of live sources (`Fits`), those of which
 //! somebody may still ask; each call does to the records what it does to that (`laws`). An acknowledgement counts for its
 //! own view alone. Counts that came without a gap take no memory, and no answer takes any. A call that is refused memory
-//! changes nothing. Records of an old view stay, though nobody may count on it.
+//! changes nothing. Once a group has its next view, nothing is kept of those before it.
 //!
 //! The definitions are in `specs/`: `Stable` has the rule over acknowledgements as a test and in words, `Runs` sets of
 //! counts, `Ledger` what a site keeps and does, exactly, `Witnesses` its keys, `Fits` when that tells of given views,

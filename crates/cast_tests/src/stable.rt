@@ -100,7 +100,7 @@ fn shows(acks: &Acks, step: Step) -> bool {
 // Does a step, and tells whether the records are as it says.
 fn does(alloc: Global, acks: &mut Acks, step: Step) -> Result<bool, NoMemory> {
     let done = match step {
-        Step::Shares => acks.tell(GROUP, others(alloc)?),
+        Step::Shares => acks.tell(GROUP, 1, others(alloc)?),
         Step::Acks(site, name) => acks.ack(site, id(name)),
         Step::Receives(name) => acks.receive(id(name)),
         Step::Learns(name) => acks.learn_stable(id(name)),

@@ -1,4 +1,6 @@
 ghost use Rattle.std.specs.Prelude.{◌≡◌, [], OnOk, OnErr};
+ghost use Rattle.std.specs.Fn.{CalledAt};
+ghost use Rattle.std.specs.List.Retain.{IsFiltered};
 ghost use Rattle.std.specs.Option.{option_copied};
 ghost use Rattle.std.specs.FinMap.Entries.{find, put};
 
@@ -58,5 +60,13 @@ impl<K: Ord + Drop, V: Drop> Keyed<K, V> {
     {
         sorted::put(&mut self.entries, key, value)?;
         Ok(())
+    }
+
+    /// Keeps the entries at which `keeps` answers `true`. Takes no memory.
+    pub fn retain<F: FnMut(&(K, V)) -> bool>(&mut self, keeps: F)
+        requires { F.IsAlwaysCallable keeps }
+        ensures { IsFiltered (CalledAt F.FnMut) keeps self.old self.new }
+    {
+        self.entries.retain(keeps);
     }
 }

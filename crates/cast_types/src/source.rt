@@ -1,3 +1,6 @@
+ghost use Rattle.std.specs.Prelude.{◌≡◌};
+ghost use Rattle.cast_types.specs.Sources.{is_ended};
+
 use crate::names::{GroupNo, Proc};
 
 /// Where messages come from: a process in a view of a group.
@@ -6,4 +9,13 @@ pub struct Source {
     pub group: GroupNo,
     pub view: u32,
     pub process: Proc,
+}
+
+impl Source {
+    /// Whether it is of a view of the group that has ended, where this is the number of the view that stands.
+    pub fn is_ended(self, group: GroupNo, number: u32) -> bool
+        ensures { result ≡ is_ended group number self }
+    {
+        self.group == group && self.view < number
+    }
 }

@@ -31,6 +31,6 @@ returns-clause-made c o part =
     ∙ (λ j. record r {
       groups = update r.groups i (λ x. record x { here = with_view r.site n members x.here });
       delay = queue_viewing (name j) n r.delay;
-      acks = told_ledger r.acks (name j) (others j);
+      acks = told_ledger r.acks (name j) n (others j);
       orders = but_log (name j) r.orders;
     })
