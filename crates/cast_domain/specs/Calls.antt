@@ -48,7 +48,7 @@ use Rattle.cast_message.specs.Receipts.{key_eq, messages, message_under}
 use Rattle.cast_domain.specs.declared.record.GroupRecord.{GroupRecord}
 use Rattle.cast_model.specs.Session.{first_session, told as told_session, is_open, is_gone, closed, gone}
 use Rattle.cast_view.specs.declared.member.Pending.{Pending}
-use Rattle.cast_view.specs.MemberSide.{MemberSide, no_group, members_of, holder_of, is_process, is_current, with_request, with_answer, frozen_side, report_of, with_pending, with_view, is_taken_in}
+use Rattle.cast_view.specs.MemberSide.{MemberSide, no_group, members_of, holder_of, is_process, is_current, is_open_to, with_request, with_answer, frozen_side, report_of, with_pending, with_view, is_taken_in}
 use Rattle.cast_model.specs.declared.session.Session.{Session}
 use Rattle.cast_view.specs.Sites.{is_at, other_sites}
 use Rattle.cast_view.specs.Home.{HomeMove, first_home, is_empty, moved}
@@ -310,7 +310,7 @@ missing_of r x cut = take MAX_PLACED (filter (λ e. is_awaited_of r x e && not (
 -- a message is of the view that its group has here, which no flush has frozen
 abbrev pub is_open_in : Records → Uid → Bool
 is_open_in r u =
-    option_map_or (λ i. is_current (record_at r.groups i).here u.view && not (record_at r.groups i).here.frozen) (place_in r u.group) false
+    option_map_or (λ i. is_open_to (record_at r.groups i).here u.view) (place_in r u.group) false
 
 -- Messages that are let go
 

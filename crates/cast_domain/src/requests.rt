@@ -81,22 +81,22 @@ impl Domain {
         ensures made { OnOk result (records_in self.new lent.new ≡ requested records (records_in self.old lent.old) serial request.now) }
     {
         match request {
-            Request::Join { tag, group } => {
+            Request::Join { group, .. } => {
                 let refusal = self.join(serial, *group, lent)?;
-                self.push(serial, Push::Reply { tag: *tag, refusal })
+                self.push(serial, request.reply(refusal))
             }
-            Request::Leave { tag, group } => {
+            Request::Leave { group, .. } => {
                 let refusal = self.leave(serial, *group, lent)?;
-                self.push(serial, Push::Reply { tag: *tag, refusal })
+                self.push(serial, request.reply(refusal))
             }
             Request::Cast {
-                tag,
                 group,
                 kind,
                 payload,
+                ..
             } => {
                 let refusal = self.cast(serial, *group, *kind, payload, lent)?;
-                self.push(serial, Push::Reply { tag: *tag, refusal })
+                self.push(serial, request.reply(refusal))
             }
         }
     }

@@ -170,10 +170,7 @@ impl Domain {
         ensures { result ≡ is_open_in (records_of self.now no_part no_outs) id }
     {
         match self.place_of(id.group) {
-            Some(place) => {
-                let here = &self.record(place).here;
-                here.is_current(id.view) && !here.is_frozen()
-            }
+            Some(place) => self.record(place).here.is_open(id.view),
             None => false,
         }
     }

@@ -5,7 +5,7 @@ use Rattle.cast_types.specs.declared.names.GroupNo.{GroupNo}
 use Rattle.cast_message.specs.Sequence.{Sequence}
 use Rattle.cast_order.specs.Order.{ids_to_list, place_after}
 use Rattle.cast_view.specs.Home.{is_empty}
-use Rattle.cast_view.specs.MemberSide.{is_current}
+use Rattle.cast_view.specs.MemberSide.{is_open_to}
 use Rattle.cast_history.specs.State.{State, serials, is_delivered, with_delivery, releasing}
 use Rattle.cast_history.specs.Order.{order_of, unlisted, has_place}
 use Rattle.cast_history.specs.Turns.{is_ready_for}
@@ -26,7 +26,7 @@ resting = record {
   serials = serials;
   turns = λ s. length s.got;
   next_ready = λ s k. find (is_ready_for s k) s.got;
-  is_open = λ s u. is_current (s.group u.group) u.view && not (s.group u.group).frozen;
+  is_open = λ s u. is_open_to (s.group u.group) u.view;
   is_delivered = is_delivered;
   has_cut = has_delivered_cut;
   missing = missing_in;

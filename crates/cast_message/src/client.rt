@@ -49,6 +49,7 @@ pub enum Request {
 
 impl Request {
     ghost use Rattle.cast_message.specs.Fitting.{request_fits};
+    ghost use Rattle.cast_message.specs.Replies.{reply_to, tag_of};
 
     /// Whether the request fits a frame: the payload of a cast has at most 19,988 bytes.
     pub fn fits(&self) -> bool
@@ -58,6 +59,25 @@ impl Request {
             Request::Join { .. } | Request::Leave { .. } => true,
             Request::Cast { payload, .. } => payload.len() <= MAX_CAST,
         }
+    }
+
+    /// The number that the reply bears, any.
+    pub fn tag(&self) -> u32
+        ensures { result ≡ tag_of self.now }
+    {
+        match self {
+            Request::Join { tag, .. } | Request::Leave { tag, .. } | Request::Cast { tag, .. } => {
+                *tag
+            }
+        }
+    }
+
+    /// The reply: the request is done, or refused for this reason.
+    pub fn reply(&self, refusal: Option<Refusal>) -> Push
+        ensures { result ≡ reply_to self.now refusal }
+    {
+        let tag = self.tag();
+        Push::Reply { tag, refusal }
     }
 }
 

@@ -58,6 +58,10 @@ has_view g = elim g.view [ Some m ↦ true | None ↦ false ]
 abbrev pub is_current : MemberSide → ℕ → Bool
 is_current g view = has_view g && (g.number == view)
 
+-- and no flush has frozen it
+abbrev pub is_open_to : MemberSide → ℕ → Bool
+is_open_to g view = is_current g view && not g.frozen
+
 abbrev pub is_pending : MemberSide → Bool
 is_pending g = elim g.pending [ Some p ↦ true | None ↦ false ]
 

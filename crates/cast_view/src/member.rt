@@ -74,7 +74,7 @@ impl Model for MemberSide {
 impl MemberSide {
     ghost use Rattle.std.specs.Prelude.{IfSome};
     ghost use Rattle.cast_types.specs.declared.limits.TheConstants.{MAX_NUMBER};
-    ghost use Rattle.cast_view.specs.MemberSide.{no_group, members_of, holder_of, is_process, holder_at, is_current, is_pending, with_request, first_asking, with_answer, are_numbered_to, answers_prepare, after_prepare, report_of, verdict_of, after_install, with_end, with_view, is_put_out_by, after_out};
+    ghost use Rattle.cast_view.specs.MemberSide.{no_group, members_of, holder_of, is_process, holder_at, is_current, is_open_to, is_pending, with_request, first_asking, with_answer, are_numbered_to, answers_prepare, after_prepare, report_of, verdict_of, after_install, with_end, with_view, is_put_out_by, after_out};
 
     /// A group of which the site knows no view.
     pub fn new(alloc: Global) -> Self
@@ -151,6 +151,13 @@ impl MemberSide {
         ensures { result ≡ is_current self.now view }
     {
         self.view.is_some() && self.number == view
+    }
+
+    /// Whether the site has a view of this number, which no flush has frozen.
+    pub fn is_open(&self, view: u32) -> bool
+        ensures { result ≡ is_open_to self.now view }
+    {
+        self.is_current(view) && !self.frozen
     }
 
     /// Whether a flush of the view has begun here.
