@@ -15,12 +15,13 @@
 //! delivered a list of them. `reached` says how far the messages of each process were delivered here in a view, to
 //! whichever process, and `least_delivered` how far each member delivered those of one. These five speak of views that
 //! have not ended: what was delivered of a view is forgotten with its end. Of a process that was not admitted, or was
-//! dismissed, the queue says only that it is in no group. The rule speaks of the ids that a process delivered; the
-//! queue keeps counts in their place. It tells of what it was told: each call does to the queue what it does to these
-//! processes, groups and messages, where a process is admitted before it has begun and dismissed when it is in no
-//! group, a group's views come in order, a message comes under a key of its own and names its own view and count, and
-//! is noted as delivered only when all that happened before it was (`laws`). Of the answers `reached` alone takes
-//! memory; `forget` and `dismiss` take none. Where memory is refused, the queue is of no further use.
+//! dismissed, the queue says only that it is in no group. `admitted` says how many processes the queue tells of, and
+//! `process_at` which one is at a place, in the order in which they were admitted. The rule speaks of the ids that a
+//! process delivered; the queue keeps counts in their place. It tells of what it was told: each call does to the queue
+//! what it does to these processes, groups and messages, where a process is admitted before it has begun and dismissed
+//! when it is in no group, a group's views come in order, a message comes under a key of its own and names its own view
+//! and count, and is noted as delivered only when all that happened before it was (`laws`). Of the answers `reached`
+//! alone takes memory; `forget` and `dismiss` take none. Where memory is refused, the queue is of no further use.
 //!
 //! The definitions are in `specs/`: `Ready` has the rule over delivered ids as a test and `Rule` in words, `Tallies`,
 //! `Rows` and `Queue` what the queue keeps and does, exactly, `Fits` when it tells of given processes, groups and messages,

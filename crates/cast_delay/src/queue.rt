@@ -1,4 +1,4 @@
-ghost use Rattle.std.specs.Prelude.{◌≡◌, ◌<◌, ◌&&◌, ◌++◌, ◌∷◌, [], IfOk, OnOk, nat_lt, not, map, filter};
+ghost use Rattle.std.specs.Prelude.{◌≡◌, ◌<◌, ◌&&◌, ◌++◌, ◌∷◌, [], IfOk, OnOk, nat_lt, not, length, slice_get, map, filter};
 ghost use Rattle.std.specs.List.{list_any};
 ghost use Rattle.std.specs.Option.{option_copied, option_map, option_map_or};
 ghost use Rattle.std.specs.FinMap.Entries.{put};
@@ -72,6 +72,22 @@ impl Delay {
         ensures { self.new ≡ record self.old { rows = filter (λ r. not (proc_eq r.process process)) self.old.rows } }
     {
         dismiss_in(&mut self.rows, process);
+    }
+
+    /// How many processes are admitted: those that were, but the dismissed. Takes no memory.
+    pub fn admitted(&self) -> usize
+        ensures { result ≡ length self.now.rows }
+    {
+        self.rows.len()
+    }
+
+    /// The admitted process at a place, in the order in which they were admitted, `None` past the last one. Takes no
+    /// memory.
+    pub fn process_at(&self, place: usize) -> Option<Proc>
+        ensures { result ≡ option_map (λ r. r.process) (slice_get self.now.rows place) }
+    {
+        let row = self.rows.get(place)?;
+        Some(row.process)
     }
 
     /// Takes in a fact about a process.

@@ -15,7 +15,8 @@ use Rattle.cast_message.specs.Bodies.{kind_of}
 use Rattle.cast_message.specs.Receipts.{messages}
 use Rattle.cast_stable.specs.Ledger.{others_in}
 use Rattle.cast_delay.specs.Ready.{is_member, has_delivered, awaits}
-use Rattle.cast_delay.specs.Queue.{delivered_in}
+use Rattle.std.specs.Option.{IsSome}
+use Rattle.cast_delay.specs.Queue.{delivered_in, row_of}
 use Rattle.cast_delay.specs.declared.row.Fact.TheVariants as fact
 use Rattle.cast_delay.specs.Fits.{IsSound}
 use Rattle.cast_delay.proofs.Queues.{delivered_rules}
@@ -32,7 +33,8 @@ use Rattle.cast_domain.specs.Calls.{standing_of, tell_in, records, receive_in, i
 use Rattle.cast_history.specs.Lawful.{IsSpent, AreKept, IsLawful}
 use Rattle.cast_domain.specs.Fits.{process_named, LogFits, Fits}
 use Rattle.cast_domain.proofs.Following.{asked_of, fits_sends}
-use Rattle.cast_domain.proofs.Standing.{record_there, standing_there, time_there, fits_sent, process_here, fits_receive, fits_receive_with}
+use Rattle.cast_domain.proofs.Standing.{record_there, member_row, standing_there, time_there, fits_sent, process_here, fits_receive, fits_receive_with}
+use Rattle.cast_domain.proofs.Rows.{row_given}
 use Rattle.cast_domain.proofs.Releases.{current_same, current_stands}
 use Rattle.cast_types.proofs.Bools.{same_bools, and_none}
 
@@ -58,8 +60,8 @@ same_tests a b v n o true d seen same = ap (λ x. a && (b && (x && d))) (ap (λ 
 same_tests a b v n o false d seen same = ap (λ x. a && (b && x)) (and_none (v && n) ∙ sym (and_none o))
 
 -- one message is awaited on both sides, or on neither
-own_same : (r : Records) (s : State) → Fits r s → IsLawful s → (k : ℕ) → was_given s.used k ≡ true → (m : Message) → is_own_in r (local s k) m ≡ own_of s k m
-own_same r s f l k given m =
+own_same : (r : Records) (s : State) → Fits r s → IsLawful s → (k : ℕ) → IsSome (row_of r.delay.rows (local s k)) → (m : Message) → is_own_in r (local s k) m ≡ own_of s k m
+own_same r s f l k row m =
     let g : GroupNo = m.id.group in
     let fresh : Bool = not (has_delivered (s.process k) m.id) in
     ap (λ b. is_atomic (kind_of m.body) && (proc_eq m.id.proc (local s k) && b))
@@ -75,7 +77,7 @@ own_same r s f l k given m =
   where
     delivered_there : (s.group m.id.group).number ≤ m.id.view → delivered_in r.delay (local s k) m.id ≡ has_delivered (s.process k) m.id
     delivered_there stands =
-        delivered_rules s.config.groups (gate_of s) (process_named s) r.part.kept r.delay f.processes.delay (local s k) m.id (f.processes.admitted k given) stands
+        delivered_rules s.config.groups (gate_of s) (process_named s) r.part.kept r.delay f.processes.delay (local s k) m.id row stands
         ∙ ap (λ p. has_delivered p m.id) (process_here s k)
 
 -- what is spent passes no test, so that it is enough to look among what is kept
@@ -103,11 +105,12 @@ spent_own s k given m spent = false_from_ne_true (own_of s k m) (λ is.
     false≢true (sym (ap not has) ∙ d.1))
 
 -- a process awaits an ABCAST of its own on both sides, or on neither
-pub awaits_own_there : (r : Records) (s : State) → Fits r s → IsLawful s → (k : ℕ) → was_given s.used k ≡ true → awaits_own_in r (local s k) ≡ awaits_own s k
-awaits_own_there r s f l k given =
+pub awaits_own_there : (r : Records) (s : State) → Fits r s → IsLawful s → (k : ℕ) → IsSome (row_of r.delay.rows (local s k)) → awaits_own_in r (local s k) ≡ awaits_own s k
+awaits_own_there r s f l k row =
+    let given : was_given s.used k ≡ true = row_given s r.delay.rows f.processes.has_row s.used f.processes.rows k row in
     any_message (is_own_in r (local s k)) r.part.kept
     ∙ ap (list_any (is_own_in r (local s k))) f.messages.kept_in
-    ∙ any_same (is_own_in r (local s k)) (own_of s k) (own_same r s f l k given) s.kept
+    ∙ any_same (is_own_in r (local s k)) (own_of s k) (own_same r s f l k row) s.kept
     ∙ kept_any (IsSpent s) (own_of s k) (spent_own s k given) s.got s.kept l.spent
 
 -- Messages that are sent
@@ -130,8 +133,8 @@ next_sound s g k content l member =
     }
 
 -- what a member sends is stamped and received, on both sides
-pub fits_sent_here : (r : Records) (s : State) → Fits r s → IsLawful s → (k : ℕ) → was_given s.used k ≡ true → (i : ℕ) (g : GroupNo) → slice_get s.config.groups i ≡ Some g → (content : Body) → is_order (kind_of content) ≡ false → is_member ((s.process k).standing g) ≡ true → Fits (sent_here records r i k g content) (receiving (noting_sent s k (next_message s g k content)) (next_message s g k content))
-fits_sent_here r s f l k given i g at content plain member =
+pub fits_sent_here : (r : Records) (s : State) → Fits r s → IsLawful s → (k : ℕ) (i : ℕ) (g : GroupNo) → slice_get s.config.groups i ≡ Some g → (content : Body) → is_order (kind_of content) ≡ false → is_member ((s.process k).standing g) ≡ true → Fits (sent_here records r i k g content) (receiving (noting_sent s k (next_message s g k content)) (next_message s g k content))
+fits_sent_here r s f l k i g at content plain member =
     as_written (λ x. Fits (sent_here records x i k g content) (receiving (noting_sent s k (next_message s g k content)) (next_message s g k content))) r s f written_fits
   where
     written_fits : Fits (written r s) s → Fits (sent_here records (written r s) i k g content) (receiving (noting_sent s k (next_message s g k content)) (next_message s g k content))
@@ -140,7 +143,7 @@ fits_sent_here r s f l k given i g at content plain member =
         let p : Proc = local s k in
         let there = record_there x s w i g at in
         let m : Message = next_message s g k content in
-        let row = w.processes.admitted k given in
+        let row = member_row x s w k g member in
         let now : State = noting_sent s k m in
         let same : sent_here records x i k g content ≡ receive_in (tell_in x p (fact.Time m.times)) m = (λ j.
         receive_in (tell_in x p (fact.Time (bumped (time_there x s w k row j) g p))) (record {
@@ -149,6 +152,6 @@ fits_sent_here r s f l k given i g at content plain member =
           body = content;
         })) in
         subst (λ y. Fits y (receiving now m)) (sym same)
-        (fits_receive (tell_in x p (fact.Time m.times)) now (fits_sent x s w k given m) m (next_sound s g k content l member)
+        (fits_receive (tell_in x p (fact.Time m.times)) now (fits_sent x s w k row m) m (next_sound s g k content l member)
         (eq-eqb (s.group g).number (s.group g).number refl)
         (λ _ j. ap (λ b. b && proc_eq p (local s j)) plain))

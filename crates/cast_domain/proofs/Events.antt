@@ -11,15 +11,16 @@ use Rattle.cast_model.specs.Session.{is_open, is_gone}
 use Rattle.cast_history.specs.Step.{opening_next, acted, answered}
 use Rattle.cast_history.specs.Rules.Events as rules
 use Rattle.cast_domain.specs.Records.{Records}
-use Rattle.cast_domain.specs.Calls.{records, records_serials, open_in}
+use Rattle.cast_domain.specs.Calls.{records, records_serials, open_in, acted_in}
 use Rattle.cast_history.specs.Lawful.{IsLawful, IsTyped}
 use Rattle.cast_domain.specs.Fits.{Fits}
 use Rattle.cast_domain.proofs.Standing.{fits_open}
-use Rattle.cast_domain.proofs.Framing.{fits_framed, fits_commanded, fits_ended, fits_suspect}
+use Rattle.cast_domain.proofs.Framing.{fits_framed, fits_commanded, fits_suspect}
+use Rattle.cast_domain.proofs.Ending.{fits_ended}
 use Rattle.cast_domain.proofs.Following.{fits_tick}
 
 -- each event
-pub fits_acted : (r : Records) (s : State) (e : Event) → Fits r s → IsLawful s → IsTyped e → Fits (rules.acted records records_serials r e) (acted s e)
+pub fits_acted : (r : Records) (s : State) (e : Event) → Fits r s → IsLawful s → IsTyped e → Fits (acted_in r e) (acted s e)
 fits_acted r s (event.Open d) f l typed =
     subst (λ n. Fits (if n == MAX_NUMBER then r else open_in r) (acted s (event.Open d))) (sym (ap (λ c. c.used) f.core))
     (elim (s.used == MAX_NUMBER) as (λ b. Fits (if b then r else open_in r) (if b then s else opening_next s)) [ true ↦ f | false ↦ fits_open r s f ])

@@ -40,28 +40,28 @@ use Rattle.cast_view.specs.declared.member.Pending.{Pending}
 use Rattle.cast_view.specs.MemberSide.{is_pending, with_request, with_answer, frozen_side, with_pending, with_view, has_view, is_current, members_of}
 use Rattle.cast_model.specs.Session.{is_open, is_gone}
 use Rattle.cast_view.specs.Home.{moved}
-use Rattle.cast_history.specs.State.{State, gate_of, local, serials, set_group, set_standing, outside, acts_outside, is_received, receiving, others_of, noting_sent}
+use Rattle.cast_history.specs.State.{State, gate_of, local, serials, set_group, set_standing, going, outside, acts_outside, is_received, receiving, others_of, noting_sent}
 use Rattle.cast_history.specs.Effects.{next_message}
 use Rattle.cast_history.specs.Entering.{freezing, pending_install, enters, all_in_view, push_view, putting_out, passing}
 use Rattle.cast_history.specs.History.{history}
 use Rattle.cast_history.specs.Lawful.{IsLawful, IsTypedFrame}
 use Rattle.cast_history.specs.Rules.Keys.{message_key}
 use Rattle.cast_history.specs.Rules.Data.{counts_itself, is_well_formed}
-use Rattle.cast_history.specs.Rules.Commands.{message_sent, commanded, end_session}
+use Rattle.cast_history.specs.Rules.Commands.{message_sent, commanded, leave_all}
 use Rattle.cast_history.specs.Rules.Home.{suspect}
 use Rattle.cast_history.specs.Rules.Frames.{framed}
 use Rattle.cast_history.proofs.Rules.Follows.{FollowsAll, AllAt, IsTaken, IsBrought, sent_here, with_invariant, invariant_asks}
 use Rattle.cast_history.proofs.Rules.Data.{used_counts}
-use Rattle.cast_history.proofs.Rules.Commands.{commanded_follows, ended_follows}
+use Rattle.cast_history.proofs.Rules.Commands.{commanded_follows, leave_all_follows}
 use Rattle.cast_history.proofs.Rules.Home.{suspect_follows}
 use Rattle.cast_history.proofs.Rules.Frames.{framed_follows}
 use Rattle.cast_history.proofs.Lawful.{same_fold, same_pushing, put_out_same, local_speaks}
-use Rattle.cast_history.proofs.LawfulSteps.{placed_at, taken_current, entered, all_lawful, taken_foreign, taken_speaks}
+use Rattle.cast_history.proofs.LawfulSteps.{placed_at, taken_current, entered, all_lawful, lawful_going, taken_foreign, taken_speaks}
 use Rattle.cast_domain.specs.declared.record.GroupRecord.{GroupRecord}
 use Rattle.cast_domain.specs.Records.{Records}
-use Rattle.cast_domain.specs.Calls.{record_at, standing_of, time_of, tell_in, receive_in, freeze_in, pend_in, awaits_own_in, records}
+use Rattle.cast_domain.specs.Calls.{record_at, standing_of, time_of, tell_in, go_in, receive_in, freeze_in, pend_in, awaits_own_in, records}
 use Rattle.cast_domain.specs.Fits.{process_named, record_for, LogFits, Fits, past_of}
-use Rattle.cast_domain.proofs.Standing.{process_here, record_there, standing_there, time_there, open_given, fits_push, fits_close, fits_go, fits_standing, fits_told, fits_acts, fits_here, fits_gated, orders_group, fits_home, fits_receive}
+use Rattle.cast_domain.proofs.Standing.{process_here, record_there, standing_there, time_there, open_row, fits_push, fits_close, fits_go, fits_standing, fits_told, fits_acts, fits_here, fits_gated, orders_group, fits_home, fits_receive}
 use Rattle.cast_domain.proofs.Logs.{logs_close}
 use Rattle.cast_domain.proofs.Reports.{report_there}
 use Rattle.cast_domain.proofs.Following.{records_ask, FitsIn, IsAt, records_follow, asked_of}
@@ -211,13 +211,13 @@ module _ (groups : List GroupNo) where
         stable_meant (past_of (receiving s m)) (receive_in r m).acks (fits_taken r s f.0.0 g from m taken).acks m.id (taken_live s g from m taken) (taken_counted s g from m taken);
     is_open = λ r s f k. ap is_open (sym (f.0.0.opened.each k));
     standing = λ r s f k g. ap (λ t. standing_of r.delay (record { site = t; serial = k }) g) (ap (λ c. c.site) f.0.0.core) ∙ standing_there r s f.0.0 k g;
-    time = λ r s f k given. ap (λ t. time_of r.delay (record { site = t; serial = k })) (ap (λ c. c.site) f.0.0.core) ∙ time_there r s f.0.0 k (f.0.0.processes.admitted k (open_given r s f.0.0 k given));
-    awaits_own = λ r s f k given. ap (λ t. awaits_own_in r (record { site = t; serial = k })) (ap (λ c. c.site) f.0.0.core) ∙ awaits_own_there r s f.0.0 f.1 k (open_given r s f.0.0 k given);
+    time = λ r s f k given. ap (λ t. time_of r.delay (record { site = t; serial = k })) (ap (λ c. c.site) f.0.0.core) ∙ time_there r s f.0.0 k (open_row r s f.0.0 k given);
+    awaits_own = λ r s f k given. ap (λ t. awaits_own_in r (record { site = t; serial = k })) (ap (λ c. c.site) f.0.0.core) ∙ awaits_own_there r s f.0.0 f.1 k (open_row r s f.0.0 k given);
     push = λ r s f k p. ((fits_push r s f.0.0 k p, ap (λ c. c.groups) (same_pushing s k p).config ∙ f.0.1), all_lawful.push s f.1 k p);
     note_joining = λ r s f k given g h at number heard. (
       (
         subst (λ t. Fits (tell_in r (record { site = t; serial = k }) (fact.Standing g (Joining number heard))) (set_standing s k g (Joining number heard))) (sym (ap (λ c. c.site) f.0.0.core))
-            (fits_standing r s f.0.0 k (open_given r s f.0.0 k given) g (Joining number heard) (λ _. (placed_at s g h at).0) refl),
+            (fits_standing r s f.0.0 k (open_row r s f.0.0 k given) g (Joining number heard) (λ _. (placed_at s g h at).0) refl),
         f.0.1,
       ),
       all_lawful.note_joining s f.1 k given g h at number heard,
@@ -236,7 +236,7 @@ module _ (groups : List GroupNo) where
         let same : message_sent history s k g h content ≡ next_message s g k content = ap (λ x. message_sent history s k g x content) (sym placed.1) in (
           (
             subst (λ m. Fits (sent_here records r i k g content) (receiving (noting_sent s k m) m)) (sym same)
-                (fits_sent_here r s f.0.0 f.1 k (open_given r s f.0.0 k sent.given) i g (there r s f i g (at ∙ ap Some (sym placed.1))) content sent.plain sent.member),
+                (fits_sent_here r s f.0.0 f.1 k i g (there r s f i g (at ∙ ap Some (sym placed.1))) content sent.plain sent.member),
             f.0.1,
           ),
           all_lawful.sends s f.1 h k g content sent,
@@ -261,7 +261,6 @@ module _ (groups : List GroupNo) where
     release_ended = λ r s f i g at. ((fits_release_ended r s f.0.0 i g (there r s f i g at), f.0.1), all_lawful.release_ended s f.1 g);
     is_gone = λ r s f k. ap is_gone (sym (f.0.0.opened.each k));
     close = λ r s f k refusal. ((fits_close r s f.0.0 k refusal, f.0.1), all_lawful.close s f.1 k refusal);
-    go = λ r s f k. ((fits_go r s f.0.0 k, f.0.1), all_lawful.go s f.1 k);
   }
 
 -- So the records go on standing for the history
@@ -274,8 +273,9 @@ module _ (r : Records) (s : State) (f : Fits r s) (l : IsLawful s) where
   fits_commanded k c =
       (commanded_follows records history (StandsIn groups) (IsAt groups) (records_follow_all groups) r s ((f, refl), l) k c).0.0
 
-  pub fits_ended : (k : ℕ) → Fits (end_session records r k) (end_session history s k)
-  fits_ended k = (ended_follows records history (StandsIn groups) (IsAt groups) (records_follow_all groups) r s ((f, refl), l) k).0.0
+  pub fits_left : (k : ℕ) → Fits (leave_all records (go_in r k) k) (leave_all history (going s k) k)
+  fits_left k =
+      (leave_all_follows records history (StandsIn groups) (IsAt groups) (records_follow_all groups) (go_in r k) (going s k) ((fits_go r s f k, refl), lawful_going s k l) k).0.0
 
   pub fits_suspect : (site : SiteNo) → Fits (suspect records r site) (suspect history s site)
   fits_suspect site = (suspect_follows records history (StandsIn groups) (IsAt groups) (records_follow_all groups) r s ((f, refl), l) site).0.0

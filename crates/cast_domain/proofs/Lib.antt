@@ -17,7 +17,10 @@ pub mod Passing
 pub mod Releases
 pub mod Commands
 pub mod Framing
+pub mod Dismissals
+pub mod Ending
 pub mod Turns
+pub mod Rounds
 pub mod SetOrders
 pub mod Resting
 pub mod Standstill

@@ -56,12 +56,6 @@ fold_more f x i n lt =
     let one : n - i ≡ suc (n - (i + 1)) = omega arith in
     sym (ap (λ m. fold f x (range_with_len i m)) one)
 
--- and over serials, which count from 1
-pub fold_serial : {A : Type 0} (f : A → ℕ → A) (x : A) (i n : ℕ) → i < n → fold f (f x (i + 1)) (range_with_len (i + 1 + 1) (n - (i + 1))) ≡ fold f x (range_with_len (i + 1) (n - i))
-fold_serial f x i n lt =
-    let one : n - i ≡ suc (n - (i + 1)) = omega arith in
-    sym (ap (λ m. fold f x (range_with_len (i + 1) m)) one)
-
 -- one more turn
 pub turn_more : {A : Type 0} (f : A → A) (x : A) (i n : ℕ) → i < n → iterate (n - (i + 1)) f (f x) ≡ iterate (n - i) f x
 turn_more f x i n lt =

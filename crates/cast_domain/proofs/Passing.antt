@@ -1,8 +1,8 @@
 -- Members that a view lacks are put out one by one, and in the history at once; then processes enter it.
-use Rattle.std.proofs.Common.{◌≡◌, ℕ, zero, suc, ◌+◌, ◌<◌, ◌≤◌, Bool, true, false, not, ◌&&◌, ◌||◌, [], ◌∷◌, ◌++◌, Option, Some, None, ◌⊎◌, inl, inr, refl, sym, ap, subst, ◌∙◌, arith}
+use Rattle.std.proofs.Common.{◌≡◌, ℕ, zero, suc, ◌+◌, ◌<◌, ◌≤◌, Bool, true, false, not, ◌&&◌, ◌||◌, [], ◌∷◌, ◌++◌, Some, ◌⊎◌, inl, inr, refl, sym, ap, subst, ◌∙◌, arith}
 use Rattle.std.specs.Prelude.{◌==◌, nat_lt, nat_le, if◌then◌else◌, slice_get}
 use Rattle.std.specs.List.{fold, range_with_len}
-use Rattle.std.specs.Option.{IsSome, is_some}
+use Rattle.std.specs.Option.{IsSome}
 use Rattle.std.proofs.lemmas.Bool.{cases_Bool, false≢true, false_from_ne_true, eqb-true, ne_eqb, ltb-true, leb-true, and_parts, or_from}
 use Rattle.cast_types.specs.declared.names.GroupNo.{GroupNo}
 use Rattle.cast_types.specs.declared.names.Standing.{Standing}
@@ -14,22 +14,21 @@ use Rattle.cast_types.proofs.Bools.{and_none}
 use Rattle.cast_message.specs.declared.client.Push.TheVariants as push
 use Rattle.cast_message.specs.Membership.{Membership, is_members}
 use Rattle.cast_delay.specs.declared.row.Fact.TheVariants as fact
-use Rattle.cast_delay.specs.Ready.{Process, is_member, is_outside}
-use Rattle.cast_delay.specs.declared.row.Row.{Row}
+use Rattle.cast_delay.specs.Ready.{is_member, is_outside}
 use Rattle.cast_delay.specs.Queue.{row_of}
-use Rattle.cast_delay.specs.Fits.{StandsFor}
 use Rattle.cast_domain.specs.declared.record.GroupRecord.{GroupRecord}
-use Rattle.cast_history.specs.State.{State, local, serials, is_group, was_given, gate_of, set_standing, pushing}
+use Rattle.cast_history.specs.State.{State, local, is_group, was_given, set_standing, pushing}
 use Rattle.cast_history.specs.Entering.{parted, is_put_out, putting_out, passing}
 use Rattle.cast_history.specs.Acts.Act.{Left}
 use Rattle.cast_history.specs.Lawful.{IsLawful}
 use Rattle.cast_history.proofs.Lawful.{put_out_same, lawful_putting_out}
 use Rattle.cast_domain.specs.Records.{Records}
 use Rattle.cast_domain.specs.Calls.{local_in, record_at, standing_of, push_in, tell_in, put_out_in, is_put_out_in, put_out_if_in, put_out_all_in, complete_in, pass_in}
-use Rattle.cast_domain.specs.Fits.{process_named, Fits}
-use Rattle.cast_domain.proofs.Standing.{process_here, open_given, fits_told, fits_if, record_there, standing_there, fits_push, fits_acts}
+use Rattle.cast_domain.specs.Fits.{Fits}
+use Rattle.cast_domain.proofs.Standing.{member_of_none, open_given, fits_told, fits_if, record_there, standing_there, fits_push, fits_acts}
 use Rattle.cast_domain.proofs.Entering.{or_none, and_true, within, in_range, changed, changed_at_once, changed_one, has_row, fits_complete}
-use Rattle.cast_domain.proofs.Rows.{row_given}
+use Rattle.cast_domain.proofs.Rows.{row_ungiven}
+use Rattle.cast_domain.proofs.Rounds.{round_put_out}
 
 -- who is a member is not outside
 member_inside : (v : Standing) → is_member v ≡ true → is_outside v ≡ false
@@ -113,14 +112,6 @@ module _ (g : GroupNo) (skips : Bool) (n : ℕ) (members : Membership) (t : Stat
       joined : (j : ℕ) → ((e j || (goes a && (a == j))) || (goes j && within (a + 1) m j)) ≡ (e j || (goes j && within a (suc m) j))
       joined j = ap (λ b. (e j || b) || (goes j && within (a + 1) m j)) (first j) ∙ parts (e j) (goes j) (a == j) (within (a + 1) m j)
 
--- who was given no serial is in no group
-outside_ungiven : (r : Records) (s : State) → Fits r s → (g : GroupNo) (k : ℕ) → was_given s.used k ≡ false → is_member ((s.process k).standing g) ≡ false
-outside_ungiven r s f g k none = of_row (row_of r.delay.rows (local s k)) refl (f.processes.delay.rows (local s k))
-  where
-    of_row : (o : Option Row) → row_of r.delay.rows (local s k) ≡ o → StandsFor (gate_of s) (process_named s (local s k)) o → is_member ((s.process k).standing g) ≡ false
-    of_row (Some row) at told = absurd (false≢true (sym none ∙ row_given s r.delay.rows s.used k f.processes.rows (ap is_some at)))
-    of_row None at out = ap is_member (ap (λ (p : Process). p.standing g) (sym (process_here s k)) ∙ out g)
-
 -- all members that a view lacks are put out
 fits_put_out_all : (g : GroupNo) (skips : Bool) (n : ℕ) (members : Membership) (r : Records) (s : State) → Fits r s → Fits (put_out_all_in g skips n members r) (putting_out s g skips n members)
 fits_put_out_all g skips n members r s f =
@@ -129,7 +120,7 @@ fits_put_out_all g skips n members r s f =
     let f0 : Fits r t = fits_acts r s f t.acts in
     let all : Fits (fold (put_out_if_in g skips n members) r (range_with_len 1 t.used)) (changed (parted g) (push.Ejected g n) t (λ j. goes j && within 1 t.used j)) =
     fits_put_out_from g skips n members t t.used 1 r (λ j. false) f0 (λ k _. refl) in
-    subst (λ x. Fits (fold (put_out_if_in g skips n members) r (range_with_len 1 x)) (putting_out s g skips n members)) (sym (ap (λ c. c.used) f.core))
+    subst (λ x. Fits x (putting_out s g skips n members)) (sym (round_put_out g skips n members r s f))
     (subst (λ x. Fits (fold (put_out_if_in g skips n members) r (range_with_len 1 t.used)) x)
     ((λ i. changed (parted g) (push.Ejected g n) t (λ j. given j (cases_Bool (within 1 t.used j)) i))
     ∙ sym (changed_at_once (parted g) (push.Ejected g n) t goes (open_given r t f0)))
@@ -140,11 +131,11 @@ fits_put_out_all g skips n members r s f =
     given j (inr past) =
         ap (λ b. is_put_out s g skips members j && b) past
         ∙ and_none (is_put_out s g skips members j)
-        ∙ sym (ap (λ b. b && (skips || not (is_among proc_eq (local s j) members.list))) (outside_ungiven r s f g j (false_from_ne_true (was_given s.used j) (λ was.
+        ∙ sym (ap (λ b. b && (skips || not (is_among proc_eq (local s j) members.list))) (member_of_none r s f j (row_ungiven s r.delay.rows f.processes.has_row s.used f.processes.rows j (false_from_ne_true (was_given s.used j) (λ was.
         let parts = and_parts (nat_lt 0 j) (nat_le j s.used) was in
         let above = ltb-true 0 j parts.0 in
         let below = leb-true j s.used parts.1 in
-        false≢true (sym past ∙ in_range s.used 1 j (omega (arith, above)) (omega (arith, below)))))))
+        false≢true (sym past ∙ in_range s.used 1 j (omega (arith, above)) (omega (arith, below)))))) g))
 
 -- the site passes to the next view
 pub fits_pass : (r : Records) (s : State) → Fits r s → IsLawful s → (i : ℕ) (g : GroupNo) → slice_get s.config.groups i ≡ Some g → is_group s g ≡ true → (skips : Bool) (n : ℕ) (members : Membership) (request : ℕ) (cut : CountList) → is_members members ≡ true → (s.group g).number < n → Fits (pass_in r i skips n members request) (passing s g skips n members request cut)

@@ -1,7 +1,7 @@
 -- What a domain's records let go is what the history lets go that they stand for.
-use Rattle.std.proofs.Common.{◌≡◌, ℕ, zero, suc, ◌+◌, ◌<◌, ◌≤◌, Bool, true, false, cond, not, ◌&&◌, ◌||◌, List, [], ◌∷◌, map, Contains, Some, None, refl, sym, ap, subst, ◌∙◌, inl, inr, arith}
+use Rattle.std.proofs.Common.{◌≡◌, ℕ, ◌+◌, ◌<◌, ◌≤◌, Bool, true, false, cond, not, ◌&&◌, ◌||◌, List, [], ◌∷◌, map, Contains, Some, None, refl, sym, ap, subst, ◌∙◌, inl, inr, arith}
 use Rattle.std.specs.Prelude.{◌==◌, nat_lt, filter, slice_get}
-use Rattle.std.specs.List.{fold, find, list_any, list_all, range_with_len}
+use Rattle.std.specs.List.{fold, find, list_any, list_all}
 use Rattle.std.specs.Option.{option_map, option_map_or}
 use Rattle.std.proofs.lemmas.Bool.{cases_Bool, false≢true, and_parts, or_cases, or_left, or_right, eqb-true, eq-eqb, false_from_ne_true}
 use Rattle.std.proofs.lemmas.List.Elements.{Contains-push, Contains-append_left, Contains-append_right}
@@ -21,12 +21,12 @@ use Rattle.cast_delay.specs.Ready.{Process, is_member, has_delivered}
 use Rattle.cast_delay.specs.Rows.{standing_in, done_in}
 use Rattle.cast_delay.specs.Queue.{Queue, row_of, is_awaited}
 use Rattle.cast_delay.specs.Fits.{HasNotEnded, Fits as QueueFits}
-use Rattle.cast_delay.proofs.Queues.{forget_fits, awaited_by, no_row_is}
+use Rattle.cast_delay.proofs.Queues.{forget_fits, awaited_by}
 use Rattle.cast_delay.proofs.Turns.{and_agree}
 use Rattle.cast_stable.proofs.Meanings.{stable_meant}
 use Rattle.cast_domain.specs.declared.record.GroupRecord.{GroupRecord}
 use Rattle.cast_view.specs.MemberSide.{MemberSide, has_view, is_current}
-use Rattle.cast_history.specs.State.{State, local, local_members, gate_of, is_stable, is_delivered, releasing, is_ended, releasing_ended}
+use Rattle.cast_history.specs.State.{State, local, serials, local_members, gate_of, is_stable, is_delivered, releasing, is_ended, releasing_ended}
 use Rattle.cast_history.specs.Rest.{is_free, let_go}
 use Rattle.cast_domain.specs.Records.{Records}
 use Rattle.cast_history.specs.Rules.Release as release
@@ -34,8 +34,8 @@ use Rattle.cast_domain.specs.Calls.{place_in, record_at, is_current_in, is_open_
 use Rattle.cast_history.specs.Lawful.{IsLawful, IsSpent, AreKept}
 use Rattle.cast_domain.specs.Fits.{process_named, Fits, is_live, past_of}
 use Rattle.cast_history.proofs.Totals.{In}
-use Rattle.cast_domain.proofs.Rows.{names_of, serial_of, row_found, row_none}
-use Rattle.cast_domain.proofs.Standing.{orders_same, record_there, place_some, place_none, process_here}
+use Rattle.cast_domain.proofs.Rows.{names_of, serial_of, rise_filter, filter_within, row_found, row_untested, row_ungiven}
+use Rattle.cast_domain.proofs.Standing.{orders_same, record_there, place_some, place_none, process_here, given_later, member_of_none}
 use Rattle.cast_types.proofs.Bools.{neither}
 use Rattle.cast_domain.proofs.Receipts.{live_now}
 use Rattle.cast_stable.specs.Ledger.{source_of, is_stable_in}
@@ -58,39 +58,40 @@ one_less true false some rest a b k test is same = sym (ap (λ x. x && list_all 
 one_less false d some rest a b k test is same = same
 
 -- no row awaits a message where each local member has delivered it
-awaited_rows : (r : Records) (s : State) → Fits r s → (u : Uid) → HasNotEnded (gate_of s) u.group u.view → 0 < u.count → (rows : List Row) (a n : ℕ) → names_of rows ≡ map (local s) (range_with_len a n) → ((row : Row) → In row rows → (k : ℕ) → row.process ≡ local s k → row_of r.delay.rows (local s k) ≡ Some row) → not (list_any (awaits u) rows) ≡ list_all (λ k. has_delivered (s.process k) u) (filter (λ k. is_member ((s.process k).standing u.group)) (range_with_len a n))
-awaited_rows r s fits u stands counted [] a zero names at = refl
-awaited_rows r s fits u stands counted [] a (suc n) names at = absurd (no_names names)
+awaited_rows : (r : Records) (s : State) → Fits r s → (u : Uid) → HasNotEnded (gate_of s) u.group u.view → 0 < u.count → (rows : List Row) (ks : List ℕ) → names_of rows ≡ map (local s) ks → ((row : Row) → In row rows → (k : ℕ) → row.process ≡ local s k → row_of r.delay.rows (local s k) ≡ Some row) → not (list_any (awaits u) rows) ≡ list_all (λ k. has_delivered (s.process k) u) (filter (λ k. is_member ((s.process k).standing u.group)) ks)
+awaited_rows r s fits u stands counted [] [] names at = refl
+awaited_rows r s fits u stands counted [] (k ∷ ks) names at = absurd (no_names names)
   where
-    no_names : [] ≡ local s a ∷ map (local s) (range_with_len (a + 1) n) → ⊥
+    no_names : [] ≡ local s k ∷ map (local s) ks → ⊥
     no_names e = cc
-awaited_rows r s fits u stands counted (x ∷ rows) a zero names at = absurd (no_names names)
+awaited_rows r s fits u stands counted (x ∷ rows) [] names at = absurd (no_names names)
   where
     no_names : x.process ∷ names_of rows ≡ [] → ⊥
     no_names e = cc
-awaited_rows r s fits u stands counted (x ∷ rows) a (suc n) names at =
+awaited_rows r s fits u stands counted (x ∷ rows) (a ∷ ks) names at =
     let first : x.process ≡ local s a = cc in
-    let rest : names_of rows ≡ map (local s) (range_with_len (a + 1) n) = cc in
+    let rest : names_of rows ≡ map (local s) ks = cc in
     ap (λ b. not (b || list_any (awaits u) rows)) (awaits_as r s fits u stands counted x a (at x (inl refl) a first))
     ∙ one_less (is_member ((s.process a).standing u.group)) (has_delivered (s.process a) u) (list_any (awaits u) rows) true
-    (filter (λ k. is_member ((s.process k).standing u.group)) (range_with_len (a + 1) n)) [] a (λ k. has_delivered (s.process k) u) refl
-    (awaited_rows r s fits u stands counted rows (a + 1) n rest (λ row there. at row (inr there)))
+    (filter (λ k. is_member ((s.process k).standing u.group)) ks) [] a (λ k. has_delivered (s.process k) u) refl
+    (awaited_rows r s fits u stands counted rows ks rest (λ row there. at row (inr there)))
 
 pub awaited_same : (r : Records) (s : State) → Fits r s → (u : Uid) → HasNotEnded (gate_of s) u.group u.view → 0 < u.count → not (is_awaited r.delay.rows u) ≡ list_all (λ k. has_delivered (s.process k) u) (local_members s u.group)
 awaited_same r s fits u stands counted =
-    awaited_rows r s fits u stands counted r.delay.rows 1 s.used fits.processes.rows
+    let given : List ℕ = filter fits.processes.has_row (serials s) in
+    awaited_rows r s fits u stands counted r.delay.rows given fits.processes.rows
     (λ row there k is.
-    let found = row_found s r.delay.rows 1 s.used fits.processes.rows row there in
+    let found = row_found s r.delay.rows given 1 fits.processes.rows (rise_filter fits.processes.has_row 1 s.used) row there in
     let same : found.0 ≡ k = serial_of s found.0 k (sym found.2 ∙ is) in
     subst (λ j. row_of r.delay.rows (local s j) ≡ Some row) same found.3)
+    ∙ ap (list_all (λ k. has_delivered (s.process k) u))
+    (filter_within (λ k. is_member ((s.process k).standing u.group)) fits.processes.has_row
+    (λ k untested. member_of_none r s fits k (row_untested s r.delay.rows fits.processes.has_row s.used fits.processes.rows k untested) u.group) (serials s))
 
 -- the process of a serial that is to come is in no group
 pub unborn : (r : Records) (s : State) → Fits r s → (g : GroupNo) → is_member ((s.process (s.used + 1)).standing g) ≡ false
 unborn r s fits g =
-    let p : Proc = local s (s.used + 1) in
-    let none = row_none s r.delay.rows 1 s.used (s.used + 1) fits.processes.rows (omega arith) in
-    ap (λ q. is_member (q.standing g)) (sym (process_here s (s.used + 1)))
-    ∙ ap is_member (no_row_is r.delay p none s.config.groups (gate_of s) (process_named s) r.part.kept fits.processes.delay g)
+    member_of_none r s fits (s.used + 1) (row_ungiven s r.delay.rows fits.processes.has_row s.used fits.processes.rows (s.used + 1) (given_later s.used)) g
 
 -- What is free
 
@@ -281,6 +282,7 @@ fits_release r s fits p q same =
       processes = record {
         delay = forgets keys s.config.groups (gate_of s) (process_named s) r.part.kept r.delay fits.processes.delay;
         admitted = fits.processes.admitted;
+        has_row = fits.processes.has_row;
         rows = fits.processes.rows;
         idle = fits.processes.idle;
       };

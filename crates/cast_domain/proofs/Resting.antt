@@ -1,16 +1,14 @@
 -- What a domain does of itself it does to its records and to their history.
-use Rattle.std.proofs.Common.{◌≡◌, ◌<◌, ◌≤◌, ◌+◌, ℕ, zero, suc, true, List, [], ◌∷◌, Option, Some, None, refl, sym, ap, subst, ◌∙◌, inl, inr, arith}
-use Rattle.std.specs.Prelude.{nat_lt, nat_le}
+use Rattle.std.proofs.Common.{◌≡◌, ℕ, zero, suc, true, List, [], ◌∷◌, Option, Some, None, refl, sym, ap, subst, ◌∙◌}
 use Rattle.std.specs.List.{range_with_len}
-use Rattle.std.proofs.lemmas.Bool.{and_from, or_left, or_right, lt-ltb, le-leb}
+use Rattle.std.proofs.lemmas.Bool.{or_left, or_right}
 use Rattle.cast_types.specs.declared.names.GroupNo.{GroupNo}
-use Rattle.cast_history.specs.State.{State, was_given, serials}
+use Rattle.cast_history.specs.State.{State}
 use Rattle.cast_history.specs.History.{history}
 use Rattle.cast_history.specs.Resting.{resting}
 use Rattle.cast_history.specs.Lawful.{IsLawful}
 use Rattle.cast_history.specs.Rest.{pass}
 use Rattle.cast_history.specs.Rules.Rest as rest
-use Rattle.cast_history.proofs.Totals.{In}
 use Rattle.cast_history.proofs.LawfulSteps.{lawful_deliver_all, lawful_set_order_by}
 use Rattle.cast_history.proofs.Rules.Rest.{FollowsToRest, pass_follows}
 use Rattle.cast_domain.specs.Records.{Records}
@@ -19,6 +17,11 @@ use Rattle.cast_domain.specs.Fits.{Fits}
 use Rattle.cast_domain.proofs.Following.{IsAt}
 use Rattle.cast_domain.proofs.Framing.{StandsIn, there, records_follow_all}
 use Rattle.cast_domain.proofs.Turns.{kept_all, fits_deliver_all}
+use Rattle.cast_domain.proofs.Rows.{was_given_in}
+use Rattle.cast_domain.proofs.Rounds.{round_settle}
+use Rattle.cast_history.specs.Rules.Interface.{Resting}
+use Rattle.cast_history.specs.Rules.Home.{lead}
+use Rattle.cast_history.specs.Rules.Order.{set_orders}
 use Rattle.std.specs.Prelude.{if◌then◌else◌, slice_get}
 use Rattle.std.specs.List.{fold}
 use Rattle.std.proofs.lemmas.Option.{none-some, same_Some}
@@ -28,7 +31,7 @@ use Rattle.cast_types.proofs.Orders.{group_itself}
 use Rattle.cast_view.specs.declared.member.Pending.{Pending}
 use Rattle.cast_history.specs.State.{is_group}
 use Rattle.cast_history.specs.Reports.{has_delivered_cut, missing_in}
-use Rattle.cast_history.specs.Rules.Flushes.{want_own, complete_or_want, go_on}
+use Rattle.cast_history.specs.Rules.Flushes.{want_own, complete_or_want, go_on, go_on_all}
 use Rattle.cast_history.specs.Lawful.{Waits}
 use Rattle.cast_history.proofs.Rules.Follows.{choose, each}
 use Rattle.cast_history.proofs.Rules.Flushes.{want_own_follows, complete_follows}
@@ -37,17 +40,6 @@ use Rattle.cast_domain.specs.Calls.{record_at, has_cut_of}
 use Rattle.cast_domain.proofs.Standing.{record_there}
 use Rattle.cast_domain.proofs.Reports.{cut_there, missing_there}
 use Rattle.cast_domain.proofs.SetOrders.{holder_local, fits_set_order_by, kept_set_order_by}
-
--- what is in a range is within it
-in_range : (a n k : ℕ) → In k (range_with_len a n) → (a ≤ k) × (k < a + n)
-in_range a zero k at = absurd at
-in_range a (suc n) k (inl here) = (omega (arith, here), omega (arith, here))
-in_range a (suc n) k (inr later) = let within = in_range (a + 1) n k later in (omega (arith, within.0), omega (arith, within.1))
-
-was_given_in : (s : State) (k : ℕ) → In k (serials s) → was_given s.used k ≡ true
-was_given_in s k at =
-    let within = in_range 1 s.used k at in
-    and_from (nat_lt 0 k) (nat_le k s.used) (lt-ltb 0 k (omega (arith, within.0))) (le-leb k s.used (omega (arith, within.1)))
 
 -- a group that stands at a place is one of these
 at_listed : (gs : List GroupNo) (i : ℕ) (g : GroupNo) → slice_get gs i ≡ Some g → is_among group_eq g gs ≡ true
@@ -75,13 +67,17 @@ stands_go_on groups r s f i g at =
         (λ _. subst (λ es. StandsIn groups (fold (want_own records i) r es) (fold (want_own history g) s (missing_in s g p.cut))) (sym (missing_there r s f.0.0 f.1 i g here p.cut))
         (each (StandsIn groups) (want_own records i) (want_own history g) (want_own_follows records history (StandsIn groups) (IsAt groups) (records_follow_all groups) i g at) (missing_in s g p.cut) r s f))
 
-records_follow_to_rest : (groups : List GroupNo) → FollowsToRest records history resting_records resting (StandsIn groups) (IsAt groups)
+-- the records where each round goes over all serials
+abbrev by_serials : Resting Records ℕ
+by_serials = record resting_records { serials = λ r. range_with_len 1 r.used }
+
+records_follow_to_rest : (groups : List GroupNo) → FollowsToRest records history by_serials resting (StandsIn groups) (IsAt groups)
 records_follow_to_rest groups = record {
   all = records_follow_all groups;
   serials = λ r s f. ap (range_with_len 1) (ap (λ c. c.used) f.0.0.core);
   same_serials = λ s k. ap (range_with_len 1) (kept_all s k).used;
   delivers = λ r s f k at. (
-    (fits_deliver_all r s f.0.0 f.1 k (was_given_in s k at), ap (λ c. c.groups) (kept_all s k).config ∙ f.0.1),
+    (fits_deliver_all r s f.0.0 f.1 k (was_given_in s.used k at), ap (λ c. c.groups) (kept_all s k).config ∙ f.0.1),
     lawful_deliver_all s k f.1,
   );
   orders = λ r s f i g at p holder. (
@@ -97,4 +93,5 @@ records_follow_to_rest groups = record {
 -- so the records go on standing for the history by each pass
 pub fits_pass : (r : Records) (s : State) → Fits r s → IsLawful s → Fits (rest.pass records resting_records r) (pass s)
 fits_pass r s f l =
-    (pass_follows records history resting_records resting (StandsIn s.config.groups) (IsAt s.config.groups) (records_follow_to_rest s.config.groups) r s ((f, refl), l)).0.0
+    subst (λ x. Fits x (pass s)) (sym (ap (λ x. lead records (go_on_all records by_serials (set_orders records by_serials x))) (round_settle r s f ∙ ap (λ n. fold (rest.deliver_all records resting_records) r (range_with_len 1 n)) (sym (ap (λ c. c.used) f.core)))))
+    (pass_follows records history by_serials resting (StandsIn s.config.groups) (IsAt s.config.groups) (records_follow_to_rest s.config.groups) r s ((f, refl), l)).0.0

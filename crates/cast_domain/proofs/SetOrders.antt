@@ -1,6 +1,6 @@
 -- Set-order messages of the records are those of the history that they stand for.
 use Rattle.std.proofs.Common.{◌≡◌, ℕ, ◌≤◌, Bool, true, false, not, List, Option, Some, None, refl, sym, ap, subst, ◌∙◌, inl, inr, arith}
-use Rattle.std.specs.Prelude.{◌&&◌, ◌==◌, nat_lt, if◌then◌else◌, slice_get, is_some}
+use Rattle.std.specs.Prelude.{◌&&◌, ◌==◌, nat_lt, if◌then◌else◌, slice_get}
 use Rattle.std.specs.Option.{IsSome, option_map_or}
 use Rattle.std.proofs.lemmas.Bool.{cases_Bool, and_parts, and_from, ltb-true, eq-eqb}
 use Rattle.std.proofs.lemmas.Option.{none-some, same_Some}
@@ -25,7 +25,7 @@ use Rattle.cast_history.specs.Rules.Sending.{send_message, may_raise}
 use Rattle.cast_domain.specs.declared.record.GroupRecord.{GroupRecord}
 use Rattle.cast_view.specs.MemberSide.{holder_of, is_process, is_pending, holder_at}
 use Rattle.cast_view.specs.Home.{is_empty}
-use Rattle.cast_history.specs.State.{State, local, gate_of, was_given, noting_sent}
+use Rattle.cast_history.specs.State.{State, local, noting_sent}
 use Rattle.cast_history.specs.Order.{order_of, holds, unlisted, has_place, is_of_view}
 use Rattle.cast_history.specs.Effects.{next_message, sending}
 use Rattle.cast_history.specs.Rest.{set_order_by, let_go}
@@ -36,29 +36,19 @@ use Rattle.cast_domain.specs.Calls.{standing_of, time_of, records, resting_recor
 use Rattle.cast_history.specs.Resting.{places_of}
 use Rattle.cast_history.specs.Rules.Order as order
 use Rattle.cast_history.specs.Lawful.{IsLawful}
-use Rattle.cast_domain.specs.Fits.{process_named, record_for, Fits}
+use Rattle.cast_domain.specs.Fits.{record_for, Fits}
 use Rattle.cast_history.proofs.Alikes.{alike_sending}
 use Rattle.cast_history.proofs.LawfulSteps.{lawful_order_sent}
 use Rattle.cast_domain.proofs.LogSteps.{logs_place}
 use Rattle.cast_domain.proofs.Ordering.{order_room_there, settled_there, settled_of_holder, unfrozen_waits, places_there}
 use Rattle.cast_types.proofs.Bools.{and_none}
-use Rattle.cast_domain.proofs.Standing.{record_there, process_here, standing_there, time_there, fits_sent}
-use Rattle.cast_delay.proofs.Queues.{member_admitted}
-use Rattle.cast_domain.proofs.Rows.{row_given}
+use Rattle.cast_domain.proofs.Standing.{record_there, member_row, standing_there, time_there, fits_sent}
 use Rattle.cast_domain.proofs.Releases.{fits_let_go}
 use Rattle.cast_domain.proofs.Commands.{next_sound, fits_send_message_with}
 use Rattle.cast_domain.proofs.Turns.{Kept, kept_self, kept_if}
 use Rattle.cast_domain.proofs.Receipts.{live_now}
 use Rattle.cast_history.proofs.Lawful.{local_speaks}
 use Rattle.cast_stable.specs.Ledger.{source_of}
-
--- Members
-
--- a member's serial was given
-pub member_given : (r : Records) (s : State) → Fits r s → (k : ℕ) (g : GroupNo) → is_member ((s.process k).standing g) ≡ true → was_given s.used k ≡ true
-member_given r s f k g member =
-    let (row, at) = member_admitted s.config.groups (gate_of s) (process_named s) r.part.kept r.delay f.processes.delay (local s k) g (ap (λ p. is_member (p.standing g)) (process_here s k) ∙ member) in
-    row_given s r.delay.rows s.used k f.processes.rows (ap is_some at)
 
 -- The message
 
@@ -79,8 +69,8 @@ sent_at r p x places =
 fits_places : (r : Records) (s : State) → Fits r s → IsLawful s → (k : ℕ) (g : GroupNo) → is_pending (s.group g) ≡ false → holds s g k ≡ true → is_member ((s.process k).standing g) ≡ true → may_raise (s.process k).time g (local s k) ≡ true → (q : Sequence) → Some q ≡ next_places (log_of r.orders g) → Fits (sent_at r (local s k) (record_for s g) q) (sending s g k (body.Order q))
 fits_places r s f l k g unclosed here member raised q next =
     subst (λ x. Fits x (sending s g k (body.Order q))) (sym same)
-    (fits_send_message_with (tell_in r p (fact.Time m.times)) s1 (fits_sent r s f k (member_given r s f k g member) m) m (next_sound s g k (body.Order q) l member) (live_now s1 (source_of m.id) refl (local_speaks s1 g k)) (learn_in noted g (body.Order q))
-    (logs_place s1 k m q settled r.orders (fits_sent r s f k (member_given r s f k g member) m).orders unclosed here current refl refl next (settled_there r s f g p (site_itself s.here) ∙ sym (settled_of_holder s g k here)) most))
+    (fits_send_message_with (tell_in r p (fact.Time m.times)) s1 (fits_sent r s f k (member_row r s f k g member) m) m (next_sound s g k (body.Order q) l member) (live_now s1 (source_of m.id) refl (local_speaks s1 g k)) (learn_in noted g (body.Order q))
+    (logs_place s1 k m q settled r.orders (fits_sent r s f k (member_row r s f k g member) m).orders unclosed here current refl refl next (settled_there r s f g p (site_itself s.here) ∙ sym (settled_of_holder s g k here)) most))
   where
     p : Proc
     p = local s k
@@ -106,7 +96,7 @@ fits_places r s f l k g unclosed here member raised q next =
         subst (λ n. n ≤ MAX_NUMBER) (sym (bump_raises (s.process k).time g p)) (omega (arith, below))
 
     row : IsSome (row_of r.delay.rows p)
-    row = f.processes.admitted k (member_given r s f k g member)
+    row = member_row r s f k g member
 
     same : sent_at r p (record_for s g) q ≡ send_message records (tell_in (record r { orders = noted }) p (fact.Time m.times)) m
     same = λ j.
@@ -174,7 +164,7 @@ fits_set_order_by r s f l i g at k here =
     tested = elim (cases_Bool member) [
       | inl is ↦ elim (cases_Bool unfrozen) [
         | inl goes ↦
-            let row = f.processes.admitted k (member_given r s f k g is) in
+            let row = member_row r s f k g is in
             (λ j.
             if is_member (standing_there r s f k g j) && (unfrozen && order_room_there r s f j)
             then option_map_or (λ q. if may_raise (time_there r s f k row j) g p then release.let_go records resting_records (sent_at r p (record_for s g) q) else r) (places_there r s f g k (unfrozen_waits s l g goes) here j) r

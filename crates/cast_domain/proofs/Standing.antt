@@ -1,10 +1,11 @@
 -- What changes a domain's records changes the history that they stand for in the same way: one change at a time.
-use Rattle.std.proofs.Common.{◌≡◌, ℕ, zero, suc, ◌+◌, ◌-◌, ◌<◌, ◌≤◌, Bool, true, false, cond, ◌&&◌, List, [], ◌∷◌, ◌++◌, length, map, Option, Some, None, unwrap_or, refl, sym, ap, subst, ◌∙◌, inl, inr, arith}
-use Rattle.std.specs.Prelude.{◌==◌, nat_lt, nat_le, if◌then◌else◌, slice_get, is_some}
+use Rattle.std.proofs.Common.{◌≡◌, ℕ, zero, suc, ◌+◌, ◌-◌, ◌<◌, ◌≤◌, Bool, true, false, cond, ◌&&◌, List, [], ◌∷◌, ◌++◌, length, map, filter, Option, Some, None, unwrap_or, refl, sym, ap, subst, ◌∙◌, inl, inr, arith}
+use Rattle.std.specs.Prelude.{◌==◌, ◌||◌, nat_lt, nat_le, if◌then◌else◌, slice_get, is_some}
 use Rattle.std.specs.List.{find, range_with_len}
 use Rattle.std.specs.Option.{IsSome, option_map, option_map_or}
 use Rattle.std.proofs.lemmas.Bool.{cases_Bool, cases_eq, cases_lt, false≢true, false_from_ne_true, and_parts, and_from, eqb-true, eq-eqb, ne_eqb, ltb-true, lt-ltb, leb-true, le-leb, or_from, or_left, or_right}
 use Rattle.std.proofs.lemmas.List.{map-append, length-append}
+use Rattle.std.proofs.lemmas.List.Elements.{filter-append}
 use Rattle.std.proofs.lemmas.Option.{none-some, same_Some, slice_get-map, get_or_from_slice_get}
 use Rattle.cast_types.specs.declared.names.SiteNo.{SiteNo}
 use Rattle.cast_types.specs.declared.names.GroupNo.{GroupNo}
@@ -12,7 +13,7 @@ use Rattle.cast_types.specs.declared.names.Proc.{Proc}
 use Rattle.cast_types.specs.declared.names.Standing.{Standing}
 use Rattle.cast_types.specs.declared.names.Standing.TheVariants.{Member}
 use Rattle.cast_types.specs.declared.names.Uid.{Uid}
-use Rattle.cast_types.specs.Names.{Entry, site_eq, group_eq, group_cmp, proc_eq, uid_eq, is_order, named}
+use Rattle.cast_types.specs.Names.{Entry, site_eq, group_eq, group_cmp, proc_eq, uid_eq, is_order}
 use Rattle.cast_types.specs.Places.{update}
 use Rattle.cast_types.specs.Sets.{is_among, set_at}
 use Rattle.cast_types.specs.Stamps.{ClockList}
@@ -38,7 +39,7 @@ use Rattle.cast_stable.specs.Ledger.{new_ledger, told_ledger, received_ledger}
 use Rattle.cast_stable.specs.Fits.{Fits as AcksFits}
 use Rattle.cast_stable.proofs.Meanings.{new_fits as acks_new_fits, tell_fits as acks_tell_fits, receive_fits as acks_receive_fits}
 use Rattle.cast_delay.specs.Fits.{IsSound, HasNotBegun, FactFits, Fits as QueueFits, set_process as set_named, told as told_of}
-use Rattle.cast_delay.proofs.Queues.{new_fits, admit_fits, tell_fits, view_fits, offer_fits, standing_is, time_is}
+use Rattle.cast_delay.proofs.Queues.{new_fits, admit_fits, tell_fits, view_fits, offer_fits, standing_is, time_is, no_row_is}
 use Rattle.cast_delay.proofs.Rows.{some_row, row_of_some, names_ended}
 use Rattle.cast_delay.proofs.Finds.{find-append_some, find-append_none}
 use Rattle.cast_order.specs.Log.{Log, new_log, log_of, but_log, place_of}
@@ -48,7 +49,10 @@ use Rattle.cast_domain.specs.declared.record.GroupRecord.{GroupRecord}
 use Rattle.cast_model.specs.declared.session.Session.{Session}
 use Rattle.cast_view.specs.MemberSide.{MemberSide, is_pending, members_of, with_view}
 use Rattle.cast_view.specs.Home.{Home}
-use Rattle.cast_model.specs.Session.{no_session, first_session, is_open, pushed_to, told, closed, gone}
+use Rattle.cast_message.specs.declared.client.Push.TheVariants as push
+use Rattle.cast_model.specs.declared.session.Status.{Status}
+use Rattle.cast_model.specs.declared.session.Status.TheVariants.{Open, Closed, Gone}
+use Rattle.cast_model.specs.Session.{no_session, first_session, is_open, is_open_status, is_gone, is_gone_status, pushed_to, told, closed, gone}
 use Rattle.cast_types.specs.declared.refusal.Refusal.{Refusal}
 use Rattle.cast_view.specs.MemberSide.{members_of, with_view}
 use Rattle.cast_view.specs.Sites.{other_sites}
@@ -205,6 +209,19 @@ standing_there r s fits k g =
     standing_is r.delay (local s k) g (standing_of r.delay (local s k) g) refl s.config.groups (gate_of s) (process_named s) r.part.kept fits.processes.delay
     ∙ ap (λ (p : Process). p.standing g) (process_here s k)
 
+-- a process without a row is a member of no group
+pub member_of_none : (r : Records) (s : State) → Fits r s → (k : ℕ) → row_of r.delay.rows (local s k) ≡ None → (g : GroupNo) → is_member ((s.process k).standing g) ≡ false
+member_of_none r s fits k none g =
+    ap (λ (p : Process). is_member (p.standing g)) (sym (process_here s k))
+    ∙ ap is_member (no_row_is r.delay (local s k) none s.config.groups (gate_of s) (process_named s) r.part.kept fits.processes.delay g)
+
+-- so a member has one
+pub member_row : (r : Records) (s : State) → Fits r s → (k : ℕ) (g : GroupNo) → is_member ((s.process k).standing g) ≡ true → IsSome (row_of r.delay.rows (local s k))
+member_row r s fits k g member = elim (option_cases (row_of r.delay.rows (local s k))) [
+  | inl none ↦ absurd (false≢true (sym (member_of_none r s fits k none g) ∙ member))
+  | inr (row, some) ↦ ap is_some some
+]
+
 pub time_there : (r : Records) (s : State) → Fits r s → (k : ℕ) → IsSome (row_of r.delay.rows (local s k)) → time_of r.delay (local s k) ≡ (s.process k).time
 time_there r s fits k admitted =
     let (row, at) = some_row (row_of r.delay.rows (local s k)) admitted in
@@ -244,6 +261,19 @@ session_lost sessions (suc i) none = elim (cases_lt i (length sessions)) [
   | inr past ↦ ap (λ (o : Option Session). unwrap_or o no_session) (past_end sessions i (omega (arith, past)))
 ]
 
+-- an open session is not gone
+open_remains : (x : Session) → is_open x ≡ true → is_gone x ≡ false
+open_remains x is = by_status x.status is
+  where
+    by_status : (status : Status) → is_open_status status ≡ true → is_gone_status status ≡ false
+    by_status Open is = refl
+    by_status Closed is = refl
+    by_status Gone is = absurd (false≢true is)
+
+-- so the process of an open session has a row
+pub open_row : (r : Records) (s : State) → Fits r s → (k : ℕ) → is_open (s.session k) ≡ true → IsSome (row_of r.delay.rows (local s k))
+open_row r s fits k is = fits.processes.admitted k (open_remains (s.session k) is)
+
 -- an open session has a serial that was given
 pub open_given : (r : Records) (s : State) → Fits r s → (k : ℕ) → is_open (s.session k) ≡ true → was_given s.used k ≡ true
 open_given r s fits k is_so = elim (cases_Bool (was_given (length r.sessions) k)) [
@@ -251,21 +281,34 @@ open_given r s fits k is_so = elim (cases_Bool (was_given (length r.sessions) k)
   | inr none ↦ absurd (false≢true (ap is_open (sym (fits.opened.each k ∙ session_lost r.sessions k none)) ∙ is_so))
 ]
 
--- the session of a serial changes on both sides, in a way that leaves nothing where there is none
-fits_session : (r : Records) (s : State) → Fits r s → (k : ℕ) (change : Session → Session) → change no_session ≡ no_session → Fits (change_session_in r k change) (set_session s k (change (s.session k)))
-fits_session r s fits k change none =
+-- the session of a serial changes on both sides, in a way that leaves nothing where there is none; one that is gone stays gone
+fits_session : (r : Records) (s : State) → Fits r s → (k : ℕ) (change : Session → Session) → change no_session ≡ no_session → ((x : Session) → is_gone x ≡ true → is_gone (change x) ≡ true) → Fits (change_session_in r k change) (set_session s k (change (s.session k)))
+fits_session r s fits k change none still =
     elim (was_given (length r.sessions) k) as (λ b. was_given (length r.sessions) k ≡ b → Fits (if b then record r { sessions = update r.sessions (k - 1) change } else r) (set_session s k (change (s.session k)))) [
       | true ↦ λ given. changed (update r.sessions (k - 1) change) (length_update change r.sessions (k - 1)) (changed_now (ltb-true 0 k (and_parts (nat_lt 0 k) (nat_le k (length r.sessions)) given).0))
       | false ↦ λ out. changed r.sessions refl (changed_nothing out)
     ] refl
   where
+    remained : (j : ℕ) → is_gone ((set_session s k (change (s.session k))).session j) ≡ false → is_gone (s.session j) ≡ false
+    remained j = elim (k == j) as (λ b. k == j ≡ b → is_gone (if b then change (s.session k) else s.session j) ≡ false → is_gone (s.session j) ≡ false) [
+      | true ↦ λ is remains.
+          false_from_ne_true (is_gone (s.session j)) (λ left. false≢true (sym remains ∙ still (s.session k) (ap (λ i. is_gone (s.session i)) (eqb-true k j is) ∙ left)))
+      | false ↦ λ _ remains. remains
+    ] refl
+
     changed : (sessions : List Session) → length sessions ≡ length r.sessions → ((j : ℕ) → (set_session s k (change (s.session k))).session j ≡ session_in sessions j) → Fits (record r { sessions = sessions }) (set_session s k (change (s.session k)))
     changed sessions long each = record {
       core = fits.core;
       opened = record { given = long ∙ fits.opened.given; each = each };
       groups = fits.groups;
       messages = fits.messages;
-      processes = fits.processes;
+      processes = record {
+        delay = fits.processes.delay;
+        admitted = λ j remains. fits.processes.admitted j (remained j remains);
+        has_row = fits.processes.has_row;
+        rows = fits.processes.rows;
+        idle = fits.processes.idle;
+      };
       acks = fits.acks;
       orders = orders_same s (set_session s k (change (s.session k))) r.orders refl refl refl refl refl refl refl fits.orders;
       frames = fits.frames;
@@ -303,6 +346,17 @@ fits_session r s fits k change none =
           | false ↦ λ _. fits.opened.each j
         ] refl
 
+-- what is told to a session leaves it gone or not
+pub told_gone : (p : Push) (x : Session) → is_gone (told p x) ≡ is_gone x
+told_gone p x = elim (is_open x) as (λ b. is_gone (if b then pushed_to x p else x) ≡ is_gone x) [ true ↦ refl | false ↦ refl ]
+
+-- and so does that it is closed
+pub closed_gone : (refusal : Refusal) (x : Session) → is_gone (closed refusal x) ≡ is_gone x
+closed_gone refusal x = elim (is_open x) as (λ b. is_open x ≡ b → is_gone (if b then record (pushed_to x (push.Closed refusal)) { status = Closed } else x) ≡ is_gone x) [
+  | true ↦ λ is. sym (open_remains x is)
+  | false ↦ λ _. refl
+] refl
+
 -- a session is told of an entry, where it is open
 pushing_told : (s : State) (k : ℕ) (p : Push) → pushing s k p ≡ set_session s k (told p (s.session k))
 pushing_told s k p =
@@ -318,14 +372,14 @@ pushing_told s k p =
     ] refl
 
 pub fits_push : (r : Records) (s : State) → Fits r s → (k : ℕ) (p : Push) → Fits (push_in r k p) (pushing s k p)
-fits_push r s fits k p = subst (Fits (push_in r k p)) (sym (pushing_told s k p)) (fits_session r s fits k (told p) refl)
+fits_push r s fits k p = subst (Fits (push_in r k p)) (sym (pushing_told s k p)) (fits_session r s fits k (told p) refl (λ x left. told_gone p x ∙ left))
 
 -- it is closed, or gone
 pub fits_close : (r : Records) (s : State) → Fits r s → (k : ℕ) (refusal : Refusal) → Fits (close_in r k refusal) (closing s k refusal)
-fits_close r s fits k refusal = fits_session r s fits k (closed refusal) refl
+fits_close r s fits k refusal = fits_session r s fits k (closed refusal) refl (λ x left. closed_gone refusal x ∙ left)
 
 pub fits_go : (r : Records) (s : State) → Fits r s → (k : ℕ) → Fits (go_in r k) (going s k)
-fits_go r s fits k = fits_session r s fits k gone refl
+fits_go r s fits k = fits_session r s fits k gone refl (λ x left. refl)
 
 -- Changes of one group
 
@@ -369,6 +423,7 @@ fits_here r s fits lawful i g at change same seen gate waits = record {
   processes = record {
     delay = subst (λ gate. QueueFits s.config.groups gate (process_named s) r.part.kept r.delay) (gate_same s g (change (s.group g)) gate) fits.processes.delay;
     admitted = fits.processes.admitted;
+    has_row = fits.processes.has_row;
     rows = fits.processes.rows;
     idle = fits.processes.idle;
   };
@@ -391,6 +446,7 @@ fits_gated r s fits lawful i g at change same seen gate told delay orders closed
         (sym (ap (λ (x : GroupRecord). x.name) (record_there r s fits i g at)))
         (subst (λ gates. QueueFits s.config.groups gates (process_named s) r.part.kept (record r.delay { gates = put group_cmp g (gate (gate_in r.delay.gates g)) r.delay.gates })) (gate_told s g (change (s.group g)) (gate (gate_of s g)) told) delay);
     admitted = fits.processes.admitted;
+    has_row = fits.processes.has_row;
     rows = fits.processes.rows;
     idle = fits.processes.idle;
   };
@@ -413,6 +469,7 @@ fits_view r s fits lawful i g at n members newer = record {
         (subst (λ gate. QueueFits s.config.groups gate (process_named s) r.part.kept (queue_viewing g n r.delay)) (gate_told s g (with_view s.here n members (s.group g)) (open_gate n) refl)
         (view_fits s.config.groups (gate_of s) (process_named s) r.part.kept r.delay fits.processes.delay g n (omega (arith, newer))));
     admitted = λ k was. row_of_some (record_at r.groups i).name n r.delay.rows (local s k) (fits.processes.admitted k was);
+    has_row = fits.processes.has_row;
     rows = names_ended (record_at r.groups i).name n r.delay.rows ∙ fits.processes.rows;
     idle = fits.processes.idle;
   };
@@ -445,7 +502,7 @@ fits_home r s fits lawful i g at change = record {
 -- Changes of one process
 
 -- a row that is told something is the row of the same process
-told_keeps : (f : Fact) (r : Row) → (told_row f r).process ≡ r.process
+pub told_keeps : (f : Fact) (r : Row) → (told_row f r).process ≡ r.process
 told_keeps (fact.Standing h s) r = refl
 told_keeps (fact.Time time) r = refl
 
@@ -508,8 +565,9 @@ fits_told_with r s fits k row f ok logs = record {
     delay = subst (λ ps. QueueFits s.config.groups (gate_of s) ps r.part.kept (record r.delay { rows = change_row (local s k) (told_row f) r.delay.rows })) (named_set s k (told_of f))
         (tell_fits s.config.groups (gate_of s) (process_named s) r.part.kept r.delay fits.processes.delay (local s k) f row ok);
     admitted = λ j was. still_in (local s k) (told_row f) (told_keeps f) (local s j) r.delay.rows (fits.processes.admitted j was);
+    has_row = fits.processes.has_row;
     rows = same_names (local s k) (told_row f) (told_keeps f) r.delay.rows ∙ fits.processes.rows;
-    idle = still_idle s k (told_of f (s.process k)) (row_given s r.delay.rows s.used k fits.processes.rows row) fits.processes.idle;
+    idle = still_idle s k (told_of f (s.process k)) (row_given s r.delay.rows fits.processes.has_row s.used fits.processes.rows k row) fits.processes.idle;
   };
   acks = fits.acks;
   orders = logs;
@@ -557,15 +615,11 @@ fits_member r s fits k row g listed unclosed new = fits_told_with r s fits k row
             (λ p u is. delivered p u (site_eq p.site s.here) (k == p.serial) (eqb-true k p.serial) is)
             (fits.orders g)
 
--- each given serial has a row
-pub fits_tell : (r : Records) (s : State) → Fits r s → (k : ℕ) → was_given s.used k ≡ true → (f : Fact) → FactFits s.config.groups f → MakesNoMember f → Fits (tell_in r (local s k) f) (set_process s k (told_of f (s.process k)))
-fits_tell r s fits k given f ok none = fits_told r s fits k (fits.processes.admitted k given) f ok none
+pub fits_standing : (r : Records) (s : State) → Fits r s → (k : ℕ) → IsSome (row_of r.delay.rows (local s k)) → (g : GroupNo) (v : Standing) → (is_outside v ≡ false → is_group s g ≡ true) → is_member v ≡ false → Fits (tell_in r (local s k) (fact.Standing g v)) (set_standing s k g v)
+fits_standing r s fits k row g v ok none = fits_told r s fits k row (fact.Standing g v) ok none
 
-pub fits_standing : (r : Records) (s : State) → Fits r s → (k : ℕ) → was_given s.used k ≡ true → (g : GroupNo) (v : Standing) → (is_outside v ≡ false → is_group s g ≡ true) → is_member v ≡ false → Fits (tell_in r (local s k) (fact.Standing g v)) (set_standing s k g v)
-fits_standing r s fits k given g v ok none = fits_tell r s fits k given (fact.Standing g v) ok none
-
-pub fits_time : (r : Records) (s : State) → Fits r s → (k : ℕ) → was_given s.used k ≡ true → (t : ClockList) → Fits (tell_in r (local s k) (fact.Time t)) (set_process s k (record (s.process k) { time = t }))
-fits_time r s fits k given t = fits_tell r s fits k given (fact.Time t) tt tt
+pub fits_time : (r : Records) (s : State) → Fits r s → (k : ℕ) → IsSome (row_of r.delay.rows (local s k)) → (t : ClockList) → Fits (tell_in r (local s k) (fact.Time t)) (set_process s k (record (s.process k) { time = t }))
+fits_time r s fits k row t = fits_told r s fits k row (fact.Time t) tt tt
 
 -- what processes did is the history's alone
 pub fits_acts : (r : Records) (s : State) → Fits r s → (acts : ℕ → List Act) → Fits r (record s { acts = acts })
@@ -581,10 +635,10 @@ fits_acts r s fits acts = record {
   delivered = fits.delivered;
 }
 
-pub fits_sent : (r : Records) (s : State) → Fits r s → (k : ℕ) → was_given s.used k ≡ true → (m : Message) → Fits (tell_in r (local s k) (fact.Time m.times)) (noting_sent s k m)
-fits_sent r s fits k given m =
+pub fits_sent : (r : Records) (s : State) → Fits r s → (k : ℕ) → IsSome (row_of r.delay.rows (local s k)) → (m : Message) → Fits (tell_in r (local s k) (fact.Time m.times)) (noting_sent s k m)
+fits_sent r s fits k row m =
     let now : State = set_process s k (record (s.process k) { time = m.times }) in
-    fits_acts (tell_in r (local s k) (fact.Time m.times)) now (fits_time r s fits k given m.times) (noting_act now k (Sent m)).acts
+    fits_acts (tell_in r (local s k) (fact.Time m.times)) now (fits_time r s fits k row m.times) (noting_act now k (Sent m)).acts
 
 -- Messages and sessions that come
 
@@ -610,6 +664,7 @@ fits_receive_with r s fits m sound orders logs = record {
   processes = record {
     delay = offer_fits s.config.groups (gate_of s) (process_named s) r.part.kept r.delay fits.processes.delay (record { key = record { 0 = r.part.next }; message = m }) sound (fits.messages.fresh r.part.next (omega arith));
     admitted = fits.processes.admitted;
+    has_row = fits.processes.has_row;
     rows = fits.processes.rows;
     idle = fits.processes.idle;
   };
@@ -624,12 +679,6 @@ fits_receive_with r s fits m sound orders logs = record {
 pub fits_receive : (r : Records) (s : State) → Fits r s → (m : Message) → IsSound m → (m.id.view == (s.group m.id.group).number) ≡ true → (is_pending (s.group m.id.group) ≡ false → (k : ℕ) → (is_order (kind_of m.body) && proc_eq m.id.proc (local s k)) ≡ false) → Fits (receive_in r m) (receiving s m)
 fits_receive r s fits m sound current foreign = fits_receive_with r s fits m sound (learn_in r.orders m.id.group m.body) (logs_receive s m r.orders fits.orders current foreign)
 
--- which serials were given after one more
-given_more : (used k : ℕ) → (used + 1 ≡ k → ⊥) → was_given used k ≡ was_given (used + 1) k
-given_more used k other = ap (λ b. nat_lt 0 k && b) (same_bools (nat_le k used) (nat_le k (used + 1))
-    (λ e. le-leb k (used + 1) (omega (arith, leb-true k used e)))
-    (λ e. le-leb k used (omega (arith, leb-true k (used + 1) e, other))))
-
 -- a serial that is not given after one more was not before, and the next one was not
 given_before : (used k : ℕ) → was_given (used + 1) k ≡ false → was_given used k ≡ false
 given_before used k none = false_from_ne_true (was_given used k) (λ was.
@@ -637,7 +686,7 @@ given_before used k none = false_from_ne_true (was_given used k) (λ was.
     let within = leb-true k used parts.1 in
     false≢true (sym none ∙ and_from (nat_lt 0 k) (nat_le k (used + 1)) parts.0 (le-leb k (used + 1) (omega (arith, within)))))
 
-given_later : (used : ℕ) → was_given used (used + 1) ≡ false
+pub given_later : (used : ℕ) → was_given used (used + 1) ≡ false
 given_later used = false_from_ne_true (was_given used (used + 1)) (λ was.
     let within = leb-true (used + 1) used (and_parts (nat_lt 0 (used + 1)) (nat_le (used + 1) used) was).1 in
     omega (arith, within))
@@ -653,6 +702,15 @@ range_push : (a n : ℕ) → range_with_len a (suc n) ≡ range_with_len a n ++ 
 range_push a zero = ap (λ k. k ∷ []) (omega arith)
 range_push a (suc n) = ap (λ rest. a ∷ rest) (range_push (a + 1) n) ∙ ap (λ k. a ∷ (range_with_len (a + 1) n ++ k ∷ [])) (omega arith)
 
+-- where one more serial has a row, that is the last one of those before which it comes
+filter_more : (test : ℕ → Bool) (a n last : ℕ) → a + n ≤ last → filter (λ k. (k == last) || test k) (range_with_len a n) ≡ filter test (range_with_len a n)
+filter_more test a zero last past = refl
+filter_more test a (suc n) last past =
+    λ i. cond (same i) (a ∷ filter_more test (a + 1) n last (omega arith) i) (filter_more test (a + 1) n last (omega arith) i)
+  where
+    same : ((a == last) || test a) ≡ test a
+    same = ap (λ b. b || test a) (ne_eqb a last (λ is. omega (arith, is, past)))
+
 -- a session is opened
 pub fits_open : (r : Records) (s : State) → Fits r s → Fits (open_in r) (opening_next s)
 fits_open r s fits = record {
@@ -667,10 +725,14 @@ fits_open r s fits = record {
     delay = admit_fits s.config.groups (gate_of s) (process_named s) r.part.kept r.delay fits.processes.delay named
         (λ _. subst (λ p. HasNotBegun (process_named s p)) (λ i. record { site = (sym fits.core i).site; serial = (sym fits.core i).used + 1 }) (fits.processes.idle (s.used + 1) (given_later s.used)));
     admitted = admitted_now;
+    has_row = has_row_now;
     rows =
         map-append (λ (x : Row). x.process) r.delay.rows (new_row named ∷ [])
         ∙ (λ i. fits.processes.rows i ++ record { site = (fits.core i).site; serial = (ap (λ c. c.used + 1) fits.core ∙ last_serial s.used) i } ∷ [])
-        ∙ sym (ap (λ n. map (local s) (range_with_len 1 n)) (one_more s.used) ∙ ap (map (local s)) (range_push 1 s.used) ∙ map-append (local s) (range_with_len 1 s.used) ((1 + s.used) ∷ []));
+        ∙ sym (ap (λ n. map (local s) (filter has_row_now (range_with_len 1 n))) (one_more s.used)
+        ∙ ap (λ ks. map (local s) (filter has_row_now ks)) (range_push 1 s.used)
+        ∙ ap (map (local s)) (filter-append has_row_now (range_with_len 1 s.used) ((1 + s.used) ∷ []) ∙ (λ i. filter_more fits.processes.has_row 1 s.used (s.used + 1) (omega arith) i ++ cond (has_last i) ((1 + s.used) ∷ []) []))
+        ∙ map-append (local s) (filter fits.processes.has_row (range_with_len 1 s.used)) ((1 + s.used) ∷ []));
     idle = λ k none. fits.processes.idle k (given_before s.used k none);
   };
   acks = fits.acks;
@@ -697,15 +759,24 @@ fits_open r s fits = record {
           ∙ ap (λ (o : Option Session). unwrap_or o no_session) (sym (push_other r.sessions (first_session named) i (λ same. other (omega (arith, same, fits.opened.given)))))
     ]
 
-    admitted_now : (k : ℕ) → was_given (s.used + 1) k ≡ true → IsSome (row_of (r.delay.rows ++ new_row named ∷ []) (local s k))
-    admitted_now k was = elim (option_cases (row_of r.delay.rows (local s k))) [
+    has_row_now : ℕ → Bool
+    has_row_now k = (k == s.used + 1) || fits.processes.has_row k
+
+    has_last : has_row_now (1 + s.used) ≡ true
+    has_last = or_left (1 + s.used == s.used + 1) (fits.processes.has_row (1 + s.used)) (eq-eqb (1 + s.used) (s.used + 1) (omega arith))
+
+    admitted_now : (k : ℕ) → is_gone ((opening_next s).session k) ≡ false → IsSome (row_of (r.delay.rows ++ new_row named ∷ []) (local s k))
+    admitted_now k remains = elim (option_cases (row_of r.delay.rows (local s k))) [
       | inr (row, some) ↦ ap is_some (find-append_some (λ (x : Row). proc_eq x.process (local s k)) r.delay.rows (new_row named ∷ []) row some)
       | inl none ↦ elim (cases_eq (s.used + 1) k) [
         | inl same ↦
             let is : named ≡ local s k = λ j. record { site = (fits.core j).site; serial = (ap (λ n. n + 1) (ap (λ c. c.used) fits.core) ∙ same) j } in
             ap is_some (find-append_none (λ (x : Row). proc_eq x.process (local s k)) r.delay.rows (new_row named ∷ []) none)
             ∙ ap (λ b. is_some (cond b (Some (new_row named)) None)) (ap (λ p. proc_eq p (local s k)) is ∙ proc_itself (local s k))
-        | inr other ↦ absurd (false≢true (ap is_some (sym none) ∙ fits.processes.admitted k (given_more s.used k other ∙ was)))
+        | inr other ↦
+            let before : is_gone (s.session k) ≡ false =
+            sym (ap (λ b. is_gone (if b then first_session (local s (s.used + 1)) else s.session k)) (ne_eqb (s.used + 1) k other)) ∙ remains in
+            absurd (false≢true (ap is_some (sym none) ∙ fits.processes.admitted k before))
       ]
     ]
 
@@ -725,7 +796,8 @@ fits_before here config = record {
   };
   processes = record {
     delay = subst (λ ps. QueueFits config.groups (λ g. open_gate 0) ps [] (record { gates = []; offered = []; rows = []; reached = [] })) (λ i p. idle p i) (new_fits config.groups);
-    admitted = λ k was. absurd (false≢true (sym (none_given k) ∙ was));
+    admitted = λ k remains. absurd (false≢true (sym remains));
+    has_row = λ k. false;
     rows = refl;
     idle = λ k none. subst HasNotBegun (idle (record { site = here; serial = k })) (record { time = refl; delivered = refl });
   };
@@ -741,11 +813,6 @@ fits_before here config = record {
   where
     idle : (p : Proc) → no_process ≡ process_named (before_event (opening here config)) p
     idle p = elim (site_eq p.site here) as (λ b. no_process ≡ (if b then no_process else no_process)) [ true ↦ refl | false ↦ refl ]
-
-    none_given : (k : ℕ) → was_given 0 k ≡ false
-    none_given k = false_from_ne_true (was_given 0 k) (λ was.
-        let parts = and_parts (nat_lt 0 k) (nat_le k 0) was in
-        omega (arith, ltb-true 0 k parts.0, leb-true k 0 parts.1))
 
     none_in : (k : ℕ) → no_session ≡ session_in [] k
     none_in zero = refl

@@ -2,7 +2,7 @@
 use Rattle.std.proofs.Common.{◌≡◌, ℕ, zero, suc, ◌+◌, ◌*◌, ◌<◌, Bool, true, false, not, List, [], ◌∷◌, ◌++◌, length, map, Option, Some, None, refl, sym, ap, subst, ◌∙◌, inl, inr, arith}
 use Rattle.std.specs.Prelude.{◌&&◌, ◌||◌, ◌==◌, if◌then◌else◌, filter}
 use Rattle.std.specs.List.{fold, find, range_with_len}
-use Rattle.std.proofs.lemmas.Bool.{cases_Bool, cases_lt, and_parts, eqb-true, false_from_ne_true}
+use Rattle.std.proofs.lemmas.Bool.{cases_lt, and_parts, eqb-true, false≢true, false_from_ne_true}
 use Rattle.std.proofs.lemmas.List.{append_assoc, append-nil, length-append}
 use Rattle.cast_types.specs.declared.names.GroupNo.{GroupNo}
 use Rattle.cast_types.specs.declared.names.Proc.{Proc}
@@ -18,8 +18,12 @@ use Rattle.cast_message.specs.Bodies.{kind_of}
 use Rattle.cast_delay.specs.Ready.{Process, is_member, has_delivered}
 use Rattle.cast_delay.specs.Queue.{row_of}
 use Rattle.cast_delay.proofs.Listed.{list_any-append}
-use Rattle.cast_delay.proofs.Rows.{some_row}
 use Rattle.cast_delay.proofs.Queues.{delivered_by}
+use Rattle.cast_clock.specs.Times.{join}
+use Rattle.cast_clock.proofs.Entries.{option_cases}
+use Rattle.cast_message.specs.declared.client.Push.{Push}
+use Rattle.cast_model.specs.Session.{is_open, pushed_to}
+use Rattle.cast_history.specs.Rules.Rest.{tell, told_of}
 use Rattle.cast_order.specs.Log.{log_of}
 use Rattle.cast_history.specs.History.{history}
 use Rattle.cast_domain.specs.declared.record.GroupRecord.{GroupRecord}
@@ -27,7 +31,7 @@ use Rattle.cast_types.specs.Names.{named}
 use Rattle.cast_timer.specs.declared.key.OwedKind.TheVariants.{Want}
 use Rattle.cast_delay.specs.Ready.{covered}
 use Rattle.cast_view.specs.MemberSide.{MemberSide, holder_at, is_pending}
-use Rattle.cast_history.specs.State.{State, local, serials, gate_of, was_given}
+use Rattle.cast_history.specs.State.{State, local, serials, gate_of, set_session, with_delivery}
 use Rattle.cast_history.specs.Order.{unlisted}
 use Rattle.cast_history.specs.Turns.{is_ready_for}
 use Rattle.cast_history.specs.Effects.{sending, next_message}
@@ -50,7 +54,7 @@ use Rattle.cast_history.proofs.Spots.{found_passes}
 use Rattle.cast_history.proofs.Rests.{moves_settle, moves_set_orders, moves_lead, moves_pass, never_more}
 use Rattle.cast_history.proofs.Totals.{total_same}
 use Rattle.cast_history.proofs.LawfulSteps.{same_lead, lawful_pass}
-use Rattle.cast_domain.proofs.Standing.{process_here}
+use Rattle.cast_domain.proofs.Standing.{process_here, member_of_none}
 use Rattle.cast_domain.proofs.Ordering.{waiting_there, unfrozen_waits}
 use Rattle.cast_domain.proofs.SetOrders.{holder_local}
 
@@ -182,6 +186,80 @@ goes_pass s as_many =
       | inr alike ↦ goes_alike u v alike
     ]) (goes_lead v)))
 
+-- What a process in no group delivers in a pass where no Install is completed: nothing
+
+-- a process that is a member of no group
+abbrev IsNoMember : State → ℕ → Type 0
+IsNoMember s k = (g : GroupNo) → is_member ((s.process k).standing g) ≡ false
+
+-- what is told to a session changes no process
+told_processes : (s : State) (j : ℕ) (o : Option Push) → (tell history s j o).process ≡ s.process
+told_processes s j None = refl
+told_processes s j (Some p) = elim (is_open (s.session j)) as (λ b. (if b then set_session s j (pushed_to (s.session j) p) else s).process ≡ s.process) [ true ↦ refl | false ↦ refl ]
+
+idle_first : (s : State) (k j : ℕ) → IsNoMember s k → (deliver_first j s).process k ≡ s.process k
+idle_first s k j out = found (find (is_ready_for s j) s.got) refl
+  where
+    by_serial : (m : Message) → is_ready_for s j m ≡ true → (b : Bool) → (j == k) ≡ b → (with_delivery s j m).process k ≡ s.process k
+    by_serial m ready true same =
+        let member = (and_parts (is_member ((s.process j).standing m.id.group)) _ (ready_causally s j m ready)).0 in
+        absurd (false≢true (sym (out m.id.group) ∙ ap (λ i. is_member ((s.process i).standing m.id.group)) (sym (eqb-true j k same)) ∙ member))
+    by_serial m ready false other =
+        ap (λ b. if b then record (s.process j) { time = join (s.process j).time m.times; delivered = (s.process j).delivered ++ m.id ∷ [] } else s.process k) other
+
+    found : (o : Option Message) → find (is_ready_for s j) s.got ≡ o → (elim o as (λ _. State) [ Some m ↦ delivering_one s j m | None ↦ s ]).process k ≡ s.process k
+    found (Some m) is =
+        ap (λ processes. processes k) (told_processes (with_delivery s j m) j (told_of m.id m.body))
+        ∙ by_serial m (found_passes (is_ready_for s j) s.got m is) (j == k) refl
+    found None is = refl
+
+idle_turns : (n j : ℕ) (s : State) (k : ℕ) → IsNoMember s k → (iterate n (deliver_first j) s).process k ≡ s.process k
+idle_turns zero j s k out = refl
+idle_turns (suc n) j s k out =
+    let first = idle_first s k j out in
+    idle_turns n j (deliver_first j s) k (λ g. ap (λ p. is_member (p.standing g)) first ∙ out g) ∙ first
+
+idle_settle : (ks : List ℕ) (s : State) (k : ℕ) → IsNoMember s k → (fold deliver_all s ks).process k ≡ s.process k
+idle_settle [] s k out = refl
+idle_settle (j ∷ ks) s k out =
+    let all = idle_turns (length s.got) j s k out in
+    idle_settle ks (deliver_all s j) k (λ g. ap (λ p. is_member (p.standing g)) all ∙ out g) ∙ all
+
+-- set-order messages are sent, and nobody delivers
+idle_order : (s : State) (g : GroupNo) (k : ℕ) → ((set_order s g).process k).delivered ≡ (s.process k).delivered
+idle_order s g k = held (holder_at s.here (s.group g))
+  where
+    held : (o : Option Proc) → ((elim o as (λ _. State) [ Some p ↦ set_order_by s g p.serial | None ↦ s ]).process k).delivered ≡ (s.process k).delivered
+    held None = refl
+    held (Some p) =
+        let content : Body = body.Order (places_of s g p.serial) in
+        subst (λ (t : State). (t.process k).delivered ≡ (s.process k).delivered) (sym (set_order_is s g p.serial))
+        (elim (may_set_order s g p.serial) as (λ b. ((if b then let_go (sending s g p.serial content) else s).process k).delivered ≡ (s.process k).delivered) [
+          | true ↦ (alike_sending s g p.serial content).delivered k
+          | false ↦ refl
+        ])
+
+idle_orders : (gs : List GroupNo) (s : State) (k : ℕ) → ((fold set_order s gs).process k).delivered ≡ (s.process k).delivered
+idle_orders [] s k = refl
+idle_orders (g ∷ gs) s k = idle_orders gs (set_order s g) k ∙ idle_order s g k
+
+idle_pass : (s : State) → pendings (pass s) ≡ pendings s → (k : ℕ) → IsNoMember s k → ((pass s).process k).delivered ≡ (s.process k).delivered
+idle_pass s as_many k out =
+    let t : State = settle s in
+    let u : State = set_orders t in
+    let v : State = go_on_all history resting u in
+    ap (λ (p : Process). p.delivered) ((same_lead v).process k)
+    ∙ (elim (goes_on u).way [
+      | inl fewer ↦
+          let first = never_more s t (moves_settle s) in
+          let second = never_more t u (moves_set_orders t) in
+          let last = never_more v (pass s) (moves_lead v) in
+          absurd (omega (arith, as_many, fewer, first, second, last))
+      | inr alike ↦ alike.delivered k
+    ])
+    ∙ idle_orders t.config.groups t k
+    ∙ ap (λ (p : Process). p.delivered) (idle_settle (serials s) s k out)
+
 -- what goes on no longer is the same
 no_more : (before after : List Message) → GoesOn before after → length after ≡ length before → after ≡ before
 no_more before after (more, is) same = is ∙ at more (let long = ap length is ∙ length-append before more in omega (arith, long, same))
@@ -193,8 +271,8 @@ no_more before after (more, is) same = is ∙ at more (let long = ap length is �
 -- Histories of the same messages and records
 
 -- they have the same to do, where one goes on from the other
-pub same_to_do : (r : Records) (s t : State) → Fits r s → Fits r t → IsLawful s → IsLawful t → Goes s t → t.got ≡ s.got → to_do t ≡ to_do s
-same_to_do r s t a b l m goes got = λ i. undelivered_same i + ranks_same i + (used_same i + 1) * lists_same i
+pub same_to_do : (r : Records) (s t : State) → Fits r s → Fits r t → IsLawful s → IsLawful t → Goes s t → ((k : ℕ) → IsNoMember s k → (t.process k).delivered ≡ (s.process k).delivered) → t.got ≡ s.got → to_do t ≡ to_do s
+same_to_do r s t a b l m goes idle got = λ i. undelivered_same i + ranks_same i + (used_same i + 1) * lists_same i
   where
     here_same : t.here ≡ s.here
     here_same = sym (ap (λ c. c.site) b.core) ∙ (ap (λ c. c.site) a.core)
@@ -206,23 +284,19 @@ same_to_do r s t a b l m goes got = λ i. undelivered_same i + ranks_same i + (u
     named_same k = ap (λ h. process_named t (record { site = h; serial = k })) (sym here_same) ∙ process_here t k
 
     -- the same row tells what either process delivered in views that have not ended, and what it delivered before stays; who has no
-    -- serial delivered nothing
+    -- row is in no group, and delivered nothing more
     has_same : (k : ℕ) (u : Uid) → has_delivered (t.process k) u ≡ has_delivered (s.process k) u
-    has_same k u = elim (cases_Bool (was_given s.used k)) [
-      | inl given ↦ elim (cases_lt u.view (s.group u.group).number) [
+    has_same k u = elim (option_cases (row_of r.delay.rows (local s k))) [
+      | inr (row, at) ↦ elim (cases_lt u.view (s.group u.group).number) [
         | inl old ↦ goes.ended k u old
         | inr stands ↦
-            let (row, at) = some_row (row_of r.delay.rows (local s k)) (a.processes.admitted k given) in
             let number = goes.number u.group in
             ap (λ p. has_delivered p u) (sym (named_same k))
             ∙ sym (delivered_by t.config.groups (gate_of t) (process_named t) r.part.kept r.delay b.processes.delay (local s k) row at u (omega (arith, stands, number)))
             ∙ delivered_by s.config.groups (gate_of s) (process_named s) r.part.kept r.delay a.processes.delay (local s k) row at u (omega (arith, stands))
             ∙ ap (λ p. has_delivered p u) (process_here s k)
       ]
-      | inr none ↦
-          let now : (t.process k).delivered ≡ [] = ap (λ (p : Process). p.delivered) (sym (process_here t k)) ∙ (b.processes.idle k (ap (λ n. was_given n k) used_same ∙ none)).delivered in
-          let was : (s.process k).delivered ≡ [] = ap (λ (p : Process). p.delivered) (sym (process_here s k)) ∙ (a.processes.idle k none).delivered in
-          ap (is_among uid_eq u) (now ∙ sym was)
+      | inl none ↦ ap (is_among uid_eq u) (idle k (member_of_none r s a k none))
     ]
 
     left_same : (k : ℕ) (got : List Message) → left (t.process k).delivered got ≡ left (s.process k).delivered got
@@ -344,6 +418,6 @@ still_pass r s before lawful after = elim (moves_pass s).way [
   | inr (inr (as_many, inl less)) ↦
       let goes : Goes s (pass s) = goes_pass s as_many in
       let got : (pass s).got ≡ s.got = no_more s.got (pass s).got goes.got (sym after.messages.counted ∙ before.messages.counted) in
-      let same = same_to_do r s (pass s) before after lawful (lawful_pass s lawful) goes got in absurd (omega (arith, less, same))
+      let same = same_to_do r s (pass s) before after lawful (lawful_pass s lawful) goes (idle_pass s as_many) got in absurd (omega (arith, less, same))
   | inr (inr (as_many, inr fewer)) ↦ let less = fewer.1 in let same = same_unowed r s (pass s) before after in absurd (omega (arith, less, same))
 ]

@@ -1,7 +1,7 @@
 -- As processes are put out of a view and enter the next one, there are as many groups as before.
 use Rattle.std.proofs.Common.{◌≡◌, ℕ, ◌-◌, Bool, true, false, ◌&&◌, List, [], ◌∷◌, length, refl, ap, ◌∙◌}
 use Rattle.std.specs.Prelude.{if◌then◌else◌}
-use Rattle.std.specs.List.{fold, range_with_len}
+use Rattle.std.specs.List.{fold}
 use Rattle.cast_types.specs.declared.names.GroupNo.{GroupNo}
 use Rattle.cast_types.specs.declared.names.Proc.{Proc}
 use Rattle.cast_types.specs.declared.names.Standing.TheVariants.{Outside, Member}
@@ -17,7 +17,7 @@ use Rattle.cast_model.specs.Session.{told}
 use Rattle.cast_view.specs.MemberSide.{with_view, is_taken_in}
 use Rattle.cast_history.specs.State.{was_given}
 use Rattle.cast_domain.specs.Records.{Records}
-use Rattle.cast_domain.specs.Calls.{record_at, standing_of, time_of, local_in, push_in, tell_in, enter_in, take_in, view_in, put_out_in, is_put_out_in, put_out_if_in, put_out_all_in, pass_in}
+use Rattle.cast_domain.specs.Calls.{serials_in, record_at, standing_of, time_of, local_in, push_in, tell_in, enter_in, take_in, view_in, put_out_in, is_put_out_in, put_out_if_in, put_out_all_in, pass_in}
 
 push_groups : (r : Records) (k : ℕ) (p : Push) → (push_in r k p).groups ≡ r.groups
 push_groups r k p = elim (was_given (length r.sessions) k) as (λ b. (if b then record r { sessions = update r.sessions (k - 1) (told p) } else r).groups ≡ r.groups) [ true ↦ refl | false ↦ refl ]
@@ -33,7 +33,7 @@ put_out_groups g skips n members r k = elim (is_put_out_in g skips members r k) 
 ]
 
 pub put_out_all_groups : (g : GroupNo) (skips : Bool) (n : ℕ) (members : Membership) (r : Records) → (put_out_all_in g skips n members r).groups ≡ r.groups
-put_out_all_groups g skips n members r = fold_groups (put_out_if_in g skips n members) (put_out_groups g skips n members) (range_with_len 1 r.used) r
+put_out_all_groups g skips n members r = fold_groups (put_out_if_in g skips n members) (put_out_groups g skips n members) (serials_in r) r
 
 take_groups : (g : GroupNo) (n : ℕ) (members : Membership) (request : ℕ) (r : Records) (p : Proc) → (take_in g n members request r p).groups ≡ r.groups
 take_groups g n members request r p = elim (site_eq p.site r.site && is_taken_in request (standing_of r.delay p g)) as (λ b. (if b then enter_in g n members r p else r).groups ≡ r.groups) [

@@ -51,7 +51,7 @@ use Rattle.cast_history.proofs.LawfulSteps.{lawful_first}
 use Rattle.cast_domain.proofs.Releases.{fits_let_go}
 use Rattle.cast_delay.proofs.Finds.{found_in}
 use Rattle.cast_types.proofs.Iterates.{iterate_still}
-use Rattle.cast_domain.proofs.Standing.{fits_push, process_here, named_set, still_in, same_names, still_idle}
+use Rattle.cast_domain.proofs.Standing.{fits_push, process_here, member_row, named_set, still_in, same_names, still_idle}
 
 -- What the turns leave as it is
 
@@ -96,7 +96,7 @@ still_after offered p key q rows was = still_found (offered_under offered key)
     still_found None = was
 
 -- and the rows are those of the same processes
-names_after : (offered : List Offered) (p : Proc) (key : Key) (rows : List Row) → map (λ (row : Row). row.process) (after_delivery offered p key rows) ≡ map (λ (row : Row). row.process) rows
+pub names_after : (offered : List Offered) (p : Proc) (key : Key) (rows : List Row) → map (λ (row : Row). row.process) (after_delivery offered p key rows) ≡ map (λ (row : Row). row.process) rows
 names_after offered p key rows = names_found (offered_under offered key)
   where
     names_found : (o : Option Offered) → map (λ (row : Row). row.process) (elim o as (λ _. List Row) [ Some x ↦ change_row p (delivered_row x.id x.times) rows | None ↦ rows ]) ≡ map (λ (row : Row). row.process) rows
@@ -118,6 +118,9 @@ passing r s k key m =
     (next_in (log_of r.orders m.id.group) (local s k))
 
 -- what is ready is of the current view of a group of the process, and it has not delivered it
+ready_member : (s : State) (k : ℕ) (m : Message) → is_ready_for s k m ≡ true → is_member ((s.process k).standing m.id.group) ≡ true
+ready_member s k m ready = (and_parts (is_member ((s.process k).standing m.id.group)) _ (ready_causally s k m ready)).0
+
 ready_current : (s : State) (k : ℕ) (m : Message) → is_ready_for s k m ≡ true → is_of_view s m.id.group m.id ≡ true
 ready_current s k m ready =
     let a = and_parts (is_member ((s.process k).standing m.id.group)) _ (ready_causally s k m ready) in
@@ -145,6 +148,7 @@ fits_turn r s fits l k given key m under ready = record {
   processes = record {
     delay = delay_now;
     admitted = λ j was. still_after r.delay.offered (local s k) key (local s j) r.delay.rows (fits.processes.admitted j was);
+    has_row = fits.processes.has_row;
     rows = names_after r.delay.offered (local s k) key r.delay.rows ∙ fits.processes.rows;
     idle = still_idle s k (delivering_to m (s.process k)) given fits.processes.idle;
   };
@@ -152,7 +156,7 @@ fits_turn r s fits l k given key m under ready = record {
   orders = logs_deliver s k m (passing r s k key m) r.orders l.traced fits.orders (ready_new s k m ready) (ready_current s k m ready) (ready_opens s k m ready)
       (subst (λ v. find (λ e. not (has_delivered (process_named (with_delivery s k m) (local s k)) (named m.id.group v e))) (take (passing r s k key m) ids) ≡ None) view
       (passed_delivered s.config.groups (gate_of s) (process_named (with_delivery s k m)) r.part.kept (turned r s k key m).delay delay_now (local s k) m.id.group m.id.view ids
-      (still_after r.delay.offered (local s k) key (local s k) r.delay.rows (fits.processes.admitted k given)) (omega (arith, view))));
+      (still_after r.delay.offered (local s k) key (local s k) r.delay.rows (member_row r s fits k m.id.group (ready_member s k m ready))) (omega (arith, view))));
   frames = fits.frames;
   delivered = (λ i. fits.delivered i ++ ((fits.core i).config.domain, local s k, m.id) ∷ []) ∙ sym (map-append (λ (x : Proc × Uid). (s.config.domain, x.0, x.1)) s.deliveries ((local s k, m.id) ∷ []));
 }
@@ -238,7 +242,7 @@ fits_first r s fits l k given =
   where
     -- the turns of the groups that it is a member of
     turns : HasTurns (process_named s (local s k)) (turns_in r (local s k)) (turn_of s k)
-    turns g member = turns_there r s fits l k (fits.processes.admitted k given) g (l.known k g (ap is_outside (only_member ((s.process k).standing g) (ap (λ p. is_member (p.standing g)) (sym (process_here s k)) ∙ member)))) member
+    turns g member = turns_there r s fits l k (member_row r s fits k g (ap (λ p. is_member (p.standing g)) (sym (process_here s k)) ∙ member)) g (l.known k g (ap is_outside (only_member ((s.process k).standing g) (ap (λ p. is_member (p.standing g)) (sym (process_here s k)) ∙ member)))) member
 
     found_is : first_ready s.config.groups (gate_of s) (turn_of s k) (process_named s (local s k)) (messages r.part.kept) ≡ find (is_ready_for s k) s.got
     found_is = (λ i. find (is_ready s.config.groups (gate_of s) (turn_of s k) (process_here s k i)) (fits.messages.kept_in i)) ∙ sym (ready_kept s k given l)

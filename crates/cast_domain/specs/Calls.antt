@@ -39,7 +39,7 @@ use Rattle.cast_delay.specs.Fits.{offer_of}
 use Rattle.cast_delay.specs.Rows.{gate_in, standing_in, told_row}
 use Rattle.cast_delay.specs.declared.row.Fact.{Fact}
 use Rattle.cast_delay.specs.declared.row.Fact.TheVariants as fact
-use Rattle.cast_delay.specs.Queue.{Queue, new_row, row_of, change_row, next_key, queue_viewing, queue_delivering, is_awaited, delivered_in, passed_in}
+use Rattle.cast_delay.specs.Queue.{Queue, new_row, row_of, but_row, change_row, next_key, queue_viewing, queue_delivering, is_awaited, delivered_in, passed_in}
 use Rattle.cast_order.specs.Log.{Log, log_of, change_log, but_log, learnt, next_in, passed, told, next_places, assigned, closed_by, whole_kept, tail_start_in, tail_ids_in, has_room_in as has_room_in_log}
 use Rattle.cast_stable.specs.Ledger.{others_in, last_received_in, is_received_in, has_acked_in, upto_in, is_stable_in, told_ledger, received_ledger, acked_ledger, learnt_ledger}
 use Rattle.cast_timer.specs.declared.key.OwedKey.{OwedKey}
@@ -56,6 +56,10 @@ use Rattle.cast_domain.specs.Shared.{part_with, part_without, part_owing, part_r
 use Rattle.cast_history.specs.Rules.Interface.{Site, Serials, Resting}
 use Rattle.cast_history.specs.Rules.Rest.{tell, told_of}
 use Rattle.cast_history.specs.Rules.Room.{may_order}
+use Rattle.cast_history.specs.Rules.Commands.{leave_all}
+use Rattle.cast_history.specs.Rules.Events.{acted}
+use Rattle.cast_model.specs.declared.event.Event.{Event}
+use Rattle.cast_model.specs.declared.event.Event.TheVariants.{Gone}
 use Rattle.cast_history.specs.Rules.Sending.{may_raise}
 use Rattle.cast_history.specs.State.{was_given}
 use Rattle.cast_history.specs.Reports.{kept_list}
@@ -66,6 +70,10 @@ use Rattle.cast_domain.specs.Fits.{session_in}
 
 abbrev pub local_in : Records → ℕ → Proc
 local_in r k = record { site = r.site; serial = k }
+
+-- the serials whose processes have a row in the queue, in its order
+abbrev pub serials_in : Records → List ℕ
+serials_in r = map (λ row. row.process.serial) r.delay.rows
 
 -- where a group stands
 abbrev pub place_among : GroupNo → List GroupRecord → Option ℕ
@@ -246,7 +254,7 @@ abbrev pub put_out_if_in : GroupNo → Bool → ℕ → Membership → Records �
 put_out_if_in g skips n members r k = if is_put_out_in g skips members r k then put_out_in g n r (local_in r k) else r
 
 abbrev pub put_out_all_in : GroupNo → Bool → ℕ → Membership → Records → Records
-put_out_all_in g skips n members r = fold (put_out_if_in g skips n members) r (range_with_len 1 r.used)
+put_out_all_in g skips n members r = fold (put_out_if_in g skips n members) r (serials_in r)
 
 -- the site passes to the next view of the group at a place
 abbrev pub pass_in : Records → ℕ → Bool → ℕ → Membership → ℕ → Records
@@ -398,6 +406,19 @@ open_in r =
 abbrev pub records_serials : Serials Records
 records_serials = record { used = λ r. r.used; open_next = open_in }
 
+-- a process is dismissed
+abbrev pub dismiss_in : Records → ℕ → Records
+dismiss_in r k = record r { delay = record r.delay { rows = but_row (local_in r k) r.delay.rows } }
+
+-- a session whose program is gone ends by the rule, and then its process, which is in no group, is dismissed
+abbrev pub end_in : Records → ℕ → Records
+end_in r k = if is_gone (session_in r.sessions k) then r else dismiss_in (leave_all records (go_in r k) k) k
+
+-- what an event does at once: what its rule says, and the process of a session that ends is dismissed
+abbrev pub acted_in : Records → Event → Records
+acted_in r (Gone d k) = end_in r k
+acted_in r e = acted records records_serials r e
+
 -- The order of a view
 
 abbrev pub log_in : Records → GroupNo → Log
@@ -478,7 +499,7 @@ note_listed_in r i k =
 
 abbrev pub resting_records : Resting Records ℕ
 resting_records = record {
-  serials = λ r. range_with_len 1 r.used;
+  serials = serials_in;
   turns = λ r. length r.part.kept;
   next_ready = next_ready_in;
   is_open = is_open_in;

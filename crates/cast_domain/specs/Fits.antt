@@ -1,5 +1,5 @@
 -- When a domain's records stand for a history.
-use Rattle.std.specs.Prelude.{◌≡◌, ℕ, zero, suc, ◌≤◌, Bool, ◌&&◌, ◌||◌, ◌==◌, true, nat_lt, if◌then◌else◌, List, [], length, map, Contains, slice_get, unwrap_or, None, false}
+use Rattle.std.specs.Prelude.{◌≡◌, ℕ, zero, suc, ◌≤◌, Bool, ◌&&◌, ◌||◌, ◌==◌, true, nat_lt, if◌then◌else◌, List, [], length, map, filter, Contains, slice_get, unwrap_or, None, false}
 use Rattle.std.specs.Option.{IsSome, option_map_or}
 use Rattle.std.specs.List.{range_with_len}
 use Rattle.cast_types.specs.declared.names.DomainNo.{DomainNo}
@@ -25,7 +25,7 @@ use Rattle.cast_domain.specs.declared.record.GroupRecord.{GroupRecord}
 use Rattle.cast_timer.specs.declared.key.Owed.{Owed}
 use Rattle.cast_model.specs.declared.config.DomainConfig.{DomainConfig}
 use Rattle.cast_model.specs.declared.session.Session.{Session}
-use Rattle.cast_model.specs.Session.{no_session}
+use Rattle.cast_model.specs.Session.{no_session, is_gone}
 use Rattle.cast_view.specs.MemberSide.{holder_at, is_pending}
 use Rattle.cast_view.specs.Home.{is_empty}
 use Rattle.cast_history.specs.Lawful.{IsLawful}
@@ -135,11 +135,14 @@ pub record MessagesFit (received : List Received) (next : ℕ) (kept got : List 
   pub fresh : (n : ℕ) → next ≤ n → message_under received (record { 0 = n }) ≡ None
   pub counted : next ≡ length got
 
--- processes and what they await; the queue has one row for each serial that was given, and the process of another one has not begun
-pub record ProcessesFit (s : SiteNo) (used : ℕ) (groups : List GroupNo) (gate : GroupNo → Gate) (processes : Proc → Process) (received : List Received) (q : Queue) : Type 0 where
+-- processes and what they await. The queue has rows of serials that were given, in their order, among them each whose session is not
+-- gone; the process of a serial that was not given has not begun
+pub record ProcessesFit (s : SiteNo) (used : ℕ) (session : ℕ → Session) (groups : List GroupNo) (gate : GroupNo → Gate) (processes : Proc → Process) (received : List Received) (q : Queue) : Type 0 where
   pub delay : QueueFits groups gate processes received q
-  pub admitted : (k : ℕ) → was_given used k ≡ true → IsSome (row_of q.rows (record { site = s; serial = k }))
-  pub rows : map (λ row. row.process) q.rows ≡ map (λ k. record { site = s; serial = k }) (range_with_len 1 used)
+  pub admitted : (k : ℕ) → is_gone (session k) ≡ false → IsSome (row_of q.rows (record { site = s; serial = k }))
+  -- which serials have a row
+  pub has_row : ℕ → Bool
+  pub rows : map (λ row. row.process) q.rows ≡ map (λ k. record { site = s; serial = k }) (filter has_row (range_with_len 1 used))
   pub idle : (k : ℕ) → was_given used k ≡ false → HasNotBegun (processes (record { site = s; serial = k }))
 
 -- the records stand for the state
@@ -148,13 +151,18 @@ pub record Fits (r : Records) (s : State) : Type 0 where
   pub opened : SessionsFit r.sessions s.used s.session
   pub groups : r.groups ≡ map (record_for s) s.config.groups
   pub messages : MessagesFit r.part.kept r.part.next s.kept s.got
-  pub processes : ProcessesFit s.here s.used s.config.groups (gate_of s) (process_named s) r.part.kept r.delay
+  pub processes : ProcessesFit s.here s.used s.session s.config.groups (gate_of s) (process_named s) r.part.kept r.delay
   pub acks : AcksFits (past_of s) r.acks
   pub orders : (g : GroupNo) → LogFits s g (log_of r.orders g)
   pub frames : r.frames ≡ tagged s.config.domain s.frames
   pub delivered : r.delivered ≡ tagged s.config.domain s.deliveries
 
+-- no process whose session is gone has a row: it was dismissed
+abbrev pub AreDismissed : Records → Type 0
+AreDismissed r = (k : ℕ) → is_gone (session_in r.sessions k) ≡ true → row_of r.delay.rows (record { site = r.site; serial = k }) ≡ None
+
 -- a domain between two steps, with its part of what is shared, stands for a history
 pub record Means (d : Domain) (part : Part) (s : State) : Type 0 where
   pub fits : Fits (records_of d part no_outs) (before_event s)
   pub lawful : IsLawful s
+  pub dismissed : AreDismissed (records_of d part no_outs)

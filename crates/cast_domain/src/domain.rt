@@ -101,9 +101,9 @@ impl Domain {
     ghost use Rattle.cast_domain.specs.Records.{GivesBack, Keeps, is_halted, number_of, records_in, records_of, used_after};
     ghost use Rattle.cast_domain.specs.Shared.{LeavesOthers, Part, part_of};
     ghost use Rattle.cast_history.specs.Lawful.{IsTyped};
-    ghost use Rattle.cast_history.specs.Rules.Events.{acted, answered};
+    ghost use Rattle.cast_history.specs.Rules.Events.{answered};
     ghost use Rattle.cast_domain.specs.Stepped.{IsSteppedBeside};
-    ghost use Rattle.cast_domain.specs.Calls.{records, records_serials, place_among, push_in, record_at, send_in, tell_in};
+    ghost use Rattle.cast_domain.specs.Calls.{acted_in, records, records_serials, place_among, push_in, record_at, send_in, tell_in};
 
     /// The process of a session.
     pub(crate) fn process(&self, serial: u32) -> Proc
@@ -249,7 +249,7 @@ impl Domain {
         ensures used { OnOk result (self.new.used ≡ used_after self.old.used event.now) }
         ensures same { (self.new.site ≡ self.old.site) × (self.new.config ≡ self.old.config) × (self.new.halted ≡ self.old.halted) }
         ensures back { GivesBack self.old.config.domain lent.old lent.new }
-        ensures made { OnOk result (records_in self.new lent.new ≡ acted records records_serials (records_in self.old lent.old) event.now) }
+        ensures made { OnOk result (records_in self.new lent.new ≡ acted_in (records_in self.old lent.old) event.now) }
         ensures typed { IsTyped event.now }
     {
         match event {

@@ -2,7 +2,7 @@ ghost use Rattle.std.specs.Prelude.{◌≡◌, ◌<◌, ◌-◌, if◌then◌els
 ghost use Rattle.std.specs.Option.{option_copied};
 ghost use Rattle.cast_types.specs.Places.{update};
 ghost use Rattle.cast_model.specs.Session.{closed, gone, is_gone, is_open, no_session};
-ghost use Rattle.cast_history.specs.Rules.Commands.{close_session, end_session, leave, leave_all, leave_at, leave_group};
+ghost use Rattle.cast_history.specs.Rules.Commands.{close_session, leave, leave_all, leave_at, leave_group};
 
 use crate::domain::Domain;
 use crate::lent::Lent;
@@ -17,7 +17,7 @@ impl Domain {
     ghost use Rattle.cast_domain.specs.Records.{IsAttempt, Keeps, KeepsBeside, records_in, records_of};
     ghost use Rattle.cast_domain.specs.Shared.{Part};
     ghost use Rattle.cast_domain.specs.Fits.{session_in};
-    ghost use Rattle.cast_domain.specs.Calls.{close_in, go_in, records};
+    ghost use Rattle.cast_domain.specs.Calls.{close_in, end_in, go_in, records};
 
     // The session of a serial, where it was given.
     fn session(&self, serial: u32) -> Option<&Session>
@@ -87,7 +87,7 @@ impl Domain {
         Ok(())
     }
 
-    // The program of a session is gone: its process leaves all its groups.
+    // The program of a session is gone: its process leaves all its groups, and is dismissed.
     pub(crate) fn end_session(
         &mut self,
         serial: u32,
@@ -95,13 +95,15 @@ impl Domain {
     ) -> Result<Taken, NoMemory>
         ensures answer { IfOk result (λ t. t ≡ (if is_gone (session_in self.old.sessions.items serial) then Taken.Refused Refusal.NotOpen else Taken.Nothing)) }
         ensures stays { KeepsBeside self.old lent.old self.new lent.new }
-        ensures made { OnOk result (records_in self.new lent.new ≡ end_session records (records_in self.old lent.old) serial) }
+        ensures made { OnOk result (records_in self.new lent.new ≡ end_in (records_in self.old lent.old) serial) }
     {
         if self.is_gone(serial) {
             return Ok(Taken::Refused(Refusal::NotOpen));
         }
         self.go(serial);
         self.leave_all(serial, lent)?;
+        let process = self.process(serial);
+        self.delay.dismiss(process);
         Ok(Taken::Nothing)
     }
 

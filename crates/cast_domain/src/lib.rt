@@ -3,8 +3,8 @@
 //! Promised: a step is the history's step. Whatever history the domain stands for before an event, after it the domain
 //! stands for one to which the event leads with the given answer, at rest, and what that step of the history sends and
 //! delivers is what was added to `Outs` (`Domain::step`). What other domains keep and owe stays as it is. Every call is
-//! safe and returns. Want of memory inside a step adds nothing and halts the domain, which then answers each event with
-//! `Refused(Halted)`.
+//! safe and returns. No session that is gone keeps a row in the delay queue. Want of memory inside a step adds nothing and
+//! halts the domain, which then answers each event with `Refused(Halted)`.
 //!
 //! The history is that of `cast_history`, with its definitions; sessions are those of `cast_model`, and groups those of
 //! `cast_view`, at the site and at the home. The definitions here are in `specs/`: `Records` is what the code keeps, with its

@@ -12,12 +12,14 @@ use std::alloc::AllocError;
 impl Domain {
     ghost use Rattle.cast_domain.specs.Records.{Keeps, KeepsBeside, records_in, records_of};
     ghost use Rattle.cast_domain.specs.Shared.{Part};
+    ghost use Rattle.cast_domain.specs.Fits.{AreDismissed};
     ghost use Rattle.cast_domain.specs.Stepped.{IsRested};
     ghost use Rattle.cast_domain.specs.Calls.{deliver_under, note_if_in, record_at, records, resting_records, take_delivery_in};
 
     // What follows from an event, until nothing changes. No run makes 2^64 passes.
     pub(crate) fn rest(&mut self, lent: &mut Lent<'_>) -> Result<(), NoMemory>
         ensures stays { KeepsBeside self.old lent.old self.new lent.new }
+        ensures dismissed { OnOk result (AreDismissed (records_in self.old lent.old) → AreDismissed (records_in self.new lent.new)) }
         ensures rests { OnOk result (IsRested (records_in self.old lent.old) (records_in self.new lent.new)) }
     {
         for _turn in 0..u64::MAX {
@@ -49,9 +51,11 @@ impl Domain {
         ensures still { IfOk result (λ changed. changed ≡ false → records_in self.new lent.new ≡ records_in self.old lent.old) }
     {
         let mut changed = false;
-        for earlier in 0..self.used {
-            let delivered = self.deliver_all(earlier + 1, lent)?;
-            changed = changed | delivered;
+        for place in 0..self.delay.admitted() {
+            if let Some(process) = self.delay.process_at(place) {
+                let delivered = self.deliver_all(process.serial, lent)?;
+                changed = changed | delivered;
+            }
         }
         Ok(changed)
     }

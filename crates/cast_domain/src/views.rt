@@ -153,8 +153,10 @@ impl Domain {
         ensures same { Keeps self.old self.new }
         ensures made { OnOk result ((o : Outs) (part : Part) → records_of self.new part o ≡ put_out_all_in group skips view members.now (records_of self.old part o)) }
     {
-        for earlier in 0..self.used {
-            self.put_out_if(group, skips, view, members, earlier + 1)?;
+        for place in 0..self.delay.admitted() {
+            if let Some(process) = self.delay.process_at(place) {
+                self.put_out_if(group, skips, view, members, process.serial)?;
+            }
         }
         Ok(())
     }

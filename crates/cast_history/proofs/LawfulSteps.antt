@@ -30,7 +30,7 @@ use Rattle.cast_model.specs.declared.event.Event.{Event}
 use Rattle.cast_model.specs.declared.event.Event.TheVariants as event
 use Rattle.cast_clock.proofs.Raised.{bump_leaves_views}
 use Rattle.cast_history.specs.Rules.Commands.{message_sent}
-use Rattle.cast_history.specs.State.{State, receiving, noting_sent, local, serials, is_group, may_speak, set_home, was_given}
+use Rattle.cast_history.specs.State.{State, receiving, noting_sent, local, serials, is_group, may_speak, set_home, was_given, going}
 use Rattle.cast_history.specs.Rules.Room.{may_order}
 use Rattle.cast_history.specs.Order.{order_of, unlisted, has_place}
 use Rattle.cast_history.specs.Turns.{is_ready_for}
@@ -141,8 +141,10 @@ all_lawful = record {
   enter_view = λ s l h g skips n members request cut is. let e = entered s h g n members is in lawful_passing s h skips n members request cut l e.listed e.later;
   release_ended = λ s l g. lawful_releasing_ended s g l;
   close = λ s l k refusal. lawful_same s _ (same_closing s k refusal) l;
-  go = λ s l k. lawful_same s _ (same_going s k) l;
 }
+
+pub lawful_going : (s : State) (k : ℕ) → IsLawful s → IsLawful (going s k)
+lawful_going s k l = lawful_same s _ (same_going s k) l
 
 -- Events
 
@@ -186,7 +188,7 @@ lawful_acted s (event.Open d) l unborn typed =
       | false ↦ lawful_opened s l unborn
     ]
 lawful_acted s (event.Command d k c) l unborn typed = commanded_keeps history IsLawful all_lawful s l k c
-lawful_acted s (event.Gone d k) l unborn typed = ended_keeps history IsLawful all_lawful s l k
+lawful_acted s (event.Gone d k) l unborn typed = ended_keeps history IsLawful all_lawful s l k (lawful_going s k l)
 lawful_acted s (event.Suspect d site) l unborn typed = suspect_keeps history IsLawful all_lawful s l site
 lawful_acted s (event.Frame d from f) l unborn typed = framed_keeps history IsLawful all_lawful s l from f typed
 lawful_acted s (event.Tick t) l unborn typed = lawful_same s (tick history s t) (same_tick s t) l

@@ -297,7 +297,6 @@ all_noted = record {
   enter_view = λ s n h g skips v members request cut is. noted_passing s n h skips v members request cut;
   release_ended = λ s n g. record { sent = n.sent; delivered = n.delivered; abcasts = n.abcasts };
   close = λ s n k refusal. record { sent = n.sent; delivered = n.delivered; abcasts = n.abcasts };
-  go = λ s n k. record { sent = n.sent; delivered = n.delivered; abcasts = n.abcasts };
 }
 
 -- Events, and what follows until the state rests
@@ -308,7 +307,7 @@ noted_acted s (event.Open d) n typed = elim (s.used == MAX_NUMBER) as (λ b. IsN
   | false ↦ record { sent = n.sent; delivered = n.delivered; abcasts = n.abcasts }
 ]
 noted_acted s (event.Command d k c) n typed = commanded_keeps history IsNoted all_noted s n k c
-noted_acted s (event.Gone d k) n typed = ended_keeps history IsNoted all_noted s n k
+noted_acted s (event.Gone d k) n typed = ended_keeps history IsNoted all_noted s n k (record { sent = n.sent; delivered = n.delivered; abcasts = n.abcasts })
 noted_acted s (event.Suspect d site) n typed = suspect_keeps history IsNoted all_noted s n site
 noted_acted s (event.Frame d from f) n typed = framed_keeps history IsNoted all_noted s n from f typed
 noted_acted s (event.Tick t) n typed = tick_keeps history IsNoted noted_moves s n t

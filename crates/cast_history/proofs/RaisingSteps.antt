@@ -50,7 +50,7 @@ use Rattle.cast_history.proofs.Rules.Commands.{commanded_keeps, ended_keeps}
 use Rattle.cast_history.proofs.Rules.Home.{suspect_keeps}
 use Rattle.cast_history.proofs.Rules.Frames.{framed_keeps}
 use Rattle.cast_history.proofs.Lawful.{same_home, same_group_set, same_freezing, same_pending, same_acts, same_closing, same_going, invariant_by_same, lawful_same, same_pushing, lawful_opening, lawful_before, lawful_let_go}
-use Rattle.cast_history.proofs.LawfulSteps.{same_tick, same_start, same_want_bodies, same_decide, placed_at, taken_current, brought_current, brought_of_member, entered, all_lawful, lawful_acted, lawful_first, lawful_set_order, waits_typed, lawful_go_on, go_on_each}
+use Rattle.cast_history.proofs.LawfulSteps.{same_tick, same_start, same_want_bodies, same_decide, placed_at, taken_current, brought_current, brought_of_member, entered, all_lawful, lawful_going, lawful_acted, lawful_first, lawful_set_order, waits_typed, lawful_go_on, go_on_each}
 use Rattle.cast_history.proofs.Counting.{is_clock_of, all_both}
 use Rattle.cast_history.proofs.Raising.{counts_same, counts_let_go, counts_before, counts_opening, counts_standing, counts_receiving, counts_sent_here, counts_sending, counts_delivering, counts_passing, counts_releasing, counts_opened, next_unborn, can_raise}
 
@@ -120,7 +120,6 @@ all_counted = record {
       (all_lawful.enter_view s c.0 h g skips n members request cut is, counts_passing s h skips n members request cut c.0 c.1 e.listed is.typed e.later);
   release_ended = λ s c g. (all_lawful.release_ended s c.0 g, counts_releasing s (is_ended s g) c.1);
   close = λ s c k refusal. (all_lawful.close s c.0 k refusal, counts_same s _ (same_closing s k refusal) c.1);
-  go = λ s c k. (all_lawful.go s c.0 k, counts_same s _ (same_going s k) c.1);
 }
 
 -- Events
@@ -132,7 +131,7 @@ counts_acted s (event.Open d) l c typed =
       | false ↦ counts_opened s c
     ]
 counts_acted s (event.Command d k x) l c typed = (commanded_keeps history IsCounted all_counted s (l, c) k x).1
-counts_acted s (event.Gone d k) l c typed = (ended_keeps history IsCounted all_counted s (l, c) k).1
+counts_acted s (event.Gone d k) l c typed = (ended_keeps history IsCounted all_counted s (l, c) k (lawful_going s k l, counts_same s _ (same_going s k) c)).1
 counts_acted s (event.Suspect d site) l c typed = (suspect_keeps history IsCounted all_counted s (l, c) site).1
 counts_acted s (event.Frame d from f) l c typed = (framed_keeps history IsCounted all_counted s (l, c) from f typed).1
 counts_acted s (event.Tick t) l c typed = counts_same s (tick history s t) (same_tick s t) c

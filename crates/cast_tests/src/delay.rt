@@ -70,6 +70,10 @@ enum Step {
     Reached(Option<u32>),
     // The least count of its messages of a view that each member has delivered.
     Least(u32, u32),
+    // How many processes are admitted.
+    Admitted(usize),
+    // The process at a place.
+    At(usize, Option<Proc>),
 }
 
 fn tells(queue: &mut Delay, fact: Fact) -> Result<(), NoMemory> {
@@ -163,6 +167,8 @@ fn shows(queue: &Delay, step: Step) -> bool {
         Step::Passed(process, view, count) => passed(queue, process, view) == count,
         Step::Counts(count) => count_of_the_sender(queue) == count,
         Step::Least(view, count) => queue.least_delivered(GROUP, view, SENDER) == count,
+        Step::Admitted(count) => queue.admitted() == count,
+        Step::At(place, process) => queue.process_at(place) == process,
         _ => false,
     }
 }
@@ -310,6 +316,26 @@ fn what_was_reached_stays_until_the_view_ends(rt: HostRuntime) -> Result<(), Fai
             Step::Reached(Some(2)),
             Step::Changes(2),
             Step::Reached(None),
+        ],
+    )
+}
+
+#[test]
+fn processes_have_their_places_until_they_are_dismissed(rt: HostRuntime) -> Result<(), Fail> {
+    goes(
+        rt.alloc(),
+        &[
+            Step::Admitted(1),
+            Step::At(0, Some(MEMBER)),
+            Step::At(1, None),
+            Step::OtherEnters,
+            Step::Admitted(2),
+            Step::At(0, Some(MEMBER)),
+            Step::At(1, Some(OTHER)),
+            Step::Goes,
+            Step::Admitted(1),
+            Step::At(0, Some(OTHER)),
+            Step::At(1, None),
         ],
     )
 }

@@ -102,7 +102,7 @@ module _ {R S H K : Type 0} (a : Site R H) (b : Site S K) (fits : R → S → Ty
       let g : GroupNo = b.name s l in
       subst (λ x. fits (leave_at a r k x h).0 (leave_at b s k g l).0) (sym (all.name r s f h l at)) (leave_at_follows r s f k g h l at).0
 
-  leave_all_follows : (r : R) (s : S) → fits r s → (k : ℕ) → fits (leave_all a r k) (leave_all b s k)
+  pub leave_all_follows : (r : R) (s : S) → fits r s → (k : ℕ) → fits (leave_all a r k) (leave_all b s k)
   leave_all_follows r s f k = each_place fits stands (leave_each a k) (leave_each b k) (leave_each_follows k) (a.places r) (b.places s) (all.places r s f) r s f
 
   cast_follows : (r : R) (s : S) → fits r s → (k : ℕ) → b.is_open s k ≡ true → (g : GroupNo) (kind : CastKind) (payload : List ℕ) → Attempts (cast a r k g kind payload) (cast b s k g kind payload)
@@ -177,15 +177,18 @@ module _ {R S H K : Type 0} (a : Site R H) (b : Site S K) (fits : R → S → Ty
       (λ _. leave_all_follows (a.close r k BadFrame) (b.close s k BadFrame) (all.close r s f k BadFrame) k)
       (λ _. f)
 
-  pub ended_follows : (r : R) (s : S) → fits r s → (k : ℕ) → fits (end_session a r k) (end_session b s k)
-  ended_follows r s f k =
+  pub ended_follows : (r : R) (s : S) → fits r s → (k : ℕ) → fits (a.go r k) (b.go s k) → fits (end_session a r k) (end_session b s k)
+  ended_follows r s f k went =
       choose fits (a.is_gone r k) (b.is_gone s k) r (leave_all a (a.go r k) k) s (leave_all b (b.go s k) k) (all.is_gone r s f k)
       (λ _. f)
-      (λ _. leave_all_follows (a.go r k) (b.go s k) (all.go r s f k) k)
+      (λ _. leave_all_follows (a.go r k) (b.go s k) went k)
 
--- an invariant of the moves holds after each command, and after a session ends
+-- an invariant of the moves holds after each command, and, where it holds once a session is gone, after that ends
 pub commanded_keeps : {S H : Type 0} (d : Site S H) (holds : S → Type 0) → IsInvariantOfAll d holds → (s : S) → holds s → (k : ℕ) (c : Command) → holds (commanded d s k c)
 commanded_keeps d holds keeps s l k c = (commanded_follows d d (AlsoHolds holds) SamePlace (follows_itself_in_all d holds keeps) s s (refl, l) k c).1
 
-pub ended_keeps : {S H : Type 0} (d : Site S H) (holds : S → Type 0) → IsInvariantOfAll d holds → (s : S) → holds s → (k : ℕ) → holds (end_session d s k)
-ended_keeps d holds keeps s l k = (ended_follows d d (AlsoHolds holds) SamePlace (follows_itself_in_all d holds keeps) s s (refl, l) k).1
+pub left_keeps : {S H : Type 0} (d : Site S H) (holds : S → Type 0) → IsInvariantOfAll d holds → (s : S) → holds s → (k : ℕ) → holds (leave_all d s k)
+left_keeps d holds keeps s l k = (leave_all_follows d d (AlsoHolds holds) SamePlace (follows_itself_in_all d holds keeps) s s (refl, l) k).1
+
+pub ended_keeps : {S H : Type 0} (d : Site S H) (holds : S → Type 0) → IsInvariantOfAll d holds → (s : S) → holds s → (k : ℕ) → holds (d.go s k) → holds (end_session d s k)
+ended_keeps d holds keeps s l k went = (ended_follows d d (AlsoHolds holds) SamePlace (follows_itself_in_all d holds keeps) s s (refl, l) k (refl, went)).1

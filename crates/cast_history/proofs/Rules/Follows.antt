@@ -127,7 +127,7 @@ pub record IsSent {S H : Type 0} (d : Site S H) (s : S) (h : H) (k : ℕ) (g : G
 abbrev pub sent_here : {S H : Type 0} → Site S H → S → H → ℕ → GroupNo → Body → S
 sent_here d s h k g content = d.receive (d.note_sent s k (message_sent d s k g h content)) (message_sent d s k g h content)
 
--- the same of all that rules ask and do
+-- the same of all that rules ask and do, but that a session is gone: the one rule that does this says of it what it takes
 pub record FollowsAll {R S H K : Type 0} (a : Site R H) (b : Site S K) (fits : R → S → Type 0) (stands : H → K → Type 0) : Type 1 where
   pub follows : Follows a b fits stands
   -- the rules ask of messages whose acknowledgements are used, and of those that local processes send
@@ -158,7 +158,6 @@ pub record FollowsAll {R S H K : Type 0} (a : Site R H) (b : Site S K) (fits : R
   pub release_ended : (r : R) (s : S) → fits r s → (h : H) (k : K) → stands h k → fits (a.release_ended r h) (b.release_ended s k)
   pub is_gone : (r : R) (s : S) → fits r s → (k : ℕ) → a.is_gone r k ≡ b.is_gone s k
   pub close : (r : R) (s : S) → fits r s → (k : ℕ) (refusal : Refusal) → fits (a.close r k refusal) (b.close s k refusal)
-  pub go : (r : R) (s : S) → fits r s → (k : ℕ) → fits (a.go r k) (b.go s k)
 
 -- What rules are made of
 
@@ -191,7 +190,7 @@ module _ {R S : Type 0} (fits : R → S → Type 0) where
 
 -- What holds of each state
 
--- what holds of a state holds after each of all moves
+-- what holds of a state holds after each of all moves, but that a session is gone
 pub record IsInvariantOfAll {S H : Type 0} (d : Site S H) (holds : S → Type 0) : Type 0 where
   pub keeps : IsInvariant d holds
   pub push : (s : S) → holds s → (k : ℕ) (p : Push) → holds (d.push s k p)
@@ -208,7 +207,6 @@ pub record IsInvariantOfAll {S H : Type 0} (d : Site S H) (holds : S → Type 0)
   pub enter_view : (s : S) → holds s → (h : H) (g : GroupNo) (skips : Bool) (n : ℕ) (members : Membership) (request : ℕ) (cut : CountList) → IsEntered d s h g n members → holds (d.enter_view s h skips n members request cut)
   pub release_ended : (s : S) → holds s → (h : H) → holds (d.release_ended s h)
   pub close : (s : S) → holds s → (k : ℕ) (refusal : Refusal) → holds (d.close s k refusal)
-  pub go : (s : S) → holds s → (k : ℕ) → holds (d.go s k)
 
 -- a site follows itself, in the same state, of which an invariant holds
 abbrev pub AlsoHolds : {S : Type 0} → (S → Type 0) → S → S → Type 0
@@ -304,7 +302,6 @@ follows_itself_in_all d holds keeps = record {
   release_ended = λ r s f h k at. (λ i. d.release_ended (f.0 i) (at i), keeps.release_ended s f.1 k);
   is_gone = λ r s f k. λ i. d.is_gone (f.0 i) k;
   close = λ r s f k refusal. (λ i. d.close (f.0 i) k refusal, keeps.close s f.1 k refusal);
-  go = λ r s f k. (λ i. d.go (f.0 i) k, keeps.go s f.1 k);
 }
 
 -- a site that follows another follows it also in states of which an invariant holds

@@ -1,10 +1,10 @@
-use Rattle.std.proofs.Common.{◌≡◌, ◌∙◌, [], map, take, sym, ap, subst, arith}
+use Rattle.std.proofs.Common.{◌≡◌, ◌∙◌, [], map, take, refl, sym, ap, subst, arith}
 use Rattle.std.proofs.lemmas.List.{take_all}
 use Rattle.cast_history.specs.State.{opening}
 use Rattle.cast_domain.specs.Shared.{no_part}
 use Rattle.cast_domain.specs.Records.{Records}
 use Rattle.cast_history.specs.Run.{before_event}
-use Rattle.cast_domain.specs.Fits.{Fits, record_for}
+use Rattle.cast_domain.specs.Fits.{Fits, AreDismissed, record_for}
 use Rattle.cast_history.proofs.Lawful.{lawful_opening}
 use Rattle.cast_domain.proofs.Standing.{fits_before}
 use Rattle.cast_domain.proofs.domain.Domain.new.Goals as goal
@@ -17,20 +17,22 @@ returns-clause-begins c rising =
     let all : take c.loop-group.group-index c.as_slice-group-items.result.now ≡ c.as_slice-group-items.result.now = take_all _ _ (omega arith) in
     let groups : c.loop-group.groups.items ≡ map (record_for s) config.groups =
     c.loop-group.invariant ∙ ap (map (record_for s)) (all ∙ c.as_slice-group-items.ensures) in
+    let stands = subst (λ (r : Records). Fits r (before_event s) × AreDismissed r) (sym (λ j. record {
+      site = here;
+      config = config;
+      used = 0;
+      sessions = c.new-2.ensures.items j;
+      groups = groups j;
+      moment = c.first.ensures j;
+      part = no_part;
+      delay = c.new-3.ensures j;
+      acks = c.new-4.ensures j;
+      orders = c.new-5.ensures j;
+      frames = [];
+      delivered = [];
+    })) (fits_before here config, λ k gone. refl) in
     record {
-      fits = subst (λ (r : Records). Fits r (before_event s)) (sym (λ j. record {
-        site = here;
-        config = config;
-        used = 0;
-        sessions = c.new-2.ensures.items j;
-        groups = groups j;
-        moment = c.first.ensures j;
-        part = no_part;
-        delay = c.new-3.ensures j;
-        acks = c.new-4.ensures j;
-        orders = c.new-5.ensures j;
-        frames = [];
-        delivered = [];
-      })) (fits_before here config);
+      fits = stands.0;
+      dismissed = stands.1;
       lawful = lawful_opening here config rising;
     }

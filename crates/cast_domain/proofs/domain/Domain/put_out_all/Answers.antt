@@ -1,19 +1,43 @@
-use Rattle.std.proofs.Common.{◌<◌, ◌+◌, ◌-◌, ◌∙◌, ap, arith}
-use Rattle.std.specs.List.{fold, range_with_len}
+use Rattle.std.proofs.Common.{◌+◌, ◌∙◌, sym, ap, drop, subst}
+use Rattle.std.specs.List.{fold}
+use Rattle.cast_model.specs.Session.{is_gone}
 use Rattle.cast_domain.specs.Records.{records_of}
-use Rattle.cast_domain.specs.Calls.{put_out_if_in}
-use Rattle.cast_domain.proofs.Loops.{keeps_then, fold_serial}
+use Rattle.cast_domain.specs.Calls.{put_out_if_in, serials_in}
+use Rattle.cast_domain.specs.Fits.{session_in}
+use Rattle.cast_domain.proofs.Loops.{keeps_then}
+use Rattle.cast_domain.proofs.Rows.{names_of}
+use Rattle.cast_domain.proofs.Rounds.{RemainAs, remain_put_out, round_next, round_past}
 use Rattle.cast_domain.proofs.domain.Domain.put_out_all.Goals as goal
+use Rattle.cast_domain.proofs.domain.Domain.put_out_all.Goals.{in-Some+in_ok-put_out_if, in_default}
 
-pub loop-earlier-preserved : goal.loop-earlier-preserved
-loop-earlier-preserved c =
-    let i = c.loop-earlier.earlier in
-    let n = c.args.self.now.used in
-    let within : i < n = omega arith in
-    record {
-      same = keeps_then _ _ _ c.loop-earlier.invariant.same c.in_ok-put_out_if.ensures.same;
-      left = λ o part.
-          ap (λ x. fold (put_out_if_in c.args.group c.args.skips c.args.view c.args.members.now) x (range_with_len (i + 1 + 1) (n - (i + 1)))) (c.in_ok-put_out_if.ensures.made o part)
-          ∙ fold_serial (put_out_if_in c.args.group c.args.skips c.args.view c.args.members.now) (records_of c.loop-earlier.self part o) i n within
-          ∙ c.loop-earlier.invariant.left o part;
-    }
+pub loop-place-preserved : goal.loop-place-preserved
+loop-place-preserved c =
+    let g = c.args.group in
+    let skips = c.args.skips in
+    let n = c.args.view in
+    let members = c.args.members.now in
+    let i = c.loop-place.place in
+    elim c.match-process_at.branch [
+      | in-Some+in_ok-put_out_if w ↦
+          let p = w.in-Some.process in
+          rw w.self-is (record {
+            same = keeps_then _ _ _ c.loop-place.invariant.same w.in_ok-put_out_if.ensures.same;
+            remain = λ o part.
+                let first = records_of c.args.self.now part o in
+                subst (RemainAs first) (sym (w.in_ok-put_out_if.ensures.made o part))
+                (remain_put_out first.site (names_of first.delay.rows) (λ k. is_gone (session_in first.sessions k)) g skips n members (records_of c.loop-place.self part o) (c.loop-place.invariant.remain o part) p.serial);
+            left = λ o part.
+                let first = records_of c.args.self.now part o in
+                ap (λ x. fold (put_out_if_in g skips n members) x (drop (i + 1) (serials_in first))) (w.in_ok-put_out_if.ensures.made o part)
+                ∙ round_next (put_out_if_in g skips n members) first (records_of c.loop-place.self part o) (c.loop-place.invariant.remain o part) i p (sym w.in-Some.ensures)
+                ∙ c.loop-place.invariant.left o part;
+          })
+      | in_default w ↦
+          rw w.self-is (record {
+            same = c.loop-place.invariant.same;
+            remain = c.loop-place.invariant.remain;
+            left = λ o part.
+                round_past (put_out_if_in g skips n members) (records_of c.args.self.now part o) (records_of c.loop-place.self part o) (c.loop-place.invariant.remain o part) i (sym w.in_default.ensures)
+                ∙ c.loop-place.invariant.left o part;
+          })
+    ]

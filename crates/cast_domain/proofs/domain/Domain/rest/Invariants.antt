@@ -1,7 +1,7 @@
 use Rattle.cast_history.specs.State.{State}
 use Rattle.cast_history.specs.Rest.{pass}
 use Rattle.cast_history.specs.Lawful.{IsLawful}
-use Rattle.cast_domain.specs.Fits.{Fits}
+use Rattle.cast_domain.specs.Fits.{Fits, AreDismissed}
 use Rattle.cast_domain.specs.Records.{KeepsBeside, records_in}
 use Rattle.cast_types.proofs.Iterates.{Led}
 use Rattle.cast_domain.proofs.Passes.{Stands}
@@ -11,5 +11,6 @@ use Rattle.cast_domain.proofs.domain.Domain.rest.Given as goal
 abbrev pub invariant-loop-turn : goal.invariant-loop-turn
 invariant-loop-turn l = record {
   stays : KeepsBeside l.fn.self l.fn.lent l.self l.lent;
+  dismissed : AreDismissed (records_in l.fn.self l.fn.lent) → AreDismissed (records_in l.self l.lent);
   led : (s : State) → Fits (records_in l.fn.self l.fn.lent) s → IsLawful s → Led Stands pass (records_in l.self l.lent) s;
 }

@@ -15,14 +15,15 @@ use Rattle.cast_history.specs.State.{State}
 use Rattle.cast_domain.specs.declared.domain.Domain.{Domain}
 use Rattle.cast_domain.specs.declared.lent.Lent.{Lent}
 use Rattle.cast_domain.specs.declared.shared.Shared.{Shared}
-use Rattle.cast_history.specs.Rules.Events as ruled
-use Rattle.cast_domain.specs.Calls.{records, records_serials}
+use Rattle.cast_domain.specs.Calls.{acted_in}
 use Rattle.cast_history.specs.Lawful.{IsLawful}
-use Rattle.cast_domain.specs.Fits.{Fits}
+use Rattle.cast_domain.specs.Fits.{Fits, AreDismissed}
 use Rattle.cast_history.proofs.Lawful.{lawful_before, lawful_let_go}
 use Rattle.cast_history.proofs.LawfulSteps.{lawful_acted, lawful_rests}
 use Rattle.cast_domain.proofs.Events.{fits_acted, answer_acted}
 use Rattle.cast_domain.proofs.Passes.{fits_between}
+use Rattle.cast_domain.proofs.Dismissals.{dismissed_let_go}
+use Rattle.cast_domain.proofs.Ending.{dismissed_acted}
 use Rattle.cast_domain.proofs.Releases.{unborn, fits_let_go}
 use Rattle.cast_domain.proofs.domain.Domain.serve.Goals as goal
 
@@ -42,11 +43,13 @@ returns-clause-steps c s means =
     let typed = c.in_ok-taken.ensures.typed in
     let lawful = lawful_before s means.lawful in
     let acted_records = records_in c.act.new.self c.act.new.lent in
-    let made : acted_records ≡ ruled.acted records records_serials r e = c.in_ok-taken.ensures.made ∙ ap (λ o. ruled.acted records records_serials (records_of here part o) e) c.new-step.ensures in
+    let made : acted_records ≡ acted_in r e = c.in_ok-taken.ensures.made ∙ ap (λ o. acted_in (records_of here part o) e) c.new-step.ensures in
     let acts : Fits acted_records (acted b e) = subst (λ x. Fits x (acted b e)) (sym made) (fits_acted r b e means.fits lawful typed) in
     let acts_lawful : IsLawful (acted b e) = lawful_acted b e lawful (unborn r b means.fits) typed in
+    let acts_dismissed : AreDismissed acted_records = subst AreDismissed (sym made) (dismissed_acted r b e means.fits typed means.dismissed) in
     let after : Fits (records_in c.let_go.new.self c.let_go.new.lent) (let_go (acted b e)) =
     subst (λ x. Fits x (let_go (acted b e))) (sym c.in_ok-let_go.ensures.made) (fits_let_go acted_records (acted b e) acts acts_lawful) in
+    let after_dismissed : AreDismissed (records_in c.let_go.new.self c.let_go.new.lent) = subst AreDismissed (sym c.in_ok-let_go.ensures.made) (dismissed_let_go acted_records acts_dismissed) in
     let after_lawful = lawful_let_go (acted b e) acts_lawful in
     let rested = c.in_ok-rest.ensures.rests (let_go (acted b e)) after after_lawful in
     let t = rested.0 in
@@ -65,6 +68,7 @@ returns-clause-steps c s means =
       means = record {
         fits = fits_between (records_of c.rest.new.self (part_of here.config.domain lent.shared.now) lent.outs.now) t fits_last;
         lawful = lawful_rests (let_go (acted b e)) t after_lawful rested.1;
+        dismissed = c.in_ok-rest.ensures.dismissed after_dismissed;
       };
       outs = λ j. record before { frames = before.frames ++ fits.frames j; delivered = before.delivered ++ fits.delivered j };
     })

@@ -1,24 +1,43 @@
-use Rattle.std.proofs.Common.{◌<◌, ◌+◌, ◌-◌, ◌∙◌, ap, arith}
-use Rattle.std.specs.List.{fold, range_with_len}
+use Rattle.std.proofs.Common.{◌+◌, ◌∙◌, sym, ap, drop, subst}
+use Rattle.std.specs.List.{fold}
 use Rattle.std.proofs.lemmas.Bool.{or_parts}
+use Rattle.cast_model.specs.Session.{is_gone}
 use Rattle.cast_history.specs.Rules.Rest.{deliver_all}
 use Rattle.cast_domain.specs.Records.{records_in}
-use Rattle.cast_domain.specs.Calls.{records, resting_records}
-use Rattle.cast_domain.proofs.Loops.{beside_then, fold_serial}
+use Rattle.cast_domain.specs.Calls.{records, resting_records, serials_in}
+use Rattle.cast_domain.specs.Fits.{session_in}
+use Rattle.cast_domain.proofs.Loops.{beside_then}
+use Rattle.cast_domain.proofs.Rows.{names_of}
+use Rattle.cast_domain.proofs.Rounds.{RemainAs, remain_deliver_all, round_next, round_past}
 use Rattle.cast_domain.proofs.domain.Domain.settle.Goals as goal
+use Rattle.cast_domain.proofs.domain.Domain.settle.Goals.{in-Some+in_ok-delivered, in_default}
 
-pub loop-earlier-preserved : goal.loop-earlier-preserved
-loop-earlier-preserved c =
-    let r = records_in c.loop-earlier.self c.loop-earlier.lent in
-    let i = c.loop-earlier.earlier in
-    let n = c.args.self.now.used in
-    let within : i < n = omega arith in
-    record {
-      stays = beside_then c.loop-earlier.invariant.stays c.in_ok-delivered.ensures.stays;
-      left =
-          ap (λ x. fold (deliver_all records resting_records) x (range_with_len (i + 1 + 1) (n - (i + 1)))) c.in_ok-delivered.ensures.made
-          ∙ fold_serial (deliver_all records resting_records) r i n within ∙ c.loop-earlier.invariant.left;
-      still = λ e.
-          let parts = or_parts c.loop-earlier.changed c.in_ok-delivered.delivered e in
-          c.in_ok-delivered.ensures.still parts.1 ∙ c.loop-earlier.invariant.still parts.0;
-    }
+pub loop-place-preserved : goal.loop-place-preserved
+loop-place-preserved c =
+    let first = records_in c.args.self.now c.args.lent.now in
+    let r = records_in c.loop-place.self c.loop-place.lent in
+    let i = c.loop-place.place in
+    let left = drop (i + 1) (serials_in first) in
+    elim c.match-process_at.branch [
+      | in-Some+in_ok-delivered w ↦
+          let p = w.in-Some.process in
+          let made = w.in_ok-delivered.ensures.made in
+          rw (w.self-is, w.lent-is, w.changed-is) (record {
+            stays = beside_then c.loop-place.invariant.stays w.in_ok-delivered.ensures.stays;
+            remain = subst (RemainAs first) (sym made) (remain_deliver_all first.site (names_of first.delay.rows) (λ k. is_gone (session_in first.sessions k)) r c.loop-place.invariant.remain p.serial);
+            left =
+                ap (λ x. fold (deliver_all records resting_records) x left) made
+                ∙ round_next (deliver_all records resting_records) first r c.loop-place.invariant.remain i p (sym w.in-Some.ensures)
+                ∙ c.loop-place.invariant.left;
+            still = λ e.
+                let parts = or_parts c.loop-place.changed w.in_ok-delivered.delivered e in
+                w.in_ok-delivered.ensures.still parts.1 ∙ c.loop-place.invariant.still parts.0;
+          })
+      | in_default w ↦
+          rw (w.self-is, w.lent-is, w.changed-is) (record {
+            stays = c.loop-place.invariant.stays;
+            remain = c.loop-place.invariant.remain;
+            left = round_past (deliver_all records resting_records) first r c.loop-place.invariant.remain i (sym w.in_default.ensures) ∙ c.loop-place.invariant.left;
+            still = c.loop-place.invariant.still;
+          })
+    ]

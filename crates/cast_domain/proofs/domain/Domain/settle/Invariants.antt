@@ -1,14 +1,16 @@
-use Rattle.std.proofs.Common.{◌≡◌, ◌+◌, ◌-◌, false}
-use Rattle.std.specs.List.{fold, range_with_len}
+use Rattle.std.proofs.Common.{◌≡◌, false, drop}
+use Rattle.std.specs.List.{fold}
 use Rattle.cast_history.specs.Rules.Rest.{deliver_all, settle}
-use Rattle.cast_domain.specs.Calls.{records, resting_records}
+use Rattle.cast_domain.specs.Calls.{records, resting_records, serials_in}
 use Rattle.cast_domain.specs.Records.{KeepsBeside, records_in}
+use Rattle.cast_domain.proofs.Rounds.{RemainAs}
 use Rattle.cast_domain.proofs.domain.Domain.settle.Given as goal
 
--- the processes that are left lead to the same records
-abbrev pub invariant-loop-earlier : goal.invariant-loop-earlier
-invariant-loop-earlier l = record {
+-- the processes that are left lead to the same records, and their rows stay
+abbrev pub invariant-loop-place : goal.invariant-loop-place
+invariant-loop-place l = record {
   stays : KeepsBeside l.fn.self l.fn.lent l.self l.lent;
-  left : fold (deliver_all records resting_records) (records_in l.self l.lent) (range_with_len (l.earlier + 1) (l.fn.self.used - l.earlier)) ≡ settle records resting_records (records_in l.fn.self l.fn.lent);
+  remain : RemainAs (records_in l.fn.self l.fn.lent) (records_in l.self l.lent);
+  left : fold (deliver_all records resting_records) (records_in l.self l.lent) (drop l.place (serials_in (records_in l.fn.self l.fn.lent))) ≡ settle records resting_records (records_in l.fn.self l.fn.lent);
   still : l.changed ≡ false → records_in l.self l.lent ≡ records_in l.fn.self l.fn.lent;
 }
