@@ -2,12 +2,15 @@
 use Rattle.std.proofs.Common.{◌≡◌, ℕ, ◌<◌, ◌≤◌, Bool, true, false, not, ◌&&◌, ◌||◌, List, [], ◌∷◌, Some, refl, sym, ap, subst, ◌∙◌, inl, inr, arith}
 use Rattle.std.specs.Prelude.{◌==◌, slice_get}
 use Rattle.std.specs.List.{fold, list_any}
-use Rattle.std.proofs.lemmas.Bool.{false≢true, false_from_ne_true, and_parts, eqb-true, eq-eqb}
+use Rattle.std.proofs.lemmas.Bool.{cases_Bool, false≢true, false_from_ne_true, and_parts, eqb-true, eq-eqb}
 use Rattle.cast_types.specs.declared.names.GroupNo.{GroupNo}
 use Rattle.cast_types.specs.declared.names.Proc.{Proc}
-use Rattle.cast_types.specs.Names.{is_atomic, is_order, proc_eq}
+use Rattle.cast_types.specs.declared.names.Uid.{Uid}
+use Rattle.cast_types.specs.Names.{is_atomic, is_order, group_eq, proc_eq, uid_eq, named}
+use Rattle.cast_types.specs.Stamps.{ClockList}
+use Rattle.cast_types.proofs.Orders.{same_group, same_uid, group_itself}
 use Rattle.cast_clock.specs.Times.{count_in, bumped}
-use Rattle.cast_clock.proofs.Raised.{bump_raises, bump_leaves_views}
+use Rattle.cast_clock.proofs.Raised.{bump_raises, bump_leaves_counts, bump_leaves_views}
 use Rattle.cast_message.specs.declared.message.Body.{Body}
 use Rattle.cast_message.specs.declared.message.Message.{Message}
 use Rattle.cast_message.specs.declared.message.Received.{Received}
@@ -31,7 +34,8 @@ use Rattle.cast_history.specs.Effects.{next_message}
 use Rattle.cast_domain.specs.Records.{Records}
 use Rattle.cast_domain.specs.Calls.{standing_of, tell_in, records, receive_in, is_current_in, is_own_in, awaits_own_in}
 use Rattle.cast_history.specs.Lawful.{IsSpent, AreKept, IsLawful}
-use Rattle.cast_domain.specs.Fits.{process_named, LogFits, Fits}
+use Rattle.cast_domain.specs.Fits.{process_named, TellsOrder, LogFits, Fits}
+use Rattle.cast_domain.proofs.Logs.{IsNew}
 use Rattle.cast_domain.proofs.Following.{asked_of, fits_sends}
 use Rattle.cast_domain.proofs.Standing.{record_there, member_row, standing_there, time_there, fits_sent, process_here, fits_receive, fits_receive_with}
 use Rattle.cast_domain.proofs.Rows.{row_given}
@@ -86,7 +90,7 @@ kept_any P test fails [] kept none = ap (list_any test) none
 kept_any P test fails (m ∷ got) kept (inl (rest, is, more)) = ap (list_any test) is ∙ ap (λ b. test m || b) (kept_any P test fails got rest more)
 kept_any P test fails (m ∷ got) kept (inr (spent, more)) = kept_any P test fails got kept more ∙ sym (ap (λ b. b || list_any test got) (fails m spent))
 
-any_message : (t : Message → Bool) (xs : List Received) → list_any (λ (x : Received). t x.message) xs ≡ list_any t (messages xs)
+pub any_message : (t : Message → Bool) (xs : List Received) → list_any (λ (x : Received). t x.message) xs ≡ list_any t (messages xs)
 any_message t [] = refl
 any_message t (x ∷ xs) = ap (λ b. t x.message || b) (any_message t xs)
 
@@ -132,6 +136,28 @@ next_sound s g k content l member =
       count = refl;
     }
 
+-- it counts no fewer of any group's
+pub raised_counts : (t : ClockList) (g h : GroupNo) (p : Proc) → count_in t h p ≤ count_in (bumped t g p) h p
+raised_counts t g h p = elim (cases_Bool (group_eq h g)) [
+  | inl here ↦
+      let more = bump_raises t g p in
+      subst (λ x. count_in t x p ≤ count_in (bumped t g p) x p) (sym (same_group h g here)) (omega (arith, more))
+  | inr other ↦
+      let same = bump_leaves_counts t g h p p (inl (λ e. false≢true (sym other ∙ subst (λ x. group_eq h x ≡ true) e (group_itself h)))) in
+      omega (arith, same)
+]
+
+-- and is none that is forgotten of the order of the view
+pub next_new : (s : State) (g : GroupNo) (k : ℕ) (content : Body) (l : Log) → is_member ((s.process k).standing g) ≡ true → TellsOrder s g l → IsNew s g l (next_message s g k content)
+next_new s g k content l member tells e among =
+    let u : Uid = (next_message s g k content).id in
+    false_from_ne_true (uid_eq u (named g (s.group g).number e)) (λ is.
+    let same : u ≡ named g (s.group g).number e = same_uid u (named g (s.group g).number e) is in
+    let count : count_in (bumped (s.process k).time g (local s k)) g (local s k) ≡ e.1 = ap (λ (v : Uid). v.count) same in
+    let raised = bump_raises (s.process k).time g (local s k) in
+    let most = (tells.gone e among).counted k member (sym (ap (λ (v : Uid). v.proc) same)) in
+    omega (arith, count, raised, most))
+
 -- what a member sends is stamped and received, on both sides
 pub fits_sent_here : (r : Records) (s : State) → Fits r s → IsLawful s → (k : ℕ) (i : ℕ) (g : GroupNo) → slice_get s.config.groups i ≡ Some g → (content : Body) → is_order (kind_of content) ≡ false → is_member ((s.process k).standing g) ≡ true → Fits (sent_here records r i k g content) (receiving (noting_sent s k (next_message s g k content)) (next_message s g k content))
 fits_sent_here r s f l k i g at content plain member =
@@ -152,6 +178,7 @@ fits_sent_here r s f l k i g at content plain member =
           body = content;
         })) in
         subst (λ y. Fits y (receiving now m)) (sym same)
-        (fits_receive (tell_in x p (fact.Time m.times)) now (fits_sent x s w k row m) m (next_sound s g k content l member)
+        (fits_receive (tell_in x p (fact.Time m.times)) now (fits_sent x s w k row m (λ h _. raised_counts (s.process k).time g h p)) m (next_sound s g k content l member)
         (eq-eqb (s.group g).number (s.group g).number refl)
-        (λ _ j. ap (λ b. b && proc_eq p (local s j)) plain))
+        (λ _ j. ap (λ b. b && proc_eq p (local s j)) plain)
+        (λ none. next_new s g k content (log_of x.orders g) member ((w.orders g).tells none)))

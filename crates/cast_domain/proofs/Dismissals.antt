@@ -1,8 +1,8 @@
 -- No rule but the end of a session changes which sessions are gone, and none but an opening and an end which processes have rows: so none of a
 -- session that is gone comes to have one.
-use Rattle.std.proofs.Common.{ℕ, Bool, true, false, List, Some, None, refl, sym, ap, ◌∙◌}
+use Rattle.std.proofs.Common.{ℕ, Bool, true, false, List, length, Some, None, refl, sym, ap, ◌∙◌}
 use Rattle.std.specs.Prelude.{◌+◌, ◌&&◌, if◌then◌else◌}
-use Rattle.std.specs.List.{fold}
+use Rattle.std.specs.List.{fold, range_with_len}
 use Rattle.std.specs.Option.{option_map_or}
 use Rattle.cast_types.specs.declared.names.SiteNo.{SiteNo}
 use Rattle.cast_types.specs.declared.names.GroupNo.{GroupNo}
@@ -15,6 +15,7 @@ use Rattle.cast_message.specs.Membership.{Membership}
 use Rattle.cast_message.specs.Sequence.{Sequence}
 use Rattle.cast_message.specs.declared.message.Body.TheVariants as body
 use Rattle.cast_message.specs.declared.message.Message.{Message}
+use Rattle.cast_message.specs.declared.message.Received.{Received}
 use Rattle.cast_delay.specs.declared.row.Fact.TheVariants as fact
 use Rattle.cast_delay.specs.Queue.{row_of}
 use Rattle.cast_delay.proofs.Rows.{names_ended}
@@ -32,6 +33,7 @@ use Rattle.cast_history.proofs.Rules.Owing.{owe_keeps}
 use Rattle.cast_history.proofs.Rules.Rest.{FollowsToRest, pass_follows}
 use Rattle.cast_domain.specs.Records.{Records}
 use Rattle.cast_domain.specs.Calls.{local_in, serials_in, record_at, standing_of, time_of, tell_in, enter_in, take_in, view_in, pass_in, put_out_if_in, put_out_all_in, is_ended_in, records, resting_records}
+use Rattle.cast_domain.specs.Trims.{trim_in, trim_all_in}
 use Rattle.cast_domain.specs.Fits.{session_in, AreDismissed}
 use Rattle.cast_domain.proofs.Rows.{names_of, row_by_names}
 use Rattle.cast_domain.proofs.Standing.{closed_gone}
@@ -159,3 +161,8 @@ dismissed_let_go r = still_dismissed r (let_go records resting_records r) (remai
 
 pub dismissed_pass : (r : Records) → AreDismissed r → AreDismissed (pass records resting_records r)
 dismissed_pass r = still_dismissed r (pass records resting_records r) (remain_pass r)
+
+pub dismissed_trim_all : (kept : List Received) (r : Records) → AreDismissed r → AreDismissed (trim_all_in kept r)
+dismissed_trim_all kept r =
+    still_dismissed r (trim_all_in kept r)
+    (remain_fold r.site (names_of r.delay.rows) (λ k. is_gone (session_in r.sessions k)) (trim_in kept) (λ x same i. same) (range_with_len 0 (length r.groups)) r (remain_as r))

@@ -13,9 +13,12 @@ use Rattle.cast_types.specs.declared.names.Standing.TheVariants.{Outside, Joinin
 use Rattle.cast_types.specs.Names.{site_eq, group_eq, proc_eq, proc_cmp}
 use Rattle.cast_types.specs.Places.{update}
 use Rattle.cast_types.specs.Sets.{is_among, set_at}
-use Rattle.cast_types.proofs.Orders.{proc_total, group_itself, same_site, same_proc, site_itself, proc_itself}
-use Rattle.cast_clock.specs.Times.{entering}
-use Rattle.cast_types.specs.Counts.{CountList}
+use Rattle.cast_types.proofs.Orders.{proc_total, group_itself, same_group, same_site, same_proc, site_itself, proc_itself}
+use Rattle.cast_types.specs.declared.clock.Clock.{Clock}
+use Rattle.cast_types.specs.Stamps.{ClockList}
+use Rattle.cast_clock.specs.Times.{count_in, entering}
+use Rattle.cast_clock.proofs.Raised.{enter_leaves}
+use Rattle.cast_types.specs.Counts.{CountList, count_of}
 use Rattle.cast_message.specs.declared.client.Push.{Push}
 use Rattle.cast_message.specs.declared.client.Push.TheVariants as push
 use Rattle.cast_message.specs.Membership.{Membership, is_members}
@@ -26,7 +29,7 @@ use Rattle.cast_delay.specs.Ready.{Process, is_outside}
 use Rattle.cast_delay.specs.Rows.{standing_in, told_row}
 use Rattle.cast_delay.specs.Queue.{row_of}
 use Rattle.cast_domain.specs.declared.record.GroupRecord.{GroupRecord}
-use Rattle.cast_order.specs.Log.{new_log, log_of, but_log}
+use Rattle.cast_order.specs.Log.{Log, new_log, log_of, but_log}
 use Rattle.cast_order.proofs.Logs.{log_of_forget}
 use Rattle.cast_model.specs.declared.session.Session.{Session}
 use Rattle.cast_model.specs.Session.{is_open, pushed_to, told}
@@ -38,7 +41,7 @@ use Rattle.cast_domain.specs.Records.{Records}
 use Rattle.cast_domain.specs.Calls.{record_at, standing_of, time_of, push_in, tell_in, enter_in, take_in, view_in, complete_in}
 use Rattle.cast_history.specs.Lawful.{IsLawful}
 use Rattle.cast_domain.specs.Fits.{Fits}
-use Rattle.cast_domain.proofs.Standing.{fits_told, fits_member, fits_if, record_there, standing_there, time_there, fits_push, fits_view, still_in, fits_acts, open_given}
+use Rattle.cast_domain.proofs.Standing.{CountsStill, fits_told, fits_member, fits_if, record_there, standing_there, time_there, fits_push, fits_view, still_in, fits_acts, open_given}
 use Rattle.cast_types.proofs.Bools.{and_none}
 
 -- Small truths of tests
@@ -256,6 +259,17 @@ module _ (g : GroupNo) (n : ℕ) (members : Membership) (request : ℕ) (t : Sta
   abbrev IsNew : Records → Type 0
   IsNew r = (log_of r.orders g ≡ new_log g) × (is_pending (t.group g) ≡ false)
 
+  -- a process that enters counts as before in the other groups
+  entering_counts : (orders : List Log) (time : ClockList) (p : Proc) → log_of orders g ≡ new_log g → CountsStill orders p time (entering time g n)
+  entering_counts orders time p none h some = elim (cases_Bool (group_eq h g)) [
+    | inl here ↦
+        let empty : (log_of orders h).base ≡ 0 = ap (λ x. (log_of orders x).base) (same_group h g here) ∙ ap (λ l. l.base) none in
+        absurd (omega (arith, some, empty))
+    | inr other ↦
+        let same : count_in (entering time g n) h p ≡ count_in time h p = ap (λ (c : Clock). count_of c.counts p) (enter_leaves time g h n (λ e. false≢true (sym other ∙ subst (λ x. group_eq h x ≡ true) e (group_itself h)))) in
+        omega (arith, same)
+  ]
+
   -- among the records: a process enters
   fits_enter : (r : Records) (e : ℕ → Bool) → Fits r (entered e) → IsNew r → is_group t g ≡ true → (k : ℕ) → e k ≡ false → taken k ≡ true → Fits (enter_in g n members r (local t k)) (entered (λ j. e j || (k == j)))
   fits_enter r e f new listed k fresh in_it =
@@ -266,7 +280,7 @@ module _ (g : GroupNo) (n : ℕ) (members : Membership) (request : ℕ) (t : Sta
       let row : IsSome (row_of r.delay.rows p) = has_row (row_of r.delay.rows p) g (ap is_outside (standing_now r e f k fresh) ∙ taken_inside request ((t.process k).standing g) in_it) in
       let r1 : Records = tell_in r p (fact.Time time) in
       let u1 : State = set_process u k (record (u.process k) { time = time }) in
-      let f1 : Fits r1 u1 = fits_told r u f k row (fact.Time time) tt tt in
+      let f1 : Fits r1 u1 = fits_told r u f k row (fact.Time time) tt tt (entering_counts r.orders (u.process k).time p new.0) in
       let r2 : Records = tell_in r1 p (fact.Standing g Member) in
       let u2 : State = set_standing u1 k g Member in
       let f2 : Fits r2 u2 = fits_member r1 u1 f1 k (still_in p (told_row (fact.Time time)) (λ _. refl) p r.delay.rows row) g listed new.1 new.0 in

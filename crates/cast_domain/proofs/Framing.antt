@@ -62,7 +62,7 @@ use Rattle.cast_domain.specs.Records.{Records}
 use Rattle.cast_domain.specs.Calls.{record_at, standing_of, time_of, tell_in, go_in, receive_in, freeze_in, pend_in, awaits_own_in, records}
 use Rattle.cast_domain.specs.Fits.{process_named, record_for, LogFits, Fits, past_of}
 use Rattle.cast_domain.proofs.Standing.{process_here, record_there, standing_there, time_there, open_row, fits_push, fits_close, fits_go, fits_standing, fits_told, fits_acts, fits_here, fits_gated, orders_group, fits_home, fits_receive}
-use Rattle.cast_domain.proofs.Logs.{logs_close}
+use Rattle.cast_domain.proofs.Logs.{logs_close, new_unreceived}
 use Rattle.cast_domain.proofs.Reports.{report_there}
 use Rattle.cast_domain.proofs.Following.{records_ask, FitsIn, IsAt, records_follow, asked_of}
 use Rattle.cast_domain.proofs.Passing.{fits_pass}
@@ -116,11 +116,12 @@ taken_live s g from m taken = live_now s (source_of m.id) (sym (taken_current s 
 taken_counted : (s : State) (g : GroupNo) (from : SiteNo) (m : Message) → IsTaken history s g from m → 0 < m.id.count
 taken_counted s g from m taken = (sound_counts m (used_counts history s g from m taken.used)).from_one
 
-fits_taken : (r : Records) (s : State) → Fits r s → (g : GroupNo) (from : SiteNo) (m : Message) → IsTaken history s g from m → Fits (receive_in r m) (receiving s m)
-fits_taken r s f g from m taken =
+fits_taken : (r : Records) (s : State) → Fits r s → (g : GroupNo) (from : SiteNo) (m : Message) → IsTaken history s g from m → is_received s m.id ≡ false → Fits (receive_in r m) (receiving s m)
+fits_taken r s f g from m taken new =
     fits_receive r s f m (sound_counts m (used_counts history s g from m taken.used))
     (eq-eqb m.id.view (s.group m.id.group).number (taken_current s g from m taken))
     (λ _. none_ours s m (taken_foreign s g from m taken))
+    (new_unreceived s m.id.group m (log_of r.orders m.id.group) new (f.orders m.id.group))
 
 -- a message that the home forwards is of the view of its group, in which an Install waits, and well formed in it
 brought_waits : (s : State) (g : GroupNo) (m : Message) → IsBrought history s g m → is_pending (s.group m.id.group) ≡ true
@@ -138,6 +139,7 @@ fits_brought r s f g m brought =
     let d = and_parts (list_all (λ x. is_among group_eq x.0 s.config.groups) m.times) _ c.1 in
     fits_receive r s f m (sound_counts m (and_parts (is_among proc_eq m.id.proc (members_of (s.group g))) (counts_itself m) d.1).1)
     (ap (λ h. m.id.view == (s.group h).number) there.1 ∙ c.0)
+    (λ none. absurd (false≢true (sym none ∙ brought_waits s g m brought)))
     (λ none. absurd (false≢true (sym none ∙ brought_waits s g m brought)))
 
 -- A flush at a site
@@ -207,8 +209,8 @@ module _ (groups : List GroupNo) where
         let id = (message_sent history s k g h content).id in
         asks (sent_here history s h k g content) id (live_now s (source_of id) (ap (λ x. (s.group x).number) placed.1) (local_speaks s g k));
     is_received = λ r s f g from m taken. received_there r s f.0.0 m.id (taken_live s g from m taken) (taken_counted s g from m taken);
-    is_stable = λ r s f g from m taken.
-        stable_meant (past_of (receiving s m)) (receive_in r m).acks (fits_taken r s f.0.0 g from m taken).acks m.id (taken_live s g from m taken) (taken_counted s g from m taken);
+    is_stable = λ r s f g from m taken new.
+        stable_meant (past_of (receiving s m)) (receive_in r m).acks (fits_taken r s f.0.0 g from m taken new).acks m.id (taken_live s g from m taken) (taken_counted s g from m taken);
     is_open = λ r s f k. ap is_open (sym (f.0.0.opened.each k));
     standing = λ r s f k g. ap (λ t. standing_of r.delay (record { site = t; serial = k }) g) (ap (λ c. c.site) f.0.0.core) ∙ standing_there r s f.0.0 k g;
     time = λ r s f k given. ap (λ t. time_of r.delay (record { site = t; serial = k })) (ap (λ c. c.site) f.0.0.core) ∙ time_there r s f.0.0 k (open_row r s f.0.0 k given);
@@ -226,7 +228,7 @@ module _ (groups : List GroupNo) where
       (
         subst (λ t. Fits (tell_in r (record { site = t; serial = k }) (fact.Standing g Outside)) (outside s k g)) (sym (ap (λ c. c.site) f.0.0.core))
             (fits_acts (tell_in r (local s k) (fact.Standing g Outside)) (set_standing s k g Outside)
-            (fits_told r s f.0.0 k (placed_row r s f.0.0 k g is) (fact.Standing g Outside) (λ inside. absurd (false≢true (sym inside))) refl)
+            (fits_told r s f.0.0 k (placed_row r s f.0.0 k g is) (fact.Standing g Outside) (λ inside. absurd (false≢true (sym inside))) refl (λ h _. omega arith))
             (acts_outside s k g)),
         f.0.1,
       ),
@@ -241,7 +243,7 @@ module _ (groups : List GroupNo) where
           ),
           all_lawful.sends s f.1 h k g content sent,
         );
-    receive = λ r s f g from m taken. ((fits_taken r s f.0.0 g from m taken, f.0.1), all_lawful.receive s f.1 g from m taken);
+    receive = λ r s f g from m taken new. ((fits_taken r s f.0.0 g from m taken new, f.0.1), all_lawful.receive s f.1 g from m taken);
     brings = λ r s f g m brought. ((fits_brought r s f.0.0 g m brought, f.0.1), all_lawful.brings s f.1 g m brought);
     report = λ r s f i g at first. report_there r s f.0.0 f.1 i g (there r s f i g at) first;
     freeze = λ r s f i g at. ((fits_freeze r s f.0.0 f.1 i g (there r s f i g at), f.0.1), all_lawful.freeze s f.1 g);

@@ -3,6 +3,7 @@ pub mod Attempts
 pub mod Times
 pub mod Loops
 pub mod Staying
+pub mod Over
 pub mod Logs
 pub mod LogSteps
 pub mod Shares
@@ -27,5 +28,6 @@ pub mod Standstill
 pub mod Events
 pub mod Passes
 pub mod Reports
+pub mod Trimmed
 pub mod Least
 pub mod Marks

@@ -24,7 +24,7 @@ use Rattle.cast_message.specs.Sequence.{Sequence}
 use Rattle.cast_delay.specs.Ready.{Process, is_member, has_delivered}
 use Rattle.cast_order.specs.Order.{facts_of}
 use Rattle.cast_order.specs.Log.{Log, log_of, change_log, learnt, next_in, next_places, passed, told, assigned}
-use Rattle.cast_order.specs.Fits.{FitsClosed}
+use Rattle.cast_order.specs.Fits.{Fits as OrderFits, FitsClosed}
 use Rattle.cast_order.proofs.Meanings.{learnt_group, learn_fits, tell_fits, assign_fits, pass_fits, more_fits}
 use Rattle.cast_order.proofs.Closed.{closed_pass, closed_more, closed_tell}
 use Rattle.cast_order.proofs.Logs.{log_of_change}
@@ -34,8 +34,9 @@ use Rattle.cast_view.specs.MemberSide.{holder_of, is_process, is_pending, holder
 use Rattle.cast_history.specs.State.{State, no_process, local, cut_of, gate_of, receiving, abcasts_with, with_delivery}
 use Rattle.cast_history.specs.Order.{told_by, is_of_view, facts_in, holds, sets_order, abcasts_delivered}
 use Rattle.cast_history.specs.Lawful.{IsTraced}
-use Rattle.cast_domain.specs.Fits.{process_named, told_here, lists_here, settled_here, goes_on, has_passed, TellsOrder, LogFits}
-use Rattle.cast_domain.proofs.Logs.{WereMembers, sets, list_in, lists_by, filter_skips, filter_takes, facts_push, tells_made, log_alike, learnt_base, log_apart, other_group}
+use Rattle.cast_domain.specs.Fits.{process_named, told_here, lists_here, settled_here, goes_on, has_passed, IsOver, TellsOrder, LogFits}
+use Rattle.cast_domain.proofs.Over.{CountsOnIn, over_alike, one_counts_on, over_received}
+use Rattle.cast_domain.proofs.Logs.{WereMembers, sets, list_in, lists_by, filter_skips, filter_takes, facts_push, tells_made, log_alike, IsNew, gone_learnt, log_apart, other_group}
 
 -- The holder
 
@@ -155,7 +156,7 @@ not_noted s g u (v ∷ us) current none = elim (cases_Bool (uid_eq u v)) [
         (false_from_ne_true (entry_eq (entry_of u) (entry_of v)) (λ same. false≢true (sym apart ∙ alike now same)))
         ∙ rest
 
-none_left : {A : Type 0} (t : A → Bool) (xs : List A) → find (λ x. not (t x)) xs ≡ None → list_all t xs ≡ true
+pub none_left : {A : Type 0} (t : A → Bool) (xs : List A) → find (λ x. not (t x)) xs ≡ None → list_all t xs ≡ true
 none_left t [] none = refl
 none_left t (x ∷ xs) none =
     elim (t x) as (λ b. cond (not b) (Some x) (find (λ y. not (t y)) xs) ≡ None → (b && list_all t xs) ≡ true) [
@@ -179,10 +180,16 @@ frozen_waits s g e opens frozen none = false≢true (sym (ap (λ b. not b || is_
     nothing (Some p) none = absurd (false≢true (sym none))
     nothing None none = refl
 
+-- what is over is so still once a process has delivered a message, by which it counts no fewer of its own
+delivered_over : (s : State) (k : ℕ) (m : Message) (g : GroupNo) → CountsOnIn s k m g → (e : Entry) → IsOver s g e → IsOver (with_delivery s k m) g e
+delivered_over s k m g counts =
+    let v : Process = record (s.process k) { time = join (s.process k).time m.times; delivered = (s.process k).delivered ++ m.id ∷ [] } in
+    over_alike s (with_delivery s k m) g refl refl refl (λ u is. is) (one_counts_on s k v g (λ member. record { member = member; counts = counts member }))
+
 -- the logs tell of the orders still once a process has delivered a message of a current view that it had not delivered,
 -- and passed places of ids that it has delivered
-pub logs_deliver : (s : State) (k : ℕ) (m : Message) (n : ℕ) (orders : List Log) → IsTraced s → ((h : GroupNo) → LogFits s h (log_of orders h)) → has_delivered (s.process k) m.id ≡ false → is_of_view s m.id.group m.id ≡ true → is_open_to (gate_of s m.id.group) (entry_of m.id) ≡ true → find (λ e. not (has_passed (with_delivery s k m) m.id.group (local s k) e)) (take n (next_in (log_of orders m.id.group) (local s k))) ≡ None → (h : GroupNo) → LogFits (with_delivery s k m) h (log_of (noting s k m n orders) h)
-logs_deliver s k m n orders traced fits fresh current opens passes h = at (is_atomic (kind_of m.body)) refl (sets_order s m.id.group k) refl
+pub logs_deliver : (s : State) (k : ℕ) (m : Message) (n : ℕ) (orders : List Log) → IsTraced s → ((h : GroupNo) → LogFits s h (log_of orders h)) → has_delivered (s.process k) m.id ≡ false → is_of_view s m.id.group m.id ≡ true → is_open_to (gate_of s m.id.group) (entry_of m.id) ≡ true → find (λ e. not (has_passed (with_delivery s k m) m.id.group (local s k) e)) (take n (next_in (log_of orders m.id.group) (local s k))) ≡ None → ((g : GroupNo) → CountsOnIn s k m g) → (h : GroupNo) → LogFits (with_delivery s k m) h (log_of (noting s k m n orders) h)
+logs_deliver s k m n orders traced fits fresh current opens passes counts h = at (is_atomic (kind_of m.body)) refl (sets_order s m.id.group k) refl
   where
     g : GroupNo
     g = m.id.group
@@ -190,12 +197,15 @@ logs_deliver s k m n orders traced fits fresh current opens passes h = at (is_at
     t : State
     t = with_delivery s k m
 
+    over : (x : GroupNo) → (e : Entry) → IsOver s x e → IsOver t x e
+    over x = delivered_over s k m x (counts x)
+
     tells_still : (x : GroupNo) → told_here t x ≡ told_here s x → TellsOrder s x (log_of orders x) → TellsOrder t x (log_of orders x)
     tells_still x same f =
         tells_made t x (log_of orders x) (facts_in s x) (told_here s x) (lists_here s x) refl same refl f.stable f.reached
         (more_fits (facts_in s x) (told_here s x) (lists_here s x) (goes_on s x) (has_passed s x) f.stable (log_of orders x) f.fits (goes_on t x) (has_passed t x) f.stable (same_standing s k m x)
         (λ p e is. more_delivered s k m p (named x (s.group x).number e) is) (omega arith))
-        f.counted
+        f.counted (λ e among. over x e (f.gone e among))
 
     -- a closed order stays, and processes deliver more of it
     closed_still : (x : GroupNo) (l : Log) → FitsClosed (s.closed x) (goes_on s x) (has_passed s x) l → FitsClosed (t.closed x) (goes_on t x) (has_passed t x) l
@@ -203,7 +213,7 @@ logs_deliver s k m n orders traced fits fresh current opens passes h = at (is_at
 
     -- a log that stays, where the ABCASTs of the holder here do
     stays : (x : GroupNo) → told_here t x ≡ told_here s x → LogFits t x (log_of orders x)
-    stays x same = record { whole = (fits x).whole; tells = λ none. tells_still x same ((fits x).tells none); closed = λ waits. closed_still x (log_of orders x) ((fits x).closed waits) }
+    stays x same = record { tells = λ none. tells_still x same ((fits x).tells none); closed = λ waits. closed_still x (log_of orders x) ((fits x).closed waits) }
 
     changed : (f : Log → Log) → ((l : Log) → (f l).group ≡ l.group) → LogFits t g (f (log_of orders g)) → (group_eq g h ≡ false → LogFits t h (log_of orders h)) → LogFits t h (log_of (change_log g f orders) h)
     changed f keeps own other =
@@ -227,11 +237,10 @@ logs_deliver s k m n orders traced fits fresh current opens passes h = at (is_at
         (more_fits (facts_in s g) (told_here s g ++ entry_of m.id ∷ []) (lists_here s g) (goes_on s g) (has_passed s g) f.stable (told (entry_of m.id) (log_of orders g))
         (tell_fits (facts_in s g) (told_here s g) (lists_here s g) (goes_on s g) (has_passed s g) f.stable (log_of orders g) f.fits (entry_of m.id) unlisted)
         (goes_on t g) (has_passed t g) f.stable (same_standing s k m g) (λ p e is. more_delivered s k m p (named g (s.group g).number e) is) (omega arith))
-        f.counted
+        f.counted (λ e among. over g e (f.gone e among))
 
     tells : is_atomic (kind_of m.body) ≡ true → sets_order s g k ≡ true → LogFits t g (told (entry_of m.id) (log_of orders g))
     tells atomic sets = record {
-      whole = (fits g).whole;
       tells = λ none. tells_more atomic (and_parts (holds s g k) (not (s.group g).frozen) sets).0 ((fits g).tells none);
       closed = λ waits. closed_tell (t.closed g) (goes_on t g) (has_passed t g) (log_of orders g) (closed_still g (log_of orders g) ((fits g).closed waits)) (entry_of m.id);
     }
@@ -244,11 +253,10 @@ logs_deliver s k m n orders traced fits fresh current opens passes h = at (is_at
         let f = tells_still g (told_same s k m g (λ p is same. absurd (false≢true (sym (holder_not s g k away p is) ∙ same)))) before in
         tells_made t g (passed (local s k) n (log_of orders g)) (facts_in t g) (told_here t g) (lists_here t g) refl refl refl f.stable f.reached
         (pass_fits (facts_in t g) (told_here t g) (lists_here t g) (goes_on t g) (has_passed t g) f.stable (log_of orders g) f.fits (local s k) n all_passed)
-        f.counted
+        f.counted f.gone
 
     passes_on : sets_order s g k ≡ false → LogFits t g (passed (local s k) n (log_of orders g))
     passes_on follows = record {
-      whole = (fits g).whole;
       tells = λ none. elim (cases_Bool (holds s g k)) [
         | inl here ↦ absurd (frozen_waits s g (entry_of m.id) opens (is_frozen (s.group g).frozen (sym (ap (λ b. b && not (s.group g).frozen) here) ∙ follows)) none)
         | inr away ↦ tells_passed away ((fits g).tells none)
@@ -262,7 +270,7 @@ logs_deliver s k m n orders traced fits fresh current opens passes h = at (is_at
 
     at : (b : Bool) → is_atomic (kind_of m.body) ≡ b → (c : Bool) → sets_order s g k ≡ c → LogFits t h (log_of (if b then (if c then change_log g (told (entry_of m.id)) orders else change_log g (passed (local s k) n) orders) else orders) h)
     at false plain c held =
-        log_alike s t h (log_of orders h) refl refl refl refl refl refl (λ j. ap (λ b. (if b then set_at (λ x y. x == y) s.abcasts k (s.abcasts k ++ m.id ∷ []) else s.abcasts) j) plain) (omega arith) (same_standing s k m h) (more_delivered s k m) (fits h)
+        log_alike s t h (log_of orders h) refl refl refl refl refl refl (λ j. ap (λ b. (if b then set_at (λ x y. x == y) s.abcasts k (s.abcasts k ++ m.id ∷ []) else s.abcasts) j) plain) (omega arith) (same_standing s k m h) (more_delivered s k m) (λ _. over h) (fits h)
     at true atomic true held = changed (told (entry_of m.id)) (λ l. refl) (tells atomic held) apart_stays
     at true atomic false held = changed (passed (local s k) n) (λ l. refl) (passes_on held) apart_stays
 
@@ -270,8 +278,8 @@ logs_deliver s k m n orders traced fits fresh current opens passes h = at (is_at
 
 -- the logs tell of the orders still once the holder has sent a set-order message with the places that are next, noted
 -- when so many of its messages were stable
-pub logs_place : (s : State) (k : ℕ) (m : Message) (q : Sequence) (n : ℕ) (orders : List Log) → ((h : GroupNo) → LogFits s h (log_of orders h)) → is_pending (s.group m.id.group) ≡ false → holds s m.id.group k ≡ true → is_of_view s m.id.group m.id ≡ true → m.id.proc ≡ local s k → m.body ≡ body.Order q → Some q ≡ next_places (log_of orders m.id.group) → n ≡ settled_here s m.id.group → m.id.count ≤ MAX_NUMBER → (h : GroupNo) → LogFits (receiving s m) h (log_of (change_log m.id.group (learnt q) (change_log m.id.group (assigned m.id.count n) orders)) h)
-logs_place s k m q n orders fits unclosed here current own is next settled most h =
+pub logs_place : (s : State) (k : ℕ) (m : Message) (q : Sequence) (n : ℕ) (orders : List Log) → ((h : GroupNo) → LogFits s h (log_of orders h)) → is_pending (s.group m.id.group) ≡ false → holds s m.id.group k ≡ true → is_of_view s m.id.group m.id ≡ true → m.id.proc ≡ local s k → m.body ≡ body.Order q → Some q ≡ next_places (log_of orders m.id.group) → n ≡ settled_here s m.id.group → m.id.count ≤ MAX_NUMBER → IsNew s m.id.group (log_of orders m.id.group) m → (h : GroupNo) → LogFits (receiving s m) h (log_of (change_log m.id.group (learnt q) (change_log m.id.group (assigned m.id.count n) orders)) h)
+logs_place s k m q n orders fits unclosed here current own is next settled most new h =
     subst (LogFits t h) (sym (log_of_change noted g h (learnt q) (learnt_group q)))
     (elim (cases_Bool (group_eq g h)) [
       | inl same ↦
@@ -307,19 +315,20 @@ logs_place s k m q n orders fits unclosed here current own is next settled most 
     tells_placed : TellsOrder s g (log_of orders g) → TellsOrder t g (learnt q (assigned m.id.count n (log_of orders g)))
     tells_placed f =
         let reached = f.reached in
+        let listing : OrderFits (facts_in s g) (told_here s g) (lists_here s g ++ (m.id.count, q.ids) ∷ []) (goes_on s g) (has_passed s g) n (assigned m.id.count n (log_of orders g)) =
+        assign_fits (facts_in s g) (told_here s g) (lists_here s g) (goes_on s g) (has_passed s g) f.stable (log_of orders g) f.fits m.id.count n q next (omega (arith, reached, settled)) in
         tells_made t g (learnt q (assigned m.id.count n (log_of orders g))) (facts_in s g ++ facts_of q) (told_here s g) (lists_here s g ++ (m.id.count, q.ids) ∷ [])
         (facts_push s g m current ∙ ap (λ b. facts_in s g ++ told_by b) is) refl lists n (omega (arith, settled))
-        (learn_fits (facts_in s g) (told_here s g) (lists_here s g ++ (m.id.count, q.ids) ∷ []) (goes_on s g) (has_passed s g) n (assigned m.id.count n (log_of orders g))
-        (assign_fits (facts_in s g) (told_here s g) (lists_here s g) (goes_on s g) (has_passed s g) f.stable (log_of orders g) f.fits m.id.count n q next (omega (arith, reached, settled)))
-        q)
+        (learn_fits (facts_in s g) (told_here s g) (lists_here s g ++ (m.id.count, q.ids) ∷ []) (goes_on s g) (has_passed s g) n (assigned m.id.count n (log_of orders g)) listing q)
         (λ x in_it. elim (Contains-push_cases (lists_here s g) (m.id.count, q.ids) x in_it) [
           | inl before ↦ f.counted x before
           | inr last ↦ subst (λ (y : ℕ × List Entry). y.0 ≤ MAX_NUMBER) last most
         ])
+        (gone_learnt s m q (assigned m.id.count n (log_of orders g)) n (told_here s g) (lists_here s g ++ (m.id.count, q.ids) ∷ []) listing
+        (λ e among. over_received s m g e (new e among) (f.gone e among)))
 
     places : LogFits t g (learnt q (assigned m.id.count n (log_of orders g)))
     places = record {
-      whole = learnt_base q (assigned m.id.count n (log_of orders g)) ∙ (fits g).whole;
       tells = λ _. tells_placed ((fits g).tells unclosed);
       closed = λ waits. absurd (false≢true (sym unclosed ∙ waits));
     }

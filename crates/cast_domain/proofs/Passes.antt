@@ -30,7 +30,7 @@ fits_between r s fits = record {
   messages = fits.messages;
   processes = fits.processes;
   acks = fits.acks;
-  orders = orders_same s (before_event s) r.orders refl refl refl refl refl refl refl fits.orders;
+  orders = orders_same s (before_event s) r.orders refl refl refl refl refl refl refl (λ u is. is) fits.orders;
   frames = refl;
   delivered = refl;
 }

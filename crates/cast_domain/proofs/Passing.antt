@@ -71,7 +71,7 @@ module _ (g : GroupNo) (skips : Bool) (n : ℕ) (members : Membership) (t : Stat
       standing_there r u f k g ∙ ap (λ b. (if b then parted g (t.process k) else t.process k).standing g) fresh in
       let row : IsSome (row_of r.delay.rows (local t k)) = has_row (row_of r.delay.rows (local t k)) g (ap is_outside standing ∙ member_inside ((t.process k).standing g) member) in
       let told : Fits (tell_in r (local t k) (fact.Standing g Outside)) (set_standing u k g Outside) =
-      fits_told r u f k row (fact.Standing g Outside) (λ inside. absurd (false≢true (sym inside))) refl in
+      fits_told r u f k row (fact.Standing g Outside) (λ inside. absurd (false≢true (sym inside))) refl (λ h _. omega arith) in
       subst (λ p. Fits (push_in (tell_in r p (fact.Standing g Outside)) k (push.Ejected g n)) (gone (λ j. e j || (k == j)))) (λ i. record { site = (sym f.core i).site; serial = k })
       (subst (λ x. Fits (push_in (tell_in r (local t k) (fact.Standing g Outside)) k (push.Ejected g n)) x)
       (ap (λ s. pushing s k (push.Ejected g n)) (parted_here g u k) ∙ changed_one (parted g) (push.Ejected g n) t e k fresh)

@@ -35,6 +35,7 @@ use Rattle.cast_history.specs.Lawful.{IsLawful, IsSpent, AreKept}
 use Rattle.cast_domain.specs.Fits.{process_named, Fits, is_live, past_of}
 use Rattle.cast_history.proofs.Totals.{In}
 use Rattle.cast_domain.proofs.Rows.{names_of, serial_of, rise_filter, filter_within, row_found, row_untested, row_ungiven}
+use Rattle.cast_domain.proofs.Over.{keeps_fewer}
 use Rattle.cast_domain.proofs.Standing.{orders_same, record_there, place_some, place_none, process_here, given_later, member_of_none}
 use Rattle.cast_types.proofs.Bools.{neither}
 use Rattle.cast_domain.proofs.Receipts.{live_now}
@@ -287,7 +288,7 @@ fits_release r s fits p q same =
         idle = fits.processes.idle;
       };
       acks = fits.acks;
-      orders = orders_same s (releasing s q) r.orders refl refl refl refl refl refl refl fits.orders;
+      orders = orders_same s (releasing s q) r.orders refl refl refl refl refl refl refl (keeps_fewer (λ m. not (q m.id)) s.kept) fits.orders;
       frames = fits.frames;
       delivered = fits.delivered;
     })

@@ -7,13 +7,14 @@ use Rattle.std.specs.Option.{option_map_or}
 use Rattle.std.proofs.Math.Nat.{le-max_left, le-max_right}
 use Rattle.std.proofs.lemmas.Bool.{cases_Bool, cases_lt, false≢true, and_parts, and_from, or_cases, or_left, or_right, eqb-true, eq-eqb, ltb-true, lt-ltb, leb-true, false_from_ne_true}
 use Rattle.std.proofs.lemmas.List.Folds.{list_all-append, list_any-append}
+use Rattle.std.proofs.lemmas.List.{take-append-drop, take-append-le}
 use Rattle.std.proofs.lemmas.List.Elements.{filter-append}
 use Rattle.cast_types.specs.declared.names.GroupNo.{GroupNo}
 use Rattle.cast_types.specs.declared.names.Proc.{Proc}
 use Rattle.cast_types.specs.declared.names.Uid.{Uid}
-use Rattle.cast_types.specs.declared.limits.TheConstants.{MAX_POSITION, MAX_PLACED}
-use Rattle.cast_types.specs.Names.{Entry, site_eq, group_eq, proc_eq, uid_eq, entry_eq, named, entry_of}
-use Rattle.cast_types.specs.Sets.{is_among}
+use Rattle.cast_types.specs.declared.limits.TheConstants.{MAX_POSITION, MAX_PLACED, MAX_KEPT}
+use Rattle.cast_types.specs.Names.{Entry, site_eq, group_eq, proc_eq, uid_eq, entry_eq, entry_cmp, is_atomic, named, entry_of}
+use Rattle.cast_types.specs.Sets.{is_among, set_of}
 use Rattle.cast_types.specs.Counts.{CountList}
 use Rattle.cast_types.specs.Sources.{source}
 use Rattle.cast_types.proofs.Bools.{same_bools, neither}
@@ -28,17 +29,18 @@ use Rattle.cast_delay.specs.Queue.{is_awaited}
 use Rattle.cast_delay.specs.Tallies.{counts_in}
 use Rattle.cast_delay.proofs.Reached.{reached_most, reached_each}
 use Rattle.cast_message.specs.Receipts.{messages}
+use Rattle.cast_message.specs.Bodies.{kind_of}
 use Rattle.cast_stable.specs.Ledger.{is_received_in, last_received_in}
 use Rattle.cast_stable.proofs.Lists.{contains_none, contains_cases}
 use Rattle.cast_stable.proofs.Last.{last_most, last_each}
-use Rattle.cast_order.specs.Order.{known_order, listed_ids, still_to_list}
+use Rattle.cast_order.specs.Order.{listed_ids, still_to_list}
 use Rattle.cast_order.specs.Log.{log_of, whole_kept}
 use Rattle.cast_order.proofs.Meanings.{whole_rules, tail_rules}
 use Rattle.cast_view.specs.Sites.{is_at}
 use Rattle.cast_history.specs.State.{State, no_process, local, serials, gate_of, is_received, may_speak, was_given}
 use Rattle.cast_history.specs.Lawful.{IsLawful}
 use Rattle.cast_history.specs.Order.{is_of_view, facts_in, order_told, abcasts_delivered, lists_of, unlisted}
-use Rattle.cast_history.specs.Reports.{had_here, had_in, unlisted_here, whole_order, tail_of, kept_list, kept_in, report_in, is_delivered_here, has_delivered_cut, is_missing, missing_in}
+use Rattle.cast_history.specs.Reports.{had_here, had_in, unlisted_here, whole_order, tail_of, is_unplaced, kept_list, kept_in, report_in, is_delivered_here, has_delivered_cut, is_missing, missing_in}
 use Rattle.cast_domain.specs.Records.{Records}
 use Rattle.cast_domain.specs.Fits.{Fits, record_for, process_named, is_live, past_of, told_here, lists_here, goes_on, has_passed}
 use Rattle.cast_domain.specs.Calls.{record_at, had_of, tail_in, is_kept_of, report_at, is_awaited_of, is_received_of, has_cut_of, missing_of}
@@ -375,6 +377,10 @@ module _ (s : State) (g : GroupNo) where
       ∙ list_any-append (uid_eq (of_group e)) (flat_map (λ k. (s.process k).delivered) (serials s)) (filter (λ v. site_eq v.proc.site s.here) (map (λ m. m.id) s.got))
       ∙ ap (λ b. b || sent_here (of_group e)) (among_joined (of_group e) (λ k. (s.process k).delivered) (serials s))
 
+-- a message is an ABCAST of this name
+abbrev is_cast : Entry → Message → Bool
+is_cast e m = is_atomic (kind_of m.body) && entry_eq (entry_of m.id) e
+
 module _ (r : Records) (s : State) (fits : Fits r s) (g : GroupNo) where
   -- a message of the group's view, of a count from 1 on, is awaited by a row exactly if some member here has not delivered it
   pub awaited_here : (e : Entry) → 0 < e.1 → not (is_awaited r.delay.rows (named g (s.group g).number e)) ≡ is_delivered_here s g e
@@ -404,7 +410,7 @@ module _ (r : Records) (s : State) (fits : Fits r s) (g : GroupNo) where
       let view : m.id.view ≡ (s.group m.id.group).number = (λ i. (is i).view) ∙ (λ i. (s.group (sym is i).group).number) in
       false≢true (sym silent ∙ sym (λ i. may_speak s (is i).group (is i).proc) ∙ l.traced.spoken m in_got view))
 
-  received_same : IsLawful s → (e : Entry) → 0 < e.1 → is_received_of r (record_for s g) e ≡ is_received s (named g (s.group g).number e)
+  pub received_same : IsLawful s → (e : Entry) → 0 < e.1 → is_received_of r (record_for s g) e ≡ is_received s (named g (s.group g).number e)
   received_same l e some =
       ap (λ t. (is_among proc_eq e.0 (members_of (s.group g)) || site_eq e.0.site t) && is_received_in r.acks (named g (s.group g).number e)) same_here
       ∙ elim (cases_Bool (may_speak s g e.0)) [
@@ -511,13 +517,52 @@ module _ (r : Records) (s : State) (fits : Fits r s) (g : GroupNo) where
   still_here =
       elim (holder_at s.here (s.group g)) as (λ o. still_to_list (option_map_or (λ p. abcasts_delivered s g p.serial) o []) (listed_ids (option_map_or (λ p. lists_of s g p.serial) o [])) ≡ option_map_or (λ p. unlisted s g p.serial) o []) [ Some p ↦ refl | None ↦ refl ]
 
-  whole_there : is_pending (s.group g) ≡ false → whole_kept (log_of r.orders g) ≡ whole_order s g
+  -- how many of its first ids are forgotten
+  abbrev base : ℕ
+  base = (log_of r.orders g).base
+
+  whole_there : is_pending (s.group g) ≡ false → whole_kept (log_of r.orders g) ≡ drop base (whole_order s g)
   whole_there off =
       let t = (fits.orders g).tells off in
-      let all : List Entry = known_order (facts_in s g) ++ still_to_list (told_here s g) (listed_ids (lists_here s g)) in
       whole_rules (facts_in s g) (told_here s g) (lists_here s g) (goes_on s g) (has_passed s g) t.stable (log_of r.orders g) t.fits
-      ∙ ap (λ k. drop k all) (fits.orders g).whole
-      ∙ ap (λ ids. order_told s g ++ ids) still_here
+      ∙ ap (λ ids. drop base (order_told s g ++ ids)) still_here
+
+  -- an ABCAST that is kept of the view is none that is forgotten
+  kept_named : (e : Entry) (kept : List Message) → list_any (is_cast e) (filter (λ m. is_of_view s g m.id) kept) ≡ true → list_any (λ m. uid_eq m.id (of_group s g e)) kept ≡ true
+  kept_named e [] has = absurd (false≢true has)
+  kept_named e (m ∷ kept) has = elim (cases_Bool (is_of_view s g m.id)) [
+    | inl current ↦ elim (or_cases (is_cast e m) (list_any (is_cast e) (filter (λ x. is_of_view s g x.id) kept)) (subst (λ b. list_any (is_cast e) (cond b (m ∷ filter (λ x. is_of_view s g x.id) kept) (filter (λ x. is_of_view s g x.id) kept)) ≡ true) current has)) [
+      | inl here ↦
+          let same : entry_of m.id ≡ e = same_entry (entry_of m.id) e (and_parts (is_atomic (kind_of m.body)) (entry_eq (entry_of m.id) e) here).1 in
+          or_left (uid_eq m.id (of_group s g e)) (list_any (λ x. uid_eq x.id (of_group s g e)) kept)
+          (uid_turned m.id (of_group s g e) ∙ named_is s g e m.id ∙ and_from (is_of_view s g m.id) (entry_eq e (entry_of m.id)) current (subst (λ x. entry_eq e x ≡ true) (sym same) (entry_itself e)))
+      | inr later ↦ or_right (uid_eq m.id (of_group s g e)) (list_any (λ x. uid_eq x.id (of_group s g e)) kept) (kept_named e kept later)
+    ]
+    | inr other ↦
+        or_right (uid_eq m.id (of_group s g e)) (list_any (λ x. uid_eq x.id (of_group s g e)) kept)
+        (kept_named e kept (subst (λ b. list_any (is_cast e) (cond b (m ∷ filter (λ x. is_of_view s g x.id) kept) (filter (λ x. is_of_view s g x.id) kept)) ≡ true) other has))
+  ]
+
+  placed_still : is_pending (s.group g) ≡ false → (e : Entry) → list_any (is_cast e) (kept_in s g) ≡ true → is_among entry_eq e (whole_order s g) ≡ is_among entry_eq e (drop base (whole_order s g))
+  placed_still off e some =
+      ap (is_among entry_eq e) (sym (take-append-drop base (whole_order s g)))
+      ∙ list_any-append (entry_eq e) (take base (whole_order s g)) (drop base (whole_order s g))
+      ∙ ap (λ b. b || is_among entry_eq e (drop base (whole_order s g))) none
+    where
+      none : is_among entry_eq e (take base (whole_order s g)) ≡ false
+      none = false_from_ne_true (is_among entry_eq e (take base (whole_order s g))) (λ among.
+          let t = (fits.orders g).tells off in
+          let le = t.fits.forgotten in
+          let front : take base (whole_order s g) ≡ take base (order_told s g) = take-append-le base (order_told s g) (unlisted_here s g) (omega (arith, le)) in
+          let over = t.gone e (sym (ap (is_among entry_eq e) front) ∙ among) in
+          false≢true (sym over.let_go ∙ kept_named e s.kept some))
+
+  -- so it has a place in what is kept of the order exactly if it has one in all of it
+  unplaced_still : is_pending (s.group g) ≡ false → (e : Entry) → is_unplaced (kept_in s g) (drop base (whole_order s g)) e ≡ is_unplaced (kept_in s g) (whole_order s g) e
+  unplaced_still off e = elim (cases_Bool (list_any (is_cast e) (kept_in s g))) [
+    | inl some ↦ ap (λ b. list_any (is_cast e) (kept_in s g) && not b) (sym (placed_still off e some))
+    | inr none ↦ ap (λ b. b && not (is_among entry_eq e (drop base (whole_order s g)))) none ∙ sym (ap (λ b. b && not (is_among entry_eq e (whole_order s g))) none)
+  ]
 
   tail_there : is_pending (s.group g) ≡ false → tail_in (log_of r.orders g) ≡ tail_of (whole_order s g)
   tail_there off =
@@ -527,7 +572,9 @@ module _ (r : Records) (s : State) (fits : Fits r s) (g : GroupNo) where
       ∙ ap (λ rest. tail_of (order_told s g ++ rest)) still_here
 
   kept_there : is_pending (s.group g) ≡ false → kept_list (filter (is_kept_of (record_for s g)) (messages r.part.kept)) (whole_kept (log_of r.orders g)) ≡ kept_list (kept_in s g) (whole_order s g)
-  kept_there off = λ i. kept_list (filter (λ m. is_of_view s g m.id) (fits.messages.kept_in i)) (whole_there off i)
+  kept_there off =
+      (λ i. kept_list (filter (λ m. is_of_view s g m.id) (fits.messages.kept_in i)) (whole_there off i))
+      ∙ (λ i. take MAX_KEPT (map (λ e. (e, unplaced_still off e i)) (set_of entry_cmp (map (λ m. entry_of m.id) (kept_in s g)))))
 
   report_same : is_pending (s.group g) ≡ false → report_at r (record_for s g) ≡ report_in s g
   report_same off = λ i. record { counts = counts_there i; tail = tail_there off i; kept = kept_there off i }

@@ -44,7 +44,7 @@ use Rattle.cast_domain.proofs.Ordering.{order_room_there, settled_there, settled
 use Rattle.cast_types.proofs.Bools.{and_none}
 use Rattle.cast_domain.proofs.Standing.{record_there, member_row, standing_there, time_there, fits_sent}
 use Rattle.cast_domain.proofs.Releases.{fits_let_go}
-use Rattle.cast_domain.proofs.Commands.{next_sound, fits_send_message_with}
+use Rattle.cast_domain.proofs.Commands.{next_sound, next_new, raised_counts, fits_send_message_with}
 use Rattle.cast_domain.proofs.Turns.{Kept, kept_self, kept_if}
 use Rattle.cast_domain.proofs.Receipts.{live_now}
 use Rattle.cast_history.proofs.Lawful.{local_speaks}
@@ -69,8 +69,9 @@ sent_at r p x places =
 fits_places : (r : Records) (s : State) → Fits r s → IsLawful s → (k : ℕ) (g : GroupNo) → is_pending (s.group g) ≡ false → holds s g k ≡ true → is_member ((s.process k).standing g) ≡ true → may_raise (s.process k).time g (local s k) ≡ true → (q : Sequence) → Some q ≡ next_places (log_of r.orders g) → Fits (sent_at r (local s k) (record_for s g) q) (sending s g k (body.Order q))
 fits_places r s f l k g unclosed here member raised q next =
     subst (λ x. Fits x (sending s g k (body.Order q))) (sym same)
-    (fits_send_message_with (tell_in r p (fact.Time m.times)) s1 (fits_sent r s f k (member_row r s f k g member) m) m (next_sound s g k (body.Order q) l member) (live_now s1 (source_of m.id) refl (local_speaks s1 g k)) (learn_in noted g (body.Order q))
-    (logs_place s1 k m q settled r.orders (fits_sent r s f k (member_row r s f k g member) m).orders unclosed here current refl refl next (settled_there r s f g p (site_itself s.here) ∙ sym (settled_of_holder s g k here)) most))
+    (fits_send_message_with (tell_in r p (fact.Time m.times)) s1 (fits_sent r s f k (member_row r s f k g member) m (λ h _. raised_counts (s.process k).time g h p)) m (next_sound s g k (body.Order q) l member) (live_now s1 (source_of m.id) refl (local_speaks s1 g k)) (learn_in noted g (body.Order q))
+    (logs_place s1 k m q settled r.orders (fits_sent r s f k (member_row r s f k g member) m (λ h _. raised_counts (s.process k).time g h p)).orders unclosed here current refl refl next (settled_there r s f g p (site_itself s.here) ∙ sym (settled_of_holder s g k here)) most
+    (next_new s g k (body.Order q) (log_of r.orders g) member ((f.orders g).tells unclosed))))
   where
     p : Proc
     p = local s k

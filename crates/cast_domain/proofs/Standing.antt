@@ -18,7 +18,7 @@ use Rattle.cast_types.specs.Places.{update}
 use Rattle.cast_types.specs.Sets.{is_among, set_at}
 use Rattle.cast_types.specs.Stamps.{ClockList}
 use Rattle.cast_types.proofs.Orders.{same_group, same_site, group_itself, site_itself, proc_itself}
-use Rattle.cast_clock.specs.Times.{no_time}
+use Rattle.cast_clock.specs.Times.{no_time, count_in}
 use Rattle.cast_clock.proofs.Entries.{option_cases}
 use Rattle.cast_message.specs.declared.message.Message.{Message}
 use Rattle.cast_message.specs.declared.site.SiteFrame.{SiteFrame}
@@ -68,7 +68,8 @@ use Rattle.cast_history.specs.Lawful.{IsLawful}
 use Rattle.cast_domain.specs.Fits.{process_named, record_for, session_in, is_live, past_of, LogFits, Fits, goes_on, has_passed}
 use Rattle.cast_domain.proofs.Receipts.{group_same, others_told, past_same, live_and_stands}
 use Rattle.cast_domain.proofs.Rows.{row_given}
-use Rattle.cast_domain.proofs.Logs.{log_alike, settled_same, logs_receive, logs_view, log_starts}
+use Rattle.cast_domain.proofs.Logs.{log_alike, settled_same, IsNew, logs_receive, logs_view, log_starts}
+use Rattle.cast_domain.proofs.Over.{KeepsNoMore, all_stay, over_alike, one_counts_on}
 use Rattle.cast_history.proofs.Rules.Follows.{choose}
 use Rattle.cast_history.proofs.Spots.{update_own, update_other, push_last, push_other, update_mapped}
 use Rattle.cast_types.proofs.Updates.{length_update}
@@ -82,22 +83,31 @@ fits_if a b x y u v same then_fits else_fits = choose Fits a b x y u v same (λ 
 
 -- The order of views
 
--- each log tells still of a history that has the same of groups, processes, messages and acknowledgements
-pub orders_same : (s t : State) (orders : List Log) → t.here ≡ s.here → t.group ≡ s.group → t.closed ≡ s.closed → t.process ≡ s.process → t.got ≡ s.got → t.abcasts ≡ s.abcasts → t.acks ≡ s.acks → ((g : GroupNo) → LogFits s g (log_of orders g)) → (g : GroupNo) → LogFits t g (log_of orders g)
-orders_same s t orders here group closed process got abcasts acks fits g =
+-- each log tells still of a history that has the same of groups, processes, messages and acknowledgements, and keeps no more
+pub orders_same : (s t : State) (orders : List Log) → t.here ≡ s.here → t.group ≡ s.group → t.closed ≡ s.closed → t.process ≡ s.process → t.got ≡ s.got → t.abcasts ≡ s.abcasts → t.acks ≡ s.acks → KeepsNoMore s t → ((g : GroupNo) → LogFits s g (log_of orders g)) → (g : GroupNo) → LogFits t g (log_of orders g)
+orders_same s t orders here group closed process got abcasts acks kept fits g =
     let settled = settled_same s t g here (λ i. (group i g).view) (λ i. (group i g).number) acks in
     log_alike s t g (log_of orders g) here (λ i. (group i g).view) (λ i. (group i g).number) (λ i. is_pending (group i g)) (λ i. closed i g) got (λ k i. abcasts i k)
     (omega (arith, settled))
     (λ p is. (λ i. is_member ((if site_eq p.site (sym here i) then sym process i p.serial else no_process).standing g)) ∙ is)
     (λ p u is. (λ i. has_delivered (if site_eq p.site (here i) then process i p.serial else no_process) u) ∙ is)
+    (λ _. over_alike s t g here (λ i. (group i g).number) got kept (λ k member. record {
+      member = (λ i. is_member ((sym process i k).standing g)) ∙ member;
+      counts = let same : count_in (t.process k).time g (local s k) ≡ count_in (s.process k).time g (local s k) = ap (λ (ps : ℕ → Process). count_in (ps k).time g (local s k)) process in omega (arith, same);
+    }))
     (fits g)
 
--- or where a process changed that has delivered the same, and is a member of no group of which it was none
-pub orders_process : (s : State) (k : ℕ) (v : Process) (orders : List Log) → v.delivered ≡ (s.process k).delivered → ((g : GroupNo) → is_member (v.standing g) ≡ true → is_member ((s.process k).standing g) ≡ true) → ((g : GroupNo) → LogFits s g (log_of orders g)) → (g : GroupNo) → LogFits (set_process s k v) g (log_of orders g)
-orders_process s k v orders same were fits g =
+-- a process counts no fewer of its own messages in a group of whose order something is forgotten
+abbrev pub CountsStill : List Log → Proc → ClockList → ClockList → Type 0
+CountsStill orders p before now = (g : GroupNo) → 0 < (log_of orders g).base → count_in before g p ≤ count_in now g p
+
+-- or where a process changed that has delivered the same, is a member of no group of which it was none, and counts no fewer
+pub orders_process : (s : State) (k : ℕ) (v : Process) (orders : List Log) → v.delivered ≡ (s.process k).delivered → ((g : GroupNo) → is_member (v.standing g) ≡ true → is_member ((s.process k).standing g) ≡ true) → CountsStill orders (local s k) (s.process k).time v.time → ((g : GroupNo) → LogFits s g (log_of orders g)) → (g : GroupNo) → LogFits (set_process s k v) g (log_of orders g)
+orders_process s k v orders same were counts fits g =
     log_alike s (set_process s k v) g (log_of orders g) refl refl refl refl refl refl (λ j. refl) (omega arith)
     (λ p is. was p (site_eq p.site s.here) (k == p.serial) (eqb-true k p.serial) is)
     (λ p u is. ap (is_among uid_eq u) (at p (site_eq p.site s.here) (k == p.serial) (eqb-true k p.serial)) ∙ is)
+    (λ some. over_alike s (set_process s k v) g refl refl refl (λ u is. is) (one_counts_on s k v g (λ member. record { member = were g member; counts = counts g some })))
     (fits g)
   where
     was : (p : Proc) (a b : Bool) → (b ≡ true → k ≡ p.serial) → is_member ((if a then (if b then v else s.process p.serial) else no_process).standing g) ≡ true → is_member ((if a then s.process p.serial else no_process).standing g) ≡ true
@@ -116,7 +126,8 @@ orders_group s g v orders number view waits fits h =
     let views = group_same (λ x. x.view) s g v view h in
     let numbers = group_same (λ x. x.number) s g v number h in
     let settled = settled_same s (set_group s g v) h refl views numbers refl in
-    log_alike s (set_group s g v) h (log_of orders h) refl views numbers (group_same (λ x. is_pending x) s g v waits h) refl refl (λ k. refl) (omega (arith, settled)) (λ p is. is) (λ p u is. is) (fits h)
+    log_alike s (set_group s g v) h (log_of orders h) refl views numbers (group_same (λ x. is_pending x) s g v waits h) refl refl (λ k. refl) (omega (arith, settled)) (λ p is. is) (λ p u is. is)
+    (λ _. over_alike s (set_group s g v) h refl numbers refl (λ u is. is) (all_stay s h)) (fits h)
 
 -- Groups
 
@@ -240,7 +251,7 @@ fits_send r s fits to f = record {
   messages = fits.messages;
   processes = fits.processes;
   acks = fits.acks;
-  orders = orders_same s (emitted s to f) r.orders refl refl refl refl refl refl refl fits.orders;
+  orders = orders_same s (emitted s to f) r.orders refl refl refl refl refl refl refl (λ u is. is) fits.orders;
   frames = (λ i. fits.frames i ++ ((fits.core i).config.domain, to, f) ∷ []) ∙ sym (map-append (λ (x : SiteNo × SiteFrame). (s.config.domain, x.0, x.1)) s.frames ((to, f) ∷ []));
   delivered = fits.delivered;
 }
@@ -310,7 +321,7 @@ fits_session r s fits k change none still =
         idle = fits.processes.idle;
       };
       acks = fits.acks;
-      orders = orders_same s (set_session s k (change (s.session k))) r.orders refl refl refl refl refl refl refl fits.orders;
+      orders = orders_same s (set_session s k (change (s.session k))) r.orders refl refl refl refl refl refl refl (λ u is. is) fits.orders;
       frames = fits.frames;
       delivered = fits.delivered;
     }
@@ -494,7 +505,7 @@ fits_home r s fits lawful i g at change = record {
   messages = fits.messages;
   processes = fits.processes;
   acks = fits.acks;
-  orders = orders_same s (set_home s g (change (s.home g))) r.orders refl refl refl refl refl refl refl fits.orders;
+  orders = orders_same s (set_home s g (change (s.home g))) r.orders refl refl refl refl refl refl refl (λ u is. is) fits.orders;
   frames = fits.frames;
   delivered = fits.delivered;
 }
@@ -575,11 +586,11 @@ fits_told_with r s fits k row f ok logs = record {
   delivered = fits.delivered;
 }
 
--- a fact that makes nobody a member
-pub fits_told : (r : Records) (s : State) → Fits r s → (k : ℕ) → IsSome (row_of r.delay.rows (local s k)) → (f : Fact) → FactFits s.config.groups f → MakesNoMember f → Fits (tell_in r (local s k) f) (set_process s k (told_of f (s.process k)))
-fits_told r s fits k row f ok none =
+-- a fact that makes nobody a member, and by which the process counts no fewer
+pub fits_told : (r : Records) (s : State) → Fits r s → (k : ℕ) → IsSome (row_of r.delay.rows (local s k)) → (f : Fact) → FactFits s.config.groups f → MakesNoMember f → CountsStill r.orders (local s k) (s.process k).time (told_of f (s.process k)).time → Fits (tell_in r (local s k) f) (set_process s k (told_of f (s.process k)))
+fits_told r s fits k row f ok none counts =
     fits_told_with r s fits k row f ok
-    (orders_process s k (told_of f (s.process k)) r.orders (told_delivered f (s.process k)) (told_members f (s.process k) none) fits.orders)
+    (orders_process s k (told_of f (s.process k)) r.orders (told_delivered f (s.process k)) (told_members f (s.process k) none) counts fits.orders)
 
 -- a process enters the view of a group of whose order nothing is kept yet
 pub fits_member : (r : Records) (s : State) → Fits r s → (k : ℕ) → IsSome (row_of r.delay.rows (local s k)) → (g : GroupNo) → is_group s g ≡ true → is_pending (s.group g) ≡ false → log_of r.orders g ≡ new_log g → Fits (tell_in r (local s k) (fact.Standing g Member)) (set_standing s k g Member)
@@ -607,6 +618,8 @@ fits_member r s fits k row g listed unclosed new = fits_told_with r s fits k row
           log_alike s t h (log_of r.orders h) refl refl refl refl refl refl (λ j. refl) (omega arith)
           (λ p is. same p h apart (site_eq p.site s.here) (k == p.serial) (eqb-true k p.serial) is)
           (λ p u is. delivered p u (site_eq p.site s.here) (k == p.serial) (eqb-true k p.serial) is)
+          (λ _. over_alike s t h refl refl refl (λ u is. is)
+          (one_counts_on s k (told_of (fact.Standing g Member) (s.process k)) h (λ member. record { member = sym (ap (λ b. is_member (if b then Member else (s.process k).standing h)) apart) ∙ member; counts = omega arith })))
           (fits.orders h)
     ]
       where
@@ -616,10 +629,10 @@ fits_member r s fits k row g listed unclosed new = fits_told_with r s fits k row
             (fits.orders g)
 
 pub fits_standing : (r : Records) (s : State) → Fits r s → (k : ℕ) → IsSome (row_of r.delay.rows (local s k)) → (g : GroupNo) (v : Standing) → (is_outside v ≡ false → is_group s g ≡ true) → is_member v ≡ false → Fits (tell_in r (local s k) (fact.Standing g v)) (set_standing s k g v)
-fits_standing r s fits k row g v ok none = fits_told r s fits k row (fact.Standing g v) ok none
+fits_standing r s fits k row g v ok none = fits_told r s fits k row (fact.Standing g v) ok none (λ h _. omega arith)
 
-pub fits_time : (r : Records) (s : State) → Fits r s → (k : ℕ) → IsSome (row_of r.delay.rows (local s k)) → (t : ClockList) → Fits (tell_in r (local s k) (fact.Time t)) (set_process s k (record (s.process k) { time = t }))
-fits_time r s fits k row t = fits_told r s fits k row (fact.Time t) tt tt
+pub fits_time : (r : Records) (s : State) → Fits r s → (k : ℕ) → IsSome (row_of r.delay.rows (local s k)) → (t : ClockList) → CountsStill r.orders (local s k) (s.process k).time t → Fits (tell_in r (local s k) (fact.Time t)) (set_process s k (record (s.process k) { time = t }))
+fits_time r s fits k row t counts = fits_told r s fits k row (fact.Time t) tt tt counts
 
 -- what processes did is the history's alone
 pub fits_acts : (r : Records) (s : State) → Fits r s → (acts : ℕ → List Act) → Fits r (record s { acts = acts })
@@ -630,15 +643,15 @@ fits_acts r s fits acts = record {
   messages = fits.messages;
   processes = fits.processes;
   acks = fits.acks;
-  orders = orders_same s (record s { acts = acts }) r.orders refl refl refl refl refl refl refl fits.orders;
+  orders = orders_same s (record s { acts = acts }) r.orders refl refl refl refl refl refl refl (λ u is. is) fits.orders;
   frames = fits.frames;
   delivered = fits.delivered;
 }
 
-pub fits_sent : (r : Records) (s : State) → Fits r s → (k : ℕ) → IsSome (row_of r.delay.rows (local s k)) → (m : Message) → Fits (tell_in r (local s k) (fact.Time m.times)) (noting_sent s k m)
-fits_sent r s fits k row m =
+pub fits_sent : (r : Records) (s : State) → Fits r s → (k : ℕ) → IsSome (row_of r.delay.rows (local s k)) → (m : Message) → CountsStill r.orders (local s k) (s.process k).time m.times → Fits (tell_in r (local s k) (fact.Time m.times)) (noting_sent s k m)
+fits_sent r s fits k row m counts =
     let now : State = set_process s k (record (s.process k) { time = m.times }) in
-    fits_acts (tell_in r (local s k) (fact.Time m.times)) now (fits_time r s fits k row m.times) (noting_act now k (Sent m)).acts
+    fits_acts (tell_in r (local s k) (fact.Time m.times)) now (fits_time r s fits k row m.times counts) (noting_act now k (Sent m)).acts
 
 -- Messages and sessions that come
 
@@ -675,9 +688,10 @@ fits_receive_with r s fits m sound orders logs = record {
   delivered = fits.delivered;
 }
 
--- a message of the current view of its group is received, which is no set-order message of a process here, unless an Install waits
-pub fits_receive : (r : Records) (s : State) → Fits r s → (m : Message) → IsSound m → (m.id.view == (s.group m.id.group).number) ≡ true → (is_pending (s.group m.id.group) ≡ false → (k : ℕ) → (is_order (kind_of m.body) && proc_eq m.id.proc (local s k)) ≡ false) → Fits (receive_in r m) (receiving s m)
-fits_receive r s fits m sound current foreign = fits_receive_with r s fits m sound (learn_in r.orders m.id.group m.body) (logs_receive s m r.orders fits.orders current foreign)
+-- a message of the current view of its group is received, which is none that is forgotten of the order of the view, and no set-order message
+-- of a process here, unless an Install waits
+pub fits_receive : (r : Records) (s : State) → Fits r s → (m : Message) → IsSound m → (m.id.view == (s.group m.id.group).number) ≡ true → (is_pending (s.group m.id.group) ≡ false → (k : ℕ) → (is_order (kind_of m.body) && proc_eq m.id.proc (local s k)) ≡ false) → (is_pending (s.group m.id.group) ≡ false → IsNew s m.id.group (log_of r.orders m.id.group) m) → Fits (receive_in r m) (receiving s m)
+fits_receive r s fits m sound current foreign new = fits_receive_with r s fits m sound (learn_in r.orders m.id.group m.body) (logs_receive s m r.orders fits.orders current foreign new)
 
 -- a serial that is not given after one more was not before, and the next one was not
 given_before : (used k : ℕ) → was_given (used + 1) k ≡ false → was_given used k ≡ false
@@ -736,7 +750,7 @@ fits_open r s fits = record {
     idle = λ k none. fits.processes.idle k (given_before s.used k none);
   };
   acks = fits.acks;
-  orders = orders_same s (opening_next s) r.orders refl refl refl refl refl refl refl fits.orders;
+  orders = orders_same s (opening_next s) r.orders refl refl refl refl refl refl refl (λ u is. is) fits.orders;
   frames = fits.frames;
   delivered = fits.delivered;
 }
@@ -803,8 +817,7 @@ fits_before here config = record {
   };
   acks = acks_new_fits here (is_live (before_event (opening here config)));
   orders = λ g. record {
-    whole = refl;
-    tells = λ _. record { stable = 0; reached = omega arith; fits = order_new_fits g (goes_on (before_event (opening here config)) g) (has_passed (before_event (opening here config)) g); counted = λ x in_it. absurd (omega (arith, in_it.1)) };
+    tells = λ _. record { gone = λ e among. absurd (false≢true among); stable = 0; reached = omega arith; fits = order_new_fits g (goes_on (before_event (opening here config)) g) (has_passed (before_event (opening here config)) g); counted = λ x in_it. absurd (omega (arith, in_it.1)) };
     closed = λ waits. absurd (false≢true waits);
   };
   frames = refl;

@@ -1,5 +1,5 @@
 -- The turns of the records' rest are those of the history that they stand for.
-use Rattle.std.proofs.Common.{◌≡◌, ℕ, zero, suc, ◌<◌, ◌≤◌, Bool, true, false, cond, not, List, [], ◌∷◌, ◌++◌, length, map, Option, Some, None, refl, sym, ap, subst, ◌∙◌, inl, inr, arith}
+use Rattle.std.proofs.Common.{◌≡◌, ℕ, zero, suc, ◌<◌, ◌≤◌, Bool, true, false, cond, not, List, [], ◌∷◌, ◌++◌, length, map, Contains, Option, Some, None, refl, sym, ap, subst, ◌∙◌, inl, inr, arith}
 use Rattle.std.specs.Prelude.{◌&&◌, ◌==◌, if◌then◌else◌, filter, take}
 use Rattle.std.specs.List.{find}
 use Rattle.std.specs.Option.{IsSome, option_map_or}
@@ -46,7 +46,8 @@ use Rattle.cast_domain.proofs.LogSteps.{noting, logs_deliver}
 use Rattle.cast_domain.proofs.Ordering.{sets_order_there, turns_there}
 use Rattle.cast_history.proofs.Totals.{left_found, left_le}
 use Rattle.cast_history.proofs.Spots.{found_passes}
-use Rattle.cast_history.proofs.Lawful.{lawful_delivering}
+use Rattle.cast_history.proofs.Lawful.{delivered_view, lawful_delivering}
+use Rattle.cast_domain.proofs.Over.{join_counts_on}
 use Rattle.cast_history.proofs.LawfulSteps.{lawful_first}
 use Rattle.cast_domain.proofs.Releases.{fits_let_go}
 use Rattle.cast_delay.proofs.Finds.{found_in}
@@ -139,8 +140,8 @@ ready_listed s k m l ready =
     l.known k m.id.group (ap is_outside (only_member ((s.process k).standing m.id.group) a.0))
 
 -- before the process is told
-fits_turn : (r : Records) (s : State) → Fits r s → IsLawful s → (k : ℕ) → was_given s.used k ≡ true → (key : Key) (m : Message) → message_under r.part.kept key ≡ Some m → is_ready_for s k m ≡ true → Fits (record (turned r s k key m) { orders = noting s k m (passing r s k key m) r.orders }) (with_delivery s k m)
-fits_turn r s fits l k given key m under ready = record {
+fits_turn : (r : Records) (s : State) → Fits r s → IsLawful s → (k : ℕ) → was_given s.used k ≡ true → (key : Key) (m : Message) → message_under r.part.kept key ≡ Some m → Contains s.got m → is_ready_for s k m ≡ true → Fits (record (turned r s k key m) { orders = noting s k m (passing r s k key m) r.orders }) (with_delivery s k m)
+fits_turn r s fits l k given key m under at ready = record {
   core = fits.core;
   opened = fits.opened;
   groups = fits.groups;
@@ -156,7 +157,8 @@ fits_turn r s fits l k given key m under ready = record {
   orders = logs_deliver s k m (passing r s k key m) r.orders l.traced fits.orders (ready_new s k m ready) (ready_current s k m ready) (ready_opens s k m ready)
       (subst (λ v. find (λ e. not (has_delivered (process_named (with_delivery s k m) (local s k)) (named m.id.group v e))) (take (passing r s k key m) ids) ≡ None) view
       (passed_delivered s.config.groups (gate_of s) (process_named (with_delivery s k m)) r.part.kept (turned r s k key m).delay delay_now (local s k) m.id.group m.id.view ids
-      (still_after r.delay.offered (local s k) key (local s k) r.delay.rows (member_row r s fits k m.id.group (ready_member s k m ready))) (omega (arith, view))));
+      (still_after r.delay.offered (local s k) key (local s k) r.delay.rows (member_row r s fits k m.id.group (ready_member s k m ready))) (omega (arith, view))))
+      (λ g member. join_counts_on (s.process k).time m.times g (local s k) (l.stamped m at) (delivered_view s k m l at ready g member ∙ sym (l.current k g member)));
   frames = fits.frames;
   delivered = (λ i. fits.delivered i ++ ((fits.core i).config.domain, local s k, m.id) ∷ []) ∙ sym (map-append (λ (x : Proc × Uid). (s.config.domain, x.0, x.1)) s.deliveries ((local s k, m.id) ∷ []));
 }
@@ -199,12 +201,12 @@ fits_tell r s fits k (Some p) = fits_push r s fits k p
 fits_tell r s fits k None = fits
 
 -- a process delivers a message that is ready, and is told; what is free then is let go
-pub fits_delivering : (r : Records) (s : State) → Fits r s → IsLawful s → (k : ℕ) → was_given s.used k ≡ true → (key : Key) (m : Message) → message_under r.part.kept key ≡ Some m → is_ready_for s k m ≡ true → IsLawful (delivering s k m) → Fits (release.let_go records resting_records (tell records (note_delivered_under r (local s k) key m) k (told_of m.id m.body))) (delivering_one s k m)
-fits_delivering r s fits l k given key m under ready lawful =
+pub fits_delivering : (r : Records) (s : State) → Fits r s → IsLawful s → (k : ℕ) → was_given s.used k ≡ true → (key : Key) (m : Message) → message_under r.part.kept key ≡ Some m → Contains s.got m → is_ready_for s k m ≡ true → IsLawful (delivering s k m) → Fits (release.let_go records resting_records (tell records (note_delivered_under r (local s k) key m) k (told_of m.id m.body))) (delivering_one s k m)
+fits_delivering r s fits l k given key m under at ready lawful =
     let next : Records = record (turned r s k key m) { orders = noting s k m (passing r s k key m) r.orders } in
     fits_let_go (tell records (note_delivered_under r (local s k) key m) k (told_of m.id m.body)) (delivering s k m)
     (subst (λ x. Fits (tell records x k (told_of m.id m.body)) (delivering s k m)) (sym (noted_as r s fits l k key m ready))
-    (fits_tell next (with_delivery s k m) (fits_turn r s fits l k given key m under ready) k (told_of m.id m.body)))
+    (fits_tell next (with_delivery s k m) (fits_turn r s fits l k given key m under at ready) k (told_of m.id m.body)))
     lawful
 
 -- a spent message is ready for nobody
@@ -257,9 +259,10 @@ fits_first r s fits l k given =
     fits_next (Some key) (m, under, first) =
         let found : find (is_ready_for s k) s.got ≡ Some m = sym found_is ∙ first in
         let ready : is_ready_for s k m ≡ true = found_passes (is_ready_for s k) s.got m found in
+        let at : Contains s.got m = found_in (is_ready_for s k) s.got m found in
         subst (λ x. Fits (named_key (Some key) x) (deliver_first k s)) (sym under)
         (subst (Fits (release.let_go records resting_records (tell records (note_delivered_under r (local s k) key m) k (told_of m.id m.body)))) (sym (delivered_first s k m found))
-        (fits_delivering r s fits l k given key m under ready (lawful_delivering s k m l (found_in (is_ready_for s k) s.got m found) ready)))
+        (fits_delivering r s fits l k given key m under at ready (lawful_delivering s k m l at ready)))
 
 -- so many turns of one process
 fits_turns : (n : ℕ) (r : Records) (s : State) → Fits r s → IsLawful s → (k : ℕ) → was_given s.used k ≡ true → Fits (iterate n (rest.deliver_first records resting_records k) r) (iterate n (deliver_first k) s)

@@ -1,13 +1,16 @@
 -- When a domain's records stand for a history.
-use Rattle.std.specs.Prelude.{◌≡◌, ℕ, zero, suc, ◌≤◌, Bool, ◌&&◌, ◌||◌, ◌==◌, true, nat_lt, if◌then◌else◌, List, [], length, map, filter, Contains, slice_get, unwrap_or, None, false}
+use Rattle.std.specs.Prelude.{◌≡◌, ℕ, zero, suc, ◌≤◌, Bool, ◌&&◌, ◌||◌, ◌==◌, true, nat_lt, if◌then◌else◌, List, [], length, map, filter, take, Contains, slice_get, unwrap_or, None, false}
 use Rattle.std.specs.Option.{IsSome, option_map_or}
-use Rattle.std.specs.List.{range_with_len}
+use Rattle.std.specs.List.{range_with_len, list_any}
 use Rattle.cast_types.specs.declared.names.DomainNo.{DomainNo}
 use Rattle.cast_types.specs.declared.names.SiteNo.{SiteNo}
 use Rattle.cast_types.specs.declared.names.GroupNo.{GroupNo}
 use Rattle.cast_types.specs.declared.names.Proc.{Proc}
 use Rattle.cast_types.specs.declared.limits.TheConstants.{MAX_NUMBER}
-use Rattle.cast_types.specs.Names.{Entry, site_eq, named}
+use Rattle.cast_types.specs.declared.names.Uid.{Uid}
+use Rattle.cast_types.specs.Names.{Entry, site_eq, uid_eq, entry_eq, named}
+use Rattle.cast_types.specs.Sets.{is_among}
+use Rattle.cast_clock.specs.Times.{count_in}
 use Rattle.cast_delay.specs.declared.gate.Gate.{Gate}
 use Rattle.cast_delay.specs.Ready.{Process, is_member, has_delivered}
 use Rattle.cast_delay.specs.Queue.{Queue, row_of}
@@ -29,8 +32,8 @@ use Rattle.cast_model.specs.Session.{no_session, is_gone}
 use Rattle.cast_view.specs.MemberSide.{holder_at, is_pending}
 use Rattle.cast_view.specs.Home.{is_empty}
 use Rattle.cast_history.specs.Lawful.{IsLawful}
-use Rattle.cast_history.specs.State.{State, no_process, gate_of, others_of, may_speak, upto, was_given}
-use Rattle.cast_history.specs.Order.{facts_in, abcasts_delivered, lists_of}
+use Rattle.cast_history.specs.State.{State, local, no_process, gate_of, others_of, may_speak, upto, was_given, is_received}
+use Rattle.cast_history.specs.Order.{facts_in, order_told, abcasts_delivered, lists_of}
 use Rattle.cast_history.specs.Run.{before_event}
 use Rattle.cast_domain.specs.Shared.{Part}
 use Rattle.cast_model.specs.Outs.{no_outs}
@@ -93,18 +96,28 @@ goes_on s g p = is_member ((process_named s p).standing g)
 abbrev pub has_passed : State → GroupNo → Proc → Entry → Bool
 has_passed s g p e = has_delivered (process_named s p) (named g (s.group g).number e)
 
--- a log tells of the order of a group's view, as it was told, delivered and listed here
+-- a message is kept
+abbrev pub is_kept : State → Uid → Bool
+is_kept s u = list_any (λ m. uid_eq m.id u) s.kept
+
+-- a message of a group's view is over: it was received, and is kept no longer; and where its process is a member here, that
+-- has counted it
+pub record IsOver (s : State) (g : GroupNo) (e : Entry) : Type 0 where
+  pub received : is_received s (named g (s.group g).number e) ≡ true
+  pub let_go : is_kept s (named g (s.group g).number e) ≡ false
+  pub counted : (k : ℕ) → is_member ((s.process k).standing g) ≡ true → e.0 ≡ local s k → e.1 ≤ count_in (s.process k).time g (local s k)
+
+-- a log tells of the order of a group's view, as it was told, delivered and listed here; what is forgotten of it is over
 pub record TellsOrder (s : State) (g : GroupNo) (l : Log) : Type 0 where
   -- so many messages of the holder were stable when it listed last
   pub stable : ℕ
   pub reached : stable ≤ settled_here s g
   pub fits : OrderFits (facts_in s g) (told_here s g) (lists_here s g) (goes_on s g) (has_passed s g) stable l
   pub counted : (x : ℕ × List Entry) → Contains (lists_here s g) x → x.0 ≤ MAX_NUMBER
+  pub gone : (e : Entry) → is_among entry_eq e (take l.base (order_told s g)) ≡ true → IsOver s g e
 
--- a group's log does so until the Install of its next view waits, and then it has the order that the view ends with; nothing of it is
--- forgotten before the view has ended
+-- a group's log does so until the Install of its next view waits, and then it has the order that the view ends with
 pub record LogFits (s : State) (g : GroupNo) (l : Log) : Type 0 where
-  pub whole : l.base ≡ 0
   pub tells : is_pending (s.group g) ≡ false → TellsOrder s g l
   pub closed : is_pending (s.group g) ≡ true → FitsClosed (s.closed g) (goes_on s g) (has_passed s g) l
 

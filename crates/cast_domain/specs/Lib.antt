@@ -1,5 +1,6 @@
 pub mod Shared
 pub mod Records
 pub mod Calls
+pub mod Trims
 pub mod Fits
 pub mod Stepped

@@ -239,6 +239,8 @@ impl Domain {
         let taken = self.act(event, &mut lent)?;
         self.let_go(&mut lent)?;
         self.rest(&mut lent)?;
+        let kept = lent.shared.store.kept(self.config.domain);
+        self.trim_orders(kept);
         outs.append(step)?;
         Ok(taken)
     }

@@ -439,7 +439,7 @@ impl Domain {
     }
 
     // Whether a message of the view of a group was received: of a process that is no member, and of another site, nothing was.
-    fn is_received_of(&self, group: &GroupRecord, proc: Proc, count: u32) -> bool
+    pub(crate) fn is_received_of(&self, group: &GroupRecord, proc: Proc, count: u32) -> bool
         ensures { result ≡ is_received_of (records_of self.now no_part no_outs) group.now (proc, count) }
     {
         let id = Uid {

@@ -9,8 +9,8 @@
 //! The history is that of `cast_history`, with its definitions; sessions are those of `cast_model`, and groups those of
 //! `cast_view`, at the site and at the home. The definitions here are in `specs/`: `Records` is what the code keeps, with its
 //! part of what domains share (`Shared`), `Calls` what its calls do to that, exactly, and the records as the rules of
-//! `cast_history` see them (`records`, `records_serials`, `resting_records`), and `Fits` when records stand for a history;
-//! `Stepped` is what the contract of a step says.
+//! `cast_history` see them (`records`, `records_serials`, `resting_records`), `Trims` what is forgotten of orders after each
+//! step, and `Fits` when records stand for a history; `Stepped` is what the contract of a step says.
 #![tactic(auto)]
 
 mod domain;
@@ -26,6 +26,7 @@ mod requests;
 mod rest;
 mod shared;
 mod stability;
+mod trim;
 mod views;
 
 pub use cast_model::{Config, DomainConfig, Event, Outs, Quotas, Session, Status, Taken};

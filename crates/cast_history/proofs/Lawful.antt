@@ -149,7 +149,7 @@ spent_on s t used number member more m spent = record {
 }
 
 -- serials that were given and pass one test pass another
-range_all : (p test : ℕ → Bool) (a n : ℕ) → list_all test (filter p (range_with_len a n)) ≡ true → (k : ℕ) → a ≤ k → k < a + n → p k ≡ true → test k ≡ true
+pub range_all : (p test : ℕ → Bool) (a n : ℕ) → list_all test (filter p (range_with_len a n)) ≡ true → (k : ℕ) → a ≤ k → k < a + n → p k ≡ true → test k ≡ true
 range_all p test a zero all k low high is = absurd (omega (arith, low, high))
 range_all p test a (suc n) all k low high is =
     elim (p a) as (λ b. p a ≡ b → list_all test (cond b (a ∷ filter p (range_with_len (a + 1) n)) (filter p (range_with_len (a + 1) n))) ≡ true → test k ≡ true) [
@@ -604,7 +604,7 @@ ready_allows s k m ready =
     (and_parts (list_all (λ h. group_allows ((s.process k).standing h) (s.process k) (gate_of s h) m h) s.config.groups) (has_room (join (s.process k).time m.times)) d.1).0
 
 -- a member that takes what is ready stays in its view
-delivered_view : (s : State) (k : ℕ) (m : Message) → IsLawful s → Contains s.got m → is_ready_for s k m ≡ true → (g : GroupNo) → is_member ((s.process k).standing g) ≡ true → view_of (join (s.process k).time m.times) g ≡ (s.group g).number
+pub delivered_view : (s : State) (k : ℕ) (m : Message) → IsLawful s → Contains s.got m → is_ready_for s k m ≡ true → (g : GroupNo) → is_member ((s.process k).standing g) ≡ true → view_of (join (s.process k).time m.times) g ≡ (s.group g).number
 delivered_view s k m l at ready g member =
     let p : Process = s.process k in
     let inside : is_outside (p.standing g) ≡ false = ap is_outside (only_member (p.standing g) member) in

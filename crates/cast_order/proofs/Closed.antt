@@ -1,29 +1,31 @@
 -- A closed order stays as it is, and what is kept of it means it.
-use Rattle.std.proofs.Common.{◌≡◌, ℕ, ◌+◌, ◌-◌, ◌≤◌, min, Bool, true, not, List, ◌++◌, length, length-append, append_assoc, take, drop, refl, ap, ◌∙◌, sym, inl, inr, arith}
+use Rattle.std.proofs.Common.{◌≡◌, ℕ, ◌+◌, ◌-◌, min, Bool, true, false, cond, not, List, ◌++◌, length, append_assoc, take, drop, None, refl, ap, subst, ◌∙◌, sym, inl, inr, arith}
 use Rattle.std.specs.Prelude.{if◌then◌else◌}
-use Rattle.std.specs.List.{find, filter, list_all}
-use Rattle.std.proofs.lemmas.Bool.{cases_lt}
-use Rattle.std.proofs.lemmas.List.{append-nil, length-take, take_at, drop_at}
+use Rattle.std.specs.List.{find, filter}
+use Rattle.std.specs.Option.{option_or}
+use Rattle.std.specs.Ordering.{eq_by_cmp}
+use Rattle.std.proofs.lemmas.Bool.{cases_Bool, cases_lt}
+use Rattle.std.proofs.lemmas.List.{append-nil, take-append-drop, take_min}
 use Rattle.std.proofs.lemmas.List.Elements.{filter-append}
+use Rattle.std.proofs.lemmas.List.Folds.{find-append}
 use Rattle.cast_types.specs.declared.names.Proc.{Proc}
-use Rattle.cast_types.specs.Names.{Entry}
+use Rattle.cast_types.specs.Names.{Entry, proc_cmp}
+use Rattle.cast_types.proofs.Orders.{proc_exact, tie_same}
 use Rattle.cast_order.specs.Order.{known_order, closed_order}
-use Rattle.cast_order.specs.Log.{place_of, closed_by}
+use Rattle.cast_order.specs.Log.{Log, place_of, next_in, passed, closed_by}
 use Rattle.cast_order.specs.Laws.{CloseEndsTheOrder, ClosedLearnsNothing, PassKeepsClosed, MoreKeepsClosed, TellKeepsClosed, NextIsOfTheClosed}
-use Rattle.cast_order.proofs.Lists.{none_fails_more, all_kept, all_first, take_on, none_first}
-use Rattle.cast_order.proofs.Meanings.{fits_kept, taken_in, pass_passes, pass_within, next_known}
+use Rattle.cast_order.proofs.Lists.{none_fails, none_fails_more, none_kept, take_on, none_first}
+use Rattle.cast_order.proofs.Meanings.{taken_in, at_place}
 
--- what is kept of an order that is closed is what the closed order has behind its first ids
-first_stay : (w : Entry → Bool) (order ids : List Entry) (base start : ℕ) → base ≤ length order → list_all w (take base order) ≡ true → closed_order w start ids order ≡ take (min base start) order ++ filter w (take (start - base) (drop base order) ++ ids)
-first_stay w order ids base start le all =
-    let all_before : list_all w (take (min base start) order) ≡ true = all_first w (min base start) base order (omega arith) all in
-    ap (λ front. filter w (front ++ ids)) (first order base start)
+-- the first ids of a closed order: of those that are forgotten, and of those that are kept
+closed_parts : (w : Entry → Bool) (order ids : List Entry) (base start : ℕ) → closed_order w start ids order ≡ filter w (take (min base start) order) ++ filter w (take (start - base) (drop base order) ++ ids)
+closed_parts w order ids base start =
+    ap (λ front. filter w (front ++ ids)) first
     ∙ ap (filter w) (append_assoc (take (min base start) order) (take (start - base) (drop base order)) ids)
     ∙ filter-append w (take (min base start) order) (take (start - base) (drop base order) ++ ids)
-    ∙ ap (λ front. front ++ filter w (take (start - base) (drop base order) ++ ids)) (all_kept w (take (min base start) order) all_before)
   where
-    first : (order : List Entry) (base start : ℕ) → take start order ≡ take (min base start) order ++ take (start - base) (drop base order)
-    first order base start = elim (cases_lt start base) [
+    first : take start order ≡ take (min base start) order ++ take (start - base) (drop base order)
+    first = elim (cases_lt start base) [
       | inl less ↦
           let none : start - base ≡ 0 = omega (arith, less) in
           let here : start ≡ min base start = omega (arith, less) in
@@ -35,61 +37,84 @@ first_stay w order ids base start le all =
     ]
 
 pub close_fits : CloseEndsTheOrder
-close_fits facts delivered listed goes_on has_passed stable l fits w start ids all =
-    let known = known_order facts in
-    let kept = fits_kept facts delivered listed goes_on has_passed stable l fits in
-    let le = kept.1 in
+close_fits facts delivered listed goes_on has_passed stable l fits w start ids =
+    let known : List Entry = known_order facts in
     let base : ℕ = min l.base start in
-    let behind : List Entry = filter w (take (start - l.base) l.window ++ ids) in
-    let whole : closed_order w start ids known ≡ take base known ++ behind =
-    first_stay w known ids l.base start le all
-    ∙ ap (λ rest. take base known ++ filter w (take (start - l.base) rest ++ ids)) (sym fits.window) in
-    let front : length (take base known) ≡ base = let few = length-take base known in omega (arith, few, le) in
-    let sum : length (closed_order w start ids known) ≡ base + length behind =
-    ap length whole ∙ length-append (take base known) behind ∙ ap (λ n. n + length behind) front in
-    let stands : (p : Proc) → place_of (closed_by w start ids l) p ≡ base = λ p. omega arith in
+    let front : List Entry = filter w (take base known) in
+    let window : List Entry = filter w (take (start - l.base) l.window ++ ids) in
     record {
-      window = sym (ap (drop base) whole ∙ drop_at (take base known) behind base front);
-      forgotten = omega (arith, sum);
+      front = front;
+      whole = closed_parts w known ids l.base start ∙ ap (λ rest. front ++ filter w (take (start - l.base) rest ++ ids)) (sym fits.window);
       closed = refl;
       passed = λ p on.
-          let at_first : place_of (closed_by w start ids l) p ≤ place_of l p = omega arith in
-          ap (λ k. find (λ e. not (has_passed p e)) (take k (closed_order w start ids known))) (stands p)
-          ∙ ap (λ order. find (λ e. not (has_passed p e)) (take base order)) whole
-          ∙ ap (find (λ e. not (has_passed p e))) (take_at (take base known) behind base front)
-          ∙ none_first (λ e. not (has_passed p e)) base (place_of l p) known (omega arith) (fits.passed p on);
-      within = λ p. let at = stands p in omega (arith, sum, at);
+          let t : Entry → Bool = λ e. not (has_passed p e) in
+          let none : place_of (closed_by w start ids l) p - base ≡ 0 = omega arith in
+          ap (λ k. find t (front ++ take k window)) none
+          ∙ ap (find t) (append-nil front)
+          ∙ none_kept t w (take base known) (none_first t base (place_of l p) known (omega arith) (fits.passed p on));
     }
 
 pub closed_learns : ClosedLearnsNothing
 closed_learns order goes_on has_passed l fits s = ap (λ b. if b then l else taken_in s l) fits.closed
 
+-- how many of the kept ids a process has passed, after some process passed ids
+kept_place : (p : Proc) (n : ℕ) (l : Log) (q : Proc) (b : Bool) → eq_by_cmp proc_cmp q p ≡ b → place_of (passed p n l) q - l.base ≡ cond b (place_of l p - l.base + min n (length (next_in l p))) (place_of l q - l.base)
+kept_place p n l q true is = let at = at_place p n l q true is in omega (arith, at)
+kept_place p n l q false is = ap (λ k. k - l.base) (at_place p n l q false is)
+
 pub closed_pass : PassKeepsClosed
 closed_pass order goes_on has_passed l fits p n all = record {
-  window = fits.window;
-  forgotten = fits.forgotten;
+  front = fits.front;
+  whole = fits.whole;
   closed = fits.closed;
-  passed = pass_passes goes_on has_passed order l (fits.window, fits.forgotten) fits.passed p n all;
-  within = pass_within order l (fits.window, fits.forgotten) fits.within p n;
+  passed = λ q on. elim (cases_Bool (eq_by_cmp proc_cmp q p)) [
+    | inl tie ↦
+        ap (λ k. find (λ e. not (has_passed q e)) (fits.front ++ take k l.window)) (kept_place p n l q true tie)
+        ∙ subst (λ r. goes_on r ≡ true → find (λ e. not (has_passed r e)) (fits.front ++ take (at + most) l.window) ≡ None) (sym (tie_same proc_exact q p tie)) here on
+    | inr other ↦ ap (λ k. find (λ e. not (has_passed q e)) (fits.front ++ take k l.window)) (kept_place p n l q false other) ∙ fits.passed q on
+  ];
 }
+  where
+    at : ℕ
+    at = place_of l p - l.base
+
+    most : ℕ
+    most = min n (length (next_in l p))
+
+    here : goes_on p ≡ true → find (λ e. not (has_passed p e)) (fits.front ++ take (at + most) l.window) ≡ None
+    here goes =
+        let t : Entry → Bool = λ e. not (has_passed p e) in
+        let before : List Entry = fits.front ++ take at l.window in
+        ap (λ ids. find t (fits.front ++ ids)) (take_on at most l.window)
+        ∙ ap (find t) (sym (append_assoc fits.front (take at l.window) (take most (next_in l p))))
+        ∙ find-append t before (take most (next_in l p))
+        ∙ ap (λ o. option_or o (find t (take most (next_in l p)))) (fits.passed p goes)
+        ∙ ap (find t) (take_min n (next_in l p))
+        ∙ none_fails (has_passed p) (take n (next_in l p)) all
 
 pub closed_more : MoreKeepsClosed
 closed_more order goes_on has_passed l fits goes_now has_now fewer more = record {
-  window = fits.window;
-  forgotten = fits.forgotten;
+  front = fits.front;
+  whole = fits.whole;
   closed = fits.closed;
-  passed = λ p on. none_fails_more (has_passed p) (has_now p) (more p) (take (place_of l p) order) (fits.passed p (fewer p on));
-  within = fits.within;
+  passed = λ p on. none_fails_more (has_passed p) (has_now p) (more p) (fits.front ++ take (place_of l p - l.base) l.window) (fits.passed p (fewer p on));
 }
 
 pub closed_tell : TellKeepsClosed
 closed_tell order goes_on has_passed l fits e = record {
-  window = fits.window;
-  forgotten = fits.forgotten;
+  front = fits.front;
+  whole = fits.whole;
   closed = fits.closed;
   passed = fits.passed;
-  within = fits.within;
 }
 
 pub closed_next : NextIsOfTheClosed
-closed_next order goes_on has_passed l fits p on = next_known goes_on has_passed order l (fits.window, fits.forgotten) fits.passed p on
+closed_next order goes_on has_passed l fits p on =
+    let t : Entry → Bool = λ e. not (has_passed p e) in
+    let at : ℕ = place_of l p - l.base in
+    let before : List Entry = fits.front ++ take at l.window in
+    ap (find t) fits.whole
+    ∙ ap (λ ids. find t (fits.front ++ ids)) (sym (take-append-drop at l.window))
+    ∙ ap (find t) (sym (append_assoc fits.front (take at l.window) (next_in l p)))
+    ∙ find-append t before (next_in l p)
+    ∙ ap (λ o. option_or o (find t (next_in l p))) (fits.passed p on)

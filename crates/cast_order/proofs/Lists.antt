@@ -114,13 +114,7 @@ drop_on (suc n) (x ∷ xs) ys =
     let e : n - length xs ≡ suc n - suc (length xs) = omega arith in
     drop_on n xs ys ∙ ap (λ k. drop n xs ++ drop k ys) e
 
--- a test that all of a list pass keeps it, and all of its first ones pass
-pub all_kept : {A : Type 0} (t : A → Bool) (xs : List A) → list_all t xs ≡ true → filter t xs ≡ xs
-all_kept t [] all = refl
-all_kept t (x ∷ xs) all =
-    let parts = and_parts (t x) (list_all t xs) all in
-    ap (λ b. cond b (x ∷ filter t xs) (filter t xs)) parts.0 ∙ ap (λ rest. x ∷ rest) (all_kept t xs parts.1)
-
+-- what all of a list pass, all of its first ones pass
 pub all_first : {A : Type 0} (t : A → Bool) (n m : ℕ) (xs : List A) → n ≤ m → list_all t (take m xs) ≡ true → list_all t (take n xs) ≡ true
 all_first t zero m xs le all = refl
 all_first t (suc n) zero xs le all = absurd (omega arith)
@@ -139,4 +133,17 @@ none_first t (suc n) (suc m) (x ∷ xs) le none = elim (cases_Bool (t x)) [
   | inr fails ↦
       let rest : find t (take m xs) ≡ None = subst (λ b. cond b (Some x) (find t (take m xs)) ≡ None) fails none in
       ap (λ b. cond b (Some x) (find t (take n xs))) fails ∙ none_first t n m xs (omega arith) rest
+]
+
+-- nor among those that another test keeps
+pub none_kept : {A : Type 0} (t keep : A → Bool) (xs : List A) → find t xs ≡ None → find t (filter keep xs) ≡ None
+none_kept t keep [] none = refl
+none_kept t keep (x ∷ xs) none = elim (cases_Bool (t x)) [
+  | inl passes ↦ let some : Some x ≡ None = subst (λ b. cond b (Some x) (find t xs) ≡ None) passes none in cc
+  | inr fails ↦
+      let rest : find t (filter keep xs) ≡ None = none_kept t keep xs (subst (λ b. cond b (Some x) (find t xs) ≡ None) fails none) in
+      elim (keep x) as (λ b. find t (cond b (x ∷ filter keep xs) (filter keep xs)) ≡ None) [
+        | true ↦ ap (λ b. cond b (Some x) (find t (filter keep xs))) fails ∙ rest
+        | false ↦ rest
+      ]
 ]

@@ -1,5 +1,5 @@
 -- The logs of all groups: what one group has while its own or another's changes or goes.
-use Rattle.std.proofs.Common.{◌≡◌, ℕ, ◌-◌, min, max, Bool, true, false, cond, not, ◌||◌, List, [], ◌∷◌, ◌++◌, drop, Some, None, unwrap_or, refl, sym, ap, ◌∙◌, inl, inr, arith}
+use Rattle.std.proofs.Common.{◌≡◌, ℕ, ◌+◌, ◌-◌, min, Bool, true, false, cond, not, ◌||◌, List, [], ◌∷◌, ◌++◌, drop, Some, None, unwrap_or, refl, sym, ap, ◌∙◌, inl, inr, arith}
 use Rattle.std.specs.Prelude.{if◌then◌else◌}
 use Rattle.std.specs.List.{find, list_any}
 use Rattle.std.specs.Option.{option_or}
@@ -10,7 +10,7 @@ use Rattle.cast_types.specs.declared.limits.TheConstants.{MAX_POSITION}
 use Rattle.cast_types.specs.declared.names.GroupNo.{GroupNo}
 use Rattle.cast_types.specs.Names.{group_eq}
 use Rattle.cast_types.proofs.Orders.{same_group, group_itself}
-use Rattle.cast_order.specs.Log.{Log, new_log, length_of, log_of, change_in, opened, change_log, but_log, forgot}
+use Rattle.cast_order.specs.Log.{Log, new_log, log_of, change_in, opened, change_log, but_log, forgot}
 use Rattle.cast_order.specs.Laws.{ChangeIsOfOneGroup, ForgetFirstIsOfOneGroup, ForgetIsOfOneGroup}
 use Rattle.cast_order.proofs.Lists.{or_none}
 
@@ -124,9 +124,9 @@ log_of_change logs g h f keeps = elim (cases_Bool (group_eq g h)) [
 -- a new log has no ids to forget
 new_forgets : (g : GroupNo) (count : ℕ) → forgot count (new_log g) ≡ new_log g
 new_forgets g count =
-    let upto : ℕ = min MAX_POSITION (min count (length_of (new_log g))) in
-    let none : upto ≡ 0 = omega arith in
-    λ i. record (new_log g) { base = max 0 (none i); window = drop (none i - 0) [] }
+    let more : ℕ = min (MAX_POSITION - 0) (min count 0) in
+    let none : more ≡ 0 = omega arith in
+    λ i. record (new_log g) { base = 0 + none i; window = drop (none i) [] }
 
 none_forgets : (g h : GroupNo) (count : ℕ) (logs : List Log) → list_any (of_group g) logs ≡ false → log_of (change_in g (forgot count) logs) h ≡ (if group_eq g h then forgot count (log_of logs g) else log_of logs h)
 none_forgets g h count logs none = ap (λ ls. log_of ls h) (sym (none_changes g (forgot count) logs none)) ∙ elim (cases_Bool (group_eq g h)) [

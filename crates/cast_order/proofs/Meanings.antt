@@ -1,15 +1,15 @@
 -- What changes a group's log changes what it means in the same way; and what it means.
-use Rattle.std.proofs.Common.{◌≡◌, ℕ, ◌+◌, ◌-◌, ◌<◌, ◌≤◌, min, max, Bool, true, false, cond, not, ◌&&◌, List, [], ◌∷◌, ◌++◌, length, take, drop, length-append, Option, Some, None, unwrap_or, refl, sym, ap, subst, ◌∙◌, inl, inr, arith}
-use Rattle.std.specs.Prelude.{nat_lt, if◌then◌else◌}
+use Rattle.std.proofs.Common.{◌≡◌, ℕ, ◌+◌, ◌-◌, ◌*◌, ◌<◌, ◌≤◌, min, max, Bool, true, false, cond, not, ◌&&◌, List, [], ◌∷◌, ◌++◌, length, take, drop, length-append, Option, Some, None, unwrap_or, refl, sym, ap, subst, ◌∙◌, inl, inr, arith}
+use Rattle.std.specs.Prelude.{nat_lt, nat_le, if◌then◌else◌}
 use Rattle.std.specs.List.{find, filter, list_all}
 use Rattle.std.specs.Option.{option_or}
 use Rattle.std.specs.Ordering.{eq_by_cmp}
 use Rattle.std.specs.FinMap.Entries.{find as find_key, find-put}
-use Rattle.std.proofs.lemmas.Bool.{cases_Bool, false≢true, false_from_ne_true, or_cases}
-use Rattle.std.proofs.lemmas.List.{take-append-drop, take-append-le, take_min, length-drop, drop-drop, drop-append-le}
+use Rattle.std.proofs.lemmas.Bool.{cases_Bool, cases_lt, false≢true, false_from_ne_true, or_cases}
+use Rattle.std.proofs.lemmas.List.{take-append-drop, take-append-le, take_min, length-take, length-drop, drop-drop, drop-append-le}
 use Rattle.std.proofs.lemmas.List.Folds.{find-append}
 use Rattle.std.proofs.lemmas.List.Elements.{filter-append}
-use Rattle.cast_types.specs.declared.limits.TheConstants.{MAX_PLACED, MAX_POSITION}
+use Rattle.cast_types.specs.declared.limits.TheConstants.{MAX_PLACED, MAX_TAIL, MAX_POSITION}
 use Rattle.cast_types.specs.declared.names.Proc.{Proc}
 use Rattle.cast_types.specs.Names.{Entry, entry_eq, proc_cmp}
 use Rattle.cast_types.specs.Sets.{is_among}
@@ -18,8 +18,8 @@ use Rattle.cast_message.specs.Sequence.{Sequence}
 use Rattle.cast_order.specs.Order.{Facts, facts_of, id_at, order_from, known_order, Listing, listed_ids, still_to_list, ids_to_list, tail_start, is_distinct, next_of}
 use Rattle.cast_order.specs.Log.{Log, length_of, with_facts, place_of, next_in, passed, waits_in, next_places, assigned, settled, learnt, tail_start_in, forgot}
 use Rattle.cast_order.specs.Fits.{Fits}
-use Rattle.cast_order.specs.Laws.{NewFits, LearnKeepsMeaning, TellKeepsMeaning, AssignKeepsMeaning, PassKeepsMeaning, MoreKeepsMeaning, ForgetKeepsMeaning, NextIsTheRule, LengthIsTheRule, UnsettledIsTheRule, AssignIsTheRule, WholeIsTheRule, TailIsTheRule}
-use Rattle.cast_order.proofs.Lists.{kept_among, taken_among, none_fails, none_fails_more, take_on}
+use Rattle.cast_order.specs.Laws.{NewFits, LearnKeepsMeaning, TellKeepsMeaning, AssignKeepsMeaning, PassKeepsMeaning, MoreKeepsMeaning, ForgetKeepsMeaning, AreOldest, OldestMayBeForgotten, NextIsTheRule, LengthIsTheRule, UnsettledIsTheRule, AssignIsTheRule, WholeIsTheRule, TailIsTheRule}
+use Rattle.cast_order.proofs.Lists.{kept_among, taken_among, none_fails, none_fails_more, all_first, none_first, take_on}
 use Rattle.cast_order.proofs.Told.{id_at-append, facts_told, past_told, known_grows, none_known}
 use Rattle.cast_order.proofs.Once.{among-append, among_left, distinct-append, distinct-filter, distinct-take, left_to_list, beyond_counted, listed_push, beyond_push, above_push, above_kept}
 
@@ -79,6 +79,32 @@ fits_kept facts delivered listed goes_on has_passed stable l fits = (fits.window
 pub length_rules : LengthIsTheRule
 length_rules facts delivered listed goes_on has_passed stable l fits = kept_length (known_order facts) l (fits_kept facts delivered listed goes_on has_passed stable l fits)
 
+-- what it takes in was told of the places past those known
+told_past : (facts : Facts) (delivered : List Entry) (listed : Listing) (goes_on : Proc → Bool) (has_passed : Proc → Entry → Bool) (stable : ℕ) (l : Log) → Fits facts delivered listed goes_on has_passed stable l → (s : Sequence) → (place : ℕ) → length_of l < place → place ≤ MAX_POSITION → id_at (with_facts (length_of l) l.later (facts_of s)) place ≡ id_at (facts ++ facts_of s) place
+told_past facts delivered listed goes_on has_passed stable l fits s place low high =
+    facts_told (length_of l) l.later (facts_of s) place low high
+    ∙ ap (λ o. option_or o (id_at (facts_of s) place)) (fits.later place low high)
+    ∙ sym (id_at-append facts (facts_of s) place)
+
+-- what it adds to the order known
+abbrev added : Sequence → Log → List Entry
+added s l = order_from (MAX_POSITION - length_of l) (length_of l + 1) (with_facts (length_of l) l.later (facts_of s))
+
+order_on : (facts : Facts) (delivered : List Entry) (listed : Listing) (goes_on : Proc → Bool) (has_passed : Proc → Entry → Bool) (stable : ℕ) (l : Log) → Fits facts delivered listed goes_on has_passed stable l → (s : Sequence) → known_order facts ++ added s l ≡ known_order (facts ++ facts_of s)
+order_on facts delivered listed goes_on has_passed stable l fits s =
+    let later = with_facts (length_of l) l.later (facts_of s) in
+    let known = known_order facts in
+    let same : length_of l ≡ length known = length_rules facts delivered listed goes_on has_passed stable l fits in
+    ap (λ n. known ++ order_from (MAX_POSITION - n) (n + 1) later) same
+    ∙ known_grows facts (facts_of s) later known refl (λ place low high. told_past facts delivered listed goes_on has_passed stable l fits s place (omega (arith, same, low)) high)
+
+-- what is forgotten stays what it was as more is learnt
+pub learn_begins : (facts : Facts) (delivered : List Entry) (listed : Listing) (goes_on : Proc → Bool) (has_passed : Proc → Entry → Bool) (stable : ℕ) (l : Log) → Fits facts delivered listed goes_on has_passed stable l → (s : Sequence) → take l.base (known_order (facts ++ facts_of s)) ≡ take l.base (known_order facts)
+learn_begins facts delivered listed goes_on has_passed stable l fits s =
+    let le = fits.forgotten in
+    ap (take l.base) (sym (order_on facts delivered listed goes_on has_passed stable l fits s))
+    ∙ take-append-le l.base (known_order facts) (added s l) (omega (arith, le))
+
 -- what it takes in was told of the order
 take_in_fits : (facts : Facts) (delivered : List Entry) (listed : Listing) (goes_on : Proc → Bool) (has_passed : Proc → Entry → Bool) (stable : ℕ) (l : Log) → Fits facts delivered listed goes_on has_passed stable l → (s : Sequence) → Fits (facts ++ facts_of s) delivered listed goes_on has_passed stable (taken_in s l)
 take_in_fits facts delivered listed goes_on has_passed stable l fits s =
@@ -87,15 +113,9 @@ take_in_fits facts delivered listed goes_on has_passed stable l fits s =
     let known = known_order facts in
     let same : length_of l ≡ length known = length_rules facts delivered listed goes_on has_passed stable l fits in
     let forgotten = fits.forgotten in
-    let tells : (place : ℕ) → length_of l < place → place ≤ MAX_POSITION → id_at later place ≡ id_at (facts ++ facts_of s) place =
-    λ place low high.
-    facts_told (length_of l) l.later (facts_of s) place low high
-    ∙ ap (λ o. option_or o (id_at (facts_of s) place)) (fits.later place low high)
-    ∙ sym (id_at-append facts (facts_of s) place) in
-    let more = order_from (MAX_POSITION - length_of l) (length_of l + 1) later in
-    let whole : known ++ more ≡ known_order (facts ++ facts_of s) =
-    ap (λ n. known ++ order_from (MAX_POSITION - n) (n + 1) later) same
-    ∙ known_grows facts (facts_of s) later known refl (λ place low high. tells place (omega (arith, same, low)) high) in
+    let tells = told_past facts delivered listed goes_on has_passed stable l fits s in
+    let more = added s l in
+    let whole = order_on facts delivered listed goes_on has_passed stable l fits s in
     let grown : length known ≤ length (known_order (facts ++ facts_of s)) =
     let all = ap length whole in let sum = length-append known more in omega (arith, all, sum) in
     record {
@@ -212,7 +232,7 @@ passed_place p n l q =
     ∙ elim (eq_by_cmp proc_cmp q p) as (λ b. max l.base (unwrap_or (cond b (Some place) (find_key proc_cmp q l.places)) 0) ≡ cond b place (place_of l q)) [ true ↦ omega arith | false ↦ refl ]
 
 -- and that by whether it is the one that passed them
-at_place : (p : Proc) (n : ℕ) (l : Log) (q : Proc) (b : Bool) → eq_by_cmp proc_cmp q p ≡ b → place_of (passed p n l) q ≡ cond b (place_of l p + min n (length (next_in l p))) (place_of l q)
+pub at_place : (p : Proc) (n : ℕ) (l : Log) (q : Proc) (b : Bool) → eq_by_cmp proc_cmp q p ≡ b → place_of (passed p n l) q ≡ cond b (place_of l p + min n (length (next_in l p))) (place_of l q)
 at_place p n l q b is = passed_place p n l q ∙ ap (λ c. cond c (place_of l p + min n (length (next_in l p))) (place_of l q)) is
 
 -- each process that goes on has delivered the ids before its place, which is within the order known
@@ -337,19 +357,24 @@ tail_rules facts delivered listed goes_on has_passed stable l fits =
 
 pub forget_fits : ForgetKeepsMeaning
 forget_fits facts delivered listed goes_on has_passed stable l fits count all few =
+    let order : List Entry = known_order facts in
     let kept = fits_kept facts delivered listed goes_on has_passed stable l fits in
     let known = length_rules facts delivered listed goes_on has_passed stable l fits in
     let le = fits.forgotten in
-    let now = forgot count l in
-    let upto : ℕ = min MAX_POSITION (min count (length_of l)) in
-    let most : upto ≤ count = omega arith in
-    let here : l.base + (upto - l.base) ≡ now.base = omega arith in
-    let same : length_of now ≡ length_of l =
-    let rest = length-drop (upto - l.base) l.window in omega (arith, rest) in
-    let stands : (p : Proc) → goes_on p ≡ true → place_of now p ≡ place_of l p =
-    λ p on. let far = all p on in omega (arith, far, most) in
+    let now : Log = forgot count l in
+    let more : ℕ = min (MAX_POSITION - l.base) (min count (length l.window)) in
+    let most : more ≤ count = omega arith in
+    let same : length_of now ≡ length_of l = let rest = length-drop more l.window in omega (arith, rest) in
+    let gone : (p : Proc) → goes_on p ≡ true → find (λ e. not (has_passed p e)) (take (l.base + more) order) ≡ None =
+    λ p on.
+    let t : Entry → Bool = λ e. not (has_passed p e) in
+    ap (find t) (take_on l.base more order)
+    ∙ find-append t (take l.base order) (take more (drop l.base order))
+    ∙ ap (λ o. option_or o (find t (take more (drop l.base order)))) (none_first t l.base (place_of l p) order (omega arith) (fits.passed p on))
+    ∙ ap (λ rest. find t (take more rest)) (sym fits.window)
+    ∙ none_fails (has_passed p) (take more l.window) (all_first (has_passed p) more count l.window most (all p on)) in
     record {
-      window = ap (drop (upto - l.base)) fits.window ∙ drop-drop (upto - l.base) l.base (known_order facts) ∙ ap (λ k. drop k (known_order facts)) here;
+      window = ap (drop more) fits.window ∙ drop-drop more l.base order ∙ ap (λ k. drop k order) (omega arith);
       forgotten = omega (arith, le, known, few, most);
       later = λ place low high. fits.later place (omega (arith, same, low)) high;
       waiting = fits.waiting;
@@ -357,10 +382,32 @@ forget_fits facts delivered listed goes_on has_passed stable l fits count all fe
       delivered_once = fits.delivered_once;
       listed_once = fits.listed_once;
       listed_delivered = fits.listed_delivered;
-      passed = λ p on. ap (λ k. find (λ e. not (has_passed p e)) (take k (known_order facts))) (stands p on) ∙ fits.passed p on;
+      passed = λ p on. elim (cases_lt (place_of l p) (l.base + more)) [
+        | inl less ↦
+            let at : place_of now p ≡ l.base + more = omega (arith, less) in
+            ap (λ k. find (λ e. not (has_passed p e)) (take k order)) at ∙ gone p on
+        | inr least ↦
+            let at : place_of now p ≡ place_of l p = omega (arith, least) in
+            ap (λ k. find (λ e. not (has_passed p e)) (take k order)) at ∙ fits.passed p on
+      ];
       within = λ p. let far = fits.within p in omega (arith, far, known, few, most);
       still_open = fits.still_open;
     }
+
+-- what may be forgotten of a log, by whether it is closed and long enough
+oldest_if : (l : Log) (closed long : Bool) → l.closed ≡ closed → nat_le (2 * MAX_TAIL) (length l.window) ≡ long → AreOldest l (if not closed && long then take (length l.window - MAX_TAIL) l.window else [])
+oldest_if l true long ended is = record { first = refl; few = omega arith; ended = λ _. refl }
+oldest_if l false false opened is = record { first = refl; few = omega arith; ended = λ _. refl }
+oldest_if l false true opened is =
+    let size : length (take (length l.window - MAX_TAIL) l.window) ≡ length l.window - MAX_TAIL = let few = length-take (length l.window - MAX_TAIL) l.window in omega (arith, few) in
+    record {
+      first = ap (λ n. take n l.window) (sym size);
+      few = omega (arith, size);
+      ended = λ ended. absurd (false≢true (sym opened ∙ ended));
+    }
+
+pub oldest_rules : OldestMayBeForgotten
+oldest_rules l = oldest_if l l.closed (nat_le (2 * MAX_TAIL) (length l.window)) refl refl
 
 -- of a log of which nothing is forgotten, and in which each process is to go through all ids
 pub at_start : (facts : Facts) (delivered : List Entry) (listed : Listing) (goes_on : Proc → Bool) (has_passed : Proc → Entry → Bool) (stable : ℕ) (l : Log) → Fits facts delivered listed goes_on has_passed stable l → ((p : Proc) → place_of l p ≡ 0) → (goes_now : Proc → Bool) → Fits facts delivered listed goes_now has_passed stable l

@@ -1,6 +1,6 @@
 -- What is kept of a group's order means: what was told of it, what the holder here delivered and listed, and what local
 -- processes delivered.
-use Rattle.std.specs.Prelude.{◌≡◌, ℕ, ◌-◌, ◌<◌, ◌≤◌, Bool, true, false, not, List, length, take, drop, None}
+use Rattle.std.specs.Prelude.{◌≡◌, ℕ, ◌-◌, ◌<◌, ◌≤◌, Bool, true, false, not, List, ◌++◌, length, take, drop, None}
 use Rattle.std.specs.List.{find}
 use Rattle.cast_types.specs.declared.limits.TheConstants.{MAX_TAIL, MAX_POSITION}
 use Rattle.cast_types.specs.declared.names.Proc.{Proc}
@@ -26,10 +26,10 @@ pub record Fits (facts : Facts) (delivered : List Entry) (listed : Listing) (goe
   pub within : (p : Proc) → place_of l p ≤ length (known_order facts)
   pub still_open : l.closed ≡ false
 
--- the log has this order, which is closed; and it tells of what each local process that goes on through it delivered
+-- the log has this order, which is closed, but for its first ids, which are forgotten; and it tells of what each local
+-- process that goes on through it delivered, all of those among it
 pub record FitsClosed (order : List Entry) (goes_on : Proc → Bool) (has_passed : Proc → Entry → Bool) (l : Log) : Type 0 where
-  pub window : l.window ≡ drop l.base order
-  pub forgotten : l.base ≤ length order
+  pub front : List Entry
+  pub whole : order ≡ front ++ l.window
   pub closed : l.closed ≡ true
-  pub passed : (p : Proc) → goes_on p ≡ true → find (λ e. not (has_passed p e)) (take (place_of l p) order) ≡ None
-  pub within : (p : Proc) → place_of l p ≤ length order
+  pub passed : (p : Proc) → goes_on p ≡ true → find (λ e. not (has_passed p e)) (front ++ take (place_of l p - l.base) l.window) ≡ None

@@ -9,7 +9,7 @@ use Rattle.cast_types.specs.Names.{Entry, entry_eq, group_eq}
 use Rattle.cast_types.specs.Sets.{is_among}
 use Rattle.cast_message.specs.Sequence.{Sequence}
 use Rattle.cast_order.specs.Order.{Facts, facts_of, known_order, next_of, Listing, listed_ids, listed_upto, still_to_list, ids_to_list, place_after, tail_start, tail_ids, closed_order}
-use Rattle.cast_order.specs.Log.{Log, new_log, length_of, log_of, change_in, change_log, but_log, learnt, place_of, next_in, passed, told, next_places, assigned, unsettled_in, whole_kept, tail_start_in, tail_ids_in, closed_by, forgot}
+use Rattle.cast_order.specs.Log.{Log, new_log, length_of, log_of, change_in, change_log, but_log, learnt, next_in, passed, told, next_places, assigned, unsettled_in, whole_kept, tail_start_in, tail_ids_in, closed_by, oldest_in, forgot}
 use Rattle.cast_order.specs.Fits.{Fits, FitsClosed}
 
 -- a new log means that nothing was told, delivered or listed
@@ -53,13 +53,23 @@ MoreKeepsMeaning =
     → stable ≤ n
     → Fits facts delivered listed goes_now has_now n l
 
--- the first ids are forgotten, which each process that goes on has passed, and of which none is of the tail
+-- so many of the kept ids are forgotten, the first ones, which each process that goes on has delivered, and of which none is
+-- of the tail
 abbrev pub ForgetKeepsMeaning : Type 0
 ForgetKeepsMeaning =
     (facts : Facts) (delivered : List Entry) (listed : Listing) (goes_on : Proc → Bool) (has_passed : Proc → Entry → Bool) (stable : ℕ) (l : Log)
     → Fits facts delivered listed goes_on has_passed stable l → (count : ℕ)
-    → ((p : Proc) → goes_on p ≡ true → count ≤ place_of l p) → count ≤ length_of l - MAX_TAIL
+    → ((p : Proc) → goes_on p ≡ true → list_all (has_passed p) (take count l.window) ≡ true) → count ≤ length l.window - MAX_TAIL
     → Fits facts delivered listed goes_on has_passed stable (forgot count l)
+
+-- the oldest ids are the first of those that are kept, and none of them is of the tail; a closed order has none
+pub record AreOldest (l : Log) (ids : List Entry) : Type 0 where
+  pub first : ids ≡ take (length ids) l.window
+  pub few : length ids ≤ length l.window - MAX_TAIL
+  pub ended : l.closed ≡ true → ids ≡ []
+
+abbrev pub OldestMayBeForgotten : Type 0
+OldestMayBeForgotten = (l : Log) → AreOldest l (oldest_in l)
 
 -- from where a process stands on, the first id that it has not delivered is that of the whole order known
 abbrev pub NextIsTheRule : Type 0
@@ -108,12 +118,11 @@ TailIsTheRule =
     → (tail_start_in l ≡ tail_start (known_order facts ++ still_to_list delivered (listed_ids listed)))
     × (tail_ids_in l ≡ tail_ids (known_order facts ++ still_to_list delivered (listed_ids listed)))
 
--- the end of the order is told, where the cut leaves out none of the ids that are forgotten
+-- the end of the order is told
 abbrev pub CloseEndsTheOrder : Type 0
 CloseEndsTheOrder =
     (facts : Facts) (delivered : List Entry) (listed : Listing) (goes_on : Proc → Bool) (has_passed : Proc → Entry → Bool) (stable : ℕ) (l : Log)
     → Fits facts delivered listed goes_on has_passed stable l → (w : Entry → Bool) (start : ℕ) (ids : List Entry)
-    → list_all w (take l.base (known_order facts)) ≡ true
     → FitsClosed (closed_order w start ids (known_order facts)) goes_on has_passed (closed_by w start ids l)
 
 -- of a closed order nothing is learnt
@@ -156,7 +165,7 @@ ChangeIsOfOneGroup =
     (logs : List Log) (g h : GroupNo) (f : Log → Log) → ((l : Log) → (f l).group ≡ l.group)
     → log_of (change_log g f logs) h ≡ (if group_eq g h then f (log_of logs g) else log_of logs h)
 
--- a group whose first ids are forgotten, at most all that are known, and each other as it was
+-- a group of whose kept ids the first ones are forgotten, and each other as it was
 abbrev pub ForgetFirstIsOfOneGroup : Type 0
 ForgetFirstIsOfOneGroup =
     (logs : List Log) (g h : GroupNo) (count : ℕ)

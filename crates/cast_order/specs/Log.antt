@@ -1,5 +1,5 @@
 -- What a site keeps of a group's order, as contracts see it, and what each call does to it.
-use Rattle.std.specs.Prelude.{ℕ, ◌+◌, ◌-◌, Bool, true, false, not, ◌&&◌, nat_lt, nat_le, min, max, if◌then◌else◌, List, [], ◌∷◌, ◌++◌, length, take, drop, map, filter, Option, Some, None, unwrap_or}
+use Rattle.std.specs.Prelude.{ℕ, ◌+◌, ◌-◌, ◌*◌, Bool, true, false, not, ◌&&◌, nat_lt, nat_le, min, max, if◌then◌else◌, List, [], ◌∷◌, ◌++◌, length, take, drop, map, filter, Option, Some, None, unwrap_or}
 use Rattle.std.specs.List.{find, list_any, sum_by}
 use Rattle.std.specs.Option.{is_none}
 use Rattle.std.specs.FinMap.Entries.{find as find_key, put}
@@ -99,11 +99,17 @@ closed_by is_within start ids l = record {
   closed = true;
 }
 
--- the first ids up to a place are forgotten, at most all that are known, and none past the last place
+-- the first of the kept ids, those that may be forgotten: once as many are kept as two tails have, all but those of one. Of a
+-- closed order there are none
+abbrev pub oldest_in : Log → List Entry
+oldest_in l =
+    if not l.closed && nat_le (2 * MAX_TAIL) (length l.window) then take (length l.window - MAX_TAIL) l.window else []
+
+-- so many of the kept ids, the first ones, are forgotten, at most all of them, and none past the last place
 abbrev pub forgot : ℕ → Log → Log
 forgot count l =
-    let upto : ℕ = min MAX_POSITION (min count (length_of l)) in
-    record l { base = max l.base upto; window = drop (upto - l.base) l.window }
+    let more : ℕ = min (MAX_POSITION - l.base) (min count (length l.window)) in
+    record l { base = l.base + more; window = drop more l.window }
 
 -- What local processes deliver
 

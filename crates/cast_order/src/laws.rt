@@ -1,5 +1,5 @@
 ghost use Rattle.cast_order.specs.Order.{KnownOrderInWords};
-ghost use Rattle.cast_order.specs.Laws.{NewFits, LearnKeepsMeaning, TellKeepsMeaning, AssignKeepsMeaning, PassKeepsMeaning, MoreKeepsMeaning, ForgetKeepsMeaning, NextIsTheRule, LengthIsTheRule, UnsettledIsTheRule, AssignIsTheRule, WholeIsTheRule, TailIsTheRule, CloseEndsTheOrder, ClosedLearnsNothing, PassKeepsClosed, MoreKeepsClosed, TellKeepsClosed, NextIsOfTheClosed, ChangeIsOfOneGroup, ForgetFirstIsOfOneGroup, ForgetIsOfOneGroup};
+ghost use Rattle.cast_order.specs.Laws.{NewFits, LearnKeepsMeaning, TellKeepsMeaning, AssignKeepsMeaning, PassKeepsMeaning, MoreKeepsMeaning, ForgetKeepsMeaning, OldestMayBeForgotten, NextIsTheRule, LengthIsTheRule, UnsettledIsTheRule, AssignIsTheRule, WholeIsTheRule, TailIsTheRule, CloseEndsTheOrder, ClosedLearnsNothing, PassKeepsClosed, MoreKeepsClosed, TellKeepsClosed, NextIsOfTheClosed, ChangeIsOfOneGroup, ForgetFirstIsOfOneGroup, ForgetIsOfOneGroup};
 
 /// The known order says what the rule says in words: each place has the first id told for it, and the order ends only
 /// before a place of which nothing was told, or at the last place.
@@ -22,7 +22,7 @@ pub fn log_means_the_rule()
 
 /// What each call does to what is kept it does to what that means: a set-order message is received, the holder
 /// delivers an ABCAST and lists what is next, processes deliver what the order names, and first ids are forgotten that
-/// each process which goes on has passed and that are not of the tail.
+/// each process which goes on has delivered and that are not of the tail. The oldest ids are such first ids.
 pub fn log_keeps_its_meaning()
     ensures new { NewFits }
     ensures learn { LearnKeepsMeaning }
@@ -31,10 +31,11 @@ pub fn log_keeps_its_meaning()
     ensures pass { PassKeepsMeaning }
     ensures more { MoreKeepsMeaning }
     ensures forget { ForgetKeepsMeaning }
+    ensures oldest { OldestMayBeForgotten }
 {}
 
-/// When the end of a view's order is told, whose cut leaves out none of the ids that are forgotten, the order known becomes
-/// the closed one. Then nothing is learnt, processes deliver what the closed order names, the holder may still deliver, and
+/// When the end of a view's order is told, the order known becomes the closed one, but for the first ids, which stay
+/// forgotten. Then nothing is learnt, processes deliver what the closed order names, the holder may still deliver, and
 /// the first id that a process which goes on has not delivered is that of the whole closed order.
 pub fn a_closed_order_stays()
     ensures close { CloseEndsTheOrder }

@@ -10,9 +10,9 @@
 //! delivered and has listed in none, each once and in its order; `tail` gives the last ids of the whole order; and
 //! `has_room` counts exactly what the holder delivered beyond what its stable set-order messages list, all of it for all
 //! that was ever told of the view (`Fits`); each call does to the records what it does to that (`laws`). `forget_first`
-//! lets go of the first ids known: that changes nothing of this for a process that has passed them, and nothing of the
-//! tail. `close` makes of the order known the one that a view has when it ends, and nothing more is learnt of that view.
-//! `length`, `next`, `has_room`, `waits`, `forget_first` and `forget` take no memory. Where memory is refused, the orders
+//! lets go of the first ids that are kept: that changes nothing of this for a process that has delivered them, and nothing of
+//! the tail, of which `oldest` names none. `close` makes of the order known the one that a view has when it ends, and nothing
+//! more is learnt of that view. `length`, `next`, `has_room`, `waits`, `oldest`, `forget_first` and `forget` take no memory. Where memory is refused, the orders
 //! are of no further use.
 //!
 //! The definitions are in `specs/`: `Order` has the rule over all that was told, as a function and in words, `Log` what a

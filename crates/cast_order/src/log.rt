@@ -4,7 +4,7 @@ ghost use Rattle.cast_types.specs.Counts.{is_within};
 ghost use Rattle.cast_types.specs.Names.{entry_eq};
 ghost use Rattle.cast_types.specs.Sets.{is_among};
 ghost use Rattle.cast_order.specs.Order.{id_at};
-ghost use Rattle.cast_order.specs.Log.{length_of, new_log, with_fact, with_facts, with_next, past, settled, learnt, place_of, next_in, passed, told, waits_in, next_places, assigned, ids_above, has_room_in, whole_kept, tail_start_in, tail_ids_in, closed_by, forgot};
+ghost use Rattle.cast_order.specs.Log.{length_of, new_log, oldest_in, with_fact, with_facts, with_next, past, settled, learnt, place_of, next_in, passed, told, waits_in, next_places, assigned, ids_above, has_room_in, whole_kept, tail_start_in, tail_ids_in, closed_by, forgot};
 
 use cast_message::{Placement, Tail};
 use cast_types::limits::{MAX_PLACED, MAX_POSITION, MAX_TAIL, MAX_UNSETTLED};
@@ -98,14 +98,25 @@ impl OrderLog {
         Ok(())
     }
 
-    /// Forgets the first ids up to a place, at most all that are known.
+    /// The first of the kept ids, as far as they may be forgotten.
+    pub fn oldest(&self) -> &[(Proc, u32)]
+        ensures { result.now ≡ oldest_in self.now }
+    {
+        let kept = self.window.len();
+        if self.closed || kept < 2 * MAX_TAIL {
+            return &[];
+        }
+        first_ids(&self.window, kept - MAX_TAIL)
+    }
+
+    /// Forgets so many of the kept ids, the first ones, at most all of them.
     pub fn forget_first(&mut self, count: usize)
         ensures { self.new ≡ forgot count self.old }
     {
-        let upto = count.min(self.length()).min(MAX_POSITION as usize);
-        let more = upto.saturating_sub(self.base as usize);
+        let places = MAX_POSITION.saturating_sub(self.base);
+        let more = count.min(self.window.len()).min(places as usize);
         remove_first(&mut self.window, more);
-        self.base = self.base.max(upto as u32);
+        self.base += more as u32;
     }
 
     /// The ids that a process has not passed.

@@ -4,7 +4,7 @@ ghost use Rattle.std.specs.Option.{option_copied};
 ghost use Rattle.cast_types.specs.Counts.{is_within};
 ghost use Rattle.cast_types.specs.Names.{entry_eq, group_eq};
 ghost use Rattle.cast_types.specs.Sets.{is_among};
-ghost use Rattle.cast_order.specs.Log.{length_of, log_of, change_in, opened, change_log, but_log, learnt, next_in, passed, told, waits_in, next_places, assigned, has_room_in, whole_kept, tail_start_in, tail_ids_in, closed_by, forgot};
+ghost use Rattle.cast_order.specs.Log.{length_of, log_of, change_in, opened, change_log, but_log, learnt, next_in, passed, told, waits_in, next_places, assigned, has_room_in, whole_kept, tail_start_in, tail_ids_in, closed_by, oldest_in, forgot};
 
 use crate::log::OrderLog;
 use cast_message::{Placement, Tail};
@@ -159,9 +159,9 @@ impl Orders {
     }
 
     /// Closes the order of a group's view, which has ended: it becomes the first ids known, as many as the tail says stand
-    /// before it, all where fewer are known, and behind them the tail's ids, all that are kept without ids beyond the cut:
-    /// so the cut is to leave out none that is forgotten. Nothing more is learnt of it then, nothing waits to be listed,
-    /// and each process is to go through it from the first place on that is not forgotten.
+    /// before it, all where fewer are known, and behind them the tail's ids, all that are kept without ids beyond the cut.
+    /// Nothing more is learnt of it then, nothing waits to be listed, and each process is to go through it from the first
+    /// id on that is not forgotten.
     #[tactic(auto, using(crate::proofs::Logs::change_opened))]
     pub fn close(&mut self, group: GroupNo, tail: &Tail, cut: &Counts) -> Result<(), NoMemory>
         ensures { OnOk result (self.new ≡ change_log group (closed_by (is_within cut.now) tail.now.start tail.now.ids) self.old) }
@@ -171,8 +171,19 @@ impl Orders {
         Ok(())
     }
 
-    /// Forgets the first ids of a group's order up to a place, at most all that are known: each process is to have passed
-    /// them, and none of them is to be of the tail. Takes no memory.
+    /// The ids of a group's order that may be forgotten, the first of those that are kept: none until 1,024 are kept, and
+    /// then all but the last 512 of these; none of an order that is closed. Takes no memory.
+    pub fn oldest(&self, group: GroupNo) -> &[(Proc, u32)]
+        ensures { result.now ≡ oldest_in (log_of self.now group) }
+    {
+        match log_in(&self.logs, group) {
+            Some(log) => log.oldest(),
+            None => &[],
+        }
+    }
+
+    /// Forgets so many of the ids that are kept of a group's order, the first ones, at most all: each process is to have
+    /// delivered them, and none of them is to be of the tail, as with those that `oldest` gives. Takes no memory.
     pub fn forget_first(&mut self, group: GroupNo, count: usize)
         ensures { self.new ≡ change_in group (forgot count) self.old }
     {

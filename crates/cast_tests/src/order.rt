@@ -33,6 +33,8 @@ enum Step<'a> {
     // It does so with what it has to list, and learns that: places from one on, and how many ABCASTs stand there, from a
     // first count to a last.
     Lists(u32, u32, u32, (usize, u32, u32)),
+    // It does so with all that it has to list, in so many messages that are stable at once.
+    ListsAll(u32),
     // The order of the group ends, with an end and a cut.
     Closes,
     // The order of the group is forgotten.
@@ -53,6 +55,8 @@ enum Step<'a> {
     Next(Proc, &'a [u32]),
     // The same of many.
     LongNext(Proc, (usize, u32, u32)),
+    // How many ABCASTs may be forgotten, from a first count to a last, if there are any.
+    Oldest(Option<(usize, u32, u32)>),
     // Whether ABCASTs wait to be listed.
     Waits(bool),
     // Whether the ABCAST of a count has a place in a group's order, or waits for one.
@@ -132,6 +136,25 @@ fn lists(
     Ok(placement.first() == place && is_run(placement.ids(), run))
 }
 
+// All that the holder has to list is listed in so many set-order messages.
+fn lists_all(orders: &mut Orders, messages: u32) -> Result<(), NoMemory> {
+    for message in 0..messages {
+        if let Some(placement) = orders.assign(GROUP)? {
+            sends(orders, message + 1, message + 1, &placement)?;
+        }
+    }
+    Ok(())
+}
+
+// Whether those that may be forgotten are such a run, or there are none.
+fn has_oldest(orders: &Orders, run: Option<(usize, u32, u32)>) -> bool {
+    let ids = orders.oldest(GROUP);
+    match run {
+        Some(run) => is_run(ids, run),
+        None => ids.is_empty(),
+    }
+}
+
 fn closes(alloc: Global, orders: &mut Orders) -> Result<(), NoMemory> {
     let end = end(alloc)?;
     let cut = cut(alloc)?;
@@ -167,6 +190,7 @@ fn shows(orders: &Orders, step: Step<'_>) -> bool {
         Step::CountKnown(count) => orders.length(GROUP) == count,
         Step::Next(process, counts) => are(orders.next(GROUP, process), counts),
         Step::LongNext(process, run) => is_run(orders.next(GROUP, process), run),
+        Step::Oldest(run) => has_oldest(orders, run),
         Step::Waits(waits) => orders.waits(GROUP) == waits,
         Step::Knows(group, count, knows) => orders.knows(group, cast(count)) == knows,
         Step::HasRoom(group, stable, has_room) => orders.has_room(group, stable) == has_room,
@@ -203,6 +227,7 @@ fn does(alloc: Global, orders: &mut Orders, step: Step<'_>) -> Result<bool, NoMe
         Step::Passes(count) => orders.pass(GROUP, HERE, count),
         Step::Tells(from, to) => tells(orders, from, to),
         Step::Sends(count, stable) => orders.note(GROUP, count, stable),
+        Step::ListsAll(messages) => lists_all(orders, messages),
         Step::Closes => closes(alloc, orders),
         Step::Forgets => {
             orders.forget(GROUP);
@@ -304,6 +329,29 @@ fn first_ids_are_forgotten_but_for_the_tail(rt: HostRuntime) -> Result<(), Fail>
             Step::LongNext(HERE, (512, 65, 576)),
             Step::LongNext(NEXT, (512, 65, 576)),
             Step::LongTail(64, (512, 65, 576)),
+        ],
+    )
+}
+
+#[test]
+fn the_oldest_may_be_forgotten_once_many_are_kept(rt: HostRuntime) -> Result<(), Fail> {
+    goes(
+        rt.alloc(),
+        &[
+            Step::Tells(1, 1024),
+            Step::ListsAll(16),
+            Step::CountKnown(1023),
+            Step::Oldest(None),
+            Step::Tells(1024, 1025),
+            Step::ListsAll(1),
+            Step::Oldest(Some((512, 1, 512))),
+            Step::ForgetsFirst(512),
+            Step::CountKnown(1024),
+            Step::Oldest(None),
+            Step::LongTail(512, (512, 513, 1024)),
+            Step::LongNext(HERE, (512, 513, 1024)),
+            Step::Closes,
+            Step::Oldest(None),
         ],
     )
 }

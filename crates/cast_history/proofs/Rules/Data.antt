@@ -84,8 +84,8 @@ module _ {R S H K : Type 0} (a : Site R H) (b : Site S K) (fits : R → S → Ty
       choose fits (a.is_received r m.id) (b.is_received s m.id) (a.send r from (frame.Ack m.id)) (if may_take a r m.body then next else r) (b.send s from (frame.Ack m.id)) (if may_take b s m.body then after else s)
       (all.is_received r s f k from m taken)
       (λ _. all.follows.send r s f from (frame.Ack m.id))
-      (λ _. choose fits (may_take a r m.body) (may_take b s m.body) next r after s (take_same a b fits stands all r s f m.body)
-      (λ _. want_no_more_follows noted told (acknowledge_follows (a.receive r m) (b.receive s m) (all.receive r s f k from m taken) from m.id (all.is_stable r s f k from m taken)) m.id)
+      (λ new. choose fits (may_take a r m.body) (may_take b s m.body) next r after s (take_same a b fits stands all r s f m.body)
+      (λ _. want_no_more_follows noted told (acknowledge_follows (a.receive r m) (b.receive s m) (all.receive r s f k from m taken new) from m.id (all.is_stable r s f k from m taken new)) m.id)
       (λ _. f))
 
   pub data_follows : (r : R) (s : S) → fits r s → (h : H) (k : K) → stands h k → (from : SiteNo) (m : Message) → b.place s m.id.group ≡ Some k → IsTypedFrame (frame.Data m) → fits (on_data a r h from m) (on_data b s k from m)

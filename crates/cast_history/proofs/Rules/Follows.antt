@@ -137,7 +137,7 @@ pub record FollowsAll {R S H K : Type 0} (a : Site R H) (b : Site S K) (fits : R
   pub places : (r : R) (s : S) → fits r s → AllAt stands (a.places r) (b.places s)
   pub held : (r : R) (s : S) → fits r s → a.held r ≡ b.held s
   pub is_received : (r : R) (s : S) → fits r s → (k : K) (from : SiteNo) (m : Message) → IsTaken b s k from m → a.is_received r m.id ≡ b.is_received s m.id
-  pub is_stable : (r : R) (s : S) → fits r s → (k : K) (from : SiteNo) (m : Message) → IsTaken b s k from m → a.is_stable (a.receive r m) m.id ≡ b.is_stable (b.receive s m) m.id
+  pub is_stable : (r : R) (s : S) → fits r s → (k : K) (from : SiteNo) (m : Message) → IsTaken b s k from m → b.is_received s m.id ≡ false → a.is_stable (a.receive r m) m.id ≡ b.is_stable (b.receive s m) m.id
   pub is_open : (r : R) (s : S) → fits r s → (k : ℕ) → a.is_open r k ≡ b.is_open s k
   pub standing : (r : R) (s : S) → fits r s → (k : ℕ) (g : GroupNo) → a.standing r k g ≡ b.standing s k g
   pub time : (r : R) (s : S) → fits r s → (k : ℕ) → b.is_open s k ≡ true → a.time r k ≡ b.time s k
@@ -146,7 +146,7 @@ pub record FollowsAll {R S H K : Type 0} (a : Site R H) (b : Site S K) (fits : R
   pub note_joining : (r : R) (s : S) → fits r s → (k : ℕ) → b.is_open s k ≡ true → (g : GroupNo) (h : K) → b.place s g ≡ Some h → (number heard : ℕ) → fits (a.note_joining r k g number heard) (b.note_joining s k g number heard)
   pub note_outside : (r : R) (s : S) → fits r s → (k : ℕ) (g : GroupNo) → is_outside (b.standing s k g) ≡ false → fits (a.note_outside r k g) (b.note_outside s k g)
   pub sends : (r : R) (s : S) → fits r s → (h : H) (l : K) → stands h l → (k : ℕ) (g : GroupNo) (content : Body) → IsSent b s l k g content → fits (sent_here a r h k g content) (sent_here b s l k g content)
-  pub receive : (r : R) (s : S) → fits r s → (k : K) (from : SiteNo) (m : Message) → IsTaken b s k from m → fits (a.receive r m) (b.receive s m)
+  pub receive : (r : R) (s : S) → fits r s → (k : K) (from : SiteNo) (m : Message) → IsTaken b s k from m → b.is_received s m.id ≡ false → fits (a.receive r m) (b.receive s m)
   pub brings : (r : R) (s : S) → fits r s → (k : K) (m : Message) → IsBrought b s k m → fits (a.receive r m) (b.receive s m)
   pub report : (r : R) (s : S) → fits r s → (h : H) (k : K) → stands h k → is_pending (b.group s k) ≡ false → a.report r h ≡ b.report s k
   pub freeze : (r : R) (s : S) → fits r s → (h : H) (k : K) → stands h k → fits (a.freeze r h) (b.freeze s k)
@@ -280,7 +280,7 @@ follows_itself_in_all d holds keeps = record {
   places = λ r s f. all_at_themselves (d.places r) (d.places s) (ap d.places f.0);
   held = λ r s f. ap d.held f.0;
   is_received = λ r s f k from m taken. λ i. d.is_received (f.0 i) m.id;
-  is_stable = λ r s f k from m taken. λ i. d.is_stable (d.receive (f.0 i) m) m.id;
+  is_stable = λ r s f k from m taken new. λ i. d.is_stable (d.receive (f.0 i) m) m.id;
   is_open = λ r s f k. λ i. d.is_open (f.0 i) k;
   standing = λ r s f k g. λ i. d.standing (f.0 i) k g;
   time = λ r s f k given. λ i. d.time (f.0 i) k;
@@ -289,7 +289,7 @@ follows_itself_in_all d holds keeps = record {
   note_joining = λ r s f k given g h at number heard. (λ i. d.note_joining (f.0 i) k g number heard, keeps.note_joining s f.1 k given g h at number heard);
   note_outside = λ r s f k g is. (λ i. d.note_outside (f.0 i) k g, keeps.note_outside s f.1 k g is);
   sends = λ r s f h l at k g content sent. (λ i. sent_here d (f.0 i) (at i) k g content, keeps.sends s f.1 l k g content sent);
-  receive = λ r s f k from m taken. (λ i. d.receive (f.0 i) m, keeps.receive s f.1 k from m taken);
+  receive = λ r s f k from m taken new. (λ i. d.receive (f.0 i) m, keeps.receive s f.1 k from m taken);
   brings = λ r s f k m brought. (λ i. d.receive (f.0 i) m, keeps.brings s f.1 k m brought);
   report = λ r s f h k at first. λ i. d.report (f.0 i) (at i);
   freeze = λ r s f h k at. (λ i. d.freeze (f.0 i) (at i), keeps.freeze s f.1 k);

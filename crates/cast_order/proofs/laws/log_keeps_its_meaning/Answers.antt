@@ -1,4 +1,4 @@
-use Rattle.cast_order.proofs.Meanings.{new_fits, learn_fits, tell_fits, assign_fits, pass_fits, more_fits, forget_fits}
+use Rattle.cast_order.proofs.Meanings.{new_fits, learn_fits, tell_fits, assign_fits, pass_fits, more_fits, forget_fits, oldest_rules}
 use Rattle.cast_order.proofs.laws.log_keeps_its_meaning.Goals as goal
 
 pub returns-clause-new : goal.returns-clause-new
@@ -21,3 +21,6 @@ returns-clause-more c = more_fits
 
 pub returns-clause-forget : goal.returns-clause-forget
 returns-clause-forget c = forget_fits
+
+pub returns-clause-oldest : goal.returns-clause-oldest
+returns-clause-oldest c = oldest_rules

@@ -22,9 +22,11 @@ use Rattle.cast_history.proofs.Lawful.{lawful_before, lawful_let_go}
 use Rattle.cast_history.proofs.LawfulSteps.{lawful_acted, lawful_rests}
 use Rattle.cast_domain.proofs.Events.{fits_acted, answer_acted}
 use Rattle.cast_domain.proofs.Passes.{fits_between}
-use Rattle.cast_domain.proofs.Dismissals.{dismissed_let_go}
+use Rattle.cast_domain.specs.Trims.{trim_all_in}
+use Rattle.cast_domain.proofs.Dismissals.{dismissed_let_go, dismissed_trim_all}
 use Rattle.cast_domain.proofs.Ending.{dismissed_acted}
 use Rattle.cast_domain.proofs.Releases.{unborn, fits_let_go}
+use Rattle.cast_domain.proofs.Trimmed.{fits_trim_all}
 use Rattle.cast_domain.proofs.domain.Domain.serve.Goals as goal
 
 -- what is shared in the end, and what was added, is what the last call left
@@ -57,18 +59,26 @@ returns-clause-steps c s means =
     let lent = c.rest.new.lent in
     let added : c.append.new.self ≡ outs_then before lent.outs.now = search rules in
     let same : c.rest.new.self.config.domain ≡ here.config.domain = ap (λ (k : DomainConfig). k.domain) (c.in_ok-rest.ensures.stays.same.config ∙ c.in_ok-let_go.ensures.stays.same.config ∙ c.in_ok-taken.ensures.same.1) in
-    let fits_last : Fits (records_of c.rest.new.self (part_of here.config.domain lent.shared.now) lent.outs.now) t =
-    subst (λ d. Fits (records_of c.rest.new.self (part_of d lent.shared.now) lent.outs.now) t) same fits in
-    ended s e _ c.rest.new.self here.config.domain before c.append.new.self lent (search rules) added (record {
+    let last_lawful = lawful_rests (let_go (acted b e)) t after_lawful rested.1 in
+    let rested_records = records_of c.rest.new.self (part_of c.rest.new.self.config.domain lent.shared.now) lent.outs.now in
+    let trimmed : Fits (records_of c.trim_orders.new.self (part_of c.rest.new.self.config.domain lent.shared.now) lent.outs.now) t =
+    subst (λ x. Fits x t) (sym (c.trim_orders.ensures.made lent.outs.now (part_of c.rest.new.self.config.domain lent.shared.now)))
+    (subst (λ kept. Fits (trim_all_in kept rested_records) t) (sym c.kept-kept.ensures.value) (fits_trim_all rested_records t fits last_lawful)) in
+    let still : AreDismissed (records_of c.trim_orders.new.self (part_of c.rest.new.self.config.domain lent.shared.now) no_outs) =
+    subst AreDismissed (sym (c.trim_orders.ensures.made no_outs (part_of c.rest.new.self.config.domain lent.shared.now)))
+    (dismissed_trim_all c.kept-kept.result.now (records_of c.rest.new.self (part_of c.rest.new.self.config.domain lent.shared.now) no_outs) (c.in_ok-rest.ensures.dismissed after_dismissed)) in
+    let fits_last : Fits (records_of c.trim_orders.new.self (part_of here.config.domain lent.shared.now) lent.outs.now) t =
+    subst (λ d. Fits (records_of c.trim_orders.new.self (part_of d lent.shared.now) lent.outs.now) t) same trimmed in
+    ended s e _ c.trim_orders.new.self here.config.domain before c.append.new.self lent (search rules) added (record {
       end = t;
       steps = record {
         answers = c.in_ok-taken.ensures.answer ∙ answer_acted r b e means.fits;
         rests = rested.1;
       };
       means = record {
-        fits = fits_between (records_of c.rest.new.self (part_of here.config.domain lent.shared.now) lent.outs.now) t fits_last;
-        lawful = lawful_rests (let_go (acted b e)) t after_lawful rested.1;
-        dismissed = c.in_ok-rest.ensures.dismissed after_dismissed;
+        fits = fits_between (records_of c.trim_orders.new.self (part_of here.config.domain lent.shared.now) lent.outs.now) t fits_last;
+        lawful = last_lawful;
+        dismissed = still;
       };
       outs = λ j. record before { frames = before.frames ++ fits.frames j; delivered = before.delivered ++ fits.delivered j };
     })

@@ -1,0 +1,115 @@
+ghost use Rattle.std.specs.Prelude.{◌≡◌, ◌<◌, not, position, vec_len};
+ghost use Rattle.cast_types.specs.Names.{named};
+ghost use Rattle.cast_domain.specs.Trims.{is_kept_among};
+
+use crate::domain::Domain;
+use crate::order::is_member;
+use crate::record::GroupRecord;
+use cast_message::Received;
+use cast_model::Outs;
+use cast_types::{Proc, Uid};
+
+impl Domain {
+    ghost use Rattle.cast_model.specs.declared.event.Outs.{Outs};
+    ghost use Rattle.cast_model.specs.Outs.{no_outs};
+    ghost use Rattle.cast_domain.specs.Records.{Keeps, records_of};
+    ghost use Rattle.cast_domain.specs.Shared.{Part, no_part};
+    ghost use Rattle.cast_domain.specs.Calls.{record_at};
+    ghost use Rattle.cast_domain.specs.Trims.{count_first, is_counted_of, is_over_of, is_past_of, trim_all_in, trim_in};
+
+    // Forgets the oldest ids of each group's order that are over. While few are kept that takes no more than to see so.
+    pub(crate) fn trim_orders(&mut self, kept: &[Received])
+        ensures same { Keeps self.old self.new }
+        ensures made { (o : Outs) (part : Part) → records_of self.new part o ≡ trim_all_in kept.now (records_of self.old part o) }
+    {
+        for place in 0..self.groups.len() {
+            self.trim_order(place, kept);
+        }
+    }
+
+    // Forgets the oldest ids of the order of the group at a place, those before the first that is not over.
+    fn trim_order(&mut self, place: usize, kept: &[Received])
+        requires { place < vec_len self.old.groups }
+        ensures same { Keeps self.old self.new }
+        ensures groups { self.new.groups ≡ self.old.groups }
+        ensures made { (o : Outs) (part : Part) → records_of self.new part o ≡ trim_in kept.now (records_of self.old part o) place }
+    {
+        let group = self.record(place).name;
+        let over = self.over_first(place, self.orders.oldest(group), kept);
+        self.orders.forget_first(group, over);
+    }
+
+    // How many of these ids of the view of the group at a place, the first ones, are over.
+    fn over_first(&self, place: usize, ids: &[(Proc, u32)], kept: &[Received]) -> usize
+        requires { place < vec_len self.now.groups }
+        ensures { result ≡ count_first (is_over_of (records_of self.now no_part no_outs) (record_at self.now.groups.items place) kept.now) ids.now }
+    {
+        match self.first_to_stay(self.record(place), ids, kept) {
+            Some(first) => first,
+            None => ids.len(),
+        }
+    }
+
+    // The place of the first of these ids of the view of a group that is not over.
+    fn first_to_stay(
+        &self,
+        group: &GroupRecord,
+        ids: &[(Proc, u32)],
+        kept: &[Received],
+    ) -> Option<usize>
+        ensures { result ≡ position (λ e. not (is_over_of (records_of self.now no_part no_outs) group.now kept.now e)) ids.now }
+    {
+        ids.iter()
+            .position(|(proc, count)| !self.is_over(group, *proc, *count, kept))
+    }
+
+    // Whether a message of the view of a group is over: received, kept no longer, and passed by each member here.
+    fn is_over(&self, group: &GroupRecord, proc: Proc, count: u32, kept: &[Received]) -> bool
+        ensures { result ≡ is_over_of (records_of self.now no_part no_outs) group.now kept.now (proc, count) }
+    {
+        self.is_received_of(group, proc, count)
+            && !is_kept_among(kept, named(group, proc, count))
+            && self.is_past(group, proc, count)
+    }
+
+    // Whether each member of a group here is past a message of its view: it has delivered it, and counted it where it sent it.
+    fn is_past(&self, group: &GroupRecord, proc: Proc, count: u32) -> bool
+        ensures { result ≡ is_past_of (records_of self.now no_part no_outs) group.now (proc, count) }
+    {
+        0 < count
+            && !self.delay.is_awaited(named(group, proc, count))
+            && self.is_counted(group, proc, count)
+    }
+
+    // Whether a process has counted so many of its messages of a group, where it is a member of that here.
+    fn is_counted(&self, group: &GroupRecord, process: Proc, count: u32) -> bool
+        ensures { result ≡ is_counted_of (records_of self.now no_part no_outs) group.now (process, count) }
+    {
+        if process.site != self.site || !is_member(self.delay.standing(process, group.name)) {
+            return true;
+        }
+        match self.delay.time(process) {
+            Some(time) => count <= time.count(group.name, process),
+            None => count == 0,
+        }
+    }
+}
+
+// The name of a message of the view of a group.
+fn named(group: &GroupRecord, proc: Proc, count: u32) -> Uid
+    ensures { result ≡ named group.now.name group.now.here.number (proc, count) }
+{
+    Uid {
+        group: group.name,
+        view: group.here.number(),
+        proc,
+        count,
+    }
+}
+
+// Whether a message is among those that are kept.
+fn is_kept_among(kept: &[Received], id: Uid) -> bool
+    ensures { result ≡ is_kept_among kept.now id }
+{
+    kept.iter().any(|other| other.message.id == id)
+}
