@@ -4,7 +4,7 @@ use Rattle.std.specs.Prelude.{if◌then◌else◌, slice_get}
 use Rattle.std.specs.List as list
 use Rattle.std.specs.Option.{IsSome, option_map, option_map_or, option_and_then}
 use Rattle.std.specs.FinMap.Entries.{put}
-use Rattle.std.proofs.lemmas.Bool.{cases_Bool, false≢true, false_from_ne_true, not-false, and_parts, and_from, or_cases, or_left, or_right, eqb-true, eq-eqb, ne_eqb}
+use Rattle.std.proofs.lemmas.Bool.{cases_Bool, false≢true, false_from_ne_true, not-false, and_parts, and_from, or_cases, or_left, or_right, eqb-true, eq-eqb, ne_eqb, or_parts}
 use Rattle.std.proofs.lemmas.List.{map-append}
 use Rattle.std.proofs.lemmas.List.Folds.{find_at}
 use Rattle.std.proofs.lemmas.List.Elements.{Contains-push_cases}
@@ -14,7 +14,7 @@ use Rattle.cast_types.specs.declared.names.Key.{Key}
 use Rattle.cast_types.specs.declared.names.Uid.{Uid}
 use Rattle.cast_types.specs.declared.names.Standing.{Standing}
 use Rattle.cast_types.specs.declared.names.Standing.TheVariants.{Outside}
-use Rattle.cast_types.specs.Names.{Entry, group_cmp, group_eq, proc_eq, uid_eq, named}
+use Rattle.cast_types.specs.Names.{Entry, group_cmp, group_eq, proc_eq, uid_eq, named, entry_of}
 use Rattle.cast_types.specs.Sets.{is_among, set_at}
 use Rattle.cast_types.specs.Counts.{CountList}
 use Rattle.cast_types.specs.Sources.{source}
@@ -30,10 +30,10 @@ use Rattle.cast_delay.specs.declared.row.Fact.{Fact}
 use Rattle.cast_delay.specs.declared.row.Fact.TheVariants as fact
 use Rattle.cast_delay.specs.declared.offered.Offered.{Offered}
 use Rattle.cast_delay.specs.declared.gate.Gate.{Gate}
-use Rattle.cast_delay.specs.Ready.{Process, open_gate, frozen_gate, pending_gate, is_member, is_outside, has_delivered, awaits, turn_in, is_causally_ready, is_ready}
+use Rattle.cast_delay.specs.Ready.{Process, open_gate, frozen_gate, pending_gate, is_member, is_outside, has_delivered, awaits, turn_in, is_causally_ready, is_ready, has_turn}
 use Rattle.cast_delay.specs.Tallies.{Tally, raised_at, counts_in}
 use Rattle.cast_delay.specs.Rows.{gate_in, standing_in, is_causally_ready_row, is_ready_row, has_delivered_in, passed_by, awaits_row, delivered_row, told_row}
-use Rattle.cast_delay.specs.Queue.{Queue, new_row, row_of, but_row, change_row, first_for, offered_under, next_key, delivered_in, passed_in, but_offered, is_awaited, HasOneRowEach, after_delivery, reached_after, queue_viewing, queue_delivering}
+use Rattle.cast_delay.specs.Queue.{Queue, new_row, row_of, but_row, change_row, first_for, offered_under, next_key, has_candidate, may_deliver_in, delivered_in, passed_in, but_offered, is_awaited, HasOneRowEach, after_delivery, reached_after, queue_viewing, queue_delivering}
 use Rattle.cast_delay.specs.Fits.{IsSound, HasNotEnded, RowFits, StandsFor, HasNotBegun, Reaches, offer_of, Fits, FirstReady, HasTurns, IsAwaited, set_process, told, delivering, FactFits}
 use Rattle.cast_delay.specs.Laws.{NewFits}
 use Rattle.cast_delay.specs.Says.{SaysReached}
@@ -484,3 +484,18 @@ reached_says q group view counts is = subst (λ c. SaysReached q group view c) (
   most = λ groups gate processes received fits. reached_most gate processes q.reached fits.reached group view;
   each = λ groups gate processes received fits. reached_each gate processes q.reached fits.reached group view;
 })
+
+-- what is ready is ready but for the turns
+none_ready : (turns : List (GroupNo × Turn)) (gates : List (GroupNo × Gate)) (row : Row) (offered : List Offered) → has_candidate gates offered row ≡ false → first_for turns gates offered row ≡ None
+none_ready turns gates row [] none = refl
+none_ready turns gates row (o ∷ offered) none =
+    let parts = or_parts (is_causally_ready_row gates row o.id o.times) (has_candidate gates offered row) none in
+    ap (λ b. cond (b && (not o.atomic || has_turn (turn_in turns o.id.group) (entry_of o.id))) (Some o) (first_for turns gates offered row)) parts.0
+    ∙ none_ready turns gates row offered parts.1
+
+pub may_deliver_means : (q : Queue) (p : Proc) (b : Bool) → b ≡ may_deliver_in q p → b ≡ false → (turns : List (GroupNo × Turn)) → next_key turns q p ≡ None
+may_deliver_means q p b is none turns = at (row_of q.rows p) (sym is ∙ none)
+  where
+    at : (o : Option Row) → option_map_or (has_candidate q.gates q.offered) o false ≡ false → option_map (λ x. x.key) (option_and_then (first_for turns q.gates q.offered) o) ≡ None
+    at None _ = refl
+    at (Some row) is_none = ap (option_map (λ (x : Offered). x.key)) (none_ready turns q.gates row q.offered is_none)

@@ -18,7 +18,7 @@ use Rattle.cast_delay.specs.declared.gate.Gate.{Gate}
 use Rattle.cast_delay.specs.Ready.{open_gate, is_member}
 use Rattle.cast_types.specs.Sources.{source, but_ended}
 use Rattle.cast_delay.specs.Tallies.{Tally, raised_at}
-use Rattle.cast_delay.specs.Rows.{standing_in, done_in, is_ready_row, has_delivered_in, passed_by, awaits_row, ended_row, delivered_row}
+use Rattle.cast_delay.specs.Rows.{standing_in, done_in, is_causally_ready_row, is_ready_row, has_delivered_in, passed_by, awaits_row, ended_row, delivered_row}
 
 pub record Queue : Type 0 where
   pub gates : List (GroupNo × Gate)
@@ -47,6 +47,14 @@ offered_under offered key = find (λ o. key_eq o.key key) offered
 -- the key of the first message that is ready for a process, where these are the turns of groups
 abbrev pub next_key : List (GroupNo × Turn) → Queue → Proc → Option Key
 next_key turns q p = option_map (λ o. o.key) (option_and_then (first_for turns q.gates q.offered) (row_of q.rows p))
+
+-- whether some message is ready for a row but for the turns of groups
+abbrev pub has_candidate : List (GroupNo × Gate) → List Offered → Row → Bool
+has_candidate gates offered row = list_any (λ o. is_causally_ready_row gates row o.id o.times) offered
+
+-- and for a process, of which it is none where that was not admitted
+abbrev pub may_deliver_in : Queue → Proc → Bool
+may_deliver_in q p = option_map_or (has_candidate q.gates q.offered) (row_of q.rows p) false
 
 -- whether a process has delivered a message; one that was not admitted has delivered none
 abbrev pub delivered_in : Queue → Proc → Uid → Bool

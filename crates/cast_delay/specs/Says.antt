@@ -1,5 +1,5 @@
 -- What the queue's answers say of groups, processes and messages, whichever it tells of.
-use Rattle.std.specs.Prelude.{◌≡◌, ◌<◌, ◌≤◌, ◌↔◌, ℕ, Bool, true, not, IsTrue, List, length, Contains, Option, MatchOption, unwrap_or}
+use Rattle.std.specs.Prelude.{◌≡◌, ◌<◌, ◌≤◌, ◌↔◌, ℕ, Bool, true, false, not, IsTrue, List, length, Contains, Option, None, MatchOption, unwrap_or}
 use Rattle.std.specs.List.{position}
 use Rattle.std.specs.Option.{IsSome}
 use Rattle.cast_types.specs.declared.names.GroupNo.{GroupNo}
@@ -14,7 +14,7 @@ use Rattle.cast_message.specs.declared.message.Received.{Received}
 use Rattle.cast_delay.specs.declared.turn.Turn.{Turn}
 use Rattle.cast_delay.specs.declared.gate.Gate.{Gate}
 use Rattle.cast_delay.specs.Ready.{Process, is_member, has_delivered, turn_in}
-use Rattle.cast_delay.specs.Queue.{Queue, row_of, HasOneRowEach}
+use Rattle.cast_delay.specs.Queue.{Queue, row_of, next_key, HasOneRowEach}
 use Rattle.cast_delay.specs.Fits.{Fits, HasNotEnded, FirstReady, IsAwaited}
 
 -- whether a member of its group has not delivered a message, whose view has not ended and whose count is from 1 on
@@ -32,6 +32,10 @@ SaysFirstReady q p turns result =
     → Fits groups gate processes received q → (turn : GroupNo → Turn)
     → ((g : GroupNo) → is_member ((processes p).standing g) ≡ true → turn_in turns g ≡ turn g)
     → FirstReady groups gate turn (processes p) received result
+
+-- where it is said that no message may be ready for a process, none is, whatever the turns of groups
+abbrev pub SaysMayDeliver : Queue → Proc → Bool → Type 0
+SaysMayDeliver q p result = result ≡ false → (turns : List (GroupNo × Turn)) → next_key turns q p ≡ None
 
 -- whether a process that has a row has delivered a message, whose view has not ended
 abbrev pub SaysDelivered : Queue → Proc → Uid → Bool → Type 0

@@ -11,9 +11,9 @@ ghost use Rattle.cast_delay.specs.declared.turn.Turn.{Turn};
 ghost use Rattle.cast_delay.specs.Ready.{frozen_gate, pending_gate, is_member, has_delivered};
 ghost use Rattle.cast_delay.specs.Rows.{gate_in, ended_row, told_row, standing_in, done_in};
 ghost use Rattle.cast_delay.specs.Tallies.{counts_in};
-ghost use Rattle.cast_delay.specs.Queue.{new_row, row_of, but_row, change_row, first_for, offered_under, next_key, delivered_in, passed_in, but_offered, is_awaited, least_in, after_delivery, reached_after, queue_viewing, queue_delivering};
+ghost use Rattle.cast_delay.specs.Queue.{new_row, row_of, but_row, change_row, first_for, offered_under, next_key, has_candidate, may_deliver_in, delivered_in, passed_in, but_offered, is_awaited, least_in, after_delivery, reached_after, queue_viewing, queue_delivering};
 ghost use Rattle.cast_delay.specs.Fits.{offer_of};
-ghost use Rattle.cast_delay.specs.Says.{SaysAwaited, SaysFirstReady, SaysDelivered, SaysPassed, SaysReached, SaysTime, SaysStanding};
+ghost use Rattle.cast_delay.specs.Says.{SaysAwaited, SaysFirstReady, SaysMayDeliver, SaysDelivered, SaysPassed, SaysReached, SaysTime, SaysStanding};
 
 use crate::gate::{Gate, frozen_in, number_in};
 use crate::offered::Offered;
@@ -183,6 +183,18 @@ impl Delay {
         Some(offered.key)
     }
 
+    /// Whether some message is ready for the process but for the turns of groups: where none is, none is ready for it whatever
+    /// these are. Takes no memory.
+    pub fn may_deliver(&self, process: Proc) -> bool
+        ensures value { result ≡ may_deliver_in self.now process }
+        ensures meaning { SaysMayDeliver self.now process result }
+    {
+        match row_in(&self.rows, process) {
+            Some(row) => has_candidate(&self.gates, &self.offered, row),
+            None => false,
+        }
+    }
+
     /// Whether the process, which was admitted, has delivered a message of a view that has not ended. Takes no memory.
     pub fn has_delivered(&self, process: Proc, id: Uid) -> bool
         ensures value { result ≡ delivered_in self.now process id }
@@ -266,6 +278,15 @@ fn first_in<'a>(
     offered
         .iter()
         .find(|offered| row.is_ready(turns, gates, offered))
+}
+
+// Whether some message is ready for a row but for the turns of groups.
+fn has_candidate(gates: &Keyed<GroupNo, Gate>, offered: &[Offered], row: &Row) -> bool
+    ensures { result ≡ has_candidate gates.now offered.now row.now }
+{
+    offered
+        .iter()
+        .any(|offered| row.is_causally_ready(gates, offered.id, &offered.times))
 }
 
 // The message under a key.

@@ -67,10 +67,13 @@ impl Domain {
             && !self.delay.has_delivered(process, message.id)
     }
 
-    // The key of the first message that is ready for a process.
+    // The key of the first message that is ready for a process. Its turns are asked for only where some message may be.
     pub(crate) fn next_ready(&self, process: Proc, lent: &Lent<'_>) -> Result<Option<Key>, NoMemory>
         ensures { IfOk result (λ key. key ≡ ready_key_in (records_in self.now lent.now) process) }
     {
+        if !self.delay.may_deliver(process) {
+            return Ok(None);
+        }
         let turns = self.turns(process, lent)?;
         Ok(self.delay.next_ready(process, &turns))
     }

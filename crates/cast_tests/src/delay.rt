@@ -137,7 +137,7 @@ fn next(queue: &Delay, process: Proc, turns: &[(GroupNo, Turn)]) -> Option<Key> 
 
 // Whether the message under a key is the next one; the process delivers it.
 fn takes(queue: &mut Delay, key: usize) -> Result<bool, NoMemory> {
-    let is_next = next(queue, MEMBER, &[]) == Some(Key(key));
+    let is_next = queue.may_deliver(MEMBER) && next(queue, MEMBER, &[]) == Some(Key(key));
     queue.delivered(MEMBER, Key(key))?;
     Ok(is_next)
 }
