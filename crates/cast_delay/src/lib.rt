@@ -9,7 +9,8 @@
 //! waits.
 //!
 //! Promised: `next_ready` gives the key of the first message in order of receipt that a process may deliver, and
-//! `None` only where there is none, for all processes, groups and messages that the queue tells of and all turns.
+//! `None` only where there is none, for all processes, groups and messages that the queue tells of and all turns; where
+//! `may_deliver` says no, it is `None` whatever the turns.
 //! `is_awaited` says whether some member of a message's group has not delivered it, so that it may not be let go yet.
 //! `has_delivered` says whether a process that was admitted has delivered a message, and `passed` how far it has
 //! delivered a list of them. `reached` says how far the messages of each process were delivered here in a view, to

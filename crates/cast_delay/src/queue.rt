@@ -284,9 +284,7 @@ fn first_in<'a>(
 fn has_candidate(gates: &Keyed<GroupNo, Gate>, offered: &[Offered], row: &Row) -> bool
     ensures { result ≡ has_candidate gates.now offered.now row.now }
 {
-    offered
-        .iter()
-        .any(|offered| row.is_causally_ready(gates, offered.id, &offered.times))
+    offered.iter().any(|offered| row.is_causally_ready(gates, offered.id, &offered.times))
 }
 
 // The message under a key.

@@ -118,10 +118,11 @@ passing r s k key m =
     passed_in (queue_delivering (local s k) key r.delay) (local s k) m.id.group m.id.view
     (next_in (log_of r.orders m.id.group) (local s k))
 
--- what is ready is of the current view of a group of the process, and it has not delivered it
+-- what is ready is of a group of which the process is a member
 ready_member : (s : State) (k : ℕ) (m : Message) → is_ready_for s k m ≡ true → is_member ((s.process k).standing m.id.group) ≡ true
 ready_member s k m ready = (and_parts (is_member ((s.process k).standing m.id.group)) _ (ready_causally s k m ready)).0
 
+-- of its current view
 ready_current : (s : State) (k : ℕ) (m : Message) → is_ready_for s k m ≡ true → is_of_view s m.id.group m.id ≡ true
 ready_current s k m ready =
     let a = and_parts (is_member ((s.process k).standing m.id.group)) _ (ready_causally s k m ready) in
