@@ -200,7 +200,8 @@ fn events(case: &str, rounds: usize) -> Option<Vec<String>> {
 }
 
 fn script(case: &str, rounds: usize) -> Option<String> {
-    let groups: Vec<String> = (1..=PASSING).map(|group| group.to_string()).collect();
+    let last = if case.starts_with("passes") { PASSING } else { 1 };
+    let groups: Vec<String> = (1..=last).map(|group| group.to_string()).collect();
     let mut text = format!(
         "site 1\ndomain 1 home 9 sites 1,2,9 groups {} quotas 16 1024 4096 60000\nopen 1\n",
         groups.join(",")
