@@ -170,15 +170,23 @@ left_remain r k =
     let x : Records = go_in r k in
     left_keeps records (RemainAs x) (all_remain x.site (names_of x.delay.rows) (λ j. is_gone (session_in x.sessions j))) x (remain_as x) k
 
+-- what the end of a session comes to, by the rule's own test of whether it is gone
+ended : (r : Records) (k : ℕ) → (if is_gone (session_in r.sessions k) then r else dismiss_in (leave_all records (go_in r k) k) k) ≡ end_in r k
+ended r k = elim (is_gone (session_in r.sessions k)) as (λ b. (if b then r else dismiss_in x k) ≡ (if b then r else dismiss_in (if b then r else x) k)) [ true ↦ refl | false ↦ refl ]
+  where
+    x : Records
+    x = leave_all records (go_in r k) k
+
 -- the session ends on both sides, or has ended
 pub fits_ended : (r : Records) (s : State) → Fits r s → IsLawful s → (k : ℕ) → Fits (end_in r k) (end_session history s k)
 fits_ended r s fits l k =
     let x : Records = leave_all records (go_in r k) k in
     let t : State = leave_all history (going s k) k in
     let left : Fits x t = fits_left r s fits l k in
-    fits_if (is_gone (session_in r.sessions k)) (is_gone (s.session k)) r (dismiss_in x k) s t (ap is_gone (sym (fits.opened.each k)))
+    subst (λ y. Fits y (end_session history s k)) (ended r k)
+    (fits_if (is_gone (session_in r.sessions k)) (is_gone (s.session k)) r (dismiss_in x k) s t (ap is_gone (sym (fits.opened.each k)))
     (λ _. fits)
-    (λ _. fits_dismissed x t left k (ap is_gone (left.opened.each k) ∙ (left_remain r k).2 k ∙ gone_there r s fits k) (left_outside (going s k) (lawful_going s k l) k))
+    (λ _. fits_dismissed x t left k (ap is_gone (left.opened.each k) ∙ (left_remain r k).2 k ∙ gone_there r s fits k) (left_outside (going s k) (lawful_going s k l) k)))
 
 -- Who is gone is dismissed after each event
 
@@ -200,10 +208,10 @@ dismissed_open r s fits dismissed k left = elim (cases_eq (s.used + 1) k) [
 
 -- and the process of one that ends is
 dismissed_end : (r : Records) (s : State) → Fits r s → AreDismissed r → (k : ℕ) → AreDismissed (end_in r k)
-dismissed_end r s fits dismissed k = elim (is_gone (session_in r.sessions k)) as (λ b. AreDismissed (if b then r else dismiss_in x k)) [
+dismissed_end r s fits dismissed k = subst AreDismissed (ended r k) (elim (is_gone (session_in r.sessions k)) as (λ b. AreDismissed (if b then r else dismiss_in x k)) [
   | true ↦ dismissed
   | false ↦ none
-]
+])
   where
     x : Records
     x = leave_all records (go_in r k) k

@@ -22,7 +22,7 @@ use Rattle.cast_delay.specs.Ready.{Process, is_member}
 use Rattle.cast_message.specs.declared.message.Message.{Message}
 use Rattle.cast_order.specs.Log.{Log}
 use Rattle.cast_history.specs.State.{State, local, is_received, receiving, set_process}
-use Rattle.cast_domain.specs.Fits.{is_kept, IsOver}
+use Rattle.cast_domain.specs.Fits.{is_still_kept, IsOver}
 
 -- what is over in one history is over in another, where a log has forgotten something
 abbrev pub StaysOver : State → State → GroupNo → Log → Type 0
@@ -30,7 +30,7 @@ StaysOver s t g l = 0 < l.base → (e : Entry) → IsOver s g e → IsOver t g e
 
 -- what is not kept in one history is not kept in another
 abbrev pub KeepsNoMore : State → State → Type 0
-KeepsNoMore s t = (u : Uid) → is_kept s u ≡ false → is_kept t u ≡ false
+KeepsNoMore s t = (u : Uid) → is_still_kept s u ≡ false → is_still_kept t u ≡ false
 
 -- a member of a group was one, and counts no fewer of its own messages
 pub record CountsOn (before now : Process) (g : GroupNo) (p : Proc) : Type 0 where
@@ -44,7 +44,7 @@ AllCountOn s t g = (k : ℕ) → is_member ((t.process k).standing g) ≡ true �
 pub over_alike : (s t : State) (g : GroupNo) → t.here ≡ s.here → (t.group g).number ≡ (s.group g).number → t.got ≡ s.got → KeepsNoMore s t → AllCountOn s t g → (e : Entry) → IsOver s g e → IsOver t g e
 over_alike s t g here number got kept members e over = record {
   received = (λ i. list_any (λ m. uid_eq m.id (named g (number i) e)) (got i)) ∙ over.received;
-  let_go = ap (λ n. is_kept t (named g n e)) number ∙ kept (named g (s.group g).number e) over.let_go;
+  let_go = ap (λ n. is_still_kept t (named g n e)) number ∙ kept (named g (s.group g).number e) over.let_go;
   counted = λ k member is.
       let on = members k member in
       let before : e.1 ≤ count_in (s.process k).time g (local s k) = over.counted k on.member (is ∙ (λ i. record { site = here i; serial = k })) in

@@ -31,7 +31,7 @@ use Rattle.cast_history.proofs.Lawful.{range_all}
 use Rattle.cast_domain.specs.Records.{Records}
 use Rattle.cast_domain.specs.Calls.{standing_of, time_of, log_in, is_awaited_of, is_received_of}
 use Rattle.cast_domain.specs.Trims.{is_counted_of, is_past_of, is_kept_among, is_over_of, count_first, trim_in, trim_all_in}
-use Rattle.cast_domain.specs.Fits.{Fits, LogFits, TellsOrder, IsOver, is_kept, record_for, process_named, goes_on, has_passed, told_here, lists_here}
+use Rattle.cast_domain.specs.Fits.{Fits, LogFits, TellsOrder, IsOver, is_still_kept, record_for, process_named, goes_on, has_passed, told_here, lists_here}
 use Rattle.cast_domain.proofs.Standing.{record_there, standing_there, time_there, process_here, member_row}
 use Rattle.cast_domain.proofs.LogSteps.{none_left}
 use Rattle.cast_domain.proofs.Commands.{any_message}
@@ -87,7 +87,7 @@ module _ (r : Records) (s : State) (fits : Fits r s) (lawful : IsLawful s) (g : 
   -- what passes it is over in the history
 
   abbrev message_there : Entry → Bool
-  message_there e = is_kept s (named g (s.group g).number e)
+  message_there e = is_still_kept s (named g (s.group g).number e)
 
   kept_there : (e : Entry) → is_kept_among r.part.kept (named g (s.group g).number e) ≡ message_there e
   kept_there e =

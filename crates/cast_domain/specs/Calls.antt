@@ -56,7 +56,7 @@ use Rattle.cast_domain.specs.Shared.{part_with, part_without, part_owing, part_r
 use Rattle.cast_history.specs.Rules.Interface.{Site, Serials, Resting}
 use Rattle.cast_history.specs.Rules.Rest.{tell, told_of}
 use Rattle.cast_history.specs.Rules.Room.{may_order}
-use Rattle.cast_history.specs.Rules.Commands.{leave_all}
+use Rattle.cast_history.specs.Rules.Commands.{end_session}
 use Rattle.cast_history.specs.Rules.Events.{acted}
 use Rattle.cast_model.specs.declared.event.Event.{Event}
 use Rattle.cast_model.specs.declared.event.Event.TheVariants.{Gone}
@@ -412,7 +412,7 @@ dismiss_in r k = record r { delay = record r.delay { rows = but_row (local_in r 
 
 -- a session whose program is gone ends by the rule, and then its process, which is in no group, is dismissed
 abbrev pub end_in : Records → ℕ → Records
-end_in r k = if is_gone (session_in r.sessions k) then r else dismiss_in (leave_all records (go_in r k) k) k
+end_in r k = if is_gone (session_in r.sessions k) then r else dismiss_in (end_session records r k) k
 
 -- what an event does at once: what its rule says, and the process of a session that ends is dismissed
 abbrev pub acted_in : Records → Event → Records

@@ -97,14 +97,14 @@ abbrev pub has_passed : State → GroupNo → Proc → Entry → Bool
 has_passed s g p e = has_delivered (process_named s p) (named g (s.group g).number e)
 
 -- a message is kept
-abbrev pub is_kept : State → Uid → Bool
-is_kept s u = list_any (λ m. uid_eq m.id u) s.kept
+abbrev pub is_still_kept : State → Uid → Bool
+is_still_kept s u = list_any (λ m. uid_eq m.id u) s.kept
 
 -- a message of a group's view is over: it was received, and is kept no longer; and where its process is a member here, that
 -- has counted it
 pub record IsOver (s : State) (g : GroupNo) (e : Entry) : Type 0 where
   pub received : is_received s (named g (s.group g).number e) ≡ true
-  pub let_go : is_kept s (named g (s.group g).number e) ≡ false
+  pub let_go : is_still_kept s (named g (s.group g).number e) ≡ false
   pub counted : (k : ℕ) → is_member ((s.process k).standing g) ≡ true → e.0 ≡ local s k → e.1 ≤ count_in (s.process k).time g (local s k)
 
 -- a log tells of the order of a group's view, as it was told, delivered and listed here; what is forgotten of it is over

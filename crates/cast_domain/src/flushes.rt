@@ -309,7 +309,7 @@ impl Domain {
     }
 
     // Whether some member here has not delivered a message of the view of a group.
-    fn is_awaited_of(&self, group: &GroupRecord, proc: Proc, count: u32) -> bool
+    pub(crate) fn is_awaited_of(&self, group: &GroupRecord, proc: Proc, count: u32) -> bool
         ensures { result ≡ is_awaited_of (records_of self.now no_part no_outs) group.now (proc, count) }
     {
         self.delay.is_awaited(Uid {

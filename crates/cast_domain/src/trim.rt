@@ -76,9 +76,7 @@ impl Domain {
     fn is_past(&self, group: &GroupRecord, proc: Proc, count: u32) -> bool
         ensures { result ≡ is_past_of (records_of self.now no_part no_outs) group.now (proc, count) }
     {
-        0 < count
-            && !self.delay.is_awaited(named(group, proc, count))
-            && self.is_counted(group, proc, count)
+        0 < count && !self.is_awaited_of(group, proc, count) && self.is_counted(group, proc, count)
     }
 
     // Whether a process has counted so many of its messages of a group, where it is a member of that here.
