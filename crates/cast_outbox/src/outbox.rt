@@ -1,0 +1,127 @@
+ghost use Rattle.std.specs.Prelude.{◌≡◌, ◌≤◌, [], IfOk, OnOk, OnErr, if◌then◌else◌, length, slice_get, take, drop};
+ghost use Rattle.std.specs.Option.{option_copied};
+ghost use Rattle.std.specs.VecDeque.{deque_len, deque_capacity};
+ghost use Rattle.cast_outbox.specs.Pending.{is_full_at, with_entry};
+
+use cast_message::Push;
+use cast_types::{Listed, NoMemory, Refusal};
+use std::alloc::Global;
+use std::collections::VecDeque;
+use std::marker::Model;
+
+/// What became of an entry that was pushed.
+#[derive(Clone, Copy, Debug, PartialEq, Eq)]
+pub enum Pushed {
+    /// It was added.
+    Kept,
+    /// The outbox was full: in its place stands `Push::Closed` for the reason that the program was too slow.
+    Slow,
+}
+
+/// What one session was pushed and has not taken, in order.
+#[derive(Drop)]
+pub(crate) struct Outbox {
+    serial: u32,
+    entries: VecDeque<Push>,
+}
+
+impl Model for Outbox {
+    ghost use Rattle.cast_outbox.specs.Pending.{Pending};
+
+    ghost Value = { Pending };
+
+    ghost view = { λ o. record { serial = o.serial; entries = o.entries.items } };
+}
+
+impl Outbox {
+    /// No entries.
+    pub(crate) fn new(alloc: Global, serial: u32) -> Self
+        ensures { result ≡ record { serial = serial; entries = [] } }
+    {
+        Outbox {
+            serial,
+            entries: VecDeque::new(alloc),
+        }
+    }
+
+    /// Whose entries these are.
+    pub(crate) fn serial(&self) -> u32
+        ensures { result ≡ self.now.serial }
+    {
+        self.serial
+    }
+
+    /// Lets go of all entries.
+    pub(crate) fn clear(&mut self)
+        ensures { self.new ≡ record self.old { entries = [] } }
+    {
+        self.entries.clear();
+    }
+
+    /// Adds an entry at the end, or where as many as the limit stand there, the end of the session in its place.
+    /// `NoMemory` changes nothing.
+    pub(crate) fn push(&mut self, limit: u32, entry: Push) -> Result<Pushed, NoMemory>
+        ensures value { IfOk result (λ p. p ≡ (if is_full_at limit self.old.entries then Pushed.Slow else Pushed.Kept)) }
+        ensures ok { OnOk result (self.new ≡ record self.old { entries = with_entry limit entry self.old.entries }) }
+        ensures err { OnErr result (self.new ≡ self.old) }
+    {
+        if limit as usize <= self.entries.len() {
+            self.entries.push_back(Push::Closed(Refusal::Slow))?;
+            Ok(Pushed::Slow)
+        } else {
+            self.entries.push_back(entry)?;
+            Ok(Pushed::Kept)
+        }
+    }
+
+    /// Takes out the first entries, at most so many. `NoMemory` changes nothing.
+    pub(crate) fn take(&mut self, most: u32) -> Result<Listed<Push>, NoMemory>
+        ensures value { IfOk result (λ taken. taken ≡ take most self.old.entries) }
+        ensures ok { OnOk result (self.new ≡ record self.old { entries = drop most self.old.entries }) }
+        ensures err { OnErr result (self.new ≡ self.old) }
+    {
+        let taken = take_first(&mut self.entries, most as usize)?;
+        Ok(Listed::from_vec(taken.into_vec()))
+    }
+
+    /// How many entries there are.
+    pub(crate) fn len(&self) -> usize
+        ensures { result ≡ length self.now.entries }
+    {
+        self.entries.len()
+    }
+
+    /// The entry of a place, counted from 0.
+    pub(crate) fn at(&self, place: usize) -> Option<&Push>
+        ensures { option_copied result ≡ slice_get self.now.entries place }
+    {
+        self.entries.get(place)
+    }
+}
+
+// Takes out the first entries, at most so many: room is made for them first. `NoMemory` changes nothing.
+fn take_first(entries: &mut VecDeque<Push>, most: usize) -> Result<VecDeque<Push>, NoMemory>
+    ensures value { IfOk result (λ taken. taken.items ≡ take most entries.old.items) }
+    ensures ok { OnOk result (entries.new.items ≡ drop most entries.old.items) }
+    ensures err { OnErr result (entries.new.items ≡ entries.old.items) }
+{
+    let count = most.min(entries.len());
+    let mut taken = VecDeque::with_capacity(*entries.allocator(), count)?;
+    move_first(entries, &mut taken, count);
+    Ok(taken)
+}
+
+// Moves the first entries into an empty queue that has room for them.
+fn move_first(from: &mut VecDeque<Push>, into: &mut VecDeque<Push>, count: usize)
+    requires many { count ≤ deque_len from.old }
+    requires room { count ≤ deque_capacity into.old }
+    requires none { into.old.items ≡ [] }
+    ensures moved { into.new.items ≡ take count from.old.items }
+    ensures left { from.new.items ≡ drop count from.old.items }
+{
+    for _ in 0..count {
+        if let Some(entry) = from.pop_front() {
+            into.push_back_reserved(entry);
+        }
+    }
+}
