@@ -1,5 +1,5 @@
 -- What leaves a state alike.
-use Rattle.std.proofs.Common.{◌≡◌, ℕ, Bool, true, false, List, [], ◌∷◌, ◌++◌, refl, ap, ◌∙◌}
+use Rattle.std.proofs.Common.{◌≡◌, ℕ, Bool, true, false, List, [], ◌∷◌, ◌++◌, Some, None, refl, ap, ◌∙◌}
 use Rattle.std.specs.Prelude.{◌==◌, filter, if◌then◌else◌}
 use Rattle.std.specs.List.{fold}
 use Rattle.std.proofs.lemmas.Bool.{eqb-true}
@@ -17,16 +17,28 @@ use Rattle.cast_message.specs.declared.client.Push.TheVariants as push
 use Rattle.cast_message.specs.Membership.{Membership}
 use Rattle.cast_stable.specs.Stable.{Acked}
 use Rattle.cast_timer.specs.declared.key.Owed.{Owed}
-use Rattle.cast_delay.specs.Ready.{Process}
-use Rattle.cast_view.specs.MemberSide.{with_view}
-use Rattle.cast_model.specs.declared.session.Session.{Session}
-use Rattle.cast_model.specs.Session.{is_open, pushed_to}
-use Rattle.cast_history.specs.State.{State, serials, set_session, set_process, set_group, emitted, others_of, noting_ack, noting_stable, pushing, receiving, noting_sent, releasing, is_ended, releasing_ended}
-use Rattle.cast_history.specs.Entering.{parted, is_put_out, all_parted, push_out, putting_out, enters, in_view, all_in_view, push_view, passing}
+use Rattle.cast_delay.specs.Ready.{Process, is_outside}
+use Rattle.cast_view.specs.MemberSide.{MemberSide, with_view, with_request}
+use Rattle.cast_view.specs.Home.{is_empty}
+use Rattle.cast_types.specs.declared.names.Proc.{Proc}
+use Rattle.cast_types.specs.declared.names.Standing.TheVariants.{Outside}
+use Rattle.cast_types.specs.declared.refusal.Refusal.{Refusal}
+use Rattle.cast_types.specs.declared.refusal.Refusal.TheVariants.{NotMember, Slow}
+use Rattle.cast_types.specs.declared.limits.TheConstants.{MAX_NUMBER}
+use Rattle.cast_types.specs.Names.{group_eq}
+use Rattle.cast_types.proofs.Orders.{same_group}
+use Rattle.cast_message.specs.declared.site.Change.{Change}
+use Rattle.cast_message.specs.declared.site.Change.TheVariants as change
+use Rattle.cast_model.specs.Session.{Session, is_open, pushed_to, closed}
+use Rattle.cast_history.specs.State.{State, local, serials, with_push, set_process, set_group, emitted, others_of, noting_ack, noting_stable, is_filled, pushing, closing, outside, local_members, receiving, noting_sent, releasing, is_ended, releasing_ended}
+use Rattle.cast_history.specs.Entering.{parted, is_put_out, all_parted, putting_out, enters, in_view, all_in_view, passing}
 use Rattle.cast_history.specs.Rest.{let_go}
 use Rattle.cast_history.specs.Owing.{noting_owed, noting_resent, paying, paying_upto, paying_view, at_moment}
 use Rattle.cast_history.specs.Rules.Sending.{send_data}
-use Rattle.cast_history.specs.Rules.Views.{install}
+use Rattle.cast_history.specs.Rules.Keys.{ask_key}
+use Rattle.cast_history.specs.Rules.Asking.{ask_home, request}
+use Rattle.cast_history.specs.Rules.Leaving.{Attempt, leave_group, leave_each, leave_all, close_session, tell_open, tell}
+use Rattle.cast_history.specs.Rules.Views.{tell_out, tell_view, enter_and_tell, install}
 use Rattle.cast_history.specs.History.{history}
 use Rattle.cast_history.proofs.Rules.Follows.{IsInvariant}
 use Rattle.cast_timer.specs.declared.key.OwedKey.{OwedKey}
@@ -35,12 +47,19 @@ use Rattle.cast_history.proofs.Rules.Owing.{owe_keeps, send_for_keeps}
 use Rattle.cast_history.proofs.Rules.Sending.{send_data_keeps}
 use Rattle.cast_history.specs.Effects.{next_message, sending}
 
--- alike but for sessions, standings, times, and what is kept, stable, owed and sent
+-- a group but for the requests of its processes
+abbrev pub but_requests : MemberSide → MemberSide
+but_requests group = record group { asked = 0; requests = [] }
+
+abbrev pub groups_of : State → GroupNo → MemberSide
+groups_of s g = but_requests (s.group g)
+
+-- alike but for sessions, quotas, standings, times, requests, and what is kept, stable, owed, counted and sent
 pub record Alike (s : State) (t : State) : Type 0 where
   pub here : t.here ≡ s.here
   pub config : t.config ≡ s.config
   pub used : t.used ≡ s.used
-  pub group : t.group ≡ s.group
+  pub group : groups_of t ≡ groups_of s
   pub home : t.home ≡ s.home
   pub got : t.got ≡ s.got
   pub abcasts : t.abcasts ≡ s.abcasts
@@ -69,14 +88,18 @@ pub alike_fold : {X : Type 0} (f : State → X → State) → ((s : State) (x : 
 alike_fold f h [] s = alike_self s
 alike_fold f h (x ∷ xs) s = alike_then s (f s x) (fold f (f s x) xs) (h s x) (alike_fold f h xs (f s x))
 
-pub alike_session : (s : State) (k : ℕ) (v : Session) → Alike s (set_session s k v)
-alike_session s k v = record { here = refl; config = refl; used = refl; group = refl; home = refl; got = refl; abcasts = refl; delivered = λ j. refl }
+alike_push : (s : State) (k : ℕ) (v : Session) (p : Push) → Alike s (with_push s k v p)
+alike_push s k v p = record { here = refl; config = refl; used = refl; group = refl; home = refl; got = refl; abcasts = refl; delivered = λ j. refl }
 
 pub alike_emitted : (s : State) (to : SiteNo) (f : SiteFrame) → Alike s (emitted s to f)
 alike_emitted s to f = record { here = refl; config = refl; used = refl; group = refl; home = refl; got = refl; abcasts = refl; delivered = λ j. refl }
 
-pub alike_pushing : (s : State) (k : ℕ) (p : Push) → Alike s (pushing s k p)
-alike_pushing s k p = alike_if s (set_session s k (pushed_to (s.session k) p)) s (is_open (s.session k)) (alike_session s k (pushed_to (s.session k) p)) (alike_self s)
+alike_pushing : (s : State) (k : ℕ) (p : Push) → Alike s (pushing s k p)
+alike_pushing s k p = alike_if s (with_push s k (pushed_to (s.session k) p) p) s (is_open (s.session k)) (alike_push s k (pushed_to (s.session k) p) p) (alike_self s)
+
+alike_closing : (s : State) (k : ℕ) (refusal : Refusal) → Alike s (closing s k refusal)
+alike_closing s k refusal =
+    alike_if s (with_push s k (closed refusal (s.session k)) (push.Closed refusal)) s (is_open (s.session k)) (alike_push s k (closed refusal (s.session k)) (push.Closed refusal)) (alike_self s)
 
 pub alike_let_go : (s : State) → Alike s (let_go s)
 alike_let_go s = record { here = refl; config = refl; used = refl; group = refl; home = refl; got = refl; abcasts = refl; delivered = λ j. refl }
@@ -125,6 +148,65 @@ alike_owe s key = owe_keeps history (Alike s) (moves_alike s) s (alike_self s) k
 alike_send_data : (u : Uid) (s : State) (to : SiteNo) → Alike s (send_data history u s to)
 alike_send_data u s to = send_data_keeps history (Alike s) (moves_alike s) u s (alike_self s) to
 
+-- What programs are told
+
+-- a group whose requests alone change
+alike_group : (s : State) (g : GroupNo) (v : MemberSide) → but_requests v ≡ but_requests (s.group g) → Alike s (set_group s g v)
+alike_group s g v same = record { here = refl; config = refl; used = refl; group = λ i h. at h i; home = refl; got = refl; abcasts = refl; delivered = λ j. refl }
+  where
+    at : (h : GroupNo) → but_requests (set_at group_eq s.group g v h) ≡ but_requests (s.group h)
+    at h = elim (group_eq g h) as (λ b. group_eq g h ≡ b → but_requests (if b then v else s.group h) ≡ but_requests (s.group h)) [
+      | true ↦ λ is. same ∙ ap (λ x. but_requests (s.group x)) (same_group g h is)
+      | false ↦ λ _. refl
+    ] refl
+
+alike_ask_home : (s : State) (g : GroupNo) → Alike s (ask_home history s g)
+alike_ask_home s g = alike_if s s (owe history s (ask_key g s.config.home)) (is_empty (s.group g).requests) (alike_self s) (alike_owe s (ask_key g s.config.home))
+
+alike_request : (s : State) (g : GroupNo) (what : Change) (p : Proc) → Alike s (request history s g what p)
+alike_request s g what p =
+    let next : State = set_group s g (with_request (s.group g) what p) in
+    let a : Alike s next = alike_group s g (with_request (s.group g) what p) refl in
+    alike_if s (ask_home history next g) next (is_empty (s.group g).requests) (alike_then s next (ask_home history next g) a (alike_ask_home next g)) a
+
+alike_outside : (s : State) (k : ℕ) (g : GroupNo) → Alike s (outside s k g)
+alike_outside s k g =
+    let a = alike_process s k (record (s.process k) { standing = set_at group_eq (s.process k).standing g Outside }) refl in
+    record { here = a.here; config = a.config; used = a.used; group = a.group; home = a.home; got = a.got; abcasts = a.abcasts; delivered = a.delivered }
+
+alike_leave_group : (s : State) (k : ℕ) (g : GroupNo) → Alike s (leave_group history s k g g)
+alike_leave_group s k g =
+    let next : State = outside s k g in
+    let a : Alike s next = alike_outside s k g in
+    alike_if s next (request history next g change.Leave (local s k)) ((s.group g).asked == MAX_NUMBER) a
+    (alike_then s next (request history next g change.Leave (local s k)) a (alike_request next g change.Leave (local s k)))
+
+alike_leave_each : (k : ℕ) (s : State) (g : GroupNo) → Alike s (leave_each history k s g)
+alike_leave_each k s g =
+    by_standing (is_outside ((s.process k).standing g))
+  where
+    attempt : Bool → Attempt State
+    attempt b = if b then (s, Some NotMember) else (leave_group history s k g g, None)
+
+    by_standing : (b : Bool) → Alike s (attempt b).0
+    by_standing true = alike_self s
+    by_standing false = alike_leave_group s k g
+
+pub alike_leave_all : (s : State) (k : ℕ) → Alike s (leave_all history s k)
+alike_leave_all s k = alike_fold (leave_each history k) (alike_leave_each k) s.config.groups s
+
+alike_close_session : (s : State) (k : ℕ) (refusal : Refusal) → Alike s (close_session history s k refusal)
+alike_close_session s k refusal =
+    let why : Refusal = if is_filled s k then Slow else refusal in
+    alike_then s (closing s k why) (close_session history s k refusal) (alike_closing s k why) (alike_leave_all (closing s k why) k)
+
+-- a program is told something, or its session is closed
+pub alike_tell : (s : State) (k : ℕ) (p : Push) → Alike s (tell history s k p)
+alike_tell s k p =
+    alike_if s (tell_open history s k p) s (is_open (s.session k))
+    (alike_if s (close_session history s k Slow) (pushing s k p) (is_filled s k) (alike_close_session s k Slow) (alike_pushing s k p))
+    (alike_self s)
+
 -- what is received alike leaves alike
 alike_receiving : (s t : State) (m : Message) → Alike s t → Alike (receiving s m) (receiving t m)
 alike_receiving s t m a = record { here = a.here; config = a.config; used = a.used; group = a.group; home = a.home; got = ap (λ got. got ++ m ∷ []) a.got; abcasts = a.abcasts; delivered = a.delivered }
@@ -157,11 +239,8 @@ alike_parted s g goes = record { here = refl; config = refl; used = refl; group 
     same j true = refl
     same j false = refl
 
-pub alike_putting_out : (s : State) (g : GroupNo) (skips : Bool) (n : ℕ) (members : Membership) → Alike s (putting_out s g skips n members)
-alike_putting_out s g skips n members =
-    let t : State = all_parted s g (is_put_out s g skips members) in
-    alike_then s t (putting_out s g skips n members) (alike_parted s g (is_put_out s g skips members))
-    (alike_fold (push_out g n) (λ x k. alike_pushing x k (push.Ejected g n)) (filter (is_put_out s g skips members) (serials s)) t)
+pub alike_putting_out : (s : State) (g : GroupNo) (skips : Bool) (members : Membership) → Alike s (putting_out s g skips members)
+alike_putting_out s g skips members = alike_parted s g (is_put_out s g skips members)
 
 -- and taken in
 alike_entered : (s : State) (g : GroupNo) (n : ℕ) (members : Membership) (request : ℕ) (cut : CountList) → Alike s (all_in_view s g n members request cut)
@@ -174,21 +253,23 @@ alike_entered s g n members request cut = record { here = refl; config = refl; u
 -- a group with its next view, once members that it lacks are put out
 abbrev pub with_next_view : State → GroupNo → Bool → ℕ → Membership → State
 with_next_view s g skips n members =
-    let t : State = putting_out s g skips n members in set_group t g (with_view t.here n members (t.group g))
+    let t : State = putting_out s g skips members in set_group t g (with_view t.here n members (t.group g))
 
 -- all else that a site does where it passes to a view leaves that alike
 pub alike_installing : (s : State) (g : GroupNo) (skips : Bool) (from : SiteNo) (n : ℕ) (members : Membership) (request : ℕ) (cut : CountList) → Alike (with_next_view s g skips n members) (install history skips s g from n members request cut)
 alike_installing s g skips from n members request cut =
-    let t : State = putting_out s g skips n members in
     let now : State = with_next_view s g skips n members in
-    let entered : State = all_in_view now g n members request cut in
-    let told : State = passing s g skips n members request cut in
+    let entered : State = passing s g skips n members request cut in
+    let out : State = fold (tell_out history g n) entered (filter (is_put_out s g skips members) (serials s)) in
+    let told : State = enter_and_tell history skips s g n members request cut in
     let released : State = releasing_ended told g in
     let paid : State = paying_view released g in
     let end : State = install history skips s g from n members request cut in
     alike_then now entered end (alike_entered now g n members request cut)
-    (alike_then entered told end
-    (alike_fold (push_view g n members) (λ x k. alike_pushing x k (push.View g n members)) (filter (enters t g members request) (serials t)) entered)
+    (alike_then entered out end
+    (alike_fold (tell_out history g n) (λ x k. alike_tell x k (push.Ejected g n)) (filter (is_put_out s g skips members) (serials s)) entered)
+    (alike_then out told end
+    (alike_fold (tell_view history g n members) (λ x k. alike_tell x k (push.View g n members)) (local_members entered g) out)
     (alike_then told released end (alike_kept told (is_ended told g))
     (alike_then released paid end (alike_owed released paid.owed)
-    (alike_emitted paid from (frame.Installed g n)))))
+    (alike_emitted paid from (frame.Installed g n))))))

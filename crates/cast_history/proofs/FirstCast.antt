@@ -10,7 +10,7 @@ use Rattle.cast_message.specs.declared.client.Push.TheVariants as push
 use Rattle.cast_model.specs.declared.event.Event.{Event}
 use Rattle.cast_model.specs.declared.event.Taken.TheVariants as taken
 use Rattle.cast_history.specs.Acts.Act.{Sent, Delivered, Entered}
-use Rattle.cast_history.specs.Run.{Ran, run_of}
+use Rattle.cast_history.specs.Run.{entries_for, Ran, run_of}
 use Rattle.cast_history.proofs.Words.{site, group, uid, at, members, config, opens, asks_join, casts, comes, install, then_run, pushed_after, p11}
 
 events : List Event
@@ -30,7 +30,7 @@ answers : ran.answers ≡
 unfolding ran events
 answers = refl
 
-pushes : (ran.state.session 1).pushed ≡
+pushes : entries_for ran.pushed 1 ≡
     push.Opened p11 ∷ push.Reply 7 None ∷ push.View (group 1) 1 (members (p11 ∷ []) p11)
     ∷ push.Reply 8 None ∷ push.Deliver (uid 1 1 p11 1) kind.Causal (104 ∷ 105 ∷ []) ∷ []
 unfolding ran events

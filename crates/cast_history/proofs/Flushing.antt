@@ -109,6 +109,7 @@ at_third =
     record {
       answers = [];
       sent = [];
+      pushed = (1, push.Opened p11) ∷ [];
       state = record (opening (site 1) (config 1 (site 1 ∷ site 2 ∷ site 3 ∷ []) (group 1 ∷ []))) {
         used = 1;
         session = λ k. first_session p11;

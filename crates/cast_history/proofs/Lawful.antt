@@ -39,15 +39,16 @@ use Rattle.cast_delay.specs.declared.gate.Gate.{Gate}
 use Rattle.cast_delay.specs.Ready.{Process, is_open_to, is_member, is_outside, has_delivered, past_in, group_allows, is_causally_ready}
 use Rattle.cast_delay.proofs.Delivers.{only_member}
 use Rattle.cast_delay.proofs.Means.{among_holds}
-use Rattle.cast_model.specs.declared.session.Session.{Session}
-use Rattle.cast_model.specs.Session.{is_open, pushed_to, closed, gone}
+use Rattle.cast_model.specs.Session.{Session, no_session, is_open, pushed_to, closed, taken_from}
+use Rattle.cast_quota.specs.declared.quotas.Quotas.{Quotas}
+use Rattle.cast_quota.specs.declared.quotas.QuotaName.{QuotaName}
+use Rattle.cast_quota.specs.Quotas.{with_quota}
 use Rattle.cast_view.specs.declared.member.Pending.{Pending}
 use Rattle.cast_view.specs.MemberSide.{MemberSide, no_group, has_view, members_of, is_current, with_request, frozen_side, with_pending, with_view, is_taken_in}
 use Rattle.cast_view.specs.Sites.{is_at}
 use Rattle.cast_view.specs.Home.{Home, is_empty}
 use Rattle.cast_model.specs.declared.config.DomainConfig.{DomainConfig}
-use Rattle.cast_history.specs.State.{State, opening, local, serials, is_group, may_speak, set_session, set_process, set_group, set_home, set_standing, emitted, others_of, noting_ack, noting_stable, gate_of, local_members, is_stable, was_given, pushing, receiving, releasing, is_ended, releasing_ended, with_delivery, noting_act, noting_sent, outside, acts_outside, closing, going}
-use Rattle.cast_model.specs.declared.session.Status.TheVariants.{Closed}
+use Rattle.cast_history.specs.State.{State, opening, local, is_group, may_speak, set_session, with_push, set_process, set_group, set_home, set_standing, emitted, others_of, noting_ack, noting_stable, gate_of, local_members, is_stable, was_given, pushing, receiving, releasing, is_ended, releasing_ended, with_delivery, noting_act, noting_sent, outside, acts_outside, closing, going, taking, setting_quota, counting_cast}
 use Rattle.cast_types.specs.declared.refusal.Refusal.{Refusal}
 use Rattle.cast_history.specs.Acts.{Act}
 use Rattle.cast_history.specs.Acts.Act.{Sent}
@@ -58,14 +59,13 @@ use Rattle.cast_history.specs.Owing.{noting_owed, noting_resent, paying, paying_
 use Rattle.cast_history.specs.Rules.Keys.{ask_key}
 use Rattle.cast_history.specs.Rules.Owing.{owe}
 use Rattle.cast_history.specs.Rules.Sending.{send_data}
-use Rattle.cast_history.specs.Rules.Requests.{ask_home, request}
+use Rattle.cast_history.specs.Rules.Asking.{ask_home, request}
 use Rattle.cast_history.specs.History.{history}
 use Rattle.cast_history.proofs.Rules.Follows.{IsInvariant}
 use Rattle.cast_history.proofs.Rules.Owing.{owe_keeps}
 use Rattle.cast_history.proofs.Rules.Sending.{send_data_keeps}
-use Rattle.cast_history.specs.Effects.{next_message, sending_message, sending, delivering}
-use Rattle.cast_history.specs.Rules.Rest.{told_of}
-use Rattle.cast_history.specs.Entering.{freezing, pending_install, parted, is_put_out, all_parted, push_out, putting_out, enters, in_view, all_in_view, push_view, completing, passing}
+use Rattle.cast_history.specs.Effects.{next_message, sending_message, sending}
+use Rattle.cast_history.specs.Entering.{freezing, pending_install, parted, is_put_out, all_parted, putting_out, enters, in_view, all_in_view, passing}
 use Rattle.cast_history.specs.Run.{before_event}
 use Rattle.cast_history.specs.Lawful.{IsSpent, AreKept, IsTraced, Waits, IsLawful}
 
@@ -280,20 +280,37 @@ same_home s g v = record { here = refl; config = refl; used = refl; process = λ
 pub same_emitted : (s : State) (to : SiteNo) (f : SiteFrame) → SameLaw s (emitted s to f)
 same_emitted s to f = record { here = refl; config = refl; used = refl; process = λ k. refl; got = refl; kept = refl; abcasts = λ k. refl; number = λ g. refl; view = λ g. refl; waiting = λ g w. w; opens = λ k is. is }
 
+-- a session is pushed an entry, and is no more open than it was
+pub same_push : (s : State) (k : ℕ) (v : Session) (p : Push) → (is_open v ≡ true → is_open (s.session k) ≡ true) → SameLaw s (with_push s k v p)
+same_push s k v p opens =
+    let a = same_session s k v opens in
+    record { here = a.here; config = a.config; used = a.used; process = a.process; got = a.got; kept = a.kept; abcasts = a.abcasts; number = a.number; view = a.view; waiting = a.waiting; opens = a.opens }
+
 pub same_pushing : (s : State) (k : ℕ) (p : Push) → SameLaw s (pushing s k p)
-same_pushing s k p = same_if s (set_session s k (pushed_to (s.session k) p)) s (is_open (s.session k)) (same_session s k (pushed_to (s.session k) p) (λ is. is)) (same_self s)
+same_pushing s k p = same_if s (with_push s k (pushed_to (s.session k) p) p) s (is_open (s.session k)) (same_push s k (pushed_to (s.session k) p) p (λ is. is)) (same_self s)
 
 -- a session that ends opens none
 pub same_closing : (s : State) (k : ℕ) (refusal : Refusal) → SameLaw s (closing s k refusal)
 same_closing s k refusal =
-    let x : Session = s.session k in
-    same_session s k (closed refusal x) (elim (is_open x) as (λ b. is_open x ≡ b → is_open (if b then record (pushed_to x (push.Closed refusal)) { status = Closed } else x) ≡ true → is_open x ≡ true) [
-      | true ↦ λ is _. is
-      | false ↦ λ _ is. is
-    ] refl)
+    same_if s (with_push s k (closed refusal (s.session k)) (push.Closed refusal)) s (is_open (s.session k))
+    (same_push s k (closed refusal (s.session k)) (push.Closed refusal) (λ is. absurd (false≢true is))) (same_self s)
 
 pub same_going : (s : State) (k : ℕ) → SameLaw s (going s k)
-same_going s k = same_session s k (gone (s.session k)) (λ is. absurd (false≢true is))
+same_going s k = same_session s k no_session (λ is. absurd (false≢true is))
+
+-- what is taken opens none
+pub same_taking : (s : State) (k most : ℕ) → SameLaw s (taking s k most)
+same_taking s k most = same_session s k (taken_from most (s.session k)) (λ is. is)
+
+-- what the domain may use, and how many casts were accepted, is no matter
+same_counted : (s : State) (quotas : Quotas) (casts : ℕ) → SameLaw s (record s { quotas = quotas; casts = casts })
+same_counted s quotas casts = record { here = refl; config = refl; used = refl; process = λ k. refl; got = refl; kept = refl; abcasts = λ k. refl; number = λ g. refl; view = λ g. refl; waiting = λ g w. w; opens = λ k is. is }
+
+pub same_setting : (s : State) (name : QuotaName) (value : ℕ) → SameLaw s (setting_quota s name value)
+same_setting s name value = same_counted s (with_quota name value s.quotas) s.casts
+
+pub same_counting : (s : State) → SameLaw s (counting_cast s)
+same_counting s = same_counted s s.quotas (counting_cast s).casts
 
 -- what processes did is no matter
 pub same_acts : (s : State) (acts : ℕ → List Act) → SameLaw s (record s { acts = acts })
@@ -395,9 +412,6 @@ same_request s g what p =
     let next : State = set_group s g (with_request (s.group g) what p) in
     let a : SameLaw s next = same_group_set s g (with_request (s.group g) what p) refl refl refl refl in
     same_if s (ask_home history next g) next (is_empty (s.group g).requests) (same_then s next (ask_home history next g) a (same_ask_home next g)) a
-
-pub lawful_pushing : (s : State) (k : ℕ) (p : Push) → IsLawful s → IsLawful (pushing s k p)
-lawful_pushing s k p l = lawful_same s (pushing s k p) (same_pushing s k p) l
 
 pub lawful_emitted : (s : State) (to : SiteNo) (f : SiteFrame) → IsLawful s → IsLawful (emitted s to f)
 lawful_emitted s to f l = lawful_same s (emitted s to f) (same_emitted s to f) l
@@ -613,11 +627,6 @@ delivered_view s k m l at ready g member =
     let own : view_of p.time g ≡ (s.group g).number = l.current k g member in
     join_view p.time m.times g (l.stamped m at) (subst (λ n. view_of m.times g ≤ n) (sym own) most) ∙ own
 
--- what a program is told changes nothing of this
-lawful_told : (s : State) (k : ℕ) (m : Message) (o : Option Push) → IsLawful (with_delivery s k m) → IsLawful (elim o [ Some p ↦ pushing (with_delivery s k m) k p | None ↦ with_delivery s k m ])
-lawful_told s k m (Some p) l = lawful_pushing (with_delivery s k m) k p l
-lawful_told s k m None l = l
-
 -- an ABCAST that is delivered is noted
 traced_delivery : (s : State) (k : ℕ) (m : Message) → IsLawful s → IsLawful (set_process s k (record (s.process k) { time = join (s.process k).time m.times; delivered = (s.process k).delivered ++ m.id ∷ [] })) → Contains s.got m → IsTraced (with_delivery s k m)
 traced_delivery s k m l taken at = record {
@@ -650,19 +659,18 @@ traced_delivery s k m l taken at = record {
         ∙ list_any-append (uid_eq u) (s.process k).delivered (m.id ∷ [])
         ∙ or_right (is_among uid_eq u (s.process k).delivered) (is_among uid_eq u (m.id ∷ [])) (or_left (uid_eq u m.id) false (ap (uid_eq u) (sym is) ∙ uid_itself u))
 
-pub lawful_delivering : (s : State) (k : ℕ) (m : Message) → IsLawful s → Contains s.got m → is_ready_for s k m ≡ true → IsLawful (delivering s k m)
-lawful_delivering s k m l at ready =
+pub lawful_delivery : (s : State) (k : ℕ) (m : Message) → IsLawful s → Contains s.got m → is_ready_for s k m ≡ true → IsLawful (with_delivery s k m)
+lawful_delivery s k m l at ready =
     let p : Process = s.process k in
     let v : Process = record p { time = join p.time m.times; delivered = p.delivered ++ m.id ∷ [] } in
     let set : State = set_process s k v in
     let now : State = with_delivery s k m in
     let taken : IsLawful set = lawful_process s k v l (λ g. record { known = l.known k g; current = delivered_view s k m l at ready g; viewed = l.viewed k g }) (λ g is. is) (λ u is. list_any-append (uid_eq u) p.delivered (m.id ∷ []) ∙ or_left _ _ is) in
-    lawful_told s k m (told_of m.id m.body)
-    (lawful_from set now taken refl (placed_of set taken) taken.stamped
+    lawful_from set now taken refl (placed_of set taken) taken.stamped
     (kept_map (IsSpent set) (IsSpent now) (λ x h. record { reached = h.reached; delivered = h.delivered }) s.got s.kept taken.spent)
     taken.listed
     (traced_delivery s k m l taken at)
-    taken.waiting)
+    taken.waiting
 
 -- Views
 
@@ -784,15 +792,9 @@ lawful_all_in_view s g n members request cut l listed stays later =
               | false ↦ λ is here. spent.delivered k given is here
             ]
 
-lawful_completing : (s : State) (g : GroupNo) (n : ℕ) (members : Membership) (request : ℕ) (cut : CountList) → IsLawful s → is_group s g ≡ true → Stays s g members → (s.group g).number < n → IsLawful (completing s g n members request cut)
-lawful_completing s g n members request cut l listed stays later =
-    let now : State = set_group s g (with_view s.here n members (s.group g)) in
-    lawful_fold (push_view g n members) (λ t k. lawful_pushing t k (push.View g n members)) (filter (enters s g members request) (serials s)) (all_in_view now g n members request cut)
-    (lawful_all_in_view s g n members request cut l listed stays later)
-
 -- Members that are put out
 
-lawful_all_parted : (s : State) (g : GroupNo) (goes : ℕ → Bool) → IsLawful s → IsLawful (all_parted s g goes)
+pub lawful_all_parted : (s : State) (g : GroupNo) (goes : ℕ → Bool) → IsLawful s → IsLawful (all_parted s g goes)
 lawful_all_parted s g goes l =
     lawful_from s (all_parted s g goes) l refl placed l.stamped
     (kept_map (IsSpent s) (IsSpent (all_parted s g goes)) (spent_on s (all_parted s g goes) refl (λ h. refl) members same) s.got s.kept l.spent)
@@ -818,21 +820,9 @@ lawful_all_parted s g goes l =
       | false ↦ placed_of s l k h
     ]
 
--- the programs are told, which changes nothing of this
-pub put_out_same : (s : State) (g : GroupNo) (skips : Bool) (n : ℕ) (members : Membership) → SameLaw (all_parted s g (is_put_out s g skips members)) (putting_out s g skips n members)
-put_out_same s g skips n members =
-    same_fold (push_out g n) (λ t k. same_pushing t k (push.Ejected g n)) (filter (is_put_out s g skips members) (serials s)) (all_parted s g (is_put_out s g skips members))
-
-pub lawful_putting_out : (s : State) (g : GroupNo) (skips : Bool) (n : ℕ) (members : Membership) → IsLawful s → IsLawful (putting_out s g skips n members)
-lawful_putting_out s g skips n members l =
-    lawful_same (all_parted s g (is_put_out s g skips members)) (putting_out s g skips n members) (put_out_same s g skips n members) (lawful_all_parted s g (is_put_out s g skips members) l)
-
 -- members that are left are those that the view names
-pub stays_then : (s : State) (g : GroupNo) (skips : Bool) (n : ℕ) (members : Membership) → Stays (putting_out s g skips n members) g members
-stays_then s g skips n members k member =
-    let same = put_out_same s g skips n members in
-    subst (λ t. is_among proc_eq (record { site = t; serial = k }) members.list ≡ true) (sym same.here)
-    (left (is_put_out s g skips members k) refl (ap (λ (p : Process). is_member (p.standing g)) (sym (same.process k)) ∙ member))
+pub stays_then : (s : State) (g : GroupNo) (skips : Bool) (members : Membership) → Stays (putting_out s g skips members) g members
+stays_then s g skips members k = left (is_put_out s g skips members k) refl
   where
     named : (c d : Bool) → (c || not d) ≡ false → d ≡ true
     named true d is = absurd (false≢true (sym is))
@@ -846,16 +836,4 @@ stays_then s g skips n members k member =
 
 pub lawful_passing : (s : State) (g : GroupNo) (skips : Bool) (n : ℕ) (members : Membership) (request : ℕ) (cut : CountList) → IsLawful s → is_group s g ≡ true → (s.group g).number < n → IsLawful (passing s g skips n members request cut)
 lawful_passing s g skips n members request cut l listed later =
-    let same = put_out_same s g skips n members in
-    let number = same.number g in
-    lawful_completing (putting_out s g skips n members) g n members request cut (lawful_putting_out s g skips n members l)
-    (ap (λ c. is_among group_eq g c.groups) same.config ∙ listed) (stays_then s g skips n members) (omega (arith, number, later))
-
--- and its configuration stays
-pub passing_config : (s : State) (g : GroupNo) (skips : Bool) (n : ℕ) (members : Membership) (request : ℕ) (cut : CountList) → (passing s g skips n members request cut).config ≡ s.config
-passing_config s g skips n members request cut =
-    let left : State = putting_out s g skips n members in
-    let now : State = set_group left g (with_view left.here n members (left.group g)) in
-    let told : SameLaw (all_in_view now g n members request cut) (passing s g skips n members request cut) =
-    same_fold (push_view g n members) (λ t k. same_pushing t k (push.View g n members)) (filter (enters left g members request) (serials left)) (all_in_view now g n members request cut) in
-    told.config ∙ (put_out_same s g skips n members).config
+    lawful_all_in_view (putting_out s g skips members) g n members request cut (lawful_all_parted s g (is_put_out s g skips members) l) listed (stays_then s g skips members) later

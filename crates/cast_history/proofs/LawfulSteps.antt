@@ -1,6 +1,6 @@
 -- What holds of each history that events lead to is kept by each event, and until the state rests.
 use Rattle.std.proofs.Common.{◌≡◌, ℕ, ◌+◌, ◌<◌, zero, suc, Bool, true, false, not, List, [], ◌∷◌, length, Option, Some, None, refl, sym, ap, subst, ◌∙◌, inl, inr, arith}
-use Rattle.std.specs.Prelude.{◌&&◌, ◌==◌, nat_lt, nat_le, if◌then◌else◌}
+use Rattle.std.specs.Prelude.{◌&&◌, nat_lt, nat_le, if◌then◌else◌}
 use Rattle.std.specs.List.{fold, find}
 use Rattle.std.specs.FinMap.Entries.{is_sorted}
 use Rattle.std.proofs.lemmas.Bool.{cases_eq, eqb-true, false≢true, and_parts, and_from, or_left, or_right, leb-true, le-leb, not-true}
@@ -26,11 +26,12 @@ use Rattle.cast_model.specs.declared.config.DomainConfig.{DomainConfig}
 use Rattle.cast_view.specs.declared.member.Pending.{Pending}
 use Rattle.cast_view.specs.MemberSide.{members_of, with_request, holder_at, with_answer}
 use Rattle.cast_view.specs.Home.{HomeMove, is_empty, moved}
+use Rattle.cast_model.specs.Session.{is_gone}
 use Rattle.cast_model.specs.declared.event.Event.{Event}
 use Rattle.cast_model.specs.declared.event.Event.TheVariants as event
 use Rattle.cast_clock.proofs.Raised.{bump_leaves_views}
 use Rattle.cast_history.specs.Rules.Commands.{message_sent}
-use Rattle.cast_history.specs.State.{State, receiving, noting_sent, local, serials, is_group, may_speak, set_home, was_given, going}
+use Rattle.cast_history.specs.State.{State, receiving, noting_sent, local, serials, is_group, may_speak, set_home, was_given, going, taking, setting_quota, with_delivery}
 use Rattle.cast_history.specs.Rules.Room.{may_order}
 use Rattle.cast_history.specs.Order.{order_of, unlisted, has_place}
 use Rattle.cast_history.specs.Turns.{is_ready_for}
@@ -38,7 +39,10 @@ use Rattle.cast_history.specs.Rules.Owing.{tick}
 use Rattle.cast_history.proofs.Rules.Owing.{tick_keeps}
 use Rattle.cast_history.specs.Effects.{next_message, sending, delivering}
 use Rattle.cast_history.specs.Rules.Sending.{may_raise}
-use Rattle.cast_history.specs.Step.{opening_next, acted}
+use Rattle.cast_quota.specs.Quotas.{is_in_range}
+use Rattle.cast_history.specs.Rules.Events.{is_taken, may_open}
+use Rattle.cast_history.specs.Rules.Rest.{told_of}
+use Rattle.cast_history.specs.Step.{opening_next, sessions_given, acted}
 use Rattle.cast_history.specs.Rules.Home.{start, want_bodies, decide, lead}
 use Rattle.cast_history.specs.Rules.Flushes.{own_want_key, complete, want_own, complete_or_want, go_on, go_on_all}
 use Rattle.cast_history.specs.Rest.{deliver_first, deliver_all, settle, set_order_by, set_order, set_orders, pass, RestsAt, let_go}
@@ -51,11 +55,14 @@ use Rattle.cast_history.proofs.Spots.{found_passes}
 use Rattle.cast_history.specs.History.{history}
 use Rattle.cast_history.proofs.Rules.Follows.{IsTaken, IsBrought, IsEntered, IsInvariantOfAll}
 use Rattle.cast_history.proofs.Rules.Data.{used_current, used_from_its_site, used_of_another, used_of_member}
-use Rattle.cast_history.proofs.Rules.Commands.{commanded_keeps, ended_keeps}
+use Rattle.cast_history.proofs.Rules.Commands.{commanded_keeps}
+use Rattle.cast_history.proofs.Rules.Leaving.{ended_keeps}
+use Rattle.cast_history.proofs.Rules.Rest.{told_if_keeps}
 use Rattle.cast_history.proofs.Rules.Home.{start_keeps, want_bodies_keeps, decide_keeps, lead_keeps, suspect_keeps}
 use Rattle.cast_history.proofs.Rules.Frames.{framed_keeps}
 use Rattle.cast_history.proofs.Rules.Flushes.{wanted_current, wanted_of_member, go_on_keeps}
-use Rattle.cast_history.proofs.Lawful.{SameLaw, same_self, same_then, same_fold, same_owe, passing_config, same_home, same_group_set, same_freezing, same_pending, moves_same, invariant_by_same, kept_map, lawful_same, lawful_pushing, lawful_sent_here, local_speaks, lawful_if, lawful_fold, lawful_standing, lawful_receiving, lawful_let_go, lawful_sending, lawful_delivering, lawful_passing, lawful_releasing_ended, lawful_outside, same_closing, same_going}
+use Rattle.cast_history.proofs.Alikes.{alike_installing}
+use Rattle.cast_history.proofs.Lawful.{SameLaw, same_self, same_then, same_fold, same_owe, same_home, same_group_set, same_freezing, same_pending, moves_same, invariant_by_same, kept_map, lawful_same, lawful_sent_here, local_speaks, lawful_if, lawful_fold, lawful_standing, lawful_receiving, lawful_let_go, lawful_sending, lawful_delivery, lawful_passing, lawful_releasing_ended, lawful_outside, same_pushing, same_closing, same_going, same_taking, same_setting, same_counting}
 
 -- a stamp is in order
 stamp_sorted : (t : ClockList) → is_stamp t ≡ true → is_sorted group_cmp t ≡ true
@@ -122,7 +129,8 @@ entered s h g n members is =
 pub all_lawful : IsInvariantOfAll history IsLawful
 all_lawful = record {
   keeps = invariant_by_same IsLawful lawful_same;
-  push = λ s l k p. lawful_pushing s k p l;
+  push = λ s l k given room p. lawful_same s _ (same_pushing s k p) l;
+  note_cast = λ s l. lawful_same s _ (same_counting s) l;
   note_joining = λ s l k given g h at number heard. lawful_standing s k g (Joining number heard) refl l (λ _. (placed_at s g h at).0);
   note_outside = λ s l k g is. lawful_outside s k g l;
   sends = λ s l h k g content sent. let there = placed_at s g h sent.at in
@@ -140,7 +148,7 @@ all_lawful = record {
   move_home = λ s l g move. lawful_same s _ (same_home s g (moved move (s.home g))) l;
   enter_view = λ s l h g skips n members request cut is. let e = entered s h g n members is in lawful_passing s h skips n members request cut l e.listed e.later;
   release_ended = λ s l g. lawful_releasing_ended s g l;
-  close = λ s l k refusal. lawful_same s _ (same_closing s k refusal) l;
+  close = λ s l k given refusal. lawful_same s _ (same_closing s k refusal) l;
 }
 
 pub lawful_going : (s : State) (k : ℕ) → IsLawful s → IsLawful (going s k)
@@ -183,14 +191,18 @@ same_tick s t = tick_keeps history (SameLaw s) (moves_same s) s (same_self s) t
 
 pub lawful_acted : (s : State) (e : Event) → IsLawful s → IsUnborn s → IsTyped e → IsLawful (acted s e)
 lawful_acted s (event.Open d) l unborn typed =
-    elim (s.used == MAX_NUMBER) as (λ b. IsLawful (if b then s else opening_next s)) [
-      | true ↦ l
-      | false ↦ lawful_opened s l unborn
+    elim (may_open history sessions_given s) as (λ b. IsLawful (if b then opening_next s else s)) [
+      | true ↦ lawful_opened s l unborn
+      | false ↦ l
     ]
 lawful_acted s (event.Command d k c) l unborn typed = commanded_keeps history IsLawful all_lawful s l k c
 lawful_acted s (event.Gone d k) l unborn typed = ended_keeps history IsLawful all_lawful s l k (lawful_going s k l)
 lawful_acted s (event.Suspect d site) l unborn typed = suspect_keeps history IsLawful all_lawful s l site
 lawful_acted s (event.Frame d from f) l unborn typed = framed_keeps history IsLawful all_lawful s l from f typed
+lawful_acted s (event.Quota d name value) l unborn typed =
+    lawful_if (setting_quota s name value) s (is_in_range name value) (λ _. lawful_same s _ (same_setting s name value) l) (λ _. l)
+lawful_acted s (event.Take d k most) l unborn typed =
+    lawful_if (taking s k most) s (not (is_gone (s.session k)) && is_taken most) (λ _. lawful_same s _ (same_taking s k most) l) (λ _. l)
 lawful_acted s (event.Tick t) l unborn typed = lawful_same s (tick history s t) (same_tick s t) l
 
 -- Deliveries
@@ -198,7 +210,8 @@ lawful_acted s (event.Tick t) l unborn typed = lawful_same s (tick history s t) 
 pub lawful_first : (s : State) (k : ℕ) → IsLawful s → IsLawful (deliver_first k s)
 lawful_first s k l =
     elim (find (is_ready_for s k) s.got) as (λ o. find (is_ready_for s k) s.got ≡ o → IsLawful (elim o [ Some m ↦ let_go (delivering s k m) | None ↦ s ])) [
-      | Some m ↦ λ is. lawful_let_go (delivering s k m) (lawful_delivering s k m l (found_in (is_ready_for s k) s.got m is) (found_passes (is_ready_for s k) s.got m is))
+      | Some m ↦ λ is. lawful_let_go (delivering s k m)
+          (told_if_keeps history IsLawful all_lawful (with_delivery s k m) (lawful_delivery s k m l (found_in (is_ready_for s k) s.got m is) (found_passes (is_ready_for s k) s.got m is)) k (told_of m.id m.body))
       | None ↦ λ _. l
     ] refl
 
@@ -264,7 +277,7 @@ pub go_on_config : (s : State) (g : GroupNo) → (go_on history resting s g).con
 go_on_config s g = waits (s.group g).pending
   where
     of_cut : (b : Bool) (p : Pending) → (if b then complete history s g p else fold (want_own history g) s (missing_in s g p.cut)).config ≡ s.config
-    of_cut true p = passing_config s g false ((s.group g).number + 1) p.members p.request p.cut
+    of_cut true p = (alike_installing s g false s.config.home ((s.group g).number + 1) p.members p.request p.cut).config
     of_cut false p = (same_want_own g (missing_in s g p.cut) s).config
 
     waits : (o : Option Pending) → (elim o as (λ _. State) [ Some p ↦ complete_or_want history resting s g p | None ↦ s ]).config ≡ s.config

@@ -12,7 +12,7 @@ use Rattle.cast_view.specs.declared.phase.Phase.TheVariants.{Idle, Gathering}
 use Rattle.cast_view.specs.Home.{Home}
 use Rattle.cast_timer.specs.declared.key.OwedKind.TheVariants as kinds
 use Rattle.cast_history.specs.Rules.Keys.{home_key}
-use Rattle.cast_history.specs.Rules.Requests.{is_home}
+use Rattle.cast_history.specs.Rules.Asking.{is_home}
 use Rattle.cast_history.specs.Rules.Home.{suspect_in, suspect}
 use Rattle.cast_history.specs.History.{history}
 use Rattle.cast_history.specs.State.{State, opening}
@@ -25,7 +25,7 @@ flushed view counts kept = frame.Flushed (group 1) view counts (record { start =
 
 -- what events add to a run; a home's passes are done in one
 abbrev then_led : Ran → List Event → Ran
-then_led start events = run_in 1 (record { answers = []; sent = []; state = start.state }) events
+then_led start events = run_in 1 (record { answers = []; sent = []; pushed = start.pushed; state = start.state }) events
 
 -- at the home, which is site 9: a process joins, leaves, and joins anew before its site reports
 begun : Ran
@@ -85,6 +85,7 @@ at_second =
     record {
       answers = [];
       sent = [];
+      pushed = [];
       state = record (opening (site 9) (config 9 (site 1 ∷ site 2 ∷ site 9 ∷ []) (group 1 ∷ []))) { home = λ g. second };
     }
 

@@ -11,8 +11,8 @@ use Rattle.cast_message.specs.declared.client.Push.TheVariants as push
 use Rattle.cast_model.specs.declared.event.Taken.TheVariants as taken
 use Rattle.cast_history.specs.Acts.Act.{Entered, Left}
 use Rattle.cast_history.specs.History.{history}
-use Rattle.cast_history.specs.Rules.Requests.{request}
-use Rattle.cast_history.specs.Rules.Commands.{leave_group}
+use Rattle.cast_history.specs.Rules.Asking.{request}
+use Rattle.cast_history.specs.Rules.Leaving.{leave_group}
 use Rattle.cast_history.specs.State.{State, local, outside}
 use Rattle.cast_history.specs.Run.{Ran, run_of}
 use Rattle.cast_history.proofs.Words.{site, group, uid, alone, config, opens, asks_join, asks_leave, casts, sends_bad, is_gone, comes, data_from, p11, p21, in_second_view, then_run, pushed_after}

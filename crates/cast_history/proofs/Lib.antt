@@ -4,6 +4,7 @@ pub mod Leading
 pub mod Parting
 pub mod Flushing
 pub mod Leaving
+pub mod Taking
 pub mod Waiting
 pub mod Overlapping
 pub mod Ignored
@@ -20,8 +21,11 @@ pub mod Rests
 pub mod Going
 pub mod Spots
 pub mod Lawful
+pub mod Telling
 pub mod LawfulSteps
 pub mod Counting
 pub mod Raising
 pub mod RaisingSteps
 pub mod Noting
+pub mod Refusing
+pub mod Agreeing

@@ -1,13 +1,12 @@
 -- In each state that a history passes its acts say what each process did.
-use Rattle.std.proofs.Common.{◌≡◌, ℕ, Bool, true, false, List, [], ◌∷◌, ◌++◌, cond, filter, Option, Some, None, refl, sym, ap, subst, ◌∙◌, inl, inr}
-use Rattle.std.specs.Prelude.{◌==◌, ◌+◌, ◌&&◌, if◌then◌else◌}
+use Rattle.std.proofs.Common.{◌≡◌, ℕ, Bool, true, false, List, [], ◌∷◌, ◌++◌, cond, filter, Some, None, refl, sym, ap, subst, ◌∙◌, inl, inr}
+use Rattle.std.specs.Prelude.{◌==◌, ◌+◌, not, ◌&&◌, if◌then◌else◌}
 use Rattle.std.specs.List.{fold, find}
 use Rattle.std.proofs.lemmas.Bool.{eqb-true}
 use Rattle.std.proofs.lemmas.List.{append-nil}
 use Rattle.std.proofs.lemmas.List.Elements.{filter-append}
 use Rattle.cast_types.specs.declared.names.GroupNo.{GroupNo}
 use Rattle.cast_types.specs.declared.names.Standing.TheVariants.{Outside}
-use Rattle.cast_types.specs.declared.limits.TheConstants.{MAX_NUMBER}
 use Rattle.cast_types.specs.Names.{group_eq, proc_eq, is_atomic}
 use Rattle.cast_types.specs.Sets.{set_at}
 use Rattle.cast_types.specs.Counts.{CountList}
@@ -21,34 +20,40 @@ use Rattle.cast_message.specs.declared.client.Push.TheVariants as push
 use Rattle.cast_message.specs.Bodies.{kind_of}
 use Rattle.cast_message.specs.Membership.{Membership}
 use Rattle.cast_delay.specs.Ready.{Process, is_member}
-use Rattle.cast_model.specs.Session.{is_open, pushed_to}
+use Rattle.cast_types.specs.declared.refusal.Refusal.{Refusal}
+use Rattle.cast_model.specs.Session.{is_open, is_gone, pushed_to, closed}
 use Rattle.cast_view.specs.declared.member.Pending.{Pending}
 use Rattle.cast_view.specs.MemberSide.{holder_at, with_view}
 use Rattle.cast_model.specs.declared.event.Event.{Event}
 use Rattle.cast_model.specs.declared.event.Event.TheVariants as event
 use Rattle.cast_history.specs.Acts.{Act}
 use Rattle.cast_history.specs.Acts.Act.{Sent, Delivered, Entered, Left}
-use Rattle.cast_history.specs.State.{State, local, serials, receiving, noting_sent, pushing, set_session, set_process, set_group, with_delivery, noting_act, outside, acts_outside, set_standing}
-use Rattle.cast_history.specs.Entering.{parted, is_put_out, all_parted, push_out, putting_out, enters, in_view, all_in_view, push_view, completing, passing}
+use Rattle.cast_history.specs.State.{State, local, serials, receiving, noting_sent, pushing, closing, taking, setting_quota, with_push, local_members, set_process, set_group, with_delivery, noting_act, outside, acts_outside, set_standing}
+use Rattle.cast_history.specs.Entering.{parted, is_put_out, all_parted, putting_out, enters, in_view, all_in_view, passing}
 use Rattle.cast_history.specs.Turns.{is_ready_for}
 use Rattle.cast_history.specs.Lawful.{IsTyped}
 use Rattle.cast_history.specs.History.{history}
-use Rattle.cast_history.specs.Step.{opening_next, acted}
+use Rattle.cast_history.specs.Step.{opening_next, sessions_given, acted}
 use Rattle.cast_history.specs.Effects.{next_message, sending, delivering}
 use Rattle.cast_history.specs.Resting.{places_of, resting}
 use Rattle.cast_history.specs.Reports.{has_delivered_cut, missing_in}
+use Rattle.cast_history.specs.Rules.Views.{tell_out, tell_view}
 use Rattle.cast_history.specs.Rules.Flushes.{own_want_key, complete, want_own, complete_or_want, go_on}
 use Rattle.cast_history.specs.Rest.{deliver_first, set_order_by, set_order, let_go}
 use Rattle.cast_history.specs.Rules.Commands.{message_sent}
 use Rattle.cast_history.specs.Rules.Sending.{send_data}
-use Rattle.cast_history.specs.Rules.Rest.{told_of, tell}
+use Rattle.cast_quota.specs.Quotas.{is_in_range}
+use Rattle.cast_history.specs.Rules.Events.{is_taken, may_open}
+use Rattle.cast_history.specs.Rules.Rest.{told_of}
 use Rattle.cast_history.specs.Raising.{opens, begins, acts, lets_go, delivers, orders, goes_on, starts, wants, decides}
 use Rattle.cast_history.specs.Noted.{sent_by, delivered_by, abcasts_by, AreWithin, IsNoted, ActsAreNoted}
 use Rattle.cast_history.proofs.Setting.{may_set_order, set_order_is}
 use Rattle.cast_history.proofs.Rules.Follows.{IsInvariant, IsInvariantOfAll}
 use Rattle.cast_history.proofs.Rules.Sending.{send_data_keeps}
 use Rattle.cast_history.proofs.Rules.Owing.{owe_keeps, tick_keeps}
-use Rattle.cast_history.proofs.Rules.Commands.{commanded_keeps, ended_keeps}
+use Rattle.cast_history.proofs.Rules.Commands.{commanded_keeps}
+use Rattle.cast_history.proofs.Rules.Leaving.{told_keeps, ended_keeps}
+use Rattle.cast_history.proofs.Rules.Rest.{told_if_keeps}
 use Rattle.cast_history.proofs.Rules.Frames.{framed_keeps}
 use Rattle.cast_history.proofs.Rules.Home.{start_keeps, want_bodies_keeps, decide_keeps, suspect_keeps}
 
@@ -117,7 +122,13 @@ abbrev own : State → ℕ → List Message
 own s k = filter (λ m. proc_eq m.id.proc (local s k)) s.got
 
 noted_pushing : (s : State) → IsNoted s → (k : ℕ) (p : Push) → IsNoted (pushing s k p)
-noted_pushing s n k p = elim (is_open (s.session k)) as (λ b. IsNoted (if b then set_session s k (pushed_to (s.session k) p) else s)) [
+noted_pushing s n k p = elim (is_open (s.session k)) as (λ b. IsNoted (if b then with_push s k (pushed_to (s.session k) p) p else s)) [
+  | true ↦ record { sent = n.sent; delivered = n.delivered; abcasts = n.abcasts }
+  | false ↦ n
+]
+
+noted_closing : (s : State) → IsNoted s → (k : ℕ) (refusal : Refusal) → IsNoted (closing s k refusal)
+noted_closing s n k refusal = elim (is_open (s.session k)) as (λ b. IsNoted (if b then with_push s k (closed refusal (s.session k)) (push.Closed refusal) else s)) [
   | true ↦ record { sent = n.sent; delivered = n.delivered; abcasts = n.abcasts }
   | false ↦ n
 ]
@@ -240,12 +251,6 @@ noted_fold : {X : Type 0} (f : State → X → State) → ((s : State) (x : X) �
 noted_fold f h [] s n = n
 noted_fold f h (x ∷ xs) s n = noted_fold f h xs (f s x) (h s x n)
 
-noted_completing : (s : State) → IsNoted s → (g : GroupNo) (v : ℕ) (members : Membership) (request : ℕ) (cut : CountList) → IsNoted (completing s g v members request cut)
-noted_completing s n g v members request cut =
-    let now : State = set_group s g (with_view s.here v members (s.group g)) in
-    noted_fold (push_view g v members) (λ t k m. noted_pushing t m k (push.View g v members)) (filter (enters s g members request) (serials s)) (all_in_view now g v members request cut)
-    (noted_in_view now (record { sent = n.sent; delivered = n.delivered; abcasts = n.abcasts }) g v members request cut)
-
 -- members are put out
 noted_all_parted : (s : State) → IsNoted s → (g : GroupNo) (goes : ℕ → Bool) → IsNoted (all_parted s g goes)
 noted_all_parted s n g goes = record {
@@ -262,10 +267,9 @@ noted_all_parted s n g goes = record {
 
 noted_passing : (s : State) → IsNoted s → (g : GroupNo) (skips : Bool) (v : ℕ) (members : Membership) (request : ℕ) (cut : CountList) → IsNoted (passing s g skips v members request cut)
 noted_passing s n g skips v members request cut =
-    let goes : ℕ → Bool = is_put_out s g skips members in
-    noted_completing (putting_out s g skips v members)
-    (noted_fold (push_out g v) (λ t k m. noted_pushing t m k (push.Ejected g v)) (filter goes (serials s)) (all_parted s g goes) (noted_all_parted s n g goes))
-    g v members request cut
+    let left : State = putting_out s g skips members in
+    let parted : IsNoted left = noted_all_parted s n g (is_put_out s g skips members) in
+    noted_in_view (set_group left g (with_view s.here v members (s.group g))) (record { sent = parted.sent; delivered = parted.delivered; abcasts = parted.abcasts }) g v members request cut
 
 noted_moves : IsInvariant history IsNoted
 noted_moves = record {
@@ -283,7 +287,8 @@ noted_moves = record {
 all_noted : IsInvariantOfAll history IsNoted
 all_noted = record {
   keeps = noted_moves;
-  push = noted_pushing;
+  push = λ s n k given room p. noted_pushing s n k p;
+  note_cast = λ s n. record { sent = n.sent; delivered = n.delivered; abcasts = n.abcasts };
   note_joining = λ s n k given g h at number heard. noted_process s n k _ refl;
   note_outside = λ s n k g is. noted_outside s n k g;
   sends = λ s n h k g content sent. noted_sent s n k (message_sent history s k g h content) refl;
@@ -296,32 +301,36 @@ all_noted = record {
   move_home = λ s n g move. record { sent = n.sent; delivered = n.delivered; abcasts = n.abcasts };
   enter_view = λ s n h g skips v members request cut is. noted_passing s n h skips v members request cut;
   release_ended = λ s n g. record { sent = n.sent; delivered = n.delivered; abcasts = n.abcasts };
-  close = λ s n k refusal. record { sent = n.sent; delivered = n.delivered; abcasts = n.abcasts };
+  close = λ s n k given refusal. noted_closing s n k refusal;
 }
 
 -- Events, and what follows until the state rests
 
 noted_acted : (s : State) (e : Event) → IsNoted s → IsTyped e → IsNoted (acted s e)
-noted_acted s (event.Open d) n typed = elim (s.used == MAX_NUMBER) as (λ b. IsNoted (if b then s else opening_next s)) [
-  | true ↦ n
-  | false ↦ record { sent = n.sent; delivered = n.delivered; abcasts = n.abcasts }
+noted_acted s (event.Open d) n typed = elim (may_open history sessions_given s) as (λ b. IsNoted (if b then opening_next s else s)) [
+  | true ↦ record { sent = n.sent; delivered = n.delivered; abcasts = n.abcasts }
+  | false ↦ n
 ]
 noted_acted s (event.Command d k c) n typed = commanded_keeps history IsNoted all_noted s n k c
 noted_acted s (event.Gone d k) n typed = ended_keeps history IsNoted all_noted s n k (record { sent = n.sent; delivered = n.delivered; abcasts = n.abcasts })
 noted_acted s (event.Suspect d site) n typed = suspect_keeps history IsNoted all_noted s n site
 noted_acted s (event.Frame d from f) n typed = framed_keeps history IsNoted all_noted s n from f typed
+noted_acted s (event.Quota d name value) n typed = elim (is_in_range name value) as (λ b. IsNoted (if b then setting_quota s name value else s)) [
+  | true ↦ record { sent = n.sent; delivered = n.delivered; abcasts = n.abcasts }
+  | false ↦ n
+]
+noted_acted s (event.Take d k most) n typed = elim (not (is_gone (s.session k)) && is_taken most) as (λ b. IsNoted (if b then taking s k most else s)) [
+  | true ↦ record { sent = n.sent; delivered = n.delivered; abcasts = n.abcasts }
+  | false ↦ n
+]
 noted_acted s (event.Tick t) n typed = tick_keeps history IsNoted noted_moves s n t
 
 noted_let_go : (s : State) → IsNoted s → IsNoted (let_go s)
 noted_let_go s n = record { sent = n.sent; delivered = n.delivered; abcasts = n.abcasts }
 
-noted_told : (s : State) (k : ℕ) (o : Option Push) → IsNoted s → IsNoted (tell history s k o)
-noted_told s k (Some p) n = noted_pushing s n k p
-noted_told s k None n = n
-
 noted_first : (s : State) (k : ℕ) → IsNoted s → IsNoted (deliver_first k s)
 noted_first s k n = elim (find (is_ready_for s k) s.got) as (λ o. IsNoted (elim o [ Some m ↦ let_go (delivering s k m) | None ↦ s ])) [
-  | Some m ↦ noted_let_go (delivering s k m) (noted_told (with_delivery s k m) k (told_of m.id m.body) (noted_delivery s n k m))
+  | Some m ↦ noted_let_go (delivering s k m) (told_if_keeps history IsNoted all_noted (with_delivery s k m) (noted_delivery s n k m) k (told_of m.id m.body))
   | None ↦ n
 ]
 
@@ -349,8 +358,14 @@ noted_set_order s g n = elim (holder_at s.here (s.group g)) as (λ o. IsNoted (e
 -- the Install that waits is completed
 noted_complete : (s : State) (g : GroupNo) (p : Pending) → IsNoted s → IsNoted (complete history s g p)
 noted_complete s g p n =
-    let entered : IsNoted (passing s g false ((s.group g).number + 1) p.members p.request p.cut) = noted_passing s n g false ((s.group g).number + 1) p.members p.request p.cut in
-    record { sent = entered.sent; delivered = entered.delivered; abcasts = entered.abcasts }
+    let v : ℕ = (s.group g).number + 1 in
+    let entered : State = passing s g false v p.members p.request p.cut in
+    let out : State = fold (tell_out history g v) entered (filter (is_put_out s g false p.members) (serials s)) in
+    let told : IsNoted (fold (tell_view history g v p.members) out (local_members entered g)) =
+    noted_fold (tell_view history g v p.members) (λ t k m. told_keeps history IsNoted all_noted t m k (push.View g v p.members)) (local_members entered g) out
+    (noted_fold (tell_out history g v) (λ t k m. told_keeps history IsNoted all_noted t m k (push.Ejected g v)) (filter (is_put_out s g false p.members) (serials s)) entered
+    (noted_passing s n g false v p.members p.request p.cut)) in
+    record { sent = told.sent; delivered = told.delivered; abcasts = told.abcasts }
 
 -- or what it lacks is wanted
 noted_go_on : (s : State) (g : GroupNo) → IsNoted s → IsNoted (go_on history resting s g)

@@ -9,7 +9,7 @@ use Rattle.cast_message.specs.declared.site.SiteFrame.TheVariants as frame
 use Rattle.cast_history.specs.State.{State}
 use Rattle.cast_history.specs.History.{history}
 use Rattle.cast_history.specs.Rules.Views.{no_members, change_view, on_out}
-use Rattle.cast_history.specs.Run.{Ran, run_in}
+use Rattle.cast_history.specs.Run.{entries_for, Ran, run_in}
 use Rattle.cast_history.proofs.Words.{site, group, proc, uid, members, alone, opens, asks_join, comes, data_from, install, p11, p21, in_second_view, then_run, pushed_after}
 
 -- The member has delivered a message of view 2. Told of view 4 it is put out; the message is kept no longer, and its Ack owed no more
@@ -34,7 +34,7 @@ out_owed = refl
 
 -- it joins again, and is in view 5
 back : Ran
-back = run_in 1 (record { answers = []; sent = []; state = out.state }) (asks_join 1 9 1 ∷ comes 9 (install 1 5 (p11 ∷ []) p11 2) ∷ [])
+back = run_in 1 (record { answers = []; sent = []; pushed = out.pushed; state = out.state }) (asks_join 1 9 1 ∷ comes 9 (install 1 5 (p11 ∷ []) p11 2) ∷ [])
 
 back_pushes : pushed_after 5 back ≡ push.Reply 9 None ∷ push.View (group 1) 5 (members (p11 ∷ []) p11) ∷ []
 unfolding back out
@@ -54,7 +54,7 @@ skipped_pushes : pushed_after 3 skipped ≡ push.Ejected (group 1) 4 ∷ []
 unfolding skipped
 skipped_pushes = refl
 
-skipped_others : (skipped.state.session 2).pushed ≡
+skipped_others : entries_for skipped.pushed 2 ≡
     push.Opened (proc 1 2) ∷ push.Reply 9 None ∷ push.View (group 1) 4 (members (p11 ∷ proc 1 2 ∷ []) (proc 1 2)) ∷ []
 unfolding skipped
 skipped_others = refl

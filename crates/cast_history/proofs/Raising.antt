@@ -1,6 +1,6 @@
 -- A history counts members alone, and each effect keeps it so: a member's count can always be raised.
 use Rattle.std.proofs.Common.{◌≡◌, ℕ, ◌+◌, ◌<◌, ◌≤◌, Bool, true, false, cond, not, [], ◌∷◌, ◌++◌, length, Contains, Option, Some, None, unwrap_or, refl, sym, ap, subst, ◌∙◌, ◌⊎◌, inl, inr, arith}
-use Rattle.std.specs.Prelude.{◌&&◌, ◌==◌, nat_lt, nat_le, if◌then◌else◌, filter}
+use Rattle.std.specs.Prelude.{◌&&◌, ◌==◌, nat_lt, nat_le, if◌then◌else◌}
 use Rattle.std.specs.List.{list_all, list_any}
 use Rattle.std.specs.Ordering.{eq_by_cmp}
 use Rattle.std.specs.FinMap.Entries.{find, put, find-put}
@@ -26,7 +26,6 @@ use Rattle.cast_clock.proofs.Raised.{enter_begins, enter_leaves}
 use Rattle.cast_clock.proofs.Valid.{sorted_time}
 use Rattle.cast_message.specs.declared.message.Body.{Body}
 use Rattle.cast_message.specs.declared.message.Message.{Message}
-use Rattle.cast_message.specs.declared.client.Push.TheVariants as push
 use Rattle.cast_message.specs.Membership.{Membership, is_members, is_held}
 use Rattle.cast_types.specs.Rising.{is_rising}
 use Rattle.cast_delay.specs.declared.gate.Gate.{Gate}
@@ -37,20 +36,19 @@ use Rattle.cast_model.specs.Session.{is_open, first_session}
 use Rattle.cast_view.specs.MemberSide.{MemberSide, no_group, members_of, with_view, is_taken_in}
 use Rattle.cast_model.specs.declared.config.DomainConfig.{DomainConfig}
 use Rattle.cast_view.specs.Sites.{is_at}
-use Rattle.cast_history.specs.State.{State, opening, local, serials, is_group, set_process, set_group, set_standing, others_of, gate_of, was_given, receiving, releasing, pushing, with_delivery, noting_sent}
+use Rattle.cast_history.specs.State.{State, opening, local, is_group, set_process, set_group, set_standing, others_of, gate_of, was_given, receiving, releasing, with_delivery, noting_sent}
 use Rattle.cast_history.specs.Acts.Act.{Sent}
 use Rattle.cast_history.specs.Rest.{is_free, let_go}
 use Rattle.cast_history.specs.Turns.{is_ready_for}
 use Rattle.cast_history.specs.History.{history}
 use Rattle.cast_history.specs.Rules.Sending.{send_data}
-use Rattle.cast_history.specs.Effects.{next_message, sending, delivering}
-use Rattle.cast_history.specs.Rules.Rest.{told_of}
-use Rattle.cast_history.specs.Entering.{parted, is_put_out, all_parted, putting_out, enters, in_view, all_in_view, push_view, completing, passing}
+use Rattle.cast_history.specs.Effects.{next_message, sending}
+use Rattle.cast_history.specs.Entering.{parted, is_put_out, all_parted, putting_out, enters, in_view, all_in_view, passing}
 use Rattle.cast_history.specs.Step.{opening_next}
 use Rattle.cast_history.specs.Run.{before_event}
 use Rattle.cast_history.specs.Lawful.{IsLawful}
 use Rattle.cast_history.specs.Raising.{IsTimeOf, IsFromMember, IsView, IsAmongMembers, CountsMembers, CanRaise}
-use Rattle.cast_history.proofs.Lawful.{SameLaw, same_pushing, same_send_data, same_fold, seen_view, allowed_view, ready_allows, named_here, same_noting, Stays, outside_still, put_out_same, lawful_putting_out, stays_then}
+use Rattle.cast_history.proofs.Lawful.{SameLaw, same_send_data, same_fold, seen_view, allowed_view, ready_allows, named_here, same_noting, Stays, outside_still, lawful_all_parted, stays_then}
 use Rattle.cast_history.proofs.Counting.{all_counted, time_joined, time_entered, time_raised, time_spelled, put_some, counted_put, counted_joined, raised_room, each_sender}
 use Rattle.cast_types.proofs.Bools.{and_end}
 
@@ -279,8 +277,8 @@ counted_after s k m l c at ready g member =
     subst (λ h. is_among proc_eq u.proc (members_of (s.group h)) ≡ true) group
     ((from u which).member (view ∙ same ∙ own ∙ ap (λ h. (s.group h).number) (sym group))))))
 
-pub counts_delivering : (s : State) (k : ℕ) (m : Message) → IsLawful s → CountsMembers s → Contains s.got m → is_ready_for s k m ≡ true → CountsMembers (delivering s k m)
-counts_delivering s k m l c at ready =
+pub counts_delivery : (s : State) (k : ℕ) (m : Message) → IsLawful s → CountsMembers s → Contains s.got m → is_ready_for s k m ≡ true → CountsMembers (with_delivery s k m)
+counts_delivery s k m l c at ready =
     let p : Process = s.process k in
     let v : Process = record p { time = join p.time m.times; delivered = p.delivered ++ m.id ∷ [] } in
     let set : CountsMembers (set_process s k v) = counts_process s k v c
@@ -291,12 +289,7 @@ counts_delivering s k m l c at ready =
     ])
     (λ g is. record { itself = (c.members k g is).itself; counted = counted_after s k m l c at ready g is })
     (c.placed k) in
-    let now : State = with_delivery s k m in
-    let done : CountsMembers now = record { few = set.few; times = set.times; stamps = set.stamps; received = set.received; delivered = set.delivered; views = set.views; members = set.members; placed = set.placed; opened = set.opened } in
-    elim (told_of m.id m.body) as (λ o. CountsMembers (elim o [ Some x ↦ pushing now k x | None ↦ now ])) [
-      | Some x ↦ counts_same now (pushing now k x) (same_pushing now k x) done
-      | None ↦ done
-    ]
+    record { few = set.few; times = set.times; stamps = set.stamps; received = set.received; delivered = set.delivered; views = set.views; members = set.members; placed = set.placed; opened = set.opened }
 
 -- Views
 
@@ -395,12 +388,6 @@ module _ (s : State) (g : GroupNo) (n : ℕ) (members : Membership) (request : �
       inside (Joining number heard) taken = refl
       inside Member taken = refl
 
-  counts_completing : CountsMembers (completing s g n members request cut)
-  counts_completing =
-      let all : State = all_in_view now g n members request cut in
-      counts_same all (completing s g n members request cut) (same_fold (push_view g n members) (λ t k. same_pushing t k (push.View g n members)) (filter (enters s g members request) (serials s)) all)
-      counts_all_in_view
-
 -- members that are put out are members no more
 counts_all_parted : (s : State) (g : GroupNo) (goes : ℕ → Bool) → CountsMembers s → CountsMembers (all_parted s g goes)
 counts_all_parted s g goes c = record {
@@ -430,13 +417,10 @@ counts_all_parted s g goes c = record {
 -- the site passes to the next view
 pub counts_passing : (s : State) (g : GroupNo) (skips : Bool) (n : ℕ) (members : Membership) (request : ℕ) (cut : CountList) → IsLawful s → CountsMembers s → is_group s g ≡ true → is_members members ≡ true → (s.group g).number < n → CountsMembers (passing s g skips n members request cut)
 counts_passing s g skips n members request cut l c listed typed later =
-    let gone : State = all_parted s g (is_put_out s g skips members) in
-    let left : State = putting_out s g skips n members in
-    let same = put_out_same s g skips n members in
-    let number = same.number g in
-    counts_completing left g n members request cut (lawful_putting_out s g skips n members l)
-    (counts_same gone left same (counts_all_parted s g (is_put_out s g skips members) c))
-    (ap (λ x. is_among group_eq g x.groups) same.config ∙ listed) typed (stays_then s g skips n members) (omega (arith, number, later))
+    let gone : State = putting_out s g skips members in
+    counts_all_in_view gone g n members request cut (lawful_all_parted s g (is_put_out s g skips members) l)
+    (counts_all_parted s g (is_put_out s g skips members) c)
+    listed typed (stays_then s g skips members) later
 
 -- Sessions
 

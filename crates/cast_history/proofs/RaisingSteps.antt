@@ -1,12 +1,12 @@
 -- A history counts members alone in each state that it passes.
 use Rattle.std.proofs.Common.{◌≡◌, ℕ, ◌≤◌, zero, suc, Bool, true, false, List, [], ◌∷◌, length, Some, None, refl, sym, ap, subst, arith}
-use Rattle.std.specs.Prelude.{◌==◌, nat_lt, nat_le, if◌then◌else◌}
+use Rattle.std.specs.Prelude.{not, ◌&&◌, nat_lt, nat_le, if◌then◌else◌}
 use Rattle.std.specs.List.{fold, find, list_all, AllByRecursion}
 use Rattle.std.specs.FinMap.Entries.{is_sorted}
 use Rattle.std.proofs.lemmas.Bool.{and_parts, and_from}
 use Rattle.cast_types.specs.declared.names.SiteNo.{SiteNo}
 use Rattle.cast_types.specs.declared.names.GroupNo.{GroupNo}
-use Rattle.cast_types.specs.declared.limits.TheConstants.{MAX_NUMBER, MAX_GROUPS}
+use Rattle.cast_types.specs.declared.limits.TheConstants.{MAX_GROUPS}
 use Rattle.cast_types.specs.Names.{group_cmp, proc_eq}
 use Rattle.cast_types.specs.Sets.{is_among}
 use Rattle.cast_types.specs.Repeat.{iterate}
@@ -16,6 +16,7 @@ use Rattle.cast_message.specs.declared.message.Body.{Body}
 use Rattle.cast_message.specs.declared.message.Body.TheVariants as body
 use Rattle.cast_message.specs.declared.message.Message.{Message}
 use Rattle.cast_message.specs.declared.site.SiteFrame.{SiteFrame}
+use Rattle.cast_message.specs.declared.client.Push.{Push}
 use Rattle.cast_types.specs.Rising.{is_rising}
 use Rattle.cast_delay.specs.Ready.{is_member}
 use Rattle.cast_delay.proofs.Finds.{found_in}
@@ -23,16 +24,20 @@ use Rattle.cast_model.specs.declared.config.DomainConfig.{DomainConfig}
 use Rattle.cast_view.specs.MemberSide.{holder_at, members_of, with_request, with_answer}
 use Rattle.cast_types.specs.declared.names.Standing.TheVariants.{Outside, Joining}
 use Rattle.cast_view.specs.Home.{moved}
+use Rattle.cast_model.specs.Session.{is_gone}
 use Rattle.cast_model.specs.declared.event.Event.{Event}
 use Rattle.cast_model.specs.declared.event.Event.TheVariants as event
 use Rattle.cast_model.specs.declared.event.Taken.{Taken}
 use Rattle.cast_history.specs.Rules.Commands.{message_sent}
-use Rattle.cast_history.specs.State.{State, receiving, noting_sent, opening, serials, is_group, is_ended, set_standing, outside, acts_outside}
-use Rattle.cast_history.specs.Rules.Requests.{is_home}
+use Rattle.cast_history.specs.State.{State, receiving, noting_sent, opening, serials, is_group, is_ended, set_standing, outside, acts_outside, taking, setting_quota, with_delivery}
+use Rattle.cast_history.specs.Rules.Asking.{is_home}
 use Rattle.cast_history.specs.Turns.{is_ready_for}
 use Rattle.cast_history.specs.Effects.{next_message, sending, delivering}
 use Rattle.cast_history.specs.Rules.Owing.{tick}
-use Rattle.cast_history.specs.Step.{opening_next, acted}
+use Rattle.cast_quota.specs.Quotas.{is_in_range}
+use Rattle.cast_history.specs.Rules.Events.{is_taken, may_open}
+use Rattle.cast_history.specs.Rules.Rest.{told_of}
+use Rattle.cast_history.specs.Step.{opening_next, sessions_given, acted}
 use Rattle.cast_history.specs.Rest.{deliver_first, deliver_all, settle, set_order_by, set_order, set_orders, pass, let_go}
 use Rattle.cast_history.specs.Resting.{places_of, resting}
 use Rattle.cast_history.specs.Rules.Flushes.{go_on, go_on_all}
@@ -46,13 +51,15 @@ use Rattle.cast_history.proofs.Spots.{found_passes}
 use Rattle.cast_history.proofs.Rules.Follows.{IsTaken, IsBrought, IsInvariantOfAll}
 use Rattle.cast_history.proofs.Rules.Data.{used_known, used_of_member}
 use Rattle.cast_history.proofs.Rules.Flushes.{wanted_known, go_on_keeps}
-use Rattle.cast_history.proofs.Rules.Commands.{commanded_keeps, ended_keeps}
+use Rattle.cast_history.proofs.Rules.Commands.{commanded_keeps}
+use Rattle.cast_history.proofs.Rules.Leaving.{ended_keeps}
+use Rattle.cast_history.proofs.Rules.Rest.{told_if_keeps}
 use Rattle.cast_history.proofs.Rules.Home.{suspect_keeps}
 use Rattle.cast_history.proofs.Rules.Frames.{framed_keeps}
-use Rattle.cast_history.proofs.Lawful.{same_home, same_group_set, same_freezing, same_pending, same_acts, same_closing, same_going, invariant_by_same, lawful_same, same_pushing, lawful_opening, lawful_before, lawful_let_go}
+use Rattle.cast_history.proofs.Lawful.{same_home, same_group_set, same_freezing, same_pending, same_acts, same_closing, same_going, same_taking, same_setting, same_counting, invariant_by_same, lawful_same, same_pushing, lawful_opening, lawful_before, lawful_let_go, lawful_delivery}
 use Rattle.cast_history.proofs.LawfulSteps.{same_tick, same_start, same_want_bodies, same_decide, placed_at, taken_current, brought_current, brought_of_member, entered, all_lawful, lawful_going, lawful_acted, lawful_first, lawful_set_order, waits_typed, lawful_go_on, go_on_each}
 use Rattle.cast_history.proofs.Counting.{is_clock_of, all_both}
-use Rattle.cast_history.proofs.Raising.{counts_same, counts_let_go, counts_before, counts_opening, counts_standing, counts_receiving, counts_sent_here, counts_sending, counts_delivering, counts_passing, counts_releasing, counts_opened, next_unborn, can_raise}
+use Rattle.cast_history.proofs.Raising.{counts_same, counts_let_go, counts_before, counts_opening, counts_standing, counts_receiving, counts_sent_here, counts_sending, counts_delivery, counts_passing, counts_releasing, counts_opened, next_unborn, can_raise}
 
 counts_if : (x y : State) (b : Bool) → (b ≡ true → CountsMembers x) → (b ≡ false → CountsMembers y) → CountsMembers (if b then x else y)
 counts_if x y true p q = p refl
@@ -101,7 +108,8 @@ IsCounted s = IsLawful s × CountsMembers s
 all_counted : IsInvariantOfAll history IsCounted
 all_counted = record {
   keeps = invariant_by_same IsCounted (λ s t a c. (lawful_same s t a c.0, counts_same s t a c.1));
-  push = λ s c k p. (all_lawful.push s c.0 k p, counts_same s _ (same_pushing s k p) c.1);
+  push = λ s c k given room p. (all_lawful.push s c.0 k given room p, counts_same s _ (same_pushing s k p) c.1);
+  note_cast = λ s c. (all_lawful.note_cast s c.0, counts_same s _ (same_counting s) c.1);
   note_joining = λ s c k given g h at number heard. (all_lawful.note_joining s c.0 k given g h at number heard, counts_standing s k g (Joining number heard) refl c.1 (c.1.opened k given));
   note_outside = λ s c k g is. (all_lawful.note_outside s c.0 k g is, counts_same (set_standing s k g Outside) (outside s k g) (same_acts (set_standing s k g Outside) (acts_outside s k g)) (counts_standing s k g Outside refl c.1 (c.1.placed k g is)));
   sends = λ s c h k g content sent. let there = placed_at s g h sent.at in
@@ -119,21 +127,25 @@ all_counted = record {
   enter_view = λ s c h g skips n members request cut is. let e = entered s h g n members is in
       (all_lawful.enter_view s c.0 h g skips n members request cut is, counts_passing s h skips n members request cut c.0 c.1 e.listed is.typed e.later);
   release_ended = λ s c g. (all_lawful.release_ended s c.0 g, counts_releasing s (is_ended s g) c.1);
-  close = λ s c k refusal. (all_lawful.close s c.0 k refusal, counts_same s _ (same_closing s k refusal) c.1);
+  close = λ s c k given refusal. (all_lawful.close s c.0 k given refusal, counts_same s _ (same_closing s k refusal) c.1);
 }
 
 -- Events
 
 pub counts_acted : (s : State) (e : Event) → IsLawful s → CountsMembers s → IsTyped e → CountsMembers (acted s e)
 counts_acted s (event.Open d) l c typed =
-    elim (s.used == MAX_NUMBER) as (λ b. CountsMembers (if b then s else opening_next s)) [
-      | true ↦ c
-      | false ↦ counts_opened s c
+    elim (may_open history sessions_given s) as (λ b. CountsMembers (if b then opening_next s else s)) [
+      | true ↦ counts_opened s c
+      | false ↦ c
     ]
 counts_acted s (event.Command d k x) l c typed = (commanded_keeps history IsCounted all_counted s (l, c) k x).1
 counts_acted s (event.Gone d k) l c typed = (ended_keeps history IsCounted all_counted s (l, c) k (lawful_going s k l, counts_same s _ (same_going s k) c)).1
 counts_acted s (event.Suspect d site) l c typed = (suspect_keeps history IsCounted all_counted s (l, c) site).1
 counts_acted s (event.Frame d from f) l c typed = (framed_keeps history IsCounted all_counted s (l, c) from f typed).1
+counts_acted s (event.Quota d name value) l c typed =
+    counts_if (setting_quota s name value) s (is_in_range name value) (λ _. counts_same s _ (same_setting s name value) c) (λ _. c)
+counts_acted s (event.Take d k most) l c typed =
+    counts_if (taking s k most) s (not (is_gone (s.session k)) && is_taken most) (λ _. counts_same s _ (same_taking s k most) c) (λ _. c)
 counts_acted s (event.Tick t) l c typed = counts_same s (tick history s t) (same_tick s t) c
 
 -- Until the state rests
@@ -141,7 +153,11 @@ counts_acted s (event.Tick t) l c typed = counts_same s (tick history s t) (same
 pub counts_first : (s : State) (k : ℕ) → IsLawful s → CountsMembers s → CountsMembers (deliver_first k s)
 counts_first s k l c =
     elim (find (is_ready_for s k) s.got) as (λ o. find (is_ready_for s k) s.got ≡ o → CountsMembers (elim o [ Some m ↦ let_go (delivering s k m) | None ↦ s ])) [
-      | Some m ↦ λ is. counts_let_go (delivering s k m) (counts_delivering s k m l c (found_in (is_ready_for s k) s.got m is) (found_passes (is_ready_for s k) s.got m is))
+      | Some m ↦ λ is.
+          let at = found_in (is_ready_for s k) s.got m is in
+          let ready = found_passes (is_ready_for s k) s.got m is in
+          counts_let_go (delivering s k m)
+          (told_if_keeps history IsCounted all_counted (with_delivery s k m) (lawful_delivery s k m l at ready, counts_delivery s k m l c at ready) k (told_of m.id m.body)).1
       | None ↦ λ _. c
     ] refl
 
@@ -232,14 +248,14 @@ module _ (here : SiteNo) (config : DomainConfig) where
       passed_lead (go_on_all history resting ordered)
       (go_on_each Passed (λ t g listed q. goes_on t g listed q) ordered (passed_fold set_order (λ t g q. orders t g q) settled.config.groups settled (passed_settle s p)))
 
-  pub passed_run : (events : List Event) (answers : List Taken) (sent : List (SiteNo × SiteFrame)) (s t : State) → AllByRecursion IsTyped events → Passed s → IsRun s events answers sent t → Passed t
-  passed_run [] [] sent s t typed p run = subst Passed (sym run.1) p
-  passed_run [] (a ∷ answers) sent s t typed p run = absurd run
-  passed_run (e ∷ events) [] sent s t typed p run = absurd run
-  passed_run (e ∷ events) (a ∷ answers) sent s t typed p (u, later, step, made, run) =
+  pub passed_run : (events : List Event) (answers : List Taken) (sent : List (SiteNo × SiteFrame)) (pushed : List (ℕ × Push)) (s t : State) → AllByRecursion IsTyped events → Passed s → IsRun s events answers sent pushed t → Passed t
+  passed_run [] [] sent pushed s t typed p run = subst Passed (sym run.2) p
+  passed_run [] (a ∷ answers) sent pushed s t typed p run = absurd run
+  passed_run (e ∷ events) [] sent pushed s t typed p run = absurd run
+  passed_run (e ∷ events) (a ∷ answers) sent pushed s t typed p (u, later, more, step, made, told, run) =
       let acted_on : State = before_event s in
       let after : Passed (after_event s e) = lets_go (acted acted_on e) (acts acted_on e typed.0 (begins s p)) in
-      passed_run events answers later u t typed.1 (subst Passed step.rests.1 (passed_iterate step.rests.0 pass passed_pass (after_event s e) after)) run
+      passed_run events answers later more u t typed.1 (subst Passed step.rests.1 (passed_iterate step.rests.0 pass passed_pass (after_event s e) after)) run
 
 pub members_counted : MembersAreCounted
 members_counted here config s rising few p = passed_counts here config rising few s p
@@ -248,7 +264,7 @@ pub raised_within : CountsCanBeRaisedWithin
 raised_within here config s rising few p = let h = passed_counts here config rising few s p in can_raise s h.0 h.1
 
 pub runs_passed : RunsArePassed
-runs_passed here config events answers sent s typed run = passed_run here config events answers sent (opening here config) s typed opens run
+runs_passed here config events answers sent pushed s typed run = passed_run here config events answers sent pushed (opening here config) s typed opens run
 
 pub raised_after : CountsCanBeRaised
-raised_after here config events answers sent s rising few typed run = raised_within here config s rising few (runs_passed here config events answers sent s typed run)
+raised_after here config events answers sent pushed s rising few typed run = raised_within here config s rising few (runs_passed here config events answers sent pushed s typed run)

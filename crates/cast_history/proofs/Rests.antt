@@ -45,7 +45,7 @@ use Rattle.cast_history.specs.State.{State, serials, emitted, set_group, set_hom
 use Rattle.cast_history.specs.Entering.{putting_out}
 use Rattle.cast_history.specs.Reports.{has_delivered_cut, is_missing, missing_in}
 use Rattle.cast_history.specs.Resting.{resting}
-use Rattle.cast_history.specs.Rules.Requests.{is_home}
+use Rattle.cast_history.specs.Rules.Asking.{is_home}
 use Rattle.cast_history.specs.History.{history}
 use Rattle.cast_history.specs.Rules.Room.{may_order}
 use Rattle.cast_history.specs.Order.{unlisted}
@@ -473,9 +473,9 @@ ended_less s g v at was now =
 pub completed_less : (s : State) (g : GroupNo) (p : Pending) → In g s.config.groups → is_pending (s.group g) ≡ true → pendings (complete history s g p) < pendings s
 completed_less s g p at waits =
     let n : ℕ = (s.group g).number + 1 in
-    let t : State = putting_out s g false n p.members in
+    let t : State = putting_out s g false p.members in
     let now : State = with_next_view s g false n p.members in
-    let a : Alike s t = alike_putting_out s g false n p.members in
+    let a : Alike s t = alike_putting_out s g false p.members in
     let b : Alike now (complete history s g p) = alike_installing s g false s.config.home n p.members p.request p.cut in
     let less : pendings now < pendings t =
     ended_less t g (with_view t.here n p.members (t.group g)) (subst (λ c. In g c.groups) (sym a.config) at) (subst (λ x. is_pending (x g) ≡ true) (sym a.group) waits) refl in
@@ -484,7 +484,7 @@ completed_less s g p at waits =
 pub moves_complete : (s : State) (g : GroupNo) (p : Pending) → In g s.config.groups → is_pending (s.group g) ≡ true → Moves s (complete history s g p)
 moves_complete s g p at waits =
     let n : ℕ = (s.group g).number + 1 in
-    let a : Alike s (putting_out s g false n p.members) = alike_putting_out s g false n p.members in
+    let a : Alike s (putting_out s g false p.members) = alike_putting_out s g false p.members in
     let b : Alike (with_next_view s g false n p.members) (complete history s g p) = alike_installing s g false s.config.home n p.members p.request p.cut in
     record { config = b.config ∙ a.config; used = b.used ∙ a.used; way = inr (inl (completed_less s g p at waits)) }
 

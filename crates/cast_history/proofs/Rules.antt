@@ -4,6 +4,8 @@ pub mod Owing
 pub mod Sending
 pub mod Data
 pub mod Stability
+pub mod Asking
+pub mod Leaving
 pub mod Requests
 pub mod Commands
 pub mod Home

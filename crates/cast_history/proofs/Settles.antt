@@ -10,13 +10,14 @@ use Rattle.cast_clock.specs.Times.{join}
 use Rattle.cast_message.specs.declared.client.Push.{Push}
 use Rattle.cast_message.specs.declared.message.Message.{Message}
 use Rattle.cast_delay.specs.Ready.{Process, is_open_to, has_delivered, is_member, is_causally_ready}
-use Rattle.cast_history.specs.State.{State, gate_of, pushing, abcasts_with, with_delivery}
+use Rattle.cast_history.specs.State.{State, gate_of, abcasts_with, with_delivery}
 use Rattle.cast_history.specs.Turns.{is_ready_for}
 use Rattle.cast_history.specs.Effects.{delivering}
-use Rattle.cast_history.specs.Rules.Rest.{told_of}
+use Rattle.cast_history.specs.History.{history}
+use Rattle.cast_history.specs.Rules.Rest.{told_of, tell_if}
 use Rattle.cast_history.specs.Rest.{deliver_first, deliver_all, let_go}
 use Rattle.cast_history.specs.Endings.{left, SettlesOne, TurnsAreEnough}
-use Rattle.cast_history.proofs.Alikes.{Alike, alike_self, alike_then, alike_pushing, alike_let_go}
+use Rattle.cast_history.proofs.Alikes.{Alike, groups_of, alike_self, alike_then, alike_tell, alike_let_go}
 use Rattle.cast_history.proofs.Totals.{left_found, left_le}
 
 -- a process delivered a message
@@ -24,7 +25,7 @@ pub record Delivers (k : ℕ) (m : Message) (s : State) (t : State) : Type 0 whe
   pub here : t.here ≡ s.here
   pub config : t.config ≡ s.config
   pub used : t.used ≡ s.used
-  pub group : t.group ≡ s.group
+  pub group : groups_of t ≡ groups_of s
   pub home : t.home ≡ s.home
   pub got : t.got ≡ s.got
   pub abcasts : t.abcasts ≡ abcasts_with s k m
@@ -37,8 +38,8 @@ delivered_at s k m j =
     elim (k == j) as (λ b. (if b then p else s.process j).delivered ≡ (if b then p.delivered else (s.process j).delivered)) [ true ↦ refl | false ↦ refl ]
 
 -- the program is told, or nothing is told
-alike_told : (s : State) (k : ℕ) (o : Option Push) → Alike s (elim o [ Some p ↦ pushing s k p | None ↦ s ])
-alike_told s k (Some p) = alike_pushing s k p
+alike_told : (s : State) (k : ℕ) (o : Option Push) → Alike s (tell_if history s k o)
+alike_told s k (Some p) = alike_tell s k p
 alike_told s k None = alike_self s
 
 -- a process delivers a message, and what is free then is let go

@@ -20,7 +20,9 @@ use Rattle.cast_model.specs.declared.config.DomainConfig.{DomainConfig}
 use Rattle.cast_message.specs.declared.client.Command.TheVariants as command
 use Rattle.cast_model.specs.declared.event.Event.{Event}
 use Rattle.cast_model.specs.declared.event.Event.TheVariants as event
-use Rattle.cast_history.specs.Run.{Ran, run_of, run_in}
+use Rattle.cast_quota.specs.Quotas.{usual}
+use Rattle.cast_quota.specs.declared.quotas.QuotaName.{QuotaName}
+use Rattle.cast_history.specs.Run.{Ran, run_of, run_in, entries_for}
 
 abbrev pub domain : DomainNo
 domain = record { 0 = 1 }
@@ -44,14 +46,7 @@ abbrev pub members : List Proc → Proc → Membership
 members ps holder = record { list = ps; holder = Some holder }
 
 abbrev pub config : ℕ → List SiteNo → List GroupNo → DomainConfig
-config home sites groups =
-    record {
-      domain = domain;
-      home = site home;
-      sites = sites;
-      groups = groups;
-      quotas = record { sessions = 16; held = 256; outbox = 256; resend = 200 };
-    }
+config home sites groups = record { domain = domain; home = site home; sites = sites; groups = groups; quotas = usual }
 
 -- a causal message without payload whose time names its own id alone
 abbrev pub alone : ℕ → ℕ → Proc → ℕ → Message
@@ -78,6 +73,12 @@ sends_bad k = event.Command domain k command.Bad
 abbrev pub is_gone : ℕ → Event
 is_gone k = event.Gone domain k
 
+abbrev pub takes : ℕ → ℕ → Event
+takes k most = event.Take domain k most
+
+abbrev pub sets : QuotaName → ℕ → Event
+sets name value = event.Quota domain name value
+
 abbrev pub suspects : ℕ → Event
 suspects s = event.Suspect domain (site s)
 
@@ -103,8 +104,8 @@ in_second_view = run_of 2 (site 1) (config 9 (site 1 ∷ site 2 ∷ site 9 ∷ [
 
 -- what events add to a run
 abbrev pub then_run : Ran → List Event → Ran
-then_run start events = run_in 2 (record { answers = []; sent = []; state = start.state }) events
+then_run start events = run_in 2 (record { answers = []; sent = []; pushed = start.pushed; state = start.state }) events
 
 -- the pushes of serial 1 past so many
 abbrev pub pushed_after : ℕ → Ran → List Push
-pushed_after n r = drop n (r.state.session 1).pushed
+pushed_after n r = drop n (entries_for r.pushed 1)

@@ -1,14 +1,12 @@
 -- How a site passes to the next view of a group: a flush freezes it, the Install of the next one waits, members that the next one lacks are put
 -- out, and those that it takes in enter it.
-use Rattle.std.specs.Prelude.{ℕ, Bool, not, ◌&&◌, ◌||◌, if◌then◌else◌, [], ◌∷◌, ◌++◌, filter}
-use Rattle.std.specs.List.{fold}
+use Rattle.std.specs.Prelude.{ℕ, Bool, not, ◌&&◌, ◌||◌, if◌then◌else◌, [], ◌∷◌, ◌++◌}
 use Rattle.cast_types.specs.declared.names.GroupNo.{GroupNo}
 use Rattle.cast_types.specs.declared.names.Standing.TheVariants.{Outside, Member}
 use Rattle.cast_types.specs.Names.{group_eq, proc_eq}
 use Rattle.cast_types.specs.Sets.{is_among, set_at}
 use Rattle.cast_types.specs.Counts.{CountList, is_within}
 use Rattle.cast_clock.specs.Times.{entering}
-use Rattle.cast_message.specs.declared.client.Push.TheVariants as push
 use Rattle.cast_message.specs.Membership.{Membership}
 use Rattle.cast_message.specs.Stretch.{Stretch}
 use Rattle.cast_order.specs.Order.{closed_order}
@@ -16,7 +14,7 @@ use Rattle.cast_view.specs.declared.member.Pending.{Pending}
 use Rattle.cast_delay.specs.Ready.{Process, is_member}
 use Rattle.cast_view.specs.MemberSide.{frozen_side, with_pending, with_view, is_taken_in}
 use Rattle.cast_history.specs.Acts.Act.{Entered, Left}
-use Rattle.cast_history.specs.State.{State, local, serials, set_group, pushing}
+use Rattle.cast_history.specs.State.{State, local, set_group}
 use Rattle.cast_history.specs.Order.{order_told}
 
 -- a flush has frozen a group
@@ -46,13 +44,9 @@ all_parted s g goes =
       acts = λ k. if goes k then s.acts k ++ Left g ∷ [] else s.acts k;
     }
 
-abbrev pub push_out : GroupNo → ℕ → State → ℕ → State
-push_out g n s k = pushing s k (push.Ejected g n)
-
--- members are put out, all at once, and are told
-abbrev pub putting_out : State → GroupNo → Bool → ℕ → Membership → State
-putting_out s g skips n members =
-    fold (push_out g n) (all_parted s g (is_put_out s g skips members)) (filter (is_put_out s g skips members) (serials s))
+-- members are put out, all at once
+abbrev pub putting_out : State → GroupNo → Bool → Membership → State
+putting_out s g skips members = all_parted s g (is_put_out s g skips members)
 
 -- a view takes a process in: it names it, and the process is a member or its join was applied
 abbrev pub enters : State → GroupNo → Membership → ℕ → ℕ → Bool
@@ -70,15 +64,11 @@ all_in_view s g n members request cut =
       acts = λ k. if enters s g members request k then s.acts k ++ Entered g n cut ∷ [] else s.acts k;
     }
 
-abbrev pub push_view : GroupNo → ℕ → Membership → State → ℕ → State
-push_view g n members s k = pushing s k (push.View g n members)
-
--- a view is complete: members and joining processes in it enter it, all at once, and are told
+-- a view is complete: members and joining processes in it enter it, all at once
 abbrev pub completing : State → GroupNo → ℕ → Membership → ℕ → CountList → State
 completing s g n members request cut =
-    let now : State = set_group s g (with_view s.here n members (s.group g)) in
-    fold (push_view g n members) (all_in_view now g n members request cut) (filter (enters s g members request) (serials s))
+    all_in_view (set_group s g (with_view s.here n members (s.group g))) g n members request cut
 
 -- the site passes to the next view of a group
 abbrev pub passing : State → GroupNo → Bool → ℕ → Membership → ℕ → CountList → State
-passing s g skips n members request cut = completing (putting_out s g skips n members) g n members request cut
+passing s g skips n members request cut = completing (putting_out s g skips members) g n members request cut

@@ -1,5 +1,5 @@
 -- The history of a domain as the rules see it.
-use Rattle.std.specs.Prelude.{if◌then◌else◌, Some, None}
+use Rattle.std.specs.Prelude.{if◌then◌else◌, filter, Some, None}
 use Rattle.cast_types.specs.declared.names.GroupNo.{GroupNo}
 use Rattle.cast_stable.specs.Stable.{has_acked}
 use Rattle.cast_types.specs.declared.names.Standing.TheVariants.{Joining}
@@ -7,9 +7,9 @@ use Rattle.cast_model.specs.Session.{is_open, is_gone}
 use Rattle.cast_timer.specs.Owed.{is_owed, due_at}
 use Rattle.cast_view.specs.MemberSide.{with_request, with_answer}
 use Rattle.cast_view.specs.Home.{moved}
-use Rattle.cast_history.specs.State.{State, is_group, set_group, set_home, set_standing, emitted, pushing, receiving, noting_sent, awaits_own, is_received, held, message_of, others_of, is_stable, upto, noting_ack, noting_stable, releasing_ended, outside, closing, going}
+use Rattle.cast_history.specs.State.{State, serials, is_group, set_group, set_home, set_standing, emitted, is_filled, pushing, local_members, receiving, noting_sent, awaits_own, is_received, held, message_of, others_of, is_stable, upto, noting_ack, noting_stable, releasing_ended, outside, closing, going, counting_cast}
 use Rattle.cast_history.specs.Owing.{noting_owed, noting_resent, paying, paying_upto, paying_view, at_moment}
-use Rattle.cast_history.specs.Entering.{freezing, pending_install, passing}
+use Rattle.cast_history.specs.Entering.{freezing, pending_install, is_put_out, passing}
 use Rattle.cast_history.specs.Reports.{report_in}
 use Rattle.cast_history.specs.Rules.Interface.{Site}
 
@@ -18,6 +18,7 @@ abbrev pub history : Site State GroupNo
 history = record {
   here = λ s. s.here;
   config = λ s. s.config;
+  quotas = λ s. s.quotas;
   place = λ s g. if is_group s g then Some g else None;
   name = λ s g. g;
   places = λ s. s.config.groups;
@@ -31,6 +32,9 @@ history = record {
   stable_upto = upto;
   message = message_of;
   is_open = λ s k. is_open (s.session k);
+  is_full = is_filled;
+  members = local_members;
+  put_out = λ s g skips members. filter (is_put_out s g skips members) (serials s);
   standing = λ s k g. (s.process k).standing g;
   time = λ s k. (s.process k).time;
   awaits_own = awaits_own;
@@ -48,6 +52,7 @@ history = record {
   note_ack = noting_ack;
   note_stable = noting_stable;
   push = pushing;
+  note_cast = counting_cast;
   note_joining = λ s k g number heard. set_standing s k g (Joining number heard);
   note_outside = outside;
   note_sent = noting_sent;

@@ -81,4 +81,6 @@ IsTyped (event.Command d k c) = Unit {0}
 IsTyped (event.Gone d k) = Unit {0}
 IsTyped (event.Frame d from f) = IsTypedFrame f
 IsTyped (event.Suspect d site) = Unit {0}
+IsTyped (event.Quota d name value) = Unit {0}
+IsTyped (event.Take d k most) = Unit {0}
 IsTyped (event.Tick t) = Unit {0}

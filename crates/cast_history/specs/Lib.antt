@@ -16,3 +16,5 @@ pub mod Lawful
 pub mod Endings
 pub mod Raising
 pub mod Noted
+pub mod Refusing
+pub mod Agreeing

@@ -8,7 +8,7 @@ use Rattle.cast_history.specs.State.{State}
 
 -- the moment at which what is sent now is due again
 abbrev pub next_due : State → ℕ
-next_due s = s.moment + s.config.quotas.resend
+next_due s = s.moment + s.quotas.resend
 
 abbrev pub noting_owed : State → OwedKey → State
 noting_owed s key = record s { owed = with_owed s.owed key (next_due s) }

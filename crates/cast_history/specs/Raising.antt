@@ -14,6 +14,7 @@ use Rattle.cast_types.specs.Stamps.{ClockList}
 use Rattle.cast_clock.specs.Times.{clock_of, count_in, is_time}
 use Rattle.cast_message.specs.declared.message.Message.{Message}
 use Rattle.cast_message.specs.declared.site.SiteFrame.{SiteFrame}
+use Rattle.cast_message.specs.declared.client.Push.{Push}
 use Rattle.cast_types.specs.Rising.{is_rising}
 use Rattle.cast_delay.specs.Ready.{is_member, is_outside, has_delivered}
 use Rattle.cast_model.specs.declared.config.DomainConfig.{DomainConfig}
@@ -90,9 +91,9 @@ pub data IsPassed (here : SiteNo) (config : DomainConfig) : State → Type 0 whe
 -- last one
 abbrev pub CountsCanBeRaised : Type 0
 CountsCanBeRaised =
-    (here : SiteNo) (config : DomainConfig) (events : List Event) (answers : List Taken) (sent : List (SiteNo × SiteFrame)) (s : State) →
+    (here : SiteNo) (config : DomainConfig) (events : List Event) (answers : List Taken) (sent : List (SiteNo × SiteFrame)) (pushed : List (ℕ × Push)) (s : State) →
     is_rising group_cmp config.groups ≡ true → length config.groups ≤ MAX_GROUPS → AllByRecursion IsTyped events →
-    IsRun (opening here config) events answers sent s → CanRaise s
+    IsRun (opening here config) events answers sent pushed s → CanRaise s
 
 -- and so it may in each state that the history passes, as where a cast or a set-order message is to be sent
 abbrev pub CountsCanBeRaisedWithin : Type 0
@@ -109,5 +110,5 @@ MembersAreCounted =
 -- what a run leads to is a state that the history passes
 abbrev pub RunsArePassed : Type 0
 RunsArePassed =
-    (here : SiteNo) (config : DomainConfig) (events : List Event) (answers : List Taken) (sent : List (SiteNo × SiteFrame)) (s : State) →
-    AllByRecursion IsTyped events → IsRun (opening here config) events answers sent s → IsPassed here config s
+    (here : SiteNo) (config : DomainConfig) (events : List Event) (answers : List Taken) (sent : List (SiteNo × SiteFrame)) (pushed : List (ℕ × Push)) (s : State) →
+    AllByRecursion IsTyped events → IsRun (opening here config) events answers sent pushed s → IsPassed here config s

@@ -5,6 +5,8 @@ pub mod Owing
 pub mod Sending
 pub mod Data
 pub mod Stability
+pub mod Asking
+pub mod Leaving
 pub mod Requests
 pub mod Commands
 pub mod Home

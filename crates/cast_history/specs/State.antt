@@ -1,5 +1,5 @@
 -- The state of one domain at one site, with its whole history, and what its parts say together.
-use Rattle.std.specs.Prelude.{ℕ, Bool, not, ◌&&◌, ◌||◌, ◌==◌, nat_lt, nat_le, if◌then◌else◌, List, [], ◌∷◌, ◌++◌, length, filter, Option, Some, None}
+use Rattle.std.specs.Prelude.{ℕ, ◌+◌, min, Bool, not, ◌&&◌, ◌||◌, ◌==◌, nat_lt, nat_le, if◌then◌else◌, List, [], ◌∷◌, ◌++◌, length, filter, Option, Some, None}
 use Rattle.std.specs.List.{find, list_any, list_all, range_with_len}
 use Rattle.cast_types.specs.declared.names.SiteNo.{SiteNo}
 use Rattle.cast_types.specs.declared.names.GroupNo.{GroupNo}
@@ -20,9 +20,13 @@ use Rattle.cast_delay.specs.declared.gate.Gate.{Gate}
 use Rattle.cast_delay.specs.Ready.{Process, is_member, has_delivered, awaits}
 use Rattle.cast_history.specs.Acts.{Act}
 use Rattle.cast_history.specs.Acts.Act.{Sent, Delivered, Left}
-use Rattle.cast_model.specs.declared.session.Session.{Session}
 use Rattle.cast_message.specs.declared.client.Push.{Push}
-use Rattle.cast_model.specs.Session.{no_session, is_open, pushed_to, closed, gone}
+use Rattle.cast_message.specs.declared.client.Push.TheVariants as push
+use Rattle.cast_model.specs.Session.{Session, no_session, is_open, is_gone, is_full, pushed_to, closed, taken_from}
+use Rattle.cast_quota.specs.declared.quotas.Quotas.{Quotas}
+use Rattle.cast_quota.specs.declared.quotas.QuotaName.{QuotaName}
+use Rattle.cast_quota.specs.Quotas.{with_quota}
+use Rattle.cast_model.specs.declared.limits.TheConstants.{MAX_CASTS}
 use Rattle.cast_view.specs.MemberSide.{MemberSide, no_group, members_of}
 use Rattle.cast_types.specs.declared.refusal.Refusal.{Refusal}
 use Rattle.cast_view.specs.Sites.{other_sites}
@@ -32,6 +36,8 @@ use Rattle.cast_model.specs.declared.config.DomainConfig.{DomainConfig}
 pub record State : Type 0 where
   pub here : SiteNo
   pub config : DomainConfig
+  -- what the domain may use now
+  pub quotas : Quotas
   -- in milliseconds; it never goes back
   pub moment : ℕ
   -- serials are used from 1 on, and never again
@@ -54,9 +60,12 @@ pub record State : Type 0 where
   pub told : List Uid
   -- the frames that are sent again until they are answered
   pub owed : List Owed
-  -- of the event at hand: the frames sent, and the deliveries
+  -- how many casts of programs were accepted
+  pub casts : ℕ
+  -- of the event at hand: the frames sent, the deliveries, and the entries pushed, each with the serial of its session
   pub frames : List (SiteNo × SiteFrame)
   pub deliveries : List (Proc × Uid)
+  pub pushes : List (ℕ × Push)
 
 abbrev pub no_process : Process
 no_process = record { time = no_time; standing = λ g. Outside; delivered = [] }
@@ -67,6 +76,7 @@ opening here config =
     record {
       here = here;
       config = config;
+      quotas = config.quotas;
       moment = 0;
       used = 0;
       session = λ k. no_session;
@@ -81,8 +91,10 @@ opening here config =
       acks = [];
       told = [];
       owed = [];
+      casts = 0;
       frames = [];
       deliveries = [];
+      pushes = [];
     }
 
 -- Names
@@ -136,17 +148,45 @@ outside s k g = record (set_standing s k g Outside) { acts = acts_outside s k g 
 abbrev pub emitted : State → SiteNo → SiteFrame → State
 emitted s to f = record s { frames = s.frames ++ (to, f) ∷ [] }
 
--- a program is told something
+-- Sessions
+
+-- how many sessions are not gone
+abbrev pub sessions : State → ℕ
+sessions s = length (filter (λ k. not (is_gone (s.session k))) (serials s))
+
+-- the outbox of a session has as many entries as it may have
+abbrev pub is_filled : State → ℕ → Bool
+is_filled s k = is_full s.quotas.outbox (s.session k)
+
+-- a session that was pushed an entry
+abbrev pub with_push : State → ℕ → Session → Push → State
+with_push s k v p = record (set_session s k v) { pushes = s.pushes ++ (k, p) ∷ [] }
+
+-- a program is told something, where its session is open
 abbrev pub pushing : State → ℕ → Push → State
-pushing s k p = if is_open (s.session k) then set_session s k (pushed_to (s.session k) p) else s
+pushing s k p = if is_open (s.session k) then with_push s k (pushed_to (s.session k) p) p else s
 
 -- an open session is closed, and its program is told why
 abbrev pub closing : State → ℕ → Refusal → State
-closing s k refusal = set_session s k (closed refusal (s.session k))
+closing s k refusal =
+    if is_open (s.session k) then with_push s k (closed refusal (s.session k)) (push.Closed refusal) else s
 
--- the program of a session is gone
+-- the program of a session is gone, and so is its outbox
 abbrev pub going : State → ℕ → State
-going s k = set_session s k (gone (s.session k))
+going s k = set_session s k no_session
+
+-- the first entries of an outbox are taken, at most so many
+abbrev pub taking : State → ℕ → ℕ → State
+taking s k most = set_session s k (taken_from most (s.session k))
+
+-- Quotas, and what is counted
+
+abbrev pub setting_quota : State → QuotaName → ℕ → State
+setting_quota s name value = record s { quotas = with_quota name value s.quotas }
+
+-- a cast of a program was accepted
+abbrev pub counting_cast : State → State
+counting_cast s = record s { casts = min MAX_CASTS (s.casts + 1) }
 
 -- Messages
 

@@ -1,6 +1,8 @@
+ghost use Rattle.cast_history.specs.Agreeing.{RunIsOne};
 ghost use Rattle.cast_history.specs.Endings.{EachComesToRest, PassMoves, RestIsOne, SettlesOne, TurnsAreEnough};
 ghost use Rattle.cast_history.specs.Noted.{ActsAreNoted};
 ghost use Rattle.cast_history.specs.Raising.{CountsCanBeRaised, CountsCanBeRaisedWithin, MembersAreCounted, RunsArePassed};
+ghost use Rattle.cast_history.specs.Refusing.{RefusedLeaves, RefusedReplies};
 
 /// After each event, from whatever state, the rest ends, and in one state alone: a pass that changes something
 /// leaves fewer Installs that wait, or less to be done, or fewer Wants to be owed, and none of the numbers before it rises.
@@ -31,4 +33,16 @@ pub fn counts_can_be_raised()
 /// Beside what it sent, messages may bear its name that a home forwarded here as a view ended.
 pub fn acts_are_noted()
     ensures noted { ActsAreNoted }
+{}
+
+/// An event that is refused leaves the state as it was. A request that is refused leads to its reply alone, with what a full
+/// outbox makes of that: then the session is closed, since its program is too slow.
+pub fn refused_leaves()
+    ensures leaves { RefusedLeaves }
+    ensures replies { RefusedReplies }
+{}
+
+/// The same events lead a domain that is served alone from the same state to the same answers, frames, entries and state.
+pub fn runs_are_one()
+    ensures { RunIsOne }
 {}

@@ -6,7 +6,9 @@
 //!
 //! Promised: from each state an event leads to rest, in one state alone, and a process delivers all that it can
 //! (`laws::rest_ends`, `laws::deliveries_end`); and a member's count can be raised unless it is the last one
-//! (`laws::counts_can_be_raised`). What a history notes that a process did it did (`laws::acts_are_noted`).
+//! (`laws::counts_can_be_raised`). What a history notes that a process did it did (`laws::acts_are_noted`). What is
+//! refused leaves the state as it was but for its reply (`laws::refused_leaves`), and events lead to one outcome alone
+//! (`laws::runs_are_one`).
 //!
 //! The definitions are in `specs/`: `State` has what a domain knows and what of it is kept and stable, and what each
 //! process did (`Acts`), `Order` the order of a view, `Turns` when a message is ready, and `Reports` what a site has of a view and

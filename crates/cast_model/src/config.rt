@@ -1,19 +1,7 @@
 ghost use Rattle.std.specs.Prelude.{◌≡◌, IfOk};
 
+use cast_quota::Quotas;
 use cast_types::{DomainNo, GroupNo, Listed, NoMemory, SiteNo};
-
-/// What a domain may use of its daemon.
-#[derive(Clone, Copy, Debug, PartialEq, Eq)]
-pub struct Quotas {
-    /// Most sessions, 1 to 64.
-    pub sessions: u32,
-    /// Most kept messages, 1 to 1,024.
-    pub held: u32,
-    /// Most entries of a session's outbox, 1 to 4,096.
-    pub outbox: u32,
-    /// Milliseconds after which an owed frame is sent again, 10 to 60,000.
-    pub resend: u32,
-}
 
 /// A domain as it is configured: one tenant, with its own sites, groups and home.
 #[derive(Drop)]
@@ -25,6 +13,7 @@ pub struct DomainConfig {
     pub sites: Listed<SiteNo>,
     /// 1 to 32, rising.
     pub groups: Listed<GroupNo>,
+    /// What it may use before its first event.
     pub quotas: Quotas,
 }
 

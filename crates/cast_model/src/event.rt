@@ -1,6 +1,7 @@
-ghost use Rattle.std.specs.Prelude.{◌≡◌, ◌++◌, ◌∷◌, [], OnOk, OnErr};
+ghost use Rattle.std.specs.Prelude.{◌≡◌, ◌++◌, ◌∷◌, [], IfOk, OnOk, OnErr};
 
-use cast_message::{Command, SiteFrame};
+use cast_message::{Command, Push, SiteFrame};
+use cast_quota::QuotaName;
 use cast_types::{DomainNo, Listed, NoMemory, Proc, Refusal, SiteNo, Uid};
 use std::alloc::Global;
 
@@ -24,6 +25,18 @@ pub enum Event {
     Frame(DomainNo, SiteNo, SiteFrame),
     /// A site of the domain is suspected to have stopped.
     Suspect(DomainNo, SiteNo),
+    /// A quota of a domain is to have another value.
+    Quota {
+        domain: DomainNo,
+        name: QuotaName,
+        value: u32,
+    },
+    /// The first entries of a session's outbox are taken, at most so many, 1 to `MAX_TAKE`.
+    Take {
+        domain: DomainNo,
+        serial: u32,
+        most: u32,
+    },
     /// Time passes in all domains: the moment, in milliseconds, is at least this.
     Tick(u64),
 }
@@ -40,18 +53,21 @@ impl Event {
             Event::Command { domain, .. } | Event::Gone { domain, .. } => Some(*domain),
             Event::Frame(domain, _, _) => Some(*domain),
             Event::Suspect(domain, _) => Some(*domain),
+            Event::Quota { domain, .. } | Event::Take { domain, .. } => Some(*domain),
             Event::Tick(_) => None,
         }
     }
 }
 
 /// What an event is answered.
-#[derive(Clone, Copy, Debug, PartialEq, Eq)]
+#[derive(Drop)]
 pub enum Taken {
     Nothing,
     /// The serial of the new session.
     Opened(u32),
     Refused(Refusal),
+    /// The entries that were taken from a session's outbox, in order.
+    Entries(Listed<Push>),
 }
 
 /// What comes of events, each list in order.
@@ -63,6 +79,8 @@ pub struct Outs {
     pub halted: Listed<DomainNo>,
     /// Each delivery of a message to a process.
     pub delivered: Listed<(DomainNo, Proc, Uid)>,
+    /// Each entry that was pushed to a session, with its domain and the session's serial.
+    pub pushed: Listed<(DomainNo, u32, Push)>,
 }
 
 impl Outs {
@@ -76,6 +94,7 @@ impl Outs {
             frames: Listed::new(alloc),
             halted: Listed::new(alloc),
             delivered: Listed::new(alloc),
+            pushed: Listed::new(alloc),
         }
     }
 
@@ -84,11 +103,22 @@ impl Outs {
         ensures frames { OnOk result (self.new.frames ≡ self.old.frames ++ (domain, to, frame) ∷ []) }
         ensures halted { self.new.halted ≡ self.old.halted }
         ensures delivered { self.new.delivered ≡ self.old.delivered }
+        ensures pushed { self.new.pushed ≡ self.old.pushed }
     {
         self.frames.push((domain, to, frame))
     }
 
-    /// Adds what a step sent and delivered. `NoMemory` changes nothing.
+    /// Adds an entry that was pushed to a session of a domain: an equal one.
+    pub fn push(&mut self, domain: DomainNo, serial: u32, entry: &Push) -> Result<(), NoMemory>
+        ensures pushed { OnOk result (self.new.pushed ≡ self.old.pushed ++ (domain, serial, entry.now) ∷ []) }
+        ensures frames { self.new.frames ≡ self.old.frames }
+        ensures halted { self.new.halted ≡ self.old.halted }
+        ensures delivered { self.new.delivered ≡ self.old.delivered }
+    {
+        self.pushed.push((domain, serial, copied(entry)?))
+    }
+
+    /// Adds what a step sent, delivered and pushed. `NoMemory` changes nothing.
     pub fn append(&mut self, step: Outs) -> Result<(), NoMemory>
         ensures ok { OnOk result (self.new ≡ outs_then self.old step) }
         ensures err { OnErr result (self.new ≡ self.old) }
@@ -96,8 +126,29 @@ impl Outs {
         let Outs {
             frames,
             delivered,
+            pushed,
             ..
         } = step;
+        let told = self.pushed.len();
+        self.pushed.append(pushed)?;
+        match self.append_sent(frames, delivered) {
+            Ok(()) => Ok(()),
+            Err(error) => {
+                self.pushed.truncate(told);
+                Err(error)
+            }
+        }
+    }
+
+    // Adds frames that were sent, and deliveries. `NoMemory` changes nothing.
+    fn append_sent(
+        &mut self,
+        frames: Listed<(DomainNo, SiteNo, SiteFrame)>,
+        delivered: Listed<(DomainNo, Proc, Uid)>,
+    ) -> Result<(), NoMemory>
+        ensures ok { OnOk result (self.new ≡ record self.old { frames = self.old.frames ++ frames; delivered = self.old.delivered ++ delivered }) }
+        ensures err { OnErr result (self.new ≡ self.old) }
+    {
         let sent = self.frames.len();
         self.frames.append(frames)?;
         match self.delivered.append(delivered) {
@@ -107,5 +158,41 @@ impl Outs {
                 Err(error)
             }
         }
+    }
+}
+
+// An equal entry.
+fn copied(entry: &Push) -> Result<Push, NoMemory>
+    ensures { IfOk result (λ copy. copy ≡ entry.now) }
+{
+    match entry {
+        Push::Opened(process) => Ok(Push::Opened(*process)),
+        Push::Reply { tag, refusal } => Ok(Push::Reply {
+            tag: *tag,
+            refusal: *refusal,
+        }),
+        Push::View {
+            group,
+            view,
+            members,
+        } => Ok(Push::View {
+            group: *group,
+            view: *view,
+            members: members.copy()?,
+        }),
+        Push::Deliver { id, kind, payload } => Ok(Push::Deliver {
+            id: *id,
+            kind: *kind,
+            payload: payload.copy()?,
+        }),
+        Push::Ejected { group, view } => Ok(Push::Ejected {
+            group: *group,
+            view: *view,
+        }),
+        Push::Denied { group, refusal } => Ok(Push::Denied {
+            group: *group,
+            refusal: *refusal,
+        }),
+        Push::Closed(refusal) => Ok(Push::Closed(*refusal)),
     }
 }

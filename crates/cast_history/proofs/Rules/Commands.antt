@@ -1,4 +1,4 @@
--- By the rules of commands, and of how a session ends, a site that follows another goes on standing for it.
+-- By the rules of commands a site that follows another goes on standing for it.
 use Rattle.std.proofs.Common.{◌≡◌, ℕ, ◌+◌, true, false, not, List, length, Option, Some, None, refl, sym, ap, subst, arith}
 use Rattle.std.specs.Prelude.{◌==◌, nat_lt}
 use Rattle.std.specs.List.{fold}
@@ -26,12 +26,14 @@ use Rattle.cast_view.specs.MemberSide.{MemberSide}
 use Rattle.cast_history.specs.Rules.Interface.{Site}
 use Rattle.cast_history.specs.Rules.Room.{may_receive}
 use Rattle.cast_history.specs.Rules.Sending.{may_raise, send_data}
-use Rattle.cast_history.specs.Rules.Requests.{request}
-use Rattle.cast_history.specs.Rules.Commands.{body_of, Attempt, named_here, join_at, join, leave_group, leave_at, leave, leave_each, leave_all, message_sent, send_own, cast_at, cast, reply, requested, close_session, commanded, end_session}
-use Rattle.cast_history.proofs.Rules.Follows.{FollowsAll, AtBoth, IsSent, sent_here, choose, each_place, IsInvariantOfAll, AlsoHolds, SamePlace, follows_itself_in_all}
+use Rattle.cast_history.specs.Rules.Asking.{request}
+use Rattle.cast_history.specs.Rules.Leaving.{Attempt, named_here, leave_at, close_session, tell}
+use Rattle.cast_history.specs.Rules.Commands.{body_of, join_at, join, leave, message_sent, send_own, cast_at, cast, reply, requested, commanded}
+use Rattle.cast_history.proofs.Rules.Follows.{FollowsAll, AtBoth, IsSent, sent_here, choose, IsInvariantOfAll, AlsoHolds, SamePlace, follows_itself_in_all}
 use Rattle.cast_history.proofs.Rules.Room.{receive_same}
 use Rattle.cast_history.proofs.Rules.Sending.{sends_follow}
-use Rattle.cast_history.proofs.Rules.Requests.{request_follows}
+use Rattle.cast_history.proofs.Rules.Asking.{request_follows}
+use Rattle.cast_history.proofs.Rules.Leaving.{Attempts, leave_at_follows, close_session_follows, tell_follows}
 
 -- a cast is no set-order message
 cast_plain : (kind : CastKind) (payload : List ℕ) → is_order (kind_of (body_of kind payload)) ≡ false
@@ -39,24 +41,20 @@ cast_plain kind.Causal payload = refl
 cast_plain kind.Atomic payload = refl
 
 module _ {R S H K : Type 0} (a : Site R H) (b : Site S K) (fits : R → S → Type 0) (stands : H → K → Type 0) (all : FollowsAll a b fits stands) where
-  -- both calls are refused alike, or none is
-  abbrev Attempts : Attempt R → Attempt S → Type 0
-  Attempts x y = fits x.0 y.0 × (x.1 ≡ y.1)
-
   -- what is asked of a group that is none of the domain's is refused
-  placed : (r : R) (s : S) → fits r s → (g : GroupNo) (x : H → Attempt R) (y : K → Attempt S) → ((h : H) (l : K) → stands h l → b.place s g ≡ Some l → Attempts (x h) (y l)) → Attempts (option_map_or x (a.place r g) (r, Some NoGroup)) (option_map_or y (b.place s g) (s, Some NoGroup))
+  placed : (r : R) (s : S) → fits r s → (g : GroupNo) (x : H → Attempt R) (y : K → Attempt S) → ((h : H) (l : K) → stands h l → b.place s g ≡ Some l → Attempts fits (x h) (y l)) → Attempts fits (option_map_or x (a.place r g) (r, Some NoGroup)) (option_map_or y (b.place s g) (s, Some NoGroup))
   placed r s f g x y there = by_place (a.place r g) (b.place s g) (all.follows.place r s f g) refl
     where
-      by_place : (o : Option H) (p : Option K) → AtBoth stands o p → b.place s g ≡ p → Attempts (option_map_or x o (r, Some NoGroup)) (option_map_or y p (s, Some NoGroup))
+      by_place : (o : Option H) (p : Option K) → AtBoth stands o p → b.place s g ≡ p → Attempts fits (option_map_or x o (r, Some NoGroup)) (option_map_or y p (s, Some NoGroup))
       by_place (Some h) (Some l) at is = there h l at is
       by_place (Some h) None at is = absurd at
       by_place None (Some l) at is = absurd at
       by_place None None at is = (f, refl)
 
-  join_follows : (r : R) (s : S) → fits r s → (k : ℕ) → b.is_open s k ≡ true → (g : GroupNo) → Attempts (join a r k g) (join b s k g)
+  join_follows : (r : R) (s : S) → fits r s → (k : ℕ) → b.is_open s k ≡ true → (g : GroupNo) → Attempts fits (join a r k g) (join b s k g)
   join_follows r s f k given g = placed r s f g (join_at a r k g) (join_at b s k g) at_place
     where
-      at_place : (h : H) (l : K) → stands h l → b.place s g ≡ Some l → Attempts (join_at a r k g h) (join_at b s k g l)
+      at_place : (h : H) (l : K) → stands h l → b.place s g ≡ Some l → Attempts fits (join_at a r k g h) (join_at b s k g l)
       at_place h l at there =
           let group = all.follows.group r s f h l at in
           let time = all.time r s f k given in
@@ -66,46 +64,18 @@ module _ {R S H K : Type 0} (a : Site R H) (b : Site S K) (fits : R → S → Ty
           let joins = request_follows a b fits stands all (a.note_joining r k g number heard) (b.note_joining s k g number heard) (all.note_joining r s f k given g l there number heard) h l at change.Join (named_here b s k) in
           let same : request a (a.note_joining r k g ((a.group r h).asked + 1) (view_of (a.time r k) g)) h change.Join (named_here a r k) ≡ request a (a.note_joining r k g number heard) h change.Join (named_here b s k) =
           (λ j. request a (a.note_joining r k g ((group j).asked + 1) (view_of (time j) g)) h change.Join (record { site = here j; serial = k })) in
-          choose Attempts (not (is_outside (a.standing r k g))) (not (is_outside (b.standing s k g))) (r, Some AlreadyMember) _ (s, Some AlreadyMember) _
+          choose (Attempts fits) (not (is_outside (a.standing r k g))) (not (is_outside (b.standing s k g))) (r, Some AlreadyMember) _ (s, Some AlreadyMember) _
           (ap (λ v. not (is_outside v)) (all.standing r s f k g))
           (λ _. (f, refl))
-          (λ _. choose Attempts ((a.group r h).asked == MAX_NUMBER) ((b.group s l).asked == MAX_NUMBER) (r, Some HeldFull) _ (s, Some HeldFull) _
+          (λ _. choose (Attempts fits) ((a.group r h).asked == MAX_NUMBER) ((b.group s l).asked == MAX_NUMBER) (r, Some HeldFull) _ (s, Some HeldFull) _
           (ap (λ (x : MemberSide). x.asked == MAX_NUMBER) group)
           (λ _. (f, refl))
           (λ _. (subst (λ x. fits x (request b (b.note_joining s k g number heard) l change.Join (named_here b s k))) (sym same) joins, refl)))
 
-  leave_group_follows : (r : R) (s : S) → fits r s → (k : ℕ) (g : GroupNo) → is_outside (b.standing s k g) ≡ false → (h : H) (l : K) → stands h l → fits (leave_group a r k g h) (leave_group b s k g l)
-  leave_group_follows r s f k g inside h l at =
-      let here = all.follows.here r s f in
-      let next : R = a.note_outside r k g in
-      let after : S = b.note_outside s k g in
-      let now : fits next after = all.note_outside r s f k g inside in
-      let left : S = request b after l change.Leave (named_here b s k) in
-      choose fits ((a.group r h).asked == MAX_NUMBER) ((b.group s l).asked == MAX_NUMBER) next (request a next h change.Leave (named_here a r k)) after left
-      (ap (λ (x : MemberSide). x.asked == MAX_NUMBER) (all.follows.group r s f h l at))
-      (λ _. now)
-      (λ _. subst (λ t. fits (request a next h change.Leave (record { site = t; serial = k })) left) (sym here)
-      (request_follows a b fits stands all next after now h l at change.Leave (named_here b s k)))
+  leave_follows : (r : R) (s : S) → fits r s → (k : ℕ) (g : GroupNo) → Attempts fits (leave a r k g) (leave b s k g)
+  leave_follows r s f k g = placed r s f g (leave_at a r k g) (leave_at b s k g) (λ h l at _. leave_at_follows a b fits stands all r s f k g h l at)
 
-  leave_at_follows : (r : R) (s : S) → fits r s → (k : ℕ) (g : GroupNo) (h : H) (l : K) → stands h l → Attempts (leave_at a r k g h) (leave_at b s k g l)
-  leave_at_follows r s f k g h l at =
-      choose Attempts (is_outside (a.standing r k g)) (is_outside (b.standing s k g)) (r, Some NotMember) _ (s, Some NotMember) _
-      (ap is_outside (all.standing r s f k g))
-      (λ _. (f, refl))
-      (λ inside. (leave_group_follows r s f k g inside h l at, refl))
-
-  leave_follows : (r : R) (s : S) → fits r s → (k : ℕ) (g : GroupNo) → Attempts (leave a r k g) (leave b s k g)
-  leave_follows r s f k g = placed r s f g (leave_at a r k g) (leave_at b s k g) (λ h l at _. leave_at_follows r s f k g h l at)
-
-  leave_each_follows : (k : ℕ) (r : R) (s : S) → fits r s → (h : H) (l : K) → stands h l → fits (leave_each a k r h) (leave_each b k s l)
-  leave_each_follows k r s f h l at =
-      let g : GroupNo = b.name s l in
-      subst (λ x. fits (leave_at a r k x h).0 (leave_at b s k g l).0) (sym (all.name r s f h l at)) (leave_at_follows r s f k g h l at).0
-
-  pub leave_all_follows : (r : R) (s : S) → fits r s → (k : ℕ) → fits (leave_all a r k) (leave_all b s k)
-  leave_all_follows r s f k = each_place fits stands (leave_each a k) (leave_each b k) (leave_each_follows k) (a.places r) (b.places s) (all.places r s f) r s f
-
-  cast_follows : (r : R) (s : S) → fits r s → (k : ℕ) → b.is_open s k ≡ true → (g : GroupNo) (kind : CastKind) (payload : List ℕ) → Attempts (cast a r k g kind payload) (cast b s k g kind payload)
+  cast_follows : (r : R) (s : S) → fits r s → (k : ℕ) → b.is_open s k ≡ true → (g : GroupNo) (kind : CastKind) (payload : List ℕ) → Attempts fits (cast a r k g kind payload) (cast b s k g kind payload)
   cast_follows r s f k given g kind payload = placed r s f g (cast_at a r k g kind payload) (cast_at b s k g kind payload) at_place
     where
       content : Body
@@ -131,36 +101,36 @@ module _ {R S H K : Type 0} (a : Site R H) (b : Site S K) (fits : R → S → Ty
           subst (λ x. fits x (fold (send_data b id) u (b.others u g))) (λ j. fold (send_data a (sym same j)) t (sym others j))
           (sends_follow a b fits stands all.follows id (lt-ltb 0 id.count (omega (arith, raised))) (b.others u g) t u now (all.sent s l k g content sent))
 
-      at_place : (h : H) (l : K) → stands h l → b.place s g ≡ Some l → Attempts (cast_at a r k g kind payload h) (cast_at b s k g kind payload l)
+      at_place : (h : H) (l : K) → stands h l → b.place s g ≡ Some l → Attempts fits (cast_at a r k g kind payload h) (cast_at b s k g kind payload l)
       at_place h l at there =
           let here = all.follows.here r s f in
           let time = all.time r s f k given in
           let standing = all.standing r s f k g in
-          choose Attempts (nat_lt MAX_PAYLOAD (length payload)) (nat_lt MAX_PAYLOAD (length payload)) (r, Some TooLong) _ (s, Some TooLong) _ refl
+          choose (Attempts fits) (nat_lt MAX_PAYLOAD (length payload)) (nat_lt MAX_PAYLOAD (length payload)) (r, Some TooLong) _ (s, Some TooLong) _ refl
           (λ _. (f, refl))
-          (λ _. choose Attempts (not (is_member (a.standing r k g))) (not (is_member (b.standing s k g))) (r, Some NotMember) _ (s, Some NotMember) _
+          (λ _. choose (Attempts fits) (not (is_member (a.standing r k g))) (not (is_member (b.standing s k g))) (r, Some NotMember) _ (s, Some NotMember) _
           (ap (λ v. not (is_member v)) standing)
           (λ _. (f, refl))
-          (λ member. choose Attempts (a.group r h).frozen (b.group s l).frozen (r, Some Flushing) _ (s, Some Flushing) _
+          (λ member. choose (Attempts fits) (a.group r h).frozen (b.group s l).frozen (r, Some Flushing) _ (s, Some Flushing) _
           (ap (λ (x : MemberSide). x.frozen) (all.follows.group r s f h l at))
           (λ _. (f, refl))
-          (λ unfrozen. choose Attempts (a.awaits_own r k) (b.awaits_own s k) (r, Some OwnAbcast) _ (s, Some OwnAbcast) _
+          (λ unfrozen. choose (Attempts fits) (a.awaits_own r k) (b.awaits_own s k) (r, Some OwnAbcast) _ (s, Some OwnAbcast) _
           (all.awaits_own r s f k given)
           (λ _. (f, refl))
-          (λ _. choose Attempts (not (may_receive a r)) (not (may_receive b s)) (r, Some HeldFull) _ (s, Some HeldFull) _
+          (λ _. choose (Attempts fits) (not (may_receive a r)) (not (may_receive b s)) (r, Some HeldFull) _ (s, Some HeldFull) _
           (ap not (receive_same a b fits stands all r s f))
           (λ _. (f, refl))
-          (λ _. choose Attempts (not (may_raise (a.time r k) g (named_here a r k))) (not (may_raise (b.time s k) g (named_here b s k))) (r, Some HeldFull) _ (s, Some HeldFull) _
+          (λ _. choose (Attempts fits) (not (may_raise (a.time r k) g (named_here a r k))) (not (may_raise (b.time s k) g (named_here b s k))) (r, Some HeldFull) _ (s, Some HeldFull) _
           (λ j. not (may_raise (time j) g (record { site = here j; serial = k })))
           (λ _. (f, refl))
           (λ raises. (
-            all_sent h l at
-                (record { given = given; at = there; member = not-false (is_member (b.standing s k g)) member; unfrozen = unfrozen; raises = not-false (may_raise (b.time s k) g (named_here b s k)) raises; plain = cast_plain kind payload }),
+            all.note_cast _ _ (all_sent h l at
+                (record { given = given; at = there; member = not-false (is_member (b.standing s k g)) member; unfrozen = unfrozen; raises = not-false (may_raise (b.time s k) g (named_here b s k)) raises; plain = cast_plain kind payload })),
             refl,
           )))))))
 
-  replied : (k tag : ℕ) (x : Attempt R) (y : Attempt S) → Attempts x y → fits (reply a x k tag) (reply b y k tag)
-  replied k tag x y same = subst (λ o. fits (a.push x.0 k (push.Reply tag o)) (reply b y k tag)) (sym same.1) (all.push x.0 y.0 same.0 k (push.Reply tag y.1))
+  replied : (k tag : ℕ) (x : Attempt R) (y : Attempt S) → Attempts fits x y → fits (reply a x k tag) (reply b y k tag)
+  replied k tag x y same = subst (λ o. fits (tell a x.0 k (push.Reply tag o)) (reply b y k tag)) (sym same.1) (tell_follows a b fits stands all x.0 y.0 same.0 k (push.Reply tag y.1))
 
   requested_follows : (r : R) (s : S) → fits r s → (k : ℕ) → b.is_open s k ≡ true → (q : Request) → fits (requested a r k q) (requested b s k q)
   requested_follows r s f k given (Join tag g) = replied k tag (join a r k g) (join b s k g) (join_follows r s f k given g)
@@ -174,21 +144,9 @@ module _ {R S H K : Type 0} (a : Site R H) (b : Site S K) (fits : R → S → Ty
       (λ _. f)
   commanded_follows r s f k command.Bad =
       choose fits (a.is_open r k) (b.is_open s k) (close_session a r k BadFrame) r (close_session b s k BadFrame) s (all.is_open r s f k)
-      (λ _. leave_all_follows (a.close r k BadFrame) (b.close s k BadFrame) (all.close r s f k BadFrame) k)
+      (λ given. close_session_follows a b fits stands all r s f k given BadFrame)
       (λ _. f)
 
-  pub ended_follows : (r : R) (s : S) → fits r s → (k : ℕ) → fits (a.go r k) (b.go s k) → fits (end_session a r k) (end_session b s k)
-  ended_follows r s f k went =
-      choose fits (a.is_gone r k) (b.is_gone s k) r (leave_all a (a.go r k) k) s (leave_all b (b.go s k) k) (all.is_gone r s f k)
-      (λ _. f)
-      (λ _. leave_all_follows (a.go r k) (b.go s k) went k)
-
--- an invariant of the moves holds after each command, and, where it holds once a session is gone, after that ends
+-- an invariant of the moves holds after each command
 pub commanded_keeps : {S H : Type 0} (d : Site S H) (holds : S → Type 0) → IsInvariantOfAll d holds → (s : S) → holds s → (k : ℕ) (c : Command) → holds (commanded d s k c)
 commanded_keeps d holds keeps s l k c = (commanded_follows d d (AlsoHolds holds) SamePlace (follows_itself_in_all d holds keeps) s s (refl, l) k c).1
-
-pub left_keeps : {S H : Type 0} (d : Site S H) (holds : S → Type 0) → IsInvariantOfAll d holds → (s : S) → holds s → (k : ℕ) → holds (leave_all d s k)
-left_keeps d holds keeps s l k = (leave_all_follows d d (AlsoHolds holds) SamePlace (follows_itself_in_all d holds keeps) s s (refl, l) k).1
-
-pub ended_keeps : {S H : Type 0} (d : Site S H) (holds : S → Type 0) → IsInvariantOfAll d holds → (s : S) → holds s → (k : ℕ) → holds (d.go s k) → holds (end_session d s k)
-ended_keeps d holds keeps s l k went = (ended_follows d d (AlsoHolds holds) SamePlace (follows_itself_in_all d holds keeps) s s (refl, l) k (refl, went)).1

@@ -19,13 +19,14 @@ use Rattle.cast_history.specs.Lawful.{IsTypedFrame}
 use Rattle.cast_history.specs.Rules.Keys.{message_key}
 use Rattle.cast_history.specs.Rules.Interface.{Site, Resting}
 use Rattle.cast_history.specs.Rules.Owing.{owe}
-use Rattle.cast_history.specs.Rules.Requests.{is_from_home}
+use Rattle.cast_history.specs.Rules.Asking.{is_from_home}
 use Rattle.cast_history.specs.Rules.Data.{counts_itself, is_well_formed}
 use Rattle.cast_history.specs.Rules.Views.{install}
 use Rattle.cast_history.specs.Rules.Flushes.{flushed_frame, on_prepare, own_want_key, is_wanted_here, on_wanted, complete, want_own, complete_or_want, go_on}
 use Rattle.cast_history.proofs.Rules.Follows.{FollowsAll, choose, IsInvariantOfAll, AlsoHolds, SamePlace, follows_itself_in_all}
 use Rattle.cast_history.proofs.Rules.Owing.{owe_follows}
-use Rattle.cast_history.proofs.Rules.Requests.{send_as, from_home_same}
+use Rattle.cast_history.proofs.Rules.Asking.{from_home_same}
+use Rattle.cast_history.proofs.Rules.Requests.{send_as}
 use Rattle.cast_history.proofs.Rules.Data.{want_no_more_follows}
 use Rattle.cast_history.proofs.Rules.Views.{install_view_follows}
 

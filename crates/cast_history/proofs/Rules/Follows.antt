@@ -31,7 +31,8 @@ use Rattle.cast_history.specs.Rules.Interface.{Site}
 use Rattle.cast_history.specs.Rules.Sending.{may_raise}
 use Rattle.cast_history.specs.Rules.Data.{is_used}
 use Rattle.cast_history.specs.Rules.Stability.{is_used_ack}
-use Rattle.cast_history.specs.Rules.Commands.{named_here, message_sent}
+use Rattle.cast_history.specs.Rules.Leaving.{named_here}
+use Rattle.cast_history.specs.Rules.Commands.{message_sent}
 use Rattle.cast_history.specs.Rules.Flushes.{is_wanted_here}
 
 -- something stands at both places, or there is none
@@ -135,14 +136,19 @@ pub record FollowsAll {R S H K : Type 0} (a : Site R H) (b : Site S K) (fits : R
   pub sent : (s : S) (l : K) (k : ℕ) (g : GroupNo) (content : Body) → IsSent b s l k g content → follows.asked (sent_here b s l k g content) (message_sent b s k g l content).id
   pub name : (r : R) (s : S) → fits r s → (h : H) (k : K) → stands h k → a.name r h ≡ b.name s k
   pub places : (r : R) (s : S) → fits r s → AllAt stands (a.places r) (b.places s)
+  pub quotas : (r : R) (s : S) → fits r s → a.quotas r ≡ b.quotas s
   pub held : (r : R) (s : S) → fits r s → a.held r ≡ b.held s
   pub is_received : (r : R) (s : S) → fits r s → (k : K) (from : SiteNo) (m : Message) → IsTaken b s k from m → a.is_received r m.id ≡ b.is_received s m.id
   pub is_stable : (r : R) (s : S) → fits r s → (k : K) (from : SiteNo) (m : Message) → IsTaken b s k from m → b.is_received s m.id ≡ false → a.is_stable (a.receive r m) m.id ≡ b.is_stable (b.receive s m) m.id
   pub is_open : (r : R) (s : S) → fits r s → (k : ℕ) → a.is_open r k ≡ b.is_open s k
+  pub is_full : (r : R) (s : S) → fits r s → (k : ℕ) → a.is_full r k ≡ b.is_full s k
+  pub members : (r : R) (s : S) → fits r s → (h : H) (k : K) → stands h k → a.members r h ≡ b.members s k
+  pub put_out : (r : R) (s : S) → fits r s → (h : H) (k : K) → stands h k → (skips : Bool) (members : Membership) → a.put_out r h skips members ≡ b.put_out s k skips members
   pub standing : (r : R) (s : S) → fits r s → (k : ℕ) (g : GroupNo) → a.standing r k g ≡ b.standing s k g
   pub time : (r : R) (s : S) → fits r s → (k : ℕ) → b.is_open s k ≡ true → a.time r k ≡ b.time s k
   pub awaits_own : (r : R) (s : S) → fits r s → (k : ℕ) → b.is_open s k ≡ true → a.awaits_own r k ≡ b.awaits_own s k
-  pub push : (r : R) (s : S) → fits r s → (k : ℕ) (p : Push) → fits (a.push r k p) (b.push s k p)
+  pub push : (r : R) (s : S) → fits r s → (k : ℕ) → b.is_open s k ≡ true → b.is_full s k ≡ false → (p : Push) → fits (a.push r k p) (b.push s k p)
+  pub note_cast : (r : R) (s : S) → fits r s → fits (a.note_cast r) (b.note_cast s)
   pub note_joining : (r : R) (s : S) → fits r s → (k : ℕ) → b.is_open s k ≡ true → (g : GroupNo) (h : K) → b.place s g ≡ Some h → (number heard : ℕ) → fits (a.note_joining r k g number heard) (b.note_joining s k g number heard)
   pub note_outside : (r : R) (s : S) → fits r s → (k : ℕ) (g : GroupNo) → is_outside (b.standing s k g) ≡ false → fits (a.note_outside r k g) (b.note_outside s k g)
   pub sends : (r : R) (s : S) → fits r s → (h : H) (l : K) → stands h l → (k : ℕ) (g : GroupNo) (content : Body) → IsSent b s l k g content → fits (sent_here a r h k g content) (sent_here b s l k g content)
@@ -157,7 +163,7 @@ pub record FollowsAll {R S H K : Type 0} (a : Site R H) (b : Site S K) (fits : R
   pub enter_view : (r : R) (s : S) → fits r s → (h : H) (k : K) → stands h k → (g : GroupNo) (skips : Bool) (n : ℕ) (members : Membership) (request : ℕ) (cut : CountList) → IsEntered b s k g n members → fits (a.enter_view r h skips n members request cut) (b.enter_view s k skips n members request cut)
   pub release_ended : (r : R) (s : S) → fits r s → (h : H) (k : K) → stands h k → fits (a.release_ended r h) (b.release_ended s k)
   pub is_gone : (r : R) (s : S) → fits r s → (k : ℕ) → a.is_gone r k ≡ b.is_gone s k
-  pub close : (r : R) (s : S) → fits r s → (k : ℕ) (refusal : Refusal) → fits (a.close r k refusal) (b.close s k refusal)
+  pub close : (r : R) (s : S) → fits r s → (k : ℕ) → b.is_open s k ≡ true → (refusal : Refusal) → fits (a.close r k refusal) (b.close s k refusal)
 
 -- What rules are made of
 
@@ -193,7 +199,8 @@ module _ {R S : Type 0} (fits : R → S → Type 0) where
 -- what holds of a state holds after each of all moves, but that a session is gone
 pub record IsInvariantOfAll {S H : Type 0} (d : Site S H) (holds : S → Type 0) : Type 0 where
   pub keeps : IsInvariant d holds
-  pub push : (s : S) → holds s → (k : ℕ) (p : Push) → holds (d.push s k p)
+  pub push : (s : S) → holds s → (k : ℕ) → d.is_open s k ≡ true → d.is_full s k ≡ false → (p : Push) → holds (d.push s k p)
+  pub note_cast : (s : S) → holds s → holds (d.note_cast s)
   pub note_joining : (s : S) → holds s → (k : ℕ) → d.is_open s k ≡ true → (g : GroupNo) (h : H) → d.place s g ≡ Some h → (number heard : ℕ) → holds (d.note_joining s k g number heard)
   pub note_outside : (s : S) → holds s → (k : ℕ) (g : GroupNo) → is_outside (d.standing s k g) ≡ false → holds (d.note_outside s k g)
   pub sends : (s : S) → holds s → (h : H) (k : ℕ) (g : GroupNo) (content : Body) → IsSent d s h k g content → holds (sent_here d s h k g content)
@@ -206,7 +213,7 @@ pub record IsInvariantOfAll {S H : Type 0} (d : Site S H) (holds : S → Type 0)
   pub move_home : (s : S) → holds s → (h : H) (move : HomeMove) → holds (d.move_home s h move)
   pub enter_view : (s : S) → holds s → (h : H) (g : GroupNo) (skips : Bool) (n : ℕ) (members : Membership) (request : ℕ) (cut : CountList) → IsEntered d s h g n members → holds (d.enter_view s h skips n members request cut)
   pub release_ended : (s : S) → holds s → (h : H) → holds (d.release_ended s h)
-  pub close : (s : S) → holds s → (k : ℕ) (refusal : Refusal) → holds (d.close s k refusal)
+  pub close : (s : S) → holds s → (k : ℕ) → d.is_open s k ≡ true → (refusal : Refusal) → holds (d.close s k refusal)
 
 -- a site follows itself, in the same state, of which an invariant holds
 abbrev pub AlsoHolds : {S : Type 0} → (S → Type 0) → S → S → Type 0
@@ -278,14 +285,19 @@ follows_itself_in_all d holds keeps = record {
   sent = λ s l k g content is_sent. itself_asks d holds keeps.keeps (sent_here d s l k g content) (message_sent d s k g l content).id;
   name = λ r s f h k at. λ i. d.name (f.0 i) (at i);
   places = λ r s f. all_at_themselves (d.places r) (d.places s) (ap d.places f.0);
+  quotas = λ r s f. ap d.quotas f.0;
   held = λ r s f. ap d.held f.0;
   is_received = λ r s f k from m taken. λ i. d.is_received (f.0 i) m.id;
   is_stable = λ r s f k from m taken new. λ i. d.is_stable (d.receive (f.0 i) m) m.id;
   is_open = λ r s f k. λ i. d.is_open (f.0 i) k;
+  is_full = λ r s f k. λ i. d.is_full (f.0 i) k;
+  members = λ r s f h k at. λ i. d.members (f.0 i) (at i);
+  put_out = λ r s f h k at skips members. λ i. d.put_out (f.0 i) (at i) skips members;
   standing = λ r s f k g. λ i. d.standing (f.0 i) k g;
   time = λ r s f k given. λ i. d.time (f.0 i) k;
   awaits_own = λ r s f k given. λ i. d.awaits_own (f.0 i) k;
-  push = λ r s f k p. (λ i. d.push (f.0 i) k p, keeps.push s f.1 k p);
+  push = λ r s f k given room p. (λ i. d.push (f.0 i) k p, keeps.push s f.1 k given room p);
+  note_cast = λ r s f. (λ i. d.note_cast (f.0 i), keeps.note_cast s f.1);
   note_joining = λ r s f k given g h at number heard. (λ i. d.note_joining (f.0 i) k g number heard, keeps.note_joining s f.1 k given g h at number heard);
   note_outside = λ r s f k g is. (λ i. d.note_outside (f.0 i) k g, keeps.note_outside s f.1 k g is);
   sends = λ r s f h l at k g content sent. (λ i. sent_here d (f.0 i) (at i) k g content, keeps.sends s f.1 l k g content sent);
@@ -301,7 +313,7 @@ follows_itself_in_all d holds keeps = record {
       (λ i. d.enter_view (f.0 i) (at i) skips n members request cut, keeps.enter_view s f.1 k g skips n members request cut entered);
   release_ended = λ r s f h k at. (λ i. d.release_ended (f.0 i) (at i), keeps.release_ended s f.1 k);
   is_gone = λ r s f k. λ i. d.is_gone (f.0 i) k;
-  close = λ r s f k refusal. (λ i. d.close (f.0 i) k refusal, keeps.close s f.1 k refusal);
+  close = λ r s f k given refusal. (λ i. d.close (f.0 i) k refusal, keeps.close s f.1 k given refusal);
 }
 
 -- a site that follows another follows it also in states of which an invariant holds

@@ -19,13 +19,13 @@ use Rattle.cast_view.specs.Home.HomeMove.{Started, Suspected, Reported, Brought,
 use Rattle.cast_history.specs.Rules.Keys.{home_key, want_key}
 use Rattle.cast_history.specs.Rules.Interface.{Site}
 use Rattle.cast_history.specs.Rules.Owing.{owe}
-use Rattle.cast_history.specs.Rules.Requests.{is_home}
+use Rattle.cast_history.specs.Rules.Asking.{is_home}
 use Rattle.cast_history.specs.Rules.Data.{counts_itself, is_well_formed}
 use Rattle.cast_types.specs.declared.names.GroupNo.{GroupNo}
 use Rattle.cast_history.specs.Rules.Home.{want_eq, owe_of_home, start, wants, want, want_bodies, decide, lead_group, lead, on_installed, on_flushed, drop_want, drop_wants, release_site, suspect_in, suspect, on_forward, forwardable, on_want}
 use Rattle.cast_history.proofs.Rules.Follows.{FollowsAll, choose, each, each_place, IsInvariant, IsInvariantOfAll, AlsoHolds, SamePlace, follows_itself_in_all}
 use Rattle.cast_history.proofs.Rules.Owing.{owe_follows, owe_keeps}
-use Rattle.cast_history.proofs.Rules.Requests.{home_same}
+use Rattle.cast_history.proofs.Rules.Asking.{home_same}
 
 module _ {R S H K : Type 0} (a : Site R H) (b : Site S K) (fits : R → S → Type 0) (stands : H → K → Type 0) (all : FollowsAll a b fits stands) where
   -- a frame of the home is owed under the same name

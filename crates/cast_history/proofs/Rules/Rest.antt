@@ -6,10 +6,17 @@ use Rattle.cast_view.specs.MemberSide.{holder_at}
 use Rattle.cast_history.specs.Rules.Interface.{Site, Resting}
 use Rattle.cast_history.specs.Rules.Order.{set_order_by, set_order, set_orders}
 use Rattle.cast_history.specs.Rules.Flushes.{go_on, go_on_all}
-use Rattle.cast_history.specs.Rules.Rest.{deliver_all, settle, pass}
+use Rattle.cast_message.specs.declared.client.Push.{Push}
+use Rattle.cast_history.specs.Rules.Rest.{tell_if, deliver_all, settle, pass}
 use Rattle.cast_history.proofs.Totals.{In}
-use Rattle.cast_history.proofs.Rules.Follows.{FollowsAll, each_place}
+use Rattle.cast_history.proofs.Rules.Follows.{FollowsAll, IsInvariantOfAll, each_place}
+use Rattle.cast_history.proofs.Rules.Leaving.{told_keeps}
 use Rattle.cast_history.proofs.Rules.Home.{lead_follows}
+
+-- an invariant of the moves holds after a program is told something, or nothing
+pub told_if_keeps : {S H : Type 0} (d : Site S H) (holds : S → Type 0) → IsInvariantOfAll d holds → (s : S) → holds s → (k : ℕ) (told : Option Push) → holds (tell_if d s k told)
+told_if_keeps d holds keeps s l k (Some p) = told_keeps d holds keeps s l k p
+told_if_keeps d holds keeps s l k None = l
 
 -- beside all that other rules ask and do: both have the same serials, and stand for each other after all deliveries of one process,
 -- after what the holder of one group lists, and after the Install that waits in one group, or what the site wants for it

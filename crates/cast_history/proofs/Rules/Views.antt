@@ -1,21 +1,25 @@
 -- By the rules of views a site that follows another goes on standing for it.
 use Rattle.std.proofs.Common.{◌≡◌, ◌<◌, ℕ, Bool, true, false, [], Some, refl, sym, ap, subst, arith}
 use Rattle.std.specs.Prelude.{nat_le, nat_lt, ◌+◌, if◌then◌else◌, not}
+use Rattle.std.specs.List.{fold}
 use Rattle.std.proofs.lemmas.Bool.Decides.{nat_tests}
 use Rattle.cast_types.specs.declared.names.SiteNo.{SiteNo}
 use Rattle.cast_types.specs.declared.names.GroupNo.{GroupNo}
 use Rattle.cast_types.specs.Counts.{CountList}
 use Rattle.cast_message.specs.declared.site.SiteFrame.TheVariants as frame
+use Rattle.cast_message.specs.declared.client.Push.TheVariants as push
 use Rattle.cast_message.specs.Membership.{Membership, is_members}
 use Rattle.cast_message.specs.Stretch.{Stretch}
 use Rattle.cast_view.specs.MemberSide.{MemberSide, verdict_of, has_view, is_pending, is_put_out_by}
 use Rattle.cast_view.specs.declared.member.Verdict.{Verdict}
 use Rattle.cast_view.specs.declared.member.Verdict.TheVariants.{Again, Skips, Completes, Pends, Ignored}
 use Rattle.cast_history.specs.Rules.Interface.{Site}
-use Rattle.cast_history.specs.Rules.Requests.{is_from_home}
-use Rattle.cast_history.specs.Rules.Views.{no_members, change_view, install, on_install, on_out}
-use Rattle.cast_history.proofs.Rules.Follows.{FollowsAll, choose}
-use Rattle.cast_history.proofs.Rules.Requests.{send_as, from_home_same}
+use Rattle.cast_history.specs.Rules.Asking.{is_from_home}
+use Rattle.cast_history.specs.Rules.Views.{no_members, tell_out, tell_view, enter_and_tell, change_view, install, on_install, on_out}
+use Rattle.cast_history.proofs.Rules.Follows.{FollowsAll, choose, each}
+use Rattle.cast_history.proofs.Rules.Asking.{from_home_same}
+use Rattle.cast_history.proofs.Rules.Leaving.{tell_follows}
+use Rattle.cast_history.proofs.Rules.Requests.{send_as}
 
 -- an Install that is not answered again has a number that the site has not reached
 later_than : (g : MemberSide) (n : ℕ) → nat_le n g.number ≡ false → g.number < n
@@ -60,12 +64,27 @@ by_verdict_of d s h from n members request cut tail v = elim v [
 ]
 
 module _ {R S H K : Type 0} (a : Site R H) (b : Site S K) (fits : R → S → Type 0) (stands : H → K → Type 0) (all : FollowsAll a b fits stands) where
+  -- all its processes pass to the view, and then are told
+  enter_follows : (skips : Bool) (r : R) (s : S) → fits r s → (h : H) (k : K) → stands h k → (g : GroupNo) → b.place s g ≡ Some k → (n : ℕ) (members : Membership) (request : ℕ) (cut : CountList) → is_members members ≡ true → (b.group s k).number < n → fits (enter_and_tell a skips r h n members request cut) (enter_and_tell b skips s k n members request cut)
+  enter_follows skips r s f h k at g there n members request cut typed later =
+      let entered = all.enter_view r s f h k at g skips n members request cut (record { at = there; later = later; typed = typed }) in
+      let t : R = a.enter_view r h skips n members request cut in
+      let u : S = b.enter_view s k skips n members request cut in
+      let i : GroupNo = b.name s k in
+      let name : a.name r h ≡ i = all.name r s f h k at in
+      let out : a.put_out r h skips members ≡ b.put_out s k skips members = all.put_out r s f h k at skips members in
+      let ins : a.members t h ≡ b.members u k = all.members t u entered h k at in
+      subst (λ x. fits x (enter_and_tell b skips s k n members request cut))
+      (λ j. fold (tell_view a (sym name j) n members) (fold (tell_out a (sym name j) n) t (sym out j)) (sym ins j))
+      (each fits (tell_view a i n members) (tell_view b i n members) (λ x y p fit. tell_follows a b fits stands all x y fit p (push.View i n members)) (b.members u k) _ _
+      (each fits (tell_out a i n) (tell_out b i n) (λ x y p fit. tell_follows a b fits stands all x y fit p (push.Ejected i n)) (b.put_out s k skips members) t u entered))
+
   change_follows : (skips : Bool) (r : R) (s : S) → fits r s → (h : H) (k : K) → stands h k → (g : GroupNo) → b.place s g ≡ Some k → (n : ℕ) (members : Membership) (request : ℕ) (cut : CountList) → is_members members ≡ true → (b.group s k).number < n → fits (change_view a skips r h n members request cut) (change_view b skips s k n members request cut)
   change_follows skips r s f h k at g there n members request cut typed later =
-      let entered = all.enter_view r s f h k at g skips n members request cut (record { at = there; later = later; typed = typed }) in
-      let next : R = a.release_ended (a.enter_view r h skips n members request cut) h in
-      let after : S = b.release_ended (b.enter_view s k skips n members request cut) k in
-      let released : fits next after = all.release_ended _ _ entered h k at in
+      let told = enter_follows skips r s f h k at g there n members request cut typed later in
+      let next : R = a.release_ended (enter_and_tell a skips r h n members request cut) h in
+      let after : S = b.release_ended (enter_and_tell b skips s k n members request cut) k in
+      let released : fits next after = all.release_ended _ _ told h k at in
       subst (λ x. fits (a.pay_view next x) (b.pay_view after (b.name s k))) (sym (all.name r s f h k at)) (all.follows.pay_view next after released (b.name s k))
 
   pub install_view_follows : (skips : Bool) (r : R) (s : S) → fits r s → (h : H) (k : K) → stands h k → (from : SiteNo) (g : GroupNo) → b.place s g ≡ Some k → (n : ℕ) (members : Membership) (request : ℕ) (cut : CountList) → is_members members ≡ true → (b.group s k).number < n → fits (install a skips r h from n members request cut) (install b skips s k from n members request cut)

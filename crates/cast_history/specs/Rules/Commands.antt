@@ -1,10 +1,7 @@
--- The rules of commands: what a program asks for, when it is refused, and its reply; and how a session ends.
-use Rattle.std.specs.Prelude.{ℕ, ◌+◌, not, ◌==◌, nat_lt, if◌then◌else◌, List, length, Option, Some, None}
-use Rattle.std.specs.List.{fold}
+-- The rules of commands: what a program asks for, when it is refused, and its reply.
+use Rattle.std.specs.Prelude.{ℕ, ◌+◌, not, ◌==◌, nat_lt, if◌then◌else◌, List, length, Some, None}
 use Rattle.std.specs.Option.{option_map_or}
 use Rattle.cast_types.specs.declared.names.GroupNo.{GroupNo}
-use Rattle.cast_types.specs.declared.names.Proc.{Proc}
-use Rattle.cast_types.specs.declared.refusal.Refusal.{Refusal}
 use Rattle.cast_types.specs.declared.refusal.Refusal.TheVariants.{BadFrame, NoGroup, NotMember, AlreadyMember, Flushing, OwnAbcast, HeldFull, TooLong}
 use Rattle.cast_types.specs.declared.limits.TheConstants.{MAX_NUMBER, MAX_PAYLOAD}
 use Rattle.cast_types.specs.Stamps.{ClockList}
@@ -24,57 +21,34 @@ use Rattle.cast_delay.specs.Ready.{is_member, is_outside}
 use Rattle.cast_history.specs.Rules.Interface.{Site}
 use Rattle.cast_history.specs.Rules.Room.{may_receive}
 use Rattle.cast_history.specs.Rules.Sending.{may_raise, send_message}
-use Rattle.cast_history.specs.Rules.Requests.{request}
+use Rattle.cast_history.specs.Rules.Asking.{request}
+use Rattle.cast_history.specs.Rules.Leaving.{Attempt, named_here, leave_at, close_session, tell}
 
 -- a cast of a kind
 abbrev pub body_of : CastKind → List ℕ → Body
 body_of kind.Causal payload = body.Causal payload
 body_of kind.Atomic payload = body.Atomic payload
 
--- what a call that may be refused leaves, and the refusal: a refused one leaves what was
-abbrev pub Attempt : Type 0 → Type 0
-Attempt S = S × Option Refusal
-
 -- each rule is of the local process of serial k, and of the group g, which stands at h
 module _ {S H : Type 0} (d : Site S H) where
-  -- the process's name
-  abbrev pub named_here : S → ℕ → Proc
-  named_here s k = record { site = d.here s; serial = k }
-
   abbrev pub join_at : S → ℕ → GroupNo → H → Attempt S
   join_at s k g h =
       if not (is_outside (d.standing s k g)) then (s, Some AlreadyMember)
       else if (d.group s h).asked == MAX_NUMBER then (s, Some HeldFull)
-      else (request d (d.note_joining s k g ((d.group s h).asked + 1) (view_of (d.time s k) g)) h change.Join (named_here s k), None)
+      else (request d (d.note_joining s k g ((d.group s h).asked + 1) (view_of (d.time s k) g)) h change.Join (named_here d s k), None)
 
   abbrev pub join : S → ℕ → GroupNo → Attempt S
   join s k g = option_map_or (join_at s k g) (d.place s g) (s, Some NoGroup)
 
-  -- the process is outside from then on, and a request to leave is queued, while a number is left
-  abbrev pub leave_group : S → ℕ → GroupNo → H → S
-  leave_group s k g h =
-      if (d.group s h).asked == MAX_NUMBER then d.note_outside s k g
-      else request d (d.note_outside s k g) h change.Leave (named_here s k)
-
-  abbrev pub leave_at : S → ℕ → GroupNo → H → Attempt S
-  leave_at s k g h = if is_outside (d.standing s k g) then (s, Some NotMember) else (leave_group s k g h, None)
-
   abbrev pub leave : S → ℕ → GroupNo → Attempt S
-  leave s k g = option_map_or (leave_at s k g) (d.place s g) (s, Some NoGroup)
-
-  -- the process leaves all groups that it joins or is a member of
-  abbrev pub leave_each : ℕ → S → H → S
-  leave_each k s h = (leave_at s k (d.name s h) h).0
-
-  abbrev pub leave_all : S → ℕ → S
-  leave_all s k = fold (leave_each k) s (d.places s)
+  leave s k g = option_map_or (leave_at d s k g) (d.place s g) (s, Some NoGroup)
 
   -- the process's next message: its time, with its own count raised, stamps it
   abbrev pub message_sent : S → ℕ → GroupNo → H → Body → Message
   message_sent s k g h content =
-      let times : ClockList = bumped (d.time s k) g (named_here s k) in
+      let times : ClockList = bumped (d.time s k) g (named_here d s k) in
       record {
-        id = record { group = g; view = (d.group s h).number; proc = named_here s k; count = count_in times g (named_here s k) };
+        id = record { group = g; view = (d.group s h).number; proc = named_here d s k; count = count_in times g (named_here d s k) };
         times = times;
         body = content;
       }
@@ -90,30 +64,22 @@ module _ {S H : Type 0} (d : Site S H) where
       else if (d.group s h).frozen then (s, Some Flushing)
       else if d.awaits_own s k then (s, Some OwnAbcast)
       else if not (may_receive d s) then (s, Some HeldFull)
-      else if not (may_raise (d.time s k) g (named_here s k)) then (s, Some HeldFull)
-      else (send_own s k (message_sent s k g h (body_of cast payload)), None)
+      else if not (may_raise (d.time s k) g (named_here d s k)) then (s, Some HeldFull)
+      else (d.note_cast (send_own s k (message_sent s k g h (body_of cast payload))), None)
 
   abbrev pub cast : S → ℕ → GroupNo → CastKind → List ℕ → Attempt S
   cast s k g kind payload = option_map_or (cast_at s k g kind payload) (d.place s g) (s, Some NoGroup)
 
   -- the program is told whether its request was refused
   abbrev pub reply : Attempt S → ℕ → ℕ → S
-  reply a k tag = d.push a.0 k (push.Reply tag a.1)
+  reply a k tag = tell d a.0 k (push.Reply tag a.1)
 
   abbrev pub requested : S → ℕ → Request → S
   requested s k (Join tag g) = reply (join s k g) k tag
   requested s k (Leave tag g) = reply (leave s k g) k tag
   requested s k (Cast tag g kind payload) = reply (cast s k g kind payload) k tag
 
-  -- a session is closed, and its process leaves all its groups
-  abbrev pub close_session : S → ℕ → Refusal → S
-  close_session s k refusal = leave_all (d.close s k refusal) k
-
   -- bytes that are no frame close the session; what is said in one that is not open is ignored
   abbrev pub commanded : S → ℕ → Command → S
   commanded s k (command.Request q) = if d.is_open s k then requested s k q else s
-  commanded s k command.Bad = if d.is_open s k then close_session s k BadFrame else s
-
-  -- a session whose program is gone is gone, and its process leaves all its groups
-  abbrev pub end_session : S → ℕ → S
-  end_session s k = if d.is_gone s k then s else leave_all (d.go s k) k
+  commanded s k command.Bad = if d.is_open s k then close_session d s k BadFrame else s

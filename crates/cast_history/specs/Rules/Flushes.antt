@@ -16,7 +16,7 @@ use Rattle.cast_view.specs.MemberSide.{members_of, answers_prepare, is_pending}
 use Rattle.cast_history.specs.Rules.Keys.{message_key}
 use Rattle.cast_history.specs.Rules.Interface.{Site, Resting}
 use Rattle.cast_history.specs.Rules.Owing.{owe}
-use Rattle.cast_history.specs.Rules.Requests.{is_from_home}
+use Rattle.cast_history.specs.Rules.Asking.{is_from_home}
 use Rattle.cast_history.specs.Rules.Data.{is_well_formed, want_no_more}
 use Rattle.cast_history.specs.Rules.Views.{install}
 

@@ -17,7 +17,7 @@ use Rattle.cast_view.specs.Home.HomeMove.{Started, Suspected, Reported, Brought,
 use Rattle.cast_history.specs.Rules.Keys.{home_key, want_key}
 use Rattle.cast_history.specs.Rules.Interface.{Site}
 use Rattle.cast_history.specs.Rules.Owing.{owe}
-use Rattle.cast_history.specs.Rules.Requests.{is_home}
+use Rattle.cast_history.specs.Rules.Asking.{is_home}
 use Rattle.cast_history.specs.Rules.Data.{is_well_formed}
 
 -- the same message, wanted from the same site

@@ -20,6 +20,8 @@ use Rattle.cast_message.specs.Sequence.{Sequence}
 use Rattle.cast_message.specs.Stretch.{Stretch}
 use Rattle.cast_timer.specs.declared.key.OwedKey.{OwedKey}
 use Rattle.cast_model.specs.declared.config.DomainConfig.{DomainConfig}
+use Rattle.cast_quota.specs.declared.quotas.Quotas.{Quotas}
+use Rattle.cast_quota.specs.declared.quotas.QuotaName.{QuotaName}
 use Rattle.cast_flush.specs.declared.report.Report.{Report}
 use Rattle.cast_view.specs.declared.member.Pending.{Pending}
 use Rattle.cast_view.specs.MemberSide.{MemberSide}
@@ -30,6 +32,8 @@ pub record Site (S H : Type 0) : Type 0 where
   -- the site's number
   pub here : S → SiteNo
   pub config : S → DomainConfig
+  -- what the domain may use now
+  pub quotas : S → Quotas
   -- where a group of the domain's configuration stands
   pub place : S → GroupNo → Option H
   pub name : S → H → GroupNo
@@ -55,6 +59,12 @@ pub record Site (S H : Type 0) : Type 0 where
   pub message : S → Uid → Option Message
   -- a session is open
   pub is_open : S → ℕ → Bool
+  -- its outbox has as many entries as it may have
+  pub is_full : S → ℕ → Bool
+  -- the local members of a group, by serial
+  pub members : S → H → List ℕ
+  -- those of them that a next view lacks, and all where a view is skipped
+  pub put_out : S → H → Bool → Membership → List ℕ
   -- what a local process is in a group, its time, and that it has not delivered an ABCAST of its own; processes are named by their serials
   pub standing : S → ℕ → GroupNo → Standing
   pub time : S → ℕ → ClockList
@@ -85,8 +95,10 @@ pub record Site (S H : Type 0) : Type 0 where
   pub note_ack : S → SiteNo → Uid → S
   -- it is noted that a process's messages up to one are stable
   pub note_stable : S → Uid → S
-  -- a program is told something
+  -- a program is told something, where its session is open
   pub push : S → ℕ → Push → S
+  -- a cast of a program was accepted
+  pub note_cast : S → S
   -- a local process joins a group by a request of this number, and had heard of views up to one
   pub note_joining : S → ℕ → GroupNo → ℕ → ℕ → S
   -- a local process that joins a group or is a member is outside from now on
@@ -105,23 +117,31 @@ pub record Site (S H : Type 0) : Type 0 where
   pub pend : S → H → Pending → Stretch → S
   -- the home of a group moves on
   pub move_home : S → H → HomeMove → S
-  -- a group passes to a view of this number, with these members. The local members that it lacks are put out, and told; all of them, where a view
-  -- was skipped. Then the local processes that it takes in enter it, and are told: a member, and one whose request to join was applied, by the
+  -- a group passes to a view of this number, with these members. The local members that it lacks are put out; all of them, where a view
+  -- was skipped. Then the local processes that it takes in enter it: a member, and one whose request to join was applied, by the
   -- number of the last one of this site that was; the last argument is the Install's cut
   pub enter_view : S → H → Bool → ℕ → Membership → ℕ → CountList → S
   -- messages of a group's views that have ended are kept no longer
   pub release_ended : S → H → S
-  -- a session is closed: its program is told why, and nothing after that
+  -- an open session is closed: its program is told why, and nothing after that
   pub close : S → ℕ → Refusal → S
-  -- a session is gone
+  -- a session is gone, and its outbox
   pub go : S → ℕ → S
 
--- the serials of a domain's sessions, which count from 1
-pub record Serials (S : Type 0) : Type 0 where
-  -- how many were given
+-- what only events do: to the sessions of a domain, whose serials count from 1, and to its quotas
+pub record Sessions (S : Type 0) : Type 0 where
+  -- how many serials were given
   pub used : S → ℕ
-  -- the next one is given, and its session is open
+  -- how many sessions are not gone
+  pub count : S → ℕ
+  -- the next serial is given, and its session is open
   pub open_next : S → S
+  -- the first entries of a session's outbox, at most so many
+  pub entries : S → ℕ → ℕ → List Push
+  -- they are taken
+  pub take : S → ℕ → ℕ → S
+  -- a quota has another value
+  pub set_quota : S → QuotaName → ℕ → S
 
 -- what a domain does of itself, until nothing changes
 pub record Resting (S H : Type 0) : Type 0 where

@@ -10,7 +10,8 @@ use Rattle.cast_history.specs.Rules.Interface.{Site, Resting}
 use Rattle.cast_history.specs.Rules.Release.{let_go}
 use Rattle.cast_history.specs.Rules.Room.{may_order}
 use Rattle.cast_history.specs.Rules.Sending.{may_raise}
-use Rattle.cast_history.specs.Rules.Commands.{named_here, message_sent, send_own}
+use Rattle.cast_history.specs.Rules.Leaving.{named_here}
+use Rattle.cast_history.specs.Rules.Commands.{message_sent, send_own}
 
 -- each rule is of the group that stands at h, and of the local process of serial k
 module _ {S H : Type 0} (d : Site S H) (q : Resting S H) where

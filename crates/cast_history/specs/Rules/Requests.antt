@@ -1,12 +1,11 @@
--- The rules of requests: a site asks the home for one after another, and the home applies each once.
+-- The rules of requests: the home applies each once, and answers it.
 use Rattle.std.specs.Prelude.{ℕ, Bool, false, ◌&&◌, ◌==◌, if◌then◌else◌, Option, Some, None}
 use Rattle.cast_types.specs.declared.names.SiteNo.{SiteNo}
 use Rattle.cast_types.specs.declared.names.Proc.{Proc}
-use Rattle.cast_types.specs.Names.{site_eq}
 use Rattle.cast_message.specs.declared.site.Change.{Change}
 use Rattle.cast_message.specs.declared.site.SiteFrame.TheVariants as frame
 use Rattle.cast_view.specs.MemberSide.{first_asking}
-use Rattle.cast_view.specs.Home.{is_empty, answer_to}
+use Rattle.cast_view.specs.Home.{answer_to}
 use Rattle.cast_view.specs.Home.HomeMove.{Asked}
 use Rattle.cast_message.specs.declared.client.Push.TheVariants as push
 use Rattle.cast_types.specs.declared.refusal.Refusal.TheVariants.{GroupFull}
@@ -15,7 +14,8 @@ use Rattle.cast_types.specs.declared.names.Standing.TheVariants.{Outside, Joinin
 use Rattle.cast_view.specs.declared.member.Asking.{Asking}
 use Rattle.cast_history.specs.Rules.Keys.{ask_key}
 use Rattle.cast_history.specs.Rules.Interface.{Site}
-use Rattle.cast_history.specs.Rules.Owing.{owe}
+use Rattle.cast_history.specs.Rules.Asking.{is_home, is_from_home, ask_home}
+use Rattle.cast_history.specs.Rules.Leaving.{tell}
 
 -- a process that still joins by a request
 abbrev pub is_joining_by : Standing → ℕ → Bool
@@ -25,22 +25,6 @@ is_joining_by Member number = false
 
 -- each rule is of the group that stands at h
 module _ {S H : Type 0} (d : Site S H) where
-  -- this site is the home
-  abbrev pub is_home : S → Bool
-  is_home s = site_eq (d.here s) (d.config s).home
-
-  abbrev pub is_from_home : S → SiteNo → Bool
-  is_from_home s from = site_eq from (d.config s).home
-
-  -- the first request, where there is one, is owed to the home
-  abbrev pub ask_home : S → H → S
-  ask_home s h = if is_empty (d.group s h).requests then s else owe d s (ask_key (d.name s h) (d.config s).home)
-
-  -- one more request; it is asked at once where it is the first
-  abbrev pub request : S → H → Change → Proc → S
-  request s h what p =
-      if is_empty (d.group s h).requests then ask_home (d.note_request s h what p) h else d.note_request s h what p
-
   -- a site's request that is answered, the group being full or not
   abbrev pub answer_ask : S → H → SiteNo → ℕ → Option Bool → S
   answer_ask s h from number None = s
@@ -49,7 +33,7 @@ module _ {S H : Type 0} (d : Site S H) where
   -- at the home a request is taken in, and answered where it is the next one of its site or was answered before
   abbrev pub on_ask : S → H → SiteNo → ℕ → Change → Proc → S
   on_ask s h from number what p =
-      if is_home s
+      if is_home d s
       then answer_ask (d.move_home s h (Asked from number what p)) h from number (answer_to (d.home s h) from number what p)
       else s
 
@@ -57,7 +41,7 @@ module _ {S H : Type 0} (d : Site S H) where
   abbrev pub deny : S → H → Asking → S
   deny s h a =
       if is_joining_by (d.standing s a.proc.serial (d.name s h)) a.number
-      then d.push (d.note_outside s a.proc.serial (d.name s h)) a.proc.serial (push.Denied (d.name s h) GroupFull)
+      then tell d (d.note_outside s a.proc.serial (d.name s h)) a.proc.serial (push.Denied (d.name s h) GroupFull)
       else s
 
   abbrev pub deny_if : Bool → S → H → Asking → S
@@ -65,12 +49,12 @@ module _ {S H : Type 0} (d : Site S H) where
 
   -- the first request is answered: it is taken off, and the next one is asked
   abbrev pub take_answer : S → H → S
-  take_answer s h = ask_home (d.note_answer (d.pay s (ask_key (d.name s h) (d.config s).home)) h) h
+  take_answer s h = ask_home d (d.note_answer (d.pay s (ask_key (d.name s h) (d.config s).home)) h) h
 
   abbrev pub on_asked : S → H → SiteNo → ℕ → Bool → S
   on_asked s h from number full =
       elim (first_asking (d.group s h).requests) [
         | Some a ↦
-            (if is_from_home s from && (a.number == number) then deny_if full (take_answer s h) h a else s)
+            (if is_from_home d s from && (a.number == number) then deny_if full (take_answer s h) h a else s)
         | None ↦ s
       ]

@@ -11,6 +11,7 @@ use Rattle.cast_message.specs.declared.client.CastKind.TheVariants as kind
 use Rattle.cast_message.specs.declared.client.Push.{Push}
 use Rattle.cast_message.specs.declared.client.Push.TheVariants as push
 use Rattle.cast_history.specs.Rules.Interface.{Site, Resting}
+use Rattle.cast_history.specs.Rules.Leaving.{tell}
 use Rattle.cast_history.specs.Rules.Release.{let_go}
 use Rattle.cast_history.specs.Rules.Order.{set_orders}
 use Rattle.cast_history.specs.Rules.Flushes.{go_on_all}
@@ -23,13 +24,13 @@ told_of id (body.Atomic payload) = Some (push.Deliver id kind.Atomic payload)
 told_of id (body.Order sequence) = None
 
 -- a program is told something, or nothing
-abbrev pub tell : {S H : Type 0} → Site S H → S → ℕ → Option Push → S
-tell d s k told = elim told [ Some p ↦ d.push s k p | None ↦ s ]
+abbrev pub tell_if : {S H : Type 0} → Site S H → S → ℕ → Option Push → S
+tell_if d s k told = elim told [ Some p ↦ tell d s k p | None ↦ s ]
 
 module _ {S H : Type 0} (d : Site S H) (q : Resting S H) where
   -- a process delivers a message, and its program is told
   abbrev pub deliver : S → ℕ → Message → S
-  deliver s k m = tell d (q.note_delivered s k m) k (told_of m.id m.body)
+  deliver s k m = tell_if d (q.note_delivered s k m) k (told_of m.id m.body)
 
   -- a process delivers the first message that is ready for it, and what is free then is let go
   abbrev pub deliver_first : ℕ → S → S
