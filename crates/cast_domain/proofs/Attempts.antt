@@ -12,14 +12,15 @@ use Rattle.cast_message.specs.declared.site.Change.TheVariants as change
 use Rattle.cast_message.specs.Sequence.{Sequence}
 use Rattle.cast_delay.specs.Ready.{is_member, is_outside}
 use Rattle.cast_delay.specs.declared.row.Fact.TheVariants as fact
-use Rattle.cast_history.specs.Rules.Requests.{request}
+use Rattle.cast_history.specs.Rules.Asking.{request}
 use Rattle.cast_history.specs.Rules.Room.{may_receive}
 use Rattle.cast_history.specs.Rules.Sending.{send_message, may_raise}
-use Rattle.cast_history.specs.Rules.Commands.{Attempt, join_at, message_sent, cast_at}
+use Rattle.cast_history.specs.Rules.Leaving.{Attempt}
+use Rattle.cast_history.specs.Rules.Commands.{join_at, message_sent, cast_at}
 use Rattle.cast_domain.specs.Records.{Records}
 use Rattle.cast_history.specs.Rules.Commands.{body_of}
 use Rattle.cast_history.specs.Rules.Release as release
-use Rattle.cast_domain.specs.Calls.{awaits_own_in, records, record_at, standing_of, time_of, local_in, tell_in, resting_records}
+use Rattle.cast_domain.specs.Calls.{awaits_own_in, records, record_at, standing_of, time_of, local_in, tell_in, count_cast_in, resting_records}
 use Rattle.cast_history.specs.Rules.Order.{may_list, send_places, list_places, set_order_by}
 
 -- what a join does that is not refused
@@ -42,62 +43,62 @@ sent r k g cast payload i =
     (message_sent records r k g i (body_of cast payload))
 
 -- what is left of a cast past the tests of payload and membership
-cast_going : (r : Records) (k : ℕ) (g : GroupNo) (cast : CastKind) (payload : List ℕ) (i : ℕ) → nat_lt MAX_PAYLOAD (length payload) ≡ false → is_member (standing_of r.delay (local_in r k) g) ≡ true → cast_at records r k g cast payload i ≡ (if (record_at r.groups i).here.frozen then (r, Some Flushing) else if awaits_own_in r (local_in r k) then (r, Some OwnAbcast) else if not (may_receive records r) then (r, Some HeldFull) else if not (may_raise (time_of r.delay (local_in r k)) g (local_in r k)) then (r, Some HeldFull) else (sent r k g cast payload i, None))
+cast_going : (r : Records) (k : ℕ) (g : GroupNo) (cast : CastKind) (payload : List ℕ) (i : ℕ) → nat_lt MAX_PAYLOAD (length payload) ≡ false → is_member (standing_of r.delay (local_in r k) g) ≡ true → cast_at records r k g cast payload i ≡ (if (record_at r.groups i).here.frozen then (r, Some Flushing) else if awaits_own_in r (local_in r k) then (r, Some OwnAbcast) else if not (may_receive records r) then (r, Some HeldFull) else if not (may_raise (time_of r.delay (local_in r k)) g (local_in r k)) then (r, Some HeldFull) else (count_cast_in (sent r k g cast payload i), None))
 cast_going r k g cast payload i short member =
-    let last : Attempt Records = if (record_at r.groups i).here.frozen then (r, Some Flushing) else if awaits_own_in r (local_in r k) then (r, Some OwnAbcast) else if not (may_receive records r) then (r, Some HeldFull) else if not (may_raise (time_of r.delay (local_in r k)) g (local_in r k)) then (r, Some HeldFull) else (sent r k g cast payload i, None) in
+    let last : Attempt Records = if (record_at r.groups i).here.frozen then (r, Some Flushing) else if awaits_own_in r (local_in r k) then (r, Some OwnAbcast) else if not (may_receive records r) then (r, Some HeldFull) else if not (may_raise (time_of r.delay (local_in r k)) g (local_in r k)) then (r, Some HeldFull) else (count_cast_in (sent r k g cast payload i), None) in
     ap (λ b. if b then (r, Some TooLong) else if not (is_member (standing_of r.delay (local_in r k) g)) then (r, Some NotMember) else last) short
     ∙ ap (λ b. if not b then (r, Some NotMember) else last) member
 
 -- a cast to a group that a flush has frozen is refused
 pub cast_frozen : (r : Records) (k : ℕ) (g : GroupNo) (cast : CastKind) (payload : List ℕ) (i : ℕ) → nat_lt MAX_PAYLOAD (length payload) ≡ false → is_member (standing_of r.delay (local_in r k) g) ≡ true → (record_at r.groups i).here.frozen ≡ true → cast_at records r k g cast payload i ≡ (r, Some Flushing)
 cast_frozen r k g cast payload i short member frozen =
-    let last : Attempt Records = if awaits_own_in r (local_in r k) then (r, Some OwnAbcast) else if not (may_receive records r) then (r, Some HeldFull) else if not (may_raise (time_of r.delay (local_in r k)) g (local_in r k)) then (r, Some HeldFull) else (sent r k g cast payload i, None) in
+    let last : Attempt Records = if awaits_own_in r (local_in r k) then (r, Some OwnAbcast) else if not (may_receive records r) then (r, Some HeldFull) else if not (may_raise (time_of r.delay (local_in r k)) g (local_in r k)) then (r, Some HeldFull) else (count_cast_in (sent r k g cast payload i), None) in
     cast_going r k g cast payload i short member
     ∙ ap (λ b. if b then (r, Some Flushing) else last) frozen
 
 -- what is left of a cast past the tests of the group
-cast_owning : (r : Records) (k : ℕ) (g : GroupNo) (cast : CastKind) (payload : List ℕ) (i : ℕ) → nat_lt MAX_PAYLOAD (length payload) ≡ false → is_member (standing_of r.delay (local_in r k) g) ≡ true → (record_at r.groups i).here.frozen ≡ false → cast_at records r k g cast payload i ≡ (if awaits_own_in r (local_in r k) then (r, Some OwnAbcast) else if not (may_receive records r) then (r, Some HeldFull) else if not (may_raise (time_of r.delay (local_in r k)) g (local_in r k)) then (r, Some HeldFull) else (sent r k g cast payload i, None))
+cast_owning : (r : Records) (k : ℕ) (g : GroupNo) (cast : CastKind) (payload : List ℕ) (i : ℕ) → nat_lt MAX_PAYLOAD (length payload) ≡ false → is_member (standing_of r.delay (local_in r k) g) ≡ true → (record_at r.groups i).here.frozen ≡ false → cast_at records r k g cast payload i ≡ (if awaits_own_in r (local_in r k) then (r, Some OwnAbcast) else if not (may_receive records r) then (r, Some HeldFull) else if not (may_raise (time_of r.delay (local_in r k)) g (local_in r k)) then (r, Some HeldFull) else (count_cast_in (sent r k g cast payload i), None))
 cast_owning r k g cast payload i short member going =
-    let last : Attempt Records = if awaits_own_in r (local_in r k) then (r, Some OwnAbcast) else if not (may_receive records r) then (r, Some HeldFull) else if not (may_raise (time_of r.delay (local_in r k)) g (local_in r k)) then (r, Some HeldFull) else (sent r k g cast payload i, None) in
+    let last : Attempt Records = if awaits_own_in r (local_in r k) then (r, Some OwnAbcast) else if not (may_receive records r) then (r, Some HeldFull) else if not (may_raise (time_of r.delay (local_in r k)) g (local_in r k)) then (r, Some HeldFull) else (count_cast_in (sent r k g cast payload i), None) in
     cast_going r k g cast payload i short member
     ∙ ap (λ b. if b then (r, Some Flushing) else last) going
 
 -- what is left of a cast past the tests that are not of room
-cast_past : (r : Records) (k : ℕ) (g : GroupNo) (cast : CastKind) (payload : List ℕ) (i : ℕ) → nat_lt MAX_PAYLOAD (length payload) ≡ false → is_member (standing_of r.delay (local_in r k) g) ≡ true → (record_at r.groups i).here.frozen ≡ false → awaits_own_in r (local_in r k) ≡ false → cast_at records r k g cast payload i ≡ (if not (may_receive records r) then (r, Some HeldFull) else if not (may_raise (time_of r.delay (local_in r k)) g (local_in r k)) then (r, Some HeldFull) else (sent r k g cast payload i, None))
+cast_past : (r : Records) (k : ℕ) (g : GroupNo) (cast : CastKind) (payload : List ℕ) (i : ℕ) → nat_lt MAX_PAYLOAD (length payload) ≡ false → is_member (standing_of r.delay (local_in r k) g) ≡ true → (record_at r.groups i).here.frozen ≡ false → awaits_own_in r (local_in r k) ≡ false → cast_at records r k g cast payload i ≡ (if not (may_receive records r) then (r, Some HeldFull) else if not (may_raise (time_of r.delay (local_in r k)) g (local_in r k)) then (r, Some HeldFull) else (count_cast_in (sent r k g cast payload i), None))
 cast_past r k g cast payload i short member going own =
-    let last : Attempt Records = if not (may_receive records r) then (r, Some HeldFull) else if not (may_raise (time_of r.delay (local_in r k)) g (local_in r k)) then (r, Some HeldFull) else (sent r k g cast payload i, None) in
+    let last : Attempt Records = if not (may_receive records r) then (r, Some HeldFull) else if not (may_raise (time_of r.delay (local_in r k)) g (local_in r k)) then (r, Some HeldFull) else (count_cast_in (sent r k g cast payload i), None) in
     cast_owning r k g cast payload i short member going
     ∙ ap (λ b. if b then (r, Some OwnAbcast) else last) own
 
 -- a cast that passes all tests is sent
-pub cast_made : (r : Records) (k : ℕ) (g : GroupNo) (cast : CastKind) (payload : List ℕ) (i : ℕ) → nat_lt MAX_PAYLOAD (length payload) ≡ false → is_member (standing_of r.delay (local_in r k) g) ≡ true → (record_at r.groups i).here.frozen ≡ false → awaits_own_in r (local_in r k) ≡ false → may_receive records r ≡ true → may_raise (time_of r.delay (local_in r k)) g (local_in r k) ≡ true → cast_at records r k g cast payload i ≡ (sent r k g cast payload i, None)
+pub cast_made : (r : Records) (k : ℕ) (g : GroupNo) (cast : CastKind) (payload : List ℕ) (i : ℕ) → nat_lt MAX_PAYLOAD (length payload) ≡ false → is_member (standing_of r.delay (local_in r k) g) ≡ true → (record_at r.groups i).here.frozen ≡ false → awaits_own_in r (local_in r k) ≡ false → may_receive records r ≡ true → may_raise (time_of r.delay (local_in r k)) g (local_in r k) ≡ true → cast_at records r k g cast payload i ≡ (count_cast_in (sent r k g cast payload i), None)
 cast_made r k g cast payload i short member going own room may =
-    let raised : Attempt Records = if not (may_raise (time_of r.delay (local_in r k)) g (local_in r k)) then (r, Some HeldFull) else (sent r k g cast payload i, None) in
+    let raised : Attempt Records = if not (may_raise (time_of r.delay (local_in r k)) g (local_in r k)) then (r, Some HeldFull) else (count_cast_in (sent r k g cast payload i), None) in
     cast_past r k g cast payload i short member going own
     ∙ ap (λ b. if not b then (r, Some HeldFull) else raised) room
-    ∙ ap (λ b. if not b then (r, Some HeldFull) else (sent r k g cast payload i, None)) may
+    ∙ ap (λ b. if not b then (r, Some HeldFull) else (count_cast_in (sent r k g cast payload i), None)) may
 
 -- a cast of a process that awaits an ABCAST of its own is refused
 pub cast_owned : (r : Records) (k : ℕ) (g : GroupNo) (cast : CastKind) (payload : List ℕ) (i : ℕ) → nat_lt MAX_PAYLOAD (length payload) ≡ false → is_member (standing_of r.delay (local_in r k) g) ≡ true → (record_at r.groups i).here.frozen ≡ false → awaits_own_in r (local_in r k) ≡ true → cast_at records r k g cast payload i ≡ (r, Some OwnAbcast)
 cast_owned r k g cast payload i short member going own =
-    let last : Attempt Records = if not (may_receive records r) then (r, Some HeldFull) else if not (may_raise (time_of r.delay (local_in r k)) g (local_in r k)) then (r, Some HeldFull) else (sent r k g cast payload i, None) in
+    let last : Attempt Records = if not (may_receive records r) then (r, Some HeldFull) else if not (may_raise (time_of r.delay (local_in r k)) g (local_in r k)) then (r, Some HeldFull) else (count_cast_in (sent r k g cast payload i), None) in
     cast_owning r k g cast payload i short member going
     ∙ ap (λ b. if b then (r, Some OwnAbcast) else last) own
 
 -- and so is a cast beside too many messages
 pub cast_full : (r : Records) (k : ℕ) (g : GroupNo) (cast : CastKind) (payload : List ℕ) (i : ℕ) → nat_lt MAX_PAYLOAD (length payload) ≡ false → is_member (standing_of r.delay (local_in r k) g) ≡ true → (record_at r.groups i).here.frozen ≡ false → awaits_own_in r (local_in r k) ≡ false → may_receive records r ≡ false → cast_at records r k g cast payload i ≡ (r, Some HeldFull)
 cast_full r k g cast payload i short member going own full =
-    let raised : Attempt Records = if not (may_raise (time_of r.delay (local_in r k)) g (local_in r k)) then (r, Some HeldFull) else (sent r k g cast payload i, None) in
+    let raised : Attempt Records = if not (may_raise (time_of r.delay (local_in r k)) g (local_in r k)) then (r, Some HeldFull) else (count_cast_in (sent r k g cast payload i), None) in
     cast_past r k g cast payload i short member going own
     ∙ ap (λ b. if not b then (r, Some HeldFull) else raised) full
 
 -- and one of a process whose count cannot be raised
 pub cast_unraised : (r : Records) (k : ℕ) (g : GroupNo) (cast : CastKind) (payload : List ℕ) (i : ℕ) → nat_lt MAX_PAYLOAD (length payload) ≡ false → is_member (standing_of r.delay (local_in r k) g) ≡ true → (record_at r.groups i).here.frozen ≡ false → awaits_own_in r (local_in r k) ≡ false → may_receive records r ≡ true → may_raise (time_of r.delay (local_in r k)) g (local_in r k) ≡ false → cast_at records r k g cast payload i ≡ (r, Some HeldFull)
 cast_unraised r k g cast payload i short member going own room may =
-    let raised : Attempt Records = if not (may_raise (time_of r.delay (local_in r k)) g (local_in r k)) then (r, Some HeldFull) else (sent r k g cast payload i, None) in
+    let raised : Attempt Records = if not (may_raise (time_of r.delay (local_in r k)) g (local_in r k)) then (r, Some HeldFull) else (count_cast_in (sent r k g cast payload i), None) in
     cast_past r k g cast payload i short member going own
     ∙ ap (λ b. if not b then (r, Some HeldFull) else raised) room
-    ∙ ap (λ b. if not b then (r, Some HeldFull) else (sent r k g cast payload i, None)) may
+    ∙ ap (λ b. if not b then (r, Some HeldFull) else (count_cast_in (sent r k g cast payload i), None)) may
 
 -- what the holder's set-order message does that is sent
 pub places_made : (r : Records) (i k : ℕ) (q : Sequence) → may_list records resting_records r i k ≡ true → resting_records.next_places r i k ≡ Some q → may_raise (time_of r.delay (local_in r k)) (record_at r.groups i).name (local_in r k) ≡ true → set_order_by records resting_records r i k ≡ release.let_go records resting_records (send_places records resting_records r i k q)

@@ -1,7 +1,7 @@
 -- The end of a session: its process leaves all its groups and is dismissed, and the records go on standing for the history, in which nobody is
 -- dismissed.
 use Rattle.std.proofs.Common.{◌≡◌, ℕ, Bool, true, false, cond, not, List, [], ◌∷◌, map, filter, Some, None, ◌⊎◌, inl, inr, refl, sym, ap, subst, ◌∙◌}
-use Rattle.std.specs.Prelude.{◌==◌, ◌+◌, ◌-◌, ◌&&◌, if◌then◌else◌, is_some, length}
+use Rattle.std.specs.Prelude.{◌==◌, ◌+◌, ◌&&◌, if◌then◌else◌, is_some}
 use Rattle.std.specs.List.{fold}
 use Rattle.std.proofs.lemmas.Bool.{cases_Bool, cases_eq, false≢true, false_from_ne_true, not-false, eq-eqb, ne_eqb, or_cases}
 use Rattle.cast_types.specs.declared.names.GroupNo.{GroupNo}
@@ -16,36 +16,39 @@ use Rattle.cast_types.proofs.Orders.{same_group, same_proc, group_itself, site_i
 use Rattle.cast_message.specs.declared.site.Change.TheVariants as change
 use Rattle.cast_delay.specs.declared.row.Row.{Row}
 use Rattle.cast_delay.specs.Ready.{Process, is_outside}
-use Rattle.cast_types.specs.Places.{update}
 use Rattle.cast_delay.specs.Queue.{row_of, but_row, new_row}
 use Rattle.cast_delay.proofs.Finds.{find_dropped, find_kept, find-append_none}
 use Rattle.cast_delay.proofs.Queues.{dismiss_fits}
-use Rattle.cast_model.specs.Session.{is_gone, gone, first_session}
+use Rattle.cast_quota.specs.Quotas.{is_in_range}
+use Rattle.cast_model.specs.Session.{no_session, is_gone, is_gone_status, first_session}
 use Rattle.cast_model.specs.declared.event.Event.{Event}
 use Rattle.cast_model.specs.declared.event.Event.TheVariants as event
-use Rattle.cast_history.specs.State.{State, local, serials, was_given, gate_of, going, outside}
+use Rattle.cast_history.specs.State.{State, local, serials, gate_of, going, outside}
 use Rattle.cast_history.specs.Step.{opening_next}
 use Rattle.cast_history.specs.History.{history}
 use Rattle.cast_history.specs.Lawful.{IsLawful, IsTyped}
-use Rattle.cast_history.specs.Rules.Commands.{Attempt, commanded, leave_group, leave_each, leave_all, end_session}
+use Rattle.cast_history.specs.Rules.Events.{is_taken, may_open}
+use Rattle.cast_history.specs.Rules.Leaving.{Attempt, leave_group, leave_each, leave_all, end_session}
+use Rattle.cast_history.specs.Rules.Commands.{commanded}
 use Rattle.cast_history.specs.Rules.Home.{suspect}
 use Rattle.cast_history.specs.Rules.Frames.{framed}
 use Rattle.cast_history.specs.Rules.Owing.{tick}
-use Rattle.cast_history.specs.Rules.Requests.{request}
+use Rattle.cast_history.specs.Rules.Asking.{request}
 use Rattle.cast_history.proofs.Lawful.{same_request}
 use Rattle.cast_history.proofs.LawfulSteps.{lawful_going}
 use Rattle.cast_history.proofs.Rules.Follows.{IsInvariantOfAll}
-use Rattle.cast_history.proofs.Rules.Commands.{commanded_keeps, left_keeps}
+use Rattle.cast_history.proofs.Rules.Leaving.{left_keeps}
+use Rattle.cast_history.proofs.Rules.Commands.{commanded_keeps}
 use Rattle.cast_history.proofs.Rules.Home.{suspect_keeps}
 use Rattle.cast_history.proofs.Rules.Frames.{framed_keeps}
 use Rattle.cast_history.proofs.Rules.Owing.{tick_keeps}
 use Rattle.cast_domain.specs.Records.{Records}
-use Rattle.cast_domain.specs.Calls.{local_in, go_in, open_in, dismiss_in, end_in, acted_in, records}
-use Rattle.cast_domain.specs.Fits.{process_named, session_in, ProcessesFit, Fits, AreDismissed}
+use Rattle.cast_domain.specs.Calls.{local_in, go_in, open_in, dismiss_in, end_in, acted_in, take_entries_in, set_quota_in, records, records_sessions}
+use Rattle.cast_domain.specs.Fits.{process_named, ProcessesFit, Fits, AreDismissed}
 use Rattle.cast_domain.proofs.Rows.{names_of, row_by_names}
-use Rattle.cast_domain.proofs.Rounds.{RemainAs, remain_as}
-use Rattle.cast_domain.proofs.Dismissals.{all_remain, still_dismissed}
-use Rattle.cast_domain.proofs.Standing.{process_here, fits_if, fits_go, fits_open}
+use Rattle.cast_domain.proofs.Remaining.{RemainAs, gone_of, remain_as, all_remain}
+use Rattle.cast_domain.proofs.Dismissals.{still_dismissed}
+use Rattle.cast_domain.proofs.Standing.{process_here, fits_if, fits_go, fits_open, status_there}
 use Rattle.cast_domain.proofs.Framing.{fits_left}
 
 -- Who leaves all groups is in none
@@ -151,6 +154,7 @@ fits_dismissed r s fits k left out = record {
   orders = fits.orders;
   frames = fits.frames;
   delivered = fits.delivered;
+  pushed = fits.pushed;
 }
   where
     other : (j : ℕ) → is_gone (s.session j) ≡ false → proc_eq (local s k) (local s j) ≡ false
@@ -160,19 +164,19 @@ fits_dismissed r s fits k left out = record {
 -- Sessions that end
 
 -- a session that is gone is so on both sides
-gone_there : (r : Records) (s : State) → Fits r s → (k : ℕ) → is_gone (session_in (go_in r k).sessions k) ≡ true
+gone_there : (r : Records) (s : State) → Fits r s → (k : ℕ) → gone_of (go_in r k) k ≡ true
 gone_there r s fits k =
-    ap is_gone (sym ((fits_go r s fits k).opened.each k))
-    ∙ ap (λ b. is_gone (if b then gone (s.session k) else s.session k)) (eq-eqb k k refl)
+    ap is_gone_status (status_there (go_in r k) (going s k) (fits_go r s fits k) k)
+    ∙ ap (λ b. is_gone (if b then no_session else s.session k)) (eq-eqb k k refl)
 
 left_remain : (r : Records) (k : ℕ) → RemainAs (go_in r k) (leave_all records (go_in r k) k)
 left_remain r k =
     let x : Records = go_in r k in
-    left_keeps records (RemainAs x) (all_remain x.site (names_of x.delay.rows) (λ j. is_gone (session_in x.sessions j))) x (remain_as x) k
+    left_keeps records (RemainAs x) (all_remain x.site (names_of x.delay.rows) (gone_of x)) x (remain_as x) k
 
 -- what the end of a session comes to, by the rule's own test of whether it is gone
-ended : (r : Records) (k : ℕ) → (if is_gone (session_in r.sessions k) then r else dismiss_in (leave_all records (go_in r k) k) k) ≡ end_in r k
-ended r k = elim (is_gone (session_in r.sessions k)) as (λ b. (if b then r else dismiss_in x k) ≡ (if b then r else dismiss_in (if b then r else x) k)) [ true ↦ refl | false ↦ refl ]
+ended : (r : Records) (k : ℕ) → (if gone_of r k then r else dismiss_in (leave_all records (go_in r k) k) k) ≡ end_in r k
+ended r k = elim (gone_of r k) as (λ b. (if b then r else dismiss_in x k) ≡ (if b then r else dismiss_in (if b then r else x) k)) [ true ↦ refl | false ↦ refl ]
   where
     x : Records
     x = leave_all records (go_in r k) k
@@ -184,9 +188,9 @@ fits_ended r s fits l k =
     let t : State = leave_all history (going s k) k in
     let left : Fits x t = fits_left r s fits l k in
     subst (λ y. Fits y (end_session history s k)) (ended r k)
-    (fits_if (is_gone (session_in r.sessions k)) (is_gone (s.session k)) r (dismiss_in x k) s t (ap is_gone (sym (fits.opened.each k)))
+    (fits_if (gone_of r k) (is_gone (s.session k)) r (dismiss_in x k) s t (ap is_gone_status (status_there r s fits k))
     (λ _. fits)
-    (λ _. fits_dismissed x t left k (ap is_gone (left.opened.each k) ∙ (left_remain r k).2 k ∙ gone_there r s fits k) (left_outside (going s k) (lawful_going s k l) k)))
+    (λ _. fits_dismissed x t left k (ap is_gone_status (sym (status_there x t left k)) ∙ (left_remain r k).2 k ∙ gone_there r s fits k) (left_outside (going s k) (lawful_going s k l) k)))
 
 -- Who is gone is dismissed after each event
 
@@ -195,8 +199,8 @@ dismissed_open : (r : Records) (s : State) → Fits r s → AreDismissed r → A
 dismissed_open r s fits dismissed k left = elim (cases_eq (s.used + 1) k) [
   | inl same ↦ absurd (false≢true (sym (ap (λ b. is_gone (if b then first_session (local s (s.used + 1)) else s.session k)) (eq-eqb (s.used + 1) k same)) ∙ now))
   | inr other ↦
-      let before : is_gone (session_in r.sessions k) ≡ true =
-      ap is_gone (sym (fits.opened.each k))
+      let before : gone_of r k ≡ true =
+      ap is_gone_status (status_there r s fits k)
       ∙ sym (ap (λ b. is_gone (if b then first_session (local s (s.used + 1)) else s.session k)) (ne_eqb (s.used + 1) k other)) ∙ now in
       find-append_none (λ (x : Row). proc_eq x.process (local_in r k)) r.delay.rows (new_row (local_in r (r.used + 1)) ∷ []) (dismissed k before)
       ∙ ap (λ b. cond b (Some (new_row (local_in r (r.used + 1)))) None) (false_from_ne_true (proc_eq (local_in r (r.used + 1)) (local_in r k)) (λ same.
@@ -204,11 +208,11 @@ dismissed_open r s fits dismissed k left = elim (cases_eq (s.used + 1) k) [
 ]
   where
     now : is_gone ((opening_next s).session k) ≡ true
-    now = ap is_gone ((fits_open r s fits).opened.each k) ∙ left
+    now = ap is_gone_status (sym (status_there (open_in r) (opening_next s) (fits_open r s fits) k)) ∙ left
 
 -- and the process of one that ends is
 dismissed_end : (r : Records) (s : State) → Fits r s → AreDismissed r → (k : ℕ) → AreDismissed (end_in r k)
-dismissed_end r s fits dismissed k = subst AreDismissed (ended r k) (elim (is_gone (session_in r.sessions k)) as (λ b. AreDismissed (if b then r else dismiss_in x k)) [
+dismissed_end r s fits dismissed k = subst AreDismissed (ended r k) (elim (gone_of r k) as (λ b. AreDismissed (if b then r else dismiss_in x k)) [
   | true ↦ dismissed
   | false ↦ none
 ])
@@ -216,17 +220,11 @@ dismissed_end r s fits dismissed k = subst AreDismissed (ended r k) (elim (is_go
     x : Records
     x = leave_all records (go_in r k) k
 
-    same_rows : RemainAs r (record (go_in r k) { sessions = r.sessions })
-    same_rows = elim (was_given (length r.sessions) k) as (λ b. RemainAs r (record (if b then record r { sessions = update r.sessions (k - 1) gone } else r) { sessions = r.sessions })) [
-      | true ↦ remain_as r
-      | false ↦ remain_as r
-    ]
-
-    before : (j : ℕ) → (k ≡ j → ⊥) → is_gone (session_in x.sessions j) ≡ true → is_gone (session_in r.sessions j) ≡ true
+    before : (j : ℕ) → (k ≡ j → ⊥) → gone_of x j ≡ true → gone_of r j ≡ true
     before j other left =
-        ap is_gone (sym (fits.opened.each j))
-        ∙ sym (ap (λ b. is_gone (if b then gone (s.session k) else s.session j)) (ne_eqb k j other))
-        ∙ ap is_gone ((fits_go r s fits k).opened.each j)
+        ap is_gone_status (status_there r s fits j)
+        ∙ sym (ap (λ b. is_gone (if b then no_session else s.session j)) (ne_eqb k j other))
+        ∙ ap is_gone_status (sym (status_there (go_in r k) (going s k) (fits_go r s fits k) j))
         ∙ sym ((left_remain r k).2 j)
         ∙ left
 
@@ -235,8 +233,8 @@ dismissed_end r s fits dismissed k = subst AreDismissed (ended r k) (elim (is_go
       | inl same ↦ ap (λ i. row_of (but_row (local_in x k) x.delay.rows) (local_in x i)) (sym same) ∙ find_dropped (λ r. proc_eq r.process (local_in x k)) x.delay.rows
       | inr other ↦
           other_kept (local_in x k) (local_in x j) (false_from_ne_true (proc_eq (local_in x k) (local_in x j)) (λ same. other (ap (λ (p : Proc). p.serial) (same_proc (local_in x k) (local_in x j) same)))) x.delay.rows
-          ∙ ap (λ t. row_of x.delay.rows (record { site = t; serial = j })) ((left_remain r k).0 ∙ same_rows.0)
-          ∙ row_by_names x.delay.rows r.delay.rows (local_in r j) ((left_remain r k).1 ∙ same_rows.1) (dismissed j (before j other left))
+          ∙ ap (λ t. row_of x.delay.rows (record { site = t; serial = j })) ((left_remain r k).0)
+          ∙ row_by_names x.delay.rows r.delay.rows (local_in r j) ((left_remain r k).1) (dismissed j (before j other left))
     ]
 
 -- so after each event
@@ -244,15 +242,23 @@ pub dismissed_acted : (r : Records) (s : State) (e : Event) → Fits r s → IsT
 dismissed_acted r s e fits typed dismissed = of_event e typed
   where
     keeps : IsInvariantOfAll records (RemainAs r)
-    keeps = all_remain r.site (names_of r.delay.rows) (λ k. is_gone (session_in r.sessions k))
+    keeps = all_remain r.site (names_of r.delay.rows) (gone_of r)
 
     of_event : (e : Event) → IsTyped e → AreDismissed (acted_in r e)
-    of_event (event.Open d) typed = elim (r.used == MAX_NUMBER) as (λ b. AreDismissed (if b then r else open_in r)) [
-      | true ↦ dismissed
-      | false ↦ dismissed_open r s fits dismissed
+    of_event (event.Open d) typed = elim (may_open records records_sessions r) as (λ b. AreDismissed (if b then open_in r else r)) [
+      | true ↦ dismissed_open r s fits dismissed
+      | false ↦ dismissed
     ]
     of_event (event.Command d k c) typed = still_dismissed r (commanded records r k c) (commanded_keeps records (RemainAs r) keeps r (remain_as r) k c) dismissed
     of_event (event.Gone d k) typed = dismissed_end r s fits dismissed k
     of_event (event.Suspect d site) typed = still_dismissed r (suspect records r site) (suspect_keeps records (RemainAs r) keeps r (remain_as r) site) dismissed
     of_event (event.Frame d from f) typed = still_dismissed r (framed records r from f) (framed_keeps records (RemainAs r) keeps r (remain_as r) from f typed) dismissed
+    of_event (event.Quota d name value) typed = elim (is_in_range name value) as (λ b. AreDismissed (if b then set_quota_in r name value else r)) [
+      | true ↦ dismissed
+      | false ↦ dismissed
+    ]
+    of_event (event.Take d k most) typed = elim (not (gone_of r k) && is_taken most) as (λ b. AreDismissed (if b then take_entries_in r k most else r)) [
+      | true ↦ dismissed
+      | false ↦ dismissed
+    ]
     of_event (event.Tick t) typed = still_dismissed r (tick records r t) (tick_keeps records (RemainAs r) keeps.keeps r (remain_as r) t) dismissed

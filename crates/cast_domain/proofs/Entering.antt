@@ -1,17 +1,16 @@
 -- Processes enter a view one by one, and in the history at once.
-use Rattle.std.proofs.Common.{◌≡◌, ℕ, zero, suc, ◌+◌, ◌-◌, ◌<◌, ◌≤◌, Bool, true, false, ◌&&◌, ◌||◌, List, [], ◌∷◌, length, Option, Some, None, ◌⊎◌, refl, sym, ap, subst, ◌∙◌, inl, inr, arith}
-use Rattle.std.specs.Prelude.{◌==◌, nat_lt, nat_le, if◌then◌else◌, filter, slice_get}
-use Rattle.std.specs.List.{fold, list_any, list_all, range_with_len}
+use Rattle.std.proofs.Common.{◌≡◌, ℕ, ◌<◌, Bool, true, false, ◌&&◌, ◌||◌, List, [], ◌∷◌, Option, Some, None, ◌⊎◌, refl, sym, ap, subst, ◌∙◌, inl, inr, arith}
+use Rattle.std.specs.Prelude.{◌==◌, if◌then◌else◌, slice_get}
+use Rattle.std.specs.List.{fold, list_all}
 use Rattle.std.specs.Option.{IsSome, option_map_or}
 use Rattle.std.specs.Ordering.{is_lt}
-use Rattle.std.proofs.lemmas.Bool.{cases_Bool, cases_eq, false≢true, false_from_ne_true, and_parts, and_from, or_cases, or_from, or_left, or_right, eqb-true, eq-eqb, ne_eqb, ltb-true, leb-true}
+use Rattle.std.proofs.lemmas.Bool.{cases_Bool, cases_eq, false≢true, false_from_ne_true, and_parts, and_from, or_cases, or_from, or_left, or_right, eqb-true, eq-eqb, ne_eqb}
 use Rattle.std.proofs.lemmas.Cmp.{tied_itself}
 use Rattle.cast_types.specs.declared.names.GroupNo.{GroupNo}
 use Rattle.cast_types.specs.declared.names.Proc.{Proc}
 use Rattle.cast_types.specs.declared.names.Standing.{Standing}
 use Rattle.cast_types.specs.declared.names.Standing.TheVariants.{Outside, Joining, Member}
 use Rattle.cast_types.specs.Names.{site_eq, group_eq, proc_eq, proc_cmp}
-use Rattle.cast_types.specs.Places.{update}
 use Rattle.cast_types.specs.Sets.{is_among, set_at}
 use Rattle.cast_types.proofs.Orders.{proc_total, group_itself, same_group, same_site, same_proc, site_itself, proc_itself}
 use Rattle.cast_types.specs.declared.clock.Clock.{Clock}
@@ -19,8 +18,6 @@ use Rattle.cast_types.specs.Stamps.{ClockList}
 use Rattle.cast_clock.specs.Times.{count_in, entering}
 use Rattle.cast_clock.proofs.Raised.{enter_leaves}
 use Rattle.cast_types.specs.Counts.{CountList, count_of}
-use Rattle.cast_message.specs.declared.client.Push.{Push}
-use Rattle.cast_message.specs.declared.client.Push.TheVariants as push
 use Rattle.cast_message.specs.Membership.{Membership, is_members}
 use Rattle.cast_types.specs.Rising.{is_rising}
 use Rattle.cast_delay.specs.declared.row.Row.{Row}
@@ -31,17 +28,15 @@ use Rattle.cast_delay.specs.Queue.{row_of}
 use Rattle.cast_domain.specs.declared.record.GroupRecord.{GroupRecord}
 use Rattle.cast_order.specs.Log.{Log, new_log, log_of, but_log}
 use Rattle.cast_order.proofs.Logs.{log_of_forget}
-use Rattle.cast_model.specs.declared.session.Session.{Session}
-use Rattle.cast_model.specs.Session.{is_open, pushed_to, told}
 use Rattle.cast_view.specs.MemberSide.{is_pending, with_view, is_taken_in}
 use Rattle.cast_history.specs.Acts.{Act}
-use Rattle.cast_history.specs.State.{State, local, serials, is_group, set_session, set_process, set_group, set_standing, was_given, pushing}
-use Rattle.cast_history.specs.Entering.{enters, in_view, completing, all_in_view}
+use Rattle.cast_history.specs.State.{State, local, is_group, set_process, set_group, set_standing}
+use Rattle.cast_history.specs.Entering.{in_view, completing, all_in_view}
 use Rattle.cast_domain.specs.Records.{Records}
-use Rattle.cast_domain.specs.Calls.{record_at, standing_of, time_of, push_in, tell_in, enter_in, take_in, view_in, complete_in}
+use Rattle.cast_domain.specs.Calls.{record_at, standing_of, tell_in, enter_in, take_in, view_in, complete_in}
 use Rattle.cast_history.specs.Lawful.{IsLawful}
 use Rattle.cast_domain.specs.Fits.{Fits}
-use Rattle.cast_domain.proofs.Standing.{CountsStill, fits_told, fits_member, fits_if, record_there, standing_there, time_there, fits_push, fits_view, still_in, fits_acts, open_given}
+use Rattle.cast_domain.proofs.Standing.{CountsStill, fits_told, fits_member, fits_if, record_there, standing_there, time_there, fits_view, still_in, fits_acts}
 use Rattle.cast_types.proofs.Bools.{and_none}
 
 -- Small truths of tests
@@ -67,128 +62,16 @@ later_changed f x true false apart = refl
 later_changed f x false true apart = refl
 later_changed f x false false apart = refl
 
--- Whose serials are told
+-- Processes that change
 
--- all sessions that a test picks out are told of an entry
-abbrev told_where : Push → State → (ℕ → Bool) → State
-told_where p s e = record s { session = λ k. if e k then told p (s.session k) else s.session k }
-
--- one is told
-push_one : (p : Push) (s : State) (k : ℕ) → pushing s k p ≡ told_where p s (λ j. k == j)
-push_one p s k = elim (is_open (s.session k)) as (λ b. is_open (s.session k) ≡ b → (if b then set_session s k (pushed_to (s.session k) p) else s) ≡ told_where p s (λ j. k == j)) [
-  | true ↦ λ is. λ i. record s { session = λ j. opened is j i }
-  | false ↦ λ is. λ i. record s { session = λ j. shut is j i }
-] refl
-  where
-    opened : is_open (s.session k) ≡ true → (j : ℕ) → (if k == j then pushed_to (s.session k) p else s.session j) ≡ (if k == j then told p (s.session j) else s.session j)
-    opened is j = elim (k == j) as (λ b. (k == j) ≡ b → (if b then pushed_to (s.session k) p else s.session j) ≡ (if b then told p (s.session j) else s.session j)) [
-      | true ↦ λ same. sym (ap (λ b. if b then pushed_to (s.session k) p else s.session k) is) ∙ ap (λ x. told p (s.session x)) (eqb-true k j same)
-      | false ↦ λ _. refl
-    ] refl
-
-    shut : is_open (s.session k) ≡ false → (j : ℕ) → s.session j ≡ (if k == j then told p (s.session j) else s.session j)
-    shut is j = elim (k == j) as (λ b. (k == j) ≡ b → s.session j ≡ (if b then told p (s.session j) else s.session j)) [
-      | true ↦ λ same. subst (λ x. s.session x ≡ told p (s.session x)) (eqb-true k j same) (sym (ap (λ b. if b then pushed_to (s.session k) p else s.session k) is))
-      | false ↦ λ _. refl
-    ] refl
-
--- whether a number is one of n numbers, from a on
-abbrev pub within : ℕ → ℕ → ℕ → Bool
-within a n j = list_any (λ x. x == j) (range_with_len a n)
-
--- a number below a range is not in it
-below_range : (n a j : ℕ) → j < a → within a n j ≡ false
-below_range zero a j less = refl
-below_range (suc n) a j less = or_from (a == j) (within (a + 1) n j) (ne_eqb a j (λ same. omega (arith, same, less))) (below_range n (a + 1) j (omega arith))
-
--- and one between its ends is
-pub in_range : (n a j : ℕ) → a ≤ j → j < a + n → within a n j ≡ true
-in_range zero a j from less = absurd (omega arith)
-in_range (suc n) a j from less = elim (cases_eq a j) [
-  | inl same ↦ or_left (a == j) (within (a + 1) n j) (eq-eqb a j same)
-  | inr other ↦ or_right (a == j) (within (a + 1) n j) (in_range n (a + 1) j (omega (arith, other, from)) (omega arith))
-]
-
--- those of a range that a test picks out are told, one after another
-push_all : (p : Push) (e : ℕ → Bool) (n a : ℕ) (s : State) → fold (λ t k. pushing t k p) s (filter e (range_with_len a n)) ≡ told_where p s (λ j. e j && within a n j)
-push_all p e zero a s = λ i. record s { session = λ j. ap (λ b. if b then told p (s.session j) else s.session j) (sym (and_none (e j))) i }
-push_all p e (suc n) a s =
-    elim (e a) as (λ b. e a ≡ b → fold (λ t k. pushing t k p) s (if b then a ∷ filter e (range_with_len (a + 1) n) else filter e (range_with_len (a + 1) n)) ≡ told_where p s (λ j. e j && within a (suc n) j)) [
-      | true ↦ λ is.
-          push_all p e n (a + 1) (pushing s a p)
-          ∙ ap (λ t. told_where p t (λ j. e j && within (a + 1) n j)) (push_one p s a)
-          ∙ (λ i. record s { session = λ j. first is j i })
-      | false ↦ λ is. push_all p e n (a + 1) s ∙ (λ i. record s { session = λ j. skipped is j i })
-    ] refl
-  where
-    once : (x w : Bool) (q r u : Session) → x ≡ true → w ≡ false → (if x && w then u else r) ≡ (if x && (true || w) then r else q)
-    once true true q r u is none = absurd (false≢true (sym none))
-    once true false q r u is none = refl
-    once false w q r u is none = absurd (false≢true is)
-
-    never : (x w : Bool) (q r : Session) → x ≡ false → (if x && w then r else q) ≡ (if x && (true || w) then r else q)
-    never true w q r is = absurd (false≢true (sym is))
-    never false w q r is = refl
-
-    first : e a ≡ true → (j : ℕ) → (told_where p (told_where p s (λ x. a == x)) (λ x. e x && within (a + 1) n x)).session j ≡ (told_where p s (λ x. e x && within a (suc n) x)).session j
-    first is j = elim (a == j) as (λ b. (a == j) ≡ b → (if e j && within (a + 1) n j then told p (if b then told p (s.session j) else s.session j) else (if b then told p (s.session j) else s.session j)) ≡ (if e j && (b || within (a + 1) n j) then told p (s.session j) else s.session j)) [
-      | true ↦ λ same.
-          let one : a ≡ j = eqb-true a j same in
-          once (e j) (within (a + 1) n j) (s.session j) (told p (s.session j)) (told p (told p (s.session j))) (sym (ap e one) ∙ is) (below_range n (a + 1) j (omega (arith, one)))
-      | false ↦ λ _. refl
-    ] refl
-
-    skipped : e a ≡ false → (j : ℕ) → (told_where p s (λ x. e x && within (a + 1) n x)).session j ≡ (told_where p s (λ x. e x && within a (suc n) x)).session j
-    skipped is j = elim (a == j) as (λ b. (a == j) ≡ b → (if e j && within (a + 1) n j then told p (s.session j) else s.session j) ≡ (if e j && (b || within (a + 1) n j) then told p (s.session j) else s.session j)) [
-      | true ↦ λ same. never (e j) (within (a + 1) n j) (s.session j) (told p (s.session j)) (sym (ap e (eqb-true a j same)) ∙ is)
-      | false ↦ λ _. refl
-    ] refl
-
--- Processes that change, and are told
-
-module _ (f : Process → Process) (p : Push) (t : State) where
-  -- the processes that a test picks out changed, and their sessions were told
+module _ (f : Process → Process) (t : State) where
+  -- the processes that a test picks out changed
   abbrev pub changed : (ℕ → Bool) → State
-  changed e =
-      record t {
-        process = λ k. if e k then f (t.process k) else t.process k;
-        session = λ k. if e k then told p (t.session k) else t.session k;
-      }
+  changed e = record t { process = λ k. if e k then f (t.process k) else t.process k }
 
-  -- in the history: all at once, and then one push after another
-  pub changed_at_once : (e : ℕ → Bool) → ((k : ℕ) → is_open (t.session k) ≡ true → was_given t.used k ≡ true) → fold (λ s k. pushing s k p) (record t { process = λ k. if e k then f (t.process k) else t.process k }) (filter e (serials t)) ≡ changed e
-  changed_at_once e opened =
-      let s : State = record t { process = λ k. if e k then f (t.process k) else t.process k } in
-      push_all p e t.used 1 s ∙ (λ i. record s { session = λ j. told_all j (cases_Bool (within 1 t.used j)) i })
-    where
-      unknown : (j : ℕ) → within 1 t.used j ≡ false → is_open (t.session j) ≡ false
-      unknown j past = false_from_ne_true (is_open (t.session j)) (λ is.
-          let parts = and_parts (nat_lt 0 j) (nat_le j t.used) (opened j is) in
-          let above = ltb-true 0 j parts.0 in
-          let below = leb-true j t.used parts.1 in
-          false≢true (sym past ∙ in_range t.used 1 j (omega (arith, above)) (omega (arith, below))))
-
-      unheard : (j : ℕ) (b : Bool) → is_open (t.session j) ≡ false → t.session j ≡ (if b then told p (t.session j) else t.session j)
-      unheard j true shut = sym (ap (λ b. if b then pushed_to (t.session j) p else t.session j) shut)
-      unheard j false shut = refl
-
-      told_all : (j : ℕ) → (within 1 t.used j ≡ true) ⊎ (within 1 t.used j ≡ false) → (if e j && within 1 t.used j then told p (t.session j) else t.session j) ≡ (if e j then told p (t.session j) else t.session j)
-      told_all j (inl is) = ap (λ b. if b then told p (t.session j) else t.session j) (ap (λ w. e j && w) is ∙ and_true (e j))
-      told_all j (inr past) = ap (λ b. if b then told p (t.session j) else t.session j) (ap (λ w. e j && w) past ∙ and_none (e j)) ∙ unheard j (e j) (unknown j past)
-
-  -- one more process changes, and its session is told
-  pub changed_one : (e : ℕ → Bool) (k : ℕ) → e k ≡ false → pushing (record (changed e) { process = λ j. if k == j then f ((changed e).process j) else (changed e).process j }) k p ≡ changed (λ j. e j || (k == j))
-  changed_one e k fresh =
-      let apart : (j : ℕ) → (k == j) ≡ true → e j ≡ false = (λ j same. sym (ap e (eqb-true k j same)) ∙ fresh) in
-      push_one p (record (changed e) { process = λ j. if k == j then f ((changed e).process j) else (changed e).process j }) k
-      ∙ (λ i. record t {
-        process = λ j. if k == j then f ((changed e).process j) else (changed e).process j;
-        session = λ j. later_changed (told p) (t.session j) (e j) (k == j) (apart j) i;
-      })
-      ∙ (λ i. record t {
-        process = λ j. later_changed f (t.process j) (e j) (k == j) (apart j) i;
-        session = λ j. if e j || (k == j) then told p (t.session j) else t.session j;
-      })
+  -- one more process changes
+  pub changed_one : (e : ℕ → Bool) (k : ℕ) → e k ≡ false → record (changed e) { process = λ j. if k == j then f ((changed e).process j) else (changed e).process j } ≡ changed (λ j. e j || (k == j))
+  changed_one e k fresh = λ i. record t { process = λ j. later_changed f (t.process j) (e j) (k == j) (λ same. sym (ap e (eqb-true k j same)) ∙ fresh) i }
 
 -- Facts of a process that has a row
 
@@ -214,15 +97,15 @@ below_none p (q ∷ ps) below among =
     ]
 
 module _ (g : GroupNo) (n : ℕ) (members : Membership) (request : ℕ) (t : State) where
-  -- the processes that a test picks out entered the view, and their sessions were told
+  -- the processes that a test picks out entered the view
   abbrev entered : (ℕ → Bool) → State
-  entered e = changed (in_view g n) (push.View g n members) t e
+  entered e = changed (in_view g n) t e
 
   abbrev taken : ℕ → Bool
   taken k = is_taken_in request ((t.process k).standing g)
 
   abbrev take : Records → Proc → Records
-  take r p = take_in g n members request r p
+  take r p = take_in g n request r p
 
   -- one process enters, by two facts
   viewed : (s : State) (k : ℕ) → set_standing (set_process s k (record (s.process k) { time = entering (s.process k).time g n })) k g Member ≡ record s { process = λ j. if k == j then in_view g n (s.process j) else s.process j }
@@ -237,21 +120,18 @@ module _ (g : GroupNo) (n : ℕ) (members : Membership) (request : ℕ) (t : Sta
             | false ↦ λ _. refl
           ] refl
 
-  -- one more process enters, and its session is told
-  enter_one : (e : ℕ → Bool) (k : ℕ) → e k ≡ false → pushing (set_standing (set_process (entered e) k (record ((entered e).process k) { time = entering ((entered e).process k).time g n })) k g Member) k (push.View g n members) ≡ entered (λ j. e j || (k == j))
-  enter_one e k fresh = ap (λ s. pushing s k (push.View g n members)) (viewed (entered e) k) ∙ changed_one (in_view g n) (push.View g n members) t e k fresh
+  -- one more process enters
+  enter_one : (e : ℕ → Bool) (k : ℕ) → e k ≡ false → set_standing (set_process (entered e) k (record ((entered e).process k) { time = entering ((entered e).process k).time g n })) k g Member ≡ entered (λ j. e j || (k == j))
+  enter_one e k fresh = viewed (entered e) k ∙ changed_one (in_view g n) t e k fresh
 
   -- a process that did not enter yet has the standing that it had
   standing_now : (r : Records) (e : ℕ → Bool) → Fits r (entered e) → (k : ℕ) → e k ≡ false → standing_of r.delay (local t k) g ≡ (t.process k).standing g
   standing_now r e f k fresh = standing_there r (entered e) f k g ∙ ap (λ b. (if b then in_view g n (t.process k) else t.process k).standing g) fresh
 
   -- what is kept of orders stays
-  push_orders : (r : Records) (k : ℕ) (p : Push) → (push_in r k p).orders ≡ r.orders
-  push_orders r k p = elim (was_given (length r.sessions) k) as (λ b. (if b then record r { sessions = update r.sessions (k - 1) (told p) } else r).orders ≡ r.orders) [ true ↦ refl | false ↦ refl ]
-
   take_orders : (r : Records) (p : Proc) → (take r p).orders ≡ r.orders
-  take_orders r p = elim (site_eq p.site r.site && is_taken_in request (standing_of r.delay p g)) as (λ b. (if b then enter_in g n members r p else r).orders ≡ r.orders) [
-    | true ↦ push_orders (tell_in (tell_in r p (fact.Time (entering (time_of r.delay p) g n))) p (fact.Standing g Member)) p.serial (push.View g n members)
+  take_orders r p = elim (site_eq p.site r.site && is_taken_in request (standing_of r.delay p g)) as (λ b. (if b then enter_in g n r p else r).orders ≡ r.orders) [
+    | true ↦ refl
     | false ↦ refl
   ]
 
@@ -271,11 +151,10 @@ module _ (g : GroupNo) (n : ℕ) (members : Membership) (request : ℕ) (t : Sta
   ]
 
   -- among the records: a process enters
-  fits_enter : (r : Records) (e : ℕ → Bool) → Fits r (entered e) → IsNew r → is_group t g ≡ true → (k : ℕ) → e k ≡ false → taken k ≡ true → Fits (enter_in g n members r (local t k)) (entered (λ j. e j || (k == j)))
+  fits_enter : (r : Records) (e : ℕ → Bool) → Fits r (entered e) → IsNew r → is_group t g ≡ true → (k : ℕ) → e k ≡ false → taken k ≡ true → Fits (enter_in g n r (local t k)) (entered (λ j. e j || (k == j)))
   fits_enter r e f new listed k fresh in_it =
       let u : State = entered e in
       let p : Proc = local t k in
-      let view : Push = push.View g n members in
       let time = entering (u.process k).time g n in
       let row : IsSome (row_of r.delay.rows p) = has_row (row_of r.delay.rows p) g (ap is_outside (standing_now r e f k fresh) ∙ taken_inside request ((t.process k).standing g) in_it) in
       let r1 : Records = tell_in r p (fact.Time time) in
@@ -284,8 +163,8 @@ module _ (g : GroupNo) (n : ℕ) (members : Membership) (request : ℕ) (t : Sta
       let r2 : Records = tell_in r1 p (fact.Standing g Member) in
       let u2 : State = set_standing u1 k g Member in
       let f2 : Fits r2 u2 = fits_member r1 u1 f1 k (still_in p (told_row (fact.Time time)) (λ _. refl) p r.delay.rows row) g listed new.1 new.0 in
-      subst (λ x. Fits (push_in (tell_in (tell_in r p (fact.Time (entering x g n))) p (fact.Standing g Member)) k view) (entered (λ j. e j || (k == j)))) (sym (time_there r u f k row))
-      (subst (λ x. Fits (push_in r2 k view) x) (enter_one e k fresh) (fits_push r2 u2 f2 k view))
+      subst (λ x. Fits (tell_in (tell_in r p (fact.Time (entering x g n))) p (fact.Standing g Member)) (entered (λ j. e j || (k == j)))) (sym (time_there r u f k row))
+      (subst (Fits r2) (enter_one e k fresh) f2)
 
   -- a process of this site is taken in or not
   fits_take_here : (r : Records) (e : ℕ → Bool) → Fits r (entered e) → IsNew r → is_group t g ≡ true → (k : ℕ) → e k ≡ false → Fits (take r (local t k)) (entered (λ j. e j || (taken k && (k == j))))
@@ -298,7 +177,7 @@ module _ (g : GroupNo) (n : ℕ) (members : Membership) (request : ℕ) (t : Sta
       let known : (if taken k then more else entered e) ≡ entered (λ j. e j || (taken k && (k == j))) =
       elim (taken k) as (λ b. (if b then more else entered e) ≡ entered (λ j. e j || (b && (k == j)))) [ true ↦ refl | false ↦ λ i. entered (λ j. sym (or_none (e j)) i) ] in
       subst (λ x. Fits (take r p) x) known
-      (fits_if (site_eq t.here r.site && is_taken_in request (standing_of r.delay p g)) (taken k) (enter_in g n members r p) r more (entered e) same
+      (fits_if (site_eq t.here r.site && is_taken_in request (standing_of r.delay p g)) (taken k) (enter_in g n r p) r more (entered e) same
       (λ is. fits_enter r e f new listed k fresh (sym same ∙ is))
       (λ _. f))
 
@@ -312,7 +191,7 @@ module _ (g : GroupNo) (n : ℕ) (members : Membership) (request : ℕ) (t : Sta
         (subst (λ x. Fits (take r (local t p.serial)) (entered x)) (λ i j. e j || one p.serial j (cases_eq p.serial j) i)
         (fits_take_here r e f new listed p.serial (fresh p.serial own)))
     | inr other ↦
-        subst (λ b. Fits (if b && is_taken_in request (standing_of r.delay p g) then enter_in g n members r p else r) (entered (λ j. e j || (taken j && proc_eq (local t j) p)))) (sym (ap (λ x. site_eq p.site x) (ap (λ c. c.site) f.core) ∙ other))
+        subst (λ b. Fits (if b && is_taken_in request (standing_of r.delay p g) then enter_in g n r p else r) (entered (λ j. e j || (taken j && proc_eq (local t j) p)))) (sym (ap (λ x. site_eq p.site x) (ap (λ c. c.site) f.core) ∙ other))
         (subst (λ x. Fits r (entered x)) (λ i j. none other j i) f)
   ]
     where
@@ -358,5 +237,4 @@ fits_complete r s f l i g at listed n members request cut typed newer =
     ap (λ h. log_of (but_log h r.orders) g) name ∙ log_of_forget r.orders g g ∙ ap (λ b. if b then new_log g else log_of r.orders g) (group_itself g) in
     let unclosed : is_pending (now.group g) ≡ false = ap (λ b. is_pending (if b then with_view s.here n members (s.group g) else s.group g)) (group_itself g) in
     let all = fits_take_all g n members request now members.list first (λ k. false) f0 (new, unclosed) listed rising (λ k _. refl) in
-    let one_by_one = subst (λ x. Fits (fold (take_in g n members request) first members.list) x) (sym (changed_at_once (in_view g n) (push.View g n members) now (enters s g members request) (open_given first now f0))) all in
-    subst (λ h. Fits (fold (take_in h n members request) first members.list) (completing s g n members request cut)) (sym name) one_by_one
+    subst (λ h. Fits (fold (take_in h n request) first members.list) (completing s g n members request cut)) (sym name) all

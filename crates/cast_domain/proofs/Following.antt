@@ -57,6 +57,7 @@ fits_noted r s f acks told ledger known orders = record {
   orders = orders;
   frames = f.frames;
   delivered = f.delivered;
+  pushed = f.pushed;
 }
 
 fits_note_ack : (r : Records) (s : State) → Fits r s → (from : SiteNo) (u : Uid) → Fits (note_ack_in r from u) (noting_ack s from u)

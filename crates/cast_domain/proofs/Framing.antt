@@ -1,6 +1,7 @@
 -- What a rule changes of a domain's records it changes of their history.
-use Rattle.std.proofs.Common.{◌≡◌, ◌<◌, Bool, true, false, ◌&&◌, ◌||◌, List, [], ◌∷◌, length, map, filter, ℕ, zero, suc, ◌+◌, Some, refl, sym, ap, subst, ◌∙◌, Option, None, arith}
-use Rattle.std.specs.Prelude.{◌==◌, nat_lt, slice_get}
+use Rattle.std.proofs.Common.{◌≡◌, ◌<◌, true, false, ◌&&◌, ◌||◌, List, [], ◌∷◌, length, map, ℕ, zero, suc, ◌+◌, Some, refl, sym, ap, subst, ◌∙◌, Option, None, arith}
+use Rattle.std.specs.Prelude.{◌==◌, ◌+◌, nat_lt, nat_le, min, slice_get}
+use Rattle.cast_model.specs.declared.limits.TheConstants.{MAX_CASTS}
 use Rattle.std.specs.List.{list_all, list_any, range_with_len}
 use Rattle.std.proofs.lemmas.Bool.{and_parts, eqb-true, eq-eqb, ltb-true, or_right}
 use Rattle.std.proofs.lemmas.List.{length-map}
@@ -13,7 +14,7 @@ use Rattle.cast_types.specs.Sets.{is_among}
 use Rattle.cast_types.proofs.Bools.{same_bools, and_none}
 use Rattle.cast_types.proofs.Orders.{same_uid, uid_itself}
 use Rattle.cast_clock.specs.Times.{clock_of, count_in}
-use Rattle.cast_types.specs.Counts.{CountList, is_within}
+use Rattle.cast_types.specs.Counts.{is_within}
 use Rattle.cast_types.specs.Names.{group_eq}
 use Rattle.cast_message.specs.Stretch.{Stretch}
 use Rattle.cast_order.specs.Log.{log_of, change_log, closed_by}
@@ -21,9 +22,7 @@ use Rattle.cast_message.specs.declared.message.Message.{Message}
 use Rattle.cast_message.specs.declared.message.Received.{Received}
 use Rattle.cast_message.specs.declared.site.SiteFrame.{SiteFrame}
 use Rattle.cast_message.specs.declared.client.Command.{Command}
-use Rattle.cast_message.specs.declared.client.Push.TheVariants as push
 use Rattle.cast_message.specs.Bodies.{kind_of}
-use Rattle.cast_message.specs.Membership.{Membership}
 use Rattle.cast_stable.specs.Ledger.{is_received_in, source_of}
 use Rattle.cast_stable.proofs.Meanings.{stable_meant}
 use Rattle.std.specs.Prelude.{IsSome}
@@ -37,35 +36,37 @@ use Rattle.cast_delay.specs.declared.row.Fact.TheVariants as fact
 use Rattle.cast_timer.specs.declared.key.OwedKind.TheVariants.{Want}
 use Rattle.cast_timer.specs.Owed.{is_owed}
 use Rattle.cast_view.specs.declared.member.Pending.{Pending}
-use Rattle.cast_view.specs.MemberSide.{is_pending, with_request, with_answer, frozen_side, with_pending, with_view, has_view, is_current, members_of}
-use Rattle.cast_model.specs.Session.{is_open, is_gone}
+use Rattle.cast_view.specs.MemberSide.{is_pending, with_request, with_answer, frozen_side, with_pending, has_view, is_current, members_of}
+use Rattle.cast_model.specs.Session.{is_open_status, is_gone_status}
 use Rattle.cast_view.specs.Home.{moved}
-use Rattle.cast_history.specs.State.{State, gate_of, local, serials, set_group, set_standing, going, outside, acts_outside, is_received, receiving, others_of, noting_sent}
+use Rattle.cast_history.specs.State.{State, gate_of, local, set_standing, going, outside, acts_outside, is_received, receiving, others_of, noting_sent}
 use Rattle.cast_history.specs.Effects.{next_message}
-use Rattle.cast_history.specs.Entering.{freezing, pending_install, enters, all_in_view, push_view, putting_out, passing}
+use Rattle.cast_history.specs.Entering.{freezing, pending_install}
 use Rattle.cast_history.specs.History.{history}
 use Rattle.cast_history.specs.Lawful.{IsLawful, IsTypedFrame}
 use Rattle.cast_history.specs.Rules.Keys.{message_key}
 use Rattle.cast_history.specs.Rules.Data.{counts_itself, is_well_formed}
-use Rattle.cast_history.specs.Rules.Commands.{message_sent, commanded, leave_all}
+use Rattle.cast_history.specs.Rules.Leaving.{leave_all}
+use Rattle.cast_history.specs.Rules.Commands.{message_sent, commanded}
 use Rattle.cast_history.specs.Rules.Home.{suspect}
 use Rattle.cast_history.specs.Rules.Frames.{framed}
 use Rattle.cast_history.proofs.Rules.Follows.{FollowsAll, AllAt, IsTaken, IsBrought, sent_here, with_invariant, invariant_asks}
 use Rattle.cast_history.proofs.Rules.Data.{used_counts}
-use Rattle.cast_history.proofs.Rules.Commands.{commanded_follows, leave_all_follows}
+use Rattle.cast_history.proofs.Rules.Leaving.{leave_all_follows}
+use Rattle.cast_history.proofs.Rules.Commands.{commanded_follows}
 use Rattle.cast_history.proofs.Rules.Home.{suspect_follows}
 use Rattle.cast_history.proofs.Rules.Frames.{framed_follows}
-use Rattle.cast_history.proofs.Lawful.{same_fold, same_pushing, put_out_same, local_speaks}
+use Rattle.cast_history.proofs.Lawful.{same_pushing, same_closing, local_speaks}
 use Rattle.cast_history.proofs.LawfulSteps.{placed_at, taken_current, entered, all_lawful, lawful_going, taken_foreign, taken_speaks}
 use Rattle.cast_domain.specs.declared.record.GroupRecord.{GroupRecord}
 use Rattle.cast_domain.specs.Records.{Records}
 use Rattle.cast_domain.specs.Calls.{record_at, standing_of, time_of, tell_in, go_in, receive_in, freeze_in, pend_in, awaits_own_in, records}
 use Rattle.cast_domain.specs.Fits.{process_named, record_for, LogFits, Fits, past_of}
-use Rattle.cast_domain.proofs.Standing.{process_here, record_there, standing_there, time_there, open_row, fits_push, fits_close, fits_go, fits_standing, fits_told, fits_acts, fits_here, fits_gated, orders_group, fits_home, fits_receive}
+use Rattle.cast_domain.proofs.Standing.{process_here, record_there, standing_there, time_there, open_row, status_there, box_there, fits_push, fits_counted, fits_close, fits_go, fits_standing, fits_told, fits_acts, fits_here, fits_gated, orders_group, fits_home, fits_receive}
 use Rattle.cast_domain.proofs.Logs.{logs_close, new_unreceived}
 use Rattle.cast_domain.proofs.Reports.{report_there}
 use Rattle.cast_domain.proofs.Following.{records_ask, FitsIn, IsAt, records_follow, asked_of}
-use Rattle.cast_domain.proofs.Passing.{fits_pass}
+use Rattle.cast_domain.proofs.Passing.{fits_pass, members_there, gone_there}
 use Rattle.cast_domain.proofs.Releases.{fits_release_ended}
 use Rattle.cast_domain.proofs.Commands.{awaits_own_there, fits_sent_here}
 use Rattle.cast_domain.proofs.Receipts.{live_now}
@@ -167,14 +168,6 @@ placed_row r s f k g inside = of_row (row_of r.delay.rows (local s k)) (f.proces
     of_row (Some row) told = refl
     of_row None none = absurd (false≢true (sym inside ∙ ap is_outside (sym (ap (λ (p : Process). p.standing g) (process_here s k)) ∙ none g)))
 
--- the configuration stays as a view is entered
-passing_config : (s : State) (g : GroupNo) (skips : Bool) (n : ℕ) (members : Membership) (request : ℕ) (cut : CountList) → (passing s g skips n members request cut).config ≡ s.config
-passing_config s g skips n members request cut =
-    let left : State = putting_out s g skips n members in
-    let now : State = set_group left g (with_view left.here n members (left.group g)) in
-    (same_fold (push_view g n members) (λ t k. same_pushing t k (push.View g n members)) (filter (enters now g members request) (serials now)) (all_in_view now g n members request cut)).config
-    ∙ (put_out_same s g skips n members).config
-
 -- The records stand for a lawful history of a domain of these groups
 
 abbrev pub StandsIn : List GroupNo → Records → State → Type 0
@@ -211,11 +204,16 @@ module _ (groups : List GroupNo) where
     is_received = λ r s f g from m taken. received_there r s f.0.0 m.id (taken_live s g from m taken) (taken_counted s g from m taken);
     is_stable = λ r s f g from m taken new.
         stable_meant (past_of (receiving s m)) (receive_in r m).acks (fits_taken r s f.0.0 g from m taken new).acks m.id (taken_live s g from m taken) (taken_counted s g from m taken);
-    is_open = λ r s f k. ap is_open (sym (f.0.0.opened.each k));
+    quotas = λ r s f. ap (λ c. c.quotas) f.0.0.core;
+    is_open = λ r s f k. ap is_open_status (status_there r s f.0.0 k);
+    is_full = λ r s f k. λ i. nat_le (f.0.0.core i).quotas.outbox (length (box_there r s f.0.0 k i));
+    members = λ r s f i g at. members_there r s f.0.0 i g (there r s f i g at);
+    put_out = λ r s f i g at skips members. gone_there r s f.0.0 i g (there r s f i g at) skips members;
     standing = λ r s f k g. ap (λ t. standing_of r.delay (record { site = t; serial = k }) g) (ap (λ c. c.site) f.0.0.core) ∙ standing_there r s f.0.0 k g;
     time = λ r s f k given. ap (λ t. time_of r.delay (record { site = t; serial = k })) (ap (λ c. c.site) f.0.0.core) ∙ time_there r s f.0.0 k (open_row r s f.0.0 k given);
     awaits_own = λ r s f k given. ap (λ t. awaits_own_in r (record { site = t; serial = k })) (ap (λ c. c.site) f.0.0.core) ∙ awaits_own_there r s f.0.0 f.1 k (open_row r s f.0.0 k given);
-    push = λ r s f k p. ((fits_push r s f.0.0 k p, ap (λ c. c.groups) (same_pushing s k p).config ∙ f.0.1), all_lawful.push s f.1 k p);
+    push = λ r s f k given room p. ((fits_push r s f.0.0 k given p, ap (λ c. c.groups) (same_pushing s k p).config ∙ f.0.1), all_lawful.push s f.1 k given room p);
+    note_cast = λ r s f. ((fits_counted r s f.0.0 (λ q. q) (λ n. min MAX_CASTS (n + 1)), f.0.1), all_lawful.note_cast s f.1);
     note_joining = λ r s f k given g h at number heard. (
       (
         subst (λ t. Fits (tell_in r (record { site = t; serial = k }) (fact.Standing g (Joining number heard))) (set_standing s k g (Joining number heard))) (sym (ap (λ c. c.site) f.0.0.core))
@@ -256,13 +254,13 @@ module _ (groups : List GroupNo) where
     enter_view = λ r s f i g at h skips n members request cut is. let e = entered s g h n members is in (
       (
         fits_pass r s f.0.0 f.1 i g (there r s f i g at) e.listed skips n members request cut is.typed e.later,
-        ap (λ c. c.groups) (passing_config s g skips n members request cut) ∙ f.0.1,
+        f.0.1,
       ),
       all_lawful.enter_view s f.1 g h skips n members request cut is,
     );
     release_ended = λ r s f i g at. ((fits_release_ended r s f.0.0 i g (there r s f i g at), f.0.1), all_lawful.release_ended s f.1 g);
-    is_gone = λ r s f k. ap is_gone (sym (f.0.0.opened.each k));
-    close = λ r s f k refusal. ((fits_close r s f.0.0 k refusal, f.0.1), all_lawful.close s f.1 k refusal);
+    is_gone = λ r s f k. ap is_gone_status (status_there r s f.0.0 k);
+    close = λ r s f k given refusal. ((fits_close r s f.0.0 k given refusal, ap (λ c. c.groups) (same_closing s k refusal).config ∙ f.0.1), all_lawful.close s f.1 k given refusal);
   }
 
 -- So the records go on standing for the history

@@ -7,8 +7,11 @@ pub mod Over
 pub mod Logs
 pub mod LogSteps
 pub mod Shares
+pub mod Boxes
 pub mod Receipts
 pub mod Rows
+pub mod Statuses
+pub mod Remaining
 pub mod Standing
 pub mod Ordering
 pub mod Owings
@@ -26,6 +29,7 @@ pub mod SetOrders
 pub mod Resting
 pub mod Standstill
 pub mod Events
+pub mod Verdicts
 pub mod Passes
 pub mod Reports
 pub mod Trimmed

@@ -1,7 +1,7 @@
 -- What the records say of the order of a view is so of the history that they stand for: the turns of processes, and what
 -- the holder has still to list.
 use Rattle.std.proofs.Common.{◌≡◌, ℕ, ◌+◌, ◌≤◌, Bool, true, false, cond, not, List, [], ◌∷◌, ◌++◌, length, map, Contains, Option, Some, None, refl, sym, ap, ◌∙◌, inl, inr, arith}
-use Rattle.std.specs.Prelude.{◌*◌, ◌&&◌, ◌⊎◌, nat_lt, nat_le, if◌then◌else◌, filter, slice_get}
+use Rattle.std.specs.Prelude.{◌&&◌, ◌⊎◌, nat_lt, nat_le, if◌then◌else◌, filter, slice_get}
 use Rattle.std.specs.List.{find}
 use Rattle.std.specs.Option.{option_map_or, IsSome}
 use Rattle.std.proofs.lemmas.Bool.{cases_Bool, false≢true, and_parts, or_cases, le-leb, lt-ltb, or_right}
@@ -37,6 +37,7 @@ use Rattle.cast_history.specs.State.{State, local, is_group, gate_of, others_of}
 use Rattle.cast_history.specs.Order.{facts_in, order_told, order_of, holds, sets_order, lists_of, abcasts_delivered, unlisted, unsettled, has_place}
 use Rattle.cast_history.specs.Turns.{has_room_for_order, turn_of}
 use Rattle.cast_history.specs.Lawful.{Waits, IsLawful}
+use Rattle.cast_quota.specs.Quotas as quota
 use Rattle.cast_domain.specs.Records.{Records}
 use Rattle.cast_domain.specs.Calls.{place_in, record_at, records, sets_order_at, sets_order_in, settled_in, turn_at, turns_in}
 use Rattle.cast_domain.specs.Fits.{record_for, told_here, lists_here, settled_of, settled_here, process_named, Fits, TellsOrder, LogFits, is_live, past_of, goes_on, has_passed}
@@ -47,7 +48,7 @@ use Rattle.cast_types.specs.Sources.{source}
 
 -- room for set-order messages
 pub order_room_there : (r : Records) (s : State) → Fits r s → may_order records r ≡ may_order history s
-order_room_there r s f = (λ j. nat_lt ((sym (length-map r.part.kept (λ (x : Received). x.message)) ∙ ap length f.messages.kept_in) j) (2 * (f.core j).config.quotas.held))
+order_room_there r s f = (λ j. quota.may_order (f.core j).quotas ((sym (length-map r.part.kept (λ (x : Received). x.message)) ∙ ap length f.messages.kept_in) j))
 
 -- who sets the order of a configured group
 pub sets_order_there : (r : Records) (s : State) → Fits r s → (g : GroupNo) → is_group s g ≡ true → (k : ℕ) → sets_order_in r g (local s k) ≡ sets_order s g k

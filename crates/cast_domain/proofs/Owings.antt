@@ -33,6 +33,7 @@ fits_owed r s fits o p same = record {
   orders = orders_same s (record s { owed = p }) r.orders refl refl refl refl refl refl refl (λ u is. is) fits.orders;
   frames = fits.frames;
   delivered = fits.delivered;
+  pushed = fits.pushed;
 }
 
 -- a frame is owed no more
@@ -60,7 +61,7 @@ message_same r s fits u = found_mapped u r.part.kept ∙ ap (find (λ (m : Messa
 
 -- the moment at which what is sent now is due again
 due_same : (r : Records) (s : State) → Fits r s → next_due_in r ≡ next_due s
-due_same r s fits = λ i. (fits.core i).moment + (fits.core i).config.quotas.resend
+due_same r s fits = λ i. (fits.core i).moment + (fits.core i).quotas.resend
 
 -- a frame is owed from now on, or was sent again now
 
@@ -82,4 +83,5 @@ fits_moment r s fits t = record {
   orders = orders_same s (at_moment s t) r.orders refl refl refl refl refl refl refl (λ u is. is) fits.orders;
   frames = fits.frames;
   delivered = fits.delivered;
+  pushed = fits.pushed;
 }

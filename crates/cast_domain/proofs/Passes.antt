@@ -21,11 +21,11 @@ Stands r s = Fits r s × IsLawful s
 pub stands_pass : (w v : Records) → v ≡ rest.pass records resting_records w → (s : State) → Stands w s → Stands v (pass s)
 stands_pass w v made s h = (subst (λ r. Fits r (pass s)) (sym made) (fits_pass w s h.0 h.1), lawful_pass s h.1)
 
--- between two steps nothing is sent or delivered
-pub fits_between : (r : Records) (s : State) → Fits r s → Fits (record r { frames = []; delivered = [] }) (before_event s)
+-- between two steps nothing is sent, delivered or pushed
+pub fits_between : (r : Records) (s : State) → Fits r s → Fits (record r { frames = []; delivered = []; pushed = [] }) (before_event s)
 fits_between r s fits = record {
   core = fits.core;
-  opened = fits.opened;
+  opened = record { rows = fits.opened.rows; boxes = fits.opened.boxes; unused = fits.opened.unused };
   groups = fits.groups;
   messages = fits.messages;
   processes = fits.processes;
@@ -33,6 +33,7 @@ fits_between r s fits = record {
   orders = orders_same s (before_event s) r.orders refl refl refl refl refl refl refl (λ u is. is) fits.orders;
   frames = refl;
   delivered = refl;
+  pushed = refl;
 }
 
 -- at the start no pass was made

@@ -1,34 +1,34 @@
 -- Members that a view lacks are put out one by one, and in the history at once; then processes enter it.
-use Rattle.std.proofs.Common.{◌≡◌, ℕ, zero, suc, ◌+◌, ◌<◌, ◌≤◌, Bool, true, false, not, ◌&&◌, ◌||◌, [], ◌∷◌, ◌++◌, Some, ◌⊎◌, inl, inr, refl, sym, ap, subst, ◌∙◌, arith}
-use Rattle.std.specs.Prelude.{◌==◌, nat_lt, nat_le, if◌then◌else◌, slice_get}
+use Rattle.std.proofs.Common.{◌≡◌, ℕ, zero, suc, ◌+◌, ◌<◌, ◌≤◌, Bool, true, false, not, ◌&&◌, ◌||◌, [], ◌∷◌, ◌++◌, filter, Some, None, ◌⊎◌, inl, inr, refl, sym, ap, subst, ◌∙◌, arith}
+use Rattle.std.specs.Prelude.{◌==◌, if◌then◌else◌, slice_get}
 use Rattle.std.specs.List.{fold, range_with_len}
 use Rattle.std.specs.Option.{IsSome}
-use Rattle.std.proofs.lemmas.Bool.{cases_Bool, false≢true, false_from_ne_true, eqb-true, ne_eqb, ltb-true, leb-true, and_parts, or_from}
+use Rattle.std.proofs.lemmas.Bool.{cases_Bool, false≢true, eqb-true, ne_eqb, and_parts, or_from}
 use Rattle.cast_types.specs.declared.names.GroupNo.{GroupNo}
 use Rattle.cast_types.specs.declared.names.Standing.{Standing}
 use Rattle.cast_types.specs.declared.names.Standing.TheVariants.{Outside, Joining, Member}
-use Rattle.cast_types.specs.Names.{group_eq, proc_eq}
+use Rattle.cast_types.specs.Names.{proc_eq}
 use Rattle.cast_types.specs.Sets.{is_among}
 use Rattle.cast_types.specs.Counts.{CountList}
 use Rattle.cast_types.proofs.Bools.{and_none}
-use Rattle.cast_message.specs.declared.client.Push.TheVariants as push
 use Rattle.cast_message.specs.Membership.{Membership, is_members}
 use Rattle.cast_delay.specs.declared.row.Fact.TheVariants as fact
 use Rattle.cast_delay.specs.Ready.{is_member, is_outside}
 use Rattle.cast_delay.specs.Queue.{row_of}
 use Rattle.cast_domain.specs.declared.record.GroupRecord.{GroupRecord}
-use Rattle.cast_history.specs.State.{State, local, is_group, was_given, set_standing, pushing}
+use Rattle.cast_history.specs.State.{State, local, serials, is_group, local_members, set_standing}
 use Rattle.cast_history.specs.Entering.{parted, is_put_out, putting_out, passing}
 use Rattle.cast_history.specs.Acts.Act.{Left}
 use Rattle.cast_history.specs.Lawful.{IsLawful}
-use Rattle.cast_history.proofs.Lawful.{put_out_same, lawful_putting_out}
+use Rattle.cast_history.proofs.Lawful.{lawful_all_parted}
 use Rattle.cast_domain.specs.Records.{Records}
-use Rattle.cast_domain.specs.Calls.{local_in, record_at, standing_of, push_in, tell_in, put_out_in, is_put_out_in, put_out_if_in, put_out_all_in, complete_in, pass_in}
+use Rattle.cast_domain.specs.Calls.{local_in, serials_in, record_at, standing_of, tell_in, put_out_in, is_put_out_in, put_out_if_in, put_out_all_in, complete_in, pass_in, gone_in, members_in}
 use Rattle.cast_domain.specs.Fits.{Fits}
-use Rattle.cast_domain.proofs.Standing.{member_of_none, open_given, fits_told, fits_if, record_there, standing_there, fits_push, fits_acts}
-use Rattle.cast_domain.proofs.Entering.{or_none, and_true, within, in_range, changed, changed_at_once, changed_one, has_row, fits_complete}
-use Rattle.cast_domain.proofs.Rows.{row_ungiven}
-use Rattle.cast_domain.proofs.Rounds.{round_put_out}
+use Rattle.cast_domain.proofs.Standing.{member_of_none, fits_told, fits_if, record_there, standing_there, fits_acts}
+use Rattle.cast_domain.proofs.Statuses.{within, not_given}
+use Rattle.cast_domain.proofs.Entering.{or_none, and_true, changed, changed_one, has_row, fits_complete}
+use Rattle.cast_domain.proofs.Rows.{row_ungiven, row_untested, filter_within}
+use Rattle.cast_domain.proofs.Rounds.{serials_there, round_put_out}
 
 -- who is a member is not outside
 member_inside : (v : Standing) → is_member v ≡ true → is_outside v ≡ false
@@ -46,9 +46,9 @@ parted_here g s k = λ i. record s { process = λ j. at j i }
       | false ↦ λ _. refl
     ] refl
 
-module _ (g : GroupNo) (skips : Bool) (n : ℕ) (members : Membership) (t : State) where
+module _ (g : GroupNo) (skips : Bool) (members : Membership) (t : State) where
   abbrev gone : (ℕ → Bool) → State
-  gone e = changed (parted g) (push.Ejected g n) t e
+  gone e = changed (parted g) t e
 
   abbrev goes : ℕ → Bool
   goes k = is_put_out t g skips members k
@@ -63,7 +63,7 @@ module _ (g : GroupNo) (skips : Bool) (n : ℕ) (members : Membership) (t : Stat
       ∙ ap (λ v. is_member v && (skips || not (is_among proc_eq (local t k) members.list))) standing
 
   -- one is put out
-  fits_put_out : (r : Records) (e : ℕ → Bool) → Fits r (gone e) → (k : ℕ) → e k ≡ false → goes k ≡ true → Fits (put_out_in g n r (local_in r k)) (gone (λ j. e j || (k == j)))
+  fits_put_out : (r : Records) (e : ℕ → Bool) → Fits r (gone e) → (k : ℕ) → e k ≡ false → goes k ≡ true → Fits (put_out_in g r (local_in r k)) (gone (λ j. e j || (k == j)))
   fits_put_out r e f k fresh out =
       let u : State = gone e in
       let member = (and_parts (is_member ((t.process k).standing g)) _ out).0 in
@@ -72,25 +72,26 @@ module _ (g : GroupNo) (skips : Bool) (n : ℕ) (members : Membership) (t : Stat
       let row : IsSome (row_of r.delay.rows (local t k)) = has_row (row_of r.delay.rows (local t k)) g (ap is_outside standing ∙ member_inside ((t.process k).standing g) member) in
       let told : Fits (tell_in r (local t k) (fact.Standing g Outside)) (set_standing u k g Outside) =
       fits_told r u f k row (fact.Standing g Outside) (λ inside. absurd (false≢true (sym inside))) refl (λ h _. omega arith) in
-      subst (λ p. Fits (push_in (tell_in r p (fact.Standing g Outside)) k (push.Ejected g n)) (gone (λ j. e j || (k == j)))) (λ i. record { site = (sym f.core i).site; serial = k })
-      (subst (λ x. Fits (push_in (tell_in r (local t k) (fact.Standing g Outside)) k (push.Ejected g n)) x)
-      (ap (λ s. pushing s k (push.Ejected g n)) (parted_here g u k) ∙ changed_one (parted g) (push.Ejected g n) t e k fresh)
-      (fits_push (tell_in r (local t k) (fact.Standing g Outside)) (set_standing u k g Outside) told k (push.Ejected g n)))
+      subst (λ p. Fits (tell_in r p (fact.Standing g Outside)) (gone (λ j. e j || (k == j)))) (λ i. record { site = (sym fits_site i); serial = k })
+      (subst (Fits (tell_in r (local t k) (fact.Standing g Outside))) (parted_here g u k ∙ changed_one (parted g) t e k fresh) told)
+    where
+      fits_site : r.site ≡ t.here
+      fits_site = ap (λ c. c.site) f.core
 
   -- all serials from one on
-  fits_put_out_from : (m a : ℕ) (r : Records) (e : ℕ → Bool) → Fits r (gone e) → ((k : ℕ) → a ≤ k → e k ≡ false) → Fits (fold (put_out_if_in g skips n members) r (range_with_len a m)) (gone (λ j. e j || (goes j && within a m j)))
+  fits_put_out_from : (m a : ℕ) (r : Records) (e : ℕ → Bool) → Fits r (gone e) → ((k : ℕ) → a ≤ k → e k ≡ false) → Fits (fold (put_out_if_in g skips members) r (range_with_len a m)) (gone (λ j. e j || (goes j && within a m j)))
   fits_put_out_from zero a r e f fresh = subst (λ x. Fits r (gone x)) (λ i j. none j i) f
     where
       none : (j : ℕ) → e j ≡ (e j || (goes j && false))
       none j = sym (ap (λ b. e j || b) (and_none (goes j)) ∙ or_none (e j))
   fits_put_out_from (suc m) a r e f fresh =
-      let one : Fits (put_out_if_in g skips n members r a) (gone (λ j. e j || (goes a && (a == j)))) =
-      subst (λ x. Fits (put_out_if_in g skips n members r a) x) (known (goes a))
-      (fits_if (is_put_out_in g skips members r a) (goes a) (put_out_in g n r (local_in r a)) r (gone (λ j. e j || (a == j))) (gone e) (goes_there r e f a (fresh a (omega arith)))
+      let one : Fits (put_out_if_in g skips members r a) (gone (λ j. e j || (goes a && (a == j)))) =
+      subst (λ x. Fits (put_out_if_in g skips members r a) x) (known (goes a))
+      (fits_if (is_put_out_in g skips members r a) (goes a) (put_out_in g r (local_in r a)) r (gone (λ j. e j || (a == j))) (gone e) (goes_there r e f a (fresh a (omega arith)))
       (λ is. fits_put_out r e f a (fresh a (omega arith)) (sym (goes_there r e f a (fresh a (omega arith))) ∙ is))
       (λ _. f)) in
-      subst (λ x. Fits (fold (put_out_if_in g skips n members) (put_out_if_in g skips n members r a) (range_with_len (a + 1) m)) (gone x)) (λ i j. joined j i)
-      (fits_put_out_from m (a + 1) (put_out_if_in g skips n members r a) (λ j. e j || (goes a && (a == j))) one
+      subst (λ x. Fits (fold (put_out_if_in g skips members) (put_out_if_in g skips members r a) (range_with_len (a + 1) m)) (gone x)) (λ i j. joined j i)
+      (fits_put_out_from m (a + 1) (put_out_if_in g skips members r a) (λ j. e j || (goes a && (a == j))) one
       (λ k above. or_from (e k) (goes a && (a == k)) (fresh k (omega (arith, above))) (ap (λ b. goes a && b) (ne_eqb a k (λ same. omega (arith, same, above))) ∙ and_none (goes a))))
     where
       known : (b : Bool) → (if b then gone (λ j. e j || (a == j)) else gone e) ≡ gone (λ j. e j || (b && (a == j)))
@@ -113,17 +114,16 @@ module _ (g : GroupNo) (skips : Bool) (n : ℕ) (members : Membership) (t : Stat
       joined j = ap (λ b. (e j || b) || (goes j && within (a + 1) m j)) (first j) ∙ parts (e j) (goes j) (a == j) (within (a + 1) m j)
 
 -- all members that a view lacks are put out
-fits_put_out_all : (g : GroupNo) (skips : Bool) (n : ℕ) (members : Membership) (r : Records) (s : State) → Fits r s → Fits (put_out_all_in g skips n members r) (putting_out s g skips n members)
-fits_put_out_all g skips n members r s f =
+fits_put_out_all : (g : GroupNo) (skips : Bool) (members : Membership) (r : Records) (s : State) → Fits r s → Fits (put_out_all_in g skips members r) (putting_out s g skips members)
+fits_put_out_all g skips members r s f =
     let goes : ℕ → Bool = is_put_out s g skips members in
     let t : State = record s { acts = λ k. if goes k then s.acts k ++ Left g ∷ [] else s.acts k } in
     let f0 : Fits r t = fits_acts r s f t.acts in
-    let all : Fits (fold (put_out_if_in g skips n members) r (range_with_len 1 t.used)) (changed (parted g) (push.Ejected g n) t (λ j. goes j && within 1 t.used j)) =
-    fits_put_out_from g skips n members t t.used 1 r (λ j. false) f0 (λ k _. refl) in
-    subst (λ x. Fits x (putting_out s g skips n members)) (sym (round_put_out g skips n members r s f))
-    (subst (λ x. Fits (fold (put_out_if_in g skips n members) r (range_with_len 1 t.used)) x)
-    ((λ i. changed (parted g) (push.Ejected g n) t (λ j. given j (cases_Bool (within 1 t.used j)) i))
-    ∙ sym (changed_at_once (parted g) (push.Ejected g n) t goes (open_given r t f0)))
+    let all : Fits (fold (put_out_if_in g skips members) r (range_with_len 1 t.used)) (changed (parted g) t (λ j. goes j && within 1 t.used j)) =
+    fits_put_out_from g skips members t t.used 1 r (λ j. false) f0 (λ k _. refl) in
+    subst (λ x. Fits x (putting_out s g skips members)) (sym (round_put_out g skips members r s f))
+    (subst (λ x. Fits (fold (put_out_if_in g skips members) r (range_with_len 1 t.used)) x)
+    (λ i. changed (parted g) t (λ j. given j (cases_Bool (within 1 t.used j)) i))
     all)
   where
     given : (j : ℕ) → (within 1 s.used j ≡ true) ⊎ (within 1 s.used j ≡ false) → (is_put_out s g skips members j && within 1 s.used j) ≡ is_put_out s g skips members j
@@ -131,21 +131,40 @@ fits_put_out_all g skips n members r s f =
     given j (inr past) =
         ap (λ b. is_put_out s g skips members j && b) past
         ∙ and_none (is_put_out s g skips members j)
-        ∙ sym (ap (λ b. b && (skips || not (is_among proc_eq (local s j) members.list))) (member_of_none r s f j (row_ungiven s r.delay.rows f.processes.has_row s.used f.processes.rows j (false_from_ne_true (was_given s.used j) (λ was.
-        let parts = and_parts (nat_lt 0 j) (nat_le j s.used) was in
-        let above = ltb-true 0 j parts.0 in
-        let below = leb-true j s.used parts.1 in
-        false≢true (sym past ∙ in_range s.used 1 j (omega (arith, above)) (omega (arith, below)))))) g))
+        ∙ sym (ap (λ b. b && (skips || not (is_among proc_eq (local s j) members.list))) (member_of_none r s f j (row_ungiven s r.delay.rows f.processes.has_row s.used f.processes.rows j (not_given s.used j past)) g))
 
 -- the site passes to the next view
 pub fits_pass : (r : Records) (s : State) → Fits r s → IsLawful s → (i : ℕ) (g : GroupNo) → slice_get s.config.groups i ≡ Some g → is_group s g ≡ true → (skips : Bool) (n : ℕ) (members : Membership) (request : ℕ) (cut : CountList) → is_members members ≡ true → (s.group g).number < n → Fits (pass_in r i skips n members request) (passing s g skips n members request cut)
 fits_pass r s f l i g at listed skips n members request cut typed newer =
-    let left : State = putting_out s g skips n members in
-    let same = put_out_same s g skips n members in
-    let number = same.number g in
+    let left : State = putting_out s g skips members in
     let name : (record_at r.groups i).name ≡ g = ap (λ (x : GroupRecord). x.name) (record_there r s f i g at) in
-    subst (λ h. Fits (complete_in (put_out_all_in h skips n members r) i n members request) (passing s g skips n members request cut)) (sym name)
-    (fits_complete (put_out_all_in g skips n members r) left (fits_put_out_all g skips n members r s f) (lawful_putting_out s g skips n members l) i g
-    (ap (λ c. slice_get c.groups i) same.config ∙ at)
-    (ap (λ c. is_among group_eq g c.groups) same.config ∙ listed)
-    n members request cut typed (omega (arith, number, newer)))
+    subst (λ h. Fits (complete_in (put_out_all_in h skips members r) i n members request) (passing s g skips n members request cut)) (sym name)
+    (fits_complete (put_out_all_in g skips members r) left (fits_put_out_all g skips members r s f) (lawful_all_parted s g (is_put_out s g skips members) l) i g at listed n members request cut typed newer)
+
+-- Who is told
+
+-- who has no row is no member, so the serials of rows that pass a test that members alone pass are all that do
+passing_rows : (p q : ℕ → Bool) (r : Records) (s : State) (f : Fits r s) → ((k : ℕ) → p k ≡ q k) → ((k : ℕ) → f.processes.has_row k ≡ false → q k ≡ false) → filter p (serials_in r) ≡ filter q (serials s)
+passing_rows p q r s f same none =
+    ap (filter p) (serials_there r s f) ∙ (λ i. filter (λ k. same k i) (filter f.processes.has_row (serials s))) ∙ filter_within q f.processes.has_row none (serials s)
+
+-- a process whose serial has no row
+rowless : (r : Records) (s : State) (f : Fits r s) (k : ℕ) → f.processes.has_row k ≡ false → row_of r.delay.rows (local s k) ≡ None
+rowless r s f k out = row_untested s r.delay.rows f.processes.has_row s.used f.processes.rows k out
+
+pub members_there : (r : Records) (s : State) → Fits r s → (i : ℕ) (g : GroupNo) → slice_get s.config.groups i ≡ Some g → members_in r i ≡ local_members s g
+members_there r s f i g at =
+    let name : (record_at r.groups i).name ≡ g = ap (λ (x : GroupRecord). x.name) (record_there r s f i g at) in
+    ap (λ h. filter (λ k. is_member (standing_of r.delay (local_in r k) h)) (serials_in r)) name
+    ∙ passing_rows (λ k. is_member (standing_of r.delay (local_in r k) g)) (λ k. is_member ((s.process k).standing g)) r s f
+    (λ k. (λ j. is_member (standing_of r.delay (record { site = (f.core j).site; serial = k }) g)) ∙ ap is_member (standing_there r s f k g))
+    (λ k out. member_of_none r s f k (rowless r s f k out) g)
+
+pub gone_there : (r : Records) (s : State) → Fits r s → (i : ℕ) (g : GroupNo) → slice_get s.config.groups i ≡ Some g → (skips : Bool) (members : Membership) → gone_in r i skips members ≡ filter (is_put_out s g skips members) (serials s)
+gone_there r s f i g at skips members =
+    let name : (record_at r.groups i).name ≡ g = ap (λ (x : GroupRecord). x.name) (record_there r s f i g at) in
+    ap (λ h. filter (is_put_out_in h skips members r) (serials_in r)) name
+    ∙ passing_rows (is_put_out_in g skips members r) (is_put_out s g skips members) r s f
+    (λ k. (λ j. is_member (standing_of r.delay (record { site = (f.core j).site; serial = k }) g) && (skips || not (is_among proc_eq (record { site = (f.core j).site; serial = k }) members.list)))
+    ∙ ap (λ v. is_member v && (skips || not (is_among proc_eq (local s k) members.list))) (standing_there r s f k g))
+    (λ k out. ap (λ b. b && (skips || not (is_among proc_eq (local s k) members.list))) (member_of_none r s f k (rowless r s f k out) g))

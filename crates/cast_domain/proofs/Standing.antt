@@ -1,14 +1,15 @@
 -- What changes a domain's records changes the history that they stand for in the same way: one change at a time.
-use Rattle.std.proofs.Common.{◌≡◌, ℕ, zero, suc, ◌+◌, ◌-◌, ◌<◌, ◌≤◌, Bool, true, false, cond, ◌&&◌, List, [], ◌∷◌, ◌++◌, length, map, filter, Option, Some, None, unwrap_or, refl, sym, ap, subst, ◌∙◌, inl, inr, arith}
+use Rattle.std.proofs.Common.{◌≡◌, ℕ, zero, suc, ◌+◌, ◌<◌, ◌≤◌, Bool, true, false, not, cond, ◌&&◌, List, [], ◌∷◌, ◌++◌, length, map, filter, drop, Option, Some, None, refl, sym, ap, subst, ◌∙◌, inl, inr, arith}
 use Rattle.std.specs.Prelude.{◌==◌, ◌||◌, nat_lt, nat_le, if◌then◌else◌, slice_get, is_some}
 use Rattle.std.specs.List.{find, range_with_len}
 use Rattle.std.specs.Option.{IsSome, option_map, option_map_or}
-use Rattle.std.proofs.lemmas.Bool.{cases_Bool, cases_eq, cases_lt, false≢true, false_from_ne_true, and_parts, and_from, eqb-true, eq-eqb, ne_eqb, ltb-true, lt-ltb, leb-true, le-leb, or_from, or_left, or_right}
-use Rattle.std.proofs.lemmas.List.{map-append, length-append}
+use Rattle.std.proofs.lemmas.Bool.{cases_Bool, cases_eq, false≢true, false_from_ne_true, and_parts, and_from, eqb-true, eq-eqb, ne_eqb, lt-ltb, leb-true, le-leb, or_from, or_left, or_right}
+use Rattle.std.proofs.lemmas.List.{map-append, length-append, length-map}
 use Rattle.std.proofs.lemmas.List.Elements.{filter-append}
 use Rattle.std.proofs.lemmas.Option.{none-some, same_Some, slice_get-map, get_or_from_slice_get}
 use Rattle.cast_types.specs.declared.names.SiteNo.{SiteNo}
 use Rattle.cast_types.specs.declared.names.GroupNo.{GroupNo}
+use Rattle.cast_types.specs.declared.names.DomainNo.{DomainNo}
 use Rattle.cast_types.specs.declared.names.Proc.{Proc}
 use Rattle.cast_types.specs.declared.names.Standing.{Standing}
 use Rattle.cast_types.specs.declared.names.Standing.TheVariants.{Member}
@@ -46,33 +47,34 @@ use Rattle.cast_order.specs.Log.{Log, new_log, log_of, but_log, place_of}
 use Rattle.cast_order.proofs.Meanings.{new_fits as order_new_fits}
 use Rattle.cast_model.specs.declared.config.DomainConfig.{DomainConfig}
 use Rattle.cast_domain.specs.declared.record.GroupRecord.{GroupRecord}
-use Rattle.cast_model.specs.declared.session.Session.{Session}
+use Rattle.cast_domain.specs.declared.record.SessionRecord.{SessionRecord}
+use Rattle.cast_quota.specs.declared.quotas.Quotas.{Quotas}
+use Rattle.cast_message.specs.declared.client.Push.{Push}
 use Rattle.cast_view.specs.MemberSide.{MemberSide, is_pending, members_of, with_view}
 use Rattle.cast_view.specs.Home.{Home}
 use Rattle.cast_message.specs.declared.client.Push.TheVariants as push
-use Rattle.cast_model.specs.declared.session.Status.{Status}
-use Rattle.cast_model.specs.declared.session.Status.TheVariants.{Open, Closed, Gone}
-use Rattle.cast_model.specs.Session.{no_session, first_session, is_open, is_open_status, is_gone, is_gone_status, pushed_to, told, closed, gone}
+use Rattle.cast_model.specs.declared.session.Status.TheVariants.{Open, Closed}
+use Rattle.cast_model.specs.Session.{Session, no_session, first_session, is_open, is_gone, pushed_to, closed, taken_from}
 use Rattle.cast_types.specs.declared.refusal.Refusal.{Refusal}
 use Rattle.cast_view.specs.MemberSide.{members_of, with_view}
 use Rattle.cast_view.specs.Sites.{other_sites}
-use Rattle.cast_history.specs.State.{State, opening, no_process, local, is_group, gate_for, gate_of, others_of, set_session, set_process, set_group, set_home, set_standing, emitted, was_given, pushing, closing, going, receiving, noting_act, noting_sent}
+use Rattle.cast_history.specs.State.{State, opening, no_process, local, is_group, gate_for, gate_of, others_of, set_session, set_process, set_group, set_home, set_standing, emitted, was_given, serials, sessions, with_push, pushing, closing, going, taking, receiving, noting_act, noting_sent}
 use Rattle.cast_history.specs.Acts.{Act}
 use Rattle.cast_history.specs.Acts.Act.{Sent}
 use Rattle.cast_history.specs.Step.{opening_next}
 use Rattle.cast_history.specs.Run.{before_event}
-use Rattle.cast_domain.specs.Shared.{no_part}
+use Rattle.cast_domain.specs.Shared.{no_part, part_boxing, part_pushing}
 use Rattle.cast_domain.specs.Records.{Records}
-use Rattle.cast_domain.specs.Calls.{place_among, local_in, place_in, no_record, record_at, standing_of, time_of, send_in, change_session_in, push_in, close_in, go_in, tell_in, open_in, learn_in, receive_in, view_in}
+use Rattle.cast_domain.specs.Calls.{place_among, local_in, place_in, no_record, record_at, standing_of, time_of, send_in, push_in, with_status, close_in, go_in, take_entries_in, tell_in, open_in, learn_in, receive_in, view_in}
 use Rattle.cast_history.specs.Lawful.{IsLawful}
-use Rattle.cast_domain.specs.Fits.{process_named, record_for, session_in, is_live, past_of, LogFits, Fits, goes_on, has_passed}
+use Rattle.cast_domain.specs.Fits.{process_named, record_for, tagged, status_in, session_for, is_there, is_live, past_of, LogFits, Fits, goes_on, has_passed}
+use Rattle.cast_domain.proofs.Statuses.{open_remains, status_given, roster, same_roster, set_one, same_status, roster_closed, roster_gone, boxes_set, unused_set, roster_first}
 use Rattle.cast_domain.proofs.Receipts.{group_same, others_told, past_same, live_and_stands}
 use Rattle.cast_domain.proofs.Rows.{row_given}
 use Rattle.cast_domain.proofs.Logs.{log_alike, settled_same, IsNew, logs_receive, logs_view, log_starts}
 use Rattle.cast_domain.proofs.Over.{KeepsNoMore, all_stay, over_alike, one_counts_on}
 use Rattle.cast_history.proofs.Rules.Follows.{choose}
-use Rattle.cast_history.proofs.Spots.{update_own, update_other, push_last, push_other, update_mapped}
-use Rattle.cast_types.proofs.Updates.{length_update}
+use Rattle.cast_history.proofs.Spots.{update_mapped}
 use Rattle.cast_types.proofs.Bools.{same_bools}
 
 -- Choices on both sides
@@ -254,32 +256,22 @@ fits_send r s fits to f = record {
   orders = orders_same s (emitted s to f) r.orders refl refl refl refl refl refl refl (λ u is. is) fits.orders;
   frames = (λ i. fits.frames i ++ ((fits.core i).config.domain, to, f) ∷ []) ∙ sym (map-append (λ (x : SiteNo × SiteFrame). (s.config.domain, x.0, x.1)) s.frames ((to, f) ∷ []));
   delivered = fits.delivered;
+  pushed = fits.pushed;
 }
 
 -- Sessions
 
--- there is nothing past the end of a list
-past_end : (xs : List Session) (i : ℕ) → length xs ≤ i → slice_get xs i ≡ None
-past_end [] i past = refl
-past_end (x ∷ xs) zero past = absurd (omega (arith, past))
-past_end (x ∷ xs) (suc i) past = past_end xs i (omega (arith, past))
+-- the records say of each serial how its session stands
+pub status_there : (r : Records) (s : State) → Fits r s → (k : ℕ) → status_in r.sessions k ≡ (s.session k).status
+status_there r s fits k = ap (λ xs. status_in xs k) fits.opened.rows ∙ status_given s.session s.used k fits.opened.unused
 
--- a serial that was not given has no session
-session_lost : (sessions : List Session) (k : ℕ) → was_given (length sessions) k ≡ false → session_in sessions k ≡ no_session
-session_lost sessions zero none = refl
-session_lost sessions (suc i) none = elim (cases_lt i (length sessions)) [
-  | inl within ↦ absurd (false≢true (sym none ∙ and_from (nat_lt 0 (suc i)) (nat_le (suc i) (length sessions)) (lt-ltb 0 (suc i) (omega arith)) (le-leb (suc i) (length sessions) (omega (arith, within)))))
-  | inr past ↦ ap (λ (o : Option Session). unwrap_or o no_session) (past_end sessions i (omega (arith, past)))
-]
+-- and its outbox
+pub box_there : (r : Records) (s : State) → Fits r s → (k : ℕ) → r.part.outboxes k ≡ (s.session k).outbox
+box_there r s fits k = ap (λ f. f k) fits.opened.boxes
 
--- an open session is not gone
-open_remains : (x : Session) → is_open x ≡ true → is_gone x ≡ false
-open_remains x is = by_status x.status is
-  where
-    by_status : (status : Status) → is_open_status status ≡ true → is_gone_status status ≡ false
-    by_status Open is = refl
-    by_status Closed is = refl
-    by_status Gone is = absurd (false≢true is)
+-- there are as many as are not gone
+pub sessions_there : (r : Records) (s : State) → Fits r s → length r.sessions ≡ sessions s
+sessions_there r s fits = ap length fits.opened.rows ∙ length-map (filter (is_there s.session) (serials s)) (session_for s.session)
 
 -- so the process of an open session has a row
 pub open_row : (r : Records) (s : State) → Fits r s → (k : ℕ) → is_open (s.session k) ≡ true → IsSome (row_of r.delay.rows (local s k))
@@ -287,110 +279,138 @@ open_row r s fits k is = fits.processes.admitted k (open_remains (s.session k) i
 
 -- an open session has a serial that was given
 pub open_given : (r : Records) (s : State) → Fits r s → (k : ℕ) → is_open (s.session k) ≡ true → was_given s.used k ≡ true
-open_given r s fits k is_so = elim (cases_Bool (was_given (length r.sessions) k)) [
-  | inl given ↦ ap (λ n. was_given n k) (sym fits.opened.given) ∙ given
-  | inr none ↦ absurd (false≢true (ap is_open (sym (fits.opened.each k ∙ session_lost r.sessions k none)) ∙ is_so))
+open_given r s fits k is_so = elim (cases_Bool (was_given s.used k)) [
+  | inl given ↦ given
+  | inr none ↦ absurd (false≢true (ap is_open (sym (fits.opened.unused k none)) ∙ is_so))
 ]
 
--- the session of a serial changes on both sides, in a way that leaves nothing where there is none; one that is gone stays gone
-fits_session : (r : Records) (s : State) → Fits r s → (k : ℕ) (change : Session → Session) → change no_session ≡ no_session → ((x : Session) → is_gone x ≡ true → is_gone (change x) ≡ true) → Fits (change_session_in r k change) (set_session s k (change (s.session k)))
-fits_session r s fits k change none still =
-    elim (was_given (length r.sessions) k) as (λ b. was_given (length r.sessions) k ≡ b → Fits (if b then record r { sessions = update r.sessions (k - 1) change } else r) (set_session s k (change (s.session k)))) [
-      | true ↦ λ given. changed (update r.sessions (k - 1) change) (length_update change r.sessions (k - 1)) (changed_now (ltb-true 0 k (and_parts (nat_lt 0 k) (nat_le k (length r.sessions)) given).0))
-      | false ↦ λ out. changed r.sessions refl (changed_nothing out)
-    ] refl
+-- what was pushed is noted on both sides
+pushed_more : (r : Records) (s : State) → Fits r s → (k : ℕ) (p : Push) → r.pushed ++ (r.config.domain, k, p) ∷ [] ≡ tagged s.config.domain (s.pushes ++ (k, p) ∷ [])
+pushed_more r s fits k p =
+    (λ i. fits.pushed i ++ ((fits.core i).config.domain, k, p) ∷ []) ∙ sym (map-append (λ (x : ℕ × Push). (s.config.domain, x.0, x.1)) s.pushes ((k, p) ∷ []))
+
+-- one session is another, and is not gone where it was not
+fits_session : (r : Records) (s : State) → Fits r s → (k : ℕ) (v : Session) → was_given s.used k ≡ true → (is_gone v ≡ false → is_gone (s.session k) ≡ false) → (rows : List SessionRecord) → rows ≡ roster (set_one s.session k v) (serials s) → (entries : List Push) → entries ≡ v.outbox → Fits (record r { sessions = rows; part = part_boxing r.part k entries }) (set_session s k v)
+fits_session r s fits k v given remains rows listed entries boxed = record {
+  core = fits.core;
+  opened = record {
+    rows = listed;
+    boxes = boxes_set s.session r.part.outboxes fits.opened.boxes k v entries boxed;
+    unused = unused_set s.session s.used k v given fits.opened.unused;
+  };
+  groups = fits.groups;
+  messages = fits.messages;
+  processes = record {
+    delay = fits.processes.delay;
+    admitted = λ j there. fits.processes.admitted j (elim (k == j) as (λ b. k == j ≡ b → is_gone (if b then v else s.session j) ≡ false → is_gone (s.session j) ≡ false) [
+      | true ↦ λ is left. ap (λ i. is_gone (s.session i)) (sym (eqb-true k j is)) ∙ remains left
+      | false ↦ λ _ left. left
+    ] refl there);
+    has_row = fits.processes.has_row;
+    rows = fits.processes.rows;
+    idle = fits.processes.idle;
+  };
+  acks = fits.acks;
+  orders = orders_same s (set_session s k v) r.orders refl refl refl refl refl refl refl (λ u is. is) fits.orders;
+  frames = fits.frames;
+  delivered = fits.delivered;
+  pushed = fits.pushed;
+}
+
+-- and it is noted that an entry was pushed
+fits_noted_push : (r : Records) (s : State) → Fits r s → (pushed : List (DomainNo × ℕ × Push)) (pushes : List (ℕ × Push)) → pushed ≡ tagged s.config.domain pushes → Fits (record r { pushed = pushed }) (record s { pushes = pushes })
+fits_noted_push r s fits pushed pushes same = record {
+  core = fits.core;
+  opened = record { rows = fits.opened.rows; boxes = fits.opened.boxes; unused = fits.opened.unused };
+  groups = fits.groups;
+  messages = fits.messages;
+  processes = record { delay = fits.processes.delay; admitted = fits.processes.admitted; has_row = fits.processes.has_row; rows = fits.processes.rows; idle = fits.processes.idle };
+  acks = fits.acks;
+  orders = orders_same s (record s { pushes = pushes }) r.orders refl refl refl refl refl refl refl (λ u is. is) fits.orders;
+  frames = fits.frames;
+  delivered = fits.delivered;
+  pushed = same;
+}
+
+-- an open session is told of an entry
+pub fits_push : (r : Records) (s : State) → Fits r s → (k : ℕ) → is_open (s.session k) ≡ true → (p : Push) → Fits (push_in r k p) (pushing s k p)
+fits_push r s fits k is p =
+    let v : Session = pushed_to (s.session k) p in
+    subst (λ b. Fits (push_in r k p) (if b then with_push s k v p else s)) (sym is)
+    (fits_noted_push (record r { part = part_pushing r.part k p }) (set_session s k v)
+    (fits_session r s fits k v (open_given r s fits k is) (λ left. left) r.sessions
+    (fits.opened.rows ∙ same_roster s.session (set_one s.session k v) (same_status s.session k v refl) (serials s))
+    (r.part.outboxes k ++ p ∷ []) (ap (λ entries. entries ++ p ∷ []) (box_there r s fits k)))
+    (r.pushed ++ (r.config.domain, k, p) ∷ []) (s.pushes ++ (k, p) ∷ []) (pushed_more r s fits k p))
+
+-- it is closed
+pub fits_close : (r : Records) (s : State) → Fits r s → (k : ℕ) → is_open (s.session k) ≡ true → (refusal : Refusal) → Fits (close_in r k refusal) (closing s k refusal)
+fits_close r s fits k is refusal =
+    let v : Session = closed refusal (s.session k) in
+    let there : is_there s.session k ≡ true = ap not (open_remains (s.session k) is) in
+    subst (λ b. Fits (close_in r k refusal) (if b then with_push s k v (push.Closed refusal) else s)) (sym is)
+    (fits_noted_push (record r { sessions = map (with_status k Closed) r.sessions; part = part_pushing r.part k (push.Closed refusal) }) (set_session s k v)
+    (fits_session r s fits k v (open_given r s fits k is) (λ _. open_remains (s.session k) is) (map (with_status k Closed) r.sessions)
+    (ap (map (with_status k Closed)) fits.opened.rows ∙ roster_closed s.session k v refl there (serials s))
+    (r.part.outboxes k ++ push.Closed refusal ∷ []) (ap (λ entries. entries ++ push.Closed refusal ∷ []) (box_there r s fits k)))
+    (r.pushed ++ (r.config.domain, k, push.Closed refusal) ∷ []) (s.pushes ++ (k, push.Closed refusal) ∷ []) (pushed_more r s fits k (push.Closed refusal)))
+
+-- the first entries of its outbox are taken, where it is not gone
+pub fits_take_entries : (r : Records) (s : State) → Fits r s → (k most : ℕ) → is_gone (s.session k) ≡ false → Fits (take_entries_in r k most) (taking s k most)
+fits_take_entries r s fits k most remains =
+    let v : Session = taken_from most (s.session k) in
+    fits_session r s fits k v given (λ left. left) r.sessions
+    (fits.opened.rows ∙ same_roster s.session (set_one s.session k v) (same_status s.session k v refl) (serials s))
+    (drop most (r.part.outboxes k)) (ap (drop most) (box_there r s fits k))
   where
-    remained : (j : ℕ) → is_gone ((set_session s k (change (s.session k))).session j) ≡ false → is_gone (s.session j) ≡ false
-    remained j = elim (k == j) as (λ b. k == j ≡ b → is_gone (if b then change (s.session k) else s.session j) ≡ false → is_gone (s.session j) ≡ false) [
-      | true ↦ λ is remains.
-          false_from_ne_true (is_gone (s.session j)) (λ left. false≢true (sym remains ∙ still (s.session k) (ap (λ i. is_gone (s.session i)) (eqb-true k j is) ∙ left)))
-      | false ↦ λ _ remains. remains
-    ] refl
-
-    changed : (sessions : List Session) → length sessions ≡ length r.sessions → ((j : ℕ) → (set_session s k (change (s.session k))).session j ≡ session_in sessions j) → Fits (record r { sessions = sessions }) (set_session s k (change (s.session k)))
-    changed sessions long each = record {
-      core = fits.core;
-      opened = record { given = long ∙ fits.opened.given; each = each };
-      groups = fits.groups;
-      messages = fits.messages;
-      processes = record {
-        delay = fits.processes.delay;
-        admitted = λ j remains. fits.processes.admitted j (remained j remains);
-        has_row = fits.processes.has_row;
-        rows = fits.processes.rows;
-        idle = fits.processes.idle;
-      };
-      acks = fits.acks;
-      orders = orders_same s (set_session s k (change (s.session k))) r.orders refl refl refl refl refl refl refl (λ u is. is) fits.orders;
-      frames = fits.frames;
-      delivered = fits.delivered;
-    }
-
-    changed_or : (o : Option Session) → unwrap_or (option_map change o) no_session ≡ change (unwrap_or o no_session)
-    changed_or None = sym none
-    changed_or (Some x) = refl
-
-    changed_now : 0 < k → (j : ℕ) → (set_session s k (change (s.session k))).session j ≡ session_in (update r.sessions (k - 1) change) j
-    changed_now above zero =
-        ap (λ b. if b then change (s.session k) else s.session 0) (ne_eqb k 0 (λ same. omega (arith, same, above)))
-        ∙ fits.opened.each 0
-    changed_now above (suc i) = elim (cases_eq k (suc i)) [
-      | inl same ↦
-          let place : ◌≡◌ {A = ℕ} (k - 1) i = omega (arith, same) in
-          ap (λ b. if b then change (s.session k) else s.session (suc i)) (eq-eqb k (suc i) same)
-          ∙ ap (λ n. change (s.session n)) same
-          ∙ ap change (fits.opened.each (suc i))
-          ∙ sym (changed_or (slice_get r.sessions i))
-          ∙ ap (λ (o : Option Session). unwrap_or o no_session) (sym (update_own change r.sessions i))
-          ∙ ap (λ n. unwrap_or (slice_get (update r.sessions n change) i) no_session) (sym place)
-      | inr other ↦
-          ap (λ b. if b then change (s.session k) else s.session (suc i)) (ne_eqb k (suc i) other)
-          ∙ fits.opened.each (suc i)
-          ∙ ap (λ (o : Option Session). unwrap_or o no_session) (sym (update_other change r.sessions (k - 1) i (λ same. other (omega (arith, same, above)))))
+    given : was_given s.used k ≡ true
+    given = elim (cases_Bool (was_given s.used k)) [
+      | inl is ↦ is
+      | inr none ↦ absurd (false≢true (sym remains ∙ ap is_gone (fits.opened.unused k none)))
     ]
 
-    changed_nothing : was_given (length r.sessions) k ≡ false → (j : ℕ) → (set_session s k (change (s.session k))).session j ≡ session_in r.sessions j
-    changed_nothing out j =
-        let lost : s.session k ≡ no_session = fits.opened.each k ∙ session_lost r.sessions k out in
-        elim (k == j) as (λ b. k == j ≡ b → (if b then change (s.session k) else s.session j) ≡ session_in r.sessions j) [
-          | true ↦ λ is. ap change lost ∙ none ∙ sym lost ∙ ap s.session (eqb-true k j is) ∙ fits.opened.each j
-          | false ↦ λ _. fits.opened.each j
-        ] refl
-
--- what is told to a session leaves it gone or not
-pub told_gone : (p : Push) (x : Session) → is_gone (told p x) ≡ is_gone x
-told_gone p x = elim (is_open x) as (λ b. is_gone (if b then pushed_to x p else x) ≡ is_gone x) [ true ↦ refl | false ↦ refl ]
-
--- and so does that it is closed
-pub closed_gone : (refusal : Refusal) (x : Session) → is_gone (closed refusal x) ≡ is_gone x
-closed_gone refusal x = elim (is_open x) as (λ b. is_open x ≡ b → is_gone (if b then record (pushed_to x (push.Closed refusal)) { status = Closed } else x) ≡ is_gone x) [
-  | true ↦ λ is. sym (open_remains x is)
-  | false ↦ λ _. refl
-] refl
-
--- a session is told of an entry, where it is open
-pushing_told : (s : State) (k : ℕ) (p : Push) → pushing s k p ≡ set_session s k (told p (s.session k))
-pushing_told s k p =
-    elim (is_open (s.session k)) as (λ b. (if b then set_session s k (pushed_to (s.session k) p) else s) ≡ set_session s k (if b then pushed_to (s.session k) p else s.session k)) [
-      | true ↦ refl
-      | false ↦ λ i. record s { session = λ j. stays j i }
-    ]
-  where
-    stays : (j : ℕ) → s.session j ≡ (if k == j then s.session k else s.session j)
-    stays j = elim (k == j) as (λ b. k == j ≡ b → s.session j ≡ (if b then s.session k else s.session j)) [
-      | true ↦ λ is. ap s.session (sym (eqb-true k j is))
-      | false ↦ λ _. refl
-    ] refl
-
-pub fits_push : (r : Records) (s : State) → Fits r s → (k : ℕ) (p : Push) → Fits (push_in r k p) (pushing s k p)
-fits_push r s fits k p = subst (Fits (push_in r k p)) (sym (pushing_told s k p)) (fits_session r s fits k (told p) refl (λ x left. told_gone p x ∙ left))
-
--- it is closed, or gone
-pub fits_close : (r : Records) (s : State) → Fits r s → (k : ℕ) (refusal : Refusal) → Fits (close_in r k refusal) (closing s k refusal)
-fits_close r s fits k refusal = fits_session r s fits k (closed refusal) refl (λ x left. closed_gone refusal x ∙ left)
-
+-- it is gone
 pub fits_go : (r : Records) (s : State) → Fits r s → (k : ℕ) → Fits (go_in r k) (going s k)
-fits_go r s fits k = fits_session r s fits k gone refl (λ x left. refl)
+fits_go r s fits k = record {
+  core = fits.core;
+  opened = record {
+    rows = ap (filter (λ (x : SessionRecord). not (x.serial == k))) fits.opened.rows ∙ roster_gone s.session k (serials s);
+    boxes = boxes_set s.session r.part.outboxes fits.opened.boxes k no_session [] refl;
+    unused = λ j none. elim (k == j) as (λ b. (if b then no_session else s.session j) ≡ no_session) [ true ↦ refl | false ↦ fits.opened.unused j none ];
+  };
+  groups = fits.groups;
+  messages = fits.messages;
+  processes = record {
+    delay = fits.processes.delay;
+    admitted = λ j there. fits.processes.admitted j (elim (k == j) as (λ b. is_gone (if b then no_session else s.session j) ≡ false → is_gone (s.session j) ≡ false) [
+      | true ↦ λ left. absurd (false≢true (sym left))
+      | false ↦ λ left. left
+    ] there);
+    has_row = fits.processes.has_row;
+    rows = fits.processes.rows;
+    idle = fits.processes.idle;
+  };
+  acks = fits.acks;
+  orders = orders_same s (going s k) r.orders refl refl refl refl refl refl refl (λ u is. is) fits.orders;
+  frames = fits.frames;
+  delivered = fits.delivered;
+  pushed = fits.pushed;
+}
+
+-- what both may use, and how many casts they count, is another
+pub fits_counted : (r : Records) (s : State) → Fits r s → (quotas : Quotas → Quotas) (casts : ℕ → ℕ) → Fits (record r { quotas = quotas r.quotas; casts = casts r.casts }) (record s { quotas = quotas s.quotas; casts = casts s.casts })
+fits_counted r s fits quotas casts = record {
+  core = λ i. record (fits.core i) { quotas = quotas (fits.core i).quotas; casts = casts (fits.core i).casts };
+  opened = record { rows = fits.opened.rows; boxes = fits.opened.boxes; unused = fits.opened.unused };
+  groups = fits.groups;
+  messages = fits.messages;
+  processes = record { delay = fits.processes.delay; admitted = fits.processes.admitted; has_row = fits.processes.has_row; rows = fits.processes.rows; idle = fits.processes.idle };
+  acks = fits.acks;
+  orders = orders_same s (record s { quotas = quotas s.quotas; casts = casts s.casts }) r.orders refl refl refl refl refl refl refl (λ u is. is) fits.orders;
+  frames = fits.frames;
+  delivered = fits.delivered;
+  pushed = fits.pushed;
+}
 
 -- Changes of one group
 
@@ -442,6 +462,7 @@ fits_here r s fits lawful i g at change same seen gate waits = record {
   orders = orders_group s g (change (s.group g)) r.orders same seen waits fits.orders;
   frames = fits.frames;
   delivered = fits.delivered;
+  pushed = fits.pushed;
 }
 
 -- a change of the group at this site that leaves its number and its view, of which the queue is told by its gate, beside a change of what is
@@ -465,6 +486,7 @@ fits_gated r s fits lawful i g at change same seen gate told delay orders closed
   orders = logs;
   frames = fits.frames;
   delivered = fits.delivered;
+  pushed = fits.pushed;
 }
 
 -- a view is known, and the queue is told of its number
@@ -494,6 +516,7 @@ fits_view r s fits lawful i g at n members newer = record {
       (logs_view s g n members r.orders lawful.traced newer fits.orders);
   frames = fits.frames;
   delivered = fits.delivered;
+  pushed = fits.pushed;
 }
 
 -- a change of the group at the home
@@ -508,6 +531,7 @@ fits_home r s fits lawful i g at change = record {
   orders = orders_same s (set_home s g (change (s.home g))) r.orders refl refl refl refl refl refl refl (λ u is. is) fits.orders;
   frames = fits.frames;
   delivered = fits.delivered;
+  pushed = fits.pushed;
 }
 
 -- Changes of one process
@@ -584,6 +608,7 @@ fits_told_with r s fits k row f ok logs = record {
   orders = logs;
   frames = fits.frames;
   delivered = fits.delivered;
+  pushed = fits.pushed;
 }
 
 -- a fact that makes nobody a member, and by which the process counts no fewer
@@ -646,6 +671,7 @@ fits_acts r s fits acts = record {
   orders = orders_same s (record s { acts = acts }) r.orders refl refl refl refl refl refl refl (λ u is. is) fits.orders;
   frames = fits.frames;
   delivered = fits.delivered;
+  pushed = fits.pushed;
 }
 
 pub fits_sent : (r : Records) (s : State) → Fits r s → (k : ℕ) → IsSome (row_of r.delay.rows (local s k)) → (m : Message) → CountsStill r.orders (local s k) (s.process k).time m.times → Fits (tell_in r (local s k) (fact.Time m.times)) (noting_sent s k m)
@@ -686,6 +712,7 @@ fits_receive_with r s fits m sound orders logs = record {
   orders = logs;
   frames = fits.frames;
   delivered = fits.delivered;
+  pushed = fits.pushed;
 }
 
 -- a message of the current view of its group is received, which is none that is forgotten of the order of the view, and no set-order message
@@ -725,13 +752,33 @@ filter_more test a (suc n) last past =
     same : ((a == last) || test a) ≡ test a
     same = ap (λ b. b || test a) (ne_eqb a last (λ is. omega (arith, is, past)))
 
+-- the last one was given
+given_last : (used : ℕ) → was_given (used + 1) (used + 1) ≡ true
+given_last used = and_from (nat_lt 0 (used + 1)) (nat_le (used + 1) (used + 1)) (lt-ltb 0 (used + 1) (omega arith)) (le-leb (used + 1) (used + 1) (omega arith))
+
+-- of serials before one that is opened the records are the same
+roster_before : (session : ℕ → Session) (k : ℕ) (v : Session) (n a : ℕ) → a + n ≤ k → roster session (range_with_len a n) ≡ roster (set_one session k v) (range_with_len a n)
+roster_before session k v zero a past = refl
+roster_before session k v (suc n) a past =
+    roster_first session a (range_with_len (a + 1) n)
+    ∙ (λ i. cond (not (is_gone (same i))) (record { serial = a; status = (same i).status } ∷ roster_before session k v n (a + 1) (omega arith) i) (roster_before session k v n (a + 1) (omega arith) i))
+    ∙ sym (roster_first (set_one session k v) a (range_with_len (a + 1) n))
+  where
+    same : session a ≡ set_one session k v a
+    same = sym (ap (λ b. if b then v else session a) (ne_eqb k a (λ is. omega (arith, is, past))))
+
 -- a session is opened
 pub fits_open : (r : Records) (s : State) → Fits r s → Fits (open_in r) (opening_next s)
 fits_open r s fits = record {
   core = λ i. record (fits.core i) { used = (fits.core i).used + 1 };
   opened = record {
-    given = length-append r.sessions (first_session named ∷ []) ∙ ap (λ n. n + 1) fits.opened.given;
-    each = opened_now;
+    rows = ap (λ xs. xs ++ record { serial = r.used + 1; status = Open } ∷ []) (fits.opened.rows ∙ kept_before) ∙ (λ i. roster after (serials s) ++ record { serial = (fits.core i).used + 1; status = Open } ∷ []) ∙ sym listed;
+    boxes = (λ i. set_at (λ a b. a == b) r.part.outboxes ((fits.core i).used + 1) (push.Opened (record { site = (fits.core i).site; serial = (fits.core i).used + 1 }) ∷ []))
+        ∙ boxes_set s.session r.part.outboxes fits.opened.boxes (s.used + 1) first (push.Opened (local s (s.used + 1)) ∷ []) refl;
+    unused = λ k none. elim (cases_eq (s.used + 1) k) [
+      | inl same ↦ absurd (false≢true (sym none ∙ ap (was_given (s.used + 1)) (sym same) ∙ given_last s.used))
+      | inr other ↦ ap (λ b. if b then first else s.session k) (ne_eqb (s.used + 1) k other) ∙ fits.opened.unused k (given_before s.used k none)
+    ];
   };
   groups = fits.groups;
   messages = fits.messages;
@@ -753,25 +800,30 @@ fits_open r s fits = record {
   orders = orders_same s (opening_next s) r.orders refl refl refl refl refl refl refl (λ u is. is) fits.orders;
   frames = fits.frames;
   delivered = fits.delivered;
+  pushed = (λ i. r.pushed ++ (r.config.domain, (fits.core i).used + 1, push.Opened (record { site = (fits.core i).site; serial = (fits.core i).used + 1 })) ∷ [])
+      ∙ pushed_more r s fits (s.used + 1) (push.Opened (local s (s.used + 1)));
 }
   where
     named : Proc
     named = local_in r (r.used + 1)
 
-    opened_now : (k : ℕ) → (opening_next s).session k ≡ session_in (r.sessions ++ first_session named ∷ []) k
-    opened_now zero = ap (λ b. if b then first_session (local s (s.used + 1)) else s.session 0) (ne_eqb (s.used + 1) 0 (λ same. omega (arith, same))) ∙ fits.opened.each 0
-    opened_now (suc i) = elim (cases_eq (s.used + 1) (suc i)) [
-      | inl same ↦
-          let place : length r.sessions ≡ i = omega (arith, same, fits.opened.given) in
-          ap (λ b. if b then first_session (local s (s.used + 1)) else s.session (suc i)) (eq-eqb (s.used + 1) (suc i) same)
-          ∙ (λ j. first_session (record { site = (sym fits.core j).site; serial = (sym fits.core j).used + 1 }))
-          ∙ ap (λ (o : Option Session). unwrap_or o no_session) (sym (push_last r.sessions (first_session named)))
-          ∙ ap (λ n. unwrap_or (slice_get (r.sessions ++ first_session named ∷ []) n) no_session) place
-      | inr other ↦
-          ap (λ b. if b then first_session (local s (s.used + 1)) else s.session (suc i)) (ne_eqb (s.used + 1) (suc i) other)
-          ∙ fits.opened.each (suc i)
-          ∙ ap (λ (o : Option Session). unwrap_or o no_session) (sym (push_other r.sessions (first_session named) i (λ same. other (omega (arith, same, fits.opened.given)))))
-    ]
+    first : Session
+    first = first_session (local s (s.used + 1))
+
+    after : ℕ → Session
+    after = set_one s.session (s.used + 1) first
+
+    kept_before : roster s.session (serials s) ≡ roster after (serials s)
+    kept_before = roster_before s.session (s.used + 1) first s.used 1 (omega arith)
+
+    -- the last one comes behind those that were there
+    listed : roster after (range_with_len 1 (s.used + 1)) ≡ roster after (serials s) ++ record { serial = s.used + 1; status = Open } ∷ []
+    listed =
+        ap (λ n. roster after (range_with_len 1 n)) (one_more s.used)
+        ∙ ap (roster after) (range_push 1 s.used)
+        ∙ ap (map (session_for after)) (filter-append (is_there after) (serials s) ((1 + s.used) ∷ []))
+        ∙ map-append (session_for after) (filter (is_there after) (serials s)) (filter (is_there after) ((1 + s.used) ∷ []))
+        ∙ ap (λ xs. roster after (serials s) ++ xs) (ap (λ n. roster after (n ∷ [])) (sym (last_serial s.used)) ∙ roster_first after (s.used + 1) [] ∙ ap (λ b. cond (not (is_gone (if b then first else s.session (s.used + 1)))) (record { serial = s.used + 1; status = (if b then first else s.session (s.used + 1)).status } ∷ []) []) (eq-eqb (s.used + 1) (s.used + 1) refl))
 
     has_row_now : ℕ → Bool
     has_row_now k = (k == s.used + 1) || fits.processes.has_row k
@@ -795,12 +847,13 @@ fits_open r s fits = record {
     ]
 
 -- a new domain stands for the history before its first event
-pub fits_before : (here : SiteNo) (config : DomainConfig) → Fits (record { site = here; config = config; used = 0; sessions = []; groups = map (record_for (opening here config)) config.groups; moment = 0; part = no_part; delay = record { gates = []; offered = []; rows = []; reached = [] }; acks = new_ledger here; orders = []; frames = []; delivered = [] }) (before_event (opening here config))
+pub fits_before : (here : SiteNo) (config : DomainConfig) → Fits (record { site = here; config = config; quotas = config.quotas; used = 0; sessions = []; groups = map (record_for (opening here config)) config.groups; moment = 0; casts = 0; part = no_part; delay = record { gates = []; offered = []; rows = []; reached = [] }; acks = new_ledger here; orders = []; frames = []; delivered = []; pushed = [] }) (before_event (opening here config))
 fits_before here config = record {
   core = refl;
   opened = record {
-    given = refl;
-    each = λ k. none_in k;
+    rows = refl;
+    boxes = refl;
+    unused = λ k none. refl;
   };
   groups = refl;
   messages = record {
@@ -822,11 +875,8 @@ fits_before here config = record {
   };
   frames = refl;
   delivered = refl;
+  pushed = refl;
 }
   where
     idle : (p : Proc) → no_process ≡ process_named (before_event (opening here config)) p
     idle p = elim (site_eq p.site here) as (λ b. no_process ≡ (if b then no_process else no_process)) [ true ↦ refl | false ↦ refl ]
-
-    none_in : (k : ℕ) → no_session ≡ session_in [] k
-    none_in zero = refl
-    none_in (suc i) = refl

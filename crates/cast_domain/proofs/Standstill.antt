@@ -21,9 +21,7 @@ use Rattle.cast_delay.proofs.Listed.{list_any-append}
 use Rattle.cast_delay.proofs.Queues.{delivered_by}
 use Rattle.cast_clock.specs.Times.{join}
 use Rattle.cast_clock.proofs.Entries.{option_cases}
-use Rattle.cast_message.specs.declared.client.Push.{Push}
-use Rattle.cast_model.specs.Session.{is_open, pushed_to}
-use Rattle.cast_history.specs.Rules.Rest.{tell, told_of}
+use Rattle.cast_history.specs.Rules.Rest.{told_of}
 use Rattle.cast_order.specs.Log.{log_of}
 use Rattle.cast_history.specs.History.{history}
 use Rattle.cast_domain.specs.declared.record.GroupRecord.{GroupRecord}
@@ -31,7 +29,7 @@ use Rattle.cast_types.specs.Names.{named}
 use Rattle.cast_timer.specs.declared.key.OwedKind.TheVariants.{Want}
 use Rattle.cast_delay.specs.Ready.{covered}
 use Rattle.cast_view.specs.MemberSide.{MemberSide, holder_at, is_pending}
-use Rattle.cast_history.specs.State.{State, local, serials, gate_of, set_session, with_delivery}
+use Rattle.cast_history.specs.State.{State, local, serials, gate_of, with_delivery}
 use Rattle.cast_history.specs.Order.{unlisted}
 use Rattle.cast_history.specs.Turns.{is_ready_for}
 use Rattle.cast_history.specs.Effects.{sending, next_message}
@@ -49,7 +47,8 @@ use Rattle.cast_domain.specs.Records.{Records}
 use Rattle.cast_domain.specs.Fits.{record_for, process_named, Fits}
 use Rattle.cast_history.proofs.Alikes.{Alike, alike_sending}
 use Rattle.cast_history.proofs.Going.{goes_on}
-use Rattle.cast_history.proofs.Settles.{Delivers, delivering_one, delivers, ready_causally}
+use Rattle.cast_history.proofs.Telling.{tells_told_if}
+use Rattle.cast_history.proofs.Settles.{alike_delivering, Delivers, delivering_one, delivers, ready_causally}
 use Rattle.cast_history.proofs.Spots.{found_passes}
 use Rattle.cast_history.proofs.Rests.{moves_settle, moves_set_orders, moves_lead, moves_pass, never_more}
 use Rattle.cast_history.proofs.Totals.{total_same}
@@ -192,12 +191,15 @@ goes_pass s as_many =
 abbrev IsNoMember : State → ℕ → Type 0
 IsNoMember s k = (g : GroupNo) → is_member ((s.process k).standing g) ≡ false
 
--- what is told to a session changes no process
-told_processes : (s : State) (j : ℕ) (o : Option Push) → (tell history s j o).process ≡ s.process
-told_processes s j None = refl
-told_processes s j (Some p) = elim (is_open (s.session j)) as (λ b. (if b then set_session s j (pushed_to (s.session j) p) else s).process ≡ s.process) [ true ↦ refl | false ↦ refl ]
+-- it delivers nothing, and stays so, as others deliver and are told
+record StaysIdle (s t : State) (k : ℕ) : Type 0 where
+  pub delivered : (t.process k).delivered ≡ (s.process k).delivered
+  pub outside : IsNoMember s k → IsNoMember t k
 
-idle_first : (s : State) (k j : ℕ) → IsNoMember s k → (deliver_first j s).process k ≡ s.process k
+stays_then : (s t u : State) (k : ℕ) → StaysIdle s t k → StaysIdle t u k → StaysIdle s u k
+stays_then s t u k a b = record { delivered = b.delivered ∙ a.delivered; outside = λ out. b.outside (a.outside out) }
+
+idle_first : (s : State) (k j : ℕ) → IsNoMember s k → StaysIdle s (deliver_first j s) k
 idle_first s k j out = found (find (is_ready_for s j) s.got) refl
   where
     by_serial : (m : Message) → is_ready_for s j m ≡ true → (b : Bool) → (j == k) ≡ b → (with_delivery s j m).process k ≡ s.process k
@@ -207,23 +209,27 @@ idle_first s k j out = found (find (is_ready_for s j) s.got) refl
     by_serial m ready false other =
         ap (λ b. if b then record (s.process j) { time = join (s.process j).time m.times; delivered = (s.process j).delivered ++ m.id ∷ [] } else s.process k) other
 
-    found : (o : Option Message) → find (is_ready_for s j) s.got ≡ o → (elim o as (λ _. State) [ Some m ↦ delivering_one s j m | None ↦ s ]).process k ≡ s.process k
+    found : (o : Option Message) → find (is_ready_for s j) s.got ≡ o → StaysIdle s (elim o as (λ _. State) [ Some m ↦ delivering_one s j m | None ↦ s ]) k
     found (Some m) is =
-        ap (λ processes. processes k) (told_processes (with_delivery s j m) j (told_of m.id m.body))
-        ∙ by_serial m (found_passes (is_ready_for s j) s.got m is) (j == k) refl
-    found None is = refl
+        let same = by_serial m (found_passes (is_ready_for s j) s.got m is) (j == k) refl in
+        let told = tells_told_if (with_delivery s j m) j (told_of m.id m.body) in record {
+          delivered = (alike_delivering s j m).delivered k ∙ ap (λ p. p.delivered) same;
+          outside = λ none g. false_from_ne_true (is_member (((delivering_one s j m).process k).standing g)) (λ member.
+              false≢true (sym (none g) ∙ ap (λ p. is_member (p.standing g)) (sym same) ∙ told.members k g member));
+        }
+    found None is = record { delivered = refl; outside = λ none. none }
 
-idle_turns : (n j : ℕ) (s : State) (k : ℕ) → IsNoMember s k → (iterate n (deliver_first j) s).process k ≡ s.process k
-idle_turns zero j s k out = refl
+idle_turns : (n j : ℕ) (s : State) (k : ℕ) → IsNoMember s k → StaysIdle s (iterate n (deliver_first j) s) k
+idle_turns zero j s k out = record { delivered = refl; outside = λ none. none }
 idle_turns (suc n) j s k out =
     let first = idle_first s k j out in
-    idle_turns n j (deliver_first j s) k (λ g. ap (λ p. is_member (p.standing g)) first ∙ out g) ∙ first
+    stays_then s (deliver_first j s) (iterate n (deliver_first j) (deliver_first j s)) k first (idle_turns n j (deliver_first j s) k (first.outside out))
 
-idle_settle : (ks : List ℕ) (s : State) (k : ℕ) → IsNoMember s k → (fold deliver_all s ks).process k ≡ s.process k
-idle_settle [] s k out = refl
+idle_settle : (ks : List ℕ) (s : State) (k : ℕ) → IsNoMember s k → StaysIdle s (fold deliver_all s ks) k
+idle_settle [] s k out = record { delivered = refl; outside = λ none. none }
 idle_settle (j ∷ ks) s k out =
     let all = idle_turns (length s.got) j s k out in
-    idle_settle ks (deliver_all s j) k (λ g. ap (λ p. is_member (p.standing g)) all ∙ out g) ∙ all
+    stays_then s (deliver_all s j) (fold deliver_all (deliver_all s j) ks) k all (idle_settle ks (deliver_all s j) k (all.outside out))
 
 -- set-order messages are sent, and nobody delivers
 idle_order : (s : State) (g : GroupNo) (k : ℕ) → ((set_order s g).process k).delivered ≡ (s.process k).delivered
@@ -258,7 +264,7 @@ idle_pass s as_many k out =
       | inr alike ↦ alike.delivered k
     ])
     ∙ idle_orders t.config.groups t k
-    ∙ ap (λ (p : Process). p.delivered) (idle_settle (serials s) s k out)
+    ∙ (idle_settle (serials s) s k out).delivered
 
 -- what goes on no longer is the same
 no_more : (before after : List Message) → GoesOn before after → length after ≡ length before → after ≡ before

@@ -231,6 +231,7 @@ fits_trim r s fits lawful i g at =
       orders = logs_trimmed r s fits lawful g;
       frames = fits.frames;
       delivered = fits.delivered;
+      pushed = fits.pushed;
     })
 
 -- each place from one on has a group

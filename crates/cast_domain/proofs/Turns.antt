@@ -1,5 +1,5 @@
 -- The turns of the records' rest are those of the history that they stand for.
-use Rattle.std.proofs.Common.{◌≡◌, ℕ, zero, suc, ◌<◌, ◌≤◌, Bool, true, false, cond, not, List, [], ◌∷◌, ◌++◌, length, map, Contains, Option, Some, None, refl, sym, ap, subst, ◌∙◌, inl, inr, arith}
+use Rattle.std.proofs.Common.{◌≡◌, ℕ, zero, suc, ◌<◌, ◌≤◌, Bool, true, false, cond, not, List, [], ◌∷◌, ◌++◌, length, Contains, Option, Some, None, refl, sym, ap, subst, ◌∙◌, inl, inr, arith}
 use Rattle.std.specs.Prelude.{◌&&◌, ◌==◌, if◌then◌else◌, filter, take}
 use Rattle.std.specs.List.{find}
 use Rattle.std.specs.Option.{IsSome, option_map_or}
@@ -27,12 +27,14 @@ use Rattle.cast_delay.proofs.Delivers.{only_member}
 use Rattle.cast_delay.proofs.Queues.{delivery_fits, next_rules, passed_delivered}
 use Rattle.cast_order.specs.Log.{Log, log_of, change_log, next_in, told, passed}
 use Rattle.cast_history.specs.History.{history}
-use Rattle.cast_model.specs.Session.{is_open, pushed_to}
-use Rattle.cast_history.specs.State.{State, local, is_group, gate_of, set_session, was_given, pushing, with_delivery}
+use Rattle.cast_history.specs.State.{State, local, is_group, gate_of, was_given, with_delivery}
 use Rattle.cast_history.specs.Order.{is_of_view, sets_order}
 use Rattle.cast_history.specs.Turns.{turn_of, is_ready_for}
 use Rattle.cast_history.specs.Effects.{delivering}
-use Rattle.cast_history.specs.Rules.Rest.{told_of, tell}
+use Rattle.cast_history.specs.Rules.Rest.{told_of, tell_if}
+use Rattle.cast_history.proofs.Rules.Leaving.{tell_follows}
+use Rattle.cast_history.proofs.Rules.Rest.{told_if_keeps}
+use Rattle.cast_history.proofs.Telling.{tells_told_if}
 use Rattle.cast_history.specs.Rest.{deliver_first, deliver_all, is_free}
 use Rattle.cast_history.specs.Endings.{left}
 use Rattle.cast_domain.specs.Records.{Records}
@@ -46,13 +48,16 @@ use Rattle.cast_domain.proofs.LogSteps.{noting, logs_deliver}
 use Rattle.cast_domain.proofs.Ordering.{sets_order_there, turns_there}
 use Rattle.cast_history.proofs.Totals.{left_found, left_le}
 use Rattle.cast_history.proofs.Spots.{found_passes}
-use Rattle.cast_history.proofs.Lawful.{delivered_view, lawful_delivering}
+use Rattle.cast_history.proofs.Lawful.{delivered_view, lawful_delivery}
 use Rattle.cast_domain.proofs.Over.{join_counts_on}
-use Rattle.cast_history.proofs.LawfulSteps.{lawful_first}
+use Rattle.cast_history.proofs.LawfulSteps.{all_lawful, lawful_first}
 use Rattle.cast_domain.proofs.Releases.{fits_let_go}
 use Rattle.cast_delay.proofs.Finds.{found_in}
 use Rattle.cast_types.proofs.Iterates.{iterate_still}
-use Rattle.cast_domain.proofs.Standing.{fits_push, process_here, member_row, named_set, still_in, same_names, still_idle}
+use Rattle.cast_domain.proofs.Framing.{StandsIn, records_follow_all}
+use Rattle.cast_domain.proofs.Following.{IsAt}
+use Rattle.cast_domain.proofs.Remaining.{names_after}
+use Rattle.cast_domain.proofs.Standing.{process_here, member_row, named_set, still_in, still_idle}
 
 -- What the turns leave as it is
 
@@ -95,14 +100,6 @@ still_after offered p key q rows was = still_found (offered_under offered key)
     still_found : (o : Option Offered) → IsSome (row_of (elim o [ Some x ↦ change_row p (delivered_row x.id x.times) rows | None ↦ rows ]) q)
     still_found (Some x) = still_in p (delivered_row x.id x.times) (λ _. refl) q rows was
     still_found None = was
-
--- and the rows are those of the same processes
-pub names_after : (offered : List Offered) (p : Proc) (key : Key) (rows : List Row) → map (λ (row : Row). row.process) (after_delivery offered p key rows) ≡ map (λ (row : Row). row.process) rows
-names_after offered p key rows = names_found (offered_under offered key)
-  where
-    names_found : (o : Option Offered) → map (λ (row : Row). row.process) (elim o as (λ _. List Row) [ Some x ↦ change_row p (delivered_row x.id x.times) rows | None ↦ rows ]) ≡ map (λ (row : Row). row.process) rows
-    names_found (Some x) = same_names p (delivered_row x.id x.times) (λ _. refl) rows
-    names_found None = refl
 
 -- the records once the process has delivered the message under a key
 abbrev turned : Records → State → ℕ → Key → Message → Records
@@ -162,6 +159,7 @@ fits_turn r s fits l k given key m under at ready = record {
       (λ g member. join_counts_on (s.process k).time m.times g (local s k) (l.stamped m at) (delivered_view s k m l at ready g member ∙ sym (l.current k g member)));
   frames = fits.frames;
   delivered = (λ i. fits.delivered i ++ ((fits.core i).config.domain, local s k, m.id) ∷ []) ∙ sym (map-append (λ (x : Proc × Uid). (s.config.domain, x.0, x.1)) s.deliveries ((local s k, m.id) ∷ []));
+  pushed = fits.pushed;
 }
   where
     ids : List Entry
@@ -197,17 +195,17 @@ noted_as r s fits l k key m ready = at (is_atomic (kind_of m.body))
     at false = refl
 
 -- the program is told on both sides, or nothing is told
-fits_tell : (r : Records) (s : State) → Fits r s → (k : ℕ) (o : Option Push) → Fits (tell records r k o) (tell history s k o)
-fits_tell r s fits k (Some p) = fits_push r s fits k p
-fits_tell r s fits k None = fits
+fits_tell : (r : Records) (s : State) → Fits r s → IsLawful s → (k : ℕ) (o : Option Push) → Fits (tell_if records r k o) (tell_if history s k o)
+fits_tell r s fits l k (Some p) = (tell_follows records history (StandsIn s.config.groups) (IsAt s.config.groups) (records_follow_all s.config.groups) r s ((fits, refl), l) k p).0.0
+fits_tell r s fits l k None = fits
 
 -- a process delivers a message that is ready, and is told; what is free then is let go
-pub fits_delivering : (r : Records) (s : State) → Fits r s → IsLawful s → (k : ℕ) → was_given s.used k ≡ true → (key : Key) (m : Message) → message_under r.part.kept key ≡ Some m → Contains s.got m → is_ready_for s k m ≡ true → IsLawful (delivering s k m) → Fits (release.let_go records resting_records (tell records (note_delivered_under r (local s k) key m) k (told_of m.id m.body))) (delivering_one s k m)
+pub fits_delivering : (r : Records) (s : State) → Fits r s → IsLawful s → (k : ℕ) → was_given s.used k ≡ true → (key : Key) (m : Message) → message_under r.part.kept key ≡ Some m → Contains s.got m → is_ready_for s k m ≡ true → IsLawful (delivering s k m) → Fits (release.let_go records resting_records (tell_if records (note_delivered_under r (local s k) key m) k (told_of m.id m.body))) (delivering_one s k m)
 fits_delivering r s fits l k given key m under at ready lawful =
     let next : Records = record (turned r s k key m) { orders = noting s k m (passing r s k key m) r.orders } in
-    fits_let_go (tell records (note_delivered_under r (local s k) key m) k (told_of m.id m.body)) (delivering s k m)
-    (subst (λ x. Fits (tell records x k (told_of m.id m.body)) (delivering s k m)) (sym (noted_as r s fits l k key m ready))
-    (fits_tell next (with_delivery s k m) (fits_turn r s fits l k given key m under at ready) k (told_of m.id m.body)))
+    fits_let_go (tell_if records (note_delivered_under r (local s k) key m) k (told_of m.id m.body)) (delivering s k m)
+    (subst (λ x. Fits (tell_if records x k (told_of m.id m.body)) (delivering s k m)) (sym (noted_as r s fits l k key m ready))
+    (fits_tell next (with_delivery s k m) (fits_turn r s fits l k given key m under at ready) (lawful_delivery s k m l at ready) k (told_of m.id m.body)))
     lawful
 
 -- a spent message is ready for nobody
@@ -233,7 +231,7 @@ ready_kept s k given l = found_kept (IsSpent s) (is_ready_for s k) (spent_not_re
 abbrev first_of : Records → ℕ → Proc → Records
 first_of r k p =
     elim (option_map_or (message_under r.part.kept) (ready_key_in r p) None) [
-      | Some m ↦ release.let_go records resting_records (tell records (option_map_or (λ key. note_delivered_under r p key m) (ready_key_in r p) r) k (told_of m.id m.body))
+      | Some m ↦ release.let_go records resting_records (tell_if records (option_map_or (λ key. note_delivered_under r p key m) (ready_key_in r p) r) k (told_of m.id m.body))
       | None ↦ r
     ]
 
@@ -253,7 +251,7 @@ fits_first r s fits l k given =
     -- with the key that is named, and the message under it
     named_key : Option Key → Option Message → Records
     named_key o found =
-        elim found [ Some m ↦ release.let_go records resting_records (tell records (option_map_or (λ key. note_delivered_under r (local s k) key m) o r) k (told_of m.id m.body)) | None ↦ r ]
+        elim found [ Some m ↦ release.let_go records resting_records (tell_if records (option_map_or (λ key. note_delivered_under r (local s k) key m) o r) k (told_of m.id m.body)) | None ↦ r ]
 
     fits_next : (o : Option Key) → FirstReady s.config.groups (gate_of s) (turn_of s k) (process_named s (local s k)) r.part.kept o → Fits (named_key o (option_map_or (message_under r.part.kept) o None)) (deliver_first k s)
     fits_next None none = subst (Fits r) (sym (delivered_none s k (sym found_is ∙ none))) fits
@@ -262,8 +260,8 @@ fits_first r s fits l k given =
         let ready : is_ready_for s k m ≡ true = found_passes (is_ready_for s k) s.got m found in
         let at : Contains s.got m = found_in (is_ready_for s k) s.got m found in
         subst (λ x. Fits (named_key (Some key) x) (deliver_first k s)) (sym under)
-        (subst (Fits (release.let_go records resting_records (tell records (note_delivered_under r (local s k) key m) k (told_of m.id m.body)))) (sym (delivered_first s k m found))
-        (fits_delivering r s fits l k given key m under at ready (lawful_delivering s k m l at ready)))
+        (subst (Fits (release.let_go records resting_records (tell_if records (note_delivered_under r (local s k) key m) k (told_of m.id m.body)))) (sym (delivered_first s k m found))
+        (fits_delivering r s fits l k given key m under at ready (told_if_keeps history IsLawful all_lawful (with_delivery s k m) (lawful_delivery s k m l at ready) k (told_of m.id m.body))))
 
 -- so many turns of one process
 fits_turns : (n : ℕ) (r : Records) (s : State) → Fits r s → IsLawful s → (k : ℕ) → was_given s.used k ≡ true → Fits (iterate n (rest.deliver_first records resting_records k) r) (iterate n (deliver_first k) s)
@@ -287,16 +285,9 @@ kept_less s k m e =
     let fewer = left_found (is_ready_for s k) (s.process k).delivered s.kept m (ready_new s k) e in
     let free : Message → Bool = λ x. not (is_free (delivering s k m) x.id) in
     let least = left_filter ((s.process k).delivered ++ m.id ∷ []) free s.kept in
-    let before : (delivering s k m).kept ≡ s.kept = kept_told (told_of m.id m.body) in
+    let before : (delivering s k m).kept ≡ s.kept = (tells_told_if (with_delivery s k m) k (told_of m.id m.body)).kept in
     let now : left (t.process k).delivered t.kept ≡ left ((s.process k).delivered ++ m.id ∷ []) (filter free s.kept) = (λ i. left (same i) (filter free (before i))) in
     omega (arith, fewer, least, now)
-  where
-    kept_pushed : (u : State) (j : ℕ) (p : Push) → (pushing u j p).kept ≡ u.kept
-    kept_pushed u j p = elim (is_open (u.session j)) as (λ b. (if b then set_session u j (pushed_to (u.session j) p) else u).kept ≡ u.kept) [ true ↦ refl | false ↦ refl ]
-
-    kept_told : (o : Option Push) → (elim o as (λ _. State) [ Some p ↦ pushing (with_delivery s k m) k p | None ↦ with_delivery s k m ]).kept ≡ s.kept
-    kept_told (Some p) = kept_pushed (with_delivery s k m) k p
-    kept_told None = refl
 
 -- as many turns as messages are kept are enough
 settled_kept : (n : ℕ) (s : State) (k : ℕ) → IsLawful s → was_given s.used k ≡ true → left (s.process k).delivered s.kept ≤ n → find (is_ready_for (iterate n (deliver_first k) s) k) (iterate n (deliver_first k) s).got ≡ None

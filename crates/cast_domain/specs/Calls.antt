@@ -1,5 +1,5 @@
 -- What the calls of a domain do to its records, exactly.
-use Rattle.std.specs.Prelude.{ℕ, ◌+◌, ◌-◌, min, max, Bool, false, not, ◌&&◌, ◌||◌, ◌==◌, nat_lt, if◌then◌else◌, List, [], ◌∷◌, ◌++◌, length, take, map, filter, get_or, slice_get, Option, Some, None}
+use Rattle.std.specs.Prelude.{ℕ, ◌+◌, min, max, Bool, false, not, ◌&&◌, ◌||◌, ◌==◌, nat_lt, nat_le, if◌then◌else◌, List, [], ◌∷◌, ◌++◌, length, take, map, filter, get_or, slice_get, Option, Some, None}
 use Rattle.std.specs.List.{fold, find, list_all, list_any, range_with_len}
 use Rattle.std.specs.FinMap.Entries.{put}
 use Rattle.std.specs.Option.{option_map, option_map_or}
@@ -46,25 +46,30 @@ use Rattle.cast_timer.specs.declared.key.OwedKey.{OwedKey}
 use Rattle.cast_timer.specs.Owed.{is_owed, due_at}
 use Rattle.cast_message.specs.Receipts.{key_eq, messages, message_under}
 use Rattle.cast_domain.specs.declared.record.GroupRecord.{GroupRecord}
-use Rattle.cast_model.specs.Session.{first_session, told as told_session, is_open, is_gone, closed, gone}
+use Rattle.cast_quota.specs.declared.quotas.QuotaName.{QuotaName}
+use Rattle.cast_quota.specs.Quotas.{with_quota}
+use Rattle.cast_model.specs.declared.limits.TheConstants.{MAX_CASTS}
+use Rattle.cast_model.specs.declared.session.Status.{Status}
+use Rattle.cast_model.specs.declared.session.Status.TheVariants.{Open, Closed}
+use Rattle.cast_model.specs.Session.{is_open_status, is_gone_status}
+use Rattle.cast_domain.specs.declared.record.SessionRecord.{SessionRecord}
 use Rattle.cast_view.specs.declared.member.Pending.{Pending}
 use Rattle.cast_view.specs.MemberSide.{MemberSide, no_group, members_of, holder_of, is_process, is_current, is_open_to, with_request, with_answer, frozen_side, report_of, with_pending, with_view, is_taken_in}
-use Rattle.cast_model.specs.declared.session.Session.{Session}
 use Rattle.cast_view.specs.Sites.{is_at, other_sites}
 use Rattle.cast_view.specs.Home.{HomeMove, first_home, is_empty, moved}
-use Rattle.cast_domain.specs.Shared.{part_with, part_without, part_owing, part_renewing, part_paying, part_paying_upto, part_paying_view}
-use Rattle.cast_history.specs.Rules.Interface.{Site, Serials, Resting}
-use Rattle.cast_history.specs.Rules.Rest.{tell, told_of}
+use Rattle.cast_domain.specs.Shared.{part_boxing, part_pushing, part_taking, part_with, part_without, part_owing, part_renewing, part_paying, part_paying_upto, part_paying_view}
+use Rattle.cast_history.specs.Rules.Interface.{Site, Sessions, Resting}
+use Rattle.cast_history.specs.Rules.Rest.{tell_if, told_of}
 use Rattle.cast_history.specs.Rules.Room.{may_order}
-use Rattle.cast_history.specs.Rules.Commands.{end_session}
+use Rattle.cast_history.specs.Rules.Leaving.{end_session}
 use Rattle.cast_history.specs.Rules.Events.{acted}
 use Rattle.cast_model.specs.declared.event.Event.{Event}
 use Rattle.cast_model.specs.declared.event.Event.TheVariants.{Gone}
 use Rattle.cast_history.specs.Rules.Sending.{may_raise}
-use Rattle.cast_history.specs.State.{was_given}
 use Rattle.cast_history.specs.Reports.{kept_list}
+use Rattle.cast_domain.specs.declared.rest.Delivery.{Delivery}
 use Rattle.cast_domain.specs.Records.{Records}
-use Rattle.cast_domain.specs.Fits.{session_in}
+use Rattle.cast_domain.specs.Fits.{status_in}
 
 -- Names
 
@@ -105,18 +110,33 @@ raised_in q p g = if may_raise (time_of q p) g p then Some (bumped (time_of q p)
 abbrev pub send_in : Records → SiteNo → SiteFrame → Records
 send_in r to f = record r { frames = r.frames ++ (r.config.domain, to, f) ∷ [] }
 
--- the session of a serial that was given changes
-abbrev pub change_session_in : Records → ℕ → (Session → Session) → Records
-change_session_in r k f = if was_given (length r.sessions) k then record r { sessions = update r.sessions (k - 1) f } else r
-
+-- an entry is pushed to the session of a serial
 abbrev pub push_in : Records → ℕ → Push → Records
-push_in r k p = change_session_in r k (told_session p)
+push_in r k p = record r { part = part_pushing r.part k p; pushed = r.pushed ++ (r.config.domain, k, p) ∷ [] }
+
+-- the session of a serial has another status
+abbrev pub with_status : ℕ → Status → SessionRecord → SessionRecord
+with_status k status x = if x.serial == k then record x { status = status } else x
 
 abbrev pub close_in : Records → ℕ → Refusal → Records
-close_in r k refusal = change_session_in r k (closed refusal)
+close_in r k refusal = record (push_in r k (push.Closed refusal)) { sessions = map (with_status k Closed) r.sessions }
 
+-- it is gone, and its outbox
 abbrev pub go_in : Records → ℕ → Records
-go_in r k = change_session_in r k gone
+go_in r k = record r { sessions = filter (λ x. not (x.serial == k)) r.sessions; part = part_boxing r.part k [] }
+
+-- its outbox has as many entries as it may have
+abbrev pub is_full_in : Records → ℕ → Bool
+is_full_in r k = nat_le r.quotas.outbox (length (r.part.outboxes k))
+
+abbrev pub take_entries_in : Records → ℕ → ℕ → Records
+take_entries_in r k most = record r { part = part_taking r.part k most }
+
+abbrev pub set_quota_in : Records → QuotaName → ℕ → Records
+set_quota_in r name value = record r { quotas = with_quota name value r.quotas }
+
+abbrev pub count_cast_in : Records → Records
+count_cast_in r = record r { casts = min MAX_CASTS (r.casts + 1) }
 
 abbrev pub tell_in : Records → Proc → Fact → Records
 tell_in r p f = record r { delay = record r.delay { rows = change_row p (told_row f) r.delay.rows } }
@@ -128,7 +148,7 @@ abbrev pub message_in : Records → Uid → Option Message
 message_in r u = option_map (λ x. x.message) (find (λ x. uid_eq x.message.id u) r.part.kept)
 
 abbrev pub next_due_in : Records → ℕ
-next_due_in r = r.moment + r.config.quotas.resend
+next_due_in r = r.moment + r.quotas.resend
 
 abbrev pub note_owed_in : Records → OwedKey → Records
 note_owed_in r key = record r { part = part_owing r.part key (next_due_in r) }
@@ -214,19 +234,15 @@ awaits_own_in r p = list_any (λ x. is_own_in r p x.message) r.part.kept
 
 -- Views
 
--- a process enters a view, and is told
-abbrev pub enter_in : GroupNo → ℕ → Membership → Records → Proc → Records
-enter_in g n members r p =
-    push_in
-    (tell_in
-    (tell_in r p (fact.Time (entering (time_of r.delay p) g n)))
-    p (fact.Standing g Member))
-    p.serial (push.View g n members)
+-- a process enters a view
+abbrev pub enter_in : GroupNo → ℕ → Records → Proc → Records
+enter_in g n r p =
+    tell_in (tell_in r p (fact.Time (entering (time_of r.delay p) g n))) p (fact.Standing g Member)
 
 -- a process that a view names, where it is here and is taken in
-abbrev pub take_in : GroupNo → ℕ → Membership → ℕ → Records → Proc → Records
-take_in g n members request r p =
-    if site_eq p.site r.site && is_taken_in request (standing_of r.delay p g) then enter_in g n members r p else r
+abbrev pub take_in : GroupNo → ℕ → ℕ → Records → Proc → Records
+take_in g n request r p =
+    if site_eq p.site r.site && is_taken_in request (standing_of r.delay p g) then enter_in g n r p else r
 
 abbrev pub view_in : Records → ℕ → ℕ → Membership → Records
 view_in r i n members =
@@ -239,26 +255,36 @@ view_in r i n members =
 
 abbrev pub complete_in : Records → ℕ → ℕ → Membership → ℕ → Records
 complete_in r i n members request =
-    fold (take_in (record_at r.groups i).name n members request) (view_in r i n members) members.list
+    fold (take_in (record_at r.groups i).name n request) (view_in r i n members) members.list
 
--- a member of a group is put out, and is told
-abbrev pub put_out_in : GroupNo → ℕ → Records → Proc → Records
-put_out_in g n r p = push_in (tell_in r p (fact.Standing g Outside)) p.serial (push.Ejected g n)
+-- a member of a group is put out
+abbrev pub put_out_in : GroupNo → Records → Proc → Records
+put_out_in g r p = tell_in r p (fact.Standing g Outside)
 
 -- where the next view does not name it, or a view was skipped
 abbrev pub is_put_out_in : GroupNo → Bool → Membership → Records → ℕ → Bool
 is_put_out_in g skips members r k =
     is_member (standing_of r.delay (local_in r k) g) && (skips || not (is_among proc_eq (local_in r k) members.list))
 
-abbrev pub put_out_if_in : GroupNo → Bool → ℕ → Membership → Records → ℕ → Records
-put_out_if_in g skips n members r k = if is_put_out_in g skips members r k then put_out_in g n r (local_in r k) else r
+abbrev pub put_out_if_in : GroupNo → Bool → Membership → Records → ℕ → Records
+put_out_if_in g skips members r k = if is_put_out_in g skips members r k then put_out_in g r (local_in r k) else r
 
-abbrev pub put_out_all_in : GroupNo → Bool → ℕ → Membership → Records → Records
-put_out_all_in g skips n members r = fold (put_out_if_in g skips n members) r (serials_in r)
+abbrev pub put_out_all_in : GroupNo → Bool → Membership → Records → Records
+put_out_all_in g skips members r = fold (put_out_if_in g skips members) r (serials_in r)
 
 -- the site passes to the next view of the group at a place
 abbrev pub pass_in : Records → ℕ → Bool → ℕ → Membership → ℕ → Records
-pass_in r i skips n members request = complete_in (put_out_all_in (record_at r.groups i).name skips n members r) i n members request
+pass_in r i skips n members request = complete_in (put_out_all_in (record_at r.groups i).name skips members r) i n members request
+
+-- who is put out then, and who is a member of a group
+abbrev pub gone_in : Records → ℕ → Bool → Membership → List ℕ
+gone_in r i skips members = filter (is_put_out_in (record_at r.groups i).name skips members r) (serials_in r)
+
+abbrev pub is_member_in : Records → GroupNo → ℕ → Bool
+is_member_in r g k = is_member (standing_of r.delay (local_in r k) g)
+
+abbrev pub members_in : Records → ℕ → List ℕ
+members_in r i = filter (is_member_in r (record_at r.groups i).name) (serials_in r)
 
 -- The site's part in a flush
 
@@ -347,6 +373,7 @@ abbrev pub records : Site Records ℕ
 records = record {
   here = λ r. r.site;
   config = λ r. r.config;
+  quotas = λ r. r.quotas;
   place = place_in;
   name = λ r i. (record_at r.groups i).name;
   places = λ r. range_with_len 0 (length r.groups);
@@ -359,13 +386,16 @@ records = record {
   is_stable = λ r u. is_stable_in r.acks u;
   stable_upto = λ r u. upto_in r.acks u;
   message = message_in;
-  is_open = λ r k. is_open (session_in r.sessions k);
+  is_open = λ r k. is_open_status (status_in r.sessions k);
+  is_full = is_full_in;
+  members = members_in;
+  put_out = gone_in;
   standing = λ r k g. standing_of r.delay (local_in r k) g;
   time = λ r k. time_of r.delay (local_in r k);
   awaits_own = λ r k. awaits_own_in r (local_in r k);
   is_owed = λ r key. is_owed r.part.owed key;
   due = λ r. due_at r.moment r.part.owed;
-  is_gone = λ r k. is_gone (session_in r.sessions k);
+  is_gone = λ r k. is_gone_status (status_in r.sessions k);
   report = λ r i. report_at r (record_at r.groups i);
   send = send_in;
   note_owed = note_owed_in;
@@ -377,6 +407,7 @@ records = record {
   note_ack = note_ack_in;
   note_stable = note_stable_in;
   push = push_in;
+  note_cast = count_cast_in;
   note_joining = note_joining_in;
   note_outside = note_outside_in;
   note_sent = note_sent_in;
@@ -399,12 +430,21 @@ open_in r =
     let p : Proc = local_in r (r.used + 1) in
     record r {
       used = r.used + 1;
-      sessions = r.sessions ++ first_session p ∷ [];
+      sessions = r.sessions ++ record { serial = r.used + 1; status = Open } ∷ [];
+      part = part_boxing r.part (r.used + 1) (push.Opened p ∷ []);
+      pushed = r.pushed ++ (r.config.domain, r.used + 1, push.Opened p) ∷ [];
       delay = record r.delay { rows = r.delay.rows ++ new_row p ∷ [] };
     }
 
-abbrev pub records_serials : Serials Records
-records_serials = record { used = λ r. r.used; open_next = open_in }
+abbrev pub records_sessions : Sessions Records
+records_sessions = record {
+  used = λ r. r.used;
+  count = λ r. length r.sessions;
+  open_next = open_in;
+  entries = λ r k most. take most (r.part.outboxes k);
+  take = take_entries_in;
+  set_quota = set_quota_in;
+}
 
 -- a process is dismissed
 abbrev pub dismiss_in : Records → ℕ → Records
@@ -412,12 +452,12 @@ dismiss_in r k = record r { delay = record r.delay { rows = but_row (local_in r 
 
 -- a session whose program is gone ends by the rule, and then its process, which is in no group, is dismissed
 abbrev pub end_in : Records → ℕ → Records
-end_in r k = if is_gone (session_in r.sessions k) then r else dismiss_in (end_session records r k) k
+end_in r k = if is_gone_status (status_in r.sessions k) then r else dismiss_in (end_session records r k) k
 
 -- what an event does at once: what its rule says, and the process of a session that ends is dismissed
 abbrev pub acted_in : Records → Event → Records
 acted_in r (Gone d k) = end_in r k
-acted_in r e = acted records records_serials r e
+acted_in r e = acted records records_sessions r e
 
 -- The order of a view
 
@@ -472,9 +512,16 @@ note_if_in atomic r p u = if atomic then note_delivery_in r p u else r
 abbrev pub note_delivered_under : Records → Proc → Key → Message → Records
 note_delivered_under r p key m = note_if_in (is_atomic (kind_of m.body)) (take_delivery_in r p key m.id) p m.id
 
+-- what the delivery of a message is to a domain
+abbrev pub delivery_of : Message → Delivery
+delivery_of m = record { id = m.id; atomic = is_atomic (kind_of m.body); push = told_of m.id m.body }
+
 -- and its program is told
+abbrev pub deliver_as : Records → Proc → Key → Delivery → Records
+deliver_as r p key d = tell_if records (note_if_in d.atomic (take_delivery_in r p key d.id) p d.id) p.serial d.push
+
 abbrev pub deliver_under : Records → Proc → Key → Message → Records
-deliver_under r p key m = tell records (note_delivered_under r p key m) p.serial (told_of m.id m.body)
+deliver_under r p key m = deliver_as r p key (delivery_of m)
 
 -- the key of the first message that is ready for a process
 abbrev pub ready_key_in : Records → Proc → Option Key

@@ -1,7 +1,7 @@
 -- When a domain's records stand for a history.
-use Rattle.std.specs.Prelude.{◌≡◌, ℕ, zero, suc, ◌≤◌, Bool, ◌&&◌, ◌||◌, ◌==◌, true, nat_lt, if◌then◌else◌, List, [], length, map, filter, take, Contains, slice_get, unwrap_or, None, false}
+use Rattle.std.specs.Prelude.{◌≡◌, ℕ, ◌≤◌, Bool, not, ◌&&◌, ◌||◌, ◌==◌, true, nat_lt, if◌then◌else◌, List, [], length, map, filter, take, Contains, None, false}
 use Rattle.std.specs.Option.{IsSome, option_map_or}
-use Rattle.std.specs.List.{range_with_len, list_any}
+use Rattle.std.specs.List.{find, range_with_len, list_any}
 use Rattle.cast_types.specs.declared.names.DomainNo.{DomainNo}
 use Rattle.cast_types.specs.declared.names.SiteNo.{SiteNo}
 use Rattle.cast_types.specs.declared.names.GroupNo.{GroupNo}
@@ -27,8 +27,12 @@ use Rattle.cast_domain.specs.declared.domain.Domain.{Domain}
 use Rattle.cast_domain.specs.declared.record.GroupRecord.{GroupRecord}
 use Rattle.cast_timer.specs.declared.key.Owed.{Owed}
 use Rattle.cast_model.specs.declared.config.DomainConfig.{DomainConfig}
-use Rattle.cast_model.specs.declared.session.Session.{Session}
-use Rattle.cast_model.specs.Session.{no_session, is_gone}
+use Rattle.cast_domain.specs.declared.record.SessionRecord.{SessionRecord}
+use Rattle.cast_message.specs.declared.client.Push.{Push}
+use Rattle.cast_quota.specs.declared.quotas.Quotas.{Quotas}
+use Rattle.cast_model.specs.declared.session.Status.{Status}
+use Rattle.cast_model.specs.declared.session.Status.TheVariants.{Gone}
+use Rattle.cast_model.specs.Session.{Session, no_session, is_gone, is_gone_status}
 use Rattle.cast_view.specs.MemberSide.{holder_at, is_pending}
 use Rattle.cast_view.specs.Home.{is_empty}
 use Rattle.cast_history.specs.Lawful.{IsLawful}
@@ -47,10 +51,16 @@ process_named s p = if site_eq p.site s.here then s.process p.serial else no_pro
 abbrev pub record_for : State → GroupNo → GroupRecord
 record_for s g = record { name = g; here = s.group g; home = s.home g }
 
--- the session of a serial; serials count from 1
-abbrev pub session_in : List Session → ℕ → Session
-session_in sessions zero = no_session
-session_in sessions (suc i) = unwrap_or (slice_get sessions i) no_session
+-- how the session of a serial stands; one that has no record was never given, or is gone
+abbrev pub status_in : List SessionRecord → ℕ → Status
+status_in sessions k = option_map_or (λ x. x.status) (find (λ x. x.serial == k) sessions) Gone
+
+-- what is kept of the session of a serial
+abbrev pub session_for : (ℕ → Session) → ℕ → SessionRecord
+session_for session k = record { serial = k; status = (session k).status }
+
+abbrev pub is_there : (ℕ → Session) → ℕ → Bool
+is_there session k = not (is_gone (session k))
 
 -- with the number of the domain
 abbrev pub tagged : {A B : Type 0} → DomainNo → List (A × B) → List (DomainNo × A × B)
@@ -123,24 +133,30 @@ pub record LogFits (s : State) (g : GroupNo) (l : Log) : Type 0 where
 
 -- The records of a step so far, beside a state
 
--- what both have as it is: the site, the configuration, how many serials were given, the moment, and the frames that are owed
+-- what both have as it is: the site, the configuration, the quotas, how many serials were given, the moment, how many casts were accepted, and the
+-- frames that are owed
 pub record Core : Type 0 where
   pub site : SiteNo
   pub config : DomainConfig
+  pub quotas : Quotas
   pub used : ℕ
   pub moment : ℕ
+  pub casts : ℕ
   pub owed : List Owed
 
 abbrev pub core_in : Records → Core
-core_in r = record { site = r.site; config = r.config; used = r.used; moment = r.moment; owed = r.part.owed }
+core_in r =
+    record { site = r.site; config = r.config; quotas = r.quotas; used = r.used; moment = r.moment; casts = r.casts; owed = r.part.owed }
 
 abbrev pub core_of : State → Core
-core_of s = record { site = s.here; config = s.config; used = s.used; moment = s.moment; owed = s.owed }
+core_of s =
+    record { site = s.here; config = s.config; quotas = s.quotas; used = s.used; moment = s.moment; casts = s.casts; owed = s.owed }
 
--- sessions by serial, one for each that was given
-pub record SessionsFit (sessions : List Session) (used : ℕ) (session : ℕ → Session) : Type 0 where
-  pub given : length sessions ≡ used
-  pub each : (k : ℕ) → session k ≡ session_in sessions k
+-- sessions by serial, of those that are not gone, each with its outbox; the session of a serial that was not given is none
+pub record SessionsFit (sessions : List SessionRecord) (outboxes : ℕ → List Push) (used : ℕ) (session : ℕ → Session) : Type 0 where
+  pub rows : sessions ≡ map (session_for session) (filter (is_there session) (range_with_len 1 used))
+  pub boxes : outboxes ≡ (λ k. (session k).outbox)
+  pub unused : (k : ℕ) → was_given used k ≡ false → session k ≡ no_session
 
 -- the kept messages in order of receipt; the keys from the next one on are free, and so many messages were received
 pub record MessagesFit (received : List Received) (next : ℕ) (kept got : List Message) : Type 0 where
@@ -161,7 +177,7 @@ pub record ProcessesFit (s : SiteNo) (used : ℕ) (session : ℕ → Session) (g
 -- the records stand for the state
 pub record Fits (r : Records) (s : State) : Type 0 where
   pub core : core_in r ≡ core_of s
-  pub opened : SessionsFit r.sessions s.used s.session
+  pub opened : SessionsFit r.sessions r.part.outboxes s.used s.session
   pub groups : r.groups ≡ map (record_for s) s.config.groups
   pub messages : MessagesFit r.part.kept r.part.next s.kept s.got
   pub processes : ProcessesFit s.here s.used s.session s.config.groups (gate_of s) (process_named s) r.part.kept r.delay
@@ -169,10 +185,11 @@ pub record Fits (r : Records) (s : State) : Type 0 where
   pub orders : (g : GroupNo) → LogFits s g (log_of r.orders g)
   pub frames : r.frames ≡ tagged s.config.domain s.frames
   pub delivered : r.delivered ≡ tagged s.config.domain s.deliveries
+  pub pushed : r.pushed ≡ tagged s.config.domain s.pushes
 
 -- no process whose session is gone has a row: it was dismissed
 abbrev pub AreDismissed : Records → Type 0
-AreDismissed r = (k : ℕ) → is_gone (session_in r.sessions k) ≡ true → row_of r.delay.rows (record { site = r.site; serial = k }) ≡ None
+AreDismissed r = (k : ℕ) → is_gone_status (status_in r.sessions k) ≡ true → row_of r.delay.rows (record { site = r.site; serial = k }) ≡ None
 
 -- a domain between two steps, with its part of what is shared, stands for a history
 pub record Means (d : Domain) (part : Part) (s : State) : Type 0 where

@@ -4,3 +4,4 @@ pub mod Calls
 pub mod Trims
 pub mod Fits
 pub mod Stepped
+pub mod Shows

@@ -1,40 +1,42 @@
 -- A domain's records as contracts see them: lists and what the queue keeps.
-use Rattle.std.specs.Prelude.{◌≡◌, ℕ, ◌+◌, Bool, ◌==◌, if◌then◌else◌, List, Option}
+use Rattle.std.specs.Prelude.{◌≡◌, ℕ, Bool, List, Option}
 use Rattle.cast_types.specs.declared.names.DomainNo.{DomainNo}
 use Rattle.cast_types.specs.declared.names.SiteNo.{SiteNo}
 use Rattle.cast_types.specs.declared.names.Proc.{Proc}
 use Rattle.cast_types.specs.declared.names.Uid.{Uid}
 use Rattle.cast_types.specs.declared.refusal.Refusal.{Refusal}
-use Rattle.cast_types.specs.declared.limits.TheConstants.{MAX_NUMBER}
 use Rattle.cast_message.specs.declared.site.SiteFrame.{SiteFrame}
 use Rattle.cast_delay.specs.Queue.{Queue}
 use Rattle.cast_stable.specs.Ledger.{Ledger}
 use Rattle.cast_order.specs.Log.{Log}
 use Rattle.cast_model.specs.declared.config.DomainConfig.{DomainConfig}
-use Rattle.cast_history.specs.Rules.Commands.{Attempt}
+use Rattle.cast_history.specs.Rules.Leaving.{Attempt}
 use Rattle.cast_domain.specs.declared.domain.Domain.{Domain}
 use Rattle.cast_domain.specs.declared.record.GroupRecord.{GroupRecord}
-use Rattle.cast_model.specs.declared.session.Session.{Session}
+use Rattle.cast_domain.specs.declared.record.SessionRecord.{SessionRecord}
+use Rattle.cast_quota.specs.declared.quotas.Quotas.{Quotas}
+use Rattle.cast_message.specs.declared.client.Push.{Push}
 use Rattle.cast_model.specs.declared.event.Outs.{Outs}
 use Rattle.cast_domain.specs.declared.lent.Lent.{Lent}
 use Rattle.cast_domain.specs.Shared.{Part, part_of, LeavesOthers}
-use Rattle.cast_model.specs.declared.event.Event.{Event}
-use Rattle.cast_model.specs.declared.event.Event.TheVariants.{Open, Command, Gone, Frame, Suspect, Tick}
 
--- what a domain keeps, and what a step has sent and delivered so far
+-- what a domain keeps, and what a step has sent, delivered and pushed so far
 pub record Records : Type 0 where
   pub site : SiteNo
   pub config : DomainConfig
+  pub quotas : Quotas
   pub used : ℕ
-  pub sessions : List Session
+  pub sessions : List SessionRecord
   pub groups : List GroupRecord
   pub moment : ℕ
+  pub casts : ℕ
   pub part : Part
   pub delay : Queue
   pub acks : Ledger
   pub orders : List Log
   pub frames : List (DomainNo × SiteNo × SiteFrame)
   pub delivered : List (DomainNo × Proc × Uid)
+  pub pushed : List (DomainNo × ℕ × Push)
 
 -- a domain with its part of what is shared
 abbrev pub records_of : Domain → Part → Outs → Records
@@ -42,24 +44,24 @@ records_of d part o =
     record {
       site = d.site;
       config = d.config;
+      quotas = d.quotas;
       used = d.used;
       sessions = d.sessions.items;
       groups = d.groups.items;
       moment = d.moment;
+      casts = d.casts;
       part = part;
       delay = d.delay;
       acks = d.acks;
       orders = d.orders;
       frames = o.frames;
       delivered = o.delivered;
+      pushed = o.pushed;
     }
 
 -- a domain with what it is lent
 abbrev pub records_in : Domain → Lent → Records
 records_in d lent = records_of d (part_of d.config.domain lent.shared.now) lent.outs.now
-
-abbrev pub sessions_of : Domain → List Session
-sessions_of d = d.sessions.items
 
 abbrev pub number_of : Domain → DomainNo
 number_of d = d.config.domain
@@ -89,15 +91,6 @@ pub record GivesBack (d : DomainNo) (old : Lent) (new : Lent) : Type 0 where
 pub record KeepsBeside (old : Domain) (lent : Lent) (new : Domain) (later : Lent) : Type 0 where
   pub same : Keeps old new
   pub back : GivesBack old.config.domain lent later
-
--- how many serials are given after an event
-abbrev pub used_after : ℕ → Event → ℕ
-used_after used (Open d) = if used == MAX_NUMBER then used else used + 1
-used_after used (Command d k c) = used
-used_after used (Gone d k) = used
-used_after used (Frame d from f) = used
-used_after used (Suspect d site) = used
-used_after used (Tick t) = used
 
 -- a call led to these records, with this refusal or none
 abbrev pub IsAttempt : Records → Attempt Records → Option Refusal → Type 0

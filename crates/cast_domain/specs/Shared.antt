@@ -1,5 +1,5 @@
 -- What all domains of a daemon share, as one domain sees it: its own part, and what is left for the others.
-use Rattle.std.specs.Prelude.{◌≡◌, ℕ, ◌+◌, not, ◌==◌, if◌then◌else◌, List, [], ◌∷◌, ◌++◌, filter}
+use Rattle.std.specs.Prelude.{◌≡◌, ℕ, ◌+◌, not, ◌==◌, if◌then◌else◌, List, [], ◌∷◌, ◌++◌, filter, drop}
 use Rattle.cast_types.specs.declared.names.DomainNo.{DomainNo}
 use Rattle.cast_types.specs.declared.names.GroupNo.{GroupNo}
 use Rattle.cast_types.specs.declared.names.Key.{Key}
@@ -11,20 +11,26 @@ use Rattle.cast_timer.specs.declared.key.Owed.{Owed}
 use Rattle.cast_timer.specs.declared.key.OwedKey.{OwedKey}
 use Rattle.cast_timer.specs.Owed.{with_owed, paid, renewed, key_eq as owed_key_eq, is_of_view, is_upto}
 use Rattle.cast_timer.specs.Rows.{owed_in}
+use Rattle.cast_outbox.specs.Outboxes.{outboxes_in}
+use Rattle.cast_types.specs.Sets.{set_at}
+use Rattle.cast_message.specs.declared.client.Push.{Push}
 use Rattle.cast_domain.specs.declared.shared.Shared.{Shared}
 
--- the messages that a domain keeps, in order of receipt, the number of the next key, and the frames that it owes
+-- the messages that a domain keeps, in order of receipt, the number of the next key, the frames that it owes, and the outboxes of its sessions, by
+-- serial
 pub record Part : Type 0 where
   pub kept : List Received
   pub next : ℕ
   pub owed : List Owed
+  pub outboxes : ℕ → List Push
 
 abbrev pub no_part : Part
-no_part = record { kept = []; next = 0; owed = [] }
+no_part = record { kept = []; next = 0; owed = []; outboxes = λ k. [] }
 
 -- a domain's part
 abbrev pub part_of : DomainNo → Shared → Part
-part_of d s = record { kept = kept_in s.store d; next = next_in s.store d; owed = owed_in s.timers d }
+part_of d s =
+    record { kept = kept_in s.store d; next = next_in s.store d; owed = owed_in s.timers d; outboxes = outboxes_in s.outboxes d }
 
 -- the parts of all domains but one
 abbrev pub rest_of : DomainNo → Shared → DomainNo → Part
@@ -58,3 +64,13 @@ part_paying_view p g = record p { owed = paid (is_of_view g) p.owed }
 
 abbrev pub part_paying_upto : Part → OwedKey → Part
 part_paying_upto p key = record p { owed = paid (is_upto key) p.owed }
+
+-- the outbox of a serial is another
+abbrev pub part_boxing : Part → ℕ → List Push → Part
+part_boxing p k entries = record p { outboxes = set_at (λ a b. a == b) p.outboxes k entries }
+
+abbrev pub part_pushing : Part → ℕ → Push → Part
+part_pushing p k entry = part_boxing p k (p.outboxes k ++ entry ∷ [])
+
+abbrev pub part_taking : Part → ℕ → ℕ → Part
+part_taking p k most = part_boxing p k (drop most (p.outboxes k))

@@ -18,13 +18,18 @@ use Rattle.cast_domain.specs.Fits.{Fits, Means, tagged}
 abbrev pub IsRested : Records → Records → Type 0
 IsRested old new = (s : State) → Fits old s → IsLawful s → (t : State) × RestsAt s t × Fits new t
 
--- what the last step of a history sent and delivered
+-- what the last step of a history sent, delivered and pushed
 abbrev pub step_outs : State → Outs
 step_outs s =
-    record { frames = tagged s.config.domain s.frames; halted = []; delivered = tagged s.config.domain s.deliveries }
+    record {
+      frames = tagged s.config.domain s.frames;
+      halted = [];
+      delivered = tagged s.config.domain s.deliveries;
+      pushed = tagged s.config.domain s.pushes;
+    }
 
--- from a history s the event leads with this answer to one for which the domain then stands, and what that step sent
--- and delivered is added
+-- from a history s the event leads with this answer to one for which the domain then stands, and what that step sent,
+-- delivered and pushed is added
 pub record IsStepOf (s : State) (e : Event) (answer : Taken) (new : Domain) (part : Part) (before : Outs) (after : Outs) : Type 0 where
   pub end : State
   pub steps : IsStep s e answer end

@@ -1,15 +1,13 @@
 ghost use Rattle.std.specs.Prelude.{◌≡◌, ◌<◌, true, false, None, [], IfSome, IfOk, OnOk, OnErr, length, vec_len};
-ghost use Rattle.cast_types.specs.Places.{update};
-ghost use Rattle.cast_model.specs.Session.{told};
 ghost use Rattle.cast_history.specs.Rules.Room.{may_receive};
 
 use crate::frames::promised_by_types;
 use crate::lent::Lent;
-use crate::record::{GroupRecord, place_among};
+use crate::record::{GroupRecord, SessionRecord, place_among};
 use crate::shared::Shared;
 use cast_delay::{Delay, Fact};
-use cast_message::{Push, SiteFrame};
-use cast_model::{DomainConfig, Event, Moment, Outs, Session, Taken};
+use cast_message::SiteFrame;
+use cast_model::{DomainConfig, Event, Moment, Outs, Quotas, Taken};
 use cast_order::Orders;
 use cast_stable::Acks;
 use cast_types::{DomainNo, GroupNo, NoMemory, Proc, Refusal, SiteNo};
@@ -21,11 +19,15 @@ use std::alloc::Global;
 pub struct Domain {
     pub(crate) site: SiteNo,
     pub(crate) config: DomainConfig,
+    /// What the domain may use now.
+    pub(crate) quotas: Quotas,
     pub(crate) moment: Moment,
     /// How many serials were given. They count from 1.
     pub(crate) used: u32,
-    /// By serial.
-    pub(crate) sessions: Vec<Session>,
+    /// How many casts of programs were accepted.
+    pub(crate) casts: u64,
+    /// Those that are not gone, by serial.
+    pub(crate) sessions: Vec<SessionRecord>,
     /// One for each configured group, in their order.
     pub(crate) groups: Vec<GroupRecord>,
     pub(crate) delay: Delay,
@@ -38,7 +40,7 @@ impl Domain {
     ghost use Rattle.cast_types.specs.Names.{group_cmp};
     ghost use Rattle.cast_types.specs.Rising.{is_rising};
     ghost use Rattle.cast_history.specs.State.{opening};
-    ghost use Rattle.cast_domain.specs.Records.{number_of, is_halted, sessions_of, IsFor};
+    ghost use Rattle.cast_domain.specs.Records.{number_of, is_halted, IsFor};
     ghost use Rattle.cast_domain.specs.Shared.{no_part};
     ghost use Rattle.cast_domain.specs.Fits.{Means};
 
@@ -47,7 +49,6 @@ impl Domain {
         ensures number { IfOk result (λ d. number_of d ≡ config.domain) }
         ensures running { IfOk result (λ d. is_halted d ≡ false) }
         ensures placed { IfOk result (λ d. IsFor site config d) }
-        ensures unused { IfOk result (λ d. sessions_of d ≡ []) }
         ensures begins { IfOk result (λ d. is_rising group_cmp config.groups ≡ true → Means d no_part (opening site config)) }
     {
         let mut groups = Vec::new(alloc);
@@ -60,9 +61,11 @@ impl Domain {
         }
         Ok(Domain {
             site,
+            quotas: config.quotas,
             config,
             moment: Moment::first(),
             used: 0,
+            casts: 0,
             sessions: Vec::new(alloc),
             groups,
             delay: Delay::new(alloc),
@@ -85,25 +88,18 @@ impl Domain {
     {
         self.halted
     }
-
-    /// Everything that was pushed to each session, by serial.
-    pub fn into_sessions(self) -> Vec<Session>
-        ensures { result.items ≡ sessions_of self }
-    {
-        self.sessions
-    }
 }
 
 impl Domain {
     ghost use Rattle.cast_types.specs.Names.{site_eq};
     ghost use Rattle.cast_model.specs.declared.event.Outs.{Outs};
     ghost use Rattle.cast_model.specs.Events.{domain_of};
-    ghost use Rattle.cast_domain.specs.Records.{GivesBack, Keeps, is_halted, number_of, records_in, records_of, used_after};
+    ghost use Rattle.cast_domain.specs.Records.{GivesBack, Keeps, KeepsBeside, is_halted, number_of, records_in, records_of};
     ghost use Rattle.cast_domain.specs.Shared.{LeavesOthers, Part, part_of};
     ghost use Rattle.cast_history.specs.Lawful.{IsTyped};
     ghost use Rattle.cast_history.specs.Rules.Events.{answered};
     ghost use Rattle.cast_domain.specs.Stepped.{IsSteppedBeside};
-    ghost use Rattle.cast_domain.specs.Calls.{acted_in, records, records_serials, place_among, push_in, record_at, send_in, tell_in};
+    ghost use Rattle.cast_domain.specs.Calls.{acted_in, records, records_sessions, place_among, record_at, send_in, tell_in};
 
     /// The process of a session.
     pub(crate) fn process(&self, serial: u32) -> Proc
@@ -162,18 +158,6 @@ impl Domain {
         outs.send(self.config.domain, to, frame)
     }
 
-    // Pushes an entry to a session, if it is open.
-    pub(crate) fn push(&mut self, serial: u32, push: Push) -> Result<(), NoMemory>
-        ensures kept { Keeps self.old self.new }
-        ensures made { OnOk result ((o : Outs) (part : Part) → records_of self.new part o ≡ push_in (records_of self.old part o) serial push) }
-    {
-        let place = serial as usize;
-        if 0 < place && place <= self.sessions.len() {
-            push_at(&mut self.sessions, place - 1, push)?;
-        }
-        Ok(())
-    }
-
     // How many messages the domain keeps.
     pub(crate) fn held(&self, lent: &Lent<'_>) -> usize
         ensures { result ≡ length (part_of self.now.config.domain lent.now.shared.now).kept }
@@ -185,7 +169,7 @@ impl Domain {
     pub(crate) fn has_room(&self, lent: &Lent<'_>) -> bool
         ensures { result ≡ may_receive records (records_in self.now lent.now) }
     {
-        self.held(lent) < self.config.quotas.held as usize
+        self.quotas.check_cast(self.held(lent))
     }
 
     /// Makes one step: the event, and then what follows from it until nothing changes. What is sent and delivered is
@@ -224,8 +208,7 @@ impl Domain {
         shared: &mut Shared,
         outs: &mut Outs,
     ) -> Result<Taken, NoMemory>
-        ensures answer { IfOk result (λ t. t ≡ answered records records_serials (records_of self.old (part_of (number_of self.old) shared.old) outs.old) event.now) }
-        ensures used { OnOk result (self.new.used ≡ used_after self.old.used event.now) }
+        ensures answer { IfOk result (λ t. t ≡ answered records records_sessions (records_of self.old (part_of (number_of self.old) shared.old) outs.old) event.now) }
         ensures same { (self.new.site ≡ self.old.site) × (self.new.config ≡ self.old.config) × (self.new.halted ≡ self.old.halted) }
         ensures others { LeavesOthers self.old.config.domain shared.old shared.new }
         ensures steps { IfOk result (IsSteppedBeside self.old shared.old outs.old event.now self.new shared.new outs.new) }
@@ -247,15 +230,14 @@ impl Domain {
 
     // What the event does at once.
     fn act(&mut self, event: &Event, lent: &mut Lent<'_>) -> Result<Taken, NoMemory>
-        ensures answer { IfOk result (λ t. t ≡ answered records records_serials (records_in self.old lent.old) event.now) }
-        ensures used { OnOk result (self.new.used ≡ used_after self.old.used event.now) }
+        ensures answer { IfOk result (λ t. t ≡ answered records records_sessions (records_in self.old lent.old) event.now) }
         ensures same { (self.new.site ≡ self.old.site) × (self.new.config ≡ self.old.config) × (self.new.halted ≡ self.old.halted) }
         ensures back { GivesBack self.old.config.domain lent.old lent.new }
         ensures made { OnOk result (records_in self.new lent.new ≡ acted_in (records_in self.old lent.old) event.now) }
         ensures typed { IsTyped event.now }
     {
         match event {
-            Event::Open(_) => self.open(),
+            Event::Open(_) => self.open(lent),
             Event::Command {
                 serial,
                 command,
@@ -266,6 +248,8 @@ impl Domain {
                 self.suspect(*site, lent)?;
                 Ok(Taken::Nothing)
             }
+            Event::Quota { name, value, .. } => Ok(self.set_quota(*name, *value)),
+            Event::Take { serial, most, .. } => self.take(*serial, *most, lent),
             Event::Frame(_, from, frame) => {
                 promised_by_types(frame);
                 self.frame(*from, frame, lent)?;
@@ -277,15 +261,4 @@ impl Domain {
             }
         }
     }
-}
-
-// Pushes an entry to the session at a place.
-#[tactic(auto, using(cast_types::proofs::Updates::set_update))]
-fn push_at(sessions: &mut Vec<Session>, place: usize, push: Push) -> Result<(), NoMemory>
-    requires { place < vec_len sessions.old }
-    ensures { OnOk result (sessions.new.items ≡ update sessions.old.items place (told push)) }
-{
-    let session = &mut sessions[place];
-    session.push(push)?;
-    Ok(())
 }

@@ -35,7 +35,7 @@ impl Domain {
     ghost use Rattle.cast_types.specs.Names.{Entry};
     ghost use Rattle.cast_model.specs.declared.event.Outs.{Outs};
     ghost use Rattle.cast_model.specs.Outs.{no_outs};
-    ghost use Rattle.cast_history.specs.Rules.Requests.{is_from_home};
+    ghost use Rattle.cast_history.specs.Rules.Asking.{is_from_home};
     ghost use Rattle.cast_domain.specs.Records.{GivesBack, Keeps, KeepsBeside, records_in, records_of};
     ghost use Rattle.cast_domain.specs.Shared.{Part, no_part};
     ghost use Rattle.cast_domain.specs.Calls.{freeze_in, had_of, has_cut_of, is_awaited_of, is_received_of, missing_of, pend_in, record_at, records, report_at, resting_records, tail_in};

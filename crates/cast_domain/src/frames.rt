@@ -241,7 +241,7 @@ impl Domain {
             Some(asking) => {
                 if self.is_from_home(from) && asking.number == number {
                     self.take_answer(place, lent)?;
-                    self.deny_if(full, place, asking)?;
+                    self.deny_if(full, place, asking, lent)?;
                 }
                 Ok(())
             }
@@ -264,39 +264,43 @@ impl Domain {
     }
 
     // The process of a request that was refused is outside, if it still joins by it, and is told.
-    fn deny_if(&mut self, full: bool, place: usize, asking: Asking) -> Result<(), NoMemory>
+    fn deny_if(
+        &mut self,
+        full: bool,
+        place: usize,
+        asking: Asking,
+        lent: &mut Lent<'_>,
+    ) -> Result<(), NoMemory>
         requires { place < vec_len self.old.groups }
-        ensures same { Keeps self.old self.new }
-        ensures made { OnOk result ((o : Outs) (part : Part) → records_of self.new part o ≡ deny_if records full (records_of self.old part o) place asking) }
+        ensures stays { KeepsBeside self.old lent.old self.new lent.new }
+        ensures made { OnOk result (records_in self.new lent.new ≡ deny_if records full (records_in self.old lent.old) place asking) }
     {
         if full {
-            self.deny(place, asking)?;
+            self.deny(place, asking, lent)?;
         }
         Ok(())
     }
 
-    fn deny(&mut self, place: usize, asking: Asking) -> Result<(), NoMemory>
+    fn deny(&mut self, place: usize, asking: Asking, lent: &mut Lent<'_>) -> Result<(), NoMemory>
         requires { place < vec_len self.old.groups }
-        ensures same { Keeps self.old self.new }
-        ensures made { OnOk result ((o : Outs) (part : Part) → records_of self.new part o ≡ deny records (records_of self.old part o) place asking) }
+        ensures stays { KeepsBeside self.old lent.old self.new lent.new }
+        ensures made { OnOk result (records_in self.new lent.new ≡ deny records (records_in self.old lent.old) place asking) }
     {
         let group = self.record(place).name;
         let serial = asking.proc.serial;
         let process = self.process(serial);
         if is_joining_by(self.delay.standing(process, group), asking.number) {
             self.tell(process, Fact::Standing(group, Standing::Outside))?;
-            self.push(
-                serial,
-                Push::Denied {
-                    group,
-                    refusal: Refusal::GroupFull,
-                },
-            )?;
+            let denied = Push::Denied {
+                group,
+                refusal: Refusal::GroupFull,
+            };
+            self.push(serial, denied, lent)?;
         }
         Ok(())
     }
 
-    // A view is complete: the processes here that it takes in enter it, and are told.
+    // A view is complete: the processes here that it takes in enter it.
     pub(crate) fn complete(
         &mut self,
         place: usize,
@@ -310,7 +314,7 @@ impl Domain {
     {
         let group = self.record(place).name;
         self.take_view(place, view, members)?;
-        self.take_all_in(group, view, members, request)?;
+        self.take_all_in(group, view, members.list(), request)?;
         Ok(())
     }
 
@@ -335,14 +339,14 @@ impl Domain {
         &mut self,
         group: GroupNo,
         view: u32,
-        members: &Members,
+        members: &[Proc],
         request: u32,
     ) -> Result<(), NoMemory>
         ensures same { Keeps self.old self.new }
-        ensures made { OnOk result ((o : Outs) (p : Part) → records_of self.new p o ≡ fold (take_in group view members.now request) (records_of self.old p o) members.now.list) }
+        ensures made { OnOk result ((o : Outs) (p : Part) → records_of self.new p o ≡ fold (take_in group view request) (records_of self.old p o) members.now) }
     {
-        for process in members.list() {
-            self.take_in(*process, group, view, members, request)?;
+        for process in members {
+            self.take_in(*process, group, view, request)?;
         }
         Ok(())
     }
@@ -353,14 +357,13 @@ impl Domain {
         process: Proc,
         group: GroupNo,
         view: u32,
-        members: &Members,
         request: u32,
     ) -> Result<(), NoMemory>
         ensures same { Keeps self.old self.new }
-        ensures made { OnOk result ((o : Outs) (part : Part) → records_of self.new part o ≡ take_in group view members.now request (records_of self.old part o) process) }
+        ensures made { OnOk result ((o : Outs) (part : Part) → records_of self.new part o ≡ take_in group view request (records_of self.old part o) process) }
     {
         if process.site == self.site && self.is_taken_in(process, group, request) {
-            self.enter(process, group, view, members)?;
+            self.enter(process, group, view)?;
         }
         Ok(())
     }
@@ -373,26 +376,14 @@ impl Domain {
         is_taken_in(self.delay.standing(process, group), request)
     }
 
-    // A process enters a view, and is told.
-    fn enter(
-        &mut self,
-        process: Proc,
-        group: GroupNo,
-        view: u32,
-        members: &Members,
-    ) -> Result<(), NoMemory>
+    // A process enters a view.
+    fn enter(&mut self, process: Proc, group: GroupNo, view: u32) -> Result<(), NoMemory>
         ensures same { Keeps self.old self.new }
-        ensures made { OnOk result ((o : Outs) (part : Part) → records_of self.new part o ≡ enter_in group view members.now (records_of self.old part o) process) }
+        ensures made { OnOk result ((o : Outs) (part : Part) → records_of self.new part o ≡ enter_in group view (records_of self.old part o) process) }
     {
         let entered = self.entered(process, group, view)?;
         self.tell(process, Fact::Time(entered))?;
         self.tell(process, Fact::Standing(group, Standing::Member))?;
-        let push = Push::View {
-            group,
-            view,
-            members: members.copy()?,
-        };
-        self.push(process.serial, push)?;
         Ok(())
     }
 

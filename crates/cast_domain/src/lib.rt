@@ -9,8 +9,9 @@
 //! The history is that of `cast_history`, with its definitions; sessions are those of `cast_model`, and groups those of
 //! `cast_view`, at the site and at the home. The definitions here are in `specs/`: `Records` is what the code keeps, with its
 //! part of what domains share (`Shared`), `Calls` what its calls do to that, exactly, and the records as the rules of
-//! `cast_history` see them (`records`, `records_serials`, `resting_records`), `Trims` what is forgotten of orders after each
-//! step, and `Fits` when records stand for a history; `Stepped` is what the contract of a step says.
+//! `cast_history` see them (`records`, `records_sessions`, `resting_records`), `Trims` what is forgotten of orders after each
+//! step, and `Fits` when records stand for a history; `Stepped` is what the contract of a step says, and `Shows` what a
+//! domain shows of its records (`Domain::show`, `show_groups`).
 #![tactic(auto)]
 
 mod domain;
@@ -24,11 +25,14 @@ mod owing;
 mod record;
 mod requests;
 mod rest;
+mod sessions;
 mod shared;
+mod show;
 mod stability;
 mod trim;
 mod views;
 
-pub use cast_model::{Config, DomainConfig, Event, Outs, Quotas, Session, Status, Taken};
+pub use cast_model::{Config, DomainConfig, Event, Outs, QuotaName, Quotas, Status, Taken};
 pub use domain::Domain;
 pub use shared::Shared;
+pub use show::{GroupShown, Shown};

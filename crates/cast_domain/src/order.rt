@@ -29,7 +29,7 @@ impl Domain {
     fn has_order_room(&self, lent: &Lent<'_>) -> bool
         ensures { result ≡ may_order records (records_in self.now lent.now) }
     {
-        (self.held(lent) as u64) < 2 * u64::from(self.config.quotas.held)
+        self.quotas.check_order(self.held(lent))
     }
 
     // Whether a message of this body may be received from another site.

@@ -147,9 +147,9 @@ impl Domain {
 
     // The moment at which what is sent now is due again.
     fn next_due(&self) -> u64
-        ensures { result ≡ self.now.moment + self.now.config.quotas.resend }
+        ensures { result ≡ self.now.moment + self.now.quotas.resend }
     {
-        self.moment.after(self.config.quotas.resend)
+        self.moment.after(self.quotas.resend)
     }
 
     // Sends the frame that a key stands for, where there is one.

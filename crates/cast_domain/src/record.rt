@@ -10,6 +10,7 @@ ghost use Rattle.cast_domain.specs.Calls.{moved_home, record_at};
 
 use cast_flush::Report;
 use cast_message::{Change, Members, Message};
+use cast_model::Status;
 use cast_types::{Counts, GroupNo, NoMemory, Proc, SiteNo};
 use cast_view::{HomeSide, MemberSide};
 
@@ -19,6 +20,13 @@ pub(crate) struct GroupRecord {
     pub(crate) name: GroupNo,
     pub(crate) here: MemberSide,
     pub(crate) home: HomeSide,
+}
+
+/// What a domain keeps of a session that is not gone.
+#[derive(Clone, Copy, Debug, PartialEq, Eq)]
+pub struct SessionRecord {
+    pub(crate) serial: u32,
+    pub(crate) status: Status,
 }
 
 /// Where a group stands.

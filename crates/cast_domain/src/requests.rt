@@ -3,7 +3,7 @@ ghost use Rattle.std.specs.List.{fold};
 ghost use Rattle.cast_history.specs.Rules.Commands.{body_of, cast, cast_at, commanded, join, join_at, requested};
 ghost use Rattle.cast_domain.specs.Calls.{record_at};
 ghost use Rattle.cast_history.specs.Rules.Sending.{send_data, send_message};
-ghost use Rattle.cast_history.specs.Rules.Requests.{ask_home, request};
+ghost use Rattle.cast_history.specs.Rules.Asking.{ask_home, request};
 
 use crate::domain::Domain;
 use crate::lent::Lent;
@@ -13,8 +13,8 @@ use crate::record::ask_at;
 use bytes::Bytes;
 use cast_clock::{ClockFault, Times};
 use cast_delay::Fact;
-use cast_message::{Body, CastKind, Change, Command, Message, Payload, Push, Request};
-use cast_model::{Outs, Session, Taken};
+use cast_message::{Body, CastKind, Change, Command, Message, Payload, Request};
+use cast_model::{Outs, Taken};
 use cast_timer::OwedKind;
 use cast_types::limits::{MAX_NUMBER, MAX_PAYLOAD};
 use cast_types::{GroupNo, NoMemory, Proc, Refusal, SiteNo, Stamp, Standing, Uid};
@@ -23,31 +23,11 @@ use std::alloc::AllocError;
 impl Domain {
     ghost use Rattle.cast_clock.specs.Times.{view_of};
     ghost use Rattle.cast_model.specs.declared.event.Outs.{Outs};
-    ghost use Rattle.cast_model.specs.Session.{is_open};
+    ghost use Rattle.cast_model.specs.Session.{is_open_status};
     ghost use Rattle.cast_domain.specs.Records.{GivesBack, IsAttempt, KeepsBeside, records_in, records_of};
     ghost use Rattle.cast_domain.specs.Shared.{Part};
-    ghost use Rattle.cast_domain.specs.Fits.{session_in};
-    ghost use Rattle.cast_history.specs.Rules.Events.{opened};
-    ghost use Rattle.cast_domain.specs.Calls.{raised_in, records, records_serials, receive_in, time_of};
-
-    // A program connects.
-    pub(crate) fn open(&mut self) -> Result<Taken, NoMemory>
-        ensures answer { IfOk result (λ t. t ≡ (if self.old.used == MAX_NUMBER then Taken.Refused Refusal.TooManySessions else Taken.Opened (self.old.used + 1))) }
-        ensures used { OnOk result (self.new.used ≡ (if self.old.used == MAX_NUMBER then self.old.used else self.old.used + 1)) }
-        ensures same { (self.new.site ≡ self.old.site) × (self.new.config ≡ self.old.config) × (self.new.halted ≡ self.old.halted) }
-        ensures made { OnOk result ((o : Outs) (part : Part) → records_of self.new part o ≡ opened records records_serials (records_of self.old part o)) }
-    {
-        if self.used == MAX_NUMBER {
-            return Ok(Taken::Refused(Refusal::TooManySessions));
-        }
-        let alloc = *self.sessions.allocator();
-        let serial = self.used + 1;
-        let process = self.process(serial);
-        self.sessions.push(Session::new(alloc, process)?)?;
-        self.delay.admit(process)?;
-        self.used = serial;
-        Ok(Taken::Opened(serial))
-    }
+    ghost use Rattle.cast_domain.specs.Fits.{status_in};
+    ghost use Rattle.cast_domain.specs.Calls.{raised_in, records, receive_in, time_of};
 
     // A program does something.
     pub(crate) fn command(
@@ -56,7 +36,7 @@ impl Domain {
         command: &Command,
         lent: &mut Lent<'_>,
     ) -> Result<Taken, NoMemory>
-        ensures answer { IfOk result (λ t. t ≡ (if is_open (session_in self.old.sessions.items serial) then Taken.Nothing else Taken.Refused Refusal.NotOpen)) }
+        ensures answer { IfOk result (λ t. t ≡ (if is_open_status (status_in self.old.sessions.items serial) then Taken.Nothing else Taken.Refused Refusal.NotOpen)) }
         ensures stays { KeepsBeside self.old lent.old self.new lent.new }
         ensures made { OnOk result (records_in self.new lent.new ≡ commanded records (records_in self.old lent.old) serial command.now) }
     {
@@ -83,11 +63,11 @@ impl Domain {
         match request {
             Request::Join { group, .. } => {
                 let refusal = self.join(serial, *group, lent)?;
-                self.push(serial, request.reply(refusal))
+                self.push(serial, request.reply(refusal), lent)
             }
             Request::Leave { group, .. } => {
                 let refusal = self.leave(serial, *group, lent)?;
-                self.push(serial, request.reply(refusal))
+                self.push(serial, request.reply(refusal), lent)
             }
             Request::Cast {
                 group,
@@ -96,7 +76,7 @@ impl Domain {
                 ..
             } => {
                 let refusal = self.cast(serial, *group, *kind, payload, lent)?;
-                self.push(serial, request.reply(refusal))
+                self.push(serial, request.reply(refusal), lent)
             }
         }
     }
@@ -261,6 +241,7 @@ impl Domain {
         };
         self.tell(process, Fact::Time(time))?;
         self.send_message(message, lent)?;
+        self.casts = self.casts.saturating_add(1);
         Ok(None)
     }
 

@@ -1,6 +1,7 @@
 ghost use Rattle.std.specs.Prelude.{◌≡◌, ◌<◌, false, IfOk, OnOk, vec_len};
 ghost use Rattle.std.specs.List.{fold};
-ghost use Rattle.cast_history.specs.Rules.Rest.{told_of, tell, deliver_first, deliver_all, settle, pass};
+ghost use Rattle.cast_domain.specs.Calls.{delivery_of};
+ghost use Rattle.cast_history.specs.Rules.Rest.{told_of, tell_if, deliver_first, deliver_all, settle, pass};
 
 use crate::domain::Domain;
 use crate::lent::Lent;
@@ -9,12 +10,20 @@ use cast_model::Outs;
 use cast_types::{Key, NoMemory, Proc, Uid};
 use std::alloc::AllocError;
 
+/// What the delivery of a message is to a domain: its id, whether it is an ABCAST, and what the program is told of it.
+#[derive(Drop)]
+pub(crate) struct Delivery {
+    id: Uid,
+    atomic: bool,
+    push: Option<Push>,
+}
+
 impl Domain {
     ghost use Rattle.cast_domain.specs.Records.{Keeps, KeepsBeside, records_in, records_of};
     ghost use Rattle.cast_domain.specs.Shared.{Part};
     ghost use Rattle.cast_domain.specs.Fits.{AreDismissed};
     ghost use Rattle.cast_domain.specs.Stepped.{IsRested};
-    ghost use Rattle.cast_domain.specs.Calls.{deliver_under, note_if_in, record_at, records, resting_records, take_delivery_in};
+    ghost use Rattle.cast_domain.specs.Calls.{deliver_as, note_if_in, records, resting_records, take_delivery_in};
 
     // What follows from an event, until nothing changes. No run makes 2^64 passes.
     pub(crate) fn rest(&mut self, lent: &mut Lent<'_>) -> Result<(), NoMemory>
@@ -89,7 +98,8 @@ impl Domain {
         let Some(message) = lent.shared.store.get(self.config.domain, key) else {
             return Ok(false);
         };
-        self.deliver(process, key, message, lent.outs)?;
+        let delivery = delivery_of(message)?;
+        self.deliver(process, key, delivery, lent)?;
         self.let_go(lent)?;
         Ok(true)
     }
@@ -99,18 +109,15 @@ impl Domain {
         &mut self,
         process: Proc,
         key: Key,
-        message: &Message,
-        outs: &mut Outs,
+        delivery: Delivery,
+        lent: &mut Lent<'_>,
     ) -> Result<(), NoMemory>
-        ensures same { Keeps self.old self.new }
-        ensures made { OnOk result ((part : Part) → records_of self.new part outs.new ≡ deliver_under (records_of self.old part outs.old) process key message.now) }
+        ensures stays { KeepsBeside self.old lent.old self.new lent.new }
+        ensures made { OnOk result (records_in self.new lent.new ≡ deliver_as (records_in self.old lent.old) process key delivery) }
     {
-        let id = message.id;
-        let atomic = message.kind().is_atomic();
-        let push = push_of(message)?;
-        self.take_delivery(process, key, id, outs)?;
-        self.note_if(atomic, process, id)?;
-        self.push_delivery(process, push)?;
+        self.take_delivery(process, key, delivery.id, lent.outs)?;
+        self.note_if(delivery.atomic, process, delivery.id)?;
+        self.push_delivery(process, delivery.push, lent)?;
         Ok(())
     }
 
@@ -142,15 +149,31 @@ impl Domain {
     }
 
     // Pushes what a process is told of a message that it delivered.
-    fn push_delivery(&mut self, process: Proc, push: Option<Push>) -> Result<(), NoMemory>
-        ensures kept { Keeps self.old self.new }
-        ensures made { OnOk result ((o : Outs) (part : Part) → records_of self.new part o ≡ tell records (records_of self.old part o) process.serial push) }
+    fn push_delivery(
+        &mut self,
+        process: Proc,
+        push: Option<Push>,
+        lent: &mut Lent<'_>,
+    ) -> Result<(), NoMemory>
+        ensures stays { KeepsBeside self.old lent.old self.new lent.new }
+        ensures made { OnOk result (records_in self.new lent.new ≡ tell_if records (records_in self.old lent.old) process.serial push) }
     {
         match push {
-            Some(push) => self.push(process.serial, push),
+            Some(push) => self.push(process.serial, push, lent),
             None => Ok(()),
         }
     }
+}
+
+// What the delivery of a message is to a domain.
+fn delivery_of(message: &Message) -> Result<Delivery, NoMemory>
+    ensures { IfOk result (λ d. d ≡ delivery_of message.now) }
+{
+    Ok(Delivery {
+        id: message.id,
+        atomic: message.kind().is_atomic(),
+        push: push_of(message)?,
+    })
 }
 
 // What a program is told of a message that its process delivers: of a set-order message nothing.

@@ -1,30 +1,33 @@
-ghost use Rattle.std.specs.Prelude.{◌≡◌, OnOk};
+ghost use Rattle.std.specs.Prelude.{◌≡◌, IfOk, OnOk, if◌then◌else◌, nat_le, [], ◌∷◌, length, take};
 ghost use Rattle.cast_types.specs.declared.names.DomainNo.{DomainNo};
 
-use cast_message::Message;
+use cast_message::{Message, Push};
+use cast_outbox::{Outboxes, Pushed};
 use cast_store::Store;
 use cast_timer::{OwedKey, Timers};
-use cast_types::{DomainNo, GroupNo, Key, NoMemory};
+use cast_types::{DomainNo, GroupNo, Key, Listed, NoMemory, Refusal};
 use std::alloc::{AllocError, Global};
 
-/// What the domains of a daemon share: the messages that they keep and the frames that they owe. A domain is lent all of
-/// it for a step, and leaves the parts of others as they are.
+/// What the domains of a daemon share: the messages that they keep, the frames that they owe and the outboxes of their
+/// sessions. A domain is lent all of it for a step, and leaves the parts of others as they are.
 #[derive(Drop)]
 pub struct Shared {
     pub store: Store,
     pub timers: Timers,
+    pub outboxes: Outboxes,
 }
 
 impl Shared {
-    ghost use Rattle.cast_domain.specs.Shared.{LeavesOthers, no_part, part_of, part_owing, part_paying, part_paying_upto, part_paying_view, part_renewing, part_with, part_without};
+    ghost use Rattle.cast_domain.specs.Shared.{LeavesOthers, no_part, part_boxing, part_of, part_pushing, part_taking, part_owing, part_paying, part_paying_upto, part_paying_view, part_renewing, part_with, part_without};
 
-    /// Nothing is kept and nothing is owed.
+    /// Nothing is kept, nothing is owed, and no outbox is open.
     pub fn new(alloc: Global) -> Self
         ensures { (d : DomainNo) → part_of d result ≡ no_part }
     {
         Shared {
             store: Store::new(alloc),
             timers: Timers::new(alloc),
+            outboxes: Outboxes::new(alloc),
         }
     }
 
@@ -87,5 +90,58 @@ impl Shared {
         ensures others { LeavesOthers domain self.old self.new }
     {
         self.timers.pay_view(domain, group);
+    }
+
+    // Opens the outbox of a serial of a domain, with its first entry.
+    pub(crate) fn begin_outbox(
+        &mut self,
+        domain: DomainNo,
+        serial: u32,
+        entry: Push,
+    ) -> Result<(), NoMemory>
+        ensures part { OnOk result (part_of domain self.new ≡ part_boxing (part_of domain self.old) serial (entry ∷ [])) }
+        ensures others { LeavesOthers domain self.old self.new }
+    {
+        self.outboxes.open(domain, serial)?;
+        self.outboxes.push(domain, serial, 1, entry)?;
+        Ok(())
+    }
+
+    // Pushes an entry to the outbox of a serial of a domain, or, where it has that many entries, that its program is too slow.
+    // Answers what was pushed.
+    pub(crate) fn push(
+        &mut self,
+        domain: DomainNo,
+        serial: u32,
+        limit: u32,
+        entry: Push,
+    ) -> Result<Pushed, NoMemory>
+        ensures value { IfOk result (λ p. p ≡ (if nat_le limit (length ((part_of domain self.old).outboxes serial)) then Pushed.Slow else Pushed.Kept)) }
+        ensures part { OnOk result (part_of domain self.new ≡ part_pushing (part_of domain self.old) serial (if nat_le limit (length ((part_of domain self.old).outboxes serial)) then Push.Closed Refusal.Slow else entry)) }
+        ensures others { LeavesOthers domain self.old self.new }
+    {
+        self.outboxes.push(domain, serial, limit, entry)
+    }
+
+    // Takes the first entries of the outbox of a serial of a domain, at most so many.
+    pub(crate) fn take(
+        &mut self,
+        domain: DomainNo,
+        serial: u32,
+        most: u32,
+    ) -> Result<Listed<Push>, NoMemory>
+        ensures value { IfOk result (λ entries. entries ≡ take most ((part_of domain self.old).outboxes serial)) }
+        ensures part { OnOk result (part_of domain self.new ≡ part_taking (part_of domain self.old) serial most) }
+        ensures others { LeavesOthers domain self.old self.new }
+    {
+        self.outboxes.take(domain, serial, most)
+    }
+
+    // Drops the outbox of a serial of a domain.
+    pub(crate) fn close_outbox(&mut self, domain: DomainNo, serial: u32)
+        ensures part { part_of domain self.new ≡ part_boxing (part_of domain self.old) serial [] }
+        ensures others { LeavesOthers domain self.old self.new }
+    {
+        self.outboxes.close(domain, serial);
     }
 }

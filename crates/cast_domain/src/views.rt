@@ -1,8 +1,9 @@
-ghost use Rattle.std.specs.Prelude.{◌≡◌, ◌<◌, IfOk, OnOk, map, filter, vec_len};
+ghost use Rattle.std.specs.Prelude.{◌≡◌, ◌<◌, ◌++◌, ◌∷◌, [], if◌then◌else◌, IfOk, OnOk, map, filter, vec_len};
+ghost use Rattle.cast_delay.specs.Ready.{is_member};
 ghost use Rattle.std.specs.List.{fold, list_any};
 ghost use Rattle.cast_view.specs.Sites.{is_at};
 ghost use Rattle.cast_history.specs.Rules.Data.{is_outdated};
-ghost use Rattle.cast_history.specs.Rules.Views.{change_view, install, on_install, on_out};
+ghost use Rattle.cast_history.specs.Rules.Views.{change_view, enter_and_tell, install, on_install, on_out, tell_out, tell_view};
 
 use crate::domain::Domain;
 use crate::frames::is_named;
@@ -22,7 +23,7 @@ impl Domain {
     ghost use Rattle.cast_model.specs.Outs.{no_outs};
     ghost use Rattle.cast_domain.specs.Records.{Keeps, KeepsBeside, records_in, records_of};
     ghost use Rattle.cast_domain.specs.Shared.{Part, no_part};
-    ghost use Rattle.cast_domain.specs.Calls.{is_ended_in, is_put_out_in, pass_in, put_out_all_in, put_out_if_in, put_out_in, records, release_in};
+    ghost use Rattle.cast_domain.specs.Calls.{is_ended_in, is_member_in, is_put_out_in, pass_in, put_out_all_in, put_out_if_in, put_out_in, records, serials_in};
 
     // Install: answered again where the site knows its number; else completed where the site has no view, and where it skips
     // a view. The Install of the next view of a site that has one waits, unless one does.
@@ -47,18 +48,18 @@ impl Domain {
         match self.record(place).here.verdict(view) {
             Verdict::Again => {
                 let group = self.record(place).name;
-                self.send(lent.outs, from, SiteFrame::Installed { group, view })
+                self.send(lent.outs, from, SiteFrame::Installed { group, view })?;
             }
-            Verdict::Skips => self.install_view(true, place, from, view, members, request, lent),
-            Verdict::Completes => self.install_view(
-                false, place, from, view, members, request, lent,
-            ),
-            Verdict::Pends => {
-                self.pend(place, view, members, request, cut, tail)?;
-                Ok(())
+            Verdict::Skips => {
+                self.install_view(true, place, from, view, members, request, lent)?;
             }
-            Verdict::Ignored => Ok(()),
+            Verdict::Completes => {
+                self.install_view(false, place, from, view, members, request, lent)?;
+            }
+            Verdict::Pends => self.pend(place, view, members, request, cut, tail)?,
+            Verdict::Ignored => {}
         }
+        Ok(())
     }
 
     // The site passes to a view, and tells the home.
@@ -116,9 +117,150 @@ impl Domain {
         ensures made { OnOk result ((cut : CountList) → records_in self.new lent.new ≡ change_view records skips (records_in self.old lent.old) place view members.now request cut) }
     {
         let group = self.record(place).name;
-        self.pass_to(skips, place, view, members, request)?;
+        self.enter_and_tell(skips, place, view, members, request, lent)?;
         self.release_ended(place, lent)?;
         lent.shared.pay_view(self.config.domain, group);
+        Ok(())
+    }
+
+    // All its processes pass to a view at once; then those that were put out are told, and then the members.
+    fn enter_and_tell(
+        &mut self,
+        skips: bool,
+        place: usize,
+        view: u32,
+        members: &Members,
+        request: u32,
+        lent: &mut Lent<'_>,
+    ) -> Result<(), NoMemory>
+        requires { place < vec_len self.old.groups }
+        ensures stays { KeepsBeside self.old lent.old self.new lent.new }
+        ensures made { OnOk result ((cut : CountList) → records_in self.new lent.new ≡ enter_and_tell records skips (records_in self.old lent.old) place view members.now request cut) }
+        ensures len { OnOk result (vec_len self.new.groups ≡ vec_len self.old.groups) }
+    {
+        let group = self.record(place).name;
+        let out = self.serials_put_out(group, skips, members)?;
+        self.pass_to(skips, place, view, members, request)?;
+        let here = self.serials_of_members(self.record(place).name)?;
+        self.tell_out(group, view, out.as_slice(), lent)?;
+        self.tell_view(group, view, members, here.as_slice(), lent)?;
+        Ok(())
+    }
+
+    // The serials of the members here that a view lacks, and of all where a view was skipped.
+    fn serials_put_out(
+        &self,
+        group: GroupNo,
+        skips: bool,
+        members: &Members,
+    ) -> Result<Vec<u32>, NoMemory>
+        ensures { IfOk result (λ out. out.items ≡ filter (is_put_out_in group skips members.now (records_of self.now no_part no_outs)) (serials_in (records_of self.now no_part no_outs))) }
+    {
+        let mut out = Vec::new(*self.groups.allocator());
+        for place in 0..self.delay.admitted() {
+            if let Some(process) = self.delay.process_at(place) {
+                self.add_put_out(group, skips, members, process.serial, &mut out)?;
+            }
+        }
+        Ok(out)
+    }
+
+    // Adds a serial, if its process is a member that a view lacks, or a member where a view was skipped.
+    fn add_put_out(
+        &self,
+        group: GroupNo,
+        skips: bool,
+        members: &Members,
+        serial: u32,
+        out: &mut Vec<u32>,
+    ) -> Result<(), NoMemory>
+        ensures { OnOk result (out.new.items ≡ (if is_put_out_in group skips members.now (records_of self.now no_part no_outs) serial then out.old.items ++ serial ∷ [] else out.old.items)) }
+    {
+        if self.is_put_out(group, skips, members, serial) {
+            out.push(serial)?;
+        }
+        Ok(())
+    }
+
+    // The serials of the members here of a group.
+    fn serials_of_members(&self, group: GroupNo) -> Result<Vec<u32>, NoMemory>
+        ensures { IfOk result (λ here. here.items ≡ filter (is_member_in (records_of self.now no_part no_outs) group) (serials_in (records_of self.now no_part no_outs))) }
+    {
+        let mut here = Vec::new(*self.groups.allocator());
+        for place in 0..self.delay.admitted() {
+            if let Some(process) = self.delay.process_at(place) {
+                self.add_member(group, process.serial, &mut here)?;
+            }
+        }
+        Ok(here)
+    }
+
+    // Adds a serial, if its process is a member of a group.
+    fn add_member(&self, group: GroupNo, serial: u32, here: &mut Vec<u32>) -> Result<(), NoMemory>
+        ensures { OnOk result (here.new.items ≡ (if is_member_in (records_of self.now no_part no_outs) group serial then here.old.items ++ serial ∷ [] else here.old.items)) }
+    {
+        if is_member(self.delay.standing(self.process(serial), group)) {
+            here.push(serial)?;
+        }
+        Ok(())
+    }
+
+    // The programs of processes that were put out are told.
+    fn tell_out(
+        &mut self,
+        group: GroupNo,
+        view: u32,
+        serials: &[u32],
+        lent: &mut Lent<'_>,
+    ) -> Result<(), NoMemory>
+        ensures stays { KeepsBeside self.old lent.old self.new lent.new }
+        ensures made { OnOk result (records_in self.new lent.new ≡ fold (tell_out records group view) (records_in self.old lent.old) serials.now) }
+        ensures len { OnOk result (vec_len self.new.groups ≡ vec_len self.old.groups) }
+    {
+        for serial in serials {
+            self.push(*serial, Push::Ejected { group, view }, lent)?;
+        }
+        Ok(())
+    }
+
+    // The programs of members are told of their view.
+    fn tell_view(
+        &mut self,
+        group: GroupNo,
+        view: u32,
+        members: &Members,
+        serials: &[u32],
+        lent: &mut Lent<'_>,
+    ) -> Result<(), NoMemory>
+        ensures stays { KeepsBeside self.old lent.old self.new lent.new }
+        ensures made { OnOk result (records_in self.new lent.new ≡ fold (tell_view records group view members.now) (records_in self.old lent.old) serials.now) }
+        ensures len { OnOk result (vec_len self.new.groups ≡ vec_len self.old.groups) }
+    {
+        for serial in serials {
+            self.tell_member(group, view, members, *serial, lent)?;
+        }
+        Ok(())
+    }
+
+    // The program of a member is told of its view.
+    fn tell_member(
+        &mut self,
+        group: GroupNo,
+        view: u32,
+        members: &Members,
+        serial: u32,
+        lent: &mut Lent<'_>,
+    ) -> Result<(), NoMemory>
+        ensures stays { KeepsBeside self.old lent.old self.new lent.new }
+        ensures made { OnOk result (records_in self.new lent.new ≡ tell_view records group view members.now (records_in self.old lent.old) serial) }
+        ensures len { OnOk result (vec_len self.new.groups ≡ vec_len self.old.groups) }
+    {
+        let push = Push::View {
+            group,
+            view,
+            members: members.copy()?,
+        };
+        self.push(serial, push, lent)?;
         Ok(())
     }
 
@@ -137,7 +279,7 @@ impl Domain {
         ensures len { OnOk result (vec_len self.new.groups ≡ vec_len self.old.groups) }
     {
         let group = self.record(place).name;
-        self.put_out_all(group, skips, view, members)?;
+        self.put_out_all(group, skips, members)?;
         self.complete(place, view, members, request)?;
         Ok(())
     }
@@ -147,34 +289,32 @@ impl Domain {
         &mut self,
         group: GroupNo,
         skips: bool,
-        view: u32,
         members: &Members,
     ) -> Result<(), NoMemory>
         ensures same { Keeps self.old self.new }
-        ensures made { OnOk result ((o : Outs) (part : Part) → records_of self.new part o ≡ put_out_all_in group skips view members.now (records_of self.old part o)) }
+        ensures made { OnOk result ((o : Outs) (part : Part) → records_of self.new part o ≡ put_out_all_in group skips members.now (records_of self.old part o)) }
     {
         for place in 0..self.delay.admitted() {
             if let Some(process) = self.delay.process_at(place) {
-                self.put_out_if(group, skips, view, members, process.serial)?;
+                self.put_out_if(group, skips, members, process.serial)?;
             }
         }
         Ok(())
     }
 
-    // A process is put out, and told, if it is a member that a view lacks, or a member where a view was skipped.
+    // A process is put out, if it is a member that a view lacks, or a member where a view was skipped.
     fn put_out_if(
         &mut self,
         group: GroupNo,
         skips: bool,
-        view: u32,
         members: &Members,
         serial: u32,
     ) -> Result<(), NoMemory>
         ensures same { Keeps self.old self.new }
-        ensures made { OnOk result ((o : Outs) (part : Part) → records_of self.new part o ≡ put_out_if_in group skips view members.now (records_of self.old part o) serial) }
+        ensures made { OnOk result ((o : Outs) (part : Part) → records_of self.new part o ≡ put_out_if_in group skips members.now (records_of self.old part o) serial) }
     {
         if self.is_put_out(group, skips, members, serial) {
-            self.put_out(group, view, serial)?;
+            self.put_out(group, serial)?;
         }
         Ok(())
     }
@@ -188,14 +328,13 @@ impl Domain {
             && (skips || !is_named(process, members.list()))
     }
 
-    // A member is put out, and told.
-    fn put_out(&mut self, group: GroupNo, view: u32, serial: u32) -> Result<(), NoMemory>
+    // A member is put out.
+    fn put_out(&mut self, group: GroupNo, serial: u32) -> Result<(), NoMemory>
         ensures same { Keeps self.old self.new }
-        ensures made { OnOk result ((o : Outs) (part : Part) → records_of self.new part o ≡ put_out_in group view (records_of self.old part o) (record { site = self.old.site; serial = serial })) }
+        ensures made { OnOk result ((o : Outs) (part : Part) → records_of self.new part o ≡ put_out_in group (records_of self.old part o) (record { site = self.old.site; serial = serial })) }
     {
         let process = self.process(serial);
         self.tell(process, Fact::Standing(group, Standing::Outside))?;
-        self.push(serial, Push::Ejected { group, view })?;
         Ok(())
     }
 

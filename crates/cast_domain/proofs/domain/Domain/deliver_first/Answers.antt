@@ -3,12 +3,10 @@ use Rattle.std.specs.Option.{option_copied, option_map_or}
 use Rattle.cast_types.specs.declared.names.Key.{Key}
 use Rattle.cast_message.specs.declared.message.Message.{Message}
 use Rattle.cast_message.specs.Receipts.{message_under}
-use Rattle.cast_history.specs.Rules.Rest.{tell, told_of, deliver}
+use Rattle.cast_history.specs.Rules.Rest.{tell_if, told_of, deliver}
 use Rattle.cast_domain.specs.Records.{records_in}
-use Rattle.cast_domain.specs.Shared.{part_of}
 use Rattle.cast_history.specs.Rules.Release as release
-use Rattle.cast_domain.specs.Calls.{local_in, next_ready_in, note_delivered_under, ready_key_in, records, resting_records}
-use Rattle.cast_domain.proofs.Loops.{beside_outs, beside_then, seen_as}
+use Rattle.cast_domain.specs.Calls.{deliver_as, local_in, next_ready_in, note_delivered_under, ready_key_in, records, resting_records}
 use Rattle.cast_domain.proofs.domain.Domain.deliver_first.Goals as goal
 
 pub returns-in_default-clause-made : goal.returns-in_default-clause-made
@@ -30,8 +28,7 @@ returns-in_default-get-clause-made c =
 
 pub returns-clause-made : goal.returns-clause-made
 returns-clause-made c =
-    let d = c.args.self.now in
-    let r = records_in d c.args.lent.now in
+    let r = records_in c.args.self.now c.args.lent.now in
     let k = c.args.serial in
     let key = c.in-Some.key in
     let m = c.in-Some-get.message.now in
@@ -41,15 +38,8 @@ returns-clause-made c =
     let next : next_ready_in r k ≡ Some m = ap (λ (o : Option Key). option_map_or (message_under r.part.kept) o None) some ∙ found in
     c.in_ok-let_go.ensures.made
     ∙ ap (release.let_go records resting_records) (
-    seen_as d c.deliver.new.self c.in_ok-deliver.ensures.same c.args.lent.now.shared.now c.deliver.new.outs
-    ∙ c.in_ok-deliver.ensures.made (part_of d.config.domain c.args.lent.now.shared.now)
-    ∙ (λ j. tell records (note_delivered_under r (own j) key m) (own j).serial (told_of m.id m.body))
-    ∙ sym (ap (λ (o : Option Key). tell records (option_map_or (λ x. note_delivered_under r (local_in r k) x m) o r) k (told_of m.id m.body)) some)
+    c.in_ok-deliver.ensures.made
+    ∙ (λ j. deliver_as r (own j) key (c.in_ok-delivery.ensures j))
+    ∙ sym (ap (λ (o : Option Key). tell_if records (option_map_or (λ x. note_delivered_under r (local_in r k) x m) o r) k (told_of m.id m.body)) some)
     )
     ∙ sym (ap (λ (o : Option Message). elim o [ Some x ↦ release.let_go records resting_records (deliver records resting_records r k x) | None ↦ r ]) next)
-
-pub returns-clause-stays : goal.returns-clause-stays
-returns-clause-stays c = beside_then (beside_outs c.args.lent.now c.deliver.new.outs c.in_ok-deliver.ensures.same) c.in_ok-let_go.ensures.stays
-
-pub returns-in_err-let_go-clause-stays : goal.returns-in_err-let_go-clause-stays
-returns-in_err-let_go-clause-stays c = beside_then (beside_outs c.args.lent.now c.deliver.new.outs c.in_ok-deliver.ensures.same) c.in_err-let_go.ensures.stays

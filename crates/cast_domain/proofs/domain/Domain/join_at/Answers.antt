@@ -7,7 +7,7 @@ use Rattle.cast_clock.specs.Times.{view_of}
 use Rattle.cast_message.specs.declared.site.Change.TheVariants as change
 use Rattle.cast_delay.specs.Ready.{is_outside}
 use Rattle.cast_delay.specs.declared.row.Fact.TheVariants as fact
-use Rattle.cast_history.specs.Rules.Requests.{request}
+use Rattle.cast_history.specs.Rules.Asking.{request}
 use Rattle.cast_domain.specs.Records.{records_in}
 use Rattle.cast_domain.specs.Calls.{record_at, records, tell_in, standing_of, time_of, local_in}
 use Rattle.cast_domain.proofs.Attempts.{join_made}

@@ -20,7 +20,9 @@ returns-clause-begins c rising =
     let stands = subst (λ (r : Records). Fits r (before_event s) × AreDismissed r) (sym (λ j. record {
       site = here;
       config = config;
+      quotas = config.quotas;
       used = 0;
+      casts = 0;
       sessions = c.new-2.ensures.items j;
       groups = groups j;
       moment = c.first.ensures j;
@@ -30,6 +32,7 @@ returns-clause-begins c rising =
       orders = c.new-5.ensures j;
       frames = [];
       delivered = [];
+      pushed = [];
     })) (fits_before here config, λ k gone. refl) in
     record {
       fits = stands.0;

@@ -3,7 +3,7 @@ use Rattle.std.specs.Prelude.{◌&&◌, if◌then◌else◌}
 use Rattle.std.proofs.lemmas.Bool.{and_parts}
 use Rattle.cast_view.specs.MemberSide.{answers_prepare}
 use Rattle.cast_history.specs.Rules.Flushes.{flushed_frame}
-use Rattle.cast_history.specs.Rules.Requests.{is_from_home}
+use Rattle.cast_history.specs.Rules.Asking.{is_from_home}
 use Rattle.cast_domain.specs.Records.{Records, records_in}
 use Rattle.cast_domain.specs.Calls.{records, record_at, report_at, freeze_in, send_in}
 use Rattle.cast_domain.proofs.Loops.{seen_as}

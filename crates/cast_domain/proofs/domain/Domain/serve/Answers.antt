@@ -80,5 +80,5 @@ returns-clause-steps c s means =
         lawful = last_lawful;
         dismissed = still;
       };
-      outs = λ j. record before { frames = before.frames ++ fits.frames j; delivered = before.delivered ++ fits.delivered j };
+      outs = λ j. record before { frames = before.frames ++ fits.frames j; delivered = before.delivered ++ fits.delivered j; pushed = before.pushed ++ fits.pushed j };
     })

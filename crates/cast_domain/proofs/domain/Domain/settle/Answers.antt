@@ -1,14 +1,13 @@
 use Rattle.std.proofs.Common.{◌+◌, ◌∙◌, sym, ap, drop, subst}
 use Rattle.std.specs.List.{fold}
 use Rattle.std.proofs.lemmas.Bool.{or_parts}
-use Rattle.cast_model.specs.Session.{is_gone}
 use Rattle.cast_history.specs.Rules.Rest.{deliver_all}
 use Rattle.cast_domain.specs.Records.{records_in}
 use Rattle.cast_domain.specs.Calls.{records, resting_records, serials_in}
-use Rattle.cast_domain.specs.Fits.{session_in}
 use Rattle.cast_domain.proofs.Loops.{beside_then}
 use Rattle.cast_domain.proofs.Rows.{names_of}
-use Rattle.cast_domain.proofs.Rounds.{RemainAs, remain_deliver_all, round_next, round_past}
+use Rattle.cast_domain.proofs.Remaining.{RemainAs, gone_of}
+use Rattle.cast_domain.proofs.Rounds.{remain_deliver_all, round_next, round_past}
 use Rattle.cast_domain.proofs.domain.Domain.settle.Goals as goal
 use Rattle.cast_domain.proofs.domain.Domain.settle.Goals.{in-Some+in_ok-delivered, in_default}
 
@@ -24,7 +23,7 @@ loop-place-preserved c =
           let made = w.in_ok-delivered.ensures.made in
           rw (w.self-is, w.lent-is, w.changed-is) (record {
             stays = beside_then c.loop-place.invariant.stays w.in_ok-delivered.ensures.stays;
-            remain = subst (RemainAs first) (sym made) (remain_deliver_all first.site (names_of first.delay.rows) (λ k. is_gone (session_in first.sessions k)) r c.loop-place.invariant.remain p.serial);
+            remain = subst (RemainAs first) (sym made) (remain_deliver_all first.site (names_of first.delay.rows) (gone_of first) r c.loop-place.invariant.remain p.serial);
             left =
                 ap (λ x. fold (deliver_all records resting_records) x left) made
                 ∙ round_next (deliver_all records resting_records) first r c.loop-place.invariant.remain i p (sym w.in-Some.ensures)

@@ -3,7 +3,7 @@ use Rattle.std.specs.List.{fold}
 use Rattle.cast_history.specs.Rules.Rest.{deliver_all, settle}
 use Rattle.cast_domain.specs.Calls.{records, resting_records, serials_in}
 use Rattle.cast_domain.specs.Records.{KeepsBeside, records_in}
-use Rattle.cast_domain.proofs.Rounds.{RemainAs}
+use Rattle.cast_domain.proofs.Remaining.{RemainAs}
 use Rattle.cast_domain.proofs.domain.Domain.settle.Given as goal
 
 -- the processes that are left lead to the same records, and their rows stay

@@ -11,6 +11,6 @@ abbrev pub invariant-loop-process : goal.invariant-loop-process
 invariant-loop-process l = record {
   same : Keeps l.fn.self l.self;
   left : (o : Outs) (part : Part) →
-      fold (take_in l.group l.view l.members l.request) (records_of l.self part o) (drop l.process-index l.process-items)
-      ≡ fold (take_in l.group l.view l.members l.request) (records_of l.fn.self part o) l.process-items;
+      fold (take_in l.group l.view l.request) (records_of l.self part o) (drop l.process-index l.members)
+      ≡ fold (take_in l.group l.view l.request) (records_of l.fn.self part o) l.members;
 }

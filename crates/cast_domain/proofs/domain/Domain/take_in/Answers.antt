@@ -15,4 +15,4 @@ returns-in_ok-enter-clause-made c o part =
     let here : site_eq p.site r.site ≡ true = cc in
     let taken : is_taken_in c.args.request (standing_of r.delay p g) ≡ true = sym c.is_taken_in.ensures ∙ c.if-is_taken_in.true in
     c.in_ok-enter.ensures.made o part
-    ∙ sym (ap (λ b. if b then enter_in g c.args.view c.args.members.now r p else r) (and_from _ _ here taken))
+    ∙ sym (ap (λ b. if b then enter_in g c.args.view r p else r) (and_from _ _ here taken))

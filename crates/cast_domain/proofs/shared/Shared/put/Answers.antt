@@ -1,4 +1,5 @@
 use Rattle.cast_timer.specs.Rows.{owed_in}
+use Rattle.cast_outbox.specs.Outboxes.{outboxes_in}
 use Rattle.cast_domain.proofs.Shares.{leaves}
 use Rattle.cast_domain.proofs.shared.Shared.put.Goals as goal
 
@@ -8,4 +9,5 @@ returns-clause-others c =
       kept = stays.0 i;
       next = stays.1 i;
       owed = owed_in c.args.self.now.timers e;
+      outboxes = outboxes_in c.args.self.now.outboxes e;
     })
