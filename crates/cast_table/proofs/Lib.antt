@@ -3,6 +3,7 @@ pub mod Turns
 pub mod Applies
 pub mod Each
 pub mod Parts
+pub mod Grouped
 pub mod Runs
 pub mod Later
 pub mod Ordered
@@ -11,3 +12,5 @@ pub mod Named
 pub mod Ticked
 pub mod SoFars
 pub mod Replayed
+pub mod Meant
+pub mod Agreeing

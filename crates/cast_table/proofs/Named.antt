@@ -33,7 +33,7 @@ module _ (here : SiteNo) (events : List Event) (answers : List (Result Taken Fau
   other_given : (s : Served) (d : Domain) → domain_eq n s.config.domain ≡ false → HasGiven here events answers before s d → HasGiven here (events ++ e ∷ []) (answers ++ a ∷ []) after s d
   other_given s d other so_far =
       kept_given here (events ++ e ∷ []) (answers ++ a ∷ []) before after s d (kept s.config.domain other)
-      (other_event here events answers e a long _ _ d s.config s.halt (own_is s.config.domain ∙ other) so_far)
+      (other_event here events answers e a long _ _ _ d s.config s.halt (own_is s.config.domain ∙ other) so_far)
 
   -- every domain, where the event names none of them
   pub all_other_given : (served : List Served) (ds : List Domain) → is_configured n (configs_of served) ≡ false → AllZip (HasGiven here events answers before) served ds → AllGiven served ds

@@ -1,20 +1,15 @@
--- The part of one domain in lists of events, answers and frames.
+-- The part of one domain in lists of events and answers, and in what comes of steps.
 use Rattle.std.proofs.Common.{◌≡◌, ℕ, zero, suc, ◌<◌, ◌≤◌, Bool, true, false, cond, List, [], ◌∷◌, ◌++◌, map, filter, length, Some, None, refl, sym, ap, ◌∙◌, arith}
 use Rattle.std.specs.Option.{option_map_or}
 use Rattle.std.proofs.lemmas.Bool.{eqb-true, eq-eqb, false≢true, false_from_ne_true}
 use Rattle.std.proofs.lemmas.List.{map-append}
 use Rattle.std.proofs.lemmas.List.Elements.{filter-append}
 use Rattle.cast_types.specs.declared.names.DomainNo.{DomainNo}
-use Rattle.cast_types.specs.declared.names.SiteNo.{SiteNo}
-use Rattle.cast_message.specs.declared.site.SiteFrame.{SiteFrame}
 use Rattle.cast_model.specs.declared.event.Event.{Event}
 use Rattle.cast_model.specs.Events.{domain_of}
 use Rattle.cast_domain.specs.Fits.{tagged}
 use Rattle.cast_table.specs.Tables.{domain_eq}
-use Rattle.cast_table.specs.Replays.{names, is_own, own, named_answers, frames_of, is_own_at}
-
-abbrev pub Sent : Type 0
-Sent = DomainNo × SiteNo × SiteFrame
+use Rattle.cast_table.specs.Replays.{names, is_own, own, named_answers, of_domain, untagged, is_own_at}
 
 pub same_domain : (a b : DomainNo) → domain_eq a b ≡ true → a ≡ b
 same_domain a b h = ap (λ (n : ℕ). record { 0 = n }) (eqb-true a.0 b.0 h)
@@ -93,23 +88,22 @@ named_front d (e ∷ events) [] more few = absurd (omega arith)
 named_front d (e ∷ events) (a ∷ answers) more few =
     ap (λ rest. cond (names d e) (a ∷ rest) rest) (named_front d events answers more (omega arith))
 
--- more frames
+-- more with the numbers of domains
 
-pub frames_more : (d : DomainNo) (before more : List Sent) → frames_of d (before ++ more) ≡ frames_of d before ++ frames_of d more
-frames_more d before more =
-    ap (map (λ (f : Sent). (f.1, f.2))) (filter-append (λ (f : Sent). domain_eq f.0 d) before more)
-    ∙ map-append (λ (f : Sent). (f.1, f.2)) (filter (λ f. domain_eq f.0 d) before) (filter (λ f. domain_eq f.0 d) more)
+pub tagged_more : {A B : Type 0} (d : DomainNo) (before more : List (DomainNo × A × B)) → untagged (of_domain d (before ++ more)) ≡ untagged (of_domain d before) ++ untagged (of_domain d more)
+tagged_more {A} {B} d before more =
+    ap untagged (filter-append (λ (x : DomainNo × A × B). domain_eq x.0 d) before more)
+    ∙ map-append (λ (x : DomainNo × A × B). (x.1, x.2)) (of_domain d before) (of_domain d more)
 
-pub frames_own : (d : DomainNo) (sent : List (SiteNo × SiteFrame)) → frames_of d (tagged d sent) ≡ sent
-frames_own d [] = refl
-frames_own d (x ∷ sent) =
-    let rest : List Sent = filter (λ (f : Sent). domain_eq f.0 d) (tagged d sent) in
-    ap (λ b. map (λ (f : Sent). (f.1, f.2)) (cond b ((d, x.0, x.1) ∷ rest) rest)) (domain_itself d)
-    ∙ ap (λ (later : List (SiteNo × SiteFrame)). x ∷ later) (frames_own d sent)
+pub tagged_own : {A B : Type 0} (d : DomainNo) (xs : List (A × B)) → untagged (of_domain d (tagged d xs)) ≡ xs
+tagged_own d [] = refl
+tagged_own {A} {B} d (x ∷ xs) =
+    let rest : List (DomainNo × A × B) = of_domain d (tagged d xs) in
+    ap (λ b. untagged (cond b ((d, x.0, x.1) ∷ rest) rest)) (domain_itself d)
+    ∙ ap (λ (later : List (A × B)). x ∷ later) (tagged_own d xs)
 
-pub frames_other : (d q : DomainNo) (sent : List (SiteNo × SiteFrame)) → domain_eq d q ≡ false → frames_of q (tagged d sent) ≡ []
-frames_other d q [] differ = refl
-frames_other d q (x ∷ sent) differ =
-    let rest : List Sent = filter (λ (f : Sent). domain_eq f.0 q) (tagged d sent) in
-    ap (λ b. map (λ (f : Sent). (f.1, f.2)) (cond b ((d, x.0, x.1) ∷ rest) rest)) differ
-    ∙ frames_other d q sent differ
+pub tagged_other : {A B : Type 0} (d q : DomainNo) (xs : List (A × B)) → domain_eq d q ≡ false → untagged (of_domain q (tagged d xs)) ≡ []
+tagged_other d q [] differ = refl
+tagged_other {A} {B} d q (x ∷ xs) differ =
+    let rest : List (DomainNo × A × B) = of_domain q (tagged d xs) in
+    ap (λ b. untagged (cond b ((d, x.0, x.1) ∷ rest) rest)) differ ∙ tagged_other d q xs differ

@@ -10,22 +10,22 @@ use Rattle.cast_model.specs.declared.event.Event.{Event}
 use Rattle.cast_model.specs.declared.event.Taken.{Taken}
 use Rattle.cast_model.specs.declared.log.Fault.{Fault}
 use Rattle.cast_model.specs.declared.log.Log.{Log}
-use Rattle.cast_table.specs.Replays.{Served, IsServed, IsReplay, are_distinct, have_rising_groups, frames_of, given_of, TellsNoDomain}
+use Rattle.cast_table.specs.Replays.{Served, IsServed, IsReplay, are_distinct, have_rising_groups, frames_of, pushes_of, given_of, TellsNoDomain}
 use Rattle.cast_table.specs.Tables.{Lent, picked}
 use Rattle.cast_table.proofs.Served.{HasGiven, given_with}
 use Rattle.cast_table.proofs.Ordered.{back, answers_same, distinct_by_number, rising_by_number, tells_same}
 use Rattle.cast_table.proofs.SoFars.{SoFar, ordered}
 
-all_served : (here : SiteNo) (events : List Event) (answers : List (Result Taken Fault)) (l : Lent) (served : List Served) (ds : List Domain) → AllZip (HasGiven here events answers l) served ds → AllZip (IsServed here events answers) served (map (given_of l.outs.frames) ds)
+all_served : (here : SiteNo) (events : List Event) (answers : List (Result Taken Fault)) (l : Lent) (served : List Served) (ds : List Domain) → AllZip (HasGiven here events answers l) served ds → AllZip (IsServed here events answers) served (map (given_of l.outs) ds)
 all_served here events answers l [] [] given = given
 all_served here events answers l [] (d ∷ ds) given = absurd given
 all_served here events answers l (s ∷ served) [] given = absurd given
 all_served here events answers l (s ∷ served) (d ∷ ds) given = (
-  subst (λ (n : DomainNo). IsServed here events answers s (given_with (frames_of n l.outs.frames) d)) (sym given.0.served.domain) given.0.served,
+  subst (λ (n : DomainNo). IsServed here events answers s (given_with (frames_of n l.outs.frames) (pushes_of n l.outs.pushed) d)) (sym given.0.served.domain) given.0.served,
   all_served here events answers l served ds given.1,
 )
 
-pub replayed : (config : Config) (events : List Event) (log : Log) (l : Lent) (ds : List Domain) → log.given ≡ map (given_of l.outs.frames) (picked config.domains ds) → SoFar (ordered config) events log.answers l ds → are_distinct config.domains ≡ true → have_rising_groups config.domains ≡ true → IsReplay config events log
+pub replayed : (config : Config) (events : List Event) (log : Log) (l : Lent) (ds : List Domain) → log.given ≡ map (given_of l.outs) (picked config.domains ds) → SoFar (ordered config) events log.answers l ds → are_distinct config.domains ≡ true → have_rising_groups config.domains ≡ true → IsReplay config events log
 replayed config events log l ds given so_far distinct rising =
     let was = so_far.serves (distinct_by_number config.domains distinct) (rising_by_number config.domains ∙ rising) in
     let again =

@@ -1,6 +1,6 @@
 -- What each domain of a table has given so far, beside what a daemon gives that serves it alone.
 use Rattle.std.proofs.Common.{◌≡◌, ◌≢◌, ℕ, zero, suc, ◌+◌, ◌<◌, true, false, cond, List, [], ◌∷◌, ◌++◌, map, take, length, Option, Some, None, is_some, Result, Ok, Err, refl, sym, ap, subst, ◌∙◌, inl, inr, arith}
-use Rattle.std.specs.List.{AllZip, range_with_len}
+use Rattle.std.specs.List.{AllZip}
 use Rattle.std.proofs.lemmas.Bool.{cases_Bool, eq-eqb, false≢true, and_parts, ne_eqb, or_parts}
 use Rattle.std.proofs.lemmas.List.{map-append, append-nil, length-take-le, take-append-le, take_at}
 use Rattle.cast_types.specs.declared.names.DomainNo.{DomainNo}
@@ -14,77 +14,65 @@ use Rattle.cast_domain.specs.declared.domain.Domain.{Domain}
 use Rattle.cast_model.specs.declared.event.Event.{Event}
 use Rattle.cast_model.specs.declared.event.Outs.{Outs}
 use Rattle.cast_model.specs.declared.event.Taken.{Taken}
-use Rattle.cast_model.specs.declared.session.Session.{Session}
 use Rattle.cast_domain.specs.declared.shared.Shared.{Shared}
-use Rattle.cast_domain.specs.Records.{number_of, is_halted, sessions_of}
+use Rattle.cast_model.specs.Outs.{no_outs}
+use Rattle.cast_domain.specs.Records.{number_of, is_halted}
 use Rattle.cast_domain.specs.Shared.{Part, part_of, no_part, LeavesOthers}
-use Rattle.cast_history.specs.State.{State, opening, serials}
-use Rattle.cast_domain.specs.Fits.{Means, tagged, session_in}
+use Rattle.cast_history.specs.State.{State, opening}
+use Rattle.cast_domain.specs.Fits.{Means, tagged}
 use Rattle.cast_history.specs.Run.{IsRun}
 use Rattle.cast_domain.specs.Stepped.{IsStepOf}
 use Rattle.cast_model.specs.declared.log.Fault.{Fault}
 use Rattle.cast_model.specs.declared.log.Fault.TheVariants.{NoMemory, Halted, NoDomain}
 use Rattle.cast_model.specs.declared.log.Given.{Given}
 use Rattle.cast_table.specs.Tables.{domain_eq, IsNew, IsTurn, Lent, part_in, halted_by}
-use Rattle.cast_table.specs.Replays.{Served, IsServed, IsNamedAnswer, is_configured, have_rising_groups, names, is_own, is_own_at, own, until, taken_by, named_answers, frames_of}
-use Rattle.cast_table.proofs.Parts.{domain_flipped, own_more, named_more, own_one, own_none, named_one, named_none, other_unnamed, own_at_within, own_at_more, own_at_last, named_front, frames_more, frames_own, frames_other}
+use Rattle.cast_table.specs.Replays.{Served, IsServed, IsNamedAnswer, is_configured, have_rising_groups, names, is_own, is_own_at, own, until, taken_by, named_answers, frames_of, pushes_of, by_session}
+use Rattle.cast_table.proofs.Parts.{domain_flipped, own_more, named_more, own_one, own_none, named_one, named_none, other_unnamed, own_at_within, own_at_more, own_at_last, named_front, tagged_more, tagged_own, tagged_other}
 use Rattle.cast_table.proofs.Places.{IsNumbered, none_some, same_some}
 use Rattle.cast_table.proofs.Later.{IsLater, configs_of, later_same, later_halted, number_halted}
 use Rattle.cast_table.proofs.Runs.{run_more, run_length}
 
--- what a domain gave, where these frames were sent
-abbrev pub given_with : List (SiteNo × SiteFrame) → Domain → Given
-given_with sent d =
-    record { domain = number_of d; pushes = map (λ s. s.pushed) (sessions_of d); sent = sent; halted = is_halted d }
+-- what a domain gave, where this was sent and pushed
+abbrev pub given_with : List (SiteNo × SiteFrame) → List (ℕ × Push) → Domain → Given
+given_with sent pushed d =
+    record { domain = number_of d; pushes = by_session pushed; sent = sent; halted = is_halted d }
 
 -- a domain was served so, and where it was not halted, it stands for where its run alone led
-pub record HasServed (here : SiteNo) (events : List Event) (answers : List (Result Taken Fault)) (sent : List (SiteNo × SiteFrame)) (part : Part) (s : Served) (d : Domain) : Type 0 where
-  pub served : IsServed here events answers s (given_with sent d)
+pub record HasServed (here : SiteNo) (events : List Event) (answers : List (Result Taken Fault)) (sent : List (SiteNo × SiteFrame)) (pushed : List (ℕ × Push)) (part : Part) (s : Served) (d : Domain) : Type 0 where
+  pub served : IsServed here events answers s (given_with sent pushed d)
+  pub told : served.pushed ≡ pushed
   pub means : s.halt ≡ None → Means d part served.end
 
 -- the same with what is lent
 abbrev pub HasGiven : SiteNo → List Event → List (Result Taken Fault) → Lent → Served → Domain → Type 0
 HasGiven here events answers l s d =
-    HasServed here events answers (frames_of s.config.domain l.outs.frames) (part_of s.config.domain l.shared) s d
+    HasServed here events answers (frames_of s.config.domain l.outs.frames) (pushes_of s.config.domain l.outs.pushed) (part_of s.config.domain l.shared) s d
 
 not_there : (o : Option ℕ) → is_some o ≡ false → o ≡ None
 not_there None none = refl
 not_there (Some n) none = absurd (false≢true (sym none))
 
--- What is pushed
-
--- sessions stand in the order of their serials
-pushed_in_order : (pushed : ℕ → List Push) (sessions : List Session) (a n : ℕ) → length sessions ≡ n → ((i : ℕ) → pushed (a + i) ≡ (session_in sessions (suc i)).pushed) → map (λ (s : Session). s.pushed) sessions ≡ map pushed (range_with_len a n)
-pushed_in_order pushed [] a zero long each = refl
-pushed_in_order pushed [] a (suc n) long each = absurd (omega arith)
-pushed_in_order pushed (s ∷ sessions) a zero long each = absurd (omega arith)
-pushed_in_order pushed (s ∷ sessions) a (suc n) long each =
-    let first : a ≡ a + 0 = omega arith in
-    let here : s.pushed ≡ pushed a = sym (ap pushed first ∙ each 0) in
-    let next : (i : ℕ) → a + 1 + i ≡ a + suc i = λ i. omega arith in
-    let later = pushed_in_order pushed sessions (a + 1) n (omega arith) (λ i. ap pushed (next i) ∙ each (suc i)) in
-    λ j. here j ∷ later j
-
--- a domain pushed what the history pushed that it stands for
-all_pushed : (d : Domain) (part : Part) (end : State) → Means d part end → map (λ (s : Session). s.pushed) (sessions_of d) ≡ map (λ k. (end.session k).pushed) (serials end)
-all_pushed d part end means =
-    pushed_in_order (λ k. (end.session k).pushed) (sessions_of d) 1 end.used means.fits.opened.given
-    (λ i. let next : 1 + i ≡ suc i = omega arith in ap (λ k. (end.session k).pushed) next ∙ ap (λ (s : Session). s.pushed) (means.fits.opened.each (suc i)))
-
--- what is sent for a domain, and its part of what is shared, stay
-abbrev pub Keeps : DomainNo → Lent → Lent → Type 0
-Keeps q before after =
-    (frames_of q after.outs.frames ≡ frames_of q before.outs.frames) × (part_of q after.shared ≡ part_of q before.shared)
+-- what is sent and pushed for a domain, and its part of what is shared, stay
+pub record Keeps (q : DomainNo) (before : Lent) (after : Lent) : Type 0 where
+  pub frames : frames_of q after.outs.frames ≡ frames_of q before.outs.frames
+  pub pushes : pushes_of q after.outs.pushed ≡ pushes_of q before.outs.pushed
+  pub part : part_of q after.shared ≡ part_of q before.shared
 
 pub keeps_same : (q : DomainNo) (before after : Lent) → after ≡ before → Keeps q before after
-keeps_same q before after same = (ap (λ (l : Lent). frames_of q l.outs.frames) same, ap (λ (l : Lent). part_of q l.shared) same)
+keeps_same q before after same =
+    record {
+      frames = ap (λ (l : Lent). frames_of q l.outs.frames) same;
+      pushes = ap (λ (l : Lent). pushes_of q l.outs.pushed) same;
+      part = ap (λ (l : Lent). part_of q l.shared) same;
+    }
 
 pub keeps_both : (q : DomainNo) (before between after : Lent) → Keeps q before between → Keeps q between after → Keeps q before after
-keeps_both q before between after one two = (two.0 ∙ one.0, two.1 ∙ one.1)
+keeps_both q before between after one two =
+    record { frames = two.frames ∙ one.frames; pushes = two.pushes ∙ one.pushes; part = two.part ∙ one.part }
 
 -- Before the first event
 
-new_given : (here : SiteNo) (c : DomainConfig) (d : Domain) (l : Lent) → l.outs.frames ≡ [] → ((q : DomainNo) → part_of q l.shared ≡ no_part) → is_rising group_cmp c.groups ≡ true → IsNew here c d → HasGiven here [] [] l (record { config = c; halt = None }) d
+new_given : (here : SiteNo) (c : DomainConfig) (d : Domain) (l : Lent) → l.outs ≡ no_outs → ((q : DomainNo) → part_of q l.shared ≡ no_part) → is_rising group_cmp c.groups ≡ true → IsNew here c d → HasGiven here [] [] l (record { config = c; halt = None }) d
 new_given here c d l none unshared rising new =
     let means : Means d (part_of c.domain l.shared) (opening here c) =
     subst (λ p. Means d p (opening here c)) (sym (unshared c.domain)) (new.begins rising) in
@@ -95,11 +83,17 @@ new_given here c d l none unshared rising new =
             shown = new.running;
             halted = λ place wrong. absurd (none_some place wrong);
             taken = [];
+            pushed = pushes_of c.domain l.outs.pushed;
             end = opening here c;
             answered = refl;
-            runs = (ap (frames_of c.domain) none, refl);
-            pushes = λ _. all_pushed d (part_of c.domain l.shared) (opening here c) means;
+            runs = (
+              ap (λ (o : Outs). frames_of c.domain o.frames) none,
+              ap (λ (o : Outs). pushes_of c.domain o.pushed) none,
+              refl,
+            );
+            pushes = refl;
           };
+      told = refl;
       means = λ _. means;
     }
 
@@ -108,8 +102,10 @@ new_given here c d l none unshared rising new =
 -- what is kept of what is lent is all that is known of it
 pub kept_given : (here : SiteNo) (events : List Event) (answers : List (Result Taken Fault)) (before after : Lent) (s : Served) (d : Domain) → Keeps s.config.domain before after → HasGiven here events answers before s d → HasGiven here events answers after s d
 kept_given here events answers before after s d kept so_far =
-    subst (λ part. HasServed here events answers (frames_of s.config.domain after.outs.frames) part s d) (sym kept.1)
-    (subst (λ sent. HasServed here events answers sent (part_of s.config.domain before.shared) s d) (sym kept.0) so_far)
+    let q : DomainNo = s.config.domain in
+    subst (λ part. HasServed here events answers (frames_of q after.outs.frames) (pushes_of q after.outs.pushed) part s d) (sym kept.part)
+    (subst (λ pushed. HasServed here events answers (frames_of q after.outs.frames) pushed (part_of q before.shared) s d) (sym kept.pushes)
+    (subst (λ sent. HasServed here events answers sent (pushes_of q before.outs.pushed) (part_of q before.shared) s d) (sym kept.frames) so_far))
 
 -- the parts of others stay
 part_kept : (d q : DomainNo) (old new : Shared) → domain_eq d q ≡ false → LeavesOthers d old new → part_of q new ≡ part_of q old
@@ -120,9 +116,9 @@ part_kept d q old new differ others =
 
 -- One more event, of which the domain does not know
 
-module _ (here : SiteNo) (events : List Event) (answers : List (Result Taken Fault)) (e : Event) (a : Result Taken Fault) (long : length events ≡ length answers) (sent : List (SiteNo × SiteFrame)) (part : Part) (d : Domain) where
+module _ (here : SiteNo) (events : List Event) (answers : List (Result Taken Fault)) (e : Event) (a : Result Taken Fault) (long : length events ≡ length answers) (sent : List (SiteNo × SiteFrame)) (pushed : List (ℕ × Push)) (part : Part) (d : Domain) where
   -- the events before the halt and their answers are the same
-  carried : (s : Served) → taken_by s (events ++ e ∷ []) ≡ taken_by s events → named_answers s.config.domain (until s.halt (events ++ e ∷ [])) (answers ++ a ∷ []) ≡ named_answers s.config.domain (until s.halt events) answers → HasServed here events answers sent part s d → HasServed here (events ++ e ∷ []) (answers ++ a ∷ []) sent part s d
+  carried : (s : Served) → taken_by s (events ++ e ∷ []) ≡ taken_by s events → named_answers s.config.domain (until s.halt (events ++ e ∷ [])) (answers ++ a ∷ []) ≡ named_answers s.config.domain (until s.halt events) answers → HasServed here events answers sent pushed part s d → HasServed here (events ++ e ∷ []) (answers ++ a ∷ []) sent pushed part s d
   carried s events_same answers_same so_far =
       let was = so_far.served in
       record {
@@ -132,16 +128,18 @@ module _ (here : SiteNo) (events : List Event) (answers : List (Result Taken Fau
               shown = was.shown;
               halted = λ place at. own_at_more s.config.domain events (e ∷ []) place (was.halted place at);
               taken = was.taken;
+              pushed = was.pushed;
               end = was.end;
               answered = answers_same ∙ was.answered ∙ sym (ap (λ es. map Ok (named_answers s.config.domain es was.taken)) events_same);
-              runs = subst (λ es. IsRun (opening here s.config) es was.taken sent was.end) (sym events_same) was.runs;
+              runs = subst (λ es. IsRun (opening here s.config) es was.taken sent was.pushed was.end) (sym events_same) was.runs;
               pushes = was.pushes;
             };
+        told = so_far.told;
         means = so_far.means;
       }
 
   -- behind its halt
-  behind_halt : (c : DomainConfig) (n : ℕ) → HasServed here events answers sent part (record { config = c; halt = Some n }) d → HasServed here (events ++ e ∷ []) (answers ++ a ∷ []) sent part (record { config = c; halt = Some n }) d
+  behind_halt : (c : DomainConfig) (n : ℕ) → HasServed here events answers sent pushed part (record { config = c; halt = Some n }) d → HasServed here (events ++ e ∷ []) (answers ++ a ∷ []) sent pushed part (record { config = c; halt = Some n }) d
   behind_halt c n so_far =
       let within : n < length events = own_at_within c.domain events n (so_far.served.halted n refl) in
       let front : take n (events ++ e ∷ []) ≡ take n events = take-append-le n events (e ∷ []) (omega arith) in
@@ -151,7 +149,7 @@ module _ (here : SiteNo) (events : List Event) (answers : List (Result Taken Fau
       so_far
 
   -- the event is not the domain's own
-  pub other_event : (c : DomainConfig) (halt : Option ℕ) → is_own c.domain e ≡ false → HasServed here events answers sent part (record { config = c; halt = halt }) d → HasServed here (events ++ e ∷ []) (answers ++ a ∷ []) sent part (record { config = c; halt = halt }) d
+  pub other_event : (c : DomainConfig) (halt : Option ℕ) → is_own c.domain e ≡ false → HasServed here events answers sent pushed part (record { config = c; halt = halt }) d → HasServed here (events ++ e ∷ []) (answers ++ a ∷ []) sent pushed part (record { config = c; halt = halt }) d
   other_event c None other so_far =
       carried (record { config = c; halt = None })
       (own_more c.domain events e ∙ ap (λ more. own c.domain events ++ more) (own_none c.domain e other) ∙ append-nil (own c.domain events))
@@ -174,13 +172,21 @@ module _ (here : SiteNo) (events : List Event) (answers : List (Result Taken Fau
   own_means : (t : State) → Means old (part_of s.config.domain before.shared) t → Means old (part_in before old) t
   own_means t means = subst (λ (n : DomainNo). Means old (part_of n before.shared) t) (sym so_far.served.domain) means
 
-  -- the frames of a step bear the domain's number
+  -- what a step sends and pushes bears the domain's number
+  step_number : (t : State) (taken : Taken) (step : IsStepOf t e taken new (part_in after old) before.outs after.outs) → number_of new ≡ number_of old → step.end.config.domain ≡ s.config.domain
+  step_number t taken step number = sym (ap (λ c. c.config.domain) step.means.fits.core) ∙ number ∙ so_far.served.domain
+
   step_frames : (t : State) (taken : Taken) (step : IsStepOf t e taken new (part_in after old) before.outs after.outs) (r : DomainNo) → number_of new ≡ number_of old → frames_of r after.outs.frames ≡ frames_of r before.outs.frames ++ frames_of r (tagged s.config.domain step.end.frames)
   step_frames t taken step r number =
-      let named : step.end.config.domain ≡ s.config.domain = sym (ap (λ c. c.config.domain) step.means.fits.core) ∙ number ∙ so_far.served.domain in
       ap (λ (o : Outs). frames_of r o.frames) step.outs
-      ∙ frames_more r before.outs.frames (tagged step.end.config.domain step.end.frames)
-      ∙ ap (λ d. frames_of r before.outs.frames ++ frames_of r (tagged d step.end.frames)) named
+      ∙ tagged_more r before.outs.frames (tagged step.end.config.domain step.end.frames)
+      ∙ ap (λ d. frames_of r before.outs.frames ++ frames_of r (tagged d step.end.frames)) (step_number t taken step number)
+
+  step_pushes : (t : State) (taken : Taken) (step : IsStepOf t e taken new (part_in after old) before.outs after.outs) (r : DomainNo) → number_of new ≡ number_of old → pushes_of r after.outs.pushed ≡ pushes_of r before.outs.pushed ++ pushes_of r (tagged s.config.domain step.end.pushes)
+  step_pushes t taken step r number =
+      ap (λ (o : Outs). pushes_of r o.pushed) step.outs
+      ∙ tagged_more r before.outs.pushed (tagged step.end.config.domain step.end.pushes)
+      ∙ ap (λ d. pushes_of r before.outs.pushed ++ pushes_of r (tagged d step.end.pushes)) (step_number t taken step number)
 
   -- what others have stays
   pub turn_keeps : (b : Result Taken Fault) → IsTurn b e old new before after → (r : DomainNo) → domain_eq s.config.domain r ≡ false → Keeps r before after
@@ -190,19 +196,27 @@ module _ (here : SiteNo) (events : List Event) (answers : List (Result Taken Fau
         | inl was ↦ keeps_same r before after (turn.refuses was).2
         | inr ran ↦
             let means = so_far.means (not_there s.halt (sym so_far.served.shown ∙ ran)) in
-            let step = turn.steps ran so_far.served.end (own_means so_far.served.end means) in (
-              step_frames so_far.served.end t step r turn.number
-                  ∙ ap (λ more. frames_of r before.outs.frames ++ more) (frames_other s.config.domain r step.end.frames other)
-                  ∙ append-nil (frames_of r before.outs.frames),
-              part_kept (number_of old) r before.shared after.shared differ turn.others,
-            )
+            let step = turn.steps ran so_far.served.end (own_means so_far.served.end means) in
+            record {
+              frames =
+                  step_frames so_far.served.end t step r turn.number
+                  ∙ ap (λ more. frames_of r before.outs.frames ++ more) (tagged_other s.config.domain r step.end.frames other)
+                  ∙ append-nil (frames_of r before.outs.frames);
+              pushes =
+                  step_pushes so_far.served.end t step r turn.number
+                  ∙ ap (λ more. pushes_of r before.outs.pushed ++ more) (tagged_other s.config.domain r step.end.pushes other)
+                  ∙ append-nil (pushes_of r before.outs.pushed);
+              part = part_kept (number_of old) r before.shared after.shared differ turn.others;
+            }
       ]
   turn_keeps (Err NoMemory) turn r other = keeps_same r before after turn.1
   turn_keeps (Err (Halted d)) turn r other =
-      let differ : domain_eq (number_of old) r ≡ false = ap (λ n. domain_eq n r) so_far.served.domain ∙ other in (
-        ap (λ (o : Outs). frames_of r o.frames) turn.1.outs,
-        part_kept (number_of old) r before.shared after.shared differ turn.1.others,
-      )
+      let differ : domain_eq (number_of old) r ≡ false = ap (λ n. domain_eq n r) so_far.served.domain ∙ other in
+      record {
+        frames = ap (λ (o : Outs). frames_of r o.frames) turn.1.outs;
+        pushes = ap (λ (o : Outs). pushes_of r o.pushed) turn.1.outs;
+        part = part_kept (number_of old) r before.shared after.shared differ turn.1.others;
+      }
   turn_keeps (Err NoDomain) turn r other = absurd turn
 
 -- the answers so far and the next, to an event that names the domain, and to a tick
@@ -250,10 +264,13 @@ module _ (here : SiteNo) (events : List Event) (answers : List (Result Taken Fau
       let step = turn.steps was.shown was.end (own_means here events answers e running old new before after so_far was.end (so_far.means refl)) in
       let frames : frames_of c.domain after.outs.frames ≡ frames_of c.domain before.outs.frames ++ step.end.frames =
       step_frames here events answers e running old new before after so_far was.end t step c.domain turn.number
-      ∙ ap (λ more. frames_of c.domain before.outs.frames ++ more) (frames_own c.domain step.end.frames) in
+      ∙ ap (λ more. frames_of c.domain before.outs.frames ++ more) (tagged_own c.domain step.end.frames) in
+      let pushes : pushes_of c.domain after.outs.pushed ≡ was.pushed ++ step.end.pushes =
+      step_pushes here events answers e running old new before after so_far was.end t step c.domain turn.number
+      ∙ (λ i. sym so_far.told i ++ tagged_own c.domain step.end.pushes i) in
       let one : own c.domain events ++ e ∷ [] ≡ own c.domain (events ++ e ∷ []) =
       sym (own_more c.domain events e ∙ ap (λ more. own c.domain events ++ more) (own_one c.domain e its)) in
-      let alike = run_length (opening here c) (own c.domain events) was.taken (frames_of c.domain before.outs.frames) was.end was.runs in
+      let alike = run_length (opening here c) (own c.domain events) was.taken (frames_of c.domain before.outs.frames) was.pushed was.end was.runs in
       let means : Means new (part_of c.domain after.shared) step.end =
       subst (λ (n : DomainNo). Means new (part_of n after.shared) step.end) was.domain step.means in
       record {
@@ -263,14 +280,17 @@ module _ (here : SiteNo) (events : List Event) (answers : List (Result Taken Fau
               shown = turn.halted ∙ was.shown;
               halted = λ place wrong. absurd (none_some place wrong);
               taken = was.taken ++ t ∷ [];
+              pushed = pushes_of c.domain after.outs.pushed;
               end = step.end;
               answered = answered_more c.domain events answers e a long was.taken t alike its answer was.answered;
               runs =
-                  subst (λ es. IsRun (opening here c) es (was.taken ++ t ∷ []) (frames_of c.domain after.outs.frames) step.end) one
-                  (subst (λ sent. IsRun (opening here c) (own c.domain events ++ e ∷ []) (was.taken ++ t ∷ []) sent step.end) (sym frames)
-                  (run_more (opening here c) (own c.domain events) was.taken (frames_of c.domain before.outs.frames) was.end e t step.end was.runs step.steps));
-              pushes = λ _. all_pushed new (part_of c.domain after.shared) step.end means;
+                  subst (λ es. IsRun (opening here c) es (was.taken ++ t ∷ []) (frames_of c.domain after.outs.frames) (pushes_of c.domain after.outs.pushed) step.end) one
+                  (subst (λ pushed. IsRun (opening here c) (own c.domain events ++ e ∷ []) (was.taken ++ t ∷ []) (frames_of c.domain after.outs.frames) pushed step.end) (sym pushes)
+                  (subst (λ sent. IsRun (opening here c) (own c.domain events ++ e ∷ []) (was.taken ++ t ∷ []) sent (was.pushed ++ step.end.pushes) step.end) (sym frames)
+                  (run_more (opening here c) (own c.domain events) was.taken (frames_of c.domain before.outs.frames) was.pushed was.end e t step.end was.runs step.steps)));
+              pushes = refl;
             };
+        told = refl;
         means = λ _. means;
       }
 
@@ -280,6 +300,7 @@ module _ (here : SiteNo) (events : List Event) (answers : List (Result Taken Fau
       let was = so_far.served in
       let front : take (length events) (events ++ e ∷ []) ≡ events = take_at events (e ∷ []) (length events) refl in
       let frames : frames_of c.domain before.outs.frames ≡ frames_of c.domain after.outs.frames = sym (ap (λ (o : Outs). frames_of c.domain o.frames) turn.1.outs) in
+      let told : was.pushed ≡ pushes_of c.domain after.outs.pushed = so_far.told ∙ sym (ap (λ (o : Outs). pushes_of c.domain o.pushed) turn.1.outs) in
       record {
         served =
             record {
@@ -288,6 +309,7 @@ module _ (here : SiteNo) (events : List Event) (answers : List (Result Taken Fau
               halted = λ place at.
                   subst (λ n. is_own_at c.domain (events ++ e ∷ []) n ≡ true) (same_some (length events) place at) (own_at_last c.domain events e its);
               taken = was.taken;
+              pushed = was.pushed;
               end = was.end;
               answered =
                   ap (λ es. named_answers c.domain es (answers ++ a ∷ [])) front
@@ -295,10 +317,11 @@ module _ (here : SiteNo) (events : List Event) (answers : List (Result Taken Fau
                   ∙ was.answered
                   ∙ sym (ap (λ es. map Ok (named_answers c.domain (own c.domain es) was.taken)) front);
               runs =
-                  subst (λ es. IsRun (opening here c) (own c.domain es) was.taken (frames_of c.domain after.outs.frames) was.end) (sym front)
-                  (subst (λ sent. IsRun (opening here c) (own c.domain events) was.taken sent was.end) frames was.runs);
-              pushes = λ wrong. absurd (none_some (length events) (sym wrong));
+                  subst (λ es. IsRun (opening here c) (own c.domain es) was.taken (frames_of c.domain after.outs.frames) was.pushed was.end) (sym front)
+                  (subst (λ sent. IsRun (opening here c) (own c.domain events) was.taken sent was.pushed was.end) frames was.runs);
+              pushes = ap by_session (sym told);
             };
+        told = told;
         means = λ wrong. absurd (none_some (length events) (sym wrong));
       }
 
@@ -306,7 +329,7 @@ module _ (here : SiteNo) (events : List Event) (answers : List (Result Taken Fau
   refuses : (n : ℕ) (t : Taken) → IsTurn (Ok t) e old new before after → HasGiven here events answers before (halted n) old → HasGiven here (events ++ e ∷ []) (answers ++ a ∷ []) after (halted n) new
   refuses n t turn so_far =
       let left = turn.refuses so_far.served.shown in
-      let more = behind_halt here events answers e a long (frames_of c.domain before.outs.frames) (part_of c.domain before.shared) old c n so_far in
+      let more = behind_halt here events answers e a long (frames_of c.domain before.outs.frames) (pushes_of c.domain before.outs.pushed) (part_of c.domain before.shared) old c n so_far in
       subst (λ l. HasGiven here (events ++ e ∷ []) (answers ++ a ∷ []) l (halted n) new) (sym left.2)
       (subst (HasGiven here (events ++ e ∷ []) (answers ++ a ∷ []) before (halted n)) (sym left.1) more)
 
@@ -345,7 +368,7 @@ module _ (here : SiteNo) (events : List Event) (answers : List (Result Taken Fau
 abbrev pub unhalted : List DomainConfig → List Served
 unhalted cs = map (λ c. record { config = c; halt = None }) cs
 
-module _ (here : SiteNo) (l : Lent) (none : l.outs.frames ≡ []) (unshared : (q : DomainNo) → part_of q l.shared ≡ no_part) where
+module _ (here : SiteNo) (l : Lent) (none : l.outs ≡ no_outs) (unshared : (q : DomainNo) → part_of q l.shared ≡ no_part) where
   pub all_new_given : (cs : List DomainConfig) (ds : List Domain) → have_rising_groups cs ≡ true → AllZip (IsNew here) cs ds → AllZip (HasGiven here [] [] l) (unhalted cs) ds
   all_new_given [] [] rising new = new
   all_new_given [] (d ∷ ds) rising new = absurd new

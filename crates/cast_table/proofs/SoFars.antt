@@ -13,6 +13,7 @@ use Rattle.cast_domain.specs.declared.domain.Domain.{Domain}
 use Rattle.cast_model.specs.declared.event.Event.{Event}
 use Rattle.cast_model.specs.declared.event.Taken.{Taken}
 use Rattle.cast_model.specs.Events.{domain_of}
+use Rattle.cast_model.specs.Outs.{no_outs}
 use Rattle.cast_domain.specs.Shared.{part_of, no_part}
 use Rattle.cast_model.specs.declared.log.Fault.{Fault}
 use Rattle.cast_model.specs.declared.log.Fault.TheVariants.{NoMemory, Halted, NoDomain}
@@ -46,7 +47,7 @@ new_numbered here [] (d ∷ ds) new = absurd new
 new_numbered here (c ∷ cs) [] new = absurd new
 new_numbered here (c ∷ cs) (d ∷ ds) new = (new.0.number, new_numbered here cs ds new.1)
 
-so_far_none : (config : Config) (l : Lent) (ds : List Domain) → l.outs.frames ≡ [] → ((q : DomainNo) → part_of q l.shared ≡ no_part) → AllZip (IsNew config.site) config.domains ds → SoFar config [] [] l ds
+so_far_none : (config : Config) (l : Lent) (ds : List Domain) → l.outs ≡ no_outs → ((q : DomainNo) → part_of q l.shared ≡ no_part) → AllZip (IsNew config.site) config.domains ds → SoFar config [] [] l ds
 so_far_none config l ds none unshared new =
     record {
       numbers = new_numbered config.site config.domains ds new;
@@ -211,6 +212,6 @@ so_far_each config events answers l ds so_far (a ∷ said) (e ∷ more) new afte
     (subst (λ told. SoFar config ((events ++ e ∷ []) ++ more) told after new) (append_assoc answers (a ∷ []) said) rest)
 
 -- all, from new domains on
-pub so_far_all : (config : Config) (events : List Event) (answers : List (Result Taken Fault)) (first last : Lent) (olds news : List Domain) → first.outs.frames ≡ [] → ((q : DomainNo) → part_of q first.shared ≡ no_part) → AllZip (IsNew config.site) config.domains olds → AreApplied answers events olds news first last → SoFar config events answers last news
+pub so_far_all : (config : Config) (events : List Event) (answers : List (Result Taken Fault)) (first last : Lent) (olds news : List Domain) → first.outs ≡ no_outs → ((q : DomainNo) → part_of q first.shared ≡ no_part) → AllZip (IsNew config.site) config.domains olds → AreApplied answers events olds news first last → SoFar config events answers last news
 so_far_all config events answers first last olds news none unshared new applied =
     so_far_each config [] [] first olds (so_far_none config first olds none unshared new) answers events news last applied

@@ -1,2 +1,4 @@
 pub mod Tables
 pub mod Replays
+pub mod Shows
+pub mod Laws

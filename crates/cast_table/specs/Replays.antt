@@ -1,23 +1,25 @@
 -- What a replay gives: for each domain, what a daemon gives that serves it alone, up to where want of memory halted it.
-use Rattle.std.specs.Prelude.{◌≡◌, ◌==◌, ℕ, ◌+◌, ◌<◌, Bool, true, false, not, ◌&&◌, if◌then◌else◌, List, [], ◌∷◌, map, filter, take, slice_get, Option, Some, None, is_some, Result, Ok, Err, ◌↔◌}
+use Rattle.std.specs.Prelude.{◌≡◌, ◌==◌, ℕ, ◌+◌, ◌<◌, max, Bool, true, false, not, ◌&&◌, if◌then◌else◌, List, [], ◌∷◌, ◌++◌, map, filter, take, slice_get, Option, Some, None, is_some, Result, Ok, Err, ◌↔◌}
 use Rattle.std.specs.Option.{option_map_or}
-use Rattle.std.specs.List.{AllZip, find, list_any, list_all}
+use Rattle.std.specs.List.{AllZip, find, list_any, list_all, range_with_len}
 use Rattle.cast_types.specs.declared.names.DomainNo.{DomainNo}
 use Rattle.cast_types.specs.declared.names.SiteNo.{SiteNo}
 use Rattle.cast_types.specs.declared.refusal.Refusal.TheVariants as refusal
 use Rattle.cast_types.specs.Names.{group_cmp}
 use Rattle.cast_types.specs.Rising.{is_rising}
+use Rattle.cast_message.specs.declared.client.Push.{Push}
 use Rattle.cast_message.specs.declared.site.SiteFrame.{SiteFrame}
 use Rattle.cast_model.specs.declared.config.Config.{Config}
 use Rattle.cast_model.specs.declared.config.DomainConfig.{DomainConfig}
 use Rattle.cast_domain.specs.declared.domain.Domain.{Domain}
 use Rattle.cast_model.specs.declared.event.Event.{Event}
+use Rattle.cast_model.specs.declared.event.Outs.{Outs}
 use Rattle.cast_model.specs.declared.event.Taken.{Taken}
 use Rattle.cast_model.specs.declared.event.Taken.TheVariants.{Nothing, Refused}
 use Rattle.cast_model.specs.Events.{domain_of}
-use Rattle.cast_domain.specs.Records.{number_of, is_halted, sessions_of}
-use Rattle.cast_history.specs.State.{State, opening, serials}
-use Rattle.cast_history.specs.Run.{IsRun}
+use Rattle.cast_domain.specs.Records.{number_of, is_halted}
+use Rattle.cast_history.specs.State.{State, opening}
+use Rattle.cast_history.specs.Run.{IsRun, entries_for}
 use Rattle.cast_model.specs.declared.log.Fault.{Fault}
 use Rattle.cast_model.specs.declared.log.Fault.TheVariants.{NoMemory, Halted, NoDomain}
 use Rattle.cast_model.specs.declared.log.Given.{Given}
@@ -64,9 +66,34 @@ named_answers d (e ∷ events) [] = []
 named_answers d (e ∷ events) (a ∷ answers) =
     if names d e then a ∷ named_answers d events answers else named_answers d events answers
 
+-- what bears the number of a domain
+abbrev pub of_domain : {A B : Type 0} → DomainNo → List (DomainNo × A × B) → List (DomainNo × A × B)
+of_domain d xs = filter (λ x. domain_eq x.0 d) xs
+
+-- the same without the number
+abbrev pub untagged : {A B : Type 0} → List (DomainNo × A × B) → List (A × B)
+untagged xs = map (λ x. (x.1, x.2)) xs
+
 -- the frames sent for a domain, each with the site that it goes to
 abbrev pub frames_of : DomainNo → List (DomainNo × SiteNo × SiteFrame) → List (SiteNo × SiteFrame)
-frames_of d frames = map (λ f. (f.1, f.2)) (filter (λ f. domain_eq f.0 d) frames)
+frames_of d frames = untagged (of_domain d frames)
+
+-- the entries pushed for a domain, each with the serial of the session that it went to
+abbrev pub pushes_of : DomainNo → List (DomainNo × ℕ × Push) → List (ℕ × Push)
+pushes_of d pushed = untagged (of_domain d pushed)
+
+-- the highest serial whose session was pushed something, 0 where none was
+abbrev pub last_serial : List (ℕ × Push) → ℕ
+last_serial [] = 0
+last_serial (x ∷ pushed) = max x.0 (last_serial pushed)
+
+-- for each serial from 1 to that one what was pushed to its session, in order
+abbrev pub by_session : List (ℕ × Push) → List (List Push)
+by_session pushed = map (entries_for pushed) (range_with_len 1 (last_serial pushed))
+
+-- the lists by session of whatever entries become those with one entry more, pushed to the session of a serial
+abbrev pub AddsEntry : ℕ → Push → List (List Push) → List (List Push) → Type 0
+AddsEntry k entry old new = (pushed : List (ℕ × Push)) → old ≡ by_session pushed → new ≡ by_session (pushed ++ (k, entry) ∷ [])
 
 -- an answer says that there was no memory to begin with
 abbrev pub lacks_memory : Result Taken Fault → Bool
@@ -75,13 +102,13 @@ lacks_memory (Err NoMemory) = true
 lacks_memory (Err (Halted d)) = false
 lacks_memory (Err NoDomain) = false
 
--- what a domain gave, where these frames were sent for it and for others
-abbrev pub given_of : List (DomainNo × SiteNo × SiteFrame) → Domain → Given
-given_of frames d =
+-- what a domain gave, where this came of events for it and for others
+abbrev pub given_of : Outs → Domain → Given
+given_of outs d =
     record {
       domain = number_of d;
-      pushes = map (λ s. s.pushed) (sessions_of d);
-      sent = frames_of (number_of d) frames;
+      pushes = by_session (pushes_of (number_of d) outs.pushed);
+      sent = frames_of (number_of d) outs.frames;
       halted = is_halted d;
     }
 
@@ -162,18 +189,19 @@ AreAnswers served events answers = AreAnswersFrom 0 served events answers
 
 -- Whole replays
 
--- what is given for a domain that was served so: up to its halt it answered and sent what a daemon does that serves it
--- alone, with its own events and no other; and where it was not halted, it pushed the same to the sessions that were opened
+-- what is given for a domain that was served so: up to its halt it answered, sent and pushed what a daemon does that serves
+-- it alone, with its own events and no other
 pub record IsServed (here : SiteNo) (events : List Event) (answers : List (Result Taken Fault)) (s : Served) (g : Given) : Type 0 where
   pub domain : g.domain ≡ s.config.domain
   pub shown : g.halted ≡ is_some s.halt
   -- none but its own event halts a domain
   pub halted : (place : ℕ) → s.halt ≡ Some place → is_own_at s.config.domain events place ≡ true
   pub taken : List Taken
+  pub pushed : List (ℕ × Push)
   pub end : State
   pub answered : named_answers s.config.domain (until s.halt events) answers ≡ map Ok (named_answers s.config.domain (taken_by s events) taken)
-  pub runs : IsRun (opening here s.config) (taken_by s events) taken g.sent end
-  pub pushes : s.halt ≡ None → g.pushes ≡ map (λ k. (end.session k).pushed) (serials end)
+  pub runs : IsRun (opening here s.config) (taken_by s events) taken g.sent pushed end
+  pub pushes : g.pushes ≡ by_session pushed
 
 -- a log is all that comes of the events: each configured domain is served, in the order of the configuration, and each
 -- event is answered by where want of memory halted domains

@@ -15,7 +15,7 @@ use Rattle.cast_model.specs.declared.event.Taken.{Taken}
 use Rattle.cast_model.specs.declared.event.Taken.TheVariants.{Nothing, Refused}
 use Rattle.cast_domain.specs.declared.shared.Shared.{Shared}
 use Rattle.cast_model.specs.Events.{domain_of}
-use Rattle.cast_domain.specs.Records.{number_of, is_halted, sessions_of, IsFor}
+use Rattle.cast_domain.specs.Records.{number_of, is_halted, IsFor}
 use Rattle.cast_domain.specs.Shared.{Part, part_of, no_part, LeavesOthers}
 use Rattle.cast_history.specs.State.{opening}
 use Rattle.cast_domain.specs.Fits.{Means}
@@ -77,10 +77,9 @@ pub record IsNew (here : SiteNo) (config : DomainConfig) (d : Domain) : Type 0 w
   pub number : number_of d ≡ config.domain
   pub running : is_halted d ≡ false
   pub placed : IsFor here config d
-  pub unused : sessions_of d ≡ []
   pub begins : is_rising group_cmp config.groups ≡ true → Means d no_part (opening here config)
 
--- what domains are lent for their steps: what they share, and where they add what they send and deliver
+-- what domains are lent for their steps: what they share, and where they add what they send, deliver and push
 pub record Lent : Type 0 where
   pub shared : Shared
   pub outs : Outs
@@ -104,7 +103,7 @@ pub record IsTaken (old : Domain) (event : Event) (taken : Taken) (new : Domain)
   pub refuses : is_halted old ≡ true → (taken ≡ Refused refusal.Halted) × (new ≡ old) × (after ≡ before)
   pub others : LeavesOthers (number_of old) before.shared after.shared
 
--- a domain finds no memory in its step: it is halted and noted, and nothing is sent or delivered
+-- a domain finds no memory in its step: it is halted and noted, and nothing is sent, delivered or pushed
 pub record IsHalting (old : Domain) (new : Domain) (before : Lent) (after : Lent) : Type 0 where
   pub number : number_of new ≡ number_of old
   pub ran : is_halted old ≡ false

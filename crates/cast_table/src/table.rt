@@ -1,12 +1,14 @@
-ghost use Rattle.std.specs.Prelude.{◌≡◌, ◌≢◌, ◌<◌, ◌≤◌, ◌+◌, ◌++◌, Err, IfOk, IfSome, None, OnErr, OnOk, length, map, true, vec_len};
+ghost use Rattle.std.specs.Prelude.{◌≡◌, ◌≢◌, ◌<◌, ◌≤◌, ◌+◌, ◌-◌, ◌++◌, [], Err, IfOk, IfSome, None, OnErr, OnOk, length, map, replicate, true, vec_len};
 ghost use Rattle.std.specs.List.{AllZip, find, insert};
+ghost use Rattle.std.specs.Option.{option_copied};
 ghost use Rattle.std.specs.Vec.{vec_capacity};
 ghost use Rattle.cast_domain.specs.Records.{number_of};
 ghost use Rattle.cast_model.specs.Events.{domain_of};
 ghost use Rattle.cast_table.specs.Tables.{AreApplied, AreTurns, IsApplied, IsAppliedTo, IsLeastOf, IsNew, IsTicked, IsTurn, IsUnchanged, NotesHalts, NotesOne, SharesNothing, answer_in_turn, by_number, domain_eq, domains_of, halted_by, lending, lent, lower, picked, place_above, place_for, place_named, stopped, without};
-ghost use Rattle.cast_table.specs.Replays.{AnswersNoDomain, IsReplay, are_distinct, frames_of, given_of, have_rising_groups, lacks_memory};
+ghost use Rattle.cast_table.specs.Replays.{AddsEntry, AnswersNoDomain, IsReplay, are_distinct, by_session, frames_of, given_of, have_rising_groups, lacks_memory, of_domain, untagged};
+ghost use Rattle.cast_table.specs.Shows.{ShowsGroups, ShowsHistory, groups_at, shown_at};
 
-use cast_domain::{Domain, Session, Shared};
+use cast_domain::{Domain, GroupShown, Shared, Shown};
 use cast_message::{Push, SiteFrame};
 use cast_model::{Config, Event, Fault, Given, Log, Outs, Taken};
 use cast_types::{DomainNo, Listed, NoMemory, SiteNo};
@@ -38,8 +40,8 @@ impl Table {
     }
 
     /// Makes the step of the domain that the event names, or, at a tick, of every domain in order of number: one that is
-    /// halted is left as it is, and where one finds no memory the others go on. What is sent and delivered, and each
-    /// domain that is halted, is added to `outs`.
+    /// halted is left as it is, and where one finds no memory the others go on. What is sent, delivered and pushed, and
+    /// each domain that is halted, is added to `outs`.
     pub fn apply(&mut self, event: &Event, outs: &mut Outs) -> Result<Taken, Fault>
         ensures applied { IsApplied result event.now (domains_of self.old) (domains_of self.new) (lent self.old outs.old) (lent self.new outs.new) }
         ensures unchanged { IsUnchanged result self.old self.new outs.old outs.new }
@@ -48,6 +50,32 @@ impl Table {
         match event.domain() {
             Some(number) => self.apply_named(number, event, outs),
             None => self.apply_to_all(event, outs),
+        }
+    }
+
+    /// What the first domain of a number shows: how much it keeps and has done, and whether it is halted. `None` where no
+    /// domain has the number.
+    pub fn show(&self, number: DomainNo) -> Option<Shown>
+        ensures shown { result ≡ shown_at number self.now }
+        ensures meant { ShowsHistory number self.now result }
+    {
+        let domain = first_of(&self.domains, number)?;
+        Some(domain.show(&self.shared))
+    }
+
+    /// What the first domain of a number shows of its groups, in the order of its configuration. `None` where no domain has
+    /// the number.
+    pub fn groups(
+        &self,
+        alloc: Global,
+        number: DomainNo,
+    ) -> Result<Option<Listed<GroupShown>>, NoMemory>
+        ensures shown { IfOk result (λ groups. groups ≡ groups_at number self.now) }
+        ensures meant { IfOk result (ShowsGroups number self.now) }
+    {
+        match first_of(&self.domains, number) {
+            Some(domain) => Ok(Some(domain.show_groups(alloc)?)),
+            None => Ok(None),
         }
     }
 
@@ -126,11 +154,18 @@ fn place_of(domains: &[Domain], number: DomainNo) -> Option<usize>
     domains.iter().position(|domain| domain.number() == number)
 }
 
+// The first domain of a number.
+fn first_of(domains: &[Domain], number: DomainNo) -> Option<&Domain>
+    ensures { option_copied result ≡ find (λ d. domain_eq (number_of d) number) domains.now }
+{
+    domains.iter().find(|domain| domain.number() == number)
+}
+
 // Takes the halted domains out, with room for so many more. `NoMemory` changes nothing.
 fn halted_with_room(outs: &mut Outs, more: usize) -> Result<Vec<DomainNo>, NoMemory>
     ensures taken { IfOk result (λ halted. halted.items ≡ outs.old.halted) }
     ensures room { IfOk result (λ halted. length halted.items + more ≤ vec_capacity halted) }
-    ensures rest { OnOk result ((outs.new.frames ≡ outs.old.frames) × (outs.new.delivered ≡ outs.old.delivered)) }
+    ensures rest { OnOk result ((outs.new.frames ≡ outs.old.frames) × (outs.new.delivered ≡ outs.old.delivered) × (outs.new.pushed ≡ outs.old.pushed)) }
     ensures err { OnErr result (outs.new ≡ outs.old) }
 {
     let empty = Listed::new(outs.halted.alloc());
@@ -208,9 +243,9 @@ fn lower(least: Option<DomainNo>, number: DomainNo) -> DomainNo
     }
 }
 
-/// Applies events one after another to a daemon that was just started. Until want of memory halts it, each domain answers
-/// and sends what it does where it is served alone, with no other event, and where nothing halts it, it pushes the same.
-/// `NoMemory` where an event finds no memory to begin with, or the log has no room.
+/// Applies events one after another to a daemon that was just started. Until want of memory halts it, each domain answers,
+/// sends and pushes what it does where it is served alone, with no other event. `NoMemory` where an event finds no memory
+/// to begin with, or the log has no room.
 pub fn replay(alloc: Global, config: Config, events: &[Event]) -> Result<Log, NoMemory>
     ensures all { IfOk result (λ log. length log.answers ≡ length events.now) }
     ensures replayed { IfOk result (λ log. are_distinct config.domains ≡ true → have_rising_groups config.domains ≡ true → IsReplay config events.now log) }
@@ -219,7 +254,7 @@ pub fn replay(alloc: Global, config: Config, events: &[Event]) -> Result<Log, No
     let mut table = Table::new(alloc, &config)?;
     let mut outs = Outs::new(alloc);
     let answers = apply_each(alloc, &mut table, events, &mut outs)?;
-    let given = given_by_all(alloc, &config, table, outs.frames.as_slice())?;
+    let given = given_by_all(alloc, &config, table, &outs)?;
     Ok(Log { answers, given })
 }
 
@@ -251,20 +286,20 @@ fn lacks_memory(answer: &Result<Taken, Fault>) -> bool
     matches!(answer, Err(Fault::NoMemory))
 }
 
-// What each domain gave, in the order of the configuration, where these frames were sent.
+// What each domain gave, in the order of the configuration, where this came of all events.
 fn given_by_all(
     alloc: Global,
     config: &Config,
     table: Table,
-    frames: &[(DomainNo, SiteNo, SiteFrame)],
+    outs: &Outs,
 ) -> Result<Listed<Given>, NoMemory>
-    ensures { IfOk result (λ given. given ≡ map (given_of frames.now) (picked config.now.domains (domains_of table))) }
+    ensures { IfOk result (λ given. given ≡ map (given_of outs.now) (picked config.now.domains (domains_of table))) }
 {
     let mut domains = table.domains;
     let mut given = Listed::new(alloc);
     for config in config.domains.as_slice() {
         if let Some(domain) = take_of(&mut domains, config.domain) {
-            given.push(given_by(alloc, domain, frames)?)?;
+            given.push(given_by(alloc, &domain, outs)?)?;
         }
     }
     Ok(given)
@@ -277,6 +312,20 @@ fn take_of(domains: &mut Vec<Domain>, number: DomainNo) -> Option<Domain>
 {
     let place = place_of(domains, number)?;
     Some(domains.remove(place))
+}
+
+// What a domain gave, where this came of all events.
+fn given_by(alloc: Global, domain: &Domain, outs: &Outs) -> Result<Given, NoMemory>
+    ensures { IfOk result (λ given. given ≡ given_of outs.now domain.now) }
+{
+    let number = domain.number();
+    let pushed = pushed_for(alloc, number, outs.pushed.as_slice())?;
+    Ok(Given {
+        domain: number,
+        pushes: by_session(alloc, pushed)?,
+        sent: sent_for(alloc, number, outs.frames.as_slice())?,
+        halted: domain.is_halted(),
+    })
 }
 
 // The frames that were sent for a domain.
@@ -296,33 +345,60 @@ fn sent_for(
     Ok(sent)
 }
 
-// What was pushed to each session.
-fn pushes_to(alloc: Global, sessions: Vec<Session>) -> Result<Listed<Listed<Push>>, NoMemory>
-    ensures { IfOk result (λ pushes. pushes ≡ map (λ s. s.pushed) sessions.items) }
+// The entries that were pushed for a domain.
+fn pushed_for(
+    alloc: Global,
+    number: DomainNo,
+    pushed: &[(DomainNo, u32, Push)],
+) -> Result<Listed<(DomainNo, u32, Push)>, NoMemory>
+    ensures { IfOk result (λ own. own ≡ of_domain number pushed.now) }
 {
-    let mut pushes = Listed::new(alloc);
-    for session in sessions {
-        pushes.push(session.pushed)?;
+    let mut own = Outs::new(alloc);
+    for (domain, serial, entry) in pushed {
+        if *domain == number {
+            own.push(*domain, *serial, entry)?;
+        }
     }
-    Ok(pushes)
+    Ok(own.pushed)
 }
 
-// What a domain gave, where these frames were sent.
-fn given_by(
+// What was pushed to each session, from serial 1 on, where these entries were pushed for a domain.
+fn by_session(
     alloc: Global,
-    domain: Domain,
-    frames: &[(DomainNo, SiteNo, SiteFrame)],
-) -> Result<Given, NoMemory>
-    ensures { IfOk result (λ given. given ≡ given_of frames.now domain) }
+    pushed: Listed<(DomainNo, u32, Push)>,
+) -> Result<Listed<Listed<Push>>, NoMemory>
+    ensures { IfOk result (λ sessions. sessions ≡ by_session (untagged pushed)) }
 {
-    let number = domain.number();
-    let halted = domain.is_halted();
-    let pushes = pushes_to(alloc, domain.into_sessions())?;
-    let sent = sent_for(alloc, number, frames)?;
-    Ok(Given {
-        domain: number,
-        pushes,
-        sent,
-        halted,
-    })
+    let mut sessions = Vec::new(alloc);
+    for (_, serial, entry) in pushed.into_vec() {
+        add_entry(alloc, &mut sessions, serial, entry)?;
+    }
+    Ok(Listed::from_vec(sessions))
+}
+
+// Adds an entry to those of its session.
+fn add_entry(
+    alloc: Global,
+    sessions: &mut Vec<Listed<Push>>,
+    serial: u32,
+    entry: Push,
+) -> Result<(), NoMemory>
+    ensures { OnOk result (AddsEntry serial entry sessions.old.items sessions.new.items) }
+{
+    reach(alloc, sessions, serial as usize)?;
+    if serial > 0 {
+        sessions[serial as usize - 1].push(entry)?;
+    }
+    Ok(())
+}
+
+// Adds empty lists until there are so many.
+fn reach(alloc: Global, sessions: &mut Vec<Listed<Push>>, len: usize) -> Result<(), NoMemory>
+    ensures { OnOk result (sessions.new.items ≡ sessions.old.items ++ replicate (len - length sessions.old.items) []) }
+{
+    let missing = len.saturating_sub(sessions.len());
+    for _more in 0..missing {
+        sessions.push(Listed::new(alloc))?;
+    }
+    Ok(())
 }

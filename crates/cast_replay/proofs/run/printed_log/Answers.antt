@@ -1,7 +1,7 @@
 use Rattle.std.proofs.Common.{◌≡◌, Ok, subst}
 use Rattle.cast_script.specs.Readings.{script_of}
+use Rattle.cast_script.proofs.Distinct.{has_distinct, has_rising}
 use Rattle.cast_table.specs.Replays.{IsReplay}
-use Rattle.cast_replay.proofs.Shown.{one_distinct, one_rising}
 use Rattle.cast_replay.proofs.run.printed_log.Goals as goal
 
 pub returns : goal.returns
@@ -17,7 +17,7 @@ returns c =
           log = log;
           replayed =
               subst (λ events. IsReplay script.config events log) c.as_slice.ensures
-              (c.in_ok-log.ensures.replayed (one_distinct script.config c.in_ok-script.ensures.valid) (one_rising script.config c.in_ok-script.ensures.valid));
+              (c.in_ok-log.ensures.replayed (has_distinct script.config c.in_ok-script.ensures.valid) (has_rising script.config c.in_ok-script.ensures.valid));
           printed = c.in_ok-print.ensures;
         },
       );

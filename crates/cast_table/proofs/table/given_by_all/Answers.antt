@@ -10,28 +10,28 @@ use Rattle.cast_table.proofs.table.given_by_all.Goals.{in-Some+in_ok-given_by+in
 
 pub loop-config-init : goal.loop-config-init
 loop-config-init c =
-    ap (λ front. front ++ map (given_of c.args.frames.now) (picked c.as_slice-config-items.result.now c.args.table.domains.items)) c.new-given.ensures
+    ap (λ front. front ++ map (given_of c.args.outs.now) (picked c.as_slice-config-items.result.now c.args.table.domains.items)) c.new-given.ensures
 
 pub loop-config-preserved : goal.loop-config-preserved
 loop-config-preserved c =
     let i = c.loop-config.config-index in
     let items = c.as_slice-config-items.result.now in
-    let frames = c.args.frames.now in
-    let more = picked_more (given_of frames) c.loop-config.given items i c.config-item.result c.loop-config.domains.items c.loop-config-test.true c.config-item.is c.take_of.result c.take_of.ensures.first in
-    let same : c.match-take_of.given ≡ c.loop-config.given ++ map (given_of frames) (option_to_list c.take_of.result) =
+    let outs = c.args.outs.now in
+    let more = picked_more (given_of outs) c.loop-config.given items i c.config-item.result c.loop-config.domains.items c.loop-config-test.true c.config-item.is c.take_of.result c.take_of.ensures.first in
+    let same : c.match-take_of.given ≡ c.loop-config.given ++ map (given_of outs) (option_to_list c.take_of.result) =
     elim c.match-take_of.branch [
       | in-Some+in_ok-given_by+in_ok-push w ↦
           w.given-is
           ∙ w.in_ok-push.ensures.ok
           ∙ ap (λ (g : Given). c.loop-config.given ++ g ∷ []) w.in_ok-given_by.ensures
-          ∙ sym (ap (λ o. c.loop-config.given ++ map (given_of frames) (option_to_list o)) w.in-Some.is)
+          ∙ sym (ap (λ o. c.loop-config.given ++ map (given_of outs) (option_to_list o)) w.in-Some.is)
       | in_default w ↦
           w.given-is
           ∙ sym (append-nil c.loop-config.given)
-          ∙ sym (ap (λ o. c.loop-config.given ++ map (given_of frames) (option_to_list o)) w.in_default.is)
+          ∙ sym (ap (λ o. c.loop-config.given ++ map (given_of outs) (option_to_list o)) w.in_default.is)
     ] in
-    ap (λ front. front ++ map (given_of frames) (picked (drop (i + 1) items) c.take_of.new.domains.items)) same
-    ∙ ap (λ rest. (c.loop-config.given ++ map (given_of frames) (option_to_list c.take_of.result)) ++ map (given_of frames) (picked (drop (i + 1) items) rest)) c.take_of.ensures.others
+    ap (λ front. front ++ map (given_of outs) (picked (drop (i + 1) items) c.take_of.new.domains.items)) same
+    ∙ ap (λ rest. (c.loop-config.given ++ map (given_of outs) (option_to_list c.take_of.result)) ++ map (given_of outs) (picked (drop (i + 1) items) rest)) c.take_of.ensures.others
     ∙ sym more
     ∙ c.loop-config.invariant
 
@@ -40,6 +40,6 @@ returns c =
     let none : drop c.loop-config.config-index c.as_slice-config-items.result.now ≡ [] =
     drop_all c.loop-config.config-index c.as_slice-config-items.result.now c.loop-config-test.false in
     sym (append-nil c.loop-config.given)
-    ∙ sym (ap (λ rest. c.loop-config.given ++ map (given_of c.args.frames.now) (picked rest c.loop-config.domains.items)) none)
+    ∙ sym (ap (λ rest. c.loop-config.given ++ map (given_of c.args.outs.now) (picked rest c.loop-config.domains.items)) none)
     ∙ c.loop-config.invariant
-    ∙ ap (λ cs. map (given_of c.args.frames.now) (picked cs c.args.table.domains.items)) c.as_slice-config-items.ensures
+    ∙ ap (λ cs. map (given_of c.args.outs.now) (picked cs c.args.table.domains.items)) c.as_slice-config-items.ensures

@@ -6,5 +6,5 @@ use Rattle.cast_table.proofs.table.given_by_all.Given as goal
 -- what was given, and what the domains that are left are to give
 abbrev pub invariant-loop-config : goal.invariant-loop-config
 invariant-loop-config l =
-    l.given ++ map (given_of l.frames) (picked (drop l.config-index l.config-items) l.domains.items)
-    ≡ map (given_of l.frames) (picked l.config-items l.fn.table.domains.items)
+    l.given ++ map (given_of l.outs) (picked (drop l.config-index l.config-items) l.domains.items)
+    ≡ map (given_of l.outs) (picked l.config-items l.fn.table.domains.items)

@@ -1,5 +1,3 @@
-use Rattle.std.proofs.Common.{ap}
-use Rattle.cast_model.specs.declared.event.Outs.{Outs}
 use Rattle.cast_table.specs.Tables.{domains_of, lent}
 use Rattle.cast_table.proofs.SoFars.{ordered, so_far_all}
 use Rattle.cast_table.proofs.Replayed.{replayed, answered_all, told_no_domain}
@@ -11,7 +9,7 @@ returns-clause-all c =
     let so_far =
     so_far_all (ordered c.args.config) c.args.events.now c.in_ok-answers.answers (lent c.in_ok-table.table c.new-outs.result) last
     (domains_of c.in_ok-table.table) (domains_of c.apply_each.new.table)
-    (ap (λ (outs : Outs). outs.frames) c.new-outs.ensures) c.in_ok-table.ensures.unshared c.in_ok-table.ensures.domains c.in_ok-answers.ensures in
+    c.new-outs.ensures c.in_ok-table.ensures.unshared c.in_ok-table.ensures.domains c.in_ok-answers.ensures in
     answered_all (ordered c.args.config) c.args.events.now c.in_ok-answers.answers last (domains_of c.apply_each.new.table) so_far
 
 pub returns-clause-replayed : goal.returns-clause-replayed
@@ -20,9 +18,9 @@ returns-clause-replayed c =
     let so_far =
     so_far_all (ordered c.args.config) c.args.events.now c.in_ok-answers.answers (lent c.in_ok-table.table c.new-outs.result) last
     (domains_of c.in_ok-table.table) (domains_of c.apply_each.new.table)
-    (ap (λ (outs : Outs). outs.frames) c.new-outs.ensures) c.in_ok-table.ensures.unshared c.in_ok-table.ensures.domains c.in_ok-answers.ensures in
+    c.new-outs.ensures c.in_ok-table.ensures.unshared c.in_ok-table.ensures.domains c.in_ok-answers.ensures in
     replayed c.args.config c.args.events.now (record { answers = c.in_ok-answers.answers; given = c.in_ok-given.given }) last
-    (domains_of c.apply_each.new.table) (rw c.as_slice.ensures at c.in_ok-given.ensures) so_far
+    (domains_of c.apply_each.new.table) c.in_ok-given.ensures so_far
 
 pub returns-clause-no_domain : goal.returns-clause-no_domain
 returns-clause-no_domain c =
@@ -30,5 +28,5 @@ returns-clause-no_domain c =
     let so_far =
     so_far_all (ordered c.args.config) c.args.events.now c.in_ok-answers.answers (lent c.in_ok-table.table c.new-outs.result) last
     (domains_of c.in_ok-table.table) (domains_of c.apply_each.new.table)
-    (ap (λ (outs : Outs). outs.frames) c.new-outs.ensures) c.in_ok-table.ensures.unshared c.in_ok-table.ensures.domains c.in_ok-answers.ensures in
+    c.new-outs.ensures c.in_ok-table.ensures.unshared c.in_ok-table.ensures.domains c.in_ok-answers.ensures in
     told_no_domain c.args.config c.args.events.now c.in_ok-answers.answers last (domains_of c.apply_each.new.table) so_far

@@ -18,8 +18,8 @@ returns-clause-applied c =
     let below : c.in-Some.place < length c.args.self.now.domains.items = rw c.deref.ensures.value at c.in-Some.ensures.within in
     let rest = c.in-Ok.ensures.rest in
     turn_applied c.args.number c.in-Some.place c.args.event.now c.args.self.now.domains.items found below c.index_mut-domain.result.now c.turn-taken.new.domain c.index_mut-domain.ensures.value c.turn-taken.result _ _ c.turn-taken.ensures.turn _ _
-    (λ i. record { shared = c.args.self.now.shared; outs = record { frames = rest.0 i; halted = c.in-Ok.ensures.taken i; delivered = rest.1 i } })
-    (λ i. record { shared = c.turn-taken.new.shared; outs = record { frames = c.turn-taken.new.outs.frames; halted = sym c.from_vec.ensures i; delivered = c.turn-taken.new.outs.delivered } })
+    (λ i. record { shared = c.args.self.now.shared; outs = record { frames = rest.0 i; halted = c.in-Ok.ensures.taken i; delivered = rest.1 i; pushed = rest.2 i } })
+    (λ i. record { shared = c.turn-taken.new.shared; outs = record { frames = c.turn-taken.new.outs.frames; halted = sym c.from_vec.ensures i; delivered = c.turn-taken.new.outs.delivered; pushed = c.turn-taken.new.outs.pushed } })
 
 pub returns-clause-halted : goal.returns-clause-halted
 returns-clause-halted c =

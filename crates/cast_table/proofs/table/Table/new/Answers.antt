@@ -19,7 +19,6 @@ loop-domain-preserved c =
       number = c.in_ok-tenant.ensures.number;
       running = c.in_ok-tenant.ensures.running;
       placed = c.in_ok-tenant.ensures.placed;
-      unused = c.in_ok-tenant.ensures.unused;
       begins = c.in_ok-tenant.ensures.begins;
     } in
     let more = put_more (IsNew c.args.config.now.site) (λ k d new. new.number) config domain is_new (take i items) domains c.loop-domain.invariant in
