@@ -1,6 +1,7 @@
 -- What a line is read as, it spells, and what it spells is read of it.
-use Rattle.std.proofs.Common.{◌≡◌, ℕ, eqb, List, [], ◌∷◌, ◌++◌, length, take, drop, map, codes, Result, Ok, Err, inl, inr, refl, sym, ap, subst, ◌∙◌, arith}
+use Rattle.std.proofs.Common.{◌≡◌, ◌≢◌, ◌<◌, ℕ, false, eqb, ltb, List, [], ◌∷◌, ◌++◌, length, take, drop, map, codes, Result, Ok, Err, inl, inr, refl, sym, ap, subst, ◌∙◌, arith}
 use Rattle.std.specs.Fmt.{decimal}
+use Rattle.std.proofs.lemmas.Bool.{lt-ltb, ltb-true}
 use Rattle.std.proofs.lemmas.List.{drop-drop, take-append-drop}
 use Rattle.std.proofs.lemmas.List.Elements.{All-contains, All-from_recursion}
 use Rattle.hex.specs.Hex.{IsBytes}
@@ -22,17 +23,19 @@ use Rattle.cast_model.specs.declared.config.DomainConfig.{DomainConfig}
 use Rattle.cast_model.specs.declared.event.Event.{Event}
 use Rattle.cast_model.specs.declared.event.Event.TheVariants as event
 use Rattle.cast_words.specs.declared.words.Reason.{Reason}
-use Rattle.cast_words.specs.declared.words.Reason.TheVariants.{WrongCount}
+use Rattle.cast_words.specs.declared.words.Reason.TheVariants.{Order, WrongCount}
 use Rattle.cast_lines.specs.declared.lines.Head.{Head}
-use Rattle.cast_lines.specs.declared.lines.Head.TheVariants.{Site, Domain, Open, Join, Leave, Cast, Abcast, Bad, Gone, Frame, Suspect, Tick}
+use Rattle.cast_lines.specs.declared.lines.Head.TheVariants.{Site, Domain, Open, Join, Leave, Cast, Abcast, Bad, Gone, Frame, Suspect, Quota, Take, Tick}
+use Rattle.cast_lines.specs.declared.lines.DomainOrEvent.{DomainOrEvent}
+use Rattle.cast_lines.specs.declared.lines.DomainOrEvent.TheVariants as said
 use Rattle.cast_lines.specs.Lines.{IsDomainAt, SpellsDomain, SpellsEvent, SpellsSite, cast_text, head_text, AreNumbers}
-use Rattle.cast_words.specs.Words.{IsSite, SpellsBytes, parted, place_texts, quota_texts}
-use Rattle.cast_lines.specs.Readings.{bad_words, behind_first, cast_words, domain_behind, domain_parts, domain_words, event_behind, frame_words, framed, gone_words, head_of, join_words, leave_words, open_words, request_parts, requested, site_behind, site_words, suspect_words, tick_words}
-use Rattle.cast_words.specs.Readings.{bytes_of, domain_of, list_words, number_of, number_within, place_words, quota_words, group_of, site_of}
+use Rattle.cast_words.specs.Words.{IsSite, SpellsBytes, is_configured, parted, place_texts, quota_texts}
+use Rattle.cast_lines.specs.Readings.{bad_words, behind_first, cast_words, domain_or_event_behind, domain_parts, domain_words, event_behind, first_event, frame_words, framed, gone_words, head_of, join_words, leave_words, next_domain, open_words, quota_event_words, request_parts, requested, site_behind, site_words, suspect_words, take_words, tick_words}
+use Rattle.cast_words.specs.Readings.{◌>>=◌, bytes_of, domain_of, list_words, number_of, number_within, place_words, quota_name_of, quota_words, group_of, site_of}
 use Rattle.cast_words.proofs.Results.{bind_ok, made_ok, ok_is, pass_ok}
 use Rattle.cast_words.proofs.Numbers.{limited_is, limited_again, number_is, number_again}
 use Rattle.cast_lines.proofs.Heads.{head_is, head_again}
-use Rattle.cast_words.proofs.Parts.{bytes_is, bytes_again, domain_is, domain_again, lists_is, lists_again, place_is, place_again, quotas_is, quotas_again, site_is, site_again, group_is, group_again}
+use Rattle.cast_words.proofs.Parts.{bytes_is, bytes_again, domain_is, domain_again, lists_is, lists_again, place_is, place_again, quota_name_is, quota_name_again, quotas_is, quotas_again, site_is, site_again, group_is, group_again}
 use Rattle.cast_types.specs.declared.names.GroupNo.{GroupNo}
 use Rattle.cast_lines.specs.declared.events.RequestParts.{RequestParts}
 
@@ -95,69 +98,73 @@ site_line_again ws s spells = rw (spells.0, head_again Site) (site_again s spell
 
 -- ---- the `domain` line
 
-domain_parts_are : (own : SiteNo) (ws : List (List ℕ)) (d : DomainConfig) → domain_parts own ws ≡ Ok d → SpellsDomain own (codes "domain" ∷ ws) d
+-- the words of a line spell one more domain behind these
+pub record SpellsNext (own : SiteNo) (before : List DomainConfig) (ws : List (List ℕ)) (d : DomainConfig) : Type 0 where
+  pub spelled : SpellsDomain own ws d
+  pub new : is_configured d.domain before ≡ false
+
+domain_parts_are : (own : SiteNo) (before : List DomainConfig) (ws : List (List ℕ)) (d : DomainConfig) → domain_parts own before ws ≡ Ok d → SpellsNext own before (codes "domain" ∷ ws) d
 unfolding domain_parts
-domain_parts_are own ws d e =
-    let place = bind_ok (place_words (take 3 ws)) _ d e in
+domain_parts_are own before ws d e =
+    let place = bind_ok (place_words before (take 3 ws)) _ d e in
     let lists = bind_ok (list_words place.0.1 own (take 4 (drop 3 ws))) _ d place.2 in
     let quotas = bind_ok (quota_words (drop 7 ws)) _ d lists.2 in
-    let p = place_is (take 3 ws) place.0 place.1 in
+    let p = place_is before (take 3 ws) place.0 place.1 in
     let l = lists_is place.0.1 own (take 4 (drop 3 ws)) lists.0 lists.1 in
     let q = quotas_is (drop 7 ws) quotas.0 quotas.1 in
     let inner : take 4 (drop 3 ws) ++ drop 7 ws ≡ drop 3 ws = rw (← drop-drop 4 3 ws) (take-append-drop 4 (drop 3 ws)) in
     let whole : take 3 ws ++ (take 4 (drop 3 ws) ++ drop 7 ws) ≡ ws = rw inner (take-append-drop 3 ws) in
     let written : ws ≡ place_texts place.0.0 place.0.1 ++ (take 4 (drop 3 ws) ++ quota_texts quotas.0) = sym whole ∙ cc (p.0, q.0) in
     let made : DomainConfig = record { domain = place.0.0; home = place.0.1; sites = lists.0.0; groups = lists.0.1; quotas = quotas.0 } in
-    subst (SpellsDomain own (codes "domain" ∷ ws)) (ok_is Reason made d quotas.2) (
-      take 4 (drop 3 ws),
-      ap (λ x. codes "domain" ∷ x) written,
-      (l.site_word, l.group_word, l.words, l.sites.spelled, l.groups.spelled),
-      record {
-        numbered = p.1;
-        few_sites = l.sites.few;
-        are_sites = l.sites.named;
-        rising = l.sites.rising;
-        has_home = l.sites.home;
-        has_own = l.sites.own;
-        few_groups = (l.groups.some, l.groups.few);
-        are_groups = l.groups.named;
-        rising_groups = l.groups.rising;
-        within = q.1;
-      },
-    )
+    subst (SpellsNext own before (codes "domain" ∷ ws)) (ok_is Reason made d quotas.2)
+    (record {
+      spelled = (
+        take 4 (drop 3 ws),
+        ap (λ x. codes "domain" ∷ x) written,
+        (l.site_word, l.group_word, l.words, l.sites.spelled, l.groups.spelled),
+        record {
+          numbered = p.1;
+          few_sites = l.sites.few;
+          are_sites = l.sites.named;
+          rising = l.sites.rising;
+          has_home = l.sites.home;
+          has_own = l.sites.own;
+          few_groups = (l.groups.some, l.groups.few);
+          are_groups = l.groups.named;
+          rising_groups = l.groups.rising;
+          within = q.1;
+        },
+      );
+      new = p.2;
+    })
 
-domain_words_are : (own : SiteNo) (ws : List (List ℕ)) (d : DomainConfig) → domain_words own ws ≡ Ok d → SpellsDomain own (codes "domain" ∷ ws) d
+domain_words_are : (own : SiteNo) (before : List DomainConfig) (ws : List (List ℕ)) (d : DomainConfig) → domain_words own before ws ≡ Ok d → SpellsNext own before (codes "domain" ∷ ws) d
 unfolding domain_words
-domain_words_are own ws d e = domain_parts_are own ws d (pass_ok (eqb (length ws) 12) WrongCount (domain_parts own ws) d e).1
+domain_words_are own before ws d e =
+    domain_parts_are own before ws d (pass_ok (eqb (length ws) 12) WrongCount (domain_parts own before ws) d e).1
 
-domain_behind_is : (own : SiteNo) (h : Head) (ws : List (List ℕ)) (d : DomainConfig) → domain_behind own h ws ≡ Ok d → SpellsDomain own (head_text h ∷ ws) d
-unfolding domain_behind
-domain_behind_is own Domain ws d e = domain_words_are own ws d e
-domain_behind_is own h ws d e = absurd cc
+next_domain_is : (own : SiteNo) (before : List DomainConfig) (ws : List (List ℕ)) (d : DomainConfig) → next_domain own before ws ≡ Ok d → SpellsNext own before (codes "domain" ∷ ws) d × (length before < 16)
+unfolding next_domain
+next_domain_is own before ws d e =
+    let passed = pass_ok (ltb (length before) 16) Order (domain_words own before ws) d e in
+    (domain_words_are own before ws d passed.1, ltb-true (length before) 16 passed.0)
 
-pub domain_line_is : (own : SiteNo) (ws : List (List ℕ)) (d : DomainConfig) → behind_first (domain_behind own) ws ≡ Ok d → SpellsDomain own ws d
-unfolding behind_first
-domain_line_is own [] d e = absurd cc
-domain_line_is own (first ∷ ws) d e =
-    let head = bind_ok (head_of first) _ d e in
-    subst (λ w. SpellsDomain own (w ∷ ws) d) (sym (head_is first head.0 head.1)) (domain_behind_is own head.0 ws d head.2)
-
-domain_words_again : (own : SiteNo) (s g : List ℕ) (d : DomainConfig) → parted 44 s ≡ map (λ x. decimal x.0) d.sites → parted 44 g ≡ map (λ x. decimal x.0) d.groups → IsDomainAt own d
-    → domain_words own (place_texts d.domain d.home ++ ((codes "sites" ∷ s ∷ codes "groups" ∷ g ∷ []) ++ quota_texts d.quotas)) ≡ Ok d
+domain_words_again : (own : SiteNo) (before : List DomainConfig) (s g : List ℕ) (d : DomainConfig) → is_configured d.domain before ≡ false → parted 44 s ≡ map (λ x. decimal x.0) d.sites → parted 44 g ≡ map (λ x. decimal x.0) d.groups → IsDomainAt own d
+    → domain_words own before (place_texts d.domain d.home ++ ((codes "sites" ∷ s ∷ codes "groups" ∷ g ∷ []) ++ quota_texts d.quotas)) ≡ Ok d
 unfolding domain_words domain_parts
-domain_words_again own s g d sites groups at =
+domain_words_again own before s g d new sites groups at =
     let home : IsSite d.home = All-contains IsSite d.sites d.home (All-from_recursion IsSite d.sites at.are_sites) at.has_home in
-    let place = place_again d.domain d.home at.numbered home in
+    let place = place_again before d.domain d.home at.numbered new home in
     let lists = lists_again d.home own s g d.sites d.groups
     (record { spelled = sites; named = at.are_sites; few = at.few_sites; rising = at.rising; home = at.has_home; own = at.has_own })
     (record { spelled = groups; named = at.are_groups; some = at.few_groups.0; few = at.few_groups.1; rising = at.rising_groups }) in
     let quotas = quotas_again d.quotas at.within in
     rw (place, lists, quotas) refl
 
-pub domain_line_again : (own : SiteNo) (ws : List (List ℕ)) (d : DomainConfig) → SpellsDomain own ws d → behind_first (domain_behind own) ws ≡ Ok d
-unfolding behind_first domain_behind
-domain_line_again own ws d (lists, words, (s, g, is, sites, groups), at) =
-    rw (words, head_again Domain, is) (domain_words_again own s g d sites groups at)
+pub domain_again_behind : (own : SiteNo) (before : List DomainConfig) (ws : List (List ℕ)) (d : DomainConfig) → SpellsDomain own ws d → is_configured d.domain before ≡ false → length before < 16 → behind_first (domain_or_event_behind own before) ws ≡ Ok (said.Domain d)
+unfolding behind_first domain_or_event_behind next_domain
+domain_again_behind own before ws d (lists, words, (s, g, is, sites, groups), at) new few =
+    rw (words, head_again Domain, is, lt-ltb (length before) 16 few, domain_words_again own before s g d new sites groups at) refl
 
 -- ---- the line of an event
 
@@ -242,6 +249,30 @@ suspect_is (w ∷ v ∷ []) e h =
     (cc (is.0, site.0), is.1, site.1))
 suspect_is ws e h = absurd cc
 
+quota_is : (ws : List (List ℕ)) (e : Event) → quota_event_words ws ≡ Ok e → SpellsEvent (codes "quota" ∷ ws) e
+unfolding quota_event_words
+quota_is (w ∷ v ∷ n ∷ []) e h =
+    let d = bind_ok (domain_of w) _ e h in
+    let name = bind_ok (quota_name_of v) _ e d.2 in
+    let is = domain_is w d.0 d.1 in
+    let named = quota_name_is v name.0 name.1 in
+    made_ok (number_within 0 4294967295 n) (λ m. event.Quota d.0 name.0 m) (SpellsEvent (codes "quota" ∷ w ∷ v ∷ n ∷ [])) e name.2 (λ m read.
+    let value = limited_is 0 4294967295 n m read in
+    (cc (is.0, named, value.0), is.1, omega (arith, value.1.1)))
+quota_is ws e h = absurd cc
+
+take_is : (ws : List (List ℕ)) (e : Event) → take_words ws ≡ Ok e → SpellsEvent (codes "take" ∷ ws) e
+unfolding take_words
+take_is (w ∷ k ∷ n ∷ []) e h =
+    let d = bind_ok (domain_of w) _ e h in
+    let serial = bind_ok (number_within 0 4294967295 k) _ e d.2 in
+    let is = domain_is w d.0 d.1 in
+    let one = limited_is 0 4294967295 k serial.0 serial.1 in
+    made_ok (number_within 0 4294967295 n) (λ m. event.Take d.0 serial.0 m) (SpellsEvent (codes "take" ∷ w ∷ k ∷ n ∷ [])) e serial.2 (λ m read.
+    let most = limited_is 0 4294967295 n m read in
+    (cc (is.0, one.0, most.0), is.1, omega (arith, one.1.1), omega (arith, most.1.1)))
+take_is ws e h = absurd cc
+
 tick_is : (ws : List (List ℕ)) (e : Event) → tick_words ws ≡ Ok e → SpellsEvent (codes "tick" ∷ ws) e
 unfolding tick_words
 tick_is (w ∷ []) e h =
@@ -263,6 +294,8 @@ event_behind_is Bad ws e h = bad_is ws e h
 event_behind_is Gone ws e h = gone_is ws e h
 event_behind_is Frame ws e h = frame_is ws e h
 event_behind_is Suspect ws e h = suspect_is ws e h
+event_behind_is Quota ws e h = quota_is ws e h
+event_behind_is Take ws e h = take_is ws e h
 event_behind_is Tick ws e h = tick_is ws e h
 
 pub event_line_is : (ws : List (List ℕ)) (e : Event) → behind_first event_behind ws ≡ Ok e → SpellsEvent ws e
@@ -282,7 +315,7 @@ request_again d k ws (request.Cast t g kind.Atomic bytes) (hex, words, are, spel
     rw (words, head_again Abcast, parts_again d k t g are, bytes_again hex bytes spells) refl
 
 pub event_line_again : (ws : List (List ℕ)) (e : Event) → SpellsEvent ws e → behind_first event_behind ws ≡ Ok e
-unfolding behind_first event_behind open_words bad_words gone_words frame_words suspect_words tick_words
+unfolding behind_first event_behind open_words bad_words gone_words frame_words suspect_words quota_event_words take_words tick_words
 event_line_again ws (event.Open d) (words, is) = rw (words, head_again Open, domain_again d is) refl
 event_line_again ws (event.Command d k (command.Request r)) spells = request_again d k ws r spells
 event_line_again ws (event.Command d k command.Bad) (words, is, small) =
@@ -292,4 +325,63 @@ event_line_again ws (event.Gone d k) (words, is, small) =
 event_line_again ws (event.Frame d s f) (hex, words, spells, is) =
     rw (words, head_again Frame, bytes_again hex (spelled_site d s f) spells, frame_again d s f is) refl
 event_line_again ws (event.Suspect d s) (words, is, named) = rw (words, head_again Suspect, domain_again d is, site_again s named) refl
+event_line_again ws (event.Quota d name n) (words, is, small) =
+    rw (words, head_again Quota, domain_again d is, quota_name_again name, limited_again 0 4294967295 n (omega arith, omega (arith, small)) (omega arith)) refl
+event_line_again ws (event.Take d k n) (words, is, serial, most) =
+    rw (words, head_again Take, domain_again d is, limited_again 0 4294967295 k (omega arith, omega (arith, serial)) (omega arith), limited_again 0 4294967295 n (omega arith, omega (arith, most)) (omega arith)) refl
 event_line_again ws (event.Tick n) (words, small) = rw (words, head_again Tick, number_again n small) refl
+
+-- ---- a line behind the `site` line and these domains
+
+-- what is known of it
+abbrev pub IsNext : SiteNo → List DomainConfig → List (List ℕ) → DomainOrEvent → Type 0
+IsNext own before ws (said.Domain d) = SpellsNext own before ws d × (length before < 16)
+IsNext own before ws (said.Event e) = SpellsEvent ws e × (before ≢ [])
+
+-- a line that begins with no `domain` is that of the first event
+pub other_behind : (own : SiteNo) (before : List DomainConfig) (h : Head) (ws : List (List ℕ)) → h ≢ Domain → domain_or_event_behind own before h ws ≡ (first_event before h ws >>= λ e. Ok (said.Event e))
+unfolding domain_or_event_behind
+other_behind own before Domain ws other = absurd (other refl)
+other_behind own before h ws other = refl
+
+first_event_is : (before : List DomainConfig) (h : Head) (ws : List (List ℕ)) (e : Event) → first_event before h ws ≡ Ok e → SpellsEvent (head_text h ∷ ws) e × (before ≢ [])
+unfolding first_event
+first_event_is [] h ws e read = absurd cc
+first_event_is (d ∷ ds) h ws e read = (event_behind_is h ws e read, λ none. cc)
+
+first_is : (own : SiteNo) (before : List DomainConfig) (h : Head) (ws : List (List ℕ)) (x : DomainOrEvent) → h ≢ Domain → domain_or_event_behind own before h ws ≡ Ok x → IsNext own before (head_text h ∷ ws) x
+first_is own before h ws x other read =
+    made_ok (first_event before h ws) (λ e. said.Event e) (IsNext own before (head_text h ∷ ws)) x (sym (other_behind own before h ws other) ∙ read) (λ e is. first_event_is before h ws e is)
+
+next_is : (own : SiteNo) (before : List DomainConfig) (h : Head) (ws : List (List ℕ)) (x : DomainOrEvent) → domain_or_event_behind own before h ws ≡ Ok x → IsNext own before (head_text h ∷ ws) x
+unfolding domain_or_event_behind
+next_is own before Domain ws x read =
+    made_ok (next_domain own before ws) (λ d. said.Domain d) (IsNext own before (codes "domain" ∷ ws)) x read (λ d is. next_domain_is own before ws d is)
+next_is own before h ws x read = first_is own before h ws x (λ same. cc) read
+
+pub domain_or_event_is : (own : SiteNo) (before : List DomainConfig) (ws : List (List ℕ)) (x : DomainOrEvent) → behind_first (domain_or_event_behind own before) ws ≡ Ok x → IsNext own before ws x
+unfolding behind_first
+domain_or_event_is own before [] x read = absurd cc
+domain_or_event_is own before (first ∷ ws) x read =
+    let head = bind_ok (head_of first) _ x read in
+    subst (λ w. IsNext own before (w ∷ ws) x) (sym (head_is first head.0 head.1)) (next_is own before head.0 ws x head.2)
+
+-- a line that spells an event is the first behind domains, of which there is one
+not_domain : (h : Head) (ws : List (List ℕ)) (e : Event) → event_behind h ws ≡ Ok e → h ≢ Domain
+unfolding event_behind
+not_domain Domain ws e read = absurd cc
+not_domain h ws e read = λ same. cc
+
+first_again : (own : SiteNo) (d : DomainConfig) (before : List DomainConfig) (h : Head) (ws : List (List ℕ)) (e : Event) → event_behind h ws ≡ Ok e → domain_or_event_behind own (d ∷ before) h ws ≡ Ok (said.Event e)
+unfolding first_event
+first_again own d before h ws e read = other_behind own (d ∷ before) h ws (not_domain h ws e read) ∙ rw read refl
+
+first_behind : (own : SiteNo) (d : DomainConfig) (before : List DomainConfig) (ws : List (List ℕ)) (e : Event) → behind_first event_behind ws ≡ Ok e → behind_first (domain_or_event_behind own (d ∷ before)) ws ≡ Ok (said.Event e)
+unfolding behind_first
+first_behind own d before [] e read = absurd cc
+first_behind own d before (first ∷ ws) e read =
+    let head = bind_ok (head_of first) _ e read in
+    rw head.1 (first_again own d before head.0 ws e head.2)
+
+pub event_again_behind : (own : SiteNo) (d : DomainConfig) (before : List DomainConfig) (ws : List (List ℕ)) (e : Event) → SpellsEvent ws e → behind_first (domain_or_event_behind own (d ∷ before)) ws ≡ Ok (said.Event e)
+event_again_behind own d before ws e spells = first_behind own d before ws e (event_line_again ws e spells)

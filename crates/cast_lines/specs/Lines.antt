@@ -15,9 +15,9 @@ use Rattle.cast_model.specs.declared.event.Event.TheVariants as event
 use Rattle.cast_types.specs.declared.names.SiteNo.{SiteNo}
 use Rattle.cast_types.specs.declared.names.GroupNo.{GroupNo}
 use Rattle.cast_lines.specs.declared.lines.Head.{Head}
-use Rattle.cast_lines.specs.declared.lines.Head.TheVariants.{Site, Domain, Open, Join, Leave, Cast, Abcast, Bad, Gone, Frame, Suspect, Tick}
+use Rattle.cast_lines.specs.declared.lines.Head.TheVariants.{Site, Domain, Open, Join, Leave, Cast, Abcast, Bad, Gone, Frame, Suspect, Quota, Take, Tick}
 use Rattle.cast_model.specs.declared.config.DomainConfig.{DomainConfig}
-use Rattle.cast_words.specs.Words.{sites_rise, groups_rise, IsBetween, IsDomain, IsSite, IsGroup, IsNumber, AreWithinLimits, parted, SpellsBytes, place_texts, SpellsLists, quota_texts}
+use Rattle.cast_words.specs.Words.{sites_rise, groups_rise, IsBetween, IsDomain, IsSite, IsGroup, IsNumber, AreWithinLimits, parted, SpellsBytes, place_texts, SpellsLists, quota_name_text, quota_texts}
 
 -- a domain within its limits, at this site
 pub record IsDomainAt (own : SiteNo) (d : DomainConfig) : Type 0 where
@@ -49,6 +49,8 @@ head_text Bad = codes "bad"
 head_text Gone = codes "gone"
 head_text Frame = codes "frame"
 head_text Suspect = codes "suspect"
+head_text Quota = codes "quota"
+head_text Take = codes "take"
 head_text Tick = codes "tick"
 
 -- the words of a line spell a site
@@ -101,4 +103,8 @@ SpellsEvent ws (event.Gone d serial) = (ws ≡ codes "gone" ∷ decimal d.0 ∷ 
 SpellsEvent ws (event.Frame d s f) =
     (hex : List ℕ) × (ws ≡ codes "frame" ∷ hex ∷ []) × SpellsBytes hex (spelled_site d s f) × IsSpelled d s f
 SpellsEvent ws (event.Suspect d site) = (ws ≡ codes "suspect" ∷ decimal d.0 ∷ decimal site.0 ∷ []) × IsDomain d × IsSite site
+SpellsEvent ws (event.Quota d name value) =
+    (ws ≡ codes "quota" ∷ decimal d.0 ∷ quota_name_text name ∷ decimal value ∷ []) × IsDomain d × IsNumber value
+SpellsEvent ws (event.Take d serial most) =
+    (ws ≡ codes "take" ∷ decimal d.0 ∷ decimal serial ∷ decimal most ∷ []) × IsDomain d × IsNumber serial × IsNumber most
 SpellsEvent ws (event.Tick now) = (ws ≡ codes "tick" ∷ decimal now ∷ []) × (now < 2 ^ 64)

@@ -1,5 +1,5 @@
 -- Reading a line, from its first word on: what it says, or the reason of its first fault.
-use Rattle.std.specs.Prelude.{ℕ, ◌==◌, bytes_eq, if◌then◌else◌, List, [], ◌∷◌, length, take, drop, Result, Ok, Err}
+use Rattle.std.specs.Prelude.{ℕ, ◌==◌, nat_lt, if◌then◌else◌, List, [], ◌∷◌, length, take, drop, Result, Ok, Err}
 use Rattle.cast_types.specs.declared.names.DomainNo.{DomainNo}
 use Rattle.cast_types.specs.declared.names.SiteNo.{SiteNo}
 use Rattle.cast_message.specs.declared.client.CastKind.{CastKind}
@@ -16,21 +16,19 @@ use Rattle.cast_model.specs.declared.event.Event.TheVariants as event
 use Rattle.cast_words.specs.declared.words.Reason.{Reason}
 use Rattle.cast_words.specs.declared.words.Reason.TheVariants.{UnknownWord, WrongCount, BadFrame, Order}
 use Rattle.cast_lines.specs.declared.lines.Head.{Head}
-use Rattle.cast_lines.specs.declared.lines.Head.TheVariants.{Site, Domain, Open, Join, Leave, Cast, Abcast, Bad, Gone, Frame, Suspect, Tick}
+use Rattle.cast_lines.specs.declared.lines.Head.TheVariants.{Site, Domain, Open, Join, Leave, Cast, Abcast, Bad, Gone, Frame, Suspect, Quota, Take, Tick}
+use Rattle.cast_lines.specs.declared.lines.DomainOrEvent.{DomainOrEvent}
+use Rattle.cast_lines.specs.declared.lines.DomainOrEvent.TheVariants as said
 use Rattle.cast_lines.specs.declared.events.RequestParts.{RequestParts}
 use Rattle.cast_lines.specs.Lines.{head_text, words_of}
-use Rattle.cast_words.specs.Readings.{◌>>=◌, number_of, number_within, domain_of, site_of, group_of, bytes_of, place_words, list_words, quota_words}
+use Rattle.cast_words.specs.Readings.{◌>>=◌, named_among, number_of, number_within, domain_of, site_of, group_of, quota_name_of, bytes_of, place_words, list_words, quota_words}
 
 abbrev pub heads : List Head
-heads = Site ∷ Domain ∷ Open ∷ Join ∷ Leave ∷ Cast ∷ Abcast ∷ Bad ∷ Gone ∷ Frame ∷ Suspect ∷ Tick ∷ []
-
-abbrev pub head_among : List Head → List ℕ → Result Head Reason
-head_among [] word = Err UnknownWord
-head_among (h ∷ hs) word = if bytes_eq word (head_text h) then Ok h else head_among hs word
+heads = Site ∷ Domain ∷ Open ∷ Join ∷ Leave ∷ Cast ∷ Abcast ∷ Bad ∷ Gone ∷ Frame ∷ Suspect ∷ Quota ∷ Take ∷ Tick ∷ []
 
 -- what the first word of a line says that the line is about
 unfoldable pub head_of : List ℕ → Result Head Reason
-head_of word = head_among heads word
+head_of word = named_among head_text heads word
 
 unfoldable pub behind_first : {A : Type 0} → (Head → List (List ℕ) → Result A Reason) → List (List ℕ) → Result A Reason
 behind_first behind [] = Err UnknownWord
@@ -50,23 +48,21 @@ site_behind head words = Err Order
 unfoldable pub site_line : List ℕ → Result SiteNo Reason
 site_line line = behind_first site_behind (words_of line)
 
--- the twelve words of a domain at this site: three for its place, four for its lists, five for its quotas
-unfoldable pub domain_parts : SiteNo → List (List ℕ) → Result DomainConfig Reason
-domain_parts own words = do
-  place ← place_words (take 3 words)
+-- the twelve words of a domain at this site, where these domains stand before: three for its place, four for its lists, five
+-- for its quotas
+unfoldable pub domain_parts : SiteNo → List DomainConfig → List (List ℕ) → Result DomainConfig Reason
+domain_parts own before words = do
+  place ← place_words before (take 3 words)
   lists ← list_words place.1 own (take 4 (drop 3 words))
   quotas ← quota_words (drop 7 words)
   Ok (record { domain = place.0; home = place.1; sites = lists.0; groups = lists.1; quotas = quotas })
 
-unfoldable pub domain_words : SiteNo → List (List ℕ) → Result DomainConfig Reason
-domain_words own words = if length words == 12 then domain_parts own words else Err WrongCount
+unfoldable pub domain_words : SiteNo → List DomainConfig → List (List ℕ) → Result DomainConfig Reason
+domain_words own before words = if length words == 12 then domain_parts own before words else Err WrongCount
 
-unfoldable pub domain_behind : SiteNo → Head → List (List ℕ) → Result DomainConfig Reason
-domain_behind own Domain words = domain_words own words
-domain_behind own head words = Err Order
-
-unfoldable pub domain_line : SiteNo → List ℕ → Result DomainConfig Reason
-domain_line own line = behind_first (domain_behind own) (words_of line)
+-- one more domain behind these, of which there are to be at most 16
+unfoldable pub next_domain : SiteNo → List DomainConfig → List (List ℕ) → Result DomainConfig Reason
+next_domain own before words = if nat_lt (length before) 16 then domain_words own before words else Err Order
 
 -- `D K TAG G`
 unfoldable pub request_parts : List ℕ → List ℕ → List ℕ → List ℕ → Result RequestParts Reason
@@ -145,6 +141,24 @@ suspect_words (domain ∷ site ∷ []) = do
   Ok (event.Suspect d s)
 suspect_words words = Err WrongCount
 
+-- `quota D NAME N`
+unfoldable pub quota_event_words : List (List ℕ) → Result Event Reason
+quota_event_words (domain ∷ name ∷ value ∷ []) = do
+  d ← domain_of domain
+  q ← quota_name_of name
+  n ← number_within 0 4294967295 value
+  Ok (event.Quota d q n)
+quota_event_words words = Err WrongCount
+
+-- `take D K N`
+unfoldable pub take_words : List (List ℕ) → Result Event Reason
+take_words (domain ∷ serial ∷ most ∷ []) = do
+  d ← domain_of domain
+  k ← number_within 0 4294967295 serial
+  n ← number_within 0 4294967295 most
+  Ok (event.Take d k n)
+take_words words = Err WrongCount
+
 -- `tick N`
 unfoldable pub tick_words : List (List ℕ) → Result Event Reason
 tick_words (moment ∷ []) = do
@@ -164,7 +178,26 @@ event_behind Bad words = bad_words words
 event_behind Gone words = gone_words words
 event_behind Frame words = frame_words words
 event_behind Suspect words = suspect_words words
+event_behind Quota words = quota_event_words words
+event_behind Take words = take_words words
 event_behind Tick words = tick_words words
 
 unfoldable pub event_line : List ℕ → Result Event Reason
 event_line line = behind_first event_behind (words_of line)
+
+-- the first event behind these domains, of which there is to be one
+unfoldable pub first_event : List DomainConfig → Head → List (List ℕ) → Result Event Reason
+first_event [] head words = Err Order
+first_event (d ∷ ds) head words = event_behind head words
+
+unfoldable pub domain_or_event_behind : SiteNo → List DomainConfig → Head → List (List ℕ) → Result DomainOrEvent Reason
+domain_or_event_behind own before Domain words = do
+  d ← next_domain own before words
+  Ok (said.Domain d)
+domain_or_event_behind own before head words = do
+  e ← first_event before head words
+  Ok (said.Event e)
+
+-- a line behind the `site` line and these domains: one more domain, or the first event
+unfoldable pub domain_or_event : SiteNo → List DomainConfig → List ℕ → Result DomainOrEvent Reason
+domain_or_event own before line = behind_first (domain_or_event_behind own before) (words_of line)

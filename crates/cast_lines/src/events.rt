@@ -1,7 +1,7 @@
 ghost use Rattle.std.specs.Prelude.{◌≡◌};
 ghost use Rattle.cast_words.specs.Words.{texts};
 ghost use Rattle.cast_words.specs.Readings.{Gives};
-ghost use Rattle.cast_lines.specs.Readings.{bad_words, cast_words, frame_words, gone_words, join_words, leave_words, open_words, request_parts, requested, suspect_words, tick_words};
+ghost use Rattle.cast_lines.specs.Readings.{bad_words, cast_words, frame_words, gone_words, join_words, leave_words, open_words, quota_event_words, request_parts, requested, suspect_words, take_words, tick_words};
 
 use bytes::Bytes;
 use cast_frame::{FrameFault, decode_site};
@@ -9,7 +9,8 @@ use cast_message::{CastKind, Command, Request};
 use cast_model::Event;
 use cast_types::{DomainNo, GroupNo};
 use cast_words::{
-    LineFault, Reason, bytes_word, domain_word, group_word, long_number, number, site_word,
+    LineFault, Reason, bytes_word, domain_word, group_word, long_number, number, quota_name_word,
+    site_word,
 };
 use std::alloc::Global;
 
@@ -160,6 +161,36 @@ pub fn suspect(words: &[&str]) -> Result<Event, Reason>
         return Err(Reason::WrongCount);
     };
     Ok(Event::Suspect(domain_word(domain)?, site_word(site)?))
+}
+
+/// `quota D NAME N`, from the second word on
+#[tactic(auto, unfolding(crate::specs::Readings::quota_event_words))]
+pub fn quota(words: &[&str]) -> Result<Event, Reason>
+    ensures { result ≡ quota_event_words (texts words.now) }
+{
+    let [domain, name, value] = words else {
+        return Err(Reason::WrongCount);
+    };
+    Ok(Event::Quota {
+        domain: domain_word(domain)?,
+        name: quota_name_word(name)?,
+        value: number(value)?,
+    })
+}
+
+/// `take D K N`, from the second word on
+#[tactic(auto, unfolding(crate::specs::Readings::take_words))]
+pub fn take(words: &[&str]) -> Result<Event, Reason>
+    ensures { result ≡ take_words (texts words.now) }
+{
+    let [domain, serial, most] = words else {
+        return Err(Reason::WrongCount);
+    };
+    Ok(Event::Take {
+        domain: domain_word(domain)?,
+        serial: number(serial)?,
+        most: number(most)?,
+    })
 }
 
 /// `tick N`, from the second word on

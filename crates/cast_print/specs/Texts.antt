@@ -95,6 +95,7 @@ given_text site g =
 abbrev pub taken_line : ℕ → Taken → List ℕ
 taken_line n taken.Nothing = []
 taken_line n (taken.Opened serial) = []
+taken_line n (taken.Entries entries) = []
 taken_line n (taken.Refused r) =
     codes "event " ++ (decimal n ++ (codes " refused " ++ (decimal (refusal_code r) ++ line_feed)))
 

@@ -44,7 +44,7 @@ fn print_answer(
             let code = refusal.number();
             writeln!(text, "event {number} refused {code}")
         }
-        Ok(Taken::Nothing | Taken::Opened(_)) => Ok(()),
+        Ok(Taken::Nothing | Taken::Opened(_) | Taken::Entries(_)) => Ok(()),
         Err(Fault::NoDomain) => writeln!(text, "event {number} no domain"),
         Err(Fault::NoMemory | Fault::Halted(_)) => Ok(()),
     }

@@ -1,2 +1,3 @@
+pub mod Distinct
 pub mod Lines
 pub mod Spelled

@@ -1,5 +1,5 @@
 -- Reading a script from its bytes: what it says, or the line of its first fault with the reason.
-use Rattle.std.specs.Prelude.{◌≡◌, ℕ, ◌+◌, ◌==◌, if◌then◌else◌, List, [], ◌∷◌, length, filter, Result, Ok, Err}
+use Rattle.std.specs.Prelude.{◌≡◌, ℕ, ◌+◌, ◌==◌, if◌then◌else◌, List, [], ◌∷◌, ◌++◌, length, filter, Result, Ok, Err}
 use Rattle.cast_types.specs.declared.names.SiteNo.{SiteNo}
 use Rattle.cast_model.specs.declared.config.DomainConfig.{DomainConfig}
 use Rattle.cast_model.specs.declared.event.Event.{Event}
@@ -7,6 +7,8 @@ use Rattle.cast_words.specs.declared.words.Reason.{Reason}
 use Rattle.cast_words.specs.declared.words.Reason.TheVariants.{Order}
 use Rattle.cast_words.specs.declared.words.LineFault.{LineFault}
 use Rattle.cast_words.specs.declared.words.LineFault.TheVariants as fault
+use Rattle.cast_lines.specs.declared.lines.DomainOrEvent.{DomainOrEvent}
+use Rattle.cast_lines.specs.declared.lines.DomainOrEvent.TheVariants as said
 use Rattle.cast_script.specs.declared.script.Script.{Script}
 use Rattle.cast_script.specs.declared.script.ScriptFault.{ScriptFault}
 use Rattle.cast_script.specs.declared.script.ScriptFault.TheVariants as script
@@ -14,7 +16,7 @@ use Rattle.cast_script.specs.declared.script.Line.{Line}
 use Rattle.cast_script.specs.Scripts.{is_used}
 use Rattle.cast_words.specs.Words.{parted}
 use Rattle.cast_words.specs.Readings.{◌>>=◌, each}
-use Rattle.cast_lines.specs.Readings.{site_line, domain_line, event_line}
+use Rattle.cast_lines.specs.Readings.{site_line, domain_or_event, event_line}
 
 -- what a function returned of lines is what reading gives, unless memory ran out; a fault has the number of its line
 abbrev pub GivesAt : {X : Type 0} → Result X ScriptFault → Result X (ℕ × Reason) → Type 0
@@ -57,26 +59,45 @@ at_line n (Err reason) = Err (n, reason)
 unfoldable pub site_at : Numbered → Result SiteNo (ℕ × Reason)
 site_at l = at_line l.0 (site_line l.1)
 
-unfoldable pub domain_at : SiteNo → Numbered → Result DomainConfig (ℕ × Reason)
-domain_at own l = at_line l.0 (domain_line own l.1)
+unfoldable pub domain_or_event_at : SiteNo → List DomainConfig → Numbered → Result DomainOrEvent (ℕ × Reason)
+domain_or_event_at own before l = at_line l.0 (domain_or_event own before l.1)
 
 unfoldable pub event_at : Numbered → Result Event (ℕ × Reason)
 event_at l = at_line l.0 (event_line l.1)
 
--- the domain, and then the events
-unfoldable pub domain_on : SiteNo → ℕ → List Numbered → Result Script (ℕ × Reason)
-domain_on site end [] = Err (end, Order)
-domain_on site end (line ∷ lines) = do
-  domain ← domain_at site line
+-- a script of these domains with no events; there is to be a domain
+unfoldable pub no_events : SiteNo → ℕ → List DomainConfig → Result Script (ℕ × Reason)
+no_events site end [] = Err (end, Order)
+no_events site end (d ∷ ds) = Ok (record { config = record { site = site; domains = d ∷ ds }; events = [] })
+
+-- the first event, and those of the lines behind its own
+abbrev pub events_from : Event → List Numbered → Result (List Event) (ℕ × Reason)
+events_from first lines = do
   events ← each event_at lines
-  Ok (record { config = record { site = site; domains = domain ∷ [] }; events = events })
+  Ok (first ∷ events)
+
+-- a script of these domains, of which this is the first event
+unfoldable pub events_on : SiteNo → List DomainConfig → Event → List Numbered → Result Script (ℕ × Reason)
+events_on site domains first lines = do
+  events ← events_from first lines
+  Ok (record { config = record { site = site; domains = domains }; events = events })
+
+-- the domains behind these, and then the events
+unfoldable pub domains_on : SiteNo → ℕ → List DomainConfig → List Numbered → Result Script (ℕ × Reason)
+domains_on site end before [] = no_events site end before
+domains_on site end before (line ∷ lines) = do
+  next ← domain_or_event_at site before line
+  elim next [
+    | said.Domain d ↦ domains_on site end (before ++ d ∷ []) lines
+    | said.Event e ↦ events_on site before e lines
+  ]
 
 -- the site, and then the rest
 unfoldable pub site_on : ℕ → List Numbered → Result Script (ℕ × Reason)
 site_on end [] = Err (end, Order)
 site_on end (line ∷ lines) = do
   site ← site_at line
-  domain_on site end lines
+  domains_on site end [] lines
 
 -- the script that a text is, or the number of the first line with a fault, from 1 on, and the reason
 unfoldable pub script_of : List ℕ → Result Script (ℕ × Reason)

@@ -1,12 +1,11 @@
-ghost use Rattle.std.specs.Prelude.{◌≡◌, IfOk, filter, map};
+ghost use Rattle.std.specs.Prelude.{◌≡◌, [], IfOk, filter, map};
 ghost use Rattle.cast_words.specs.Words.{parted, texts};
-ghost use Rattle.cast_words.specs.Readings.{each};
-ghost use Rattle.cast_script.specs.Scripts.{HasOneDomain, is_used as is_used_text};
-ghost use Rattle.cast_script.specs.Readings.{GivesAt, domain_at, domain_on, end_after, event_at, fault_at, numbered_line, script_of, site_at, site_on, used_of};
+ghost use Rattle.cast_script.specs.Scripts.{HasDomains, is_used as is_used_text};
+ghost use Rattle.cast_script.specs.Readings.{GivesAt, domain_or_event_at, domains_on, end_after, event_at, events_from, events_on, fault_at, no_events, numbered_line, script_of, site_at, site_on, used_of};
 ghost use Rattle.cast_words.specs.declared.words.Reason.TheVariants.{Order};
 ghost use Rattle.cast_script.specs.declared.script.ScriptFault.TheVariants.{At, NoMemory};
 
-use cast_lines::{domain_line, event_line, site_line};
+use cast_lines::{DomainOrEvent, domain_or_event, event_line, site_line};
 use cast_model::{Config, DomainConfig, Event};
 use cast_types::{Listed, NoMemory, SiteNo};
 use cast_words::{LineFault, Reason};
@@ -68,15 +67,16 @@ impl Line<'_> {
     }
 }
 
-/// Reads a script: one `site` line, one `domain` line, then the events.
+/// Reads a script: one `site` line, 1 to 16 `domain` lines with different numbers, then the events.
 ///
 /// The fault is the first of the first line that has one: its first word, its place, the count of its words, and then its
-/// words from left to right. `NoMemory` comes where an allocation was refused, and says nothing of the text.
+/// words from left to right. A script that ends before a `domain` line has the fault `Order` at the line behind its last.
+/// `NoMemory` comes where an allocation was refused, and says nothing of the text.
 pub fn parse(alloc: Global, text: &str) -> Result<Script, ScriptFault>
     // Which script, or the line of the first fault with the reason.
     ensures exact { GivesAt result (script_of text.now) }
-    // The daemon has one domain, within its limits.
-    ensures valid { IfOk result (λ s. HasOneDomain s.config) }
+    // The daemon has 1 to 16 domains, each within its limits, and their numbers are all different.
+    ensures valid { IfOk result (λ s. HasDomains s.config) }
 {
     let lines = lines_of(alloc, text)?;
     let used = used_lines(alloc, &lines)?;
@@ -92,28 +92,66 @@ fn parse_lines(alloc: Global, lines: &[Line<'_>], end: usize) -> Result<Script, 
         return Err(missing(end));
     };
     let site = site_at(alloc, line)?;
-    parse_domain(alloc, lines, site, end)
+    parse_domains(alloc, lines, site, end)
 }
 
 // Reads a script of this site from the used lines behind its first.
-#[tactic(auto, unfolding(crate::specs::Readings::domain_on))]
-fn parse_domain(
+#[tactic(auto, unfolding(crate::specs::Readings::domains_on))]
+fn parse_domains(
     alloc: Global,
     lines: &[Line<'_>],
     site: SiteNo,
     end: usize,
 ) -> Result<Script, ScriptFault>
-    ensures { GivesAt result (domain_on site end (map numbered_line lines.now)) }
+    ensures { GivesAt result (domains_on site end [] (map numbered_line lines.now)) }
 {
-    let [line, lines @ ..] = lines else {
-        return Err(missing(end));
-    };
-    let domain = domain_at(alloc, line, site)?;
     let mut domains = Listed::new(alloc);
-    domains.push(domain)?;
-    let config = Config { site, domains };
-    let events = event_lines(alloc, lines)?;
-    Ok(Script { config, events })
+    for (index, line) in lines.iter().enumerate() {
+        match domain_or_event_at(alloc, line, site, domains.as_slice())? {
+            DomainOrEvent::Domain(domain) => domains.push(domain)?,
+            DomainOrEvent::Event(first) => {
+                return parse_events(alloc, &lines[index + 1..], site, domains, first);
+            }
+        }
+    }
+    eventless(alloc, site, domains, end)
+}
+
+// A script of these domains whose lines end with them.
+#[tactic(auto, unfolding(crate::specs::Readings::no_events))]
+fn eventless(
+    alloc: Global,
+    site: SiteNo,
+    domains: Listed<DomainConfig>,
+    end: usize,
+) -> Result<Script, ScriptFault>
+    ensures { GivesAt result (no_events site end domains) }
+{
+    if domains.is_empty() {
+        return Err(missing(end));
+    }
+    Ok(Script {
+        config: Config { site, domains },
+        events: Listed::new(alloc),
+    })
+}
+
+// Reads a script of these domains from the used lines behind its first event.
+#[tactic(auto, unfolding(crate::specs::Readings::events_on))]
+fn parse_events(
+    alloc: Global,
+    lines: &[Line<'_>],
+    site: SiteNo,
+    domains: Listed<DomainConfig>,
+    first: Event,
+) -> Result<Script, ScriptFault>
+    ensures { GivesAt result (events_on site domains first (map numbered_line lines.now)) }
+{
+    let events = events_from(alloc, first, lines)?;
+    Ok(Script {
+        config: Config { site, domains },
+        events,
+    })
 }
 
 // The lines end too early.
@@ -137,13 +175,18 @@ fn site_at(alloc: Global, line: &Line<'_>) -> Result<SiteNo, ScriptFault>
     }
 }
 
-// The domain of a line, at this site.
-#[tactic(auto, using(crate::proofs::Lines::fault_gives), unfolding(crate::specs::Readings::domain_at))]
-fn domain_at(alloc: Global, line: &Line<'_>, own: SiteNo) -> Result<DomainConfig, ScriptFault>
-    ensures { GivesAt result (domain_at own (numbered_line line.now)) }
+// One more domain at this site, or the first event, of a line behind these domains.
+#[tactic(auto, using(crate::proofs::Lines::fault_gives), unfolding(crate::specs::Readings::domain_or_event_at))]
+fn domain_or_event_at(
+    alloc: Global,
+    line: &Line<'_>,
+    own: SiteNo,
+    before: &[DomainConfig],
+) -> Result<DomainOrEvent, ScriptFault>
+    ensures { GivesAt result (domain_or_event_at own before.now (numbered_line line.now)) }
 {
-    match domain_line(alloc, line.text, own) {
-        Ok(domain) => Ok(domain),
+    match domain_or_event(alloc, line.text, own, before) {
+        Ok(next) => Ok(next),
         Err(fault) => Err(line.fault(fault)),
     }
 }
@@ -159,11 +202,16 @@ fn event_at(alloc: Global, line: &Line<'_>) -> Result<Event, ScriptFault>
     }
 }
 
-// The event of each line.
-fn event_lines(alloc: Global, lines: &[Line<'_>]) -> Result<Listed<Event>, ScriptFault>
-    ensures { GivesAt result (each event_at (map numbered_line lines.now)) }
+// The first event, and that of each line.
+fn events_from(
+    alloc: Global,
+    first: Event,
+    lines: &[Line<'_>],
+) -> Result<Listed<Event>, ScriptFault>
+    ensures { GivesAt result (events_from first (map numbered_line lines.now)) }
 {
     let mut events = Listed::new(alloc);
+    events.push(first)?;
     for line in lines {
         events.push(event_at(alloc, line)?)?;
     }

@@ -1,4 +1,5 @@
 pub mod Results
 pub mod Each
 pub mod Numbers
+pub mod Named
 pub mod Parts

@@ -1,5 +1,5 @@
 -- What a word or a part of a line is read as, it spells, and what it spells is read of it.
-use Rattle.std.proofs.Common.{◌≡◌, ℕ, ◌≤◌, true, false, ltb, eqb, ◌&&◌, ◌||◌, bytes_eq, Decides, List, [], ◌∷◌, length, get_or, codes, Contains, Result, Ok, Err, inl, inr, IsTrue, refl, sym, ap, subst, ◌∙◌, arith}
+use Rattle.std.proofs.Common.{◌≡◌, ◌≢◌, ℕ, ◌≤◌, true, false, cond, ltb, eqb, ◌&&◌, ◌||◌, bytes_eq, Decides, List, [], ◌∷◌, length, get_or, codes, Contains, Result, Ok, Err, inl, inr, IsTrue, refl, sym, ap, subst, ◌∙◌, arith}
 use Rattle.std.specs.Borrow.{Bor}
 use Rattle.std.specs.Fmt.{decimal}
 use Rattle.std.specs.List.{AllByRecursion, list_any}
@@ -14,13 +14,17 @@ use Rattle.cast_types.specs.declared.names.DomainNo.{DomainNo}
 use Rattle.cast_types.specs.declared.names.SiteNo.{SiteNo}
 use Rattle.cast_types.specs.declared.names.GroupNo.{GroupNo}
 use Rattle.cast_types.specs.Names.{site_eq}
-use Rattle.cast_model.specs.declared.config.Quotas.{Quotas}
+use Rattle.cast_quota.specs.declared.quotas.Quotas.{Quotas}
+use Rattle.cast_quota.specs.declared.quotas.QuotaName.{QuotaName}
+use Rattle.cast_quota.specs.declared.quotas.QuotaName.TheVariants as name
+use Rattle.cast_model.specs.declared.config.DomainConfig.{DomainConfig}
 use Rattle.cast_words.specs.declared.words.Reason.{Reason}
 use Rattle.cast_words.specs.declared.words.Reason.TheVariants.{UnknownWord, BadNumber, BadHex, Order}
-use Rattle.cast_words.specs.Words.{AreWithinLimits, IsDomain, IsGroup, IsSite, SpellsBytes, SpellsGroups, SpellsSites, groups_rise, parted, place_texts, quota_texts, sites_rise, texts}
-use Rattle.cast_words.specs.Readings.{bytes_of, checked_groups, checked_sites, decoded, domain_of, each, fixed_of, group_of, groups_of, list_words, number_within, place_words, quota_words, site_of, sites_of}
+use Rattle.cast_words.specs.Words.{AreWithinLimits, IsDomain, IsGroup, IsSite, SpellsBytes, SpellsGroups, SpellsSites, groups_rise, is_configured, parted, place_texts, quota_name_text, quota_texts, sites_rise, texts}
+use Rattle.cast_words.specs.Readings.{bytes_of, checked_groups, checked_sites, decoded, domain_of, each, fixed_of, group_of, groups_of, list_words, new_domain_of, number_within, place_words, quota_name_of, quota_names, quota_words, site_of, sites_of}
 use Rattle.cast_words.proofs.Results.{bind_ok, guard_ok, made_ok, ok_is, pass_ok}
 use Rattle.cast_words.proofs.Each.{each_read, each_again}
+use Rattle.cast_words.proofs.Named.{among_is, none_among}
 use Rattle.cast_words.proofs.Numbers.{limited_is, limited_again}
 
 -- ---- names
@@ -32,6 +36,25 @@ domain_is w d e = made_ok {A = ℕ} {B = DomainNo} (number_within 1 255 w) (λ n
 pub domain_again : (d : DomainNo) → IsDomain d → domain_of (decimal d.0) ≡ Ok d
 unfolding domain_of
 domain_again d is = rw (limited_again 1 255 d.0 is (omega arith)) refl
+
+-- a number that none of these has
+new_is : (before : List DomainConfig) (d e : DomainNo) → cond (is_configured d before) (Err Order) (Ok d) ≡ Ok e → (d ≡ e) × (is_configured e before ≡ false)
+new_is before d e h =
+    let passed = guard_ok (is_configured d before) Order (Ok d) e h in
+    let same = ok_is Reason d e passed.1 in
+    (same, subst (λ x. is_configured x before ≡ false) same passed.0)
+
+pub new_domain_is : (before : List DomainConfig) (w : List ℕ) (d : DomainNo) → new_domain_of before w ≡ Ok d → (w ≡ decimal d.0) × IsDomain d × (is_configured d before ≡ false)
+unfolding new_domain_of
+new_domain_is before w d e =
+    let read = bind_ok (domain_of w) _ d e in
+    let fresh = new_is before read.0 d read.2 in
+    let is = domain_is w read.0 read.1 in
+    (subst (λ x. w ≡ decimal x.0) fresh.0 is.0, subst IsDomain fresh.0 is.1, fresh.1)
+
+pub new_domain_again : (before : List DomainConfig) (d : DomainNo) → IsDomain d → is_configured d before ≡ false → new_domain_of before (decimal d.0) ≡ Ok d
+unfolding new_domain_of
+new_domain_again before d is fresh = rw (domain_again d is, fresh) refl
 
 pub site_is : (w : List ℕ) (s : SiteNo) → site_of w ≡ Ok s → (w ≡ decimal s.0) × IsSite s
 unfolding site_of
@@ -146,6 +169,23 @@ groups_again w groups are =
     let read : each group_of (parted 44 w) ≡ Ok groups = ap (each group_of) are.spelled ∙ each_again group_of (λ g. decimal g.0) IsGroup group_again groups are.named in
     rw read (counted_again groups are.some are.few are.rising)
 
+-- ---- names of quotas
+
+pub quota_name_is : (w : List ℕ) (n : QuotaName) → quota_name_of w ≡ Ok n → w ≡ quota_name_text n
+unfolding quota_name_of
+quota_name_is w n e = among_is quota_name_text quota_names w n e
+
+pub quota_name_again : (n : QuotaName) → quota_name_of (quota_name_text n) ≡ Ok n
+unfolding quota_name_of
+quota_name_again name.Sessions = refl
+quota_name_again name.Held = refl
+quota_name_again name.Outbox = refl
+quota_name_again name.Resend = refl
+
+pub quota_name_not : (w : List ℕ) → ((n : QuotaName) → w ≢ quota_name_text n) → quota_name_of w ≡ Err UnknownWord
+unfolding quota_name_of
+quota_name_not w none = none_among quota_name_text quota_names w none
+
 -- ---- fixed words and bytes
 
 pub fixed_is : (fixed w : List ℕ) (u : Unit {0}) → fixed_of fixed w ≡ Ok u → w ≡ fixed
@@ -191,22 +231,24 @@ bytes_again w bytes (inr digits) =
 
 -- ---- parts of a `domain` line
 
-pub place_is : (ws : List (List ℕ)) (r : DomainNo × SiteNo) → place_words ws ≡ Ok r → (ws ≡ place_texts r.0 r.1) × IsDomain r.0 × IsSite r.1
+pub place_is : (before : List DomainConfig) (ws : List (List ℕ)) (r : DomainNo × SiteNo) → place_words before ws ≡ Ok r
+    → (ws ≡ place_texts r.0 r.1) × IsDomain r.0 × (is_configured r.0 before ≡ false) × IsSite r.1
 unfolding place_words
-place_is (d ∷ h ∷ s ∷ []) r e =
-    let domain = bind_ok (domain_of d) _ r e in
+place_is before (d ∷ h ∷ s ∷ []) r e =
+    let domain = bind_ok (new_domain_of before d) _ r e in
     let named = bind_ok (fixed_of (codes "home") h) _ r domain.2 in
     let home = bind_ok (site_of s) _ r named.2 in
-    let a = domain_is d domain.0 domain.1 in
+    let a = new_domain_is before d domain.0 domain.1 in
     let b = fixed_is (codes "home") h named.0 named.1 in
     let c = site_is s home.0 home.1 in
-    subst (λ r. (d ∷ h ∷ s ∷ [] ≡ place_texts r.0 r.1) × IsDomain r.0 × IsSite r.1) (ok_is Reason (domain.0, home.0) r home.2)
-    (cc (a.0, b, c.0), a.1, c.1)
-place_is ws r e = absurd cc
+    subst (λ r. (d ∷ h ∷ s ∷ [] ≡ place_texts r.0 r.1) × IsDomain r.0 × (is_configured r.0 before ≡ false) × IsSite r.1) (ok_is Reason (domain.0, home.0) r home.2)
+    (cc (a.0, b, c.0), a.1, a.2, c.1)
+place_is before ws r e = absurd cc
 
-pub place_again : (d : DomainNo) (s : SiteNo) → IsDomain d → IsSite s → place_words (place_texts d s) ≡ Ok (d, s)
+pub place_again : (before : List DomainConfig) (d : DomainNo) (s : SiteNo) → IsDomain d → is_configured d before ≡ false → IsSite s → place_words before (place_texts d s) ≡ Ok (d, s)
 unfolding place_words
-place_again d s is_d is_s = rw (domain_again d is_d, fixed_again (codes "home"), site_again s is_s) refl
+place_again before d s is_d fresh is_s =
+    rw (new_domain_again before d is_d fresh, fixed_again (codes "home"), site_again s is_s) refl
 
 -- what is known of the lists of a domain
 pub record AreLists (h o : SiteNo) (ws : List (List ℕ)) (ss : List SiteNo) (gs : List GroupNo) : Type 0 where

@@ -9,12 +9,15 @@ use Rattle.cast_types.specs.declared.names.DomainNo.{DomainNo}
 use Rattle.cast_types.specs.declared.names.SiteNo.{SiteNo}
 use Rattle.cast_types.specs.declared.names.GroupNo.{GroupNo}
 use Rattle.cast_types.specs.Names.{site_eq}
-use Rattle.cast_model.specs.declared.config.Quotas.{Quotas}
+use Rattle.cast_quota.specs.declared.quotas.Quotas.{Quotas}
+use Rattle.cast_quota.specs.declared.quotas.QuotaName.{QuotaName}
+use Rattle.cast_quota.specs.declared.quotas.QuotaName.TheVariants as name
+use Rattle.cast_model.specs.declared.config.DomainConfig.{DomainConfig}
 use Rattle.cast_words.specs.declared.words.Reason.{Reason}
 use Rattle.cast_words.specs.declared.words.Reason.TheVariants.{UnknownWord, WrongCount, BadNumber, BadHex, Order}
 use Rattle.cast_words.specs.declared.words.LineFault.{LineFault}
 use Rattle.cast_words.specs.declared.words.LineFault.TheVariants as fault
-use Rattle.cast_words.specs.Words.{groups_rise, parted, sites_rise}
+use Rattle.cast_words.specs.Words.{groups_rise, is_configured, parted, quota_name_text, sites_rise}
 
 infixl 10 ◌>>=◌
 abbrev pub ◌>>=◌ : {A B E : Type 0} → Result A E → (A → Result B E) → Result B E
@@ -62,6 +65,12 @@ domain_of word = do
   n ← number_within 1 255 word
   Ok (record { 0 = n })
 
+-- the number of a domain that none of these has
+unfoldable pub new_domain_of : List DomainConfig → List ℕ → Result DomainNo Reason
+new_domain_of before word = do
+  d ← domain_of word
+  if is_configured d before then Err Order else Ok d
+
 unfoldable pub site_of : List ℕ → Result SiteNo Reason
 site_of word = do
   n ← number_within 1 65535 word
@@ -96,6 +105,18 @@ groups_of word = do
   groups ← each group_of (parted 44 word)
   checked_groups groups
 
+-- which of these a word names
+abbrev pub named_among : {A : Type 0} → (A → List ℕ) → List A → List ℕ → Result A Reason
+named_among text [] word = Err UnknownWord
+named_among text (x ∷ xs) word = if bytes_eq word (text x) then Ok x else named_among text xs word
+
+abbrev pub quota_names : List QuotaName
+quota_names = name.Sessions ∷ name.Held ∷ name.Outbox ∷ name.Resend ∷ []
+
+-- the quota that a word names
+unfoldable pub quota_name_of : List ℕ → Result QuotaName Reason
+quota_name_of word = named_among quota_name_text quota_names word
+
 -- a word that has to stand at its place
 unfoldable pub fixed_of : List ℕ → List ℕ → Result (Unit {0}) Reason
 fixed_of fixed word = if bytes_eq word fixed then Ok tt else Err UnknownWord
@@ -111,14 +132,14 @@ bytes_of word =
     else if length word == 0 then Err BadHex
     else decoded (decode_of word)
 
--- `D home S`
-unfoldable pub place_words : List (List ℕ) → Result (DomainNo × SiteNo) Reason
-place_words (domain ∷ home_is ∷ home ∷ []) = do
-  d ← domain_of domain
+-- `D home S`, where these domains stand before
+unfoldable pub place_words : List DomainConfig → List (List ℕ) → Result (DomainNo × SiteNo) Reason
+place_words before (domain ∷ home_is ∷ home ∷ []) = do
+  d ← new_domain_of before domain
   named ← fixed_of (codes "home") home_is
   s ← site_of home
   Ok (d, s)
-place_words words = Err WrongCount
+place_words before words = Err WrongCount
 
 -- `sites S,.. groups G,..`
 unfoldable pub list_words : SiteNo → SiteNo → List (List ℕ) → Result (List SiteNo × List GroupNo) Reason

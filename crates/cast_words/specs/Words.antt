@@ -1,13 +1,16 @@
 -- What words of a script spell.
 use Rattle.std.specs.Prelude.{◌≡◌, ◌≢◌, ◌<◌, ◌≤◌, ◌^◌, ◌⊎◌, ℕ, Bool, true, ◌&&◌, ◌==◌, nat_lt, List, [], ◌∷◌, map, codes, Ok}
 use Rattle.std.specs.Borrow.{Bor}
-use Rattle.std.specs.List.{slice_split}
+use Rattle.std.specs.List.{list_any, slice_split}
 use Rattle.std.specs.Fmt.{decimal}
 use Rattle.hex.specs.Hex.{decode_of}
 use Rattle.cast_types.specs.declared.names.DomainNo.{DomainNo}
 use Rattle.cast_types.specs.declared.names.SiteNo.{SiteNo}
 use Rattle.cast_types.specs.declared.names.GroupNo.{GroupNo}
-use Rattle.cast_model.specs.declared.config.Quotas.{Quotas}
+use Rattle.cast_quota.specs.declared.quotas.Quotas.{Quotas}
+use Rattle.cast_quota.specs.declared.quotas.QuotaName.{QuotaName}
+use Rattle.cast_quota.specs.declared.quotas.QuotaName.TheVariants as name
+use Rattle.cast_model.specs.declared.config.DomainConfig.{DomainConfig}
 
 -- each item's number is above that of the one before it, and the first above n
 abbrev pub rises_from : {A : Type 0} → (A → ℕ) → ℕ → List A → Bool
@@ -29,13 +32,17 @@ IsBetween least most n = (least ≤ n) × (n ≤ most)
 abbrev pub IsDomain : DomainNo → Type 0
 IsDomain d = IsBetween 1 255 d.0
 
+-- a domain of this number is among these
+abbrev pub is_configured : DomainNo → List DomainConfig → Bool
+is_configured d configs = list_any (λ c. c.domain.0 == d.0) configs
+
 abbrev pub IsSite : SiteNo → Type 0
 IsSite s = IsBetween 1 65535 s.0
 
 abbrev pub IsGroup : GroupNo → Type 0
 IsGroup g = IsBetween 1 65535 g.0
 
--- the serial of a session or the tag of a request
+-- the serial of a session, the tag of a request, the value of a quota, or how many entries are taken
 abbrev pub IsNumber : ℕ → Type 0
 IsNumber n = n < 2 ^ 32
 
@@ -65,6 +72,13 @@ SpellsSites word sites = parted 44 word ≡ map (λ s. decimal s.0) sites
 -- a word spells groups, parted by commas
 abbrev pub SpellsGroups : List ℕ → List GroupNo → Type 0
 SpellsGroups word groups = parted 44 word ≡ map (λ g. decimal g.0) groups
+
+-- the word that names a quota
+abbrev pub quota_name_text : QuotaName → List ℕ
+quota_name_text name.Sessions = codes "sessions"
+quota_name_text name.Held = codes "held"
+quota_name_text name.Outbox = codes "outbox"
+quota_name_text name.Resend = codes "resend"
 
 -- the words that name a domain and its home
 abbrev pub place_texts : DomainNo → SiteNo → List (List ℕ)

@@ -1,27 +1,48 @@
 ghost use Rattle.std.specs.Prelude.{◌≡◌};
-ghost use Rattle.cast_words.specs.Words.{texts};
-ghost use Rattle.cast_words.specs.Readings.{Gives, groups_of, list_words, place_words, quota_words, sites_of};
+ghost use Rattle.cast_words.specs.Words.{is_configured as is_among, texts};
+ghost use Rattle.cast_words.specs.Readings.{Gives, groups_of, list_words, new_domain_of, place_words, quota_words, sites_of};
 
 use crate::words::{
     LineFault, Reason, domain_word, fixed_word, group_list, groups_rise, number_between, site_list,
     site_word, sites_rise,
 };
-use cast_model::Quotas;
+use cast_model::{DomainConfig, Quotas};
 use cast_types::limits::{MAX_GROUPS, MAX_SITES};
 use cast_types::{DomainNo, GroupNo, Listed, SiteNo};
 use std::alloc::Global;
 
-/// `D home S`
+/// `D home S`, where these domains stand before. `Order` where one of them has the number, which is told before what
+/// stands behind it.
 #[tactic(auto, unfolding(crate::specs::Readings::place_words))]
-pub fn place_words(words: &[&str]) -> Result<(DomainNo, SiteNo), Reason>
-    ensures { result ≡ place_words (texts words.now) }
+pub fn place_words(words: &[&str], before: &[DomainConfig]) -> Result<(DomainNo, SiteNo), Reason>
+    ensures { result ≡ place_words before.now (texts words.now) }
 {
     let [domain, home_is, home] = words else {
         return Err(Reason::WrongCount);
     };
-    let domain = domain_word(domain)?;
+    let domain = new_domain_word(domain, before)?;
     fixed_word(home_is, "home")?;
     Ok((domain, site_word(home)?))
+}
+
+// The number of a domain, which none of these has.
+#[tactic(auto, unfolding(crate::specs::Readings::new_domain_of))]
+fn new_domain_word(word: &str, before: &[DomainConfig]) -> Result<DomainNo, Reason>
+    ensures { result ≡ new_domain_of before.now word.now }
+{
+    let domain = domain_word(word)?;
+    if is_configured(domain, before) {
+        Err(Reason::Order)
+    } else {
+        Ok(domain)
+    }
+}
+
+// Whether a domain of this number is among these.
+fn is_configured(domain: DomainNo, configs: &[DomainConfig]) -> bool
+    ensures { result ≡ is_among domain configs.now }
+{
+    configs.iter().any(|config| config.domain == domain)
 }
 
 /// `sites S,.. groups G,..`

@@ -12,5 +12,6 @@ pub mod words;
 
 pub use domain::{list_words, place_words, quota_words};
 pub use words::{
-    LineFault, Reason, bytes_word, domain_word, group_word, long_number, number, site_word,
+    LineFault, Reason, bytes_word, domain_word, group_word, long_number, number, quota_name_word,
+    site_word,
 };

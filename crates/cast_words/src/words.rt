@@ -1,9 +1,10 @@
 ghost use Rattle.std.specs.Prelude.{◌≡◌, ◌≢◌, ◌≤◌, ◌<◌, ◌⊎◌, IfOk, IsTrue, false, length, slice_index};
 ghost use Rattle.cast_words.specs.Words.{groups_rise as are_rising_groups, parted, sites_rise as are_rising_sites, texts};
-ghost use Rattle.cast_words.specs.Readings.{GivesAs, bytes_of, domain_of, each, fixed_of, group_of, number_of, number_within, site_of};
+ghost use Rattle.cast_words.specs.Readings.{GivesAs, bytes_of, domain_of, each, fixed_of, group_of, number_of, number_within, quota_name_of, site_of};
 ghost use Rattle.cast_words.specs.Reasons.{reason_text};
 ghost use Rattle.cast_words.specs.declared.words.LineFault.TheVariants.{Refused, NoMemory};
 
+use cast_model::QuotaName;
 use cast_types::{DomainNo, GroupNo, SiteNo};
 use std::alloc::{AllocError, AllocFailed, Global};
 use thiserror::Error;
@@ -12,7 +13,7 @@ use thiserror::Error;
 #[derive(Clone, Copy, Debug, PartialEq, Eq, Error)]
 #[error("{}", self.text())]
 pub enum Reason {
-    /// The first word, or a fixed word of a `domain` line.
+    /// The first word, the name of a quota, or a fixed word of a `domain` line.
     UnknownWord,
     /// The line has more or fewer words than its first word asks for.
     WrongCount,
@@ -22,7 +23,8 @@ pub enum Reason {
     BadHex,
     /// The bytes are no frame.
     BadFrame,
-    /// The line is in the wrong place, or a list does not rise or lacks a site that it must have.
+    /// The line is in the wrong place, a domain's number was used before, or a list does not rise or lacks a site that it
+    /// must have.
     Order,
 }
 
@@ -201,6 +203,19 @@ pub fn groups_rise(groups: &[GroupNo]) -> bool
         last = group.0;
     }
     true
+}
+
+/// The quota that a word names.
+pub fn quota_name_word(word: &str) -> Result<QuotaName, Reason>
+    ensures { result ≡ quota_name_of word.now }
+{
+    match word {
+        "sessions" => Ok(QuotaName::Sessions),
+        "held" => Ok(QuotaName::Held),
+        "outbox" => Ok(QuotaName::Outbox),
+        "resend" => Ok(QuotaName::Resend),
+        _ => Err(Reason::UnknownWord),
+    }
 }
 
 /// A word that has to stand at its place.

@@ -1,5 +1,5 @@
 use Rattle.std.proofs.Common.{◌≢◌, sym, ap, ◌∙◌}
-use Rattle.cast_lines.specs.declared.lines.Head.TheVariants.{Site, Domain, Open, Join, Leave, Cast, Abcast, Bad, Gone, Frame, Suspect, Tick}
+use Rattle.cast_lines.specs.declared.lines.Head.TheVariants.{Site, Domain, Open, Join, Leave, Cast, Abcast, Bad, Gone, Frame, Suspect, Quota, Take, Tick}
 use Rattle.cast_lines.specs.Lines.{head_text}
 use Rattle.cast_lines.specs.Readings.{head_of}
 use Rattle.cast_lines.proofs.Heads.{head_again, head_not}
@@ -38,6 +38,12 @@ returns-in-frame c = sym (ap head_of c.in-frame.is ∙ head_again Frame)
 pub returns-in-suspect : goal.returns-in-suspect
 returns-in-suspect c = sym (ap head_of c.in-suspect.is ∙ head_again Suspect)
 
+pub returns-in-quota : goal.returns-in-quota
+returns-in-quota c = sym (ap head_of c.in-quota.is ∙ head_again Quota)
+
+pub returns-in-take : goal.returns-in-take
+returns-in-take c = sym (ap head_of c.in-take.is ∙ head_again Take)
+
 pub returns-in-tick : goal.returns-in-tick
 returns-in-tick c = sym (ap head_of c.in-tick.is ∙ head_again Tick)
 
@@ -56,5 +62,7 @@ returns-in_default c =
       | Gone ↦ c.in_default.not-gone
       | Frame ↦ c.in_default.not-frame
       | Suspect ↦ c.in_default.not-suspect
+      | Quota ↦ c.in_default.not-quota
+      | Take ↦ c.in_default.not-take
       | Tick ↦ c.in_default.not-tick
     ]))

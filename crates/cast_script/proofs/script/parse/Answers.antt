@@ -1,7 +1,7 @@
 use Rattle.std.proofs.Common.{◌≡◌, map}
 use Rattle.cast_words.specs.Words.{parted, texts}
 use Rattle.cast_script.specs.Readings.{GivesAt, end_after, numbered_line, script_of, site_on, used_of}
-use Rattle.cast_script.proofs.Spelled.{given_has_one}
+use Rattle.cast_script.proofs.Spelled.{given_has_domains}
 use Rattle.cast_script.proofs.script.parse.Goals as goal
 
 -- the used lines are those of the text, and so is the line behind them
@@ -19,4 +19,4 @@ pub returns-clause-exact : goal.returns-clause-exact
 returns-clause-exact c = exact c
 
 pub returns-clause-valid : goal.returns-clause-valid
-returns-clause-valid c = given_has_one c.args.text.now c.parse_lines.result (exact c)
+returns-clause-valid c = given_has_domains c.args.text.now c.parse_lines.result (exact c)
