@@ -40,24 +40,29 @@ unfolding
     Rattle.cast_frame.specs.Spelling.spelled_site Rattle.cast_words.specs.Readings.each
     Rattle.cast_words.specs.Readings.spelled_number Rattle.cast_words.specs.Readings.number_of
     Rattle.cast_words.specs.Readings.within Rattle.cast_words.specs.Readings.number_within
-    Rattle.cast_words.specs.Readings.domain_of Rattle.cast_words.specs.Readings.site_of
-    Rattle.cast_words.specs.Readings.group_of Rattle.cast_words.specs.Readings.checked_sites
-    Rattle.cast_words.specs.Readings.sites_of Rattle.cast_words.specs.Readings.checked_groups
-    Rattle.cast_words.specs.Readings.groups_of Rattle.cast_words.specs.Readings.fixed_of
+    Rattle.cast_words.specs.Readings.domain_of Rattle.cast_words.specs.Readings.new_domain_of
+    Rattle.cast_words.specs.Readings.site_of Rattle.cast_words.specs.Readings.group_of
+    Rattle.cast_words.specs.Readings.checked_sites Rattle.cast_words.specs.Readings.sites_of
+    Rattle.cast_words.specs.Readings.checked_groups Rattle.cast_words.specs.Readings.groups_of
+    Rattle.cast_words.specs.Readings.quota_name_of Rattle.cast_words.specs.Readings.fixed_of
     Rattle.cast_words.specs.Readings.bytes_of Rattle.cast_lines.specs.Readings.head_of
     Rattle.cast_lines.specs.Readings.behind_first Rattle.cast_lines.specs.Readings.site_words
     Rattle.cast_lines.specs.Readings.site_behind Rattle.cast_lines.specs.Readings.site_line
     Rattle.cast_words.specs.Readings.place_words Rattle.cast_words.specs.Readings.list_words
     Rattle.cast_words.specs.Readings.quota_words Rattle.cast_lines.specs.Readings.domain_parts
-    Rattle.cast_lines.specs.Readings.domain_words Rattle.cast_lines.specs.Readings.domain_behind
-    Rattle.cast_lines.specs.Readings.domain_line Rattle.cast_lines.specs.Readings.request_parts
-    Rattle.cast_lines.specs.Readings.open_words Rattle.cast_lines.specs.Readings.join_words
-    Rattle.cast_lines.specs.Readings.leave_words Rattle.cast_lines.specs.Readings.cast_words
-    Rattle.cast_lines.specs.Readings.bad_words Rattle.cast_lines.specs.Readings.frame_words
-    Rattle.cast_lines.specs.Readings.tick_words Rattle.cast_lines.specs.Readings.event_behind
-    Rattle.cast_lines.specs.Readings.event_line Rattle.cast_script.specs.Readings.site_at
-    Rattle.cast_script.specs.Readings.domain_at Rattle.cast_script.specs.Readings.event_at
-    Rattle.cast_script.specs.Readings.domain_on Rattle.cast_script.specs.Readings.site_on
+    Rattle.cast_lines.specs.Readings.domain_words Rattle.cast_lines.specs.Readings.next_domain
+    Rattle.cast_lines.specs.Readings.request_parts Rattle.cast_lines.specs.Readings.open_words
+    Rattle.cast_lines.specs.Readings.join_words Rattle.cast_lines.specs.Readings.leave_words
+    Rattle.cast_lines.specs.Readings.cast_words Rattle.cast_lines.specs.Readings.bad_words
+    Rattle.cast_lines.specs.Readings.gone_words Rattle.cast_lines.specs.Readings.frame_words
+    Rattle.cast_lines.specs.Readings.suspect_words Rattle.cast_lines.specs.Readings.quota_event_words
+    Rattle.cast_lines.specs.Readings.take_words Rattle.cast_lines.specs.Readings.tick_words
+    Rattle.cast_lines.specs.Readings.event_behind Rattle.cast_lines.specs.Readings.event_line
+    Rattle.cast_lines.specs.Readings.first_event Rattle.cast_lines.specs.Readings.domain_or_event_behind
+    Rattle.cast_lines.specs.Readings.domain_or_event Rattle.cast_script.specs.Readings.site_at
+    Rattle.cast_script.specs.Readings.domain_or_event_at Rattle.cast_script.specs.Readings.event_at
+    Rattle.cast_script.specs.Readings.no_events Rattle.cast_script.specs.Readings.events_on
+    Rattle.cast_script.specs.Readings.domains_on Rattle.cast_script.specs.Readings.site_on
     Rattle.cast_script.specs.Readings.script_of Rattle.std.specs.Fmt.digits Rattle.hex.specs.Hex.encode_with
     Rattle.hex.specs.Hex.decode_pairs
 everything = tt

@@ -7,4 +7,6 @@ pub mod Stability
 pub mod Ticks
 pub mod Requests
 pub mod Homes
+pub mod Outboxes
+pub mod Domains
 pub mod Scripts

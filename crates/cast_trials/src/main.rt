@@ -1,14 +1,16 @@
 //! Trials of the whole program and of the codec. `cast_trials rows SCRIPT ..` goes through worked examples, and
 //! `cast_trials speed FILE ROUNDS` measures how fast a frame is decoded and encoded.
 //!
-//! The worked examples are the scripts in `data/`, one for each rule, a script of five thousand events (`long`), the frames in
-//! `stdin`, and command lines (`words`). What has to be printed for them stands in `stdout`, and for the long one beside it.
+//! The worked examples are the scripts in `data/`, one for each rule, a script of five thousand events (`long`), one of sixteen
+//! domains (`tenants`), the frames in `stdin`, and command lines (`words`). What has to be printed for them stands in `stdout`, and
+//! for the long one and that of the domains beside it.
 #![tactic(auto)]
 
 mod frames;
 mod long;
 mod scripts;
 mod speed;
+mod tenants;
 mod words;
 
 use anyhow::{Result, bail};
@@ -22,6 +24,7 @@ fn run<R: Clock + Env + Files + Input + Print + Eprint + AllocGlobal>(rt: &R) ->
         [_, job, names @ ..] if job.as_str() == "rows" => {
             scripts::replay_all(rt, names, &mut io::writer(rt))?;
             long::replay_long(rt)?;
+            tenants::replay_tenants(rt)?;
             frames::try_all(rt)?;
             words::try_all(rt)?;
         }
