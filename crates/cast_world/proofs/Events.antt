@@ -1,0 +1,125 @@
+-- What the moves of a history keep, it keeps through each event and through the rest that follows.
+use Rattle.std.proofs.Common.{subst}
+use Rattle.std.proofs.lemmas.Bool.{and_parts}
+use Rattle.std.specs.List.{find, fold}
+use Rattle.std.specs.Prelude.{◌&&◌, ◌+◌, Bool, None, Option, Some, false, if◌then◌else◌, length, not, refl, ℕ, ◌≡◌}
+use Rattle.cast_delay.specs.Ready.{is_member}
+use Rattle.cast_history.specs.Effects.{delivering, sending}
+use Rattle.cast_history.specs.History.{history}
+use Rattle.cast_history.specs.Reports.{has_delivered_cut, missing_in}
+use Rattle.cast_history.specs.Rest.{RestsAt, deliver_all, deliver_first, is_free, let_go, pass, set_order, set_order_by, set_orders, settle}
+use Rattle.cast_history.specs.Resting.{next_places, resting}
+use Rattle.cast_history.specs.Rules.Events.{is_taken, may_open}
+use Rattle.cast_history.specs.Rules.Flushes.{complete, complete_or_want, go_on, go_on_all, own_want_key, want_own}
+use Rattle.cast_history.specs.Rules.Order.{list_places, may_list}
+use Rattle.cast_history.specs.Rules.Rest.{tell_if, told_of}
+use Rattle.cast_history.specs.Rules.Sending.{may_raise}
+use Rattle.cast_history.specs.Run.{after_event, before_event}
+use Rattle.cast_history.specs.State.{State, local, serials, setting_quota, taking, with_delivery}
+use Rattle.cast_history.specs.Step.{acted, opening_next, sessions_given}
+use Rattle.cast_history.specs.Turns.{is_ready_for}
+use Rattle.cast_message.specs.declared.client.Push.{Push}
+use Rattle.cast_message.specs.declared.message.Message.{Message}
+use Rattle.cast_message.specs.declared.site.SiteFrame.{SiteFrame}
+use Rattle.cast_model.specs.Session.{is_gone, taken_from}
+use Rattle.cast_model.specs.declared.event.Event.{Event}
+use Rattle.cast_quota.specs.Quotas.{is_in_range, with_quota}
+use Rattle.cast_types.specs.declared.names.GroupNo.{GroupNo}
+use Rattle.cast_types.specs.declared.names.Proc.{Proc}
+use Rattle.cast_types.specs.declared.names.SiteNo.{SiteNo}
+use Rattle.cast_view.specs.MemberSide.{holder_at}
+use Rattle.cast_view.specs.declared.member.Pending.{Pending}
+use Rattle.cast_world.proofs.Handlers.{commanded_keeps, framed_keeps, install_keeps, lead_keeps, sending_keeps, suspect_keeps}
+use Rattle.cast_world.proofs.Keeps.{found_is, keeps_fold, keeps_if, keeps_iterate, keeps_option}
+use Rattle.cast_world.proofs.Kept.{Kept, KeptByTelling, completes}
+use Rattle.cast_world.proofs.Telling.{end_session_keeps, owe_keeps, tell_keeps, tick_keeps}
+use Rattle.cast_message.specs.declared.message.Body.TheVariants as body
+use Rattle.cast_model.specs.declared.event.Event.TheVariants as event
+
+-- where an event is a frame, it has come
+abbrev pub HasCome : (SiteNo → SiteFrame → Type 0) → Event → Type 0
+HasCome Came (event.Open d) = Unit {0}
+HasCome Came (event.Command d n c) = Unit {0}
+HasCome Came (event.Gone d n) = Unit {0}
+HasCome Came (event.Frame d from f) = Came from f
+HasCome Came (event.Suspect d site) = Unit {0}
+HasCome Came (event.Quota d name value) = Unit {0}
+HasCome Came (event.Take d n most) = Unit {0}
+HasCome Came (event.Tick t) = Unit {0}
+
+module _ (I : State → Type 0) (Came : SiteNo → SiteFrame → Type 0) (home_here : Bool) (k : Kept I Came home_here) where
+  abbrev t : KeptByTelling I
+  t = k.telling
+
+  -- The rest
+
+  let_go_keeps : (s : State) → I s → I (let_go s)
+  let_go_keeps s i = t.releases s (is_free s) i
+
+  tell_if_keeps : (s : State) (n : ℕ) (o : Option Push) → I s → I (tell_if history s n o)
+  tell_if_keeps s n (Some p) i = tell_keeps I t s n p i
+  tell_if_keeps s n None i = i
+
+  deliver_first_keeps : (n : ℕ) (s : State) → I s → I (deliver_first n s)
+  deliver_first_keeps n s i = go (find (is_ready_for s n) s.got) refl
+    where
+      go : (o : Option Message) → find (is_ready_for s n) s.got ≡ o → I (elim o [ Some m ↦ let_go (delivering s n m) | None ↦ s ])
+      go None e = i
+      go (Some m) e =
+          let found = found_is (is_ready_for s n) s.got m e in
+          let_go_keeps (delivering s n m) (tell_if_keeps (with_delivery s n m) n (told_of m.id m.body) (k.delivers s n m i found.1 found.0))
+
+  settle_keeps : (s : State) → I s → I (settle s)
+  settle_keeps s i = keeps_fold I deliver_all (λ r n j. keeps_iterate I (deliver_first n) (deliver_first_keeps n) (length r.got) r j) (serials s) s i
+
+  set_order_by_keeps : (s : State) (g : GroupNo) (n : ℕ) → I s → I (set_order_by s g n)
+  set_order_by_keeps s g n i = keeps_if I (may_list history resting s g n) _ s
+      (λ may. keeps_option I (list_places history resting s g n) (next_places s g n) s
+      (λ places _. keeps_if I (may_raise (s.process n).time g (local s n)) (let_go (sending s g n (body.Order places))) s
+      (λ _. let_go_keeps (sending s g n (body.Order places)) (sending_keeps I Came home_here k s g n (body.Order places) i (and_parts (is_member ((s.process n).standing g)) _ may).0))
+      (λ _. i)) i) (λ _. i)
+
+  set_order_keeps : (s : State) (g : GroupNo) → I s → I (set_order s g)
+  set_order_keeps s g i = go (holder_at s.here (s.group g))
+    where
+      go : (o : Option Proc) → I (elim o [ Some p ↦ set_order_by s g p.serial | None ↦ s ])
+      go (Some p) = set_order_by_keeps s g p.serial i
+      go None = i
+
+  go_on_keeps : (s : State) (g : GroupNo) → I s → I (go_on history resting s g)
+  go_on_keeps s g i = go (s.group g).pending refl
+    where
+      go : (o : Option Pending) → (s.group g).pending ≡ o → I (elim o [ Some p ↦ complete_or_want history resting s g p | None ↦ s ])
+      go None e = i
+      go (Some p) e = keeps_if I (has_delivered_cut s g p.cut) (complete history s g p) (fold (want_own history g) s (missing_in s g p.cut))
+          (λ all. install_keeps I Came home_here k s g false s.config.home ((s.group g).number + 1) p.members p.request p.cut i (completes p e all refl refl refl refl refl))
+          (λ _. keeps_fold I (want_own history g) (λ r x j. owe_keeps I t r (own_want_key history r g x) j) (missing_in s g p.cut) s i)
+
+  pub pass_keeps : (s : State) → I s → I (pass s)
+  pass_keeps s i =
+      let settled : State = settle s in
+      let ordered : State = set_orders settled in
+      let gone_on : State = go_on_all history resting ordered in
+      lead_keeps I Came home_here k gone_on
+      (keeps_fold I (go_on history resting) go_on_keeps ordered.config.groups ordered
+      (keeps_fold I set_order set_order_keeps settled.config.groups settled (settle_keeps s i)))
+
+  pub rests_keeps : (s r : State) → RestsAt s r → I s → I r
+  rests_keeps s r (n, leads, rest) i = subst I leads (keeps_iterate I pass pass_keeps n s i)
+
+  -- Events
+
+  acted_keeps : (s : State) (e : Event) → I s → HasCome Came e → I (acted s e)
+  acted_keeps s (event.Open d) i come = keeps_if I (may_open history sessions_given s) (opening_next s) s (λ _. k.opens s i) (λ _. i)
+  acted_keeps s (event.Command d n c) i come = commanded_keeps I Came home_here k s n c i
+  acted_keeps s (event.Gone d n) i come = end_session_keeps I t s n i
+  acted_keeps s (event.Frame d from f) i come = framed_keeps I Came home_here k s from f i come
+  acted_keeps s (event.Suspect d site) i come = suspect_keeps I Came home_here k s site i
+  acted_keeps s (event.Quota d name value) i come = keeps_if I (is_in_range name value) (setting_quota s name value) s
+      (λ _. t.books s (with_quota name value s.quotas) s.moment s.acks s.told s.owed s.casts s.pushes i) (λ _. i)
+  acted_keeps s (event.Take d n most) i come = keeps_if I (not (is_gone (s.session n)) && is_taken most) (taking s n most) s
+      (λ _. t.sets_session s n (taken_from most (s.session n)) i (λ e. e)) (λ _. i)
+  acted_keeps s (event.Tick time) i come = tick_keeps I t s time i
+
+  pub after_event_keeps : (s : State) (e : Event) → I (before_event s) → HasCome Came e → I (after_event s e)
+  after_event_keeps s e i come = let_go_keeps (acted (before_event s) e) (acted_keeps (before_event s) e i come)

@@ -1,0 +1,111 @@
+-- The moves of a history, each with all that is known when a rule makes it.
+use Rattle.std.specs.Prelude.{◌+◌, ◌<◌, Bool, Contains, List, Some, false, true, ℕ, ◌≡◌, ◌⊎◌}
+use Rattle.cast_clock.specs.Times.{view_of}
+use Rattle.cast_delay.specs.Ready.{is_member, is_outside}
+use Rattle.cast_history.specs.Effects.{next_message}
+use Rattle.cast_history.specs.Entering.{freezing, passing, pending_install}
+use Rattle.cast_history.specs.History.{history}
+use Rattle.cast_history.specs.Reports.{has_delivered_cut, report_in}
+use Rattle.cast_history.specs.Rules.Asking.{is_home}
+use Rattle.cast_history.specs.Rules.Views.{no_members}
+use Rattle.cast_history.specs.State.{State, emitted, is_group, noting_sent, outside, receiving, releasing, set_group, set_home, set_session, set_standing, with_delivery}
+use Rattle.cast_history.specs.Step.{opening_next}
+use Rattle.cast_history.specs.Turns.{is_ready_for}
+use Rattle.cast_message.specs.Membership.{Membership}
+use Rattle.cast_message.specs.Stretch.{Stretch}
+use Rattle.cast_message.specs.declared.client.Push.{Push}
+use Rattle.cast_message.specs.declared.message.Body.{Body}
+use Rattle.cast_message.specs.declared.message.Message.{Message}
+use Rattle.cast_message.specs.declared.site.Change.{Change}
+use Rattle.cast_message.specs.declared.site.SiteFrame.{SiteFrame}
+use Rattle.cast_model.specs.Session.{Session, is_open}
+use Rattle.cast_quota.specs.declared.quotas.Quotas.{Quotas}
+use Rattle.cast_stable.specs.Stable.{Acked}
+use Rattle.cast_timer.specs.declared.key.Owed.{Owed}
+use Rattle.cast_types.specs.Counts.{CountList}
+use Rattle.cast_types.specs.Names.{proc_eq}
+use Rattle.cast_types.specs.Sets.{is_among}
+use Rattle.cast_types.specs.declared.names.GroupNo.{GroupNo}
+use Rattle.cast_types.specs.declared.names.Proc.{Proc}
+use Rattle.cast_types.specs.declared.names.SiteNo.{SiteNo}
+use Rattle.cast_types.specs.declared.names.Standing.TheVariants.{Joining}
+use Rattle.cast_types.specs.declared.names.Uid.{Uid}
+use Rattle.cast_view.specs.Home.{HomeMove, answer_in, bodies_of, may_decide, moved}
+use Rattle.cast_view.specs.Home.HomeMove.{Asked, Brought, Decided, Installed, Reported, Started, Suspected}
+use Rattle.cast_view.specs.MemberSide.{has_view, members_of, with_answer, with_request}
+use Rattle.cast_view.specs.declared.member.Asking.{Asking}
+use Rattle.cast_view.specs.declared.member.Pending.{Pending}
+use Rattle.cast_view.specs.declared.phase.Decision.{Decision}
+use Rattle.cast_view.specs.declared.phase.Phase.TheVariants.{Installing}
+use Rattle.cast_message.specs.declared.site.SiteFrame.TheVariants as frame
+
+-- a frame says nothing but what its sender has
+abbrev pub Says : State → SiteNo → SiteFrame → Type 0
+Says s to (frame.Data m) = Contains s.kept m
+Says s to (frame.Ack u) = Unit {0}
+Says s to (frame.Stable u) = Unit {0}
+Says s to (frame.Ask g number what p) = (a : Asking) × Contains (s.group g).requests a × (a.number ≡ number)
+Says s to (frame.Asked g number full) = Unit {0}
+Says s to (frame.Prepare g view) = Unit {0}
+Says s to (frame.Flushed g view counts tail kept) =
+    (view ≡ (s.group g).number) × ((s.group g).frozen ≡ true) × (has_view (s.group g) ≡ true) × (counts ≡ (report_in s g).counts)
+Says s to (frame.Want u) = Unit {0}
+Says s to (frame.Forward m) = Contains s.kept m ⊎ ((g : GroupNo) × Contains (bodies_of (s.home g).phase) m)
+Says s to (frame.Install g view members request cut tail) =
+    (waiting : List SiteNo) × (d : Decision) × (bodies : List Message)
+    × ((s.home g).phase ≡ Installing waiting d bodies) × (view ≡ (s.home g).number) × (request ≡ (answer_in d.answers to).number)
+    × (members ≡ (s.home g).members) × (cut ≡ d.cut)
+Says s to (frame.Installed g view) = Unit {0}
+Says s to (frame.Out g view) = view ≡ (s.group g).number
+
+-- what a home does without frames it may do at all times; what else it does follows from a frame that came, or is a decision that it may take
+abbrev pub MayMove : (SiteNo → SiteFrame → Type 0) → State → GroupNo → HomeMove → Type 0
+MayMove Came s g (Asked from number what p) = Came from (frame.Ask g number what p)
+MayMove Came s g (Suspected site) = Unit {0}
+MayMove Came s g Started = Unit {0}
+MayMove Came s g (Reported from view report) = Came from (frame.Flushed g view report.counts report.tail report.kept)
+MayMove Came s g (Brought m) = (from : SiteNo) × Came from (frame.Forward m)
+MayMove Came s g Decided = (is_home history s ≡ true) × (may_decide g (s.home g) ≡ true)
+MayMove Came s g (Installed from view) = Unit {0}
+
+-- how a site comes to pass to a view: the Install that waited is completed; one comes where the site has no view, or skips a view; or it is
+-- told of a view without members here
+pub data Comes (Came : SiteNo → SiteFrame → Type 0) (s : State) (g : GroupNo) (skipped : Bool) (n : ℕ) (members : Membership) (request : ℕ) (cut : CountList) : Type 0 where
+  completes : (p : Pending) → (s.group g).pending ≡ Some p → has_delivered_cut s g p.cut ≡ true → skipped ≡ false → n ≡ (s.group g).number + 1 →
+      members ≡ p.members → request ≡ p.request → cut ≡ p.cut → Comes Came s g skipped n members request cut
+  installs : (from : SiteNo) (tail : Stretch) → Came from (frame.Install g n members request cut tail) → has_view (s.group g) ≡ false → skipped ≡ false →
+      (s.group g).number < n → Comes Came s g skipped n members request cut
+  skips : (from : SiteNo) (tail : Stretch) → Came from (frame.Install g n members request cut tail) → skipped ≡ true → (s.group g).number < n →
+      Comes Came s g skipped n members request cut
+  ends : (from : SiteNo) → Came from (frame.Out g n) → skipped ≡ true → (s.group g).number < n → members ≡ no_members →
+      Comes Came s g skipped n members request cut
+
+-- what telling programs is made of: bookkeeping, and the requests that follow where a session is closed
+pub record KeptByTelling (I : State → Type 0) : Type 0 where
+  pub emits : (s : State) (to : SiteNo) (f : SiteFrame) → I s → Says s to f → I (emitted s to f)
+  pub books : (s : State) (quotas : Quotas) (moment : ℕ) (acks : List Acked) (told : List Uid) (owed : List Owed) (casts : ℕ) (pushes : List (ℕ × Push)) → I s →
+      I (record s { quotas = quotas; moment = moment; acks = acks; told = told; owed = owed; casts = casts; pushes = pushes })
+  pub releases : (s : State) (passes : Uid → Bool) → I s → I (releasing s passes)
+  pub sets_session : (s : State) (k : ℕ) (v : Session) → I s → (is_open v ≡ true → is_open (s.session k) ≡ true) → I (set_session s k v)
+  pub parts : (s : State) (k : ℕ) (g : GroupNo) → I s → I (outside s k g)
+  pub requests : (s : State) (g : GroupNo) (what : Change) (p : Proc) → I s → I (set_group s g (with_request (s.group g) what p))
+
+-- all moves of a site. Came says which frames may come, and from which sites; home_here whether the site is the home
+pub record Kept (I : State → Type 0) (Came : SiteNo → SiteFrame → Type 0) (home_here : Bool) : Type 0 where
+  pub telling : KeptByTelling I
+  pub fixed : (s : State) → I s → is_home history s ≡ home_here
+  pub opens : (s : State) → I s → I (opening_next s)
+  pub answers : (s : State) (g : GroupNo) → I s → I (set_group s g (with_answer (s.group g)))
+  pub joins : (s : State) (k : ℕ) (g : GroupNo) → I s → is_open (s.session k) ≡ true → is_group s g ≡ true → is_outside ((s.process k).standing g) ≡ true →
+      I (set_standing s k g (Joining ((s.group g).asked + 1) (view_of (s.process k).time g)))
+  pub sends : (s : State) (g : GroupNo) (k : ℕ) (content : Body) → I s → is_member ((s.process k).standing g) ≡ true →
+      I (receiving (noting_sent s k (next_message s g k content)) (next_message s g k content))
+  pub receives : (s : State) (from : SiteNo) (m : Message) → I s → Came from (frame.Data m) ⊎ Came from (frame.Forward m) →
+      m.id.view ≡ (s.group m.id.group).number → is_among proc_eq m.id.proc (members_of (s.group m.id.group)) ≡ true → I (receiving s m)
+  pub delivers : (s : State) (k : ℕ) (m : Message) → I s → Contains s.got m → is_ready_for s k m ≡ true → I (with_delivery s k m)
+  pub freezes : (s : State) (g : GroupNo) → I s → has_view (s.group g) ≡ true → I (freezing s g)
+  pub pends : (s : State) (from : SiteNo) (g : GroupNo) (p : Pending) (tail : Stretch) → I s →
+      Came from (frame.Install g ((s.group g).number + 1) p.members p.request p.cut tail) → has_view (s.group g) ≡ true → I (pending_install s g p tail)
+  pub passes : (s : State) (g : GroupNo) (skipped : Bool) (n : ℕ) (members : Membership) (request : ℕ) (cut : CountList) → I s →
+      Comes Came s g skipped n members request cut → I (passing s g skipped n members request cut)
+  pub homes : (s : State) (g : GroupNo) (what : HomeMove) → I s → MayMove Came s g what → I (set_home s g (moved what (s.home g)))

@@ -1,0 +1,126 @@
+-- What holds of every list of steps.
+use Rattle.std.specs.Prelude.{◌&&◌, ◌+◌, ◌++◌, ◌<◌, ◌==◌, Contains, IsTrue, List, filter, ℕ, ◌↔◌, ◌∷◌, ◌≡◌, ◌≤◌, ◌⊎◌}
+use Rattle.cast_clock.specs.Times.{at_most, count_in, view_of}
+use Rattle.cast_history.specs.Acts.{Act}
+use Rattle.cast_history.specs.Acts.Act.{Delivered, Entered, Sent}
+use Rattle.cast_message.specs.declared.message.Message.{Message}
+use Rattle.cast_model.specs.declared.config.DomainConfig.{DomainConfig}
+use Rattle.cast_types.specs.Counts.{CountList, is_within}
+use Rattle.cast_types.specs.Names.{Entry, group_eq, named}
+use Rattle.cast_types.specs.Stamps.{ClockList}
+use Rattle.cast_types.specs.declared.names.GroupNo.{GroupNo}
+use Rattle.cast_types.specs.declared.names.Proc.{Proc}
+use Rattle.cast_types.specs.declared.names.SiteNo.{SiteNo}
+use Rattle.cast_types.specs.declared.names.Standing.TheVariants.{Joining, Member}
+use Rattle.cast_types.specs.declared.names.Uid.{Uid}
+use Rattle.cast_world.specs.HappenedBefore.{HappenedBefore, IsDue, NeverLeft, StandsBefore, acts_of}
+use Rattle.cast_world.specs.Network.{Happens, Network, Reaches}
+use Rattle.cast_world.specs.declared.step.Step.{Step}
+
+-- a time has a later view of a message's group, or its view and a count at least the message's
+abbrev pub Covers : ClockList → Uid → Type 0
+Covers t u = (u.view < view_of t u.group) ⊎ ((u.view ≡ view_of t u.group) × (u.count ≤ count_in t u.group u.proc))
+
+-- what a time covers, the later one covers
+abbrev pub Below : ClockList → ClockList → Type 0
+Below s t = (u : Uid) → Covers s u → Covers t u
+
+-- no process delivers a message before one that happened before it and is due to it
+abbrev pub DeliversInOrder : Network → Type 0
+DeliversInOrder w =
+    (p : Proc) (x m : Message) → Contains (acts_of w p) (Delivered m) → HappenedBefore w x m → IsDue (acts_of w p) x.id m →
+    StandsBefore (acts_of w p) (Delivered x) (Delivered m)
+
+-- a stamp is at least that of each message that happened before
+abbrev pub StampsRise : Network → Type 0
+StampsRise w = (x m : Message) → HappenedBefore w x m → IsTrue (at_most x.times m.times)
+
+-- it covers all that an earlier one covers, and the earlier one does not cover the later message
+abbrev pub StampsRiseStrictly : Network → Type 0
+StampsRiseStrictly w = (x m : Message) → HappenedBefore w x m → Below x.times m.times × (Covers x.times m.id → ⊥)
+
+-- no process sends two messages of one name
+abbrev pub NamesAreUnique : Network → Type 0
+NamesAreUnique w = (p : Proc) (x y : Message) → Contains (acts_of w p) (Sent x) → Contains (acts_of w p) (Sent y) → x.id ≡ y.id → x ≡ y
+
+-- what a process delivers was sent by its sender
+abbrev pub DeliveriesWereSent : Network → Type 0
+DeliveriesWereSent w = (p : Proc) (m : Message) → Contains (acts_of w p) (Delivered m) → Contains (acts_of w m.id.proc) (Sent m)
+
+-- the number of the last view of a group that the home decided
+abbrev pub decided_number : Network → GroupNo → SiteNo → ℕ
+decided_number w g home = ((w.at home).home g).number
+
+-- a view number in any time was decided at the home before: in those of processes, and in those of messages that were received
+abbrev pub ViewsAreDecided : Network → SiteNo → Type 0
+ViewsAreDecided w home =
+    ((s : SiteNo) (k : ℕ) (g : GroupNo) → view_of ((w.at s).process k).time g ≤ decided_number w g home)
+    × ((s : SiteNo) (m : Message) (g : GroupNo) → Contains (w.at s).got m → view_of m.times g ≤ decided_number w g home)
+
+-- a step that takes in a joining process does so by a view above the one that it had heard of
+abbrev pub JoinsGoForward : Network → Network → Type 0
+JoinsGoForward w v =
+    (s : SiteNo) (k : ℕ) (g : GroupNo) (request heard : ℕ) →
+    ((w.at s).process k).standing g ≡ Joining request heard → ((v.at s).process k).standing g ≡ Member →
+    heard < ((v.at s).group g).number
+
+-- who passes from one view to the next has delivered in it exactly the cut
+abbrev pub PassesWithCut : Network → Type 0
+PassesWithCut w =
+    (p : Proc) (g : GroupNo) (view : ℕ) (before cut : CountList) (a b c : List Act) (e : Entry) →
+    acts_of w p ≡ a ++ Entered g view before ∷ b ++ Entered g (view + 1) cut ∷ c → NeverLeft g b →
+    ((m : Message) × (m.id ≡ named g view e) × Contains b (Delivered m)) ↔ ((1 ≤ e.1) × IsTrue (is_within cut e))
+
+-- a process passed from a view to the next as a member
+abbrev pub Passes : Network → Proc → GroupNo → ℕ → Type 0
+Passes w p g view =
+    (before cut : CountList) × (a b c : List Act)
+    × (acts_of w p ≡ a ++ Entered g view before ∷ b ++ Entered g (view + 1) cut ∷ c) × NeverLeft g b
+
+-- what a process delivered in a view, in order
+abbrev pub delivered_in : Network → Proc → GroupNo → ℕ → List Uid
+delivered_in w p g view =
+    filter (λ u. group_eq u.group g && (u.view == view)) ((w.at p.site).process p.serial).delivered
+
+-- who passes from one view to the next delivered the same messages of the first
+abbrev pub SameMessages : Network → Type 0
+SameMessages w =
+    (p q : Proc) (g : GroupNo) (view : ℕ) → Passes w p g view → Passes w q g view →
+    (u : Uid) → Contains (delivered_in w p g view) u ↔ Contains (delivered_in w q g view) u
+
+-- The laws, over every list of steps
+
+abbrev pub HoldsInEveryNetwork : (Network → Type 0) → Type 0
+HoldsInEveryNetwork law =
+    (sites : List SiteNo) (config : SiteNo → DomainConfig) (steps : List Step) (w : Network) → Reaches sites config steps w → law w
+
+abbrev pub CausalDelivery : Type 0
+CausalDelivery = HoldsInEveryNetwork DeliversInOrder
+
+abbrev pub AllStampsRise : Type 0
+AllStampsRise = HoldsInEveryNetwork StampsRise
+
+abbrev pub AllStampsRiseStrictly : Type 0
+AllStampsRiseStrictly = HoldsInEveryNetwork StampsRiseStrictly
+
+abbrev pub AllNamesAreUnique : Type 0
+AllNamesAreUnique = HoldsInEveryNetwork NamesAreUnique
+
+abbrev pub AllDeliveriesWereSent : Type 0
+AllDeliveriesWereSent = HoldsInEveryNetwork DeliveriesWereSent
+
+abbrev pub AllViewsAreDecided : Type 0
+AllViewsAreDecided =
+    (sites : List SiteNo) (config : SiteNo → DomainConfig) (steps : List Step) (w : Network) (s : SiteNo) →
+    Reaches sites config steps w → ViewsAreDecided w (config s).home
+
+abbrev pub AllJoinsGoForward : Type 0
+AllJoinsGoForward =
+    (sites : List SiteNo) (config : SiteNo → DomainConfig) (steps : List Step) (w v : Network) (step : Step) →
+    Reaches sites config steps w → Happens w step v → JoinsGoForward w v
+
+abbrev pub AllPassWithCut : Type 0
+AllPassWithCut = HoldsInEveryNetwork PassesWithCut
+
+abbrev pub AllDeliverTheSame : Type 0
+AllDeliverTheSame = HoldsInEveryNetwork SameMessages
