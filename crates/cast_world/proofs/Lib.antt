@@ -18,3 +18,6 @@ pub mod Moves
 pub mod Views
 pub mod Steps
 pub mod Runs
+pub mod Onward
+pub mod Joins
+pub mod Cuts

@@ -190,6 +190,12 @@ module _ (at : Sites) (home s : SiteNo) (t : State) (g : GroupNo) (skipped : Boo
   pub passing_site : SiteHolds at home s t → SiteHolds at home s (passing t g skipped n members request cut)
   passing_site x = view_site at home s left (all_part_site at home s t x g goes) g n members request cut next_then (λ k e. (still k e).2)
 
+  -- and who enters had heard of earlier views alone
+  pub passing_above : SiteHolds at home s t → (k : ℕ) → enters left g members request k ≡ true → view_of (left.process k).time g < n
+  passing_above x k e =
+      let both_are = and_parts (is_taken_in request ((left.process k).standing g)) (is_among proc_eq (local t k) members.list) e in
+      new_to at home s left (all_part_site at home s t x g goes) g n members request cut next_then (λ j is. (still j is).2) k ((left.process k).standing g) refl both_are.0 both_are.1
+
 module _ (at : Sites) (home s : SiteNo) (t : State) (x : SiteHolds at home s t) (g : GroupNo) where
   -- the cut of the Install that waits was delivered
   pub cut_delivered : (cut : CountList) → has_delivered_cut t g cut ≡ true → (k : ℕ) → (t.process k).standing g ≡ Member → (e : Entry) → 1 ≤ e.1 → IsTrue (is_within cut e) →
