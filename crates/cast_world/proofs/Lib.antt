@@ -21,3 +21,12 @@ pub mod Runs
 pub mod Onward
 pub mod Joins
 pub mod Cuts
+pub mod Flush
+pub mod FlushCounts
+pub mod FlushMoves
+pub mod FlushLaters
+pub mod FlushSites
+pub mod FlushSteps
+pub mod FlushRuns
+pub mod Seen
+pub mod Same

@@ -156,6 +156,20 @@ delivered_after t g goes k = go (goes k)
     go true = refl
     go false = refl
 
+-- who is still a member once the members were put out that the next view lacks is one that it names, and no view was skipped
+pub still_member : (t : State) (g : GroupNo) (skipped : Bool) (members : Membership) (k : ℕ) → ((putting_out t g skipped members).process k).standing g ≡ Member →
+    ((t.process k).standing g ≡ Member) × (skipped ≡ false) × (is_among proc_eq (local t k) members.list ≡ true)
+still_member t g skipped members k e =
+    let was = member_after t g (is_put_out t g skipped members) k e in
+    let kept : (skipped || not (is_among proc_eq (local t k) members.list)) ≡ false = sym (ap (λ st. is_member st && (skipped || not (is_among proc_eq (local t k) members.list))) was.0) ∙ was.1 in
+    let both_are = go skipped (is_among proc_eq (local t k) members.list) kept in
+    (was.0, both_are.0, both_are.1)
+  where
+    go : (a b : Bool) → (a || not b) ≡ false → (a ≡ false) × (b ≡ true)
+    go true b e2 = absurd (true≢false e2)
+    go false true e2 = (refl, refl)
+    go false false e2 = absurd (true≢false e2)
+
 module _ (at : Sites) (home s : SiteNo) (t : State) (g : GroupNo) (skipped : Bool) (n : ℕ) (members : Membership) (request : ℕ) (cut : CountList)
     (is_next : IsNext at home t g skipped n members request cut) where
   abbrev goes : ℕ → Bool
@@ -164,37 +178,24 @@ module _ (at : Sites) (home s : SiteNo) (t : State) (g : GroupNo) (skipped : Boo
   abbrev left : State
   left = putting_out t g skipped members
 
-  -- who is still a member then is one that the next view names, and no view was skipped
-  still : (k : ℕ) → (left.process k).standing g ≡ Member → ((t.process k).standing g ≡ Member) × (skipped ≡ false) × (is_among proc_eq (local t k) members.list ≡ true)
-  still k e =
-      let was = member_after t g goes k e in
-      let kept : (skipped || not (is_among proc_eq (local t k) members.list)) ≡ false = sym (ap (λ st. is_member st && (skipped || not (is_among proc_eq (local t k) members.list))) was.0) ∙ was.1 in
-      let both_are = go skipped (is_among proc_eq (local t k) members.list) kept in
-      (was.0, both_are.0, both_are.1)
-    where
-      go : (a b : Bool) → (a || not b) ≡ false → (a ≡ false) × (b ≡ true)
-      go true b e2 = absurd (true≢false e2)
-      go false true e2 = (refl, refl)
-      go false false e2 = absurd (true≢false e2)
-
   pub next_then : IsNext at home left g false n members request cut
   next_then = record {
     decided = is_next.decided;
     above = λ k number heard e le among. is_next.above k number heard (joining_after t g goes k g number heard e) le among;
     cuts = λ k e none.
-        let was = still k e in
+        let was = still_member t g skipped members k e in
         let has = is_next.cuts k was.0 was.1 in
         (has.0, λ en counted within. subst (λ us. Contains us (named g (t.group g).number en)) (sym (delivered_after t g goes k)) (has.1 en counted within));
   }
 
   pub passing_site : SiteHolds at home s t → SiteHolds at home s (passing t g skipped n members request cut)
-  passing_site x = view_site at home s left (all_part_site at home s t x g goes) g n members request cut next_then (λ k e. (still k e).2)
+  passing_site x = view_site at home s left (all_part_site at home s t x g goes) g n members request cut next_then (λ k e. (still_member t g skipped members k e).2)
 
   -- and who enters had heard of earlier views alone
   pub passing_above : SiteHolds at home s t → (k : ℕ) → enters left g members request k ≡ true → view_of (left.process k).time g < n
   passing_above x k e =
       let both_are = and_parts (is_taken_in request ((left.process k).standing g)) (is_among proc_eq (local t k) members.list) e in
-      new_to at home s left (all_part_site at home s t x g goes) g n members request cut next_then (λ j is. (still j is).2) k ((left.process k).standing g) refl both_are.0 both_are.1
+      new_to at home s left (all_part_site at home s t x g goes) g n members request cut next_then (λ j is. (still_member t g skipped members j is).2) k ((left.process k).standing g) refl both_are.0 both_are.1
 
 module _ (at : Sites) (home s : SiteNo) (t : State) (x : SiteHolds at home s t) (g : GroupNo) where
   -- the cut of the Install that waits was delivered

@@ -1,4 +1,4 @@
-ghost use Rattle.cast_world.specs.Laws.{AllDeliveriesWereSent, AllJoinsGoForward, AllNamesAreUnique, AllStampsRise, AllStampsRiseStrictly, AllViewsAreDecided, CausalDelivery};
+ghost use Rattle.cast_world.specs.Laws.{AllDeliverTheSame, AllDeliveriesWereSent, AllJoinsGoForward, AllNamesAreUnique, AllPassWithCut, AllStampsRise, AllStampsRiseStrictly, AllViewsAreDecided, CausalDelivery};
 
 /// No process delivers a message before one that happened before it and is due to it.
 pub fn causal_delivery()
@@ -30,4 +30,14 @@ pub fn names_are_unique()
 /// What a process delivers was sent by its sender.
 pub fn deliveries_were_sent()
     ensures { AllDeliveriesWereSent }
+{}
+
+/// Who passes from one view to the next has delivered in it exactly the cut: each message within it, and no other of that view.
+pub fn passes_with_cut()
+    ensures { AllPassWithCut }
+{}
+
+/// Who passes from one view to the next delivered the same messages of the first.
+pub fn same_messages()
+    ensures { AllDeliverTheSame }
 {}
