@@ -31,7 +31,8 @@ use Rattle.cast_world.proofs.Ones.{outside_not_member}
 use Rattle.cast_world.proofs.Runs.{facts, first, from_mapped, last, nothing, start_holds, step_arrives}
 use Rattle.cast_world.proofs.Steps.{AllHold, Arrived, same_site, sites_at}
 use Rattle.cast_world.specs.Laws.{AllPassWithCut}
-use Rattle.cast_world.specs.Network.{Becomes, Happens, Leads, Network, Packet, Reaches, event_of, moved, start}
+use Rattle.cast_world.specs.Network.{Becomes, Happens, Leads, Network, Reaches, event_of, moved, start}
+use Rattle.cast_world.specs.declared.step.Packet.{Packet}
 use Rattle.cast_world.specs.declared.step.Step.{Step}
 
 pub record AllAgree (home : SiteNo) (w : Network) (choice : Choice) : Type 0 where

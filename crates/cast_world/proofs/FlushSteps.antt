@@ -50,7 +50,8 @@ use Rattle.cast_world.proofs.Moves.{all_part_site, later_delivered, later_group,
 use Rattle.cast_world.proofs.Ones.{set_here, set_other}
 use Rattle.cast_world.proofs.Steps.{Arrived, Now, ahead_at, at_home, kept_now, next_of, own_holds, own_is, same_site, sites_at}
 use Rattle.cast_world.proofs.Views.{still_member}
-use Rattle.cast_world.specs.Network.{Network, Packet}
+use Rattle.cast_world.specs.Network.{Network}
+use Rattle.cast_world.specs.declared.step.Packet.{Packet}
 use Rattle.cast_message.specs.declared.site.SiteFrame.TheVariants as frame
 
 -- what passes the test of a filter

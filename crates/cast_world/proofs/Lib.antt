@@ -30,3 +30,4 @@ pub mod FlushSteps
 pub mod FlushRuns
 pub mod Seen
 pub mod Same
+pub mod Deliveries

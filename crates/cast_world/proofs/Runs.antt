@@ -1,8 +1,8 @@
 -- Every network that a list of steps leads to has the invariants, so the facts, so the law of causal delivery.
 use Rattle.std.proofs.Common.{ap, arith, inl, inr, subst, sym}
-use Rattle.std.proofs.lemmas.Bool.{false≢true, true≢false}
+use Rattle.std.proofs.lemmas.Bool.{and_parts, false≢true, true≢false}
 use Rattle.std.proofs.lemmas.List.Elements.{Contains-append_cases}
-use Rattle.std.specs.Prelude.{Bool, Contains, List, None, Option, Some, [], false, if◌then◌else◌, is_some, map, refl, slice_get, suc, true, unwrap_or, zero, ℕ, ◌∷◌, ◌≡◌}
+use Rattle.std.specs.Prelude.{◌&&◌, Bool, Contains, List, None, Option, Some, [], false, if◌then◌else◌, is_some, map, refl, slice_get, suc, true, unwrap_or, zero, ℕ, ◌∷◌, ◌≡◌}
 use Rattle.cast_delay.specs.Ready.{covered}
 use Rattle.cast_history.specs.Run.{IsStep, after_event, before_event}
 use Rattle.cast_history.specs.State.{State, no_process}
@@ -29,8 +29,9 @@ use Rattle.cast_world.proofs.Ones.{outside_not_member}
 use Rattle.cast_world.proofs.Steps.{AllHold, Arrived, Now, kept_now, own_holds, same_site, sites_at}
 use Rattle.cast_world.specs.HappenedBefore.{acts_of}
 use Rattle.cast_world.specs.Laws.{CausalDelivery}
-use Rattle.cast_world.specs.Network.{Becomes, Happens, Leads, Network, Packet, Reaches, event_at, event_of, handed, local_event, moved, names, start}
+use Rattle.cast_world.specs.Network.{Becomes, Happens, Leads, Network, Reaches, event_at, event_of, handed, is_local, moved, names, start}
 use Rattle.cast_world.specs.declared.step.Happening.{Happening}
+use Rattle.cast_world.specs.declared.step.Packet.{Packet}
 use Rattle.cast_world.specs.declared.step.Step.{Step}
 use Rattle.cast_model.specs.declared.event.Event.TheVariants as event
 use Rattle.cast_world.specs.declared.step.Happening.TheVariants as happen
@@ -99,15 +100,15 @@ module _ (home : SiteNo) (w : Network) (h : AllHold home w) (a : SiteNo) where
   abbrev Arrives : Event → Type 0
   Arrives e = HasCome (Arrived home w a) e
 
-  local_arrives : (e made : Event) → local_event e ≡ Some made → Arrives made
-  local_arrives (event.Open d) made is = subst Arrives (some_is (event.Open d) made is) tt
-  local_arrives (event.Command d n c) made is = subst Arrives (some_is (event.Command d n c) made is) tt
-  local_arrives (event.Gone d n) made is = subst Arrives (some_is (event.Gone d n) made is) tt
-  local_arrives (event.Frame d from f) made is = absurd (false≢true (ap is_some is))
-  local_arrives (event.Suspect d site) made is = subst Arrives (some_is (event.Suspect d site) made is) tt
-  local_arrives (event.Quota d name value) made is = subst Arrives (some_is (event.Quota d name value) made is) tt
-  local_arrives (event.Take d n most) made is = subst Arrives (some_is (event.Take d n most) made is) tt
-  local_arrives (event.Tick t) made is = subst Arrives (some_is (event.Tick t) made is) tt
+  local_arrives : (e : Event) → is_local e ≡ true → Arrives e
+  local_arrives (event.Open d) is = tt
+  local_arrives (event.Command d n c) is = tt
+  local_arrives (event.Gone d n) is = tt
+  local_arrives (event.Frame d from f) is = absurd (false≢true is)
+  local_arrives (event.Suspect d site) is = tt
+  local_arrives (event.Quota d name value) is = tt
+  local_arrives (event.Take d n most) is = tt
+  local_arrives (event.Tick t) is = tt
 
   handed_arrives : (d : DomainNo) (o : Option Packet) → ((p : Packet) → o ≡ Some p → Contains w.sent p) → (made : Event) → handed d a o ≡ Some made → Arrives made
   handed_arrives d None has made is = absurd (false≢true (ap is_some is))
@@ -119,11 +120,11 @@ module _ (home : SiteNo) (w : Network) (h : AllHold home w) (a : SiteNo) where
       go false e made_is = absurd (false≢true (ap is_some made_is))
 
   pub event_arrives : (what : Happening) (made : Event) → event_at w a what ≡ Some made → Arrives made
-  event_arrives (happen.Local e) made is = go (names (w.at a).config.domain e) is
+  event_arrives (happen.Local e) made is = go (is_local e && names (w.at a).config.domain e) refl is
     where
-      go : (b : Bool) → (if b then local_event e else None) ≡ Some made → Arrives made
-      go true made_is = local_arrives e made made_is
-      go false made_is = absurd (false≢true (ap is_some made_is))
+      go : (b : Bool) → (is_local e && names (w.at a).config.domain e) ≡ b → (if b then Some e else None) ≡ Some made → Arrives made
+      go true both_are made_is = subst Arrives (some_is e made made_is) (local_arrives e (and_parts (is_local e) _ both_are).0)
+      go false both_are made_is = absurd (false≢true (ap is_some made_is))
   event_arrives (happen.Sent k) made is = handed_arrives (w.at a).config.domain (slice_get w.sent k) (λ p e. got_there w.sent k p e) made is
 
   after_step : (e : Event) (t : State) (answer : Taken) → Arrives e → IsStep (w.at a) e answer t → AllHold home (moved w a t)

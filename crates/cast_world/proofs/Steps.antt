@@ -30,7 +30,8 @@ use Rattle.cast_world.proofs.Laters.{later_same, site_later, sound_later}
 use Rattle.cast_world.proofs.Moves.{delivered_site, emits_site, join_site, later_delivered, later_group, later_home, later_join, later_part, later_passing, later_sent, opened_site, part_site, received_site, releases_site, sent_site, session_site}
 use Rattle.cast_world.proofs.Ones.{further}
 use Rattle.cast_world.proofs.Views.{IsNext, answer_site, cut_delivered, decide_site, follow_site, freeze_site, passing_site, pend_site, request_site}
-use Rattle.cast_world.specs.Network.{Network, Packet}
+use Rattle.cast_world.specs.Network.{Network}
+use Rattle.cast_world.specs.declared.step.Packet.{Packet}
 use Rattle.cast_message.specs.declared.site.SiteFrame.TheVariants as frame
 
 -- the states of all sites and the frames on the network

@@ -1,10 +1,9 @@
 -- Daemons of one domain at several sites, and every frame ever sent. A frame that no step takes is lost; steps may take one again, and
 -- in any order.
 use Rattle.std.specs.Option.{option_map_or}
-use Rattle.std.specs.Prelude.{◌++◌, ◌==◌, Bool, List, None, Option, Some, [], if◌then◌else◌, map, slice_get, true, ℕ, ◌∷◌, ◌≡◌}
+use Rattle.std.specs.Prelude.{◌&&◌, ◌++◌, ◌==◌, Bool, List, None, Option, Some, [], false, if◌then◌else◌, map, slice_get, true, ℕ, ◌∷◌, ◌≡◌}
 use Rattle.cast_history.specs.Run.{IsStep, step_in}
 use Rattle.cast_history.specs.State.{State, opening}
-use Rattle.cast_message.specs.declared.site.SiteFrame.{SiteFrame}
 use Rattle.cast_model.specs.Events.{domain_of}
 use Rattle.cast_model.specs.declared.config.DomainConfig.{DomainConfig}
 use Rattle.cast_model.specs.declared.event.Event.{Event}
@@ -15,14 +14,9 @@ use Rattle.cast_types.specs.declared.names.DomainNo.{DomainNo}
 use Rattle.cast_types.specs.declared.names.SiteNo.{SiteNo}
 use Rattle.cast_world.specs.declared.step.Happening.{Happening}
 use Rattle.cast_world.specs.declared.step.Happening.TheVariants.{Local, Sent}
+use Rattle.cast_world.specs.declared.step.Packet.{Packet}
 use Rattle.cast_world.specs.declared.step.Step.{Step}
 use Rattle.cast_model.specs.declared.event.Event.TheVariants as event
-
--- a frame on the network, from a site to a site
-pub record Packet : Type 0 where
-  pub from : SiteNo
-  pub to : SiteNo
-  pub frame : SiteFrame
 
 pub record Network : Type 0 where
   pub sites : List SiteNo
@@ -36,15 +30,15 @@ abbrev pub start : List SiteNo → (SiteNo → DomainConfig) → Network
 start sites config = record { sites = sites; at = λ s. opening s (config s); sent = [] }
 
 -- an event of the site's own: any but a frame
-abbrev pub local_event : Event → Option Event
-local_event (event.Open d) = Some (event.Open d)
-local_event (event.Command d k c) = Some (event.Command d k c)
-local_event (event.Gone d k) = Some (event.Gone d k)
-local_event (event.Frame d from f) = None
-local_event (event.Suspect d site) = Some (event.Suspect d site)
-local_event (event.Quota d name value) = Some (event.Quota d name value)
-local_event (event.Take d k most) = Some (event.Take d k most)
-local_event (event.Tick t) = Some (event.Tick t)
+abbrev pub is_local : Event → Bool
+is_local (event.Open d) = true
+is_local (event.Command d k c) = true
+is_local (event.Gone d k) = true
+is_local (event.Frame d from f) = false
+is_local (event.Suspect d site) = true
+is_local (event.Quota d name value) = true
+is_local (event.Take d k most) = true
+is_local (event.Tick t) = true
 
 -- an event that names the domain, or none
 abbrev pub names : DomainNo → Event → Bool
@@ -56,7 +50,7 @@ handed d s None = None
 handed d s (Some p) = if site_eq p.to s then Some (event.Frame d p.from p.frame) else None
 
 abbrev pub event_at : Network → SiteNo → Happening → Option Event
-event_at w s (Local e) = if names (w.at s).config.domain e then local_event e else None
+event_at w s (Local e) = if is_local e && names (w.at s).config.domain e then Some e else None
 event_at w s (Sent k) = handed (w.at s).config.domain s (slice_get w.sent k)
 
 -- the event of a step, where its site is one of the network's
