@@ -31,3 +31,4 @@ pub mod FlushRuns
 pub mod Seen
 pub mod Same
 pub mod Deliveries
+pub mod Schedules
