@@ -1,0 +1,48 @@
+-- What a site's table and a domain's table say, field by field.
+use Rattle.std.specs.Prelude.{ℕ, List, map, Result, Ok}
+use Rattle.toml.specs.Data.{Members}
+use Rattle.cast_types.specs.declared.names.SiteNo.{SiteNo}
+use Rattle.cast_types.specs.declared.names.GroupNo.{GroupNo}
+use Rattle.cast_quota.specs.declared.quotas.Quotas.{Quotas}
+use Rattle.cast_words.specs.Readings.{◌>>=◌}
+use Rattle.cast_config.specs.declared.domains.DomainEntry.{DomainEntry}
+use Rattle.cast_config.specs.declared.sites.SiteAddress.{SiteAddress}
+use Rattle.cast_config.specs.declared.fault.Field.TheVariants.{Number, Address, Home, Sites, Groups, Socket, Sessions, Held, Outbox, Resend}
+use Rattle.cast_config.specs.declared.fault.ConfigFault.{ConfigFault}
+use Rattle.cast_config.specs.Fields.{number_at, number_at_or, numbers_at, text_at}
+
+-- a site with the text of its address
+unfoldable pub site_of : Members → Result SiteAddress ConfigFault
+site_of members = do
+  n ← number_at Number 1 65535 members
+  text ← text_at Address members
+  Ok (record { site = record { 0 = n }; address = text })
+
+-- the quotas, where the usual ones stand for those that are absent
+unfoldable pub quotas_of : Members → Result Quotas ConfigFault
+quotas_of members = do
+  a ← number_at_or Sessions 16 1 64 members
+  b ← number_at_or Held 256 1 1024 members
+  c ← number_at_or Outbox 256 1 4096 members
+  d ← number_at_or Resend 200 10 60000 members
+  Ok (record { sessions = a; held = b; outbox = c; resend = d })
+
+abbrev pub sites_from : List ℕ → List SiteNo
+sites_from numbers = map (λ n. record { 0 = n }) numbers
+
+abbrev pub groups_from : List ℕ → List GroupNo
+groups_from numbers = map (λ n. record { 0 = n }) numbers
+
+-- a domain with the path of its socket
+unfoldable pub domain_of : Members → Result DomainEntry ConfigFault
+domain_of members = do
+  n ← number_at Number 1 255 members
+  home ← number_at Home 1 65535 members
+  sites ← numbers_at Sites 16 members
+  groups ← numbers_at Groups 32 members
+  path ← text_at Socket members
+  quotas ← quotas_of members
+  Ok (record {
+    config = record { domain = record { 0 = n }; home = record { 0 = home }; sites = sites_from sites; groups = groups_from groups; quotas = quotas };
+    socket = path
+  })
