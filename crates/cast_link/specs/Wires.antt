@@ -1,0 +1,26 @@
+-- What a wire was given, and what waits in it, at types that tell of it.
+use Rattle.std.specs.Prelude.{◌≡◌, ℕ, List, [], ◌∷◌, ◌++◌, ⊤, Option, Some, None, Result, Ok, Err}
+use Rattle.cast_link.specs.declared.wire.LinkFault.{LinkFault}
+
+-- a list that is known grows by this
+abbrev pub Adds : {X : Type 0} → Option (List X) → Option (List X) → X → Type 0
+Adds None new x = ⊤
+Adds (Some old) None x = ⊥
+Adds (Some old) (Some new) x = new ≡ old ++ x ∷ []
+
+-- and by all of these
+abbrev pub AddsAll : {X : Type 0} → Option (List X) → Option (List X) → List X → Type 0
+AddsAll None new xs = ⊤
+AddsAll (Some old) None xs = ⊥
+AddsAll (Some old) (Some new) xs = new ≡ old ++ xs
+
+-- the first of a list that is known is taken off
+abbrev pub TakesFirst : {X : Type 0} → Option (List X) → Option (List X) → X → Type 0
+TakesFirst None new x = ⊤
+TakesFirst (Some old) None x = ⊥
+TakesFirst (Some old) (Some new) x = old ≡ x ∷ new
+
+-- what was received is the datagram that was first
+abbrev pub Receives : Option (List (List ℕ)) → Option (List (List ℕ)) → Result (List ℕ) LinkFault → Type 0
+Receives old new (Ok bytes) = TakesFirst old new bytes
+Receives old new (Err fault) = ⊤
