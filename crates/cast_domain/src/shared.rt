@@ -1,4 +1,5 @@
-ghost use Rattle.std.specs.Prelude.{◌≡◌, IfOk, OnOk, if◌then◌else◌, nat_le, [], ◌∷◌, length, take};
+ghost use Rattle.std.specs.Prelude.{◌≡◌, false, IfOk, OnOk, if◌then◌else◌, nat_le, [], ◌∷◌, length, take};
+ghost use Rattle.cast_timer.specs.Owed.{is_owed};
 ghost use Rattle.cast_types.specs.declared.names.DomainNo.{DomainNo};
 
 use cast_message::{Message, Push};
@@ -50,8 +51,9 @@ impl Shared {
         self.store.remove(domain, key);
     }
 
-    // Owes a frame for a domain, to be sent again at a moment.
+    // Owes a frame for a domain that does not owe it, to be sent again at a moment.
     pub(crate) fn owe(&mut self, domain: DomainNo, key: OwedKey, due: u64) -> Result<(), NoMemory>
+        requires { is_owed (part_of domain self.old).owed key ≡ false }
         ensures part { OnOk result (part_of domain self.new ≡ part_owing (part_of domain self.old) key due) }
         ensures others { LeavesOthers domain self.old self.new }
     {

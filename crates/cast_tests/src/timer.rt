@@ -50,7 +50,7 @@ const SECOND: OwedKey = OwedKey {
 // What is done with the timers, and what is to be seen of them.
 #[derive(Clone, Copy)]
 enum Step<'a> {
-    // A domain owes a frame for a moment.
+    // A domain owes a frame for a moment, which it did not owe.
     Owes(DomainNo, OwedKey, u64),
     // It owes the frame for this moment, and for no other any more.
     Renews(DomainNo, OwedKey, u64),
@@ -75,7 +75,12 @@ fn is_due(timers: &Timers, domain: DomainNo, now: u64, keys: &[OwedKey]) -> Resu
 // Does a step, and tells whether the timers are as it says.
 fn does(timers: &mut Timers, step: Step<'_>) -> Result<bool, NoMemory> {
     match step {
-        Step::Owes(domain, key, due) => timers.owe(domain, key, due)?,
+        Step::Owes(domain, key, due) => {
+            if timers.is_owed(domain, &key) {
+                return Ok(false);
+            }
+            timers.owe(domain, key, due)?;
+        }
         Step::Renews(domain, key, due) => timers.renew(domain, key, due)?,
         Step::Pays(domain, key) => timers.pay(domain, &key),
         Step::PaysUpto(domain, key) => timers.pay_upto(domain, &key),

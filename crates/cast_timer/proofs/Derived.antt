@@ -8,9 +8,11 @@ use Rattle.cast_timer.specs.declared.key.OwedKind.TheVariants.{Ask, Data, Prepar
 use Rattle.cast_timer.specs.declared.key.Side.{Side}
 use Rattle.cast_timer.specs.declared.key.Side.TheVariants.{Site, Home}
 use Rattle.cast_timer.specs.declared.key.Owed.{Owed}
-use Rattle.cast_timer.specs.Owed.{kind_rank, side_rank, owed_cmp}
+use Rattle.cast_timer.specs.declared.key.OwedKey.{OwedKey}
+use Rattle.cast_timer.specs.Owed.{kind_rank, side_rank, key_cmp, owed_cmp}
 use Rattle.cast_timer.specs.contracts.key.OwedKindOrd.TheImpl as kind
 use Rattle.cast_timer.specs.contracts.key.SideOrd.TheImpl as side
+use Rattle.cast_timer.specs.contracts.key.OwedKeyOrd.TheImpl as keys
 use Rattle.cast_timer.specs.contracts.key.OwedOrd.TheImpl as owed
 
 kinds : (a b : OwedKind) → kind.cmp-value.it a b ≡ nat_cmp (kind_rank a) (kind_rank b)
@@ -57,19 +59,21 @@ sides Site Home = refl
 sides Home Site = refl
 sides Home Home = refl
 
-pub owed_order : (a b : Owed) → owed.cmp-value.it a b ≡ owed_cmp a b
-owed_order a b =
-    ap (λ (o : Ordering). in_order o (side.cmp-value.it a.key.side b.key.side)) (kinds a.key.kind b.key.kind)
-    ∙ ap (in_order (nat_cmp (kind_rank a.key.kind) (kind_rank b.key.kind))) (sides a.key.side b.key.side)
+pub key_order : (a b : OwedKey) → keys.cmp-value.it a b ≡ key_cmp a b
+key_order a b =
+    ap (λ (o : Ordering). in_order o (side.cmp-value.it a.side b.side)) (kinds a.kind b.kind)
+    ∙ ap (in_order (nat_cmp (kind_rank a.kind) (kind_rank b.kind))) (sides a.side b.side)
   where
     in_order : Ordering → Ordering → Ordering
     in_order by_kind by_side =
-        ordering_then (nat_cmp a.due b.due)
-        (ordering_then by_kind
-        (ordering_then (group_cmp a.key.group b.key.group)
-        (ordering_then (proc_cmp a.key.proc b.key.proc)
-        (ordering_then (nat_cmp a.key.count b.key.count)
-        (ordering_then (site_cmp a.key.site b.key.site) by_side)))))
+        ordering_then by_kind
+        (ordering_then (group_cmp a.group b.group)
+        (ordering_then (proc_cmp a.proc b.proc)
+        (ordering_then (nat_cmp a.count b.count)
+        (ordering_then (site_cmp a.site b.site) by_side))))
+
+pub owed_order : (a b : Owed) → owed.cmp-value.it a b ≡ owed_cmp a b
+owed_order a b = ap (ordering_then (nat_cmp a.due b.due)) (key_order a.key b.key)
 
 -- so the sets are the same
 pub same_set : {A : Type 0} (R S : A → A → Ordering) → ((a b : A) → R a b ≡ S a b) → (x : A) (xs : List A) → with_item R x xs ≡ with_item S x xs

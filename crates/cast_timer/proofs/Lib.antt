@@ -3,3 +3,4 @@ pub mod Derived
 pub mod Orders
 pub mod Owing
 pub mod Renewing
+pub mod Index

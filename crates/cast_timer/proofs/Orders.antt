@@ -8,7 +8,7 @@ use Rattle.cast_types.proofs.Orders.{group_total, proc_total, site_total}
 use Rattle.cast_timer.specs.declared.key.Owed.{Owed}
 use Rattle.cast_timer.specs.Owed.{kind_rank, side_rank, key_cmp, owed_cmp}
 
-key_total : IsTotalOrder key_cmp
+pub key_total : IsTotalOrder key_cmp
 key_total =
     then_total (on_total (λ k. kind_rank k.kind) nat_cmp_total)
     (then_total (on_total (λ k. k.group) group_total)

@@ -97,7 +97,7 @@ both_tie Less s h = absurd (cc)
 both_tie Equal s h = (refl, h)
 both_tie Greater s h = absurd (cc)
 
-tied_key : (a b : OwedKey) → key_cmp a b ≡ Equal → a ≡ b
+pub tied_key : (a b : OwedKey) → key_cmp a b ≡ Equal → a ≡ b
 tied_key a b h =
     let last = nat_cmp (side_rank a.side) (side_rank b.side) in
     let by_site = ordering_then (site_cmp a.site b.site) last in
@@ -128,7 +128,7 @@ tied_frame a b h =
     λ i. record { due = due i; key = key i }
 
 -- a test of keys that a frame passes holds of some frame once it is owed
-any_with : (test : Owed → Bool) (x : Owed) (os : List Owed) → ((o : Owed) → owed_cmp x o ≡ Equal → test o ≡ test x) → list_any test (with_item owed_cmp x os) ≡ (test x || list_any test os)
+pub any_with : (test : Owed → Bool) (x : Owed) (os : List Owed) → ((o : Owed) → owed_cmp x o ≡ Equal → test o ≡ test x) → list_any test (with_item owed_cmp x os) ≡ (test x || list_any test os)
 any_with test x [] alike = refl
 any_with test x (o ∷ os) alike =
     elim (owed_cmp x o) as (λ r. owed_cmp x o ≡ r → list_any test (at_order r (x ∷ o ∷ os) (o ∷ os) (o ∷ with_item owed_cmp x os)) ≡ (test x || (test o || list_any test os))) [

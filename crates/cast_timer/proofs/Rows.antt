@@ -1,5 +1,5 @@
 -- What a domain owes after one row is changed, added or dropped.
-use Rattle.std.proofs.Common.{◌≡◌, ◌≢◌, ℕ, zero, suc, ◌+◌, ◌<◌, ◌≤◌, Bool, true, false, not, cond, List, [], ◌∷◌, ◌++◌, length, filter, Some, None, inl, inr, refl, sym, ap, ◌∙◌, arith}
+use Rattle.std.proofs.Common.{◌≡◌, ◌≢◌, ℕ, zero, suc, ◌+◌, ◌<◌, ◌≤◌, Bool, true, false, not, cond, List, [], ◌∷◌, ◌++◌, length, filter, get_or, Some, None, inl, inr, refl, sym, ap, ◌∙◌, arith}
 use Rattle.std.specs.Prelude.{nat_lt}
 use Rattle.std.specs.List.{position, position_or_len}
 use Rattle.std.proofs.lemmas.Bool.{cases_Bool, false_from_ne_true, eqb-true, eq-eqb, ltb-true, ltb-false, cond-true}
@@ -53,6 +53,17 @@ owed_at d f (x ∷ xs) (suc i) at lt = elim (cases_Bool (is_of d x)) [
       ∙ ap f (sym (owed_there d x xs there))
 ]
 
+frames_at : (d : DomainNo) (xs : List Row) (i : ℕ) (r : Row) → position_or_len (is_of d) xs ≡ i → i < length xs → (get_or xs i r).frames ≡ owed_in xs d
+frames_at d [] i r at lt = absurd (omega arith)
+frames_at d (x ∷ xs) zero r at lt = elim (cases_Bool (is_of d x)) [
+  | inl here ↦ sym (owed_here d x xs here)
+  | inr there ↦ absurd (omega (arith, place_there d x xs there))
+]
+frames_at d (x ∷ xs) (suc i) r at lt = elim (cases_Bool (is_of d x)) [
+  | inl here ↦ absurd (omega (arith, place_here d x xs here))
+  | inr there ↦ frames_at d xs i r (omega (arith, place_there d x xs there)) (omega arith) ∙ sym (owed_there d x xs there)
+]
+
 others_at : (d e : DomainNo) (f : List Owed → List Owed) (xs : List Row) (i : ℕ) → e ≢ d → position_or_len (is_of d) xs ≡ i → owed_in (update xs i (changed f)) e ≡ owed_in xs e
 others_at d e f [] i differ at = refl
 others_at d e f (x ∷ xs) zero differ at = elim (cases_Bool (is_of d x)) [
@@ -97,6 +108,12 @@ owed_updated d f xs i is =
 
 pub others_updated : (d e : DomainNo) (f : List Owed → List Owed) (xs : List Row) (i : ℕ) → position (is_of d) xs ≡ Some i → e ≢ d → owed_in (update xs i (changed f)) e ≡ owed_in xs e
 others_updated d e f xs i is differ = others_at d e f xs i differ (found d xs i is).0
+
+-- the frames at the place of a domain are what it owes
+pub owed_frames : (d : DomainNo) (xs : List Row) (i : ℕ) (r : Row) → position (is_of d) xs ≡ Some i → (get_or xs i r).frames ≡ owed_in xs d
+owed_frames d xs i r is =
+    let parts = found d xs i is in
+    frames_at d xs i r parts.0 parts.1
 
 -- a domain without a row owes nothing
 past : (d : DomainNo) (xs : List Row) → length xs ≤ position_or_len (is_of d) xs → owed_in xs d ≡ []

@@ -1,3 +1,4 @@
 pub mod Owed
+pub mod Index
 pub mod Rows
 pub mod Laws

@@ -1,4 +1,4 @@
-ghost use Rattle.std.specs.Prelude.{◌≡◌, ◌≢◌, ◌<◌, ◌∷◌, ◌++◌, [], IfOk, IsTrue, IfSome, OnOk, OnErr, filter, length, not, vec_len};
+ghost use Rattle.std.specs.Prelude.{◌≡◌, ◌≢◌, ◌<◌, ◌∷◌, ◌++◌, [], false, IfOk, IsTrue, IfSome, OnOk, OnErr, filter, get_or, length, not, vec_len};
 ghost use Rattle.std.specs.List.{position};
 ghost use Rattle.std.specs.Option.{option_copied};
 ghost use Rattle.cast_types.specs.declared.names.DomainNo.{DomainNo};
@@ -47,10 +47,10 @@ impl Timers {
         }
     }
 
-    /// Owes the domain's frame of a key from now on, to be sent again at the moment `due`, in milliseconds. Where it is
-    /// owed for that moment already, nothing changes; where it is owed for another, it is owed for both. `NoMemory`
-    /// changes nothing.
+    /// Owes the domain's frame of a key that is not owed, to be sent again at the moment `due`, in milliseconds.
+    /// `NoMemory` changes nothing.
     pub fn owe(&mut self, domain: DomainNo, key: OwedKey, due: u64) -> Result<(), NoMemory>
+        requires { is_owed (owed_in self.old domain) key ≡ false }
         ensures own { OnOk result (owed_in self.new domain ≡ with_owed (owed_in self.old domain) key due) }
         ensures err { OnErr result (self.new ≡ self.old) }
         ensures others { (e : DomainNo) → e ≢ domain → owed_in self.new e ≡ owed_in self.old e }
@@ -126,7 +126,7 @@ impl Timers {
         ensures rising { IsTrue (is_rising owed_cmp (due_frames now (owed_in self.now domain))) }
     {
         match row_among(&self.rows, domain) {
-            Some(row) => row.frames.due(now),
+            Some(row) => row.frames.due(*self.rows.allocator(), now),
             None => Ok(Vec::new(*self.rows.allocator())),
         }
     }
@@ -158,8 +158,9 @@ fn place_among(rows: &[Row], domain: DomainNo) -> Option<usize>
 // Owes a frame of the domain of a place. `NoMemory` changes nothing.
 #[tactic(auto, using(cast_types::proofs::Updates::set_update))]
 fn owe_at(rows: &mut Vec<Row>, place: usize, frame: Owed) -> Result<(), NoMemory>
-    requires { place < vec_len rows.old }
-    ensures ok { OnOk result (rows.new.items ≡ update rows.old.items place (λ r. record r { frames = with_item owed_cmp frame r.frames })) }
+    requires place { place < vec_len rows.old }
+    requires fresh { (r : Row) → is_owed (get_or rows.old.items place r).frames frame.key ≡ false }
+    ensures ok { OnOk result (rows.new.items ≡ update rows.old.items place (λ r. record r { frames = with_owed r.frames frame.key frame.due })) }
     ensures err { OnErr result (rows.new.items ≡ rows.old.items) }
 {
     let row = &mut rows[place];
@@ -172,7 +173,7 @@ fn owe_first(rows: &mut Vec<Row>, domain: DomainNo, frame: Owed) -> Result<(), N
     ensures err { OnErr result (rows.new.items ≡ rows.old.items) }
 {
     let mut frames = Frames::new(*rows.allocator());
-    frames.owe(frame)?;
+    frames.renew(frame)?;
     rows.push(Row { domain, frames })?;
     Ok(())
 }

@@ -1,13 +1,13 @@
-use Rattle.std.proofs.Common.{◌≡◌, rules, not}
-use Rattle.std.proofs.lemmas.Fn.{filter_same}
-use Rattle.cast_timer.specs.Owed.{is_upto, paid, owed_cmp}
-use Rattle.cast_types.proofs.Rising.{rising_kept}
+use Rattle.std.proofs.Common.{rules, ◌≡◌, ◌<◌, ◌∙◌, List, length, ap, sym, subst}
+use Rattle.cast_timer.specs.declared.key.Owed.{Owed}
+use Rattle.cast_timer.specs.Owed.{is_upto, paid}
+use Rattle.cast_timer.proofs.Index.{paid_again, paid_fewer}
 use Rattle.cast_timer.proofs.frames.Frames.pay_upto.Goals as goal
 
-pub returns : goal.returns
-returns c = rw (← c.self.view_is) (filter_same _ _ _ (λ x b f' k. search rules) _ _ c.retain.ensures.filtered)
+pub loop-due-smaller : goal.loop-due-smaller
+loop-due-smaller c = subst (λ (os : List Owed). length os < length c.loop-due.self) (sym c.pay.ensures) (paid_fewer c.in-Some.due c.loop-due.self c.in-Some.ensures.some.1)
 
-pub invariant_of-self : goal.invariant_of-self
-invariant_of-self c =
-    let rest : c.retain.new.self.items ≡ paid (is_upto c.args.key.now) c.self.inside.owed.items = filter_same _ _ _ (λ x b f' k. search rules) _ _ c.retain.ensures.filtered in
-    rw rest (rising_kept owed_cmp (λ o. not (is_upto c.args.key.now o.key)) c.self.inside.owed.items c.self.invariant)
+pub loop-due-preserved : goal.loop-due-preserved
+loop-due-preserved c =
+    let key = c.args.key.now in
+    ap (paid (is_upto key)) c.pay.ensures ∙ paid_again key c.in-Some.due c.loop-due.self c.in-Some.ensures.some.0 ∙ c.loop-due.invariant

@@ -1,7 +1,10 @@
-use Rattle.std.proofs.Common.{◌≡◌, rules, not}
+use Rattle.std.proofs.Common.{◌≡◌, rules, not, List, filter, ap, ◌∙◌, refl}
 use Rattle.std.proofs.lemmas.Fn.{filter_same}
-use Rattle.cast_timer.specs.Owed.{is_of_view, paid, owed_cmp}
-use Rattle.cast_types.proofs.Rising.{rising_kept}
+use Rattle.std.proofs.lemmas.Map.Made.{filter_same_pairs}
+use Rattle.cast_timer.specs.declared.key.OwedKey.{OwedKey}
+use Rattle.cast_timer.specs.Owed.{is_of_view, paid}
+use Rattle.cast_timer.specs.Index.{due_of}
+use Rattle.cast_timer.proofs.Index.{looked_kept, index_paid}
 use Rattle.cast_timer.proofs.frames.Frames.pay_view.Goals as goal
 
 pub returns : goal.returns
@@ -9,5 +12,9 @@ returns c = rw (← c.self.view_is) (filter_same _ _ _ (λ x b f' k. search rule
 
 pub invariant_of-self : goal.invariant_of-self
 invariant_of-self c =
-    let rest : c.retain.new.self.items ≡ paid (is_of_view c.args.group) c.self.inside.owed.items = filter_same _ _ _ (λ x b f' k. search rules) _ _ c.retain.ensures.filtered in
-    rw rest (rising_kept owed_cmp (λ o. not (is_of_view c.args.group o.key)) c.self.inside.owed.items c.self.invariant)
+    let g = c.args.group in
+    let rest : c.retain.new.self.keys ≡ paid (is_of_view g) c.self.inside.owed.keys = filter_same _ _ _ (λ x b f' k. search rules) _ _ c.retain.ensures.filtered in
+    let less : c.retain-2.new.self.entries ≡ filter (λ e. not (is_of_view g e.0)) c.self.inside.dues.entries = filter_same_pairs _ _ _ (λ k v b w f' t. (search rules, search rules, search rules)) _ _ c.retain-2.ensures.filtered in
+    rw rest
+    (index_paid (due_of c.self.inside.dues.entries) c.self.inside.owed.keys c.self.invariant (is_of_view g) (due_of c.retain-2.new.self.entries)
+    (λ q. ap (λ es. due_of es q) less ∙ looked_kept (is_of_view g) c.self.inside.dues.entries q))

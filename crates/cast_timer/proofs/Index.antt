@@ -1,0 +1,596 @@
+-- A map of moments goes with the frames that are owed: what is put, taken out and looked up in both says the same.
+use Rattle.std.proofs.Common.{◌≡◌, ℕ, Bool, true, false, not, cond, ◌&&◌, ◌||◌, List, [], ◌∷◌, ◌++◌, filter, Ordering, Less, Equal, Greater, Option, Some, None, refl, sym, ap, ◌∙◌, append_assoc, append-nil, inl, inr, arith}
+use Rattle.std.specs.Prelude.{◌==◌, is_some, length, map, nat_le, ◌<◌, ◌≤◌, IsTrue}
+use Rattle.std.specs.List.{list_any, list_all}
+use Rattle.std.specs.Ordering.{is_eq, is_gt, is_le, is_lt, match_ordering, nat_cmp, ordering_then, ordering_reverse}
+use Rattle.std.specs.Set.{remove_key}
+use Rattle.std.specs.BTreeMap.{is_at}
+use Rattle.std.specs.BTreeMap.Range.{entries_between, range_contains}
+use Rattle.std.specs.declared.ops.Bound.{Bound}
+use Rattle.std.specs.declared.ops.Bound.TheVariants.{Included}
+use Rattle.std.specs.BTreeSet.{insert_key}
+use Rattle.std.specs.Map.{lookup}
+use Rattle.std.proofs.lemmas.Bool.{and_parts, and_from, cases_Bool, eqb-true, eq-eqb, false_from_ne_true, false≢true, leb-true, leb-false, le-leb}
+use Rattle.std.proofs.lemmas.Cmp.{tied_itself, by_ranked, ranked, nat_cmp_total}
+use Rattle.std.proofs.lemmas.Map.Keys.{le_from_not_gt}
+use Rattle.std.proofs.lemmas.Option.{none-some}
+use Rattle.cast_types.specs.Names.{site_cmp, group_cmp, proc_cmp}
+use Rattle.cast_types.proofs.Orders.{group_total, proc_total, site_total}
+use Rattle.cast_types.specs.Sets.{with_item, at_order}
+use Rattle.cast_types.specs.Rising.{is_rising}
+use Rattle.cast_types.proofs.Rising.{rising-with_item, rising_kept, all_kept}
+use Rattle.cast_timer.specs.declared.key.OwedKey.{OwedKey}
+use Rattle.cast_timer.specs.declared.key.Owed.{Owed}
+use Rattle.cast_timer.specs.Owed.{kind_rank, side_rank, key_cmp, owed_cmp, key_eq, is_owed, paid, is_upto, renewed, with_owed, due_frames, due_at}
+use Rattle.cast_timer.specs.Index.{frame_eq, has, due_of, IsIndex}
+use Rattle.cast_timer.specs.contracts.key.OwedOrd.TheImpl as owed
+use Rattle.cast_timer.specs.contracts.key.OwedKeyOrd.TheImpl as keys
+use Rattle.cast_timer.proofs.Derived.{owed_order, key_order, owed_set}
+use Rattle.cast_timer.proofs.Orders.{owed_total, key_total}
+use Rattle.cast_timer.proofs.Owing.{same_key, key_itself, tied_frame, tied_key, any_with}
+use Rattle.cast_timer.proofs.Renewing.{stays, renewing}
+
+-- frames that test equal are one
+pub same_frame : (a b : Owed) → frame_eq a b ≡ true → a ≡ b
+same_frame a b h =
+    let parts = and_parts (a.due == b.due) (key_eq a.key b.key) h in
+    let due = eqb-true a.due b.due parts.0 in
+    let key = same_key a.key b.key parts.1 in
+    λ i. record { due = due i; key = key i }
+
+pub frame_itself : (a : Owed) → frame_eq a a ≡ true
+frame_itself a = and_from (a.due == a.due) (key_eq a.key a.key) (eq-eqb a.due a.due refl) (key_itself a.key)
+
+equal_frame : (a b : Owed) → a ≡ b → frame_eq a b ≡ true
+equal_frame a b same = ap (frame_eq a) (sym same) ∙ frame_itself a
+
+-- a test by an order is the test of equality
+tests : (o : Ordering) (b : Bool) → (o ≡ Equal → b ≡ true) → (b ≡ true → o ≡ Equal) → is_eq o ≡ b
+tests Less b to from = sym (false_from_ne_true b (λ h. cc (from h)))
+tests Equal b to from = sym (to refl)
+tests Greater b to from = sym (false_from_ne_true b (λ h. cc (from h)))
+
+pub frame_tests : (a b : Owed) → is_at (owed.cmp-value.it a) b ≡ frame_eq a b
+frame_tests a b =
+    ap is_eq (owed_order a b)
+    ∙ tests (owed_cmp a b) (frame_eq a b) (λ tie. equal_frame a b (tied_frame a b tie)) (λ h. ap (owed_cmp a) (sym (same_frame a b h)) ∙ tied_itself owed_total a)
+
+pub key_tests : (a b : OwedKey) → is_at (keys.cmp-value.it a) b ≡ key_eq a b
+key_tests a b =
+    ap is_eq (key_order a b)
+    ∙ tests (key_cmp a b) (key_eq a b) (λ tie. ap (key_eq a) (sym (tied_key a b tie)) ∙ key_itself a) (λ h. ap (key_cmp a) (sym (same_key a b h)) ∙ tied_itself key_total a)
+
+-- so a map is looked up by keys
+pub looked_up : (key : OwedKey) (dues : List (OwedKey × ℕ)) → lookup (is_at (keys.cmp-value.it key)) dues ≡ due_of dues key
+looked_up key [] = refl
+looked_up key (e ∷ es) = λ i. cond (key_tests key e.0 i) (Some e.1) (looked_up key es i)
+
+-- and an item goes to its place in a set
+ordered : {A : Type 0} (o : Ordering) (a b c : A) → match_ordering o a b c ≡ at_order o a b c
+ordered Less a b c = refl
+ordered Equal a b c = refl
+ordered Greater a b c = refl
+
+placed : {A : Type 0} (cmp : A → A → Ordering) (x : A) (xs : List A) → insert_key cmp xs x ≡ with_item cmp x xs
+placed cmp x [] = refl
+placed cmp x (y ∷ ys) =
+    ap (λ rest. match_ordering (cmp x y) (x ∷ y ∷ ys) (y ∷ ys) (y ∷ rest)) (placed cmp x ys)
+    ∙ ordered (cmp x y) (x ∷ y ∷ ys) (y ∷ ys) (y ∷ with_item cmp x ys)
+
+pub inserted : (x : Owed) (os : List Owed) → insert_key owed.cmp-value.it os x ≡ with_item owed_cmp x os
+inserted x os = placed owed.cmp-value.it x os ∙ owed_set x os
+
+-- What is among frames
+
+pub has_with : (x o : Owed) (os : List Owed) → has (with_item owed_cmp x os) o ≡ (frame_eq o x || has os o)
+has_with x o os = any_with (frame_eq o) x os (λ p tie. ap (frame_eq o) (sym (tied_frame x p tie)))
+
+-- a frame that passes a test is among those that do, if it was there, and no other is
+pub has_kept : (keep : Owed → Bool) (o : Owed) (os : List Owed) → has (filter keep os) o ≡ (keep o && has os o)
+has_kept keep o [] = none (keep o)
+  where
+    none : (b : Bool) → false ≡ (b && false)
+    none true = refl
+    none false = refl
+has_kept keep o (p ∷ ps) = elim (cases_Bool (frame_eq o p)) [
+  | inl this ↦
+      let same : o ≡ p = same_frame o p this in
+      elim (cases_Bool (keep p)) [
+        | inl stay ↦
+            let here : keep o ≡ true = ap keep same ∙ stay in
+            ap (λ b. has (cond b (p ∷ filter keep ps) (filter keep ps)) o) stay
+            ∙ ap (λ b. b || has (filter keep ps) o) this
+            ∙ sym (ap (λ b. b && (frame_eq o p || has ps o)) here ∙ ap (λ b. b || has ps o) this)
+        | inr goes ↦
+            let here : keep o ≡ false = ap keep same ∙ goes in
+            ap (λ b. has (cond b (p ∷ filter keep ps) (filter keep ps)) o) goes
+            ∙ has_kept keep o ps
+            ∙ ap (λ b. b && has ps o) here
+            ∙ sym (ap (λ b. b && (frame_eq o p || has ps o)) here)
+      ]
+  | inr other ↦
+      both (keep p) (keep o) (filter keep ps) (has_kept keep o ps) other
+      ∙ sym (ap (λ b. keep o && (b || has ps o)) other)
+]
+  where
+    both : (b c : Bool) (rest : List Owed) → has rest o ≡ (c && has ps o) → frame_eq o p ≡ false → has (cond b (p ∷ rest) rest) o ≡ (c && has ps o)
+    both true c rest later other = ap (λ d. d || has rest o) other ∙ later
+    both false c rest later other = later
+
+-- two tests that agree on what is there keep the same
+pub kept_alike : (keep other : Owed → Bool) (os : List Owed) → ((o : Owed) → has os o ≡ true → keep o ≡ other o) → filter keep os ≡ filter other os
+kept_alike keep other [] alike = refl
+kept_alike keep other (p ∷ ps) alike =
+    let here = alike p (ap (λ b. b || has ps p) (frame_itself p)) in
+    let rest = kept_alike keep other ps (λ o h. alike o (later (frame_eq o p) (has ps o) h)) in
+    λ i. cond (here i) (p ∷ rest i) (rest i)
+  where
+    later : (a b : Bool) → b ≡ true → (a || b) ≡ true
+    later true b h = refl
+    later false b h = h
+
+all_stay : (os : List Owed) → filter (λ _. true) os ≡ os
+all_stay [] = refl
+all_stay (o ∷ os) = ap (λ rest. o ∷ rest) (all_stay os)
+
+pub kept_all : (keep : Owed → Bool) (os : List Owed) → ((o : Owed) → has os o ≡ true → keep o ≡ true) → filter keep os ≡ os
+kept_all keep os stay = kept_alike keep (λ _. true) os stay ∙ all_stay os
+
+-- What is taken out of a set
+
+below_all : (x : Owed) (os : List Owed) → list_all (λ o. is_lt (owed_cmp x o)) os ≡ true → filter (λ o. not (frame_eq x o)) os ≡ os
+below_all x [] all = refl
+below_all x (o ∷ os) all =
+    let parts = and_parts (is_lt (owed_cmp x o)) (list_all (λ p. is_lt (owed_cmp x p)) os) all in
+    let other : frame_eq x o ≡ false = false_from_ne_true (frame_eq x o) (λ h. not_less (owed_cmp x o) (ap (owed_cmp x) (sym (same_frame x o h)) ∙ tied_itself owed_total x) parts.0) in
+    ap (λ b. cond (not b) (o ∷ filter (λ p. not (frame_eq x p)) os) (filter (λ p. not (frame_eq x p)) os)) other
+    ∙ ap (λ rest. o ∷ rest) (below_all x os parts.1)
+  where
+    not_less : (r : Ordering) → r ≡ Equal → is_lt r ≡ true → ⊥
+    not_less r tie less = false≢true (sym (ap is_lt tie) ∙ less)
+
+pub removed : (x : Owed) (os : List Owed) → is_rising owed_cmp os ≡ true → remove_key (is_at (owed.cmp-value.it x)) os ≡ filter (λ o. not (frame_eq x o)) os
+removed x [] rising = refl
+removed x (o ∷ os) rising =
+    let parts = and_parts (list_all (λ p. is_lt (owed_cmp o p)) os) (is_rising owed_cmp os) rising in
+    let rest = filter (λ p. not (frame_eq x p)) os in
+    ap (λ b. cond b os (o ∷ remove_key (is_at (owed.cmp-value.it x)) os)) (frame_tests x o)
+    ∙ elim (cases_Bool (frame_eq x o)) [
+      | inl this ↦
+          ap (λ b. cond b os (o ∷ remove_key (is_at (owed.cmp-value.it x)) os)) this
+          ∙ sym (below_all x os (ap (λ (y : Owed). list_all (λ p. is_lt (owed_cmp y p)) os) (same_frame x o this) ∙ parts.0))
+          ∙ sym (ap (λ b. cond (not b) (o ∷ rest) rest) this)
+      | inr other ↦
+          ap (λ b. cond b os (o ∷ remove_key (is_at (owed.cmp-value.it x)) os)) other
+          ∙ ap (λ more. o ∷ more) (removed x os parts.1)
+          ∙ sym (ap (λ b. cond (not b) (o ∷ rest) rest) other)
+    ]
+
+-- a frame that is put in and taken out again leaves the rest
+apart_with : (x : Owed) (os : List Owed) → filter (λ o. not (frame_eq x o)) (with_item owed_cmp x os) ≡ filter (λ o. not (frame_eq x o)) os
+apart_with x [] = ap (λ b. cond (not b) (x ∷ []) []) (frame_itself x)
+apart_with x (o ∷ os) =
+    let keep = λ (p : Owed). not (frame_eq x p) in
+    elim (owed_cmp x o) as (λ r. filter (λ p. not (frame_eq x p)) (at_order r (x ∷ o ∷ os) (o ∷ os) (o ∷ with_item owed_cmp x os)) ≡ filter (λ p. not (frame_eq x p)) (o ∷ os)) [
+      | Less ↦ ap (λ b. cond (not b) (x ∷ filter keep (o ∷ os)) (filter keep (o ∷ os))) (frame_itself x)
+      | Equal ↦ refl
+      | Greater ↦ ap (λ rest. cond (keep o) (o ∷ rest) rest) (apart_with x os)
+    ]
+
+-- What keeps a map and the frames together
+
+differs : (a b : ℕ) → a ≡ b → (b == a) ≡ true
+differs a b e = eq-eqb b a (sym e)
+
+same_some : (a b : ℕ) (m : Option ℕ) → m ≡ Some a → m ≡ Some b → a ≡ b
+same_some a b m x y = cc
+
+module _ (due : OwedKey → Option ℕ) (os : List Owed) (index : IsIndex due os) where
+  -- a key that the map lacks is owed at no moment
+  pub lacking : (key : OwedKey) → due key ≡ None → (o : Owed) → has os o ≡ true → key_eq key o.key ≡ false
+  lacking key none o there =
+      false_from_ne_true (key_eq key o.key) (λ h. none-some o.due (sym none ∙ ap due (same_key key o.key h) ∙ index.told o there))
+
+  pub paid_lacking : (key : OwedKey) → due key ≡ None → paid (key_eq key) os ≡ os
+  paid_lacking key none = kept_all (λ o. not (key_eq key o.key)) os (λ o there. ap not (lacking key none o there))
+
+  -- what the map has is owed at that moment alone
+  alone : (key : OwedKey) (t : ℕ) → due key ≡ Some t → (o : Owed) → has os o ≡ true → key_eq key o.key ≡ true → o.due ≡ t
+  alone key t some o there h = same_some o.due t (due o.key) (index.told o there) (ap due (sym (same_key key o.key h)) ∙ some)
+
+  pub paid_one : (key : OwedKey) (t : ℕ) → due key ≡ Some t → remove_key (is_at (owed.cmp-value.it (record { due = t; key = key }))) os ≡ paid (key_eq key) os
+  paid_one key t some =
+      let x : Owed = record { due = t; key = key } in
+      removed x os index.rising
+      ∙ kept_alike (λ o. not (frame_eq x o)) (λ o. not (key_eq key o.key)) os (λ o there. ap not (just o there (key_eq key o.key) refl))
+    where
+      just : (o : Owed) → has os o ≡ true → (b : Bool) → key_eq key o.key ≡ b → ((t == o.due) && key_eq key o.key) ≡ key_eq key o.key
+      just o there true h = ap (λ c. c && key_eq key o.key) (differs o.due t (alone key t some o there h))
+      just o there false h = none (t == o.due) (key_eq key o.key) h
+        where
+          none : (a b : Bool) → b ≡ false → (a && b) ≡ b
+          none true b h = refl
+          none false b h = sym h
+
+  -- whether a key is owed is whether the map has it
+  pub owed_by : (key : OwedKey) → is_some (due key) ≡ is_owed os key
+  owed_by key = go (due key) refl
+    where
+      any : (o : Owed) (ps : List Owed) → has ps o ≡ true → is_owed ps o.key ≡ true
+      any o [] h = absurd (false≢true h)
+      any o (p ∷ ps) h = elim (cases_Bool (frame_eq o p)) [
+        | inl this ↦ ap (λ b. b || is_owed ps o.key) (ap (λ (q : Owed). key_eq q.key o.key) (sym (same_frame o p this)) ∙ key_itself o.key)
+        | inr other ↦ later (key_eq p.key o.key) (is_owed ps o.key) (any o ps (sym (ap (λ b. b || has ps o) other) ∙ h))
+      ]
+        where
+          later : (a b : Bool) → b ≡ true → (a || b) ≡ true
+          later true b h = refl
+          later false b h = h
+
+      nobody : (ps : List Owed) → ((o : Owed) → has ps o ≡ true → key_eq key o.key ≡ false) → is_owed ps key ≡ false
+      nobody [] none = refl
+      nobody (p ∷ ps) none =
+          let here : key_eq p.key key ≡ false = false_from_ne_true (key_eq p.key key) (λ h. false≢true (sym (none p (ap (λ b. b || has ps p) (frame_itself p))) ∙ ap (key_eq key) (same_key p.key key h) ∙ key_itself key)) in
+          ap (λ b. b || is_owed ps key) here ∙ nobody ps (λ o h. none o (later (frame_eq o p) (has ps o) h))
+        where
+          later : (a b : Bool) → b ≡ true → (a || b) ≡ true
+          later true b h = refl
+          later false b h = h
+
+      go : (m : Option ℕ) → due key ≡ m → is_some m ≡ is_owed os key
+      go None none = sym (nobody os (lacking key none))
+      go (Some t) some = sym (any (record { due = t; key = key }) os (index.owes key t some))
+
+  -- keys that pass a test are taken out of both
+  pub index_paid : (test : OwedKey → Bool) (next : OwedKey → Option ℕ) → ((q : OwedKey) → next q ≡ cond (test q) None (due q)) → IsIndex next (paid test os)
+  index_paid test next is = record {
+      rising = rising_kept owed_cmp (λ o. not (test o.key)) os index.rising;
+      told = λ o there.
+          let parts = and_parts (not (test o.key)) (has os o) (sym (has_kept (λ p. not (test p.key)) o os) ∙ there) in
+          is o.key ∙ stays_in (test o.key) (due o.key) parts.0 ∙ index.told o parts.1;
+      owes = λ key t some.
+          let parts = was (test key) (due key) t (sym (is key) ∙ some) in
+          let o : Owed = record { due = t; key = key } in
+          has_kept (λ p. not (test p.key)) o os ∙ and_from (not (test key)) (has os o) parts.0 (index.owes key t parts.1)
+    }
+    where
+      stays_in : (b : Bool) (m : Option ℕ) → not b ≡ true → cond b None m ≡ m
+      stays_in true m h = absurd (false≢true h)
+      stays_in false m h = refl
+
+      was : (b : Bool) (m : Option ℕ) (t : ℕ) → cond b None m ≡ Some t → (not b ≡ true) × (m ≡ Some t)
+      was true m t h = absurd (none-some t h)
+      was false m t h = (refl, h)
+
+  -- a key that the map lacks is put in both
+  pub index_with : (x : Owed) (next : OwedKey → Option ℕ) → due x.key ≡ None → ((q : OwedKey) → next q ≡ cond (key_eq x.key q) (Some x.due) (due q)) → IsIndex next (with_item owed_cmp x os)
+  index_with x next none is = record {
+      rising = rising-with_item owed_cmp owed_total x os index.rising;
+      told = λ o there. told_of o (frame_eq o x) refl (sym (has_with x o os) ∙ there);
+      owes = λ key t some. owes_of key t (key_eq x.key key) refl (sym (is key) ∙ some)
+    }
+    where
+      told_of : (o : Owed) (b : Bool) → frame_eq o x ≡ b → (frame_eq o x || has os o) ≡ true → next o.key ≡ Some o.due
+      told_of o true same there =
+          let one : o ≡ x = same_frame o x same in
+          is o.key
+          ∙ ap (λ b. cond b (Some x.due) (due o.key)) (ap (λ (y : Owed). key_eq x.key y.key) one ∙ key_itself x.key)
+          ∙ ap (λ (y : Owed). Some y.due) (sym one)
+      told_of o false other there =
+          let in_os : has os o ≡ true = sym (ap (λ b. b || has os o) other) ∙ there in
+          is o.key ∙ ap (λ b. cond b (Some x.due) (due o.key)) (lacking x.key none o in_os) ∙ index.told o in_os
+
+      owes_of : (key : OwedKey) (t : ℕ) (b : Bool) → key_eq x.key key ≡ b → cond (key_eq x.key key) (Some x.due) (due key) ≡ Some t → has (with_item owed_cmp x os) (record { due = t; key = key }) ≡ true
+      owes_of key t true same some =
+          let o : Owed = record { due = t; key = key } in
+          let moment : x.due ≡ t = same_some x.due t (Some x.due) refl (sym (ap (λ b. cond b (Some x.due) (due key)) same) ∙ some) in
+          let one : frame_eq o x ≡ true = and_from (t == x.due) (key_eq key x.key) (differs x.due t moment) (ap (key_eq key) (same_key x.key key same) ∙ key_itself key) in
+          has_with x o os ∙ ap (λ b. b || has os o) one
+      owes_of key t false other some =
+          let o : Owed = record { due = t; key = key } in
+          has_with x o os ∙ later (frame_eq o x) (has os o) (index.owes key t (sym (ap (λ b. cond b (Some x.due) (due key)) other) ∙ some))
+        where
+          later : (a b : Bool) → b ≡ true → (a || b) ≡ true
+          later true b h = refl
+          later false b h = h
+
+  -- Frames after one was put in, and the one of its key that was there is taken out
+
+  -- it was owed at no moment
+  pub with_new : (x : Owed) → due x.key ≡ None → with_item owed_cmp x os ≡ renewed os x.key x.due
+  with_new x none = ap (with_item owed_cmp x) (sym (paid_lacking x.key none))
+
+  -- it was owed at the same one
+  pub with_same : (x : Owed) (t : ℕ) → due x.key ≡ Some t → t ≡ x.due → with_item owed_cmp x os ≡ renewed os x.key x.due
+  with_same x t some moment =
+      sym (kept_all (stays x) (with_item owed_cmp x os) (λ o there. stay o (key_eq x.key o.key) refl (sym (has_with x o os) ∙ there)))
+      ∙ renewing x os index.rising
+    where
+      stay : (o : Owed) (b : Bool) → key_eq x.key o.key ≡ b → (frame_eq o x || has os o) ≡ true → stays x o ≡ true
+      stay o false other there = ap (λ b. not b || (o.due == x.due)) other
+      stay o true same there = ap (λ b. not b || (o.due == x.due)) same ∙ elim (cases_Bool (frame_eq o x)) [
+        | inl one ↦ eq-eqb o.due x.due (ap (λ (y : Owed). y.due) (same_frame o x one))
+        | inr other ↦ eq-eqb o.due x.due (alone x.key t some o (sym (ap (λ b. b || has os o) other) ∙ there) same ∙ moment)
+      ]
+
+  -- it was owed at another
+  pub with_other : (x : Owed) (t : ℕ) → due x.key ≡ Some t → (t == x.due) ≡ false → remove_key (is_at (owed.cmp-value.it (record { due = t; key = x.key }))) (with_item owed_cmp x os) ≡ renewed os x.key x.due
+  with_other x t some other =
+      let old : Owed = record { due = t; key = x.key } in
+      removed old (with_item owed_cmp x os) (rising-with_item owed_cmp owed_total x os index.rising)
+      ∙ kept_alike (λ o. not (frame_eq old o)) (stays x) (with_item owed_cmp x os) (λ o there. alike o (key_eq x.key o.key) refl (sym (has_with x o os) ∙ there))
+      ∙ renewing x os index.rising
+    where
+      alike : (o : Owed) (b : Bool) → key_eq x.key o.key ≡ b → (frame_eq o x || has os o) ≡ true → not ((t == o.due) && key_eq x.key o.key) ≡ stays x o
+      alike o false differ there =
+          ap not (none (t == o.due) (key_eq x.key o.key) differ) ∙ sym (ap (λ b. not b || (o.due == x.due)) differ)
+        where
+          none : (a b : Bool) → b ≡ false → (a && b) ≡ false
+          none true b h = h
+          none false b h = refl
+      alike o true same there =
+          ap (λ b. not ((t == o.due) && b)) same
+          ∙ elim (cases_Bool (frame_eq o x)) [
+            | inl one ↦
+                let moment : o.due ≡ x.due = ap (λ (y : Owed). y.due) (same_frame o x one) in
+                ap (λ (n : ℕ). not ((t == n) && true)) moment
+                ∙ ap (λ b. not (b && true)) other
+                ∙ sym (ap (λ b. not b || (o.due == x.due)) same ∙ eq-eqb o.due x.due moment)
+            | inr apart ↦
+                let moment : o.due ≡ t = alone x.key t some o (sym (ap (λ b. b || has os o) apart) ∙ there) same in
+                ap (λ b. not (b && true)) (differs o.due t moment)
+                ∙ sym (ap (λ b. not b || (o.due == x.due)) same ∙ ap (λ (n : ℕ). n == x.due) moment ∙ other)
+          ]
+        ∙ refl
+
+  -- it was put in, and is taken out again
+  pub with_none : (x : Owed) → due x.key ≡ None → remove_key (is_at (owed.cmp-value.it x)) (with_item owed_cmp x os) ≡ os
+  with_none x none =
+      removed x (with_item owed_cmp x os) (rising-with_item owed_cmp owed_total x os index.rising)
+      ∙ apart_with x os
+      ∙ kept_all (λ o. not (frame_eq x o)) os (λ o there. ap not (none_of (x.due == o.due) (key_eq x.key o.key) (lacking x.key none o there)))
+    where
+      none_of : (a b : Bool) → b ≡ false → (a && b) ≡ false
+      none_of true b h = h
+      none_of false b h = refl
+
+-- a key is put in both, in the place of what it had
+pub index_renewed : (due : OwedKey → Option ℕ) (os : List Owed) → IsIndex due os → (x : Owed) (next : OwedKey → Option ℕ) → ((q : OwedKey) → next q ≡ cond (key_eq x.key q) (Some x.due) (due q)) → IsIndex next (renewed os x.key x.due)
+index_renewed due os index x next is =
+    let less = λ (q : OwedKey). cond (key_eq x.key q) None (due q) in
+    index_with less (paid (key_eq x.key) os) (index_paid due os index (key_eq x.key) less (λ q. refl)) x next
+    (ap (λ b. cond b None (due x.key)) (key_itself x.key))
+    (λ q. is q ∙ again (key_eq x.key q) x.due (due q))
+  where
+    again : (b : Bool) (t : ℕ) (m : Option ℕ) → cond b (Some t) m ≡ cond b (Some t) (cond b None m)
+    again true t m = refl
+    again false t m = refl
+
+-- what a map has after one key was changed
+pub moved : (key : OwedKey) (w : Option ℕ) (old new : List (OwedKey × ℕ)) → ((q : OwedKey) → lookup (is_at (keys.cmp-value.it q)) new ≡ cond (is_at (keys.cmp-value.it key) q) w (lookup (is_at (keys.cmp-value.it q)) old)) → (q : OwedKey) → due_of new q ≡ cond (key_eq key q) w (due_of old q)
+moved key w old new is q =
+    sym (looked_up q new) ∙ is q ∙ (λ i. cond (key_tests key q i) w (looked_up q old i))
+
+-- a key that is not owed is not paid
+pub paid_unowed : (key : OwedKey) (os : List Owed) → is_owed os key ≡ false → paid (key_eq key) os ≡ os
+paid_unowed key [] none = refl
+paid_unowed key (o ∷ os) none = elim (cases_Bool (key_eq o.key key)) [
+  | inl this ↦ absurd (false≢true (sym none ∙ ap (λ b. b || is_owed os key) this))
+  | inr other ↦
+      let apart : key_eq key o.key ≡ false = false_from_ne_true (key_eq key o.key) (λ h. false≢true (sym other ∙ ap (key_eq o.key) (same_key key o.key h) ∙ key_itself o.key)) in
+      ap (λ b. cond (not b) (o ∷ paid (key_eq key) os) (paid (key_eq key) os)) apart
+      ∙ ap (λ rest. o ∷ rest) (paid_unowed key os (sym (ap (λ b. b || is_owed os key) other) ∙ none))
+]
+
+not_greater : (r s : Ordering) → is_lt (ordering_then r s) ≡ true → is_gt r ≡ false
+not_greater Less s h = refl
+not_greater Equal s h = refl
+not_greater Greater s h = absurd (false≢true h)
+
+-- behind a frame that is not due, none is
+pub none_due : (now : ℕ) (o : Owed) (os : List Owed) → is_rising owed_cmp (o ∷ os) ≡ true → nat_le o.due now ≡ false → due_at now (o ∷ os) ≡ []
+none_due now o os rising late =
+    let parts = and_parts (list_all (λ p. is_lt (owed_cmp o p)) os) (is_rising owed_cmp os) rising in
+    ap (λ b. map (λ (p : Owed). p.key) (cond b (o ∷ due_frames now os) (due_frames now os))) late
+    ∙ ap (λ (ps : List Owed). map (λ (p : Owed). p.key) ps) (behind os parts.0)
+  where
+    later : (p : Owed) → is_lt (owed_cmp o p) ≡ true → nat_le p.due now ≡ false
+    later p less = elim (cases_Bool (nat_le p.due now)) [
+      | inl due ↦ absurd (omega (arith, leb-false o.due now late, leb-true p.due now due, not_later less))
+      | inr after ↦ after
+    ]
+      where
+        not_later : is_lt (owed_cmp o p) ≡ true → o.due ≤ p.due
+        not_later less = le_from_not_gt o.due p.due (not_greater (nat_cmp o.due p.due) (key_cmp o.key p.key) less)
+
+    behind : (ps : List Owed) → list_all (λ p. is_lt (owed_cmp o p)) ps ≡ true → due_frames now ps ≡ []
+    behind [] all = refl
+    behind (p ∷ ps) all =
+        let parts = and_parts (is_lt (owed_cmp o p)) (list_all (λ q. is_lt (owed_cmp o q)) ps) all in
+        ap (λ b. cond b (p ∷ due_frames now ps) (due_frames now ps)) (later p parts.0) ∙ behind ps parts.1
+
+-- a frame that is due is given, and the rest after it
+pub one_due : (now : ℕ) (o : Owed) (os : List Owed) (given : List OwedKey) (all : List OwedKey) → o.due ≤ now → given ++ due_at now (o ∷ os) ≡ all → (given ++ o.key ∷ []) ++ due_at now os ≡ all
+one_due now o os given all due is =
+    append_assoc given (o.key ∷ []) (due_at now os)
+    ∙ sym (ap (λ b. given ++ map (λ (p : Owed). p.key) (cond b (o ∷ due_frames now os) (due_frames now os))) (le-leb o.due now due))
+    ∙ is
+
+-- where the next is not due, all that is due was given
+pub all_due : (now : ℕ) (os : List Owed) (given all : List OwedKey) → due_at now os ≡ [] → given ++ due_at now os ≡ all → given ≡ all
+all_due now os given all none is = sym (append-nil given) ∙ ap (λ (more : List OwedKey). given ++ more) (sym none) ∙ is
+
+pub not_due : (now due : ℕ) → now < due → nat_le due now ≡ false
+not_due now due lt = false_from_ne_true (nat_le due now) (λ h. absurd (omega (arith, lt, leb-true due now h)))
+
+-- What a map has where keys that pass a test are taken out
+pub looked_kept : (test : OwedKey → Bool) (dues : List (OwedKey × ℕ)) (q : OwedKey) → due_of (filter (λ e. not (test e.0)) dues) q ≡ cond (test q) None (due_of dues q)
+looked_kept test [] q = elim (test q) as (λ b. due_of [] q ≡ cond b None (due_of [] q)) [ true ↦ refl | false ↦ refl ]
+looked_kept test (e ∷ es) q = elim (cases_Bool (key_eq q e.0)) [
+  | inl this ↦
+      let one : q ≡ e.0 = same_key q e.0 this in
+      elim (cases_Bool (test e.0)) [
+        | inl goes ↦
+            ap (λ b. due_of (cond (not b) (e ∷ filter (λ x. not (test x.0)) es) (filter (λ x. not (test x.0)) es)) q) goes
+            ∙ looked_kept test es q
+            ∙ ap (λ b. cond b None (due_of es q)) (ap test one ∙ goes)
+            ∙ sym (ap (λ b. cond b None (due_of (e ∷ es) q)) (ap test one ∙ goes))
+        | inr stays_in ↦
+            ap (λ b. due_of (cond (not b) (e ∷ filter (λ x. not (test x.0)) es) (filter (λ x. not (test x.0)) es)) q) stays_in
+            ∙ ap (λ b. cond b (Some e.1) (due_of (filter (λ x. not (test x.0)) es) q)) this
+            ∙ sym (ap (λ b. cond b None (due_of (e ∷ es) q)) (ap test one ∙ stays_in) ∙ ap (λ b. cond b (Some e.1) (due_of es q)) this)
+      ]
+  | inr other ↦
+      skip (test e.0) (filter (λ x. not (test x.0)) es) other
+      ∙ looked_kept test es q
+      ∙ sym (ap (λ b. cond (test q) None (cond b (Some e.1) (due_of es q))) other)
+]
+  where
+    skip : (b : Bool) (rest : List (OwedKey × ℕ)) → key_eq q e.0 ≡ false → due_of (cond (not b) (e ∷ rest) rest) q ≡ due_of rest q
+    skip true rest other = refl
+    skip false rest other = ap (λ b. cond b (Some e.1) (due_of rest q)) other
+
+pub rising_rest : (o : Owed) (os : List Owed) → is_rising owed_cmp (o ∷ os) ≡ true → is_rising owed_cmp os ≡ true
+rising_rest o os rising = (and_parts (list_all (λ p. is_lt (owed_cmp o p)) os) (is_rising owed_cmp os) rising).1
+
+-- Keys up to one, in the range of a map that has them all
+
+-- whether the key of an entry is up to a key
+abbrev pub entry_upto : OwedKey → OwedKey × ℕ → Bool
+entry_upto key e = is_upto key e.0
+
+abbrev pub lowest : OwedKey → OwedKey
+lowest key = record key { count = 0 }
+
+-- the entries from the lowest of these keys to the key itself
+abbrev pub between : OwedKey → List (OwedKey × ℕ) → List (OwedKey × ℕ)
+between key dues = entries_between keys.cmp-value.it (Included (lowest key)) (Included key) dues
+
+not_above : (a b : ℕ) → a ≤ b → is_gt (nat_cmp a b) ≡ false
+not_above a b le = by_ranked (a < b) (a ≡ b) (b < a) (nat_cmp a b) (ranked a b (nat_cmp a b) refl) (λ e _. ap is_gt e) (λ e _. ap is_gt e) (λ _ l. absurd (omega (arith, le, l)))
+
+-- keys that differ in their counts alone are ordered by these
+by_counts : (key : OwedKey) (n m : ℕ) → key_cmp (record key { count = n }) (record key { count = m }) ≡ ordering_then (nat_cmp n m) Equal
+by_counts key n m =
+    let last = ordering_then (site_cmp key.site key.site) (nat_cmp (side_rank key.side) (side_rank key.side)) in
+    ap (λ o. ordering_then o (ordering_then (group_cmp key.group key.group) (ordering_then (proc_cmp key.proc key.proc) (ordering_then (nat_cmp n m) last)))) (tied_itself nat_cmp_total (kind_rank key.kind))
+    ∙ ap (λ o. ordering_then o (ordering_then (proc_cmp key.proc key.proc) (ordering_then (nat_cmp n m) last))) (tied_itself group_total key.group)
+    ∙ ap (λ o. ordering_then o (ordering_then (nat_cmp n m) last)) (tied_itself proc_total key.proc)
+    ∙ ap (λ o. ordering_then (nat_cmp n m) (ordering_then o (nat_cmp (side_rank key.side) (side_rank key.side)))) (tied_itself site_total key.site)
+    ∙ ap (λ o. ordering_then (nat_cmp n m) o) (tied_itself nat_cmp_total (side_rank key.side))
+
+not_above_then : (o : Ordering) → is_gt o ≡ false → is_gt (ordering_then o Equal) ≡ false
+not_above_then Less h = refl
+not_above_then Equal h = refl
+not_above_then Greater h = h
+
+counted : (key : OwedKey) (n m : ℕ) → n ≤ m → is_gt (keys.cmp-value.it (record key { count = n }) (record key { count = m })) ≡ false
+counted key n m le =
+    ap is_gt (key_order (record key { count = n }) (record key { count = m }) ∙ by_counts key n m)
+    ∙ not_above_then (nat_cmp n m) (not_above n m le)
+
+pub from_lowest : (key : OwedKey) → is_gt (keys.cmp-value.it (lowest key) key) ≡ false
+from_lowest key = counted key 0 key.count (omega arith)
+
+at_most : (o : Ordering) → is_gt o ≡ false → is_le o ≡ true
+at_most Less h = refl
+at_most Equal h = refl
+at_most Greater h = absurd (false≢true (sym h))
+
+not_below : (o : Ordering) → is_gt o ≡ false → is_lt (ordering_reverse o) ≡ false
+not_below Less h = refl
+not_below Equal h = refl
+not_below Greater h = absurd (false≢true (sym h))
+
+in_range : (key q : OwedKey) → is_upto key q ≡ true → range_contains keys.cmp-value.it (Included (lowest key)) (Included key) q ≡ true
+in_range key q h =
+    let parts = and_parts (key_eq (record q { count = key.count }) key) (nat_le q.count key.count) h in
+    let one : record q { count = key.count } ≡ key = same_key (record q { count = key.count }) key parts.0 in
+    let this : record key { count = q.count } ≡ q = ap (λ (k : OwedKey). record k { count = q.count }) (sym one) in
+    let le : q.count ≤ key.count = leb-true q.count key.count parts.1 in
+    and_from (is_le (keys.cmp-value.it (lowest key) q)) (not (is_lt (keys.cmp-value.it key q)))
+    (at_most (keys.cmp-value.it (lowest key) q) (ap (λ (k : OwedKey). is_gt (keys.cmp-value.it (lowest key) k)) (sym this) ∙ counted key 0 q.count (omega arith)))
+    (ap not
+      (ap is_lt (key_order key q ∙ key_total.antisymm key q)
+      ∙ not_below (key_cmp q key) (ap is_gt (sym (key_order q key)) ∙ ap (λ (k : OwedKey). is_gt (keys.cmp-value.it k key)) (sym this) ∙ counted key q.count key.count le)))
+
+-- what is kept has each item that passes a test, if all that pass it are kept
+any_kept : {A : Type 0} (test keep : A → Bool) (xs : List A) → ((x : A) → test x ≡ true → keep x ≡ true) → list_any test (filter keep xs) ≡ list_any test xs
+any_kept {A = A} test keep [] all = refl
+any_kept {A = A} test keep (x ∷ xs) all = elim (cases_Bool (test x)) [
+  | inl passes ↦ ap (λ b. list_any test (cond b (x ∷ filter keep xs) (filter keep xs))) (all x passes) ∙ ap (λ rest. test x || rest) (any_kept test keep xs all)
+  | inr fails ↦ drop_it (keep x) (filter keep xs) fails ∙ any_kept test keep xs all ∙ sym (ap (λ b. b || list_any test xs) fails)
+]
+  where
+    drop_it : (b : Bool) (rest : List A) → test x ≡ false → list_any test (cond b (x ∷ rest) rest) ≡ list_any test rest
+    drop_it true rest fails = ap (λ c. c || list_any test rest) fails
+    drop_it false rest fails = refl
+
+-- each entry of a map is found by its key
+found_in : (all es : List (OwedKey × ℕ)) → ((q : OwedKey) → is_some (due_of es q) ≡ true → is_some (due_of all q) ≡ true) → list_all (λ e. is_some (due_of all e.0)) es ≡ true
+found_in all [] more = refl
+found_in all (e ∷ es) more =
+    and_from (is_some (due_of all e.0)) (list_all (λ x. is_some (due_of all x.0)) es)
+    (more e.0 (ap (λ b. is_some (cond b (Some e.1) (due_of es e.0))) (key_itself e.0)))
+    (found_in all es (λ q some. more q (behind (key_eq q e.0) (due_of es q) some)))
+  where
+    behind : (b : Bool) (m : Option ℕ) → is_some m ≡ true → is_some (cond b (Some e.1) m) ≡ true
+    behind true m some = refl
+    behind false m some = some
+
+-- a key that passes a test which no entry passes is not found
+lost : (test : OwedKey → Bool) (es : List (OwedKey × ℕ)) (q : OwedKey) → list_any (λ e. test e.0) es ≡ false → test q ≡ true → due_of es q ≡ None
+lost test [] q none passes = refl
+lost test (e ∷ es) q none passes = elim (cases_Bool (key_eq q e.0)) [
+  | inl this ↦ absurd (false≢true (sym none ∙ ap (λ b. b || list_any (λ x. test x.0) es) (ap test (sym (same_key q e.0 this)) ∙ passes)))
+  | inr other ↦ ap (λ b. cond b (Some e.1) (due_of es q)) other ∙ lost test es q (rest (test e.0) (list_any (λ x. test x.0) es) none) passes
+]
+  where
+    rest : (a b : Bool) → (a || b) ≡ false → b ≡ false
+    rest true b h = absurd (false≢true (sym h))
+    rest false b h = h
+
+module _ (dues : List (OwedKey × ℕ)) (os : List Owed) (index : IsIndex (due_of dues) os) (key : OwedKey) where
+  pub all_owed : list_all (λ e. is_owed os e.0) (between key dues) ≡ true
+  all_owed =
+      (λ i. list_all (λ e. sym (owed_by (due_of dues) os index e.0) i) (between key dues))
+      ∙ all_kept (λ e. is_some (due_of dues e.0)) (λ e. range_contains keys.cmp-value.it (Included (lowest key)) (Included key) e.0) dues (found_in dues dues (λ q some. some))
+
+  pub none_between : list_any (entry_upto key) (between key dues) ≡ false → paid (is_upto key) os ≡ os
+  none_between none =
+      let nothing = sym (any_kept (entry_upto key) (λ e. range_contains keys.cmp-value.it (Included (lowest key)) (Included key) e.0) dues (λ e. in_range key e.0)) ∙ none in
+      kept_all (λ o. not (is_upto key o.key)) os (λ o there. ap not (false_from_ne_true (is_upto key o.key) (λ h. none-some o.due (sym (lost (is_upto key) dues o.key nothing h) ∙ index.told o there))))
+
+-- Keys that are paid one after another
+
+pub paid_again : (key k : OwedKey) (os : List Owed) → is_upto key k ≡ true → paid (is_upto key) (paid (key_eq k) os) ≡ paid (is_upto key) os
+paid_again key k [] upto = refl
+paid_again key k (o ∷ os) upto = elim (cases_Bool (key_eq k o.key)) [
+  | inl this ↦
+      ap (λ b. paid (is_upto key) (cond (not b) (o ∷ paid (key_eq k) os) (paid (key_eq k) os))) this
+      ∙ paid_again key k os upto
+      ∙ sym (ap (λ b. cond (not b) (o ∷ paid (is_upto key) os) (paid (is_upto key) os)) (ap (is_upto key) (sym (same_key k o.key this)) ∙ upto))
+  | inr other ↦
+      ap (λ b. paid (is_upto key) (cond (not b) (o ∷ paid (key_eq k) os) (paid (key_eq k) os))) other
+      ∙ ap (λ rest. cond (not (is_upto key o.key)) (o ∷ rest) rest) (paid_again key k os upto)
+]
+
+paid_at_most : (k : OwedKey) (os : List Owed) → length (paid (key_eq k) os) ≤ length os
+paid_at_most k [] = omega arith
+paid_at_most k (o ∷ os) = go (not (key_eq k o.key)) (paid_at_most k os)
+  where
+    go : (b : Bool) → length (paid (key_eq k) os) ≤ length os → length (cond b (o ∷ paid (key_eq k) os) (paid (key_eq k) os)) ≤ length (o ∷ os)
+    go true le = omega (arith, le)
+    go false le = omega (arith, le)
+
+pub paid_fewer : (k : OwedKey) (os : List Owed) → is_owed os k ≡ true → length (paid (key_eq k) os) < length os
+paid_fewer k [] h = absurd (false≢true h)
+paid_fewer k (o ∷ os) h = elim (cases_Bool (key_eq k o.key)) [
+  | inl this ↦ omega (arith, paid_at_most k os, ap (λ b. length (cond (not b) (o ∷ paid (key_eq k) os) (paid (key_eq k) os))) this)
+  | inr other ↦ omega (arith, paid_fewer k os (later h other), ap (λ b. length (cond (not b) (o ∷ paid (key_eq k) os) (paid (key_eq k) os))) other)
+]
+  where
+    later : (key_eq o.key k || is_owed os k) ≡ true → key_eq k o.key ≡ false → is_owed os k ≡ true
+    later there other =
+        let apart : key_eq o.key k ≡ false = false_from_ne_true (key_eq o.key k) (λ e. false≢true (sym other ∙ ap (key_eq k) (same_key o.key k e) ∙ key_itself k)) in
+        sym (ap (λ b. b || is_owed os k) apart) ∙ there
