@@ -8,7 +8,9 @@
 //! - `follower`: so with an ABCAST and its place from 2.1;
 //! - `sessions`: a program connects, joins, and is gone; the home answers both requests;
 //! - `passes-N`: N groups wait for messages that nobody sent; then one message lets so many ABCASTs as there are rounds go, each
-//!   only once the place of the one before is told.
+//!   only once the place of the one before is told;
+//! - `partition-N`: 1.1 casts N times in a view with a member at each of 14 other sites, none of which answers; in each round all that
+//!   is owed falls due.
 
 use std::fmt::Write;
 use std::{env, fs, process};
@@ -22,6 +24,12 @@ const ORDER: u8 = 3;
 
 /// The group in which ABCASTs go one after the other, beside those that wait.
 const PASSING: usize = 32;
+
+/// How many sites have a member where none answers.
+const PARTED: usize = 15;
+
+/// After how many milliseconds a frame that is owed is sent again.
+const RESEND: usize = 60_000;
 
 /// The bytes of a process's name, and of a message's.
 fn process(site: usize) -> String {
@@ -57,11 +65,23 @@ fn prepare(group: usize, view: usize) -> String {
 /// The first message of a view that 1.1 and 2.1 are members of, and the holder among them; the view before it ends with these
 /// counts, and with this order.
 fn install(group: usize, view: usize, holder: usize, cut: &[String], order: &[String]) -> String {
+    install_at(2, group, view, holder, cut, order)
+}
+
+/// So of a view that has a member at each of the first sites.
+fn install_at(
+    sites: usize,
+    group: usize,
+    view: usize,
+    holder: usize,
+    cut: &[String],
+    order: &[String],
+) -> String {
+    let members: Vec<String> = (1..=sites).map(process).collect();
     format!(
-        "{}02{}{}{:02x}00000001{:02x}{}00000000{:04x}{}",
+        "{}{sites:02x}{}{:02x}00000001{:02x}{}00000000{:04x}{}",
         header(10, 9, group, view),
-        process(1),
-        process(2),
+        members.concat(),
         holder - 1,
         cut.len(),
         cut.concat(),
@@ -173,6 +193,18 @@ fn passes(waiting: usize, rounds: usize) -> Vec<String> {
     events
 }
 
+/// Casts that no site answers, and the moments at which they fall due.
+fn partition(casts: usize, rounds: usize) -> Vec<String> {
+    let mut events = vec![
+        "join 1 1 7 1".to_string(),
+        asked(1, 1),
+        install_at(PARTED, 1, 2, 1, &[], &[]),
+    ];
+    events.extend((1..=casts).map(|number| format!("cast 1 1 {number} 1 {PAYLOAD}")));
+    events.extend((1..=rounds).map(|number| format!("tick {}", number * RESEND)));
+    events
+}
+
 /// The lines behind `open 1` of a case.
 fn events(case: &str, rounds: usize) -> Option<Vec<String>> {
     let by_round = |holder: usize, round: fn(usize) -> Vec<String>| {
@@ -195,6 +227,7 @@ fn events(case: &str, rounds: usize) -> Option<Vec<String>> {
             Some(events)
         }
         Some(("passes", groups)) => Some(passes(groups.parse().ok()?, rounds)),
+        Some(("partition", casts)) => Some(partition(casts.parse().ok()?, rounds)),
         Some(_) => None,
     }
 }
@@ -202,8 +235,10 @@ fn events(case: &str, rounds: usize) -> Option<Vec<String>> {
 fn script(case: &str, rounds: usize) -> Option<String> {
     let last = if case.starts_with("passes") { PASSING } else { 1 };
     let groups: Vec<String> = (1..=last).map(|group| group.to_string()).collect();
+    let sites: Vec<String> = (1..=PARTED).map(|site| site.to_string()).collect();
+    let sites = if case.starts_with("partition") { sites.join(",") } else { "1,2,9".to_string() };
     let mut text = format!(
-        "site 1\ndomain 1 home 9 sites 1,2,9 groups {} quotas 16 1024 4096 60000\nopen 1\n",
+        "site 1\ndomain 1 home 9 sites {sites} groups {} quotas 16 1024 4096 {RESEND}\nopen 1\n",
         groups.join(",")
     );
     for line in events(case, rounds)? {
@@ -219,7 +254,7 @@ fn main() {
         _ => None,
     };
     let Some(text) = text else {
-        eprintln!("replay kept-N|views|holder|follower|sessions|passes-N ROUNDS FILE");
+        eprintln!("replay kept-N|views|holder|follower|sessions|passes-N|partition-N ROUNDS FILE");
         process::exit(2);
     };
     if let Err(error) = fs::write(&words[2], text) {
