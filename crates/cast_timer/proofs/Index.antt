@@ -244,15 +244,15 @@ module _ (due : OwedKey → Option ℕ) (os : List Owed) (index : IsIndex due os
   -- keys that pass a test are taken out of both
   pub index_paid : (test : OwedKey → Bool) (next : OwedKey → Option ℕ) → ((q : OwedKey) → next q ≡ cond (test q) None (due q)) → IsIndex next (paid test os)
   index_paid test next is = record {
-      rising = rising_kept owed_cmp (λ o. not (test o.key)) os index.rising;
-      told = λ o there.
-          let parts = and_parts (not (test o.key)) (has os o) (sym (has_kept (λ p. not (test p.key)) o os) ∙ there) in
-          is o.key ∙ stays_in (test o.key) (due o.key) parts.0 ∙ index.told o parts.1;
-      owes = λ key t some.
-          let parts = was (test key) (due key) t (sym (is key) ∙ some) in
-          let o : Owed = record { due = t; key = key } in
-          has_kept (λ p. not (test p.key)) o os ∙ and_from (not (test key)) (has os o) parts.0 (index.owes key t parts.1)
-    }
+    rising = rising_kept owed_cmp (λ o. not (test o.key)) os index.rising;
+    told = λ o there.
+        let parts = and_parts (not (test o.key)) (has os o) (sym (has_kept (λ p. not (test p.key)) o os) ∙ there) in
+        is o.key ∙ stays_in (test o.key) (due o.key) parts.0 ∙ index.told o parts.1;
+    owes = λ key t some.
+        let parts = was (test key) (due key) t (sym (is key) ∙ some) in
+        let o : Owed = record { due = t; key = key } in
+        has_kept (λ p. not (test p.key)) o os ∙ and_from (not (test key)) (has os o) parts.0 (index.owes key t parts.1);
+  }
     where
       stays_in : (b : Bool) (m : Option ℕ) → not b ≡ true → cond b None m ≡ m
       stays_in true m h = absurd (false≢true h)
@@ -265,10 +265,10 @@ module _ (due : OwedKey → Option ℕ) (os : List Owed) (index : IsIndex due os
   -- a key that the map lacks is put in both
   pub index_with : (x : Owed) (next : OwedKey → Option ℕ) → due x.key ≡ None → ((q : OwedKey) → next q ≡ cond (key_eq x.key q) (Some x.due) (due q)) → IsIndex next (with_item owed_cmp x os)
   index_with x next none is = record {
-      rising = rising-with_item owed_cmp owed_total x os index.rising;
-      told = λ o there. told_of o (frame_eq o x) refl (sym (has_with x o os) ∙ there);
-      owes = λ key t some. owes_of key t (key_eq x.key key) refl (sym (is key) ∙ some)
-    }
+    rising = rising-with_item owed_cmp owed_total x os index.rising;
+    told = λ o there. told_of o (frame_eq o x) refl (sym (has_with x o os) ∙ there);
+    owes = λ key t some. owes_of key t (key_eq x.key key) refl (sym (is key) ∙ some);
+  }
     where
       told_of : (o : Owed) (b : Bool) → frame_eq o x ≡ b → (frame_eq o x || has os o) ≡ true → next o.key ≡ Some o.due
       told_of o true same there =
@@ -341,7 +341,7 @@ module _ (due : OwedKey → Option ℕ) (os : List Owed) (index : IsIndex due os
                 ap (λ b. not (b && true)) (differs o.due t moment)
                 ∙ sym (ap (λ b. not b || (o.due == x.due)) same ∙ ap (λ (n : ℕ). n == x.due) moment ∙ other)
           ]
-        ∙ refl
+          ∙ refl
 
   -- it was put in, and is taken out again
   pub with_none : (x : Owed) → due x.key ≡ None → remove_key (is_at (owed.cmp-value.it x)) (with_item owed_cmp x os) ≡ os
@@ -511,8 +511,8 @@ in_range key q h =
     and_from (is_le (keys.cmp-value.it (lowest key) q)) (not (is_lt (keys.cmp-value.it key q)))
     (at_most (keys.cmp-value.it (lowest key) q) (ap (λ (k : OwedKey). is_gt (keys.cmp-value.it (lowest key) k)) (sym this) ∙ counted key 0 q.count (omega arith)))
     (ap not
-      (ap is_lt (key_order key q ∙ key_total.antisymm key q)
-      ∙ not_below (key_cmp q key) (ap is_gt (sym (key_order q key)) ∙ ap (λ (k : OwedKey). is_gt (keys.cmp-value.it k key)) (sym this) ∙ counted key q.count key.count le)))
+    (ap is_lt (key_order key q ∙ key_total.antisymm key q)
+    ∙ not_below (key_cmp q key) (ap is_gt (sym (key_order q key)) ∙ ap (λ (k : OwedKey). is_gt (keys.cmp-value.it k key)) (sym this) ∙ counted key q.count key.count le)))
 
 -- what is kept has each item that passes a test, if all that pass it are kept
 any_kept : {A : Type 0} (test keep : A → Bool) (xs : List A) → ((x : A) → test x ≡ true → keep x ≡ true) → list_any test (filter keep xs) ≡ list_any test xs

@@ -39,6 +39,16 @@ impl Frames {
         }
     }
 
+    /// An equal value.
+    pub(crate) fn copy(&self) -> Result<Self, NoMemory>
+        ensures { IfOk result (λ frames. frames ≡ self.now) }
+    {
+        Ok(Frames {
+            owed: self.owed.clone()?,
+            dues: self.dues.clone()?,
+        })
+    }
+
     /// Owes a frame whose key is not owed. `NoMemory` changes nothing.
     pub(crate) fn owe(&mut self, frame: Owed) -> Result<(), NoMemory>
         requires { is_owed self.old frame.key ≡ false }

@@ -38,6 +38,15 @@ impl Model for Timers {
 }
 
 impl Timers {
+    /// An equal value.
+    pub fn copy(&self) -> Result<Self, NoMemory>
+        ensures { IfOk result (λ timers. timers ≡ self.now) }
+    {
+        Ok(Timers {
+            rows: copy_rows(*self.rows.allocator(), &self.rows)?,
+        })
+    }
+
     /// No domain owes a frame.
     pub fn new(alloc: Global) -> Self
         ensures { (d : DomainNo) → owed_in result d ≡ [] }
@@ -224,4 +233,18 @@ fn drop_rows(rows: &mut Vec<Row>, domain: DomainNo)
     ensures { rows.new.items ≡ filter (λ r. not (is_of domain r)) rows.old.items }
 {
     rows.retain(|row| row.domain != domain);
+}
+
+// Rows, copied.
+fn copy_rows(alloc: Global, rows: &[Row]) -> Result<Vec<Row>, NoMemory>
+    ensures { IfOk result (λ copy. copy.items ≡ rows.now) }
+{
+    let mut copied = Vec::with_capacity(alloc, rows.len())?;
+    for row in rows {
+        copied.push(Row {
+            domain: row.domain,
+            frames: row.frames.copy()?,
+        })?;
+    }
+    Ok(copied)
 }

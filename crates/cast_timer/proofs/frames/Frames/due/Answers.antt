@@ -16,9 +16,10 @@ pub loop-frame-preserved : goal.loop-frame-preserved
 loop-frame-preserved c =
     let more = c.in-Some.ensures.steps in
     let now = c.args.now in
-    let given = c.loop-frame.keys.items in
-    (rw c.in_ok-push.ensures.items (one_due now c.in-Some.frame.now c.next.new.self given (due_at now c.args.self.now) c.if-frame-now.false (ap (λ os. given ++ due_at now os) (sym more) ∙ c.loop-frame.invariant.0)),
-     rising_rest c.in-Some.frame.now c.next.new.self (ap (is_rising owed_cmp) (sym more) ∙ c.loop-frame.invariant.1))
+    let given = c.loop-frame.keys.items in (
+      rw c.in_ok-push.ensures.items (one_due now c.in-Some.frame.now c.next.new.self given (due_at now c.args.self.now) c.if-frame-now.false (ap (λ os. given ++ due_at now os) (sym more) ∙ c.loop-frame.invariant.0)),
+      rising_rest c.in-Some.frame.now c.next.new.self (ap (is_rising owed_cmp) (sym more) ∙ c.loop-frame.invariant.1),
+    )
 
 pub returns-clause-value : goal.returns-clause-value
 returns-clause-value c = elim c.match-next.branch [

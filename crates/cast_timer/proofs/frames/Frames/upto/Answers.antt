@@ -10,7 +10,7 @@ loop-owed-init c =
     let key = c.args.key.now in
     let dues = c.self.inside.dues.entries in
     let all : c.into_iter-owed-iterator.result ≡ between key dues =
-      c.into_iter-owed-iterator.ensures.into_iter_gives
-      ∙ c.range-owed-items.ensures.between c.new.ensures.exhausted
-      ∙ (λ i. entries_between keys.cmp-value.it (Included (c.new.ensures.start i)) (Included (c.new.ensures.end i)) dues) in
+    c.into_iter-owed-iterator.ensures.into_iter_gives
+    ∙ c.range-owed-items.ensures.between c.new.ensures.exhausted
+    ∙ (λ i. entries_between keys.cmp-value.it (Included (c.new.ensures.start i)) (Included (c.new.ensures.end i)) dues) in
     rw all (rw (← c.self.view_is) (all_owed dues c.self.inside.owed.keys c.self.invariant key, none_between dues c.self.inside.owed.keys c.self.invariant key))
