@@ -32,3 +32,4 @@ pub mod Seen
 pub mod Same
 pub mod Deliveries
 pub mod Schedules
+pub mod Standing

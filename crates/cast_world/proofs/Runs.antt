@@ -48,7 +48,7 @@ from_mapped f (x ∷ xs) y (suc k, lt, e) =
     let rest = from_mapped f xs y (k, omega (arith, lt), e) in
     (rest.0, (suc rest.1.0, omega (arith, rest.1.1), rest.1.2), rest.2)
 
-some_is : {X : Type 0} (x y : X) → Some x ≡ Some y → x ≡ y
+pub some_is : {X : Type 0} (x y : X) → Some x ≡ Some y → x ≡ y
 some_is x y e = ap (λ o. unwrap_or o x) e
 
 -- One step

@@ -1,3 +1,4 @@
 pub mod Network
 pub mod HappenedBefore
 pub mod Laws
+pub mod Worlds
