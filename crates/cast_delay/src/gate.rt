@@ -4,6 +4,7 @@ ghost use Rattle.cast_delay.specs.Ready.{open_gate, frozen_gate, is_cut_by, is_o
 ghost use Rattle.cast_delay.specs.Rows.{gate_in};
 
 use cast_types::{Counts, GroupNo, Keyed, NoMemory, Uid};
+use std::alloc::Global;
 
 /// What of a group decides whether its messages may be delivered.
 #[derive(Drop)]
@@ -45,6 +46,41 @@ impl Gate {
             cut: copy_of(&self.cut)?,
         })
     }
+}
+
+impl Gate {
+    /// An equal value.
+    pub fn copy(&self) -> Result<Self, NoMemory>
+        ensures { IfOk result (λ gate. gate ≡ self.now) }
+    {
+        Ok(Gate {
+            number: self.number,
+            frozen: self.frozen,
+            cut: copy_of(&self.cut)?,
+        })
+    }
+}
+
+/// The gates of groups, copied.
+pub fn copy_gates(gates: &Keyed<GroupNo, Gate>) -> Result<Keyed<GroupNo, Gate>, NoMemory>
+    ensures { IfOk result (λ copy. copy ≡ gates.now) }
+{
+    let copied = copy_entries(gates.alloc(), gates.entries())?;
+    Ok(Keyed::from_entries(copied))
+}
+
+// Their entries, copied.
+fn copy_entries(
+    alloc: Global,
+    entries: &[(GroupNo, Gate)],
+) -> Result<Vec<(GroupNo, Gate)>, NoMemory>
+    ensures { IfOk result (λ copy. copy.items ≡ entries.now) }
+{
+    let mut copied = Vec::with_capacity(alloc, entries.len())?;
+    for (group, gate) in entries {
+        copied.push((*group, gate.copy()?))?;
+    }
+    Ok(copied)
 }
 
 // A cut, copied.

@@ -1,4 +1,7 @@
-use cast_types::{Key, Stamp, Uid};
+ghost use Rattle.std.specs.Prelude.{◌≡◌, IfOk};
+
+use cast_types::{Key, NoMemory, Stamp, Uid};
+use std::alloc::Global;
 
 /// A message as the queue holds it: the key under which its domain keeps it, its name, whether it is an ABCAST, and its
 /// time.
@@ -8,4 +11,29 @@ pub struct Offered {
     pub id: Uid,
     pub atomic: bool,
     pub times: Stamp,
+}
+
+impl Offered {
+    /// An equal value.
+    pub fn copy(&self) -> Result<Self, NoMemory>
+        ensures { IfOk result (λ offered. offered ≡ self.now) }
+    {
+        Ok(Offered {
+            key: self.key,
+            id: self.id,
+            atomic: self.atomic,
+            times: self.times.copy()?,
+        })
+    }
+}
+
+/// Messages as the queue holds them, copied.
+pub fn copy_offered(alloc: Global, offered: &[Offered]) -> Result<Vec<Offered>, NoMemory>
+    ensures { IfOk result (λ copy. copy.items ≡ offered.now) }
+{
+    let mut copied = Vec::with_capacity(alloc, offered.len())?;
+    for message in offered {
+        copied.push(message.copy()?)?;
+    }
+    Ok(copied)
 }

@@ -15,9 +15,9 @@ ghost use Rattle.cast_delay.specs.Queue.{new_row, row_of, but_row, change_row, f
 ghost use Rattle.cast_delay.specs.Fits.{offer_of};
 ghost use Rattle.cast_delay.specs.Says.{SaysAwaited, SaysFirstReady, SaysMayDeliver, SaysDelivered, SaysPassed, SaysReached, SaysTime, SaysStanding};
 
-use crate::gate::{Gate, frozen_in, number_in};
-use crate::offered::Offered;
-use crate::row::{Fact, Row};
+use crate::gate::{Gate, copy_gates, frozen_in, number_in};
+use crate::offered::{Offered, copy_offered};
+use crate::row::{Fact, Row, copy_rows};
 use crate::tally::Tally;
 use crate::turn::Turn;
 use cast_clock::Times;
@@ -56,6 +56,19 @@ impl Delay {
             rows: Vec::new(alloc),
             reached: Tally::new(alloc),
         }
+    }
+
+    /// An equal value.
+    pub fn copy(&self) -> Result<Self, NoMemory>
+        ensures { IfOk result (λ queue. queue ≡ self.now) }
+    {
+        let alloc = *self.rows.allocator();
+        Ok(Delay {
+            gates: copy_gates(&self.gates)?,
+            offered: copy_offered(alloc, &self.offered)?,
+            rows: copy_rows(alloc, &self.rows)?,
+            reached: self.reached.copy()?,
+        })
     }
 
     /// Adds a process that is in no group. `NoMemory` leaves the queue of no further use, as in all its calls.

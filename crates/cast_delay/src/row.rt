@@ -68,6 +68,18 @@ impl Row {
         }
     }
 
+    /// An equal value.
+    pub fn copy(&self) -> Result<Self, NoMemory>
+        ensures { IfOk result (λ row. row ≡ self.now) }
+    {
+        Ok(Row {
+            process: self.process,
+            standings: self.standings.copy()?,
+            time: self.time.copy()?,
+            done: self.done.copy()?,
+        })
+    }
+
     /// What the process is in a group.
     pub fn standing(&self, group: GroupNo) -> Standing
         ensures { result ≡ standing_in self.now group }
@@ -273,4 +285,15 @@ fn needed(id: Uid, group: GroupNo, view: u32, entry: (Proc, u32)) -> u32
     } else {
         count
     }
+}
+
+/// Rows, copied.
+pub fn copy_rows(alloc: Global, rows: &[Row]) -> Result<Vec<Row>, NoMemory>
+    ensures { IfOk result (λ copy. copy.items ≡ rows.now) }
+{
+    let mut copied = Vec::with_capacity(alloc, rows.len())?;
+    for row in rows {
+        copied.push(row.copy()?)?;
+    }
+    Ok(copied)
 }

@@ -72,6 +72,15 @@ impl Tally {
         Ok(counts)
     }
 
+    /// An equal value.
+    pub fn copy(&self) -> Result<Self, NoMemory>
+        ensures { IfOk result (λ t. t ≡ self.now) }
+    {
+        Ok(Tally {
+            counts: Vec::from_slice(*self.counts.allocator(), &self.counts)?,
+        })
+    }
+
     /// Forgets the counts of a group's views below a number. Takes no memory.
     pub fn end(&mut self, group: GroupNo, number: u32)
         ensures { self.new ≡ but_ended group number self.old }

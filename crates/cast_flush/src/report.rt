@@ -1,5 +1,7 @@
+ghost use Rattle.std.specs.Prelude.{◌≡◌, IfOk};
+
 use cast_message::{Kept, Tail};
-use cast_types::Counts;
+use cast_types::{Counts, NoMemory};
 
 /// What a site reports of the view that is flushed.
 #[derive(Drop)]
@@ -10,4 +12,17 @@ pub struct Report {
     pub tail: Tail,
     /// The messages that the site keeps, marked where they are ABCASTs without a place.
     pub kept: Kept,
+}
+
+impl Report {
+    /// An equal value.
+    pub fn copy(&self) -> Result<Self, NoMemory>
+        ensures { IfOk result (λ r. r ≡ self.now) }
+    {
+        Ok(Report {
+            counts: self.counts.copy()?,
+            tail: self.tail.copy()?,
+            kept: self.kept.copy()?,
+        })
+    }
 }

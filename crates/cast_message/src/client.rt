@@ -1,9 +1,9 @@
-ghost use Rattle.std.specs.Prelude.{◌≡◌};
+ghost use Rattle.std.specs.Prelude.{◌≡◌, IfOk};
 
 use crate::members::Members;
 use crate::payload::Payload;
 use bytes::Bytes;
-use cast_types::{GroupNo, Proc, Refusal, Uid};
+use cast_types::{GroupNo, NoMemory, Proc, Refusal, Uid};
 
 /// Most bytes of the payload of a cast that one frame holds. More than a message's are decoded, and refused later.
 pub const MAX_CAST: usize = 19_988;
@@ -136,6 +136,44 @@ pub enum Push {
     },
     /// The session is over: nothing is pushed after this.
     Closed(Refusal),
+}
+
+impl Push {
+    /// An equal value.
+    pub fn copy(&self) -> Result<Self, NoMemory>
+        ensures { IfOk result (λ p. p ≡ self.now) }
+    {
+        match self {
+            Push::Opened(process) => Ok(Push::Opened(*process)),
+            Push::Reply { tag, refusal } => Ok(Push::Reply {
+                tag: *tag,
+                refusal: *refusal,
+            }),
+            Push::View {
+                group,
+                view,
+                members,
+            } => Ok(Push::View {
+                group: *group,
+                view: *view,
+                members: members.copy()?,
+            }),
+            Push::Deliver { id, kind, payload } => Ok(Push::Deliver {
+                id: *id,
+                kind: *kind,
+                payload: payload.copy()?,
+            }),
+            Push::Ejected { group, view } => Ok(Push::Ejected {
+                group: *group,
+                view: *view,
+            }),
+            Push::Denied { group, refusal } => Ok(Push::Denied {
+                group: *group,
+                refusal: *refusal,
+            }),
+            Push::Closed(refusal) => Ok(Push::Closed(*refusal)),
+        }
+    }
 }
 
 /// A frame between a program and its daemon.

@@ -77,3 +77,15 @@ pub struct Received {
     pub key: Key,
     pub message: Message,
 }
+
+impl Received {
+    /// An equal value, under the same key.
+    pub fn copy(&self) -> Result<Self, NoMemory>
+        ensures { IfOk result (λ r. r ≡ self.now) }
+    {
+        Ok(Received {
+            key: self.key,
+            message: self.message.copy()?,
+        })
+    }
+}

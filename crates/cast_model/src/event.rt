@@ -115,7 +115,7 @@ impl Outs {
         ensures halted { self.new.halted ≡ self.old.halted }
         ensures delivered { self.new.delivered ≡ self.old.delivered }
     {
-        self.pushed.push((domain, serial, copied(entry)?))
+        self.pushed.push((domain, serial, entry.copy()?))
     }
 
     /// Adds what a step sent, delivered and pushed. `NoMemory` changes nothing.
@@ -158,41 +158,5 @@ impl Outs {
                 Err(error)
             }
         }
-    }
-}
-
-// An equal entry.
-fn copied(entry: &Push) -> Result<Push, NoMemory>
-    ensures { IfOk result (λ copy. copy ≡ entry.now) }
-{
-    match entry {
-        Push::Opened(process) => Ok(Push::Opened(*process)),
-        Push::Reply { tag, refusal } => Ok(Push::Reply {
-            tag: *tag,
-            refusal: *refusal,
-        }),
-        Push::View {
-            group,
-            view,
-            members,
-        } => Ok(Push::View {
-            group: *group,
-            view: *view,
-            members: members.copy()?,
-        }),
-        Push::Deliver { id, kind, payload } => Ok(Push::Deliver {
-            id: *id,
-            kind: *kind,
-            payload: payload.copy()?,
-        }),
-        Push::Ejected { group, view } => Ok(Push::Ejected {
-            group: *group,
-            view: *view,
-        }),
-        Push::Denied { group, refusal } => Ok(Push::Denied {
-            group: *group,
-            refusal: *refusal,
-        }),
-        Push::Closed(refusal) => Ok(Push::Closed(*refusal)),
     }
 }

@@ -42,6 +42,15 @@ impl Moment {
         self.millis
     }
 
+    /// The same moment.
+    pub fn copy(&self) -> Self
+        ensures { result ≡ self.now }
+    {
+        Moment {
+            millis: self.millis,
+        }
+    }
+
     /// So many milliseconds later.
     pub fn after(&self, millis: u32) -> u64
         ensures { result ≡ self.now + millis }

@@ -50,6 +50,23 @@ impl OrderLog {
         }
     }
 
+    /// An equal value.
+    pub fn copy(&self) -> Result<Self, NoMemory>
+        ensures { IfOk result (λ log. log ≡ self.now) }
+    {
+        let alloc = *self.window.allocator();
+        Ok(OrderLog {
+            group: self.group,
+            base: self.base,
+            window: Vec::from_slice(alloc, &self.window)?,
+            later: Vec::from_slice(alloc, &self.later)?,
+            places: self.places.copy()?,
+            waiting: Vec::from_slice(alloc, &self.waiting)?,
+            lists: Vec::from_slice(alloc, &self.lists)?,
+            closed: self.closed,
+        })
+    }
+
     /// Takes in what a set-order message tells, unless the order is closed.
     pub fn learn(&mut self, placement: &Placement) -> Result<(), NoMemory>
         ensures { OnOk result (self.new ≡ learnt placement.now self.old) }

@@ -37,6 +37,15 @@ impl Orders {
         }
     }
 
+    /// An equal value.
+    pub fn copy(&self) -> Result<Self, NoMemory>
+        ensures { IfOk result (λ orders. orders ≡ self.now) }
+    {
+        Ok(Orders {
+            logs: copy_logs(*self.logs.allocator(), &self.logs)?,
+        })
+    }
+
     /// Takes in a set-order message of a group's view, unless the view's order is closed. For each place the first id told
     /// for it counts. `NoMemory` leaves the orders of no further use, as in all calls.
     #[tactic(auto, using(crate::proofs::Logs::change_opened))]
@@ -315,4 +324,15 @@ fn forget_in(logs: &mut Vec<OrderLog>, group: GroupNo)
     ensures { logs.new.items ≡ but_log group logs.old.items }
 {
     logs.retain(|log| log.group != group);
+}
+
+// Logs, copied.
+fn copy_logs(alloc: Global, logs: &[OrderLog]) -> Result<Vec<OrderLog>, NoMemory>
+    ensures { IfOk result (λ copy. copy.items ≡ logs.now) }
+{
+    let mut copied = Vec::with_capacity(alloc, logs.len())?;
+    for log in logs {
+        copied.push(log.copy()?)?;
+    }
+    Ok(copied)
 }

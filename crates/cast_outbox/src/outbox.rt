@@ -1,4 +1,4 @@
-ghost use Rattle.std.specs.Prelude.{◌≡◌, ◌≤◌, [], IfOk, OnOk, OnErr, if◌then◌else◌, length, slice_get, take, drop};
+ghost use Rattle.std.specs.Prelude.{◌≡◌, ◌≤◌, ◌++◌, [], IfOk, OnOk, OnErr, if◌then◌else◌, length, slice_get, take, drop};
 ghost use Rattle.std.specs.Option.{option_copied};
 ghost use Rattle.std.specs.VecDeque.{deque_len, deque_capacity};
 ghost use Rattle.cast_outbox.specs.Pending.{is_full_at, with_entry};
@@ -42,6 +42,16 @@ impl Outbox {
             serial,
             entries: VecDeque::new(alloc),
         }
+    }
+
+    /// An equal value.
+    pub(crate) fn copy(&self) -> Result<Self, NoMemory>
+        ensures { IfOk result (λ outbox. outbox ≡ self.now) }
+    {
+        Ok(Outbox {
+            serial: self.serial,
+            entries: copy_entries(&self.entries)?,
+        })
     }
 
     /// Whose entries these are.
@@ -124,4 +134,25 @@ fn move_first(from: &mut VecDeque<Push>, into: &mut VecDeque<Push>, count: usize
             into.push_back_reserved(entry);
         }
     }
+}
+
+// Entries, copied.
+fn copy_entries(entries: &VecDeque<Push>) -> Result<VecDeque<Push>, NoMemory>
+    ensures { IfOk result (λ copy. copy.items ≡ entries.now.items) }
+{
+    let mut copied = Vec::with_capacity(*entries.allocator(), entries.len())?;
+    let (front, back) = entries.as_slices();
+    add_copies(&mut copied, front)?;
+    add_copies(&mut copied, back)?;
+    Ok(VecDeque::from_vec(copied))
+}
+
+// Adds equal entries.
+fn add_copies(copied: &mut Vec<Push>, entries: &[Push]) -> Result<(), NoMemory>
+    ensures { OnOk result (copied.new.items ≡ copied.old.items ++ entries.now) }
+{
+    for entry in entries {
+        copied.push(entry.copy()?)?;
+    }
+    Ok(())
 }

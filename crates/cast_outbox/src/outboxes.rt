@@ -50,6 +50,15 @@ impl Outboxes {
         }
     }
 
+    /// An equal value.
+    pub fn copy(&self) -> Result<Self, NoMemory>
+        ensures { IfOk result (λ outboxes. outboxes ≡ self.now) }
+    {
+        Ok(Outboxes {
+            rows: copy_rows(*self.rows.allocator(), &self.rows)?,
+        })
+    }
+
     /// The session of a serial begins in a domain: its outbox is empty, and what was there is dropped. `NoMemory` changes
     /// nothing.
     pub fn open(&mut self, domain: DomainNo, serial: u32) -> Result<(), NoMemory>
@@ -248,4 +257,18 @@ fn drop_rows(rows: &mut Vec<Row>, domain: DomainNo)
     ensures { rows.new.items ≡ filter (λ r. not (is_of domain r)) rows.old.items }
 {
     rows.retain(|row| row.domain != domain);
+}
+
+// Rows, copied.
+fn copy_rows(alloc: Global, rows: &[Row]) -> Result<Vec<Row>, NoMemory>
+    ensures { IfOk result (λ copy. copy.items ≡ rows.now) }
+{
+    let mut copied = Vec::with_capacity(alloc, rows.len())?;
+    for row in rows {
+        copied.push(Row {
+            domain: row.domain,
+            sessions: row.sessions.copy()?,
+        })?;
+    }
+    Ok(copied)
 }

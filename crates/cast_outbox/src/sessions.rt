@@ -35,6 +35,15 @@ impl Sessions {
         }
     }
 
+    /// An equal value.
+    pub(crate) fn copy(&self) -> Result<Self, NoMemory>
+        ensures { IfOk result (λ sessions. sessions ≡ self.now) }
+    {
+        Ok(Sessions {
+            outboxes: copy_outboxes(*self.outboxes.allocator(), &self.outboxes)?,
+        })
+    }
+
     /// An empty outbox for a serial. `NoMemory` changes nothing.
     pub(crate) fn open(&mut self, serial: u32) -> Result<(), NoMemory>
         ensures ok { OnOk result (self.new ≡ changed_for serial (λ _. []) self.old) }
@@ -188,4 +197,15 @@ fn close_among(outboxes: &mut Vec<Outbox>, serial: u32)
     ensures { outboxes.new.items ≡ but_for serial outboxes.old.items }
 {
     outboxes.retain(|outbox| outbox.serial() != serial);
+}
+
+// Outboxes, copied.
+fn copy_outboxes(alloc: Global, outboxes: &[Outbox]) -> Result<Vec<Outbox>, NoMemory>
+    ensures { IfOk result (λ copy. copy.items ≡ outboxes.now) }
+{
+    let mut copied = Vec::with_capacity(alloc, outboxes.len())?;
+    for outbox in outboxes {
+        copied.push(outbox.copy()?)?;
+    }
+    Ok(copied)
 }

@@ -51,6 +51,20 @@ impl Acks {
         }
     }
 
+    /// An equal value.
+    pub fn copy(&self) -> Result<Self, NoMemory>
+        ensures { IfOk result (λ acks. acks ≡ self.now) }
+    {
+        Ok(Acks {
+            alloc: self.alloc,
+            here: self.here,
+            others: copy_sites(&self.others)?,
+            received: copy_counts(&self.received)?,
+            acked: copy_counts(&self.acked)?,
+            told: self.told.copy()?,
+        })
+    }
+
     /// Takes in the other sites of a group's new view, of this number. What was received, acknowledged and told of the
     /// views before it is forgotten. `NoMemory` changes nothing.
     pub fn tell(
@@ -262,4 +276,48 @@ fn with_count(alloc: Global, run: Option<&Counted>, count: u32) -> Result<Counte
     };
     with.insert(count)?;
     Ok(with)
+}
+
+// The sites of each group, copied.
+fn copy_sites(
+    others: &Keyed<GroupNo, Listed<SiteNo>>,
+) -> Result<Keyed<GroupNo, Listed<SiteNo>>, NoMemory>
+    ensures { IfOk result (λ copy. copy ≡ others.now) }
+{
+    let copied = copy_site_entries(others.alloc(), others.entries())?;
+    Ok(Keyed::from_entries(copied))
+}
+
+fn copy_site_entries(
+    alloc: Global,
+    entries: &[(GroupNo, Listed<SiteNo>)],
+) -> Result<Vec<(GroupNo, Listed<SiteNo>)>, NoMemory>
+    ensures { IfOk result (λ copy. copy.items ≡ entries.now) }
+{
+    let mut copied = Vec::with_capacity(alloc, entries.len())?;
+    for (group, sites) in entries {
+        copied.push((*group, sites.copy()?))?;
+    }
+    Ok(copied)
+}
+
+// The sets of counts, copied.
+fn copy_counts<K: Copy + Drop>(sets: &Keyed<K, Counted>) -> Result<Keyed<K, Counted>, NoMemory>
+    ensures { IfOk result (λ copy. copy ≡ sets.now) }
+{
+    let copied = copy_count_entries(sets.alloc(), sets.entries())?;
+    Ok(Keyed::from_entries(copied))
+}
+
+fn copy_count_entries<K: Copy + Drop>(
+    alloc: Global,
+    entries: &[(K, Counted)],
+) -> Result<Vec<(K, Counted)>, NoMemory>
+    ensures { IfOk result (λ copy. copy.items ≡ entries.now) }
+{
+    let mut copied = Vec::with_capacity(alloc, entries.len())?;
+    for (key, counts) in entries {
+        copied.push((*key, counts.copy()?))?;
+    }
+    Ok(copied)
 }

@@ -5,7 +5,7 @@ ghost use Rattle.cast_message.specs.Receipts.{key_eq, message_under};
 ghost use Rattle.cast_store.specs.Store.{with_message, without_key, is_rising};
 
 use cast_message::{Message, Received};
-use cast_types::{DomainNo, Key};
+use cast_types::{DomainNo, Key, NoMemory};
 use std::alloc::Global;
 use std::marker::Model;
 
@@ -39,6 +39,17 @@ impl Row {
             next: 0,
             kept: Vec::new(alloc),
         }
+    }
+
+    /// An equal value, with the same keys.
+    pub(crate) fn copy(&self) -> Result<Self, NoMemory>
+        ensures { IfOk result (λ row. row ≡ self.now) }
+    {
+        Ok(Row {
+            domain: self.domain,
+            next: self.next,
+            kept: copy_received(*self.kept.allocator(), &self.kept)?,
+        })
     }
 
     /// Whose messages these are.
@@ -120,4 +131,15 @@ fn place_under(kept: &[Received], key: Key) -> Option<usize>
     ensures within { IfSome result (λ i. i < length kept.now) }
 {
     kept.iter().position(|received| received.key == key)
+}
+
+// Messages with their keys, copied.
+fn copy_received(alloc: Global, kept: &[Received]) -> Result<Vec<Received>, NoMemory>
+    ensures { IfOk result (λ copy. copy.items ≡ kept.now) }
+{
+    let mut copied = Vec::with_capacity(alloc, kept.len())?;
+    for received in kept {
+        copied.push(received.copy()?)?;
+    }
+    Ok(copied)
 }

@@ -8,7 +8,7 @@ ghost use Rattle.cast_store.specs.Store.{Shelf, is_of, shelf_of, kept_in, next_i
 
 use crate::row::Row;
 use cast_message::{Message, Received};
-use cast_types::{DomainNo, Key};
+use cast_types::{DomainNo, Key, NoMemory};
 use std::alloc::Global;
 use std::marker::Model;
 
@@ -37,6 +37,15 @@ impl Store {
         Store {
             rows: Vec::new(alloc),
         }
+    }
+
+    /// An equal value, with the same keys.
+    pub fn copy(&self) -> Result<Self, NoMemory>
+        ensures { IfOk result (λ store. store ≡ self.now) }
+    {
+        Ok(Store {
+            rows: copy_rows(*self.rows.allocator(), &self.rows)?,
+        })
     }
 
     /// Keeps a message for a domain, the last one in order of receipt, under the domain's next key, under which it kept
@@ -187,4 +196,15 @@ fn drop_rows(rows: &mut Vec<Row>, domain: DomainNo)
     ensures { rows.new.items ≡ filter (λ r. not (is_of domain r)) rows.old.items }
 {
     rows.retain(|row| row.domain() != domain);
+}
+
+// Rows, copied.
+fn copy_rows(alloc: Global, rows: &[Row]) -> Result<Vec<Row>, NoMemory>
+    ensures { IfOk result (λ copy. copy.items ≡ rows.now) }
+{
+    let mut copied = Vec::with_capacity(alloc, rows.len())?;
+    for row in rows {
+        copied.push(row.copy()?)?;
+    }
+    Ok(copied)
 }

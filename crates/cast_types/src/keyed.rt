@@ -1,4 +1,4 @@
-ghost use Rattle.std.specs.Prelude.{◌≡◌, [], OnOk, OnErr};
+ghost use Rattle.std.specs.Prelude.{◌≡◌, [], IfOk, OnOk, OnErr};
 ghost use Rattle.std.specs.Fn.{CalledAt};
 ghost use Rattle.std.specs.List.Retain.{IsFiltered};
 ghost use Rattle.std.specs.Option.{option_copied};
@@ -40,6 +40,29 @@ impl<K, V> Keyed<K, V> {
         ensures { result.now ≡ self.now }
     {
         &self.entries
+    }
+
+    /// Entries that stand in rising order of their keys. Takes no memory.
+    pub fn from_entries(entries: Vec<(K, V)>) -> Self
+        ensures { result ≡ entries.items }
+    {
+        Keyed { entries }
+    }
+
+    /// The allocator that it was made with.
+    pub fn alloc(&self) -> Global {
+        *self.entries.allocator()
+    }
+}
+
+impl<K: Copy, V: Copy> Keyed<K, V> {
+    /// An equal value.
+    pub fn copy(&self) -> Result<Self, NoMemory>
+        ensures { IfOk result (λ m. m ≡ self.now) }
+    {
+        Ok(Keyed {
+            entries: Vec::from_slice(self.alloc(), &self.entries)?,
+        })
     }
 }
 

@@ -60,6 +60,21 @@ impl HomeSide {
         }
     }
 
+    /// An equal value.
+    pub fn copy(&self) -> Result<Self, NoMemory>
+        ensures { IfOk result (λ home. home ≡ self.now) }
+    {
+        Ok(HomeSide {
+            number: self.number,
+            members: self.members.copy()?,
+            joins: self.joins.copy()?,
+            leavings: self.leavings.copy()?,
+            suspected: Vec::from_slice(*self.suspected.allocator(), &self.suspected)?,
+            answers: self.answers.copy()?,
+            phase: self.phase.copy()?,
+        })
+    }
+
     /// The number of the last decided view, first 0.
     pub fn number(&self) -> u32
         ensures { result ≡ self.now.number }

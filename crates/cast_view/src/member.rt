@@ -33,6 +33,19 @@ pub struct Pending {
     pub cut: Counts,
 }
 
+impl Pending {
+    /// An equal value.
+    pub fn copy(&self) -> Result<Self, NoMemory>
+        ensures { IfOk result (λ pending. pending ≡ self.now) }
+    {
+        Ok(Pending {
+            members: self.members.copy()?,
+            request: self.request,
+            cut: self.cut.copy()?,
+        })
+    }
+}
+
 /// What a site does with an Install.
 #[derive(Clone, Copy, Debug, PartialEq, Eq)]
 pub enum Verdict {
@@ -88,6 +101,20 @@ impl MemberSide {
             asked: 0,
             requests: Listed::new(alloc),
         }
+    }
+
+    /// An equal value.
+    pub fn copy(&self) -> Result<Self, NoMemory>
+        ensures { IfOk result (λ side. side ≡ self.now) }
+    {
+        Ok(MemberSide {
+            number: self.number,
+            view: copy_view(&self.view)?,
+            frozen: self.frozen,
+            pending: copy_pending(&self.pending)?,
+            asked: self.asked,
+            requests: self.requests.copy()?,
+        })
     }
 
     /// The number of the last view that the site knows of, first 0.
@@ -384,4 +411,24 @@ fn greatest_counts(alloc: Global, members: &[Proc], had: &[(Proc, u32)]) -> Resu
         }
     }
     Ok(Counts::from_entries(entries))
+}
+
+// The members of a view, copied.
+fn copy_view(view: &Option<Members>) -> Result<Option<Members>, NoMemory>
+    ensures { IfOk result (λ copy. copy ≡ view.now) }
+{
+    match view {
+        Some(members) => Ok(Some(members.copy()?)),
+        None => Ok(None),
+    }
+}
+
+// An Install that waits, copied.
+fn copy_pending(pending: &Option<Pending>) -> Result<Option<Pending>, NoMemory>
+    ensures { IfOk result (λ copy. copy ≡ pending.now) }
+{
+    match pending {
+        Some(install) => Ok(Some(install.copy()?)),
+        None => Ok(None),
+    }
 }

@@ -8,6 +8,7 @@ use crate::sites::{is_among, sites_without};
 use cast_flush::{Report, has_report};
 use cast_message::{Message, Tail};
 use cast_types::{Counts, Listed, NoMemory, SiteNo, sorted};
+use std::alloc::Global;
 
 /// The last request of a site that was applied.
 #[derive(Clone, Copy, Debug, PartialEq, Eq)]
@@ -68,6 +69,17 @@ pub enum Phase {
 }
 
 impl Decision {
+    /// An equal value.
+    pub fn copy(&self) -> Result<Self, NoMemory>
+        ensures { IfOk result (λ decision. decision ≡ self.now) }
+    {
+        Ok(Decision {
+            cut: self.cut.copy()?,
+            tail: self.tail.copy()?,
+            answers: self.answers.copy()?,
+        })
+    }
+
     /// The last request of a site that was applied before the decision, number 0 where none was.
     pub fn last_answer(&self, site: SiteNo) -> Answer
         ensures { result ≡ answer_in self.now.answers site }
@@ -77,6 +89,33 @@ impl Decision {
 }
 
 impl Phase {
+    /// An equal value.
+    pub fn copy(&self) -> Result<Self, NoMemory>
+        ensures { IfOk result (λ phase. phase ≡ self.now) }
+    {
+        match self {
+            Phase::Idle => Ok(Phase::Idle),
+            Phase::Gathering {
+                awaited,
+                reports,
+                bodies,
+            } => Ok(Phase::Gathering {
+                awaited: awaited.copy()?,
+                reports: copy_reports(reports)?,
+                bodies: copy_bodies(bodies)?,
+            }),
+            Phase::Installing {
+                waiting,
+                decision,
+                bodies,
+            } => Ok(Phase::Installing {
+                waiting: waiting.copy()?,
+                decision: decision.copy()?,
+                bodies: copy_bodies(bodies)?,
+            }),
+        }
+    }
+
     /// Whether no flush runs.
     pub fn is_idle(&self) -> bool
         ensures { result ≡ is_idle self.now }
@@ -238,4 +277,43 @@ fn with_report(
     let mut all = reports.into_vec();
     sorted::put(&mut all, site, report)?;
     Ok(Listed::from_vec(all))
+}
+
+// The reports of sites, copied.
+fn copy_reports(reports: &Listed<(SiteNo, Report)>) -> Result<Listed<(SiteNo, Report)>, NoMemory>
+    ensures { IfOk result (λ copy. copy ≡ reports.now) }
+{
+    let copied = copy_report_entries(reports.alloc(), reports.as_slice())?;
+    Ok(Listed::from_vec(copied))
+}
+
+fn copy_report_entries(
+    alloc: Global,
+    reports: &[(SiteNo, Report)],
+) -> Result<Vec<(SiteNo, Report)>, NoMemory>
+    ensures { IfOk result (λ copy. copy.items ≡ reports.now) }
+{
+    let mut copied = Vec::with_capacity(alloc, reports.len())?;
+    for (site, report) in reports {
+        copied.push((*site, report.copy()?))?;
+    }
+    Ok(copied)
+}
+
+// Messages, copied.
+fn copy_bodies(bodies: &Listed<Message>) -> Result<Listed<Message>, NoMemory>
+    ensures { IfOk result (λ copy. copy ≡ bodies.now) }
+{
+    let copied = copy_messages(bodies.alloc(), bodies.as_slice())?;
+    Ok(Listed::from_vec(copied))
+}
+
+fn copy_messages(alloc: Global, messages: &[Message]) -> Result<Vec<Message>, NoMemory>
+    ensures { IfOk result (λ copy. copy.items ≡ messages.now) }
+{
+    let mut copied = Vec::with_capacity(alloc, messages.len())?;
+    for message in messages {
+        copied.push(message.copy()?)?;
+    }
+    Ok(copied)
 }

@@ -1,4 +1,4 @@
-ghost use Rattle.std.specs.Prelude.{◌≡◌, [], filter, OnOk, OnErr, IsTrue, ◌↔◌};
+ghost use Rattle.std.specs.Prelude.{◌≡◌, [], filter, IfOk, OnOk, OnErr, IsTrue, ◌↔◌};
 ghost use Rattle.cast_types.specs.Names.{proc_cmp, proc_eq, site_eq};
 ghost use Rattle.cast_types.specs.Sets.{with_item, without, is_among};
 ghost use Rattle.cast_types.specs.Rising.{is_rising};
@@ -48,6 +48,15 @@ impl Procs {
     /// The allocator that the list was made with.
     pub fn alloc(&self) -> Global {
         *self.list.allocator()
+    }
+
+    /// An equal value.
+    pub fn copy(&self) -> Result<Self, NoMemory>
+        ensures { IfOk result (λ procs. procs ≡ self.now) }
+    {
+        Ok(Procs {
+            list: Vec::from_slice(self.alloc(), &self.list)?,
+        })
     }
 
     /// Whether there is no process.
