@@ -5,3 +5,4 @@ pub mod Trims
 pub mod Fits
 pub mod Stepped
 pub mod Shows
+pub mod Copies

@@ -1,6 +1,8 @@
 ghost use Rattle.std.specs.Prelude.{◌≡◌, ◌<◌, true, false, None, [], IfSome, IfOk, OnOk, OnErr, length, vec_len};
 ghost use Rattle.cast_history.specs.Rules.Room.{may_receive};
 
+mod copy;
+
 use crate::frames::promised_by_types;
 use crate::lent::Lent;
 use crate::record::{GroupRecord, SessionRecord, place_among};

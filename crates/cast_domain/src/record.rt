@@ -13,6 +13,7 @@ use cast_message::{Change, Members, Message};
 use cast_model::Status;
 use cast_types::{Counts, GroupNo, NoMemory, Proc, SiteNo};
 use cast_view::{HomeSide, MemberSide};
+use std::alloc::Global;
 
 /// What a domain keeps of a group: the site's side, and, at the home's site, the home's.
 #[derive(Drop)]
@@ -27,6 +28,33 @@ pub(crate) struct GroupRecord {
 pub struct SessionRecord {
     pub(crate) serial: u32,
     pub(crate) status: Status,
+}
+
+impl GroupRecord {
+    /// An equal value.
+    pub(crate) fn copy(&self) -> Result<Self, NoMemory>
+        ensures { IfOk result (λ copy. copy ≡ self.now) }
+    {
+        Ok(GroupRecord {
+            name: self.name,
+            here: self.here.copy()?,
+            home: self.home.copy()?,
+        })
+    }
+}
+
+/// What is kept of groups, copied.
+pub(crate) fn copy_groups(
+    alloc: Global,
+    groups: &[GroupRecord],
+) -> Result<Vec<GroupRecord>, NoMemory>
+    ensures { IfOk result (λ copy. copy.items ≡ groups.now) }
+{
+    let mut copied = Vec::with_capacity(alloc, groups.len())?;
+    for group in groups {
+        copied.push(group.copy()?)?;
+    }
+    Ok(copied)
 }
 
 /// Where a group stands.

@@ -32,6 +32,17 @@ impl Shared {
         }
     }
 
+    /// An equal value, with the same keys.
+    pub fn copy(&self) -> Result<Self, NoMemory>
+        ensures { IfOk result (λ copy. copy ≡ self.now) }
+    {
+        Ok(Shared {
+            store: self.store.copy()?,
+            timers: self.timers.copy()?,
+            outboxes: self.outboxes.copy()?,
+        })
+    }
+
     // Keeps a message for a domain, under the next key.
     pub(crate) fn put(&mut self, domain: DomainNo, message: Message) -> Result<(), NoMemory>
         ensures part { OnOk result (part_of domain self.new ≡ part_with (part_of domain self.old) message) }
