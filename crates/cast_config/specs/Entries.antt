@@ -44,5 +44,5 @@ domain_of members = do
   quotas ← quotas_of members
   Ok (record {
     config = record { domain = record { 0 = n }; home = record { 0 = home }; sites = sites_from sites; groups = groups_from groups; quotas = quotas };
-    socket = path
+    socket = path;
   })

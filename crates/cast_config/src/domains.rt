@@ -111,7 +111,12 @@ fn are_listed(domain: &DomainEntry, sites: &[SiteAddress]) -> bool
 fn is_at(domain: &DomainEntry, site: SiteNo) -> bool
     ensures { result ≡ is_at site domain.now }
 {
-    domain.config.sites.as_slice().iter().any(|own| *own == site)
+    domain
+        .config
+        .sites
+        .as_slice()
+        .iter()
+        .any(|own| *own == site)
 }
 
 // Whether a domain's sites are in the document, and its home is one of them.
