@@ -1,0 +1,75 @@
+//! A daemon by the name of its configuration.
+use crate::threads::serve;
+use cast_config::{Cause, Setup, read};
+use cast_types::SiteNo;
+use std::alloc::Global;
+use std::io::{BufRead, Lines, Write};
+use std::net::Net;
+use std::rt::{Clock, Files};
+use std::sync::Wait;
+use std::thread::Threads;
+use std::{fs, io};
+
+// The statuses of a program that runs no daemon.
+const UNREADABLE: u8 = 3;
+
+const NO_MEMORY: u8 = 5;
+
+const UNUSABLE: u8 = 6;
+
+// Reads the configuration in a file for a site, or says why there is none and answers the status of the program.
+fn setup_of<R: Files + AllocGlobal, E: Write>(
+    rt: &R,
+    alloc: Global,
+    name: &str,
+    site: SiteNo,
+    err: &mut E,
+) -> Result<Setup, u8> {
+    let text = match fs::read_to_string(rt, name) {
+        Ok(text) => text,
+        Err(error) if error.kind() == io::ErrorKind::OutOfMemory => {
+            let _ = writeln!(err, "castd: no memory");
+            return Err(NO_MEMORY);
+        }
+        Err(_) => {
+            let _ = writeln!(err, "castd: cannot read {name}");
+            return Err(UNREADABLE);
+        }
+    };
+    match read(alloc, text.as_str(), site) {
+        Ok(setup) => Ok(setup),
+        Err(fault) if fault.cause == Cause::NoMemory => {
+            let _ = writeln!(err, "castd: no memory");
+            Err(NO_MEMORY)
+        }
+        Err(fault) => {
+            let _ = writeln!(err, "castd: config: {fault}");
+            Err(UNUSABLE)
+        }
+    }
+}
+
+/// Runs the daemon of a site by the configuration in the file of this name, with so many workers, as `serve` does, and
+/// answers the status of the program: also 3 where the file cannot be read or is not UTF-8, 6 where its configuration has a fault, which
+/// is named with its field, and 5 where memory ran out.
+pub fn serve_file<R, B, W, E>(
+    rt: &R,
+    name: &str,
+    site: SiteNo,
+    workers: u8,
+    lines: Lines<B>,
+    out: &mut W,
+    err: &mut E,
+) -> u8
+where
+    R: Threads + Wait + Clock + Net + Files + AllocGlobal + Sync,
+    B: BufRead + Drop,
+    W: Write,
+    E: Write + Send,
+{
+    let alloc = rt.alloc();
+    match setup_of(rt, alloc, name, site, err) {
+        Ok(setup) => serve(rt, alloc, &setup, workers, lines, out, err),
+        Err(status) => status,
+    }
+}

@@ -1,0 +1,47 @@
+//! What an operator has to know, as lines on standard error.
+use cast_types::DomainNo;
+use crossbeam_channel::Receiver;
+use std::io::Write;
+use std::sync::Wait;
+
+/// A fault that an operator has to know.
+#[derive(Clone, Copy, Debug, PartialEq, Eq)]
+pub enum Report {
+    /// Want of memory halted the domain.
+    Halted(DomainNo),
+    /// A program that connected to the domain could not be served.
+    NotServed(DomainNo),
+    /// No more programs can connect to the domain for now: accepting one failed.
+    NotAccepting(DomainNo),
+    /// Frames could not be sent for want of memory. Most are sent again.
+    NotSent,
+    /// The socket of the datagrams failed.
+    LinkFailed,
+}
+
+// Writes the line of a report.
+fn put_line<E: Write>(err: &mut E, what: Report) {
+    let _ = match what {
+        Report::Halted(domain) => {
+            let number = domain.0;
+            writeln!(err, "castd: domain {number}: halted")
+        }
+        Report::NotServed(domain) => {
+            let number = domain.0;
+            writeln!(err, "castd: domain {number}: a program was not served")
+        }
+        Report::NotAccepting(domain) => {
+            let number = domain.0;
+            writeln!(err, "castd: domain {number}: no program can connect")
+        }
+        Report::NotSent => writeln!(err, "castd: frames were not sent: no memory"),
+        Report::LinkFailed => writeln!(err, "castd: datagrams cannot be received"),
+    };
+}
+
+/// Writes each report, until nobody can report any more.
+pub fn run_reporter<R: Wait, E: Write>(rt: &R, err: &mut E, reports: Receiver<Report>) {
+    for what in reports.iter(rt) {
+        put_line(err, what);
+    }
+}
