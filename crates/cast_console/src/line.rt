@@ -1,5 +1,7 @@
-ghost use Rattle.std.specs.Prelude.{◌≡◌};
-ghost use Rattle.cast_console.specs.Lines.{fault_number, fault_of};
+ghost use Rattle.std.specs.Prelude.{◌≡◌, ◌∷◌};
+ghost use Rattle.std.specs.Option.{option_copied};
+ghost use Rattle.cast_words.specs.Words.{parted};
+ghost use Rattle.cast_console.specs.Lines.{IsSeen, bare, behind, fault_number, fault_of, head_of, line_of, none_of, of_domain, one_of, quota, suspect, three_of, two_of, words_of};
 
 use cast_model::QuotaName;
 use cast_types::{DomainNo, SiteNo};
@@ -65,8 +67,38 @@ impl From<Reason> for LineFault {
     }
 }
 
+// What the first word of a line says that the line is about.
+#[derive(Clone, Copy, Debug, PartialEq, Eq)]
+pub(crate) enum Head {
+    Domains,
+    Show,
+    Groups,
+    Suspect,
+    Quota,
+    Trace,
+    Stop,
+}
+
+// What a first word says.
+fn head_of(word: &str) -> Result<Head, LineFault>
+    ensures { result ≡ head_of word.now }
+{
+    match word {
+        "domains" => Ok(Head::Domains),
+        "show" => Ok(Head::Show),
+        "groups" => Ok(Head::Groups),
+        "suspect" => Ok(Head::Suspect),
+        "quota" => Ok(Head::Quota),
+        "trace" => Ok(Head::Trace),
+        "stop" => Ok(Head::Stop),
+        _ => Err(LineFault::UnknownWord),
+    }
+}
+
 // The first word of a text, and what stands behind the space after it.
-fn cut(text: &str) -> (&str, Option<&str>) {
+fn cut(text: &str) -> (&str, Option<&str>)
+    ensures { parted 32 text.now ≡ result.0.now ∷ words_of (option_copied result.1) }
+{
     match text.split_once(' ') {
         Some((word, rest)) => (word, Some(rest)),
         None => (text, None),
@@ -74,7 +106,9 @@ fn cut(text: &str) -> (&str, Option<&str>) {
 }
 
 // No word.
-fn no_word(rest: Option<&str>) -> Result<(), LineFault> {
+fn no_word(rest: Option<&str>) -> Result<(), LineFault>
+    ensures { result ≡ none_of (words_of (option_copied rest.entry)) }
+{
     match rest {
         None => Ok(()),
         Some(_) => Err(LineFault::WrongCount),
@@ -82,63 +116,107 @@ fn no_word(rest: Option<&str>) -> Result<(), LineFault> {
 }
 
 // One word.
-fn one_word(rest: Option<&str>) -> Result<&str, LineFault> {
-    let (word, rest) = cut(rest.ok_or(LineFault::WrongCount)?);
+fn one_word(rest: Option<&str>) -> Result<&str, LineFault>
+    ensures { IsSeen (λ w. w.now) result (one_of (words_of (option_copied rest.entry))) }
+{
+    let Some(text) = rest else {
+        return Err(LineFault::WrongCount);
+    };
+    let (word, rest) = cut(text);
     no_word(rest)?;
     Ok(word)
 }
 
 // Two words.
-fn two_words(rest: Option<&str>) -> Result<(&str, &str), LineFault> {
-    let (first, rest) = cut(rest.ok_or(LineFault::WrongCount)?);
+fn two_words(rest: Option<&str>) -> Result<(&str, &str), LineFault>
+    ensures { IsSeen (λ w. (w.0.now, w.1.now)) result (two_of (words_of (option_copied rest.entry))) }
+{
+    let Some(text) = rest else {
+        return Err(LineFault::WrongCount);
+    };
+    let (first, rest) = cut(text);
     Ok((first, one_word(rest)?))
 }
 
 // Three words.
-fn three_words(rest: Option<&str>) -> Result<(&str, &str, &str), LineFault> {
-    let (first, rest) = cut(rest.ok_or(LineFault::WrongCount)?);
+fn three_words(rest: Option<&str>) -> Result<(&str, &str, &str), LineFault>
+    ensures { IsSeen (λ w. (w.0.now, w.1.now, w.2.now)) result (three_of (words_of (option_copied rest.entry))) }
+{
+    let Some(text) = rest else {
+        return Err(LineFault::WrongCount);
+    };
+    let (first, rest) = cut(text);
     let (second, third) = two_words(rest)?;
     Ok((first, second, third))
 }
 
-// A domain.
-fn domain_line(rest: Option<&str>) -> Result<DomainNo, LineFault> {
-    Ok(domain_word(one_word(rest)?)?)
+// A line of one word.
+#[tactic(auto, unfolding(crate::specs::Lines::bare))]
+fn bare(rest: Option<&str>, line: Line) -> Result<Line, LineFault>
+    ensures { result ≡ bare line (words_of (option_copied rest.entry)) }
+{
+    no_word(rest)?;
+    Ok(line)
+}
+
+// `show D`
+#[tactic(auto, unfolding(crate::specs::Lines::of_domain))]
+fn show(rest: Option<&str>) -> Result<Line, LineFault>
+    ensures { result ≡ of_domain Line.Show (words_of (option_copied rest.entry)) }
+{
+    Ok(Line::Show(domain_word(one_word(rest)?)?))
+}
+
+// `groups D`
+#[tactic(auto, unfolding(crate::specs::Lines::of_domain))]
+fn groups(rest: Option<&str>) -> Result<Line, LineFault>
+    ensures { result ≡ of_domain Line.Groups (words_of (option_copied rest.entry)) }
+{
+    Ok(Line::Groups(domain_word(one_word(rest)?)?))
 }
 
 // `suspect D S`
-fn suspect_line(rest: Option<&str>) -> Result<Line, LineFault> {
+#[tactic(auto, unfolding(crate::specs::Lines::suspect))]
+fn suspect(rest: Option<&str>) -> Result<Line, LineFault>
+    ensures { result ≡ suspect (words_of (option_copied rest.entry)) }
+{
     let (domain, site) = two_words(rest)?;
     Ok(Line::Suspect(domain_word(domain)?, site_word(site)?))
 }
 
 // `quota D NAME N`
-fn quota_line(rest: Option<&str>) -> Result<Line, LineFault> {
+#[tactic(auto, unfolding(crate::specs::Lines::quota))]
+fn quota(rest: Option<&str>) -> Result<Line, LineFault>
+    ensures { result ≡ quota (words_of (option_copied rest.entry)) }
+{
     let (domain, name, value) = three_words(rest)?;
     Ok(Line::Quota(domain_word(domain)?, quota_name_word(name)?, number(value)?))
 }
 
-// A line of one word.
-fn bare_line(rest: Option<&str>, line: Line) -> Result<Line, LineFault> {
-    no_word(rest)?;
-    Ok(line)
+// What a line is by what stands behind its first word.
+fn behind(head: Head, rest: Option<&str>) -> Result<Line, LineFault>
+    ensures { result ≡ behind head (words_of (option_copied rest.entry)) }
+{
+    match head {
+        Head::Domains => bare(rest, Line::Domains),
+        Head::Show => show(rest),
+        Head::Groups => groups(rest),
+        Head::Suspect => suspect(rest),
+        Head::Quota => quota(rest),
+        Head::Trace => bare(rest, Line::Trace),
+        Head::Stop => bare(rest, Line::Stop),
+    }
 }
 
 /// What a line is: its words are parted by one space each. Its fault is the first of: that it is empty, that its first word is
 /// unknown, that it has another count of words, and then that of its words from left to right. Takes no memory.
-pub fn parse(line: &str) -> Result<Line, LineFault> {
+#[tactic(auto, unfolding(crate::specs::Lines::line_of))]
+pub fn parse(line: &str) -> Result<Line, LineFault>
+    ensures { result ≡ line_of line.now }
+{
     if line.is_empty() {
         return Err(LineFault::Empty);
     }
     let (first, rest) = cut(line);
-    match first {
-        "domains" => bare_line(rest, Line::Domains),
-        "show" => Ok(Line::Show(domain_line(rest)?)),
-        "groups" => Ok(Line::Groups(domain_line(rest)?)),
-        "suspect" => suspect_line(rest),
-        "quota" => quota_line(rest),
-        "trace" => bare_line(rest, Line::Trace),
-        "stop" => bare_line(rest, Line::Stop),
-        _ => Err(LineFault::UnknownWord),
-    }
+    behind(head_of(first)?, rest)
 }
