@@ -31,6 +31,10 @@ domain_eq d e = d.0 == e.0
 abbrev pub domains_of : Table → List Domain
 domains_of table = table.domains.items
 
+-- what they share
+abbrev pub shared_of : Table → Shared
+shared_of table = table.shared
+
 -- In order of number
 
 -- a domain with others that stand behind it in the configuration: before the first whose number is not below its own

@@ -2,10 +2,12 @@ ghost use Rattle.std.specs.Prelude.{◌≡◌, ◌≢◌, ◌<◌, ◌≤◌, �
 ghost use Rattle.std.specs.List.{AllZip, find, insert};
 ghost use Rattle.std.specs.Option.{option_copied};
 ghost use Rattle.std.specs.Vec.{vec_capacity};
+ghost use Rattle.cast_domain.specs.Copies.{IsCopyOf as IsDomainCopy};
 ghost use Rattle.cast_domain.specs.Records.{number_of};
 ghost use Rattle.cast_model.specs.Events.{domain_of};
 ghost use Rattle.cast_table.specs.Tables.{AreApplied, AreTurns, IsApplied, IsAppliedTo, IsLeastOf, IsNew, IsTicked, IsTurn, IsUnchanged, NotesHalts, NotesOne, SharesNothing, answer_in_turn, by_number, domain_eq, domains_of, halted_by, lending, lent, lower, picked, place_above, place_for, place_named, stopped, without};
 ghost use Rattle.cast_table.specs.Replays.{AddsEntry, AnswersNoDomain, IsReplay, are_distinct, by_session, frames_of, given_of, have_rising_groups, lacks_memory, of_domain, untagged};
+ghost use Rattle.cast_table.specs.Copies.{IsCopyOf};
 ghost use Rattle.cast_table.specs.Shows.{ShowsGroups, ShowsHistory, groups_at, shown_at};
 
 use cast_domain::{Domain, GroupShown, Shared, Shown};
@@ -37,6 +39,23 @@ impl Table {
             domains,
             shared: Shared::new(alloc),
         })
+    }
+
+    /// A table whose domains keep the same, each with the same part of what is shared.
+    pub fn copy(&self) -> Result<Self, NoMemory>
+        ensures { IfOk result (λ copy. IsCopyOf self.now copy) }
+    {
+        Ok(Table {
+            domains: copy_domains(&self.domains)?,
+            shared: self.shared.copy()?,
+        })
+    }
+
+    /// How many domains there are.
+    pub fn len(&self) -> usize
+        ensures { result ≡ length (domains_of self.now) }
+    {
+        self.domains.len()
     }
 
     /// Makes the step of the domain that the event names, or, at a tick, of every domain in order of number: one that is
@@ -127,6 +146,17 @@ impl Table {
             None => Ok(Taken::Nothing),
         }
     }
+}
+
+// Domains, copied.
+fn copy_domains(domains: &Vec<Domain>) -> Result<Vec<Domain>, NoMemory>
+    ensures { IfOk result (λ copy. AllZip IsDomainCopy domains.now.items copy.items) }
+{
+    let mut copied = Vec::with_capacity(*domains.allocator(), domains.len())?;
+    for domain in domains {
+        copied.push(domain.copy()?)?;
+    }
+    Ok(copied)
 }
 
 // Puts a domain before the first whose number is above its own.
