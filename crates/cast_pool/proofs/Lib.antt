@@ -1,0 +1,6 @@
+pub mod Numbers
+pub mod Turns
+pub mod Events
+pub mod Halts
+pub mod Replays
+pub mod Serving

@@ -1,0 +1,87 @@
+-- Numbers of domains: which are among others, and that no two are the same.
+use Rattle.std.proofs.Common.{◌≡◌, ℕ, zero, suc, Bool, true, false, not, ◌&&◌, ◌||◌, List, [], ◌∷◌, map, Some, slice_set, refl, sym, ap, ◌∙◌, inl, inr}
+use Rattle.std.specs.Prelude.{slice_get}
+use Rattle.std.specs.List.{AllZip, list_any}
+use Rattle.std.specs.Option.{option_map_or}
+use Rattle.std.proofs.lemmas.Bool.{cases_Bool, false≢true, false_from_ne_true, and_parts, and_from, or_left, or_right, or_parts, or_from, not-true, not_from_false}
+use Rattle.cast_types.specs.declared.names.DomainNo.{DomainNo}
+use Rattle.cast_model.specs.declared.config.DomainConfig.{DomainConfig}
+use Rattle.cast_model.specs.declared.event.Event.{Event}
+use Rattle.cast_model.specs.Events.{domain_of}
+use Rattle.cast_domain.specs.declared.domain.Domain.{Domain}
+use Rattle.cast_domain.specs.Records.{number_of}
+use Rattle.cast_table.specs.Tables.{domain_eq}
+use Rattle.cast_table.specs.Replays.{is_configured, are_distinct, is_own, names}
+use Rattle.cast_table.proofs.Parts.{same_domain, domain_itself, domain_flipped}
+use Rattle.cast_table.proofs.Places.{IsNumbered, none_some, same_some}
+use Rattle.cast_pool.specs.Traces.{is_among}
+use Rattle.cast_pool.specs.Kept.{are_apart}
+
+pub domain_swapped : (a b : DomainNo) → domain_eq a b ≡ domain_eq b a
+domain_swapped a b =
+    elim (cases_Bool (domain_eq a b)) [
+      | inl same ↦
+          ap (λ d. domain_eq d b) (same_domain a b same) ∙ ap (λ d. domain_eq b d) (sym (same_domain a b same))
+      | inr other ↦ other ∙ sym (domain_flipped a b other)
+    ]
+
+-- the numbers of domains in order
+abbrev pub numbers_in : List Domain → List DomainNo
+numbers_in domains = map number_of domains
+
+-- two lists of domains with the same numbers
+pub same_numbers : (R : Domain → Domain → Type 0) → ((x y : Domain) → R x y → number_of y ≡ number_of x) → (xs ys : List Domain) → AllZip R xs ys → numbers_in ys ≡ numbers_in xs
+same_numbers R number [] [] all = refl
+same_numbers R number [] (y ∷ ys) all = absurd all
+same_numbers R number (x ∷ xs) [] all = absurd all
+same_numbers R number (x ∷ xs) (y ∷ ys) all =
+    let first = number x y all.0 in
+    let rest = same_numbers R number xs ys all.1 in
+    λ i. first i ∷ rest i
+
+-- a domain that stands there has its number among them
+pub stands_among : (ds : List Domain) (k : ℕ) (d : Domain) → slice_get ds k ≡ Some d → is_among (number_of d) (numbers_in ds) ≡ true
+stands_among [] k d stands = absurd (none_some d stands)
+stands_among (x ∷ ds) zero d stands =
+    or_left (domain_eq (number_of d) (number_of x)) (is_among (number_of d) (numbers_in ds))
+    (ap (λ (y : Domain). domain_eq (number_of d) (number_of y)) (same_some x d stands) ∙ domain_itself (number_of d))
+stands_among (x ∷ ds) (suc k) d stands =
+    or_right (domain_eq (number_of d) (number_of x)) (is_among (number_of d) (numbers_in ds)) (stands_among ds k d stands)
+
+-- one that is among them is none that is not
+pub other_number : (n q : DomainNo) (numbers : List DomainNo) → is_among n numbers ≡ false → is_among q numbers ≡ true → domain_eq n q ≡ false
+other_number n q numbers none there =
+    false_from_ne_true (domain_eq n q)
+    (λ same. false≢true (sym none ∙ ap (λ d. is_among d numbers) (same_domain n q same) ∙ there))
+
+-- those of a list with no two alike: the first is none of the others
+pub first_apart : (d : DomainNo) (numbers : List DomainNo) → are_apart (d ∷ numbers) ≡ true → is_among d numbers ≡ false
+first_apart d numbers apart = not-true (is_among d numbers) (and_parts (not (is_among d numbers)) (are_apart numbers) apart).0
+
+pub rest_apart : (d : DomainNo) (numbers : List DomainNo) → are_apart (d ∷ numbers) ≡ true → are_apart numbers ≡ true
+rest_apart d numbers apart = (and_parts (not (is_among d numbers)) (are_apart numbers) apart).1
+
+-- Configured domains
+
+configured_among : (n : DomainNo) (cs : List DomainConfig) (ds : List Domain) → AllZip IsNumbered cs ds → is_among n (numbers_in ds) ≡ is_configured n cs
+configured_among n [] [] all = refl
+configured_among n [] (d ∷ ds) all = absurd all
+configured_among n (c ∷ cs) [] all = absurd all
+configured_among n (c ∷ cs) (d ∷ ds) all =
+    let first = ap (domain_eq n) all.0 ∙ domain_swapped n c.domain in
+    let rest = configured_among n cs ds all.1 in
+    λ i. first i || rest i
+
+pub apart_configured : (cs : List DomainConfig) (ds : List Domain) → AllZip IsNumbered cs ds → are_apart (numbers_in ds) ≡ are_distinct cs
+apart_configured [] [] all = refl
+apart_configured [] (d ∷ ds) all = absurd all
+apart_configured (c ∷ cs) [] all = absurd all
+apart_configured (c ∷ cs) (d ∷ ds) all =
+    let first = configured_among (number_of d) cs ds all.1 ∙ ap (λ n. is_configured n cs) all.0 in
+    let rest = apart_configured cs ds all.1 in
+    λ i. not (first i) && rest i
+
+-- Which domain's own an event is
+
+pub own_named : (e : Event) (n d : DomainNo) → domain_of e ≡ Some n → is_own d e ≡ domain_eq n d
+own_named e n d is = ap (λ o. option_map_or (λ m. domain_eq m d) o true) is

@@ -1,0 +1,329 @@
+//! The table with its trace, and the jobs. Nothing outside this module changes a kept table, or makes a job or what comes of it.
+ghost use Rattle.std.specs.Prelude.{◌≡◌, ◌+◌, ◌<◌, ◌≤◌, ◌^◌, [], true, Ok, IfOk, OnOk, OnErr, IfErr, length};
+ghost use Rattle.cast_table.specs.Replays.{are_distinct, have_rising_groups};
+ghost use Rattle.cast_pool.specs.Kept.{Replays, Seen, events_of};
+ghost use Rattle.cast_pool.specs.Served.{IsDone, IsTrimmed, Serves};
+ghost use Rattle.cast_pool.specs.Tasks.{IsUndecoded, task_of};
+
+use crate::task::{Asked, Outcome, Raw, Task};
+use crate::trail::{Entry, Trail, filled, note_of};
+use cast_frame::decode_site;
+use cast_model::{Config, Event, Fault, Outs, Taken};
+use cast_table::Table;
+use cast_types::{NoMemory, Refusal};
+use std::alloc::Global;
+use std::marker::Model;
+use std::sync::ledger::{Blank, Book, Ledger, Share};
+
+/// A job: what is to be done with the table, under the number that was asked. `decode` alone makes one.
+#[derive(Drop)]
+pub struct Job {
+    number: u64,
+    task: Task,
+}
+
+/// What came of a job, or why bytes were none, under the number that was asked. `decode` and `Kept::serve_one` alone make one.
+#[derive(Drop)]
+pub struct Done {
+    number: u64,
+    outcome: Outcome,
+}
+
+/// The table of a daemon, beside the trace of the events that it took since the base, with the number of those before it.
+/// Contracts see a `Seen`. Whenever nobody is changing it, the trace leads from what the base stands for to what the table
+/// stands for.
+#[derive(Drop)]
+pub struct Kept<L: Ledger> {
+    alloc: Global,
+    table: Table,
+    trail: Trail,
+    book: Book<L>,
+}
+
+impl<L: Ledger> Model for Kept<L> {
+    ghost use Rattle.std.specs.Prelude.{◌≡◌, ◌+◌, ◌<◌, ◌^◌, length};
+    ghost use Rattle.cast_pool.specs.Kept.{Seen, Replays, seen};
+
+    ghost Value = { Seen };
+
+    ghost view = { λ k. seen k.trail.base k.trail.entries.items k.trail.count k.table };
+
+    ghost invariant = { λ k. Replays k.trail.base k.trail.entries.items k.table × (k.trail.count + length k.trail.entries.items ≡ k.book.total) × (k.trail.count + length k.trail.entries.items < 2 ^ 64) };
+}
+
+/// A worker's share of the count: how many events it took.
+#[derive(Drop)]
+pub struct Worked<L: Ledger> {
+    taken: u64,
+    parts: u64,
+    share: Share<L>,
+    ghost amount_is: { share.amount ≡ taken },
+    ghost parts_are: { share.parts ≡ parts },
+}
+
+/// What is to be done where this is asked. The bytes of a datagram are read as a frame; why they are none is an answer
+/// already.
+pub fn decode(alloc: Global, raw: Raw) -> Result<Job, Done>
+    ensures job { IfOk result (λ job. (job.number ≡ raw.number) × (task_of raw.asked ≡ Ok job.task)) }
+    ensures fault { IfErr result (λ done. (done.number ≡ raw.number) × IsUndecoded raw.asked done.outcome) }
+{
+    let Raw { number, asked } = raw;
+    match asked {
+        Asked::Event(event) => Ok(Job {
+            number,
+            task: Task::Serve(event),
+        }),
+        Asked::Show(domain) => Ok(Job {
+            number,
+            task: Task::Show(domain),
+        }),
+        Asked::Datagram(bytes) => match decode_site(alloc, bytes.as_slice()) {
+            Ok((domain, from, frame)) => Ok(Job {
+                number,
+                task: Task::Serve(Event::Frame(domain, from, frame)),
+            }),
+            Err(fault) => Err(Done {
+                number,
+                outcome: Outcome::Undecoded(fault),
+            }),
+        },
+    }
+}
+
+impl Done {
+    /// The number that was asked.
+    pub fn number(&self) -> u64
+        ensures { result ≡ self.now.number }
+    {
+        self.number
+    }
+
+    /// What came of it.
+    pub fn outcome(&self) -> &Outcome
+        ensures { result.now ≡ self.now.outcome }
+    {
+        &self.outcome
+    }
+
+    /// The number that was asked, and what came of it.
+    pub fn parts(self) -> (u64, Outcome)
+        ensures { result ≡ (self.number, self.outcome) }
+    {
+        let Done { number, outcome } = self;
+        (number, outcome)
+    }
+}
+
+impl<L: Ledger> Worked<L> {
+    /// How many events it took.
+    pub fn taken(&self) -> u64
+        ensures { result ≡ self.now.taken }
+    {
+        self.taken
+    }
+
+    /// A share for another worker, which took none yet, with one part of the ledger.
+    pub fn split(&mut self) -> Worked<L>
+        requires { 1 < self.old.parts }
+        ensures new { (result.taken ≡ 0) × (result.parts ≡ 1) }
+        ensures rest { (self.new.taken ≡ self.old.taken) × (self.new.parts + 1 ≡ self.old.parts) }
+    {
+        let Worked {
+            taken: _,
+            parts,
+            share,
+        } = self;
+        let cut = share.split_off(1, 0);
+        *parts -= 1;
+        Worked {
+            taken: 0,
+            parts: 1,
+            share: cut,
+        }
+    }
+
+    /// Adds up two shares. Gives both back where their sum passes the greatest u64.
+    pub fn join(self, other: Worked<L>) -> Result<Worked<L>, (Worked<L>, Worked<L>)>
+        requires { self.parts + other.parts < 2 ^ 64 }
+        ensures ok { IfOk result (λ w. (w.taken ≡ self.taken + other.taken) × (w.parts ≡ self.parts + other.parts)) }
+        ensures err { IfErr result (λ p. (p.0 ≡ self) × (p.1 ≡ other)) }
+        ensures past { OnErr result (2 ^ 64 ≤ self.taken + other.taken) }
+    {
+        if self.taken > u64::MAX - other.taken {
+            return Err((self, other));
+        }
+        let Worked {
+            taken,
+            parts,
+            mut share,
+        } = self;
+        let Worked {
+            taken: also,
+            parts: more,
+            share: theirs,
+        } = other;
+        share.merge(theirs);
+        Ok(Worked {
+            taken: taken + also,
+            parts: parts + more,
+            share,
+        })
+    }
+}
+
+impl<L: Ledger> Kept<L> {
+    ghost use Rattle.std.specs.List.{AllZip};
+    ghost use Rattle.cast_table.specs.Tables.{IsNew, SharesNothing, by_number, domains_of};
+    ghost use Rattle.cast_pool.specs.Kept.{is_due};
+
+    /// A table before its first event, with an empty trace, and the whole share of its count, in so many parts.
+    pub fn new(
+        alloc: Global,
+        config: &Config,
+        blank: Blank,
+        parts: u64,
+    ) -> Result<(Kept<L>, Worked<L>), NoMemory>
+        requires distinct { are_distinct config.now.domains ≡ true }
+        requires rising { have_rising_groups config.now.domains ≡ true }
+        requires name { blank.name ≡ L.name }
+        requires parts { (blank.parts ≡ L.parts) × (blank.parts ≡ parts) }
+        ensures domains { IfOk result (λ r. AllZip (IsNew config.now.site) (by_number config.now.domains) (domains_of r.0.table)) }
+        ensures unshared { IfOk result (λ r. SharesNothing r.0.table) }
+        ensures begins { IfOk result (λ r. (r.0.trace ≡ []) × (r.0.count ≡ 0)) }
+        ensures worked { IfOk result (λ r. (r.1.taken ≡ 0) × (r.1.parts ≡ parts) × (r.1.parts ≡ L.parts)) }
+    {
+        let table = Table::new(alloc, config)?;
+        let base = Table::new(alloc, config)?;
+        let (book, share) = blank.open::<L>();
+        let trail = Trail {
+            base,
+            entries: Vec::new(alloc),
+            count: 0,
+        };
+        let kept = Kept {
+            alloc,
+            table,
+            trail,
+            book,
+        };
+        Ok((
+            kept,
+            Worked {
+                taken: 0,
+                parts,
+                share,
+            },
+        ))
+    }
+
+    /// The table. The trace leads to it.
+    pub fn table(&self) -> &Table
+        ensures { result.now ≡ self.now.table }
+    {
+        &self.table
+    }
+
+    /// What holds of a kept table whenever it is got: there is something that each domain stood for at the base, from which the
+    /// domain's own events in the trace, each a step of a daemon that serves it alone, with the answer that is kept, lead to
+    /// what the domain stands for in the table.
+    pub fn trace_leads(&self)
+        ensures leads { Replays self.now.base self.now.trace self.now.table }
+        ensures counted { events_of self.now < 2 ^ 64 }
+    {
+        let _ = &self.alloc;
+    }
+
+    /// How many events were taken.
+    pub fn events(&self) -> u64
+        ensures { result ≡ events_of self.now }
+    {
+        self.trail.count + self.trail.entries.len() as u64
+    }
+
+    /// How many of them are in the trace.
+    pub fn trace_len(&self) -> usize
+        ensures { result ≡ length self.now.trace }
+    {
+        self.trail.entries.len()
+    }
+
+    /// Does a job. An event is applied to the table, and one that was taken is added to the trace, which is trimmed first where
+    /// it has 4,096 events. Room for all of this is made before: where there is none, and where no domain has the number,
+    /// nothing is changed. The event after the last one that can be counted is refused.
+    pub fn serve_one(&mut self, mine: &mut Worked<L>, job: Job) -> Done
+        requires { 0 < mine.old.parts }
+        ensures number { result.number ≡ job.number }
+        ensures done { IsDone job.task result.outcome self.old self.new mine.old.taken mine.new.taken }
+        ensures parts { mine.new.parts ≡ mine.old.parts }
+    {
+        let Job { number, task } = job;
+        let outcome = match task {
+            Task::Show(domain) => Outcome::Shown(self.table.show(domain)),
+            Task::Serve(event) => self.serve(mine, event),
+        };
+        Done { number, outcome }
+    }
+
+    // Serves an event.
+    fn serve(&mut self, mine: &mut Worked<L>, event: Event) -> Outcome
+        requires { 0 < mine.old.parts }
+        ensures done { IsDone (Task.Serve event) result self.old self.new mine.old.taken mine.new.taken }
+        ensures parts { mine.new.parts ≡ mine.old.parts }
+    {
+        let mut outs = Outs::new(self.alloc);
+        if self.events() == u64::MAX {
+            return Outcome::Answered(Ok(Taken::Refused(Refusal::Halted)), outs);
+        }
+        let Ok(room) = self.trail.room(self.alloc, &self.table) else {
+            return Outcome::Answered(Err(Fault::NoMemory), outs);
+        };
+        let answer = self.table.apply(&event, &mut outs);
+        let Some(noted) = note_of(&answer) else {
+            return Outcome::Answered(answer, outs);
+        };
+        let Worked {
+            taken,
+            parts: _,
+            share,
+        } = mine;
+        self.book.audit(share);
+        let halted = filled(room.halted, outs.halted.as_slice());
+        self.trail.add(
+            room.base,
+            Entry {
+                event,
+                answer: noted,
+                halted,
+            },
+        );
+        self.book.add(share, 1);
+        *taken += 1;
+        Outcome::Answered(answer, outs)
+    }
+
+    /// The base becomes a copy of the table, and the trace begins anew. `NoMemory` changes nothing.
+    pub fn trim(&mut self) -> Result<(), NoMemory>
+        ensures ok { OnOk result (IsTrimmed self.old self.new) }
+        ensures err { OnErr result (self.new ≡ self.old) }
+    {
+        let base = self.table.copy()?;
+        self.trail.trim(base);
+        Ok(())
+    }
+
+    /// How many events were taken, where all shares were joined into one: as many as their holders took.
+    pub fn total(&mut self, all: Worked<L>) -> u64
+        requires { all.parts ≡ L.parts }
+        ensures taken { result ≡ all.taken }
+        ensures count { result ≡ events_of self.new }
+        ensures same { self.new ≡ self.old }
+    {
+        let Worked {
+            taken,
+            parts: _,
+            mut share,
+        } = all;
+        self.book.audit(&mut share);
+        taken
+    }
+}

@@ -1,0 +1,2 @@
+/// Events in a trace before it is trimmed.
+pub const MAX_TRACE: usize = 4096;

@@ -1,0 +1,46 @@
+use bytes::Bytes;
+use cast_field::FrameFault;
+use cast_model::{Event, Fault, Outs, Taken};
+use cast_table::Shown;
+use cast_types::DomainNo;
+
+/// What a worker is asked.
+#[derive(Drop)]
+pub enum Asked {
+    /// To take in the frame that these bytes are, which came from another site.
+    Datagram(Bytes),
+    /// To take in an event.
+    Event(Event),
+    /// To show what a domain keeps and has done.
+    Show(DomainNo),
+}
+
+/// What comes to a worker.
+#[derive(Drop)]
+pub struct Raw {
+    /// Any number. What comes of it bears the same.
+    pub number: u64,
+    pub asked: Asked,
+}
+
+/// What is to be done with the table.
+#[derive(Drop)]
+pub enum Task {
+    /// It takes an event.
+    Serve(Event),
+    /// It shows a domain.
+    Show(DomainNo),
+}
+
+/// What came of what was asked.
+#[derive(Drop)]
+pub enum Outcome {
+    /// What the event was answered, and what came of it: the frames to be sent, the deliveries, and the domains that it halted.
+    /// `NoMemory` and `NoDomain` changed nothing. A halted domain's event, and one past the last number of events, is
+    /// `Refused(Halted)`.
+    Answered(Result<Taken, Fault>, Outs),
+    /// What the domain shows; `None` where no domain has the number.
+    Shown(Option<Shown>),
+    /// The bytes are no frame, for the first of its faults, or there was no memory to read them.
+    Undecoded(FrameFault),
+}

@@ -1,0 +1,133 @@
+ghost use Rattle.std.specs.Prelude.{◌≡◌, ◌+◌, ◌<◌, ◌≤◌, ◌^◌, [], ◌∷◌, ◌++◌, None, IfOk, OnErr, length, vec_len};
+ghost use Rattle.std.specs.Vec.{vec_capacity};
+ghost use Rattle.cast_table.specs.Tables.{domains_of};
+ghost use Rattle.cast_pool.specs.Traces.{noted_of};
+ghost use Rattle.cast_pool.specs.Room.{HasPlace, HasRoom, base_then, count_then, items_then};
+
+use crate::limits::MAX_TRACE;
+use cast_model::{Event, Fault, Taken};
+use cast_table::Table;
+use cast_types::{DomainNo, Listed, NoMemory, Refusal};
+use std::alloc::Global;
+
+/// What an event was answered, as a trace keeps it.
+#[derive(Clone, Copy, Debug, PartialEq, Eq)]
+pub enum Noted {
+    Nothing,
+    /// The serial of the new session.
+    Opened(u32),
+    Refused(Refusal),
+    /// How many entries were taken.
+    Entries(usize),
+    /// The step of this domain found no memory; of a tick, the least number of those that it halted.
+    Halted(DomainNo),
+}
+
+/// An event of a trace.
+#[derive(Drop)]
+pub struct Entry {
+    pub event: Event,
+    pub answer: Noted,
+    /// The domains that the event halted, in the order of their numbers.
+    pub halted: Listed<DomainNo>,
+}
+
+/// The events that were taken since the trace was trimmed last.
+#[derive(Drop)]
+pub(crate) struct Trail {
+    /// The table as it was before the first of them.
+    pub(crate) base: Table,
+    pub(crate) entries: Vec<Entry>,
+    /// How many events were taken before the first of them.
+    pub(crate) count: u64,
+}
+
+/// Room for one more entry: for the domains that its event halts, and, where the trace is trimmed before it, the table as it is.
+#[derive(Drop)]
+pub(crate) struct Room {
+    pub(crate) base: Option<Table>,
+    pub(crate) halted: Vec<DomainNo>,
+}
+
+/// What a trace keeps of an answer; nothing of an event that was not taken.
+pub(crate) fn note_of(answer: &Result<Taken, Fault>) -> Option<Noted>
+    ensures { result ≡ noted_of answer.now }
+{
+    match answer {
+        Ok(Taken::Nothing) => Some(Noted::Nothing),
+        Ok(Taken::Opened(serial)) => Some(Noted::Opened(*serial)),
+        Ok(Taken::Refused(refusal)) => Some(Noted::Refused(*refusal)),
+        Ok(Taken::Entries(entries)) => Some(Noted::Entries(entries.len())),
+        Err(Fault::Halted(domain)) => Some(Noted::Halted(*domain)),
+        Err(Fault::NoMemory) | Err(Fault::NoDomain) => None,
+    }
+}
+
+/// The halted domains, in the room that there is for them. Takes no memory.
+pub(crate) fn filled(room: Vec<DomainNo>, halted: &[DomainNo]) -> Listed<DomainNo>
+    requires empty { room.items ≡ [] }
+    requires room { length halted.now ≤ vec_capacity room }
+    ensures { result ≡ halted.now }
+{
+    let mut room = room;
+    room.extend_from_slice(halted).unwrap();
+    Listed::from_vec(room)
+}
+
+impl Trail {
+    /// Makes room for one more entry. `NoMemory` changes nothing that is seen.
+    pub(crate) fn room(&mut self, alloc: Global, table: &Table) -> Result<Room, NoMemory>
+        ensures room { IfOk result (λ room. HasRoom table.now room self.new) }
+        ensures same { (self.new.base ≡ self.old.base) × (self.new.entries.items ≡ self.old.entries.items) × (self.new.count ≡ self.old.count) }
+    {
+        let halted = Vec::with_capacity(alloc, table.len())?;
+        if self.entries.len() < MAX_TRACE {
+            self.entries.reserve(1)?;
+            return Ok(Room { base: None, halted });
+        }
+        Ok(Room {
+            base: Some(table.copy()?),
+            halted,
+        })
+    }
+
+    /// Adds an entry, after the trace was trimmed where there is another base for it. Takes no memory.
+    pub(crate) fn add(&mut self, base: Option<Table>, entry: Entry)
+        requires room { HasPlace base self.old }
+        requires few { self.old.count + length self.old.entries.items < 2 ^ 64 }
+        ensures base { self.new.base ≡ base_then base self.old.base }
+        ensures items { self.new.entries.items ≡ items_then base self.old.entries.items ++ entry ∷ [] }
+        ensures count { self.new.count ≡ count_then base self.old.count (length self.old.entries.items) }
+    {
+        self.rebase(base);
+        self.entries.push_reserved(entry);
+    }
+
+    // Trims the trace where there is another base for it.
+    fn rebase(&mut self, base: Option<Table>)
+        requires room { HasPlace base self.old }
+        requires few { self.old.count + length self.old.entries.items < 2 ^ 64 }
+        ensures base { self.new.base ≡ base_then base self.old.base }
+        ensures items { self.new.entries.items ≡ items_then base self.old.entries.items }
+        ensures count { self.new.count ≡ count_then base self.old.count (length self.old.entries.items) }
+        ensures room { vec_len self.new.entries < vec_capacity self.new.entries }
+    {
+        match base {
+            Some(base) => self.trim(base),
+            None => {}
+        }
+    }
+
+    /// The trace begins anew at another base. Takes no memory.
+    pub(crate) fn trim(&mut self, base: Table)
+        requires { self.old.count + length self.old.entries.items < 2 ^ 64 }
+        ensures base { self.new.base ≡ base }
+        ensures items { self.new.entries.items ≡ [] }
+        ensures count { self.new.count ≡ self.old.count + length self.old.entries.items }
+        ensures room { vec_capacity self.new.entries ≡ vec_capacity self.old.entries }
+    {
+        self.count += self.entries.len() as u64;
+        self.base = base;
+        self.entries.clear();
+    }
+}
