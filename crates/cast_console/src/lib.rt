@@ -1,9 +1,9 @@
 //! The console of a daemon: one line in, and what is answered.
 //!
-//! Promised: a line is read as the one that its words spell, or its first fault (`parse`), and what is answered is the text
-//! of its table, over what the kept table shows and what the serving of its event gave (`answer`).
+//! Promised: a line is read as the one that its words spell, or its first fault (`parse`). Of `answer` it is promised that it is safe
+//! and returns, and no more: which text it gives is only tried.
 //!
-//! The definitions are in `specs/`: `Lines` has what a line is, and `Answers` the texts.
+//! The definitions are in `specs/Lines.antt`: what a line is.
 #![tactic(auto)]
 
 mod answers;

@@ -4,7 +4,9 @@ use std::alloc::Global;
 
 // A document of one site and one domain, up to what a row adds.
 const SITE: &str = "[[site]]\nnumber = 1\naddress = \"127.0.0.1:7001\"\n";
+
 const DOMAIN: &str = "[[domain]]\nnumber = 1\nhome = 1\nsites = [1]\n";
+
 const REST: &str = "groups = [2, 1]\nsocket = \"/tmp/one.sock\"\n";
 
 // The document of these parts.
@@ -42,20 +44,83 @@ fn first_faults_are_named(rt: HostRuntime) {
     let rows: [(&[&str], u16, Field, Cause); 16] = [
         (&["[["], 1, Field::Text, Cause::NotToml),
         (&[DOMAIN, REST], 1, Field::Site, Cause::Missing),
-        (&["site = 1\n", DOMAIN, REST], 1, Field::Site, Cause::WrongKind),
+        (
+            &["site = 1\n", DOMAIN, REST],
+            1,
+            Field::Site,
+            Cause::WrongKind,
+        ),
         (&[SITE], 1, Field::Domain, Cause::Missing),
-        (&["[[site]]\nnumber = 0\n", DOMAIN, REST], 1, Field::Number, Cause::Range),
-        (&["[[site]]\nnumber = 1\naddress = 7\n", DOMAIN, REST], 1, Field::Address, Cause::WrongKind),
-        (&[SITE, SITE, DOMAIN, REST], 1, Field::Number, Cause::Repeated),
+        (
+            &["[[site]]\nnumber = 0\n", DOMAIN, REST],
+            1,
+            Field::Number,
+            Cause::Range,
+        ),
+        (
+            &["[[site]]\nnumber = 1\naddress = 7\n", DOMAIN, REST],
+            1,
+            Field::Address,
+            Cause::WrongKind,
+        ),
+        (
+            &[SITE, SITE, DOMAIN, REST],
+            1,
+            Field::Number,
+            Cause::Repeated,
+        ),
         (&[SITE, DOMAIN, REST], 2, Field::Site, Cause::NotListed),
         (&["domain = []\n", SITE], 1, Field::Domain, Cause::Range),
-        (&[SITE, DOMAIN, REST, "held = 0\n"], 1, Field::Held, Cause::Range),
-        (&[SITE, DOMAIN, "groups = [1, 1]\nsocket = \"s\"\n"], 1, Field::Groups, Cause::Repeated),
-        (&[SITE, DOMAIN, "groups = []\nsocket = \"s\"\n"], 1, Field::Groups, Cause::Range),
-        (&[SITE, "[[domain]]\nnumber = 1\nsites = [1]\n", REST], 1, Field::Home, Cause::Missing),
-        (&[SITE, "[[domain]]\nnumber = 1\nhome = 2\nsites = [1]\n", REST], 1, Field::Home, Cause::NotListed),
-        (&[SITE, "[[domain]]\nnumber = 1\nhome = 1\nsites = [1, 2]\n", REST], 1, Field::Sites, Cause::NotListed),
-        (&[SITE, DOMAIN, REST, DOMAIN, REST], 1, Field::Number, Cause::Repeated),
+        (
+            &[SITE, DOMAIN, REST, "held = 0\n"],
+            1,
+            Field::Held,
+            Cause::Range,
+        ),
+        (
+            &[SITE, DOMAIN, "groups = [1, 1]\nsocket = \"s\"\n"],
+            1,
+            Field::Groups,
+            Cause::Repeated,
+        ),
+        (
+            &[SITE, DOMAIN, "groups = []\nsocket = \"s\"\n"],
+            1,
+            Field::Groups,
+            Cause::Range,
+        ),
+        (
+            &[SITE, "[[domain]]\nnumber = 1\nsites = [1]\n", REST],
+            1,
+            Field::Home,
+            Cause::Missing,
+        ),
+        (
+            &[
+                SITE,
+                "[[domain]]\nnumber = 1\nhome = 2\nsites = [1]\n",
+                REST,
+            ],
+            1,
+            Field::Home,
+            Cause::NotListed,
+        ),
+        (
+            &[
+                SITE,
+                "[[domain]]\nnumber = 1\nhome = 1\nsites = [1, 2]\n",
+                REST,
+            ],
+            1,
+            Field::Sites,
+            Cause::NotListed,
+        ),
+        (
+            &[SITE, DOMAIN, REST, DOMAIN, REST],
+            1,
+            Field::Number,
+            Cause::Repeated,
+        ),
     ];
     assert_eq!(rt; refused(rt.alloc(), &rows), 16);
 }

@@ -5,7 +5,7 @@
 //! a writer for each program writes it. `serve` runs all of this until the console says `stop`.
 //!
 //! Promised: nothing but that every call is safe. What is promised of the table stands in `cast_pool`, of a program's bytes in
-//! `cast_session`, of datagrams in `cast_link`, and of the console in `cast_console`.
+//! `cast_session`, of datagrams in `cast_link`, and of the lines of the console in `cast_console`.
 #![tactic(auto)]
 
 mod client;
