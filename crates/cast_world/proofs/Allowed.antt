@@ -119,9 +119,9 @@ module _ (groups : List GroupNo) (gate : GroupNo → Gate) (turn : GroupNo → T
       | inl lower ↦ let lt = ltb-true (view_of m.times g) (gate g).number lower in let n = numbers g is in omega (arith, lt, n)
       | inr level ↦ let same = eqb-true (view_of m.times g) (gate g).number (and_parts _ _ level).0 in let n = numbers g is in omega (arith, same, n)
     ];
-    past = λ u is view current le one other. elim (or_cases _ _ (as_member u.group is)) [
+    past = λ u looks is view current le one other. elim (or_cases _ _ (as_member u.group is)) [
       | inl lower ↦ absurd (let lt = ltb-true (view_of m.times u.group) (gate u.group).number lower in let n = numbers u.group is in omega (arith, lt, n, view, current))
       | inr level ↦ past_delivered p m u.group u (and_parts _ _ level).1 refl view one le other
     ];
-    heard = λ g request heard is. leb-true _ _ (subst (λ st. group_allows st p (gate g) m g ≡ true) is (passes _ groups all_allow g (known g (ap is_outside is))));
+    heard = λ g request heard heeds is. leb-true _ _ (subst (λ st. group_allows st p (gate g) m g ≡ true) is (passes _ groups all_allow g (known g (ap is_outside is))));
   }

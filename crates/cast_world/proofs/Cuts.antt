@@ -104,7 +104,7 @@ PassesAboveCut w =
 
 pub passes_above : (w : Network) → Facts w → PassesAboveCut w
 passes_above w f p g view before cut a b c e is stays counted_it within =
-    let has = (f.each p (a ++ Entered g view before ∷ b) c (Entered g (view + 1) cut) is).cuts view e (still_in w f p g view before cut a b c is stays) counted_it within in
+    let has = (f.each p (a ++ Entered g view before ∷ b) c (Entered g (view + 1) cut) is).cuts view e tt (still_in w f p g view before cut a b c is stays) counted_it within in
     let m : Message = has.0 in
     (m, has.1, delivered_within w f p g view before cut a b c is stays m has.2 (ap (λ (u : Uid). u.group) has.1) (ap (λ (u : Uid). u.view) has.1))
 

@@ -67,7 +67,7 @@ module _ (w : Network) (f : Facts w) where
   edge_rises y z e =
       let d = done y z e in
       let s = f.each z.id.proc d.0 d.1 (Sent z) d.2 in
-      (s.rises y d.3, s.strictly y d.3)
+      (λ u c. s.rises y d.3 u tt c, s.strictly y d.3)
 
   -- stamps rise, and none covers a later message
   pub risen : (x m : Message) → HappenedBefore w x m → Below x.times m.times × (Covers x.times m.id → ⊥)
@@ -108,7 +108,7 @@ module _ (w : Network) (f : Facts w) where
               let entered = f.each p until (n.later ++ Delivered m ∷ c) (Entered x.group n.number n.cut)
               (all ∙ append_assoc until (Entered x.group n.number n.cut ∷ n.later) (Delivered m ∷ c)) in
               let within = due.cut until n.later c n.cut (all ∙ ap (λ k. until ++ Entered x.group k n.cut ∷ n.later ++ Delivered m ∷ c) (entered.next x.view was)) in
-              let has = entered.cuts x.view (entry_of x) was counted within in
+              let has = entered.cuts x.view (entry_of x) tt was counted within in
               (has.0, has.1, subst (λ z. Contains z (Delivered has.0)) (sym whole) (Contains-append_left until (Entered x.group n.number n.cut ∷ n.later) (Delivered has.0) has.2))
         ]
 

@@ -36,13 +36,31 @@ HasDelivered acts u = (m : Message) × (m.id ≡ u) × Contains acts (Delivered 
 abbrev pub IsSorted : ClockList → Type 0
 IsSorted t = (is_sorted group_cmp t ≡ true) × ((g : GroupNo) → is_sorted proc_cmp (clock_of t g).counts ≡ true)
 
+-- What the laws need of the rules, whole: each of these says of all that it is so, and the laws fall where one says it of less
+
+-- in which groups a process looks for messages that it lacks, before it delivers one: in each of which it is a member
+abbrev pub LooksIn : Message → GroupNo → Type 0
+LooksIn m g = Unit {0}
+
+-- in which groups a joining process heeds the view that it had heard of, before it delivers a message: in each that it joins
+abbrev pub HeedsIn : Message → GroupNo → Type 0
+HeedsIn m g = Unit {0}
+
+-- of which groups a stamp tells what its sender knew: of each
+abbrev pub TellsOf : Message → GroupNo → Type 0
+TellsOf z g = Unit {0}
+
+-- which messages within a cut are delivered before the next view is entered: each
+abbrev pub IsAwaited : Entry → Type 0
+IsAwaited e = Unit {0}
+
 -- a message that a process sent, after these acts: it has the process's name, counts itself, and covers all done before
 pub record SentWell (me : Proc) (a : List Act) (z : Message) : Type 0 where
   pub own : z.id.proc ≡ me
   pub counted : 1 ≤ z.id.count
   pub itself : Covers z.times z.id
   pub sorted : IsSorted z.times
-  pub rises : (y : Message) → HasDone a y → Below y.times z.times
+  pub rises : (y : Message) → HasDone a y → (u : Uid) → TellsOf z u.group → Covers y.times u → Covers z.times u
   pub strictly : (y : Message) → HasDone a y → Covers y.times z.id → ⊥
 
 -- a message that a process delivered, after these acts: of its views it has delivered what the message's time covers
@@ -53,7 +71,7 @@ DeliveredWell a m = (u : Uid) → IsIn a u.group u.view → Covers m.times u →
 pub record EnteredWell (a : List Act) (g : GroupNo) (n : ℕ) (cut : CountList) : Type 0 where
   pub above : (m : Message) → HasDone a m → view_of m.times g < n
   pub next : (view : ℕ) → IsIn a g view → n ≡ view + 1
-  pub cuts : (view : ℕ) (e : Entry) → IsIn a g view → 1 ≤ e.1 → IsTrue (is_within cut e) → HasDelivered a (named g view e)
+  pub cuts : (view : ℕ) (e : Entry) → IsAwaited e → IsIn a g view → 1 ≤ e.1 → IsTrue (is_within cut e) → HasDelivered a (named g view e)
 
 abbrev pub ActWell : Proc → List Act → Act → Type 0
 ActWell me a (Sent m) = SentWell me a m
@@ -85,6 +103,6 @@ Fits me p acts = FitsParts me p.time p.standing p.delivered acts
 -- a message is allowed to a process: of its groups it has delivered what the message's time covers
 pub record IsAllowed (p : Process) (m : Message) : Type 0 where
   pub view : (g : GroupNo) → p.standing g ≡ Member → view_of m.times g ≤ view_of p.time g
-  pub past : (u : Uid) → p.standing u.group ≡ Member → u.view ≡ view_of m.times u.group → u.view ≡ view_of p.time u.group →
+  pub past : (u : Uid) → LooksIn m u.group → p.standing u.group ≡ Member → u.view ≡ view_of m.times u.group → u.view ≡ view_of p.time u.group →
       u.count ≤ count_in m.times u.group u.proc → 1 ≤ u.count → (u ≡ m.id → ⊥) → Contains p.delivered u
-  pub heard : (g : GroupNo) (request heard : ℕ) → p.standing g ≡ Joining request heard → view_of m.times g ≤ heard
+  pub heard : (g : GroupNo) (request heard : ℕ) → HeedsIn m g → p.standing g ≡ Joining request heard → view_of m.times g ≤ heard

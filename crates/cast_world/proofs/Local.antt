@@ -56,7 +56,7 @@ module _ (me : Proc) (p : Process) (acts : List Act) (fits : Fits me p acts) whe
         let low = allowed.view u.group member.0 in
         elim covers [
           | inl above ↦ absurd (let same = member.1 in omega (arith, above, low, same))
-          | inr (same, le) ↦ fits.listed u (allowed.past u member.0 same (sym member.1) le counted other)
+          | inr (same, le) ↦ fits.listed u (allowed.past u tt member.0 same (sym member.1) le counted other)
         ]
 
     pub view_kept : (g : GroupNo) (n : ℕ) → view_of p.time g ≡ n → view_of m.times g ≤ n → view_of (join p.time m.times) g ≡ n
@@ -79,7 +79,7 @@ module _ (me : Proc) (p : Process) (acts : List Act) (fits : Fits me p acts) whe
       member = λ g view at.
           let old = fits.member g view (is_in_message acts (Delivered m) g view (inr (m, refl)) at) in
           (old.0, let low = allowed.view g old.0 in let is = old.1 in view_kept g view is (omega (arith, low, is)));
-      heard = λ g request heard is. view_kept g heard (fits.heard g request heard is) (allowed.heard g request heard is);
+      heard = λ g request heard is. view_kept g heard (fits.heard g request heard is) (allowed.heard g request heard tt is);
     }
 
   -- sending
@@ -101,7 +101,7 @@ module _ (me : Proc) (p : Process) (acts : List Act) (fits : Fits me p acts) whe
         counted = omega (arith, count);
         itself = subst (λ t. Covers t m.id) (sym times) (bumped_covers p.time g me m.id group own view count);
         sorted = ordered;
-        rises = λ y did u c. below u (fits.covered y did u c);
+        rises = λ y did u tells c. below u (fits.covered y did u c);
         strictly = λ y did c. not_yet (fits.covered y did m.id c);
       };
       covered = λ y did. elim (done_sent acts m y did) [ inl old ↦ (λ u c. below u (fits.covered y old u c)) | inr new ↦ subst (λ (z : Message). Below z.times m.times) new (λ u c. c) ];
@@ -124,7 +124,7 @@ module _ (me : Proc) (p : Process) (acts : List Act) (fits : Fits me p acts) whe
       each = each_more (ActWell me) acts (Entered g n cut) fits.each record {
         above = λ m did. let up = below_view m.times p.time (fits.covered m did) g in omega (arith, up, above);
         next = next;
-        cuts = λ v e at counted within. fits.listed (named g v e) (cuts v e at counted within);
+        cuts = λ v e awaited at counted within. fits.listed (named g v e) (cuts v e at counted within);
       };
       covered = λ m did u c. below_entering p.time g n above u (fits.covered m (done_entered acts g n cut m did) u c);
       listed = λ u at. has_more acts (Entered g n cut) u (fits.listed u at);

@@ -162,10 +162,10 @@ module _ (e : Event) (taken : Taken) (old : Daemon) (domain : Domain) (shared : 
     (running : is_halted old.domain ≡ false → is_halted domain ≡ false)
     (steps : is_halted old.domain ≡ false → IsSteppedBeside old.domain old.shared no_outs e domain shared outs taken)
     (sent more : List Packet) (added : more ≡ sent ++ packets_from old.site outs.frames) where
-  abbrev new : Daemon
-  new = record { site = old.site; domain = domain; shared = shared; delivered = old.delivered ++ outs.delivered }
+  abbrev stepped : Daemon
+  stepped = record { site = old.site; domain = domain; shared = shared; delivered = old.delivered ++ outs.delivered }
 
-  pub serves : Serves e old new sent more
+  pub serves : Serves e old stepped sent more
   serves s stands =
       let step = steps stands.running s stands.means in
       let t : State = step.end in
@@ -293,7 +293,7 @@ takes_nowhere step old none w stands =
 
 leads_more : (w v u : Network) (steps : List Step) (step : Step) → Leads w steps v → Happens v step u → Leads w (steps ++ step ∷ []) u
 leads_more w v u [] step same happens = (u, subst (λ x. Happens x step u) same happens, refl)
-leads_more w v u (first ∷ steps) step (x, one, more) happens = (x, one, leads_more x v u steps step more happens)
+leads_more w v u (one_step ∷ steps) step (x, one, more) happens = (x, one, leads_more x v u steps step more happens)
 
 pub runs_none : (old : World) → Runs [] old old
 runs_none old w stands = (w, refl, stands)

@@ -278,11 +278,11 @@ module _ (at : Sites) (home s : SiteNo) (t : State) (x : SiteHolds at home s t) 
     decides_in Idle waiting d bodies e may = absurd (false≢true may)
     decides_in (Gathering awaited reports more) waiting d bodies e may =
         new_installs (with_items site_cmp (sites_of (decided_list (t.home g))) awaited) (decision_of (t.home g) reports) more fresh waiting d bodies e
-    decides_in (Installing left c more) waiting d bodies e may = absurd (false≢true may)
+    decides_in (Installing others c more) waiting d bodies e may = absurd (false≢true may)
 
     installing_bodies : (left : List SiteNo) (d : Decision) (bodies : List Message) (m : Message) → Contains (bodies_of (installing left d bodies)) m → Contains bodies m
     installing_bodies [] d bodies m c = absurd (omega (arith, c.1))
-    installing_bodies (q ∷ left) d bodies m c = c
+    installing_bodies (q ∷ others) d bodies m c = c
 
     same_bodies : (p : Phase) (m : Message) → Contains (bodies_of (decided_phase (t.home g) (decided_list (t.home g)) p)) m → Contains (bodies_of p) m
     same_bodies Idle m c = c

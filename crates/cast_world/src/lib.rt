@@ -13,13 +13,11 @@
 //!
 //! The definitions are in `specs/`: `Network` has what a step is and where a list of steps leads, `HappenedBefore` which message happened
 //! before which and what is due to a process, `Laws` what holds of every list of steps, and `Worlds` how daemons stand for a network.
-//! Worked schedules are computed in `proofs/Schedules`.
+//! Worked schedules are computed in `proofs/Schedules`, and run in `cast_schedules`.
 #![tactic(auto)]
 
 pub mod laws;
 pub mod step;
-#[cfg(test)]
-mod tests;
 pub mod world;
 
 pub use step::{Happening, Packet, Step};

@@ -1,9 +1,9 @@
-use crate::{Happening, Step, World};
 use bytes::Bytes;
 use cast_message::{CastKind, Command, Request};
 use cast_model::{Config, DomainConfig, Event};
 use cast_quota::Quotas;
 use cast_types::{DomainNo, GroupNo, Listed, NoMemory, Proc, SiteNo, Uid};
+use cast_world::{Happening, Step, World};
 use std::alloc::Global;
 use std::test::Fail;
 
