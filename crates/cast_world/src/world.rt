@@ -104,10 +104,15 @@ impl World {
         }
     }
 
-    /// The messages that a process of a domain delivered, in order: none where the network has no such domain or process.
+    /// The messages that a process of a domain delivered, in order: none where the network has no such domain or process. `NoMemory` also
+    /// after `run` answered it.
     pub fn delivered(&self, domain: DomainNo, process: Proc) -> Result<Listed<Uid>, NoMemory>
-        ensures { IfOk result (λ ids. (w : Network) → StandsFor self.now w → ids ≡ delivered_at w domain process) }
+        ensures ids { IfOk result (λ ids. (w : Network) → StandsFor self.now w → ids ≡ delivered_at w domain process) }
+        ensures failed { OnOk result (has_failed self.now ≡ false) }
     {
+        if self.failed {
+            return Err(AllocError);
+        }
         match place_of(&self.daemons, process.site) {
             Some(place) => self.daemons[place].ids_of(self.alloc, domain, process),
             None => Ok(Listed::new(self.alloc)),

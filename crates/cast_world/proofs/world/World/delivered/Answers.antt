@@ -11,8 +11,8 @@ use Rattle.cast_world.specs.Worlds.{StandsFor, delivered_at, ids_of, place_named
 use Rattle.cast_world.proofs.Standing.{there, delivered_there, delivered_nowhere}
 use Rattle.cast_world.proofs.world.World.delivered.Goals as goal
 
-pub returns-in-Some : goal.returns-in-Some
-returns-in-Some c =
+pub returns-in-Some-clause-ids : goal.returns-in-Some-clause-ids
+returns-in-Some-clause-ids c =
     let world : World = c.args.self.now in
     let p = c.args.process in
     let d = c.args.domain in
@@ -24,8 +24,8 @@ returns-in-Some c =
     IfOk-weaker c.ids_of.result (λ (ids : List Uid). ids ≡ (if (number_of read.domain).0 == d.0 then ids_of p read.delivered else [])) (λ (ids : List Uid). (w : Network) → StandsFor world w → ids ≡ delivered_at w d p)
     (λ ids is w stands. is ∙ ap (λ (x : Daemon). if (number_of x.domain).0 == d.0 then ids_of p x.delivered else []) same ∙ delivered_there world place p d named w stands) c.ids_of.ensures
 
-pub returns-in-None : goal.returns-in-None
-returns-in-None c =
+pub returns-in-None-clause-ids : goal.returns-in-None-clause-ids
+returns-in-None-clause-ids c =
     let world : World = c.args.self.now in
     let p = c.args.process in
     let none : place_named p.site world.daemons.items ≡ None = ap (place_named p.site) (sym c.deref.ensures.value) ∙ sym c.place_of.ensures.named ∙ c.in-None.is in
