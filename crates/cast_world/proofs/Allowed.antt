@@ -13,7 +13,6 @@ use Rattle.cast_delay.specs.declared.gate.Gate.{Gate}
 use Rattle.cast_delay.specs.declared.turn.Turn.{Turn}
 use Rattle.cast_message.specs.Bodies.{kind_of}
 use Rattle.cast_message.specs.declared.message.Message.{Message}
-use Rattle.cast_order.specs.Log.{past}
 use Rattle.cast_types.specs.Counts.{CountList, count_of}
 use Rattle.cast_types.specs.Names.{entry_of, is_atomic, named, proc_cmp, uid_eq}
 use Rattle.cast_types.specs.declared.names.GroupNo.{GroupNo}

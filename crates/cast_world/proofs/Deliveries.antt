@@ -8,7 +8,6 @@ use Rattle.cast_delay.specs.Ready.{Process}
 use Rattle.cast_history.specs.Effects.{next_message}
 use Rattle.cast_history.specs.Entering.{enters, in_view, is_put_out, parted, passing, putting_out}
 use Rattle.cast_history.specs.History.{history}
-use Rattle.cast_history.specs.Raising.{opens}
 use Rattle.cast_history.specs.Rules.Asking.{is_home}
 use Rattle.cast_history.specs.Run.{IsStep, after_event, before_event}
 use Rattle.cast_history.specs.State.{State, local, with_delivery}
@@ -26,8 +25,6 @@ use Rattle.cast_types.specs.declared.names.Proc.{Proc}
 use Rattle.cast_types.specs.declared.names.SiteNo.{SiteNo}
 use Rattle.cast_types.specs.declared.names.Standing.TheVariants.{Joining}
 use Rattle.cast_types.specs.declared.names.Uid.{Uid}
-use Rattle.cast_world.proofs.Allowed.{passes}
-use Rattle.cast_world.proofs.Derivation.{delivers}
 use Rattle.cast_world.proofs.Events.{HasCome, after_event_keeps, rests_keeps}
 use Rattle.cast_world.proofs.Kept.{Kept}
 use Rattle.cast_world.proofs.Laters.{set_all}

@@ -2,7 +2,7 @@
 use Rattle.std.proofs.Common.{subst}
 use Rattle.std.proofs.lemmas.Bool.{and_parts}
 use Rattle.std.specs.List.{find, fold}
-use Rattle.std.specs.Prelude.{◌&&◌, ◌+◌, Bool, None, Option, Some, false, if◌then◌else◌, length, not, refl, ℕ, ◌≡◌}
+use Rattle.std.specs.Prelude.{◌&&◌, ◌+◌, Bool, None, Option, Some, false, length, not, refl, ℕ, ◌≡◌}
 use Rattle.cast_delay.specs.Ready.{is_member}
 use Rattle.cast_history.specs.Effects.{delivering, sending}
 use Rattle.cast_history.specs.History.{history}

@@ -1,7 +1,6 @@
 -- What holds of flushes still holds when others have moved and the home has decided more.
 use Rattle.std.proofs.Common.{ap, arith, inl, inr, subst, sym, ◌∙◌}
 use Rattle.std.specs.Prelude.{◌+◌, Contains, IsTrue, ℕ, ◌≡◌, ◌≤◌}
-use Rattle.cast_delay.specs.Ready.{awaits}
 use Rattle.cast_history.specs.State.{State}
 use Rattle.cast_message.specs.declared.site.SiteFrame.{SiteFrame}
 use Rattle.cast_types.specs.Counts.{CountList, is_within}

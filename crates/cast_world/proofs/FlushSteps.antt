@@ -11,7 +11,6 @@ use Rattle.cast_history.specs.Acts.Act.{Entered}
 use Rattle.cast_history.specs.Effects.{next_message}
 use Rattle.cast_history.specs.Entering.{enters, freezing, is_put_out, passing, pending_install, putting_out}
 use Rattle.cast_history.specs.History.{history}
-use Rattle.cast_history.specs.Raising.{opens}
 use Rattle.cast_history.specs.Rules.Asking.{is_home}
 use Rattle.cast_history.specs.State.{State, emitted, local, noting_sent, outside, receiving, releasing, set_group, set_home, set_session, set_standing, with_delivery}
 use Rattle.cast_history.specs.Step.{opening_next}
@@ -35,7 +34,6 @@ use Rattle.cast_view.specs.declared.phase.Decision.{Decision}
 use Rattle.cast_view.specs.declared.phase.Phase.{Phase}
 use Rattle.cast_view.specs.declared.phase.Phase.TheVariants.{Gathering, Idle, Installing}
 use Rattle.cast_world.proofs.Allowed.{passes}
-use Rattle.cast_world.proofs.Derivation.{delivers}
 use Rattle.cast_world.proofs.Flush.{AllCovered, Choice, Chosen, Covered, CutWell, GroupAgrees, IsChosen, IsTrueOf, SiteAgrees, Told, numbers}
 use Rattle.cast_world.proofs.FlushCounts.{cut_covers, within_of}
 use Rattle.cast_world.proofs.FlushLaters.{Extends, agrees_later, covered_later, told_extends, true_later}

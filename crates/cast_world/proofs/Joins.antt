@@ -5,7 +5,6 @@ use Rattle.cast_clock.specs.Times.{join, view_of}
 use Rattle.cast_delay.specs.Ready.{Process}
 use Rattle.cast_history.specs.Effects.{next_message}
 use Rattle.cast_history.specs.Entering.{is_put_out, passing, putting_out}
-use Rattle.cast_history.specs.Raising.{opens}
 use Rattle.cast_history.specs.Run.{after_event}
 use Rattle.cast_history.specs.State.{State, local, outside, set_process}
 use Rattle.cast_model.specs.declared.event.Event.{Event}
@@ -13,7 +12,6 @@ use Rattle.cast_types.specs.Names.{group_eq, site_eq}
 use Rattle.cast_types.specs.Sets.{set_at}
 use Rattle.cast_types.specs.declared.names.SiteNo.{SiteNo}
 use Rattle.cast_types.specs.declared.names.Standing.TheVariants.{Joining}
-use Rattle.cast_world.proofs.Derivation.{delivers}
 use Rattle.cast_world.proofs.Events.{after_event_keeps, rests_keeps}
 use Rattle.cast_world.proofs.Invariants.{Sites}
 use Rattle.cast_world.proofs.Kept.{Kept}

@@ -8,7 +8,6 @@ use Rattle.cast_history.specs.Acts.Act.{Sent}
 use Rattle.cast_history.specs.State.{State}
 use Rattle.cast_message.specs.declared.message.Message.{Message}
 use Rattle.cast_message.specs.declared.site.SiteFrame.{SiteFrame}
-use Rattle.cast_order.specs.Log.{opened}
 use Rattle.cast_types.specs.Names.{group_eq}
 use Rattle.cast_types.specs.Sets.{set_at}
 use Rattle.cast_types.specs.declared.names.GroupNo.{GroupNo}
@@ -17,7 +16,6 @@ use Rattle.cast_types.specs.declared.names.Standing.TheVariants.{Joining}
 use Rattle.cast_view.specs.Home.{Home, answer_in, answer_of}
 use Rattle.cast_view.specs.MemberSide.{MemberSide}
 use Rattle.cast_world.proofs.Invariants.{Ahead, GroupHolds, Grows, HomeHolds, IsSound, Known, Later, SiteHolds, Sites}
-use Rattle.cast_world.proofs.Kept.{installs}
 use Rattle.cast_world.proofs.Ones.{ahead_one, further}
 use Rattle.cast_message.specs.declared.site.SiteFrame.TheVariants as frame
 

@@ -25,7 +25,7 @@ use Rattle.cast_types.specs.declared.names.SiteNo.{SiteNo}
 use Rattle.cast_types.specs.declared.names.Standing.{Standing}
 use Rattle.cast_types.specs.declared.names.Standing.TheVariants.{Joining, Member, Outside}
 use Rattle.cast_types.specs.declared.names.Uid.{Uid}
-use Rattle.cast_view.specs.Home.{Home, decided}
+use Rattle.cast_view.specs.Home.{Home}
 use Rattle.cast_view.specs.MemberSide.{MemberSide, has_view, with_view}
 use Rattle.cast_world.proofs.Allowed.{ready_allowed}
 use Rattle.cast_world.proofs.Homes.{among_kept}

@@ -3,14 +3,12 @@ use Rattle.std.proofs.Common.{ap, arith, inl, inr, subst, sym}
 use Rattle.std.proofs.lemmas.Bool.{and_parts, false≢true, true≢false}
 use Rattle.std.proofs.lemmas.List.Elements.{Contains-append_cases}
 use Rattle.std.specs.Prelude.{◌&&◌, Bool, Contains, List, None, Option, Some, [], false, if◌then◌else◌, is_some, map, refl, slice_get, suc, true, unwrap_or, zero, ℕ, ◌∷◌, ◌≡◌}
-use Rattle.cast_delay.specs.Ready.{covered}
 use Rattle.cast_history.specs.Run.{IsStep, after_event, before_event}
 use Rattle.cast_history.specs.State.{State, no_process}
 use Rattle.cast_message.specs.declared.site.SiteFrame.{SiteFrame}
 use Rattle.cast_model.specs.declared.config.DomainConfig.{DomainConfig}
 use Rattle.cast_model.specs.declared.event.Event.{Event}
 use Rattle.cast_model.specs.declared.event.Taken.{Taken}
-use Rattle.cast_order.specs.Log.{opened}
 use Rattle.cast_types.specs.Names.{site_eq}
 use Rattle.cast_types.specs.Sets.{is_among}
 use Rattle.cast_types.specs.declared.names.DomainNo.{DomainNo}
@@ -21,7 +19,6 @@ use Rattle.cast_world.proofs.Events.{HasCome, after_event_keeps, rests_keeps}
 use Rattle.cast_world.proofs.Facts.{ActWell, Each, Facts}
 use Rattle.cast_world.proofs.Homes.{idle_not}
 use Rattle.cast_world.proofs.Invariants.{Ahead, IsSound, Later, OneHolds, SiteHolds, Sites}
-use Rattle.cast_world.proofs.Kept.{installs}
 use Rattle.cast_world.proofs.Laters.{later_same, site_later, sound_later}
 use Rattle.cast_world.proofs.Lists.{never_nil}
 use Rattle.cast_world.proofs.Local.{outside_not_joining}

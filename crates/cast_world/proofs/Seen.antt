@@ -9,7 +9,6 @@ use Rattle.cast_history.specs.Acts.{Act}
 use Rattle.cast_history.specs.Acts.Act.{Delivered, Entered, Left, Sent}
 use Rattle.cast_history.specs.Effects.{next_message}
 use Rattle.cast_history.specs.Entering.{all_parted, completing, enters, in_view, is_put_out, parted, putting_out}
-use Rattle.cast_history.specs.Raising.{opens}
 use Rattle.cast_history.specs.State.{State, gate_of, local, noting_act, outside}
 use Rattle.cast_history.specs.Turns.{is_ready_for, turn_of}
 use Rattle.cast_message.specs.Membership.{Membership}
@@ -22,8 +21,7 @@ use Rattle.cast_types.specs.declared.names.GroupNo.{GroupNo}
 use Rattle.cast_types.specs.declared.names.SiteNo.{SiteNo}
 use Rattle.cast_types.specs.declared.names.Standing.{Standing}
 use Rattle.cast_types.specs.declared.names.Standing.TheVariants.{Joining, Member, Outside}
-use Rattle.cast_world.proofs.Allowed.{passes, ready_allowed}
-use Rattle.cast_world.proofs.Derivation.{delivers}
+use Rattle.cast_world.proofs.Allowed.{ready_allowed}
 use Rattle.cast_world.proofs.Facts.{Each, IsIn}
 use Rattle.cast_world.proofs.Kept.{Kept}
 use Rattle.cast_world.proofs.Laters.{later_same, set_all, set_both}

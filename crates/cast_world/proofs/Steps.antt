@@ -6,7 +6,6 @@ use Rattle.cast_clock.specs.Times.{view_of}
 use Rattle.cast_history.specs.Effects.{next_message}
 use Rattle.cast_history.specs.Entering.{freezing, passing, pending_install}
 use Rattle.cast_history.specs.History.{history}
-use Rattle.cast_history.specs.Raising.{opens}
 use Rattle.cast_history.specs.Rules.Asking.{is_home}
 use Rattle.cast_history.specs.State.{State, emitted, local, noting_sent, outside, receiving, releasing, set_group, set_home, set_session, set_standing, with_delivery}
 use Rattle.cast_history.specs.Step.{opening_next}
@@ -22,7 +21,6 @@ use Rattle.cast_types.specs.declared.names.Standing.TheVariants.{Joining}
 use Rattle.cast_view.specs.Home.{Home, HomeMove, after_ask, after_body, after_installed, after_reply, after_start, after_suspicion, answer_of, decided, may_decide, moved}
 use Rattle.cast_view.specs.Home.HomeMove.{Asked, Brought, Decided, Installed, Reported, Started, Suspected}
 use Rattle.cast_view.specs.MemberSide.{frozen_side, with_answer, with_pending, with_request}
-use Rattle.cast_world.proofs.Derivation.{delivers}
 use Rattle.cast_world.proofs.Homes.{HomeFollows, brought_follows, left_follows, replied_follows, request_follows, started_follows, suspicion_follows}
 use Rattle.cast_world.proofs.Invariants.{Ahead, IsDecided, IsSound, Later, SiteHolds, Sites, TakesIn}
 use Rattle.cast_world.proofs.Kept.{Comes, Kept, KeptByTelling, MayMove, completes, ends, installs, skips}

@@ -16,7 +16,6 @@ use Rattle.cast_message.specs.Stretch.{Stretch}
 use Rattle.cast_message.specs.declared.message.Message.{Message}
 use Rattle.cast_message.specs.declared.site.Change.{Change}
 use Rattle.cast_message.specs.declared.site.SiteFrame.{SiteFrame}
-use Rattle.cast_order.specs.Log.{opened}
 use Rattle.cast_types.specs.Counts.{CountList, is_within}
 use Rattle.cast_types.specs.Names.{Entry, group_eq, named, proc_eq, site_cmp}
 use Rattle.cast_types.specs.Sets.{is_among, set_at, with_items}
@@ -36,7 +35,6 @@ use Rattle.cast_view.specs.declared.phase.Phase.TheVariants.{Gathering, Idle, In
 use Rattle.cast_world.proofs.Allowed.{contains_covered, contains_kept, contains_more, contains_range, found_among, passes}
 use Rattle.cast_world.proofs.Homes.{HomeFollows, idle_not, same_decision}
 use Rattle.cast_world.proofs.Invariants.{GroupHolds, IsDecided, IsSound, OneHolds, SiteHolds, Sites, TakesIn}
-use Rattle.cast_world.proofs.Kept.{installs}
 use Rattle.cast_world.proofs.Laters.{set_group_all}
 use Rattle.cast_world.proofs.Moves.{all_part_site, group_site, home_site, joining_after}
 use Rattle.cast_world.proofs.Ones.{enters_one, outside_not_member, set_here, set_other, stays_one}

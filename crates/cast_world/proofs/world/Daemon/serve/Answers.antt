@@ -1,10 +1,9 @@
-use Rattle.std.proofs.Common.{◌≡◌, ◌++◌, List, sym, subst, false}
+use Rattle.std.proofs.Common.{◌≡◌, ◌++◌, List, sym, subst}
 use Rattle.std.proofs.lemmas.Result.{IfOk-weaker}
 use Rattle.cast_types.specs.declared.names.DomainNo.{DomainNo}
 use Rattle.cast_types.specs.declared.names.Proc.{Proc}
 use Rattle.cast_types.specs.declared.names.Uid.{Uid}
 use Rattle.cast_model.specs.declared.event.Outs.{Outs}
-use Rattle.cast_domain.specs.Records.{is_halted}
 use Rattle.cast_domain.specs.Stepped.{IsSteppedBeside}
 use Rattle.cast_world.specs.declared.world.Daemon.{Daemon}
 use Rattle.cast_world.specs.Worlds.{Serves}

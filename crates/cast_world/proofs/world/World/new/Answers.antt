@@ -1,7 +1,6 @@
-use Rattle.std.proofs.Common.{Vec, Global, ◌≡◌, ◌++◌, ◌∷◌, [], ◌+◌, ◌∙◌, List, Option, Some, take, ap, refl, subst, sym}
+use Rattle.std.proofs.Common.{Vec, Global, ◌≡◌, ◌++◌, ◌∷◌, [], ◌+◌, ◌∙◌, List, Some, take, ap, refl, subst, sym}
 use Rattle.std.specs.List.{slice_get}
 use Rattle.std.proofs.lemmas.List.{take_more, take_all}
-use Rattle.cast_types.specs.declared.names.SiteNo.{SiteNo}
 use Rattle.cast_types.specs.Names.{group_cmp}
 use Rattle.cast_types.specs.Rising.{is_rising}
 use Rattle.cast_domain.specs.Fits.{Means}
@@ -11,7 +10,7 @@ use Rattle.cast_model.specs.declared.config.Config.{Config}
 use Rattle.cast_model.specs.declared.config.DomainConfig.{DomainConfig}
 use Rattle.cast_history.specs.State.{opening}
 use Rattle.cast_world.specs.declared.world.Daemon.{Daemon}
-use Rattle.cast_world.specs.Worlds.{AreSolo, StandsAt}
+use Rattle.cast_world.specs.Worlds.{StandsAt}
 use Rattle.cast_world.proofs.Standing.{AreNew, new_none, new_more, new_world, new_stands, only_domain, has_domain}
 use Rattle.cast_world.proofs.world.World.new.Goals as goal
 use Rattle.cast_world.proofs.world.World.new.Goals.{in-Some+in_ok-copy+in_ok-alone+in_ok-push, in_default}

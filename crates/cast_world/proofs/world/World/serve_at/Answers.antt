@@ -1,4 +1,4 @@
-use Rattle.std.proofs.Common.{◌≡◌, ◌∙◌, refl, sym, subst}
+use Rattle.std.proofs.Common.{◌≡◌, ◌∙◌, refl, subst}
 use Rattle.std.proofs.lemmas.Option.{get_or_from_slice_get}
 use Rattle.std.proofs.lemmas.Result.{IfOk-weaker}
 use Rattle.cast_world.specs.declared.world.Daemon.{Daemon}

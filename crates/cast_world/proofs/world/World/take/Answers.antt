@@ -1,8 +1,6 @@
 use Rattle.std.proofs.Common.{◌≡◌, ◌∙◌, Some, None, sym, ap, subst}
 use Rattle.std.proofs.lemmas.Result.{IfOk-weaker}
 use Rattle.cast_world.specs.declared.step.Happening.{Happening}
-use Rattle.cast_world.specs.declared.step.Happening.TheVariants.{Local, Sent}
-use Rattle.cast_world.specs.declared.step.Step.{Step}
 use Rattle.cast_world.specs.declared.world.World.{World}
 use Rattle.cast_world.specs.Worlds.{Acts, Hands, Takes, place_named}
 use Rattle.cast_world.proofs.Standing.{takes_local, takes_nowhere, takes_sent}
