@@ -33,3 +33,4 @@ pub mod Same
 pub mod Deliveries
 pub mod Schedules
 pub mod Standing
+pub mod Listed

@@ -3,6 +3,7 @@ use Rattle.std.specs.Prelude.{◌&&◌, ◌+◌, ◌++◌, ◌<◌, ◌==◌, Co
 use Rattle.cast_clock.specs.Times.{at_most, count_in, view_of}
 use Rattle.cast_history.specs.Acts.{Act}
 use Rattle.cast_history.specs.Acts.Act.{Delivered, Entered, Sent}
+use Rattle.cast_history.specs.Noted.{delivered_by}
 use Rattle.cast_message.specs.declared.message.Message.{Message}
 use Rattle.cast_model.specs.declared.config.DomainConfig.{DomainConfig}
 use Rattle.cast_types.specs.Counts.{CountList, is_within}
@@ -88,6 +89,20 @@ SameMessages w =
     (p q : Proc) (g : GroupNo) (view : ℕ) → Passes w p g view → Passes w q g view →
     (u : Uid) → Contains (delivered_in w p g view) u ↔ Contains (delivered_in w q g view) u
 
+-- what a process delivered is, in order, what its acts say
+abbrev pub ListsAreActs : Network → Type 0
+ListsAreActs w = (p : Proc) → ((w.at p.site).process p.serial).delivered ≡ delivered_by (acts_of w p)
+
+-- an id stands before another in a list
+abbrev pub IsBefore : List Uid → Uid → Uid → Type 0
+IsBefore ids u v = (a b c : List Uid) × (ids ≡ a ++ u ∷ b ++ v ∷ c)
+
+-- so what happened before a message and is due stands before it in the list of what the process delivered
+abbrev pub ListsAreInOrder : Network → Type 0
+ListsAreInOrder w =
+    (p : Proc) (x m : Message) → Contains (acts_of w p) (Delivered m) → HappenedBefore w x m → IsDue (acts_of w p) x.id m →
+    IsBefore ((w.at p.site).process p.serial).delivered x.id m.id
+
 -- The laws, over every list of steps
 
 abbrev pub HoldsInEveryNetwork : (Network → Type 0) → Type 0
@@ -124,3 +139,9 @@ AllPassWithCut = HoldsInEveryNetwork PassesWithCut
 
 abbrev pub AllDeliverTheSame : Type 0
 AllDeliverTheSame = HoldsInEveryNetwork SameMessages
+
+abbrev pub AllListsAreActs : Type 0
+AllListsAreActs = HoldsInEveryNetwork ListsAreActs
+
+abbrev pub AllListsAreInOrder : Type 0
+AllListsAreInOrder = HoldsInEveryNetwork ListsAreInOrder

@@ -1,8 +1,15 @@
-ghost use Rattle.cast_world.specs.Laws.{AllDeliverTheSame, AllDeliveriesWereSent, AllJoinsGoForward, AllNamesAreUnique, AllPassWithCut, AllStampsRise, AllStampsRiseStrictly, AllViewsAreDecided, CausalDelivery};
+ghost use Rattle.cast_world.specs.Laws.{AllDeliverTheSame, AllDeliveriesWereSent, AllJoinsGoForward, AllListsAreActs, AllListsAreInOrder, AllNamesAreUnique, AllPassWithCut, AllStampsRise, AllStampsRiseStrictly, AllViewsAreDecided, CausalDelivery};
 
-/// No process delivers a message before one that happened before it and is due to it.
+/// No process delivers a message before one that happened before it and is due to it: that one stands earlier among what the process did,
+/// and in the list of what it delivered.
 pub fn causal_delivery()
-    ensures { CausalDelivery }
+    ensures acts { CausalDelivery }
+    ensures listed { AllListsAreInOrder }
+{}
+
+/// What a process delivered is, in order, what its acts say that it delivered.
+pub fn lists_are_acts()
+    ensures { AllListsAreActs }
 {}
 
 /// A stamp is at least that of each message that happened before. It covers all that the earlier one covers, and the earlier one does not
