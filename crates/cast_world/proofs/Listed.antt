@@ -10,7 +10,6 @@ use Rattle.cast_history.specs.Effects.{next_message}
 use Rattle.cast_history.specs.Entering.{enters, in_view, is_put_out, parted, passing, putting_out}
 use Rattle.cast_history.specs.History.{history}
 use Rattle.cast_history.specs.Noted.{delivered_by}
-use Rattle.cast_history.specs.Raising.{opens}
 use Rattle.cast_history.specs.Rules.Asking.{is_home}
 use Rattle.cast_history.specs.Run.{IsStep, after_event}
 use Rattle.cast_history.specs.State.{State, noting_act, outside}
@@ -25,8 +24,6 @@ use Rattle.cast_types.specs.Sets.{set_at}
 use Rattle.cast_types.specs.declared.names.GroupNo.{GroupNo}
 use Rattle.cast_types.specs.declared.names.SiteNo.{SiteNo}
 use Rattle.cast_types.specs.declared.names.Standing.TheVariants.{Joining}
-use Rattle.cast_world.proofs.Allowed.{passes}
-use Rattle.cast_world.proofs.Derivation.{delivers}
 use Rattle.cast_world.proofs.Events.{HasCome, after_event_keeps, rests_keeps}
 use Rattle.cast_world.proofs.Kept.{Kept}
 use Rattle.cast_world.proofs.Laters.{set_all, set_both}
