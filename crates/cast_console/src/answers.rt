@@ -1,3 +1,5 @@
+ghost use Rattle.std.specs.Prelude.{◌≡◌, ◌<◌};
+
 use crate::line::{Line, parse};
 use crate::said::Answer;
 use crate::text::{NO_DOMAIN, groups_text, outcome_text, put_domain, shown_text};
@@ -56,7 +58,10 @@ fn served<L: Ledger>(
     kept: &mut Kept<L>,
     mine: &mut Worked<L>,
     event: Event,
-) -> Answer {
+) -> Answer
+    requires { 0 < mine.old.parts }
+    ensures { mine.new.parts ≡ mine.old.parts }
+{
     let raw = Raw {
         number: 0,
         asked: Asked::Event(event),
@@ -77,7 +82,10 @@ pub fn answer<L: Ledger>(
     kept: &mut Kept<L>,
     mine: &mut Worked<L>,
     line: &str,
-) -> Answer {
+) -> Answer
+    requires { 0 < mine.old.parts }
+    ensures { mine.new.parts ≡ mine.old.parts }
+{
     match parse(line) {
         Ok(Line::Domains) => said(domains_text(alloc, kept.table())),
         Ok(Line::Show(domain)) => said(show_text(alloc, kept.table(), domain)),

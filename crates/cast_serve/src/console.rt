@@ -1,5 +1,7 @@
 //! The operator's lines.
-use cast_console::{Line, answer, parse};
+ghost use Rattle.std.specs.Prelude.{◌≡◌, ◌<◌};
+
+use cast_console::{Answer, Line, answer, parse};
 use cast_pool::{Done, Kept, Worked};
 use crossbeam_channel::Sender;
 use std::alloc::Global;
@@ -19,15 +21,18 @@ fn answer_line<L: Ledger, R: Wait, W: Write>(
     line: &str,
     dones: &Sender<Done>,
     out: &mut W,
-) {
-    let said = {
+)
+    requires { 0 < mine.old.parts }
+    ensures { mine.new.parts ≡ mine.old.parts }
+{
+    let Answer { text, done } = {
         let mut kept = kept.lock(rt);
         answer(alloc, &mut kept, mine, line)
     };
-    if let Some(done) = said.done {
+    if let Some(done) = done {
         let _ = dones.send(rt, done);
     }
-    let _ = match said.text {
+    let _ = match text {
         Ok(text) => writeln!(out, "{text}"),
         Err(_) => writeln!(out, "no memory"),
     };
@@ -43,7 +48,9 @@ pub fn run_console<L: Ledger, R: Wait + Clock, B: BufRead + Drop, W: Write>(
     lines: Lines<B>,
     dones: Sender<Done>,
     out: &mut W,
-) {
+)
+    requires { 0 < mine.parts }
+{
     let mut mine = mine;
     let _ = writeln!(out, "ready");
     let _ = out.flush();

@@ -52,7 +52,7 @@ fn setup_of<R: Files + AllocGlobal, E: Write>(
 /// Runs the daemon of a site by the configuration in the file of this name, with so many workers, as `serve` does, and
 /// answers the status of the program: also 3 where the file cannot be read or is not UTF-8, 6 where its configuration has a fault, which
 /// is named with its field, and 5 where memory ran out.
-pub fn serve_file<R, B, W, E>(
+pub fn serve_file<R, B, W, E, G>(
     rt: &R,
     name: &str,
     site: SiteNo,
@@ -60,16 +60,18 @@ pub fn serve_file<R, B, W, E>(
     lines: Lines<B>,
     out: &mut W,
     err: &mut E,
+    log: G,
 ) -> u8
 where
     R: Threads + Wait + Clock + Net + Files + AllocGlobal + Sync,
     B: BufRead + Drop,
     W: Write,
-    E: Write + Send,
+    E: Write,
+    G: Write + Send + Drop,
 {
     let alloc = rt.alloc();
     match setup_of(rt, alloc, name, site, err) {
-        Ok(setup) => serve(rt, alloc, &setup, workers, lines, out, err),
+        Ok(setup) => serve(rt, alloc, &setup, workers, lines, out, err, log),
         Err(status) => status,
     }
 }

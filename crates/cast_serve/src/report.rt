@@ -40,8 +40,9 @@ fn put_line<E: Write>(err: &mut E, what: Report) {
 }
 
 /// Writes each report, until nobody can report any more.
-pub fn run_reporter<R: Wait, E: Write>(rt: &R, err: &mut E, reports: Receiver<Report>) {
+pub fn run_reporter<R: Wait, E: Write + Drop>(rt: &R, log: E, reports: Receiver<Report>) {
+    let mut log = log;
     for what in reports.iter(rt) {
-        put_line(err, what);
+        put_line(&mut log, what);
     }
 }

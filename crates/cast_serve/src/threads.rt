@@ -1,4 +1,7 @@
 //! The threads of a daemon, and their end.
+ghost use Rattle.std.specs.Prelude.{◌≡◌, ◌+◌, ◌<◌, true, OnOk};
+ghost use Rattle.cast_table.specs.Replays.{are_distinct, have_rising_groups};
+
 use crate::client::{Shared, run_client};
 use crate::console::run_console;
 use crate::desk::{Desk, Purpose};
@@ -152,6 +155,27 @@ struct Ground<'a, L: Ledger> {
     own: SiteNo,
 }
 
+// Starts a worker with a share of the count.
+fn start_worker<'s, 'e, L: Ledger + Send + Sync, R: Threads + Wait + Clock + Sync>(
+    scope: &'s Scope<'s, &'e ()>,
+    rt: &'e R,
+    ground: &'e Ground<'e, L>,
+    share: Worked<L>,
+    queue: &Receiver<Raw>,
+    answers: &Sender<Done>,
+) -> io::Result<()>
+    requires { 0 < share.parts }
+{
+    let alloc = ground.shared.alloc;
+    let queue = queue.clone()?;
+    let answers = answers.clone()?;
+    let job = move || -> Worked<L>
+        requires { 0 < share.parts }
+    { work(rt, alloc, ground.kept, share, queue, answers, ground.gate) };
+    let _ = scope.spawn(job)?;
+    Ok(())
+}
+
 // Starts the workers.
 fn start_workers<'s, 'e, L: Ledger + Send + Sync, R: Threads + Wait + Clock + Sync>(
     scope: &'s Scope<'s, &'e ()>,
@@ -161,29 +185,29 @@ fn start_workers<'s, 'e, L: Ledger + Send + Sync, R: Threads + Wait + Clock + Sy
     workers: u8,
     queue: &Receiver<Raw>,
     answers: &Sender<Done>,
-) -> io::Result<()> {
-    let alloc = ground.shared.alloc;
-    for _ in 0..workers {
-        let share = mine.split();
-        let queue = queue.clone()?;
-        let answers = answers.clone()?;
-        let _ = scope.spawn(move || {
-            let _ = work(rt, alloc, ground.kept, share, queue, answers, ground.gate);
-        })?;
+) -> io::Result<()>
+    requires { workers < mine.old.parts }
+    ensures { OnOk result (mine.new.parts + workers ≡ mine.old.parts) }
+{
+    for _worker in 0..workers {
+        start_worker(scope, rt, ground, mine.split(), queue, answers)?;
     }
     Ok(())
 }
 
 // Starts the threads but that of the console.
-fn start_all<'s, 'e, L: Ledger + Send + Sync, R: Threads + Wait + Clock + Sync, E: Write + Send>(
+fn start_all<'s, 'e, L: Ledger + Send + Sync, R: Threads + Wait + Clock + Sync, E: Write + Send + Drop + 'e>(
     scope: &'s Scope<'s, &'e ()>,
     rt: &'e R,
     ground: &'e Ground<'e, L>,
     mine: &mut Worked<L>,
     workers: u8,
     ends: Ends,
-    err: &'e mut E,
-) -> io::Result<Sender<Done>> {
+    log: E,
+) -> io::Result<Sender<Done>>
+    requires { workers < mine.old.parts }
+    ensures { OnOk result (mine.new.parts + workers ≡ mine.old.parts) }
+{
     let Ends {
         queue,
         answers,
@@ -195,7 +219,7 @@ fn start_all<'s, 'e, L: Ledger + Send + Sync, R: Threads + Wait + Clock + Sync, 
     let udp = &ground.sockets.udp;
     let addresses = ground.addresses;
     let own = ground.own;
-    let _ = scope.spawn(move || run_reporter(rt, err, reports))?;
+    let _ = scope.spawn(move || run_reporter(rt, log, reports))?;
     start_workers(scope, rt, ground, mine, workers, &queue, &answers)?;
     let _ = scope.spawn(move || {
         let mut wire = Udp::new(alloc, udp, addresses);
@@ -244,19 +268,22 @@ fn run_threads<'e, L, R, B, W, E>(
     paths: &'e [DomainSocket],
     lines: Lines<B>,
     out: &mut W,
-    err: &'e mut E,
+    log: E,
 ) -> io::Result<()>
 where
     L: Ledger + Send + Sync,
     R: Threads + Wait + Clock + Net + Files + Sync,
     B: BufRead + Drop,
     W: Write,
-    E: Write + Send,
+    E: Write + Send + Drop + 'e,
+    requires { workers < mine.parts }
 {
-    thread::scope(thread::scope_env(), rt, move |scope| -> io::Result<()> {
+    thread::scope(thread::scope_env(), rt, move |scope| -> io::Result<()>
+        requires { workers < mine.parts }
+    {
         let mut mine = mine;
         let alloc = ground.shared.alloc;
-        let started = start_all(scope, rt, ground, &mut mine, workers, ends, err);
+        let started = start_all(scope, rt, ground, &mut mine, workers, ends, log);
         let ended = match started {
             Ok(dones) => {
                 run_console(rt, alloc, ground.kept, mine, lines, dones, out);
@@ -328,14 +355,18 @@ fn run<L, R, B, W, E>(
     sockets: &Sockets,
     lines: Lines<B>,
     out: &mut W,
-    err: &mut E,
+    log: E,
 ) -> io::Result<()>
 where
     L: Ledger + Send + Sync,
     R: Threads + Wait + Clock + Net + Files + Sync,
     B: BufRead + Drop,
     W: Write,
-    E: Write + Send,
+    E: Write + Send + Drop,
+    requires distinct { are_distinct setup.now.config.domains ≡ true }
+    requires rising { have_rising_groups setup.now.config.domains ≡ true }
+    requires name { blank.name ≡ L.name }
+    requires parts { (blank.parts ≡ L.parts) × (blank.parts ≡ workers + 1) }
 {
     let (kept, mine) = Kept::<L>::new(alloc, &setup.config, blank, workers as u64 + 1)?;
     let kept = Mutex::new(kept);
@@ -367,7 +398,7 @@ where
         setup.sockets.as_slice(),
         lines,
         out,
-        err,
+        log,
     )
 }
 
@@ -381,12 +412,12 @@ const UNUSABLE: u8 = 6;
 const UNBOUND: u8 = 7;
 
 /// Runs a daemon until the console says `stop`, and answers the status of the program. `ready` is written once it serves.
-/// Standard error is told what an operator has to know.
+/// Why it does not run is written to `err`, and what an operator has to know while it does to `log`.
 ///
 /// The status is 0 after `stop`; 7 where an address or a path cannot be bound, which is named; 5 where there is no memory for
 /// the daemon or its threads; and 6 where two domains of the set-up have one number, or a domain's groups do not rise, which
 /// no set-up has that was read.
-pub fn serve<R, B, W, E>(
+pub fn serve<R, B, W, E, G>(
     rt: &R,
     alloc: Global,
     setup: &Setup,
@@ -394,12 +425,14 @@ pub fn serve<R, B, W, E>(
     lines: Lines<B>,
     out: &mut W,
     err: &mut E,
+    log: G,
 ) -> u8
 where
     R: Threads + Wait + Clock + Net + Files + Sync,
     B: BufRead + Drop,
     W: Write,
-    E: Write + Send,
+    E: Write,
+    G: Write + Send + Drop,
 {
     if !can_keep(&setup.config) {
         let _ = writeln!(err, "castd: config: domain: repeated");
@@ -413,7 +446,7 @@ where
         }
     };
     let blank = Blank::new(workers as u64 + 1);
-    match run::<Brand, R, B, W, E>(rt, alloc, setup, blank, workers, &sockets, lines, out, err) {
+    match run::<Brand, R, B, W, G>(rt, alloc, setup, blank, workers, &sockets, lines, out, log) {
         Ok(()) => 0,
         Err(_) => {
             let _ = writeln!(err, "castd: no memory");

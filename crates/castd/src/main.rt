@@ -32,6 +32,7 @@ fn main(rt: HostRuntime) -> ExitCode {
             rt.lines(rt.alloc()),
             &mut out.device,
             &mut err.device,
+            rt.stderr(),
         ),
         Ok(Asked::Ended(status)) => status,
         Err(_) => no_memory(&mut err),
