@@ -196,7 +196,13 @@ fn start_workers<'s, 'e, L: Ledger + Send + Sync, R: Threads + Wait + Clock + Sy
 }
 
 // Starts the threads but that of the console.
-fn start_all<'s, 'e, L: Ledger + Send + Sync, R: Threads + Wait + Clock + Sync, E: Write + Send + Drop + 'e>(
+fn start_all<
+    's,
+    'e,
+    L: Ledger + Send + Sync,
+    R: Threads + Wait + Clock + Sync,
+    E: Write + Send + Drop + 'e,
+>(
     scope: &'s Scope<'s, &'e ()>,
     rt: &'e R,
     ground: &'e Ground<'e, L>,
@@ -278,22 +284,26 @@ where
     E: Write + Send + Drop + 'e,
     requires { workers < mine.parts }
 {
-    thread::scope(thread::scope_env(), rt, move |scope| -> io::Result<()>
-        requires { workers < mine.parts }
-    {
-        let mut mine = mine;
-        let alloc = ground.shared.alloc;
-        let started = start_all(scope, rt, ground, &mut mine, workers, ends, log);
-        let ended = match started {
-            Ok(dones) => {
-                run_console(rt, alloc, ground.kept, mine, lines, dones, out);
-                Ok(())
-            }
-            Err(error) => Err(error),
-        };
-        stop(rt, &ground.shared, ground.sockets, paths);
-        ended
-    })
+    thread::scope(
+        thread::scope_env(),
+        rt,
+        move |scope| -> io::Result<()>
+            requires { workers < mine.parts }
+        {
+            let mut mine = mine;
+            let alloc = ground.shared.alloc;
+            let started = start_all(scope, rt, ground, &mut mine, workers, ends, log);
+            let ended = match started {
+                Ok(dones) => {
+                    run_console(rt, alloc, ground.kept, mine, lines, dones, out);
+                    Ok(())
+                }
+                Err(error) => Err(error),
+            };
+            stop(rt, &ground.shared, ground.sockets, paths);
+            ended
+        },
+    )
 }
 
 // The address of a site.

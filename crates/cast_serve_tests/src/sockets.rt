@@ -138,7 +138,16 @@ fn serves_a_program_and_stops(rt: HostRuntime) -> Result<(), Fail> {
             say(rt, &to, "stop");
             pushed
         },
-        || serve(rt, alloc, &setup, 2, lines, &mut out, &mut err, Vec::new(alloc)),
+        || serve(
+            rt,
+            alloc,
+            &setup,
+            2,
+            lines,
+            &mut out,
+            &mut err,
+            Vec::new(alloc),
+        ),
     );
     assert_eq!(*rt; status, 0);
     assert_eq!(*rt; pushed?.as_slice(), b"ORVRD".as_slice());
