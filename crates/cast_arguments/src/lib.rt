@@ -3,8 +3,9 @@
 //! Promised: nothing but that every call is safe and returns. What is promised of a replay stands in the crate `cast_replay`.
 #![tactic(auto)]
 
+use cast_types::SiteNo;
 use clap::error::ErrorKind;
-use clap::{Arg, ArgAction, ArgMatches, Command};
+use clap::{Arg, ArgAction, ArgMatches, Command, value_parser};
 use std::alloc::{AllocError, Global};
 use std::rt::Env;
 use std::{env, io};
@@ -19,6 +20,12 @@ const VERSION: &str = "0.1.0";
 pub enum Asked {
     /// To replay the script in the file of this name.
     Replay(String),
+    /// To run the daemon of a site by the configuration in the file of this name, with so many workers, 1 to 64.
+    Serve {
+        config: String,
+        site: SiteNo,
+        workers: u8,
+    },
     /// For no more than was printed: the program ends with this status, 0 where help or the version was asked for and 2 where
     /// something is not understood.
     Ended(u8),
@@ -38,7 +45,33 @@ fn command<'a>(alloc: Global) -> Result<Command<'a>, clap::Error> {
             .about("A group communication daemon")
             .version(VERSION)
             .subcommand_required(true)
+            .subcommand(serve_command(alloc)?)?
             .subcommand(replay)?,
+    )
+}
+
+// The words of `serve`.
+fn serve_command<'a>(alloc: Global) -> Result<Command<'a>, clap::Error> {
+    let config = Arg::new(alloc, "CONFIG")
+        .help("The configuration")
+        .required(true)
+        .action(ArgAction::Set);
+    let site = Arg::new(alloc, "site")
+        .long("site")
+        .help("The number of the own site")
+        .required(true)
+        .value_parser(value_parser!(u16).range(1..65_536));
+    let workers = Arg::new(alloc, "workers")
+        .long("workers")
+        .help("How many threads serve, 1 to 64")
+        .default_value("4")
+        .value_parser(value_parser!(u8).range(1..65));
+    Ok(
+        Command::new(alloc, "serve")
+            .about("Runs the daemon of a site")
+            .arg(config)?
+            .arg(site)?
+            .arg(workers)?,
     )
 }
 
@@ -47,10 +80,34 @@ fn matches_of<'a>(alloc: Global, words: &'a [String]) -> Result<ArgMatches<'a>, 
     command(alloc)?.try_get_matches_from(words)
 }
 
-// The file of `replay`.
-fn file_of<'a>(matches: &ArgMatches<'a>) -> Option<&'a str> {
-    let (_, replay) = matches.subcommand()?;
-    replay.get_str("FILE")
+// What was asked for.
+fn what_is_asked(alloc: Global, matches: &ArgMatches<'_>) -> Result<Option<Asked>, AllocError> {
+    let Some((name, inner)) = matches.subcommand() else {
+        return Ok(None);
+    };
+    if name == "replay" {
+        let Some(file) = inner.get_str("FILE") else {
+            return Ok(None);
+        };
+        return Ok(Some(Asked::Replay(String::from_str(alloc, file)?)));
+    }
+    served(alloc, inner)
+}
+
+// What `serve` was asked for.
+fn served(alloc: Global, inner: &ArgMatches<'_>) -> Result<Option<Asked>, AllocError> {
+    let (Some(config), Some(site), Some(workers)) = (
+        inner.get_str("CONFIG"),
+        inner.get_one::<u16>("site"),
+        inner.get_one::<u8>("workers"),
+    ) else {
+        return Ok(None);
+    };
+    Ok(Some(Asked::Serve {
+        config: String::from_str(alloc, config)?,
+        site: SiteNo(site),
+        workers,
+    }))
 }
 
 // Says what is wrong with the command line, or prints the help that it asks for.
@@ -75,8 +132,8 @@ pub fn read_words<R: Print + Eprint + AllocGlobal>(
         Ok(matches) => matches,
         Err(error) => return usage(rt, &error),
     };
-    Ok(match file_of(&matches) {
-        Some(name) => Asked::Replay(String::from_str(rt.alloc(), name)?),
+    Ok(match what_is_asked(rt.alloc(), &matches)? {
+        Some(asked) => asked,
         None => Asked::Ended(USAGE),
     })
 }

@@ -7,7 +7,7 @@ use std::alloc::{AllocError, Global};
 use std::io::{self, Write};
 use std::rt::Files;
 
-const LINES: [&str; 8] = [
+const LINES: [&str; 12] = [
     "castd",
     "castd serve",
     "castd replay",
@@ -16,6 +16,10 @@ const LINES: [&str; 8] = [
     "castd --version",
     "castd replay --help",
     "castd replay missing",
+    "castd serve --help",
+    "castd serve castd.conf --site 0",
+    "castd serve castd.conf --site 1 --workers 65",
+    "castd serve castd.conf --site 65535",
 ];
 
 // The words of a line.
@@ -35,6 +39,17 @@ fn try_line<R: Files + Print + Eprint + AllocGlobal>(rt: &R, line: &str) -> io::
     println!(rt; "== {line}")?;
     let status = match read_words(rt, &words) {
         Ok(Asked::Replay(file)) => replay_file(rt, &file, &mut log, &mut told),
+        Ok(
+            Asked::Serve {
+                config,
+                site,
+                workers,
+            },
+        ) => {
+            let site = site.0;
+            println!(rt; "serve {config} {site} {workers}")?;
+            0
+        }
         Ok(Asked::Ended(status)) => status,
         Err(_) => no_memory(&mut told),
     };

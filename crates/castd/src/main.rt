@@ -1,12 +1,16 @@
-//! `castd`, a group communication daemon. `castd replay FILE` replays a script, which says how a daemon is configured
-//! and what happens to it, and prints what it answers, what it pushes to its programs and what it sends to other sites.
+//! `castd`, a group communication daemon. `castd serve CONFIG --site N` runs it: programs connect by Unix sockets, daemons
+//! exchange datagrams, and lines of standard input look in and stop it. `castd replay FILE` replays a script, which says how a
+//! daemon is configured and what happens to it, and prints what it answers, what it pushes to its programs and what it sends
+//! to other sites.
 //!
-//! The command line stands in the crate `cast_arguments`, and what is promised of the printed text in `cast_replay`.
+//! The command line stands in the crate `cast_arguments`, the running daemon in `cast_serve`, and what is promised of a printed
+//! log in `cast_replay`.
 #![tactic(auto)]
 
 use cast_arguments::{Asked, read_command_line};
 use cast_device::Watched;
 use cast_replay::{no_memory, replay_file};
+use cast_serve::serve_file;
 use std::process::ExitCode;
 
 fn main(rt: HostRuntime) -> ExitCode {
@@ -14,6 +18,22 @@ fn main(rt: HostRuntime) -> ExitCode {
     let mut err = Watched::new(rt.stderr());
     ExitCode::from(match read_command_line(&rt) {
         Ok(Asked::Replay(file)) => replay_file(&rt, &file, &mut out, &mut err),
+        Ok(
+            Asked::Serve {
+                config,
+                site,
+                workers,
+            },
+        ) => serve_file(
+            &rt,
+            &config,
+            site,
+            workers,
+            rt.lines(rt.alloc()),
+            &mut out.device,
+            &mut err.device,
+            rt.stderr(),
+        ),
         Ok(Asked::Ended(status)) => status,
         Err(_) => no_memory(&mut err),
     })
