@@ -16,6 +16,10 @@ use std::os::unix::net::UnixStream;
 use std::rt::Clock;
 use std::sync::{Mutex, Wait};
 use std::thread::{Scope, Threads};
+use std::time::Duration;
+
+// For how many seconds a program may take no byte of what it is told. Then its stream is closed.
+const PATIENCE: u64 = 30;
 
 /// What the threads of a daemon share.
 #[derive(Drop)]
@@ -188,6 +192,7 @@ fn admit<R: Wait>(
 ) -> io::Result<Option<Admitted>> {
     let (to_turn, turn) = crossbeam_channel::unbounded::<bool, Global>(shared.alloc)?;
     let (to_writer, batches) = crossbeam_channel::unbounded::<Listed<Push>, Global>(shared.alloc)?;
+    stream.set_write_timeout(Some(Duration::from_secs(PATIENCE)))?;
     let writing = stream.try_clone()?;
     let client = Client::new(to_turn, to_writer, stream.try_clone()?);
     if !shared.desk.lock(rt).add(session, client)? {

@@ -253,15 +253,26 @@ impl Desk {
     pub fn untaken(&mut self, session: Session) {
         if let Some(client) = self.clients.get_mut(&session) {
             client.stage = Stage::Idle;
+            client.is_wanted = true;
         }
+    }
+
+    /// The first session behind this one whose outbox is to be taken, though no Take of it is on the way: one was lost for want of
+    /// memory.
+    pub fn next_missed(&self, after: Option<Session>) -> Option<Session> {
+        for (session, client) in self.clients.iter() {
+            if is_behind(*session, after) && client.is_wanted && client.stage == Stage::Idle {
+                return Some(*session);
+            }
+        }
+        None
     }
 
     /// The next session that has a program, behind this one.
     pub fn next_session(&self, after: Option<Session>) -> Option<Session> {
         for (session, _) in self.clients.iter() {
-            match after {
-                Some(last) if *session <= last => {}
-                _ => return Some(*session),
+            if is_behind(*session, after) {
+                return Some(*session);
             }
         }
         None
@@ -293,5 +304,13 @@ impl Desk {
             let _ = client.stream.shutdown(Shutdown::Both);
             let _ = client.turn.send(rt, false);
         }
+    }
+}
+
+// Whether a session stands behind another, or there is no other.
+fn is_behind(session: Session, other: Option<Session>) -> bool {
+    match other {
+        Some(other) => other < session,
+        None => true,
     }
 }

@@ -30,6 +30,9 @@ use std::{fs, io, thread};
 // After how many milliseconds the domains are told the time again.
 const TICK: u64 = 20;
 
+// After how many ticks more the outboxes of all sessions are asked for: once a second. At each tick they are of those whose Take was lost.
+const TICKS_TO_ALL: u32 = 49;
+
 // How many milliseconds a thread waits after a call of the system failed, so that it does not turn in place.
 const PAUSE: u64 = 10;
 
@@ -107,12 +110,17 @@ fn run_link<R: Wait + Clock, W: Wire>(rt: &R, shared: &Shared<'_>, wire: &mut W)
     }
 }
 
-// Asks for what lies in the outboxes, session by session.
-fn want_all<R: Wait>(rt: &R, shared: &Shared<'_>) {
+// Asks for what lies in the outboxes, session by session: of all, or of those whose Take was lost.
+fn want_those<R: Wait>(rt: &R, shared: &Shared<'_>, all: bool) {
     let mut last = None;
     for _ in rt.forever() {
         let mut desk = shared.desk.lock(rt);
-        let Some(session) = desk.next_session(last) else {
+        let next = if all {
+            desk.next_session(last)
+        } else {
+            desk.next_missed(last)
+        };
+        let Some(session) = next else {
             break;
         };
         desk.want(rt, session);
@@ -123,13 +131,19 @@ fn want_all<R: Wait>(rt: &R, shared: &Shared<'_>) {
 // Tells the domains the time.
 fn run_ticker<R: Wait + Clock>(rt: &R, shared: &Shared<'_>) -> io::Result<()> {
     let start = Instant::now(rt)?;
+    let mut until_all = 0;
     for _ in rt.forever() {
         if shared.desk.lock(rt).is_stopping() {
             break;
         }
         let millis = u64::try_from(start.elapsed(rt)?.as_millis()).unwrap_or(u64::MAX);
         shared.submit(rt, Purpose::Other, Asked::Event(Event::Tick(millis)));
-        want_all(rt, shared);
+        want_those(rt, shared, until_all == 0);
+        until_all = if until_all == 0 {
+            TICKS_TO_ALL
+        } else {
+            until_all - 1
+        };
         thread::sleep(rt, Duration::from_millis(TICK));
     }
     Ok(())
@@ -459,6 +473,7 @@ where
     match run::<Brand, R, B, W, G>(rt, alloc, setup, blank, workers, &sockets, lines, out, log) {
         Ok(()) => 0,
         Err(_) => {
+            remove_files(rt, setup.sockets.as_slice());
             let _ = writeln!(err, "castd: no memory");
             NO_MEMORY
         }

@@ -1,0 +1,214 @@
+//! The programs of a test: what they write, and what they are pushed, a letter for each push.
+use cast_device::Watched;
+use cast_message::Push;
+use cast_session::read_push;
+use std::alloc::Global;
+use std::io::{BufReader, Write};
+use std::net::Net;
+use std::os::unix::net::UnixStream;
+use std::rt::Clock;
+use std::time::Duration;
+use std::{io, thread};
+
+// Join of group 1 under tag 7, and a cast of two bytes under tag 8.
+const JOIN: [u8; 11] = [0, 0, 0, 11, 1, 0, 0, 0, 7, 0, 1];
+
+const CAST: [u8; 14] = [0, 0, 0, 14, 3, 0, 0, 0, 8, 0, 1, 1, 104, 105];
+
+// The head of a cast of 16,384 bytes.
+const LARGE_CAST: [u8; 12] = [0, 0, 64, 12, 3, 0, 0, 0, 8, 0, 1, 1];
+
+const LARGEST: usize = 16_384;
+
+// How often a thread looks for the socket: each time it waits 50 microseconds.
+const TURNS: u32 = 1_000_000;
+
+// Most casts until a program that reads nothing has too much to read.
+const MOST_CASTS: u32 = 1_000;
+
+/// What the programs of a test do.
+#[derive(Clone, Copy)]
+pub enum Scene {
+    /// One joins and casts.
+    Casts,
+    /// A second one writes bytes that are no frame, and the first casts.
+    NoFrame([u8; 4]),
+    /// A second one joins, and the first casts a hundred times at once: instead of letters, how many replies and deliveries the
+    /// first is pushed, and how many deliveries the second.
+    CastsAtOnce,
+    /// A second one joins and reads nothing, and the first casts until it is alone.
+    ReadsNothing,
+}
+
+/// A program's end of its stream.
+#[derive(Drop)]
+struct Program {
+    alloc: Global,
+    stream: UnixStream,
+    reader: Watched<BufReader<UnixStream>>,
+}
+
+// Connects once the daemon is there.
+fn connected<R: Net + Clock>(rt: &R, path: &str) -> io::Result<UnixStream> {
+    for _ in 0..TURNS {
+        if let Ok(stream) = UnixStream::connect(rt, path) {
+            return Ok(stream);
+        }
+        thread::sleep(rt, Duration::from_micros(50));
+    }
+    UnixStream::connect(rt, path)
+}
+
+// The letter of a refusal: the last digit of its number, or of those from 10 on a letter from `a` on.
+fn letter_of_number(number: u8) -> u8 {
+    if number < 10 {
+        b'0' + number
+    } else {
+        b'a' + number % 10
+    }
+}
+
+// The letter of a push.
+fn letter(push: &Push) -> u8 {
+    match push {
+        Push::Opened(_) => b'O',
+        Push::Reply { refusal: None, .. } => b'R',
+        Push::View { .. } => b'V',
+        Push::Deliver { .. } => b'D',
+        Push::Closed(refusal) => letter_of_number(refusal.number()),
+        _ => b'?',
+    }
+}
+
+impl Program {
+    // A program that is connected.
+    fn new<R: Net + Clock>(rt: &R, alloc: Global, path: &str) -> io::Result<Program> {
+        let stream = connected(rt, path)?;
+        let reader = Watched::new(BufReader::new(alloc, stream.try_clone()?)?);
+        Ok(Program {
+            alloc,
+            stream,
+            reader,
+        })
+    }
+
+    // Writes bytes.
+    fn say(&self, bytes: &[u8]) -> io::Result<()> {
+        let mut writer = &self.stream;
+        writer.write_all(bytes)
+    }
+
+    // The letter of the next push, `.` where there is none.
+    fn read(&mut self) -> u8 {
+        match read_push(self.alloc, &mut self.reader) {
+            Ok(Some(push)) => letter(&push),
+            _ => b'.',
+        }
+    }
+
+    // Adds the letters of so many pushes.
+    fn hear(&mut self, count: u32, all: &mut Vec<u8>) -> io::Result<()> {
+        for _ in 0..count {
+            let letter = self.read();
+            all.push(letter)?;
+        }
+        Ok(())
+    }
+
+    // Joins, and adds the letters up to the view.
+    fn join(&mut self, all: &mut Vec<u8>) -> io::Result<()> {
+        self.say(&JOIN)?;
+        self.hear(3, all)
+    }
+}
+
+// How often a letter stands in these.
+fn count(letters: &[u8], letter: u8) -> u8 {
+    letters.iter().fold(
+        0,
+        |count: u8, other| if *other == letter {
+            count.saturating_add(1)
+        } else {
+            count
+        },
+    )
+}
+
+// A first program casts a hundred times at once.
+fn cast_at_once(
+    alloc: Global,
+    first: &mut Program,
+    second: &mut Program,
+    all: &mut Vec<u8>,
+) -> io::Result<()> {
+    let mut bytes = Vec::new(alloc);
+    for _ in 0..100u32 {
+        bytes.extend_from_slice(&CAST)?;
+    }
+    first.say(&bytes)?;
+    let mut theirs = Vec::new(alloc);
+    first.hear(200, &mut theirs)?;
+    all.push(count(&theirs, b'R'))?;
+    all.push(count(&theirs, b'D'))?;
+    theirs.clear();
+    second.hear(100, &mut theirs)?;
+    all.push(count(&theirs, b'D'))?;
+    Ok(())
+}
+
+// A program makes large casts, until the next view.
+fn cast_until_view(alloc: Global, program: &mut Program, all: &mut Vec<u8>) -> io::Result<()> {
+    let mut bytes = Vec::new(alloc);
+    bytes.extend_from_slice(&LARGE_CAST)?;
+    for _ in 0..LARGEST {
+        bytes.push(0)?;
+    }
+    for _ in 0..MOST_CASTS {
+        program.say(&bytes)?;
+        for _ in 0..2u8 {
+            if program.read() == b'V' {
+                all.push(b'V')?;
+                return Ok(());
+            }
+        }
+    }
+    Ok(())
+}
+
+/// Plays a scene, and answers the letters of what its programs were pushed.
+pub fn play<R: Net + Clock>(
+    rt: &R,
+    alloc: Global,
+    path: &str,
+    scene: Scene,
+) -> io::Result<Vec<u8>> {
+    let mut all = Vec::new(alloc);
+    let mut first = Program::new(rt, alloc, path)?;
+    first.join(&mut all)?;
+    if let Scene::Casts = scene {
+        first.say(&CAST)?;
+        first.hear(2, &mut all)?;
+        return Ok(all);
+    }
+    let mut second = Program::new(rt, alloc, path)?;
+    match scene {
+        Scene::NoFrame(bytes) => {
+            second.say(&bytes)?;
+            second.hear(3, &mut all)?;
+            first.say(&CAST)?;
+            first.hear(2, &mut all)?;
+        }
+        Scene::CastsAtOnce => {
+            second.join(&mut all)?;
+            first.hear(1, &mut all)?;
+            cast_at_once(alloc, &mut first, &mut second, &mut all)?;
+        }
+        Scene::ReadsNothing => {
+            second.join(&mut all)?;
+            first.hear(1, &mut all)?;
+            cast_until_view(alloc, &mut first, &mut all)?;
+        }
+        Scene::Casts => {}
+    }
+    Ok(all)
+}
