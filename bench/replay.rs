@@ -9,6 +9,11 @@
 //! - `sessions`: a program connects, joins, and is gone; the home answers both requests;
 //! - `passes-N`: N groups wait for messages that nobody sent; then one message lets so many ABCASTs as there are rounds go, each
 //!   only once the place of the one before is told;
+//! - `waiting-N`: in each round N messages of 2.1 come in reverse order, and are said to be stable;
+//! - `members-N`: a view of N members, of which all but 1.1 are at sites 2 and 3; in each round each of these casts, after all that was
+//!   cast, and its message is said to be stable;
+//! - `groups-N`: so in N groups of four members, with stamps that name all groups;
+//! - `opened-N`: N programs connected and are gone again; in each round 1.1 and 2.1 cast, and both messages become stable;
 //! - `partition-N`: 1.1 casts N times in a view with a member at each of 14 other sites, none of which answers; in each round all that
 //!   is owed falls due.
 
@@ -193,6 +198,102 @@ fn passes(waiting: usize, rounds: usize) -> Vec<String> {
     events
 }
 
+/// Messages that come in reverse order, so many at a time.
+fn waiting(number: usize, many: usize) -> Vec<String> {
+    let first = (number - 1) * many + 1;
+    let last = number * many;
+    let mut events: Vec<String> = (first..=last)
+        .rev()
+        .map(|count| message(1, 2, count, 0, CAUSAL, &payload()))
+        .collect();
+    events.push(stable(2, last));
+    events
+}
+
+/// A process by its site and serial.
+type Member = (usize, usize);
+
+fn member((site, serial): Member) -> String {
+    format!("{site:04x}{serial:08x}")
+}
+
+/// The first members of a view: 1.1, and so many others at sites 2 and 3 in turn, or at site 2 alone.
+fn members(others: usize, sites: usize) -> Vec<Member> {
+    let mut all: Vec<Member> = (0..others).map(|place| (2 + place % sites, 1 + place / sites)).collect();
+    all.push((1, 1));
+    all.sort();
+    all
+}
+
+/// A member of a group whose view 2 has these members.
+fn joined_to(group: usize, members: &[Member]) -> Vec<String> {
+    let named: Vec<String> = members.iter().map(|it| member(*it)).collect();
+    vec![
+        format!("join 1 1 7 {group}"),
+        asked(group, 1),
+        format!(
+            "{}{:02x}{}000000000100000000000000",
+            header(10, 9, group, 2),
+            members.len(),
+            named.concat()
+        ),
+    ]
+}
+
+/// In each round each member elsewhere casts in each group, after all that was cast in any.
+fn spread(groups: usize, members: &[Member], rounds: usize) -> Vec<String> {
+    let mut events = Vec::new();
+    let others: Vec<Member> = members.iter().copied().filter(|it| it.0 != 1).collect();
+    for group in 1..=groups {
+        events.extend(joined_to(group, members));
+    }
+    let cast = |round: usize, group: usize, place: usize| {
+        let clocks: Vec<String> = (1..=groups)
+            .map(|other| {
+                let counts: Vec<String> = others
+                    .iter()
+                    .enumerate()
+                    .map(|(at, it)| (it, if (other, at) <= (group, place) { round } else { round - 1 }))
+                    .filter(|(_, count)| *count > 0)
+                    .map(|(it, count)| format!("{}{count:08x}", member(*it)))
+                    .collect();
+                format!("{other:04x}00000002{:02x}{}", counts.len(), counts.concat())
+            })
+            .collect();
+        let sender = others[place];
+        let name = format!("{}{round:08x}", member(sender));
+        [
+            format!(
+                "{}{name}{CAUSAL:02x}{:02x}{}{}",
+                header(1, sender.0, group, 2),
+                clocks.len(),
+                clocks.concat(),
+                payload()
+            ),
+            format!("{}{name}", header(3, sender.0, group, 2)),
+        ]
+    };
+    for round in 1..=rounds {
+        for group in 1..=groups {
+            for place in 0..others.len() {
+                events.extend(cast(round, group, place));
+            }
+        }
+    }
+    events
+}
+
+/// Programs that were here, and then casts that become stable.
+fn opened(programs: usize, rounds: usize) -> Vec<String> {
+    let mut events = joined(1, 1);
+    for serial in 2..programs + 2 {
+        events.push("open 1".to_string());
+        events.push(format!("gone 1 {serial}"));
+    }
+    events.extend((1..=rounds).flat_map(|number| kept(number, 0)));
+    events
+}
+
 /// Casts that no site answers, and the moments at which they fall due.
 fn partition(casts: usize, rounds: usize) -> Vec<String> {
     let mut events = vec![
@@ -226,6 +327,15 @@ fn events(case: &str, rounds: usize) -> Option<Vec<String>> {
             events.extend((1..=rounds).flat_map(|number| kept(number, casts)));
             Some(events)
         }
+        Some(("waiting", many)) => {
+            let many = many.parse().ok()?;
+            let mut events = joined(1, 1);
+            events.extend((1..=rounds).flat_map(|number| waiting(number, many)));
+            Some(events)
+        }
+        Some(("members", many)) => Some(spread(1, &members(many.parse::<usize>().ok()? - 1, 2), rounds)),
+        Some(("groups", many)) => Some(spread(many.parse().ok()?, &members(3, 1), rounds)),
+        Some(("opened", many)) => Some(opened(many.parse().ok()?, rounds)),
         Some(("passes", groups)) => Some(passes(groups.parse().ok()?, rounds)),
         Some(("partition", casts)) => Some(partition(casts.parse().ok()?, rounds)),
         Some(_) => None,
@@ -233,10 +343,14 @@ fn events(case: &str, rounds: usize) -> Option<Vec<String>> {
 }
 
 fn script(case: &str, rounds: usize) -> Option<String> {
-    let last = if case.starts_with("passes") { PASSING } else { 1 };
+    let last = if case.starts_with("passes") || case.starts_with("groups") { PASSING } else { 1 };
     let groups: Vec<String> = (1..=last).map(|group| group.to_string()).collect();
     let sites: Vec<String> = (1..=PARTED).map(|site| site.to_string()).collect();
-    let sites = if case.starts_with("partition") { sites.join(",") } else { "1,2,9".to_string() };
+    let sites = match case.split_once('-') {
+        Some(("partition", _)) => sites.join(","),
+        Some(("members", _)) => "1,2,3,9".to_string(),
+        _ => "1,2,9".to_string(),
+    };
     let mut text = format!(
         "site 1\ndomain 1 home 9 sites {sites} groups {} quotas 16 1024 4096 {RESEND}\nopen 1\n",
         groups.join(",")
@@ -254,7 +368,9 @@ fn main() {
         _ => None,
     };
     let Some(text) = text else {
-        eprintln!("replay kept-N|views|holder|follower|sessions|passes-N|partition-N ROUNDS FILE");
+        eprintln!(
+            "replay kept-N|views|holder|follower|sessions|waiting-N|members-N|groups-N|opened-N|passes-N|partition-N ROUNDS FILE"
+        );
         process::exit(2);
     };
     if let Err(error) = fs::write(&words[2], text) {
