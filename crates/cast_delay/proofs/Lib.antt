@@ -9,3 +9,4 @@ pub mod Reached
 pub mod Queues
 pub mod Words
 pub mod Least
+pub mod Settled

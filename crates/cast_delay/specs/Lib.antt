@@ -6,3 +6,4 @@ pub mod Fits
 pub mod Says
 pub mod Rule
 pub mod Laws
+pub mod Settled

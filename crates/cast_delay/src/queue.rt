@@ -1,4 +1,4 @@
-ghost use Rattle.std.specs.Prelude.{◌≡◌, ◌<◌, ◌&&◌, ◌++◌, ◌∷◌, [], IfOk, OnOk, nat_lt, not, length, slice_get, map, filter};
+ghost use Rattle.std.specs.Prelude.{◌≡◌, ◌<◌, ◌≤◌, ◌&&◌, ◌++◌, ◌∷◌, [], IfOk, OnOk, nat_lt, not, length, vec_len, take, drop, slice_get, map, filter};
 ghost use Rattle.std.specs.List.{list_any};
 ghost use Rattle.std.specs.Option.{option_copied, option_map, option_map_or};
 ghost use Rattle.std.specs.FinMap.Entries.{put};
@@ -13,6 +13,7 @@ ghost use Rattle.cast_delay.specs.Rows.{gate_in, ended_row, told_row, standing_i
 ghost use Rattle.cast_delay.specs.Tallies.{counts_in};
 ghost use Rattle.cast_delay.specs.Queue.{new_row, row_of, but_row, change_row, first_for, offered_under, next_key, has_candidate, may_deliver_in, delivered_in, passed_in, but_offered, is_awaited, least_in, after_delivery, reached_after, queue_viewing, queue_delivering};
 ghost use Rattle.cast_delay.specs.Fits.{offer_of};
+ghost use Rattle.cast_delay.specs.Settled.{is_settled, AreSettled, despite_fact, is_next_of, despite_delivery};
 ghost use Rattle.cast_delay.specs.Says.{SaysAwaited, SaysFirstReady, SaysMayDeliver, SaysDelivered, SaysPassed, SaysReached, SaysTime, SaysStanding};
 
 use crate::gate::{Gate, copy_gates, frozen_in, number_in};
@@ -33,16 +34,22 @@ use std::marker::Model;
 pub struct Delay {
     gates: Keyed<GroupNo, Gate>,
     offered: Vec<Offered>,
+    /// How many messages, from the first on, are known to be settled: no process here awaits them any more, or their
+    /// view is not the one that stands. None of them is ready for any process, so a question begins behind them.
+    settled: usize,
     rows: Vec<Row>,
     reached: Tally,
 }
 
 impl Model for Delay {
     ghost use Rattle.cast_delay.specs.Queue.{Queue};
+    ghost use Rattle.cast_delay.specs.Settled.{AreSettled};
 
     ghost Value = { Queue };
 
     ghost view = { λ d. record { gates = d.gates; offered = d.offered.items; rows = d.rows.items; reached = d.reached } };
+
+    ghost invariant = { λ d. AreSettled d.gates d.rows.items d.offered.items d.settled };
 }
 
 impl Delay {
@@ -53,6 +60,7 @@ impl Delay {
         Delay {
             gates: Keyed::new(alloc),
             offered: Vec::new(alloc),
+            settled: 0,
             rows: Vec::new(alloc),
             reached: Tally::new(alloc),
         }
@@ -66,6 +74,7 @@ impl Delay {
         Ok(Delay {
             gates: copy_gates(&self.gates)?,
             offered: copy_offered(alloc, &self.offered)?,
+            settled: self.settled,
             rows: copy_rows(alloc, &self.rows)?,
             reached: self.reached.copy()?,
         })
@@ -107,7 +116,10 @@ impl Delay {
     pub fn tell(&mut self, process: Proc, fact: &Fact) -> Result<(), NoMemory>
         ensures { OnOk result (self.new ≡ record self.old { rows = change_row process (told_row fact.now) self.old.rows }) }
     {
+        let settled = despite_fact(fact, self.settled);
+        self.settled = 0;
         tell_in(&mut self.rows, process, fact)?;
+        self.settled = settled_from(&self.gates, &self.offered, &self.rows, settled);
         Ok(())
     }
 
@@ -116,9 +128,11 @@ impl Delay {
     pub fn view_changed(&mut self, group: GroupNo, number: u32) -> Result<(), NoMemory>
         ensures { OnOk result (self.new ≡ queue_viewing group number self.old) }
     {
+        self.settled = 0;
         self.gates.put(group, Gate::new(number))?;
         end_in(&mut self.rows, group, number);
         self.reached.end(group, number);
+        self.settled = settled_from(&self.gates, &self.offered, &self.rows, 0);
         Ok(())
     }
 
@@ -164,7 +178,8 @@ impl Delay {
     pub fn forget(&mut self, key: Key)
         ensures { self.new ≡ record self.old { offered = filter (λ o. not (key_eq o.key key)) self.old.offered } }
     {
-        forget_in(&mut self.offered, key);
+        let settled = forget_in(&mut self.offered, key, self.settled);
+        self.settled = settled;
     }
 
     /// Whether some process that is a member of a message's group has not delivered the message, whose view has not
@@ -192,7 +207,7 @@ impl Delay {
         ensures meaning { SaysFirstReady self.now process turns.now result }
     {
         let row = row_in(&self.rows, process)?;
-        let offered = first_in(turns, &self.gates, &self.offered, row)?;
+        let offered = first_in(turns, &self.gates, behind(&self.offered, self.settled), row)?;
         Some(offered.key)
     }
 
@@ -203,7 +218,7 @@ impl Delay {
         ensures meaning { SaysMayDeliver self.now process result }
     {
         match row_in(&self.rows, process) {
-            Some(row) => has_candidate(&self.gates, &self.offered, row),
+            Some(row) => has_candidate(&self.gates, behind(&self.offered, self.settled), row),
             None => false,
         }
     }
@@ -235,8 +250,11 @@ impl Delay {
     pub fn delivered(&mut self, process: Proc, key: Key) -> Result<(), NoMemory>
         ensures { OnOk result (self.new ≡ queue_delivering process key self.old) }
     {
+        let settled = despite_delivery(&self.rows, &self.offered, process, key, self.settled);
+        self.settled = 0;
         deliver_in(&mut self.rows, &self.offered, process, key)?;
         reach_in(&mut self.reached, &self.offered, key)?;
+        self.settled = settled_from(&self.gates, &self.offered, &self.rows, settled);
         Ok(())
     }
 
@@ -300,6 +318,14 @@ fn has_candidate(gates: &Keyed<GroupNo, Gate>, offered: &[Offered], row: &Row) -
     offered.iter().any(|offered| row.is_causally_ready(gates, offered.id, &offered.times))
 }
 
+// The messages behind the first ones.
+fn behind(offered: &[Offered], first: usize) -> &[Offered]
+    requires { first ≤ length offered.now }
+    ensures { result.now ≡ drop first offered.now }
+{
+    &offered[first..]
+}
+
 // The message under a key.
 fn under(offered: &[Offered], key: Key) -> Option<&Offered>
     ensures { option_copied result ≡ offered_under offered.now key }
@@ -307,11 +333,91 @@ fn under(offered: &[Offered], key: Key) -> Option<&Offered>
     offered.iter().find(|offered| offered.key == key)
 }
 
+// Keeps what is under other keys. The result says how many of those are among the first ones.
+fn forget_in(offered: &mut Vec<Offered>, key: Key, first: usize) -> usize
+    requires { first ≤ vec_len offered.old }
+    ensures items { offered.new.items ≡ but_offered key offered.old.items }
+    ensures first { result ≡ length (but_offered key (take first offered.old.items)) }
+{
+    let kept = kept_among(&offered[..first], key);
+    retain_others(offered, key);
+    kept
+}
+
+// How many are under other keys.
+fn kept_among(offered: &[Offered], key: Key) -> usize
+    ensures { result ≡ length (but_offered key offered.now) }
+{
+    offered.iter().filter(|offered| offered.key != key).count()
+}
+
 // Keeps what is under other keys.
-fn forget_in(offered: &mut Vec<Offered>, key: Key)
+fn retain_others(offered: &mut Vec<Offered>, key: Key)
     ensures { offered.new.items ≡ but_offered key offered.old.items }
 {
     offered.retain(|offered| offered.key != key);
+}
+
+// Whether a message is settled: no row awaits it, or its view is not the one that stands.
+fn is_settled(gates: &Keyed<GroupNo, Gate>, rows: &[Row], offered: &Offered) -> bool
+    ensures { result ≡ is_settled gates.now rows.now offered.now }
+{
+    offered.id.view != number_in(gates, offered.id.group) || !awaited_in(rows, offered.id)
+}
+
+// How many messages from the first on are settled, where this many are.
+fn settled_from(
+    gates: &Keyed<GroupNo, Gate>,
+    offered: &[Offered],
+    rows: &[Row],
+    first: usize,
+) -> usize
+    requires { AreSettled gates.now rows.now offered.now first }
+    ensures { AreSettled gates.now rows.now offered.now result }
+{
+    let mut settled = first;
+    while settled < offered.len() {
+        if !is_settled(gates, rows, &offered[settled]) {
+            break;
+        }
+        settled += 1;
+    }
+    settled
+}
+
+// How many of so many settled messages are settled still once a process has taken in a fact.
+fn despite_fact(fact: &Fact, settled: usize) -> usize
+    ensures { result ≡ despite_fact fact.now settled }
+{
+    match fact {
+        Fact::Standing(..) => 0,
+        Fact::Time(_) => settled,
+    }
+}
+
+// And once it has delivered the message under a key.
+fn despite_delivery(
+    rows: &[Row],
+    offered: &[Offered],
+    process: Proc,
+    key: Key,
+    settled: usize,
+) -> usize
+    ensures { result ≡ despite_delivery offered.now process key rows.now settled }
+{
+    match under(offered, key) {
+        Some(message) if is_next_of(rows, process, message.id) => settled,
+        Some(_) => 0,
+        None => settled,
+    }
+}
+
+// Whether no row of a process has delivered a later message of a message's source.
+fn is_next_of(rows: &[Row], process: Proc, id: Uid) -> bool
+    ensures { result ≡ is_next_of process id rows.now }
+{
+    rows.iter().all(|row| row.process != process
+        || row.done(id.group, id.view, id.proc) <= id.count)
 }
 
 // Whether some row awaits a message.

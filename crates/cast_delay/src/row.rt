@@ -90,8 +90,8 @@ impl Row {
         }
     }
 
-    // How many messages of a process were delivered in a view of a group.
-    fn done(&self, group: GroupNo, view: u32, process: Proc) -> u32
+    /// How many messages of a process were delivered in a view of a group.
+    pub fn done(&self, group: GroupNo, view: u32, process: Proc) -> u32
         ensures { result ≡ done_in self.now group view process }
     {
         let source = Source {
@@ -227,8 +227,7 @@ impl Row {
     pub fn awaits(&self, id: Uid) -> bool
         ensures { result ≡ awaits_row self.now id }
     {
-        let done = self.done(id.group, id.view, id.proc);
-        self.is_member(id.group) && done < id.count
+        self.is_member(id.group) && self.done(id.group, id.view, id.proc) < id.count
     }
 
     /// Notes that a message was delivered to the process. After `NoMemory` the row may be of no use.

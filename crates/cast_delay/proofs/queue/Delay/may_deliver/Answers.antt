@@ -1,9 +1,21 @@
-use Rattle.std.proofs.Common.{rules, false}
+use Rattle.std.proofs.Common.{◌≡◌, Some, false, rules}
+use Rattle.cast_delay.specs.Queue.{row_of, may_deliver_in}
 use Rattle.cast_delay.proofs.Queues.{may_deliver_means}
+use Rattle.cast_delay.proofs.Settled.{may_deliver_past}
 use Rattle.cast_delay.proofs.queue.Delay.may_deliver.Goals as goal
 
+-- what stands behind the settled messages tells as much as all
+told : (c : goal.After-has_candidate) → c.has_candidate.result ≡ may_deliver_in c.args.self.now c.args.process
+told c =
+    let at : row_of c.self.inside.rows.items c.args.process ≡ Some c.in-Some.row.now = search rules in
+    let past = may_deliver_past (record { gates = c.self.inside.gates; offered = c.self.inside.offered.items; rows = c.self.inside.rows.items; reached = c.self.inside.reached }) c.self.inside.settled c.self.invariant c.args.process c.in-Some.row.now at in
+    search (rules, past)
+
+pub returns-in-Some-clause-value : goal.returns-in-Some-clause-value
+returns-in-Some-clause-value c = told c
+
 pub returns-in-Some-clause-meaning : goal.returns-in-Some-clause-meaning
-returns-in-Some-clause-meaning c = may_deliver_means c.args.self.now c.args.process c.has_candidate.result (search rules)
+returns-in-Some-clause-meaning c = may_deliver_means c.args.self.now c.args.process c.has_candidate.result (told c)
 
 pub returns-in-None-clause-meaning : goal.returns-in-None-clause-meaning
 returns-in-None-clause-meaning c = may_deliver_means c.args.self.now c.args.process false (search rules)

@@ -1,0 +1,6 @@
+use Rattle.cast_delay.proofs.Settled.{forget_settled}
+use Rattle.cast_delay.proofs.queue.Delay.forget.Goals as goal
+
+pub invariant_of-self : goal.invariant_of-self
+invariant_of-self c =
+    rw (c.forget_in-settled.ensures.first, c.forget_in-settled.ensures.items) (forget_settled c.self.inside.gates c.self.inside.rows.items c.self.inside.offered.items c.args.key c.self.inside.settled c.self.invariant)
