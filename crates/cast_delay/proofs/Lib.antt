@@ -10,3 +10,4 @@ pub mod Queues
 pub mod Words
 pub mod Least
 pub mod Settled
+pub mod Rises

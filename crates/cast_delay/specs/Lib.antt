@@ -7,3 +7,4 @@ pub mod Says
 pub mod Rule
 pub mod Laws
 pub mod Settled
+pub mod Offers

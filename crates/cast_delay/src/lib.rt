@@ -32,6 +32,7 @@
 mod gate;
 pub mod laws;
 mod offered;
+mod offers;
 mod queue;
 mod row;
 mod tally;

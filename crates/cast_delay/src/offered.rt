@@ -1,7 +1,6 @@
 ghost use Rattle.std.specs.Prelude.{◌≡◌, IfOk};
 
 use cast_types::{Key, NoMemory, Stamp, Uid};
-use std::alloc::Global;
 
 /// A message as the queue holds it: the key under which its domain keeps it, its name, whether it is an ABCAST, and its
 /// time.
@@ -25,15 +24,4 @@ impl Offered {
             times: self.times.copy()?,
         })
     }
-}
-
-/// Messages as the queue holds them, copied.
-pub fn copy_offered(alloc: Global, offered: &[Offered]) -> Result<Vec<Offered>, NoMemory>
-    ensures { IfOk result (λ copy. copy.items ≡ offered.now) }
-{
-    let mut copied = Vec::with_capacity(alloc, offered.len())?;
-    for message in offered {
-        copied.push(message.copy()?)?;
-    }
-    Ok(copied)
 }

@@ -1,4 +1,4 @@
-ghost use Rattle.std.specs.Prelude.{◌≡◌, ◌<◌, ◌≤◌, ◌&&◌, ◌++◌, ◌∷◌, [], IfOk, OnOk, nat_lt, not, length, vec_len, take, drop, slice_get, map, filter};
+ghost use Rattle.std.specs.Prelude.{◌≡◌, ◌<◌, ◌&&◌, ◌++◌, ◌∷◌, [], IfOk, OnOk, nat_lt, not, length, slice_get, map, filter};
 ghost use Rattle.std.specs.List.{list_any};
 ghost use Rattle.std.specs.Option.{option_copied, option_map, option_map_or};
 ghost use Rattle.std.specs.FinMap.Entries.{put};
@@ -17,7 +17,8 @@ ghost use Rattle.cast_delay.specs.Settled.{is_settled, AreSettled, despite_fact,
 ghost use Rattle.cast_delay.specs.Says.{SaysAwaited, SaysFirstReady, SaysMayDeliver, SaysDelivered, SaysPassed, SaysReached, SaysTime, SaysStanding};
 
 use crate::gate::{Gate, copy_gates, frozen_in, number_in};
-use crate::offered::{Offered, copy_offered};
+use crate::offered::Offered;
+use crate::offers::Offers;
 use crate::row::{Fact, Row, copy_rows};
 use crate::tally::Tally;
 use crate::turn::Turn;
@@ -33,7 +34,7 @@ use std::marker::Model;
 #[derive(Drop)]
 pub struct Delay {
     gates: Keyed<GroupNo, Gate>,
-    offered: Vec<Offered>,
+    offered: Offers,
     /// How many messages, from the first on, are known to be settled: no process here awaits them any more, or their
     /// view is not the one that stands. None of them is ready for any process, so a question begins behind them.
     settled: usize,
@@ -47,9 +48,9 @@ impl Model for Delay {
 
     ghost Value = { Queue };
 
-    ghost view = { λ d. record { gates = d.gates; offered = d.offered.items; rows = d.rows.items; reached = d.reached } };
+    ghost view = { λ d. record { gates = d.gates; offered = d.offered; rows = d.rows.items; reached = d.reached } };
 
-    ghost invariant = { λ d. AreSettled d.gates d.rows.items d.offered.items d.settled };
+    ghost invariant = { λ d. AreSettled d.gates d.rows.items d.offered d.settled };
 }
 
 impl Delay {
@@ -59,7 +60,7 @@ impl Delay {
     {
         Delay {
             gates: Keyed::new(alloc),
-            offered: Vec::new(alloc),
+            offered: Offers::new(alloc),
             settled: 0,
             rows: Vec::new(alloc),
             reached: Tally::new(alloc),
@@ -73,7 +74,7 @@ impl Delay {
         let alloc = *self.rows.allocator();
         Ok(Delay {
             gates: copy_gates(&self.gates)?,
-            offered: copy_offered(alloc, &self.offered)?,
+            offered: self.offered.copy()?,
             settled: self.settled,
             rows: copy_rows(alloc, &self.rows)?,
             reached: self.reached.copy()?,
@@ -178,7 +179,7 @@ impl Delay {
     pub fn forget(&mut self, key: Key)
         ensures { self.new ≡ record self.old { offered = filter (λ o. not (key_eq o.key key)) self.old.offered } }
     {
-        let settled = forget_in(&mut self.offered, key, self.settled);
+        let settled = self.offered.forget(key, self.settled);
         self.settled = settled;
     }
 
@@ -207,7 +208,9 @@ impl Delay {
         ensures meaning { SaysFirstReady self.now process turns.now result }
     {
         let row = row_in(&self.rows, process)?;
-        let offered = first_in(turns, &self.gates, behind(&self.offered, self.settled), row)?;
+        let offered = self
+            .offered
+            .first_ready(self.settled, turns, &self.gates, row)?;
         Some(offered.key)
     }
 
@@ -218,7 +221,7 @@ impl Delay {
         ensures meaning { SaysMayDeliver self.now process result }
     {
         match row_in(&self.rows, process) {
-            Some(row) => has_candidate(&self.gates, behind(&self.offered, self.settled), row),
+            Some(row) => self.offered.has_candidate(self.settled, &self.gates, row),
             None => false,
         }
     }
@@ -297,67 +300,6 @@ fn row_in(rows: &[Row], process: Proc) -> Option<&Row>
     rows.iter().find(|row| row.process == process)
 }
 
-// The first message that is ready for a row, where these are the turns of groups.
-fn first_in<'a>(
-    turns: &[(GroupNo, Turn)],
-    gates: &Keyed<GroupNo, Gate>,
-    offered: &'a [Offered],
-    row: &Row,
-) -> Option<&'a Offered>
-    ensures { option_copied result ≡ first_for turns.now gates.now offered.now row.now }
-{
-    offered
-        .iter()
-        .find(|offered| row.is_ready(turns, gates, offered))
-}
-
-// Whether some message is ready for a row but for the turns of groups.
-fn has_candidate(gates: &Keyed<GroupNo, Gate>, offered: &[Offered], row: &Row) -> bool
-    ensures { result ≡ has_candidate gates.now offered.now row.now }
-{
-    offered.iter().any(|offered| row.is_causally_ready(gates, offered.id, &offered.times))
-}
-
-// The messages behind the first ones.
-fn behind(offered: &[Offered], first: usize) -> &[Offered]
-    requires { first ≤ length offered.now }
-    ensures { result.now ≡ drop first offered.now }
-{
-    &offered[first..]
-}
-
-// The message under a key.
-fn under(offered: &[Offered], key: Key) -> Option<&Offered>
-    ensures { option_copied result ≡ offered_under offered.now key }
-{
-    offered.iter().find(|offered| offered.key == key)
-}
-
-// Keeps what is under other keys. The result says how many of those are among the first ones.
-fn forget_in(offered: &mut Vec<Offered>, key: Key, first: usize) -> usize
-    requires { first ≤ vec_len offered.old }
-    ensures items { offered.new.items ≡ but_offered key offered.old.items }
-    ensures first { result ≡ length (but_offered key (take first offered.old.items)) }
-{
-    let kept = kept_among(&offered[..first], key);
-    retain_others(offered, key);
-    kept
-}
-
-// How many are under other keys.
-fn kept_among(offered: &[Offered], key: Key) -> usize
-    ensures { result ≡ length (but_offered key offered.now) }
-{
-    offered.iter().filter(|offered| offered.key != key).count()
-}
-
-// Keeps what is under other keys.
-fn retain_others(offered: &mut Vec<Offered>, key: Key)
-    ensures { offered.new.items ≡ but_offered key offered.old.items }
-{
-    offered.retain(|offered| offered.key != key);
-}
-
 // Whether a message is settled: no row awaits it, or its view is not the one that stands.
 fn is_settled(gates: &Keyed<GroupNo, Gate>, rows: &[Row], offered: &Offered) -> bool
     ensures { result ≡ is_settled gates.now rows.now offered.now }
@@ -366,18 +308,13 @@ fn is_settled(gates: &Keyed<GroupNo, Gate>, rows: &[Row], offered: &Offered) -> 
 }
 
 // How many messages from the first on are settled, where this many are.
-fn settled_from(
-    gates: &Keyed<GroupNo, Gate>,
-    offered: &[Offered],
-    rows: &[Row],
-    first: usize,
-) -> usize
+fn settled_from(gates: &Keyed<GroupNo, Gate>, offered: &Offers, rows: &[Row], first: usize) -> usize
     requires { AreSettled gates.now rows.now offered.now first }
     ensures { AreSettled gates.now rows.now offered.now result }
 {
     let mut settled = first;
     while settled < offered.len() {
-        if !is_settled(gates, rows, &offered[settled]) {
+        if !is_settled(gates, rows, offered.at(settled)) {
             break;
         }
         settled += 1;
@@ -398,14 +335,14 @@ fn despite_fact(fact: &Fact, settled: usize) -> usize
 // And once it has delivered the message under a key.
 fn despite_delivery(
     rows: &[Row],
-    offered: &[Offered],
+    offered: &Offers,
     process: Proc,
     key: Key,
     settled: usize,
 ) -> usize
     ensures { result ≡ despite_delivery offered.now process key rows.now settled }
 {
-    match under(offered, key) {
+    match offered.under(key) {
         Some(message) if is_next_of(rows, process, message.id) => settled,
         Some(_) => 0,
         None => settled,
@@ -467,13 +404,13 @@ fn tell_in(rows: &mut Vec<Row>, process: Proc, fact: &Fact) -> Result<(), NoMemo
 // Each row of the process takes in that it delivered the message under a key.
 fn deliver_in(
     rows: &mut Vec<Row>,
-    offered: &[Offered],
+    offered: &Offers,
     process: Proc,
     key: Key,
 ) -> Result<(), NoMemory>
     ensures { OnOk result (rows.new.items ≡ after_delivery offered.now process key rows.old.items) }
 {
-    let Some(message) = under(offered, key) else {
+    let Some(message) = offered.under(key) else {
         return Ok(());
     };
     for row in rows.iter_mut() {
@@ -485,10 +422,10 @@ fn deliver_in(
 }
 
 // Raises what is reached to the message under a key.
-fn reach_in(reached: &mut Tally, offered: &[Offered], key: Key) -> Result<(), NoMemory>
+fn reach_in(reached: &mut Tally, offered: &Offers, key: Key) -> Result<(), NoMemory>
     ensures { OnOk result (reached.new ≡ reached_after offered.now key reached.old) }
 {
-    let Some(message) = under(offered, key) else {
+    let Some(message) = offered.under(key) else {
         return Ok(());
     };
     let source = Source {

@@ -8,7 +8,7 @@ use Rattle.cast_delay.proofs.queue.Delay.may_deliver.Goals as goal
 told : (c : goal.After-has_candidate) → c.has_candidate.result ≡ may_deliver_in c.args.self.now c.args.process
 told c =
     let at : row_of c.self.inside.rows.items c.args.process ≡ Some c.in-Some.row.now = search rules in
-    let past = may_deliver_past (record { gates = c.self.inside.gates; offered = c.self.inside.offered.items; rows = c.self.inside.rows.items; reached = c.self.inside.reached }) c.self.inside.settled c.self.invariant c.args.process c.in-Some.row.now at in
+    let past = may_deliver_past (record { gates = c.self.inside.gates; offered = c.self.inside.offered; rows = c.self.inside.rows.items; reached = c.self.inside.reached }) c.self.inside.settled c.self.invariant c.args.process c.in-Some.row.now at in
     search (rules, past)
 
 pub returns-in-Some-clause-value : goal.returns-in-Some-clause-value

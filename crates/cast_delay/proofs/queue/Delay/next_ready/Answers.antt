@@ -11,7 +11,7 @@ returns-in_err-row-clause-meaning c = next_means c.args.turns.now c.args.self.no
 none : (c : goal.After-from_residual-in_err-offered) → c.from_residual-in_err-offered.result ≡ next_key c.args.turns.now c.args.self.now c.args.process
 none c =
     let at : row_of c.self.inside.rows.items c.args.process ≡ Some c.in_ok-row.row.now = search rules in
-    let past = next_past (record { gates = c.self.inside.gates; offered = c.self.inside.offered.items; rows = c.self.inside.rows.items; reached = c.self.inside.reached }) c.self.inside.settled c.self.invariant c.args.process c.in_ok-row.row.now at c.args.turns.now in
+    let past = next_past (record { gates = c.self.inside.gates; offered = c.self.inside.offered; rows = c.self.inside.rows.items; reached = c.self.inside.reached }) c.self.inside.settled c.self.invariant c.args.process c.in_ok-row.row.now at c.args.turns.now in
     search (rules, past)
 
 pub returns-in_err-offered-clause-value : goal.returns-in_err-offered-clause-value
@@ -23,7 +23,7 @@ returns-in_err-offered-clause-meaning c = next_means c.args.turns.now c.args.sel
 pub returns-clause-value : goal.returns-clause-value
 returns-clause-value c =
     let at : row_of c.self.inside.rows.items c.args.process ≡ Some c.in_ok-row.row.now = search rules in
-    let past = next_past (record { gates = c.self.inside.gates; offered = c.self.inside.offered.items; rows = c.self.inside.rows.items; reached = c.self.inside.reached }) c.self.inside.settled c.self.invariant c.args.process c.in_ok-row.row.now at c.args.turns.now in
+    let past = next_past (record { gates = c.self.inside.gates; offered = c.self.inside.offered; rows = c.self.inside.rows.items; reached = c.self.inside.reached }) c.self.inside.settled c.self.invariant c.args.process c.in_ok-row.row.now at c.args.turns.now in
     search (rules, past)
 
 pub returns-clause-meaning : goal.returns-clause-meaning
