@@ -1,8 +1,9 @@
-ghost use Rattle.std.specs.Prelude.{◌≡◌, ◌<◌, [], IfOk, IfErr, IfNone, IfSome, OnOk, OnErr, IsTrue, length};
+ghost use Rattle.std.specs.Prelude.{◌≡◌, ◌<◌, [], IfOk, IfErr, IfNone, IfSome, OnOk, OnErr, IsTrue, true, length};
 ghost use Rattle.std.specs.Option.{option_copied};
-ghost use Rattle.std.specs.List.{position, find};
+ghost use Rattle.std.specs.List.{position};
 ghost use Rattle.cast_message.specs.Receipts.{key_eq, message_under};
 ghost use Rattle.cast_store.specs.Store.{with_message, without_key, is_rising};
+ghost use Rattle.cast_store.specs.Keys.{keys_rise};
 
 use cast_message::{Message, Received};
 use cast_types::{DomainNo, Key, NoMemory};
@@ -92,10 +93,8 @@ impl Row {
     pub(crate) fn get(&self, key: Key) -> Option<&Message>
         ensures { option_copied result ≡ message_under self.now.kept key }
     {
-        match received_under(&self.kept, key) {
-            Some(received) => Some(&received.message),
-            None => None,
-        }
+        let place = place_under(&self.kept, key)?;
+        Some(&self.kept[place].message)
     }
 
     /// Takes out the message under a key; `None` changes nothing.
@@ -118,19 +117,16 @@ impl Row {
     }
 }
 
-// The first message under a key.
-fn received_under(kept: &[Received], key: Key) -> Option<&Received>
-    ensures { option_copied result ≡ find (λ r. key_eq r.key key) kept.now }
-{
-    kept.iter().find(|received| received.key == key)
-}
-
-// Where it stands.
+// Where the message under a key stands.
 fn place_under(kept: &[Received], key: Key) -> Option<usize>
+    requires { keys_rise kept.now ≡ true }
     ensures place { result ≡ position (λ r. key_eq r.key key) kept.now }
     ensures within { IfSome result (λ i. i < length kept.now) }
 {
-    kept.iter().position(|received| received.key == key)
+    match kept.binary_search_by_key(&key.0, |received| received.key.0) {
+        Ok(place) => Some(place),
+        Err(_) => None,
+    }
 }
 
 // Messages with their keys, copied.

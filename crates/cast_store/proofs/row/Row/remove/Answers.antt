@@ -6,7 +6,11 @@ use Rattle.cast_message.specs.Receipts.{key_eq, message_under}
 use Rattle.cast_store.specs.Store.{Shelf, without_key, but_under}
 use Rattle.cast_store.proofs.Finds.{find_place, find_no_place, keep_all}
 use Rattle.cast_store.proofs.Keys.{removed_is, rising_filter}
+use Rattle.cast_store.proofs.Searches.{rising_rise}
 use Rattle.cast_store.proofs.row.Row.remove.Goals as goal
+
+pub place_under-requires : goal.place_under-requires
+place_under-requires c = rw c.deref.ensures.value (rising_rise c.self.inside.next c.self.inside.kept.items c.self.invariant)
 
 -- where nothing is under the key
 missing : (c : goal.After-from_residual) → find (λ r. key_eq r.key c.args.key) c.args.self.now.kept ≡ None
