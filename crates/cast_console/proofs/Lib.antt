@@ -1,2 +1,4 @@
 pub mod Heads
 pub mod Cuts
+pub mod Behind
+pub mod Numbers

@@ -1,7 +1,6 @@
 -- What a line of the console is, or its first fault.
-use Rattle.std.specs.Prelude.{◌≡◌, ℕ, List, [], ◌∷◌, codes, bytes_eq, if◌then◌else◌, Option, Some, None, Result, Ok, Err}
+use Rattle.std.specs.Prelude.{◌≡◌, ℕ, List, [], ◌∷◌, codes, Option, Some, None, Result, Ok, Err}
 use Rattle.cast_types.specs.declared.names.DomainNo.{DomainNo}
-use Rattle.cast_types.specs.declared.names.SiteNo.{SiteNo}
 use Rattle.cast_words.specs.Words.{parted}
 use Rattle.cast_words.specs.Readings.{◌>>=◌, domain_of, named_among, number_within, quota_name_of, site_of}
 use Rattle.cast_words.specs.declared.words.Reason.{Reason}

@@ -1,4 +1,4 @@
-use Rattle.std.proofs.Common.{◌≢◌, refl, sym, ap, ◌∙◌}
+use Rattle.std.proofs.Common.{◌≢◌, refl, sym}
 use Rattle.cast_console.specs.declared.line.Head.TheVariants as head
 use Rattle.cast_console.specs.Lines.{head_of, head_text}
 use Rattle.cast_console.proofs.Heads.{head_not}
