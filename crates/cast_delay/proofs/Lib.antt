@@ -11,3 +11,4 @@ pub mod Words
 pub mod Least
 pub mod Settled
 pub mod Rises
+pub mod Halving

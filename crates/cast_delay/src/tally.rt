@@ -1,9 +1,9 @@
-ghost use Rattle.std.specs.Prelude.{◌≡◌, [], IfOk, OnOk};
-ghost use Rattle.std.specs.FinMap.Entries.{put};
+ghost use Rattle.std.specs.Prelude.{◌≡◌, [], true, IfOk, OnOk, OnErr};
+ghost use Rattle.std.specs.FinMap.Entries.{put, is_sorted};
 ghost use Rattle.cast_types.specs.Sources.{source_cmp, but_ended};
 ghost use Rattle.cast_delay.specs.Tallies.{count_at, counts_in, raised_at};
 
-use cast_types::{GroupNo, NoMemory, Proc, Source, sorted};
+use cast_types::{GroupNo, NoMemory, Proc, Source};
 use std::alloc::Global;
 use std::marker::Model;
 
@@ -20,7 +20,13 @@ impl Model for Tally {
 
     ghost Value = { List (Source × ℕ) };
 
+    ghost use Rattle.std.specs.Prelude.{◌≡◌, true};
+    ghost use Rattle.std.specs.FinMap.Entries.{is_sorted};
+    ghost use Rattle.cast_types.specs.Sources.{source_cmp};
+
     ghost view = { λ t. t.counts.items };
+
+    ghost invariant = { λ t. is_sorted source_cmp t.counts.items ≡ true };
 }
 
 impl Tally {
@@ -37,17 +43,14 @@ impl Tally {
     pub fn get(&self, source: Source) -> u32
         ensures { result ≡ count_at self.now source }
     {
-        match sorted::find(&self.counts, &source) {
-            Some(count) => *count,
-            None => 0,
-        }
+        count_in(&self.counts, source)
     }
 
     /// Sets the count of a source.
     pub fn put(&mut self, source: Source, count: u32) -> Result<(), NoMemory>
         ensures { OnOk result (self.new ≡ put source_cmp source count self.old) }
     {
-        sorted::put(&mut self.counts, source, count)?;
+        put_in(&mut self.counts, source, count)?;
         Ok(())
     }
 
@@ -86,6 +89,35 @@ impl Tally {
         ensures { self.new ≡ but_ended group number self.old }
     {
         end_in(&mut self.counts, group, number);
+    }
+}
+
+// The count of a source, 0 where none is kept, found by halving.
+fn count_in(counts: &[(Source, u32)], source: Source) -> u32
+    requires { is_sorted source_cmp counts.now ≡ true }
+    ensures { result ≡ count_at counts.now source }
+{
+    match counts.binary_search_by_key(&source, |entry| entry.0) {
+        Ok(place) => counts[place].1,
+        Err(_) => 0,
+    }
+}
+
+// Sets the count of a source, found by halving. `NoMemory` changes nothing.
+fn put_in(counts: &mut Vec<(Source, u32)>, source: Source, count: u32) -> Result<(), NoMemory>
+    requires { is_sorted source_cmp counts.old.items ≡ true }
+    ensures ok { OnOk result (counts.new.items ≡ put source_cmp source count counts.old.items) }
+    ensures err { OnErr result (counts.new.items ≡ counts.old.items) }
+{
+    match counts.binary_search_by_key(&source, |entry| entry.0) {
+        Ok(place) => {
+            counts[place].1 = count;
+            Ok(())
+        }
+        Err(place) => {
+            counts.insert(place, (source, count))?;
+            Ok(())
+        }
     }
 }
 
