@@ -304,7 +304,7 @@ fn row_in(rows: &[Row], process: Proc) -> Option<&Row>
 fn is_settled(gates: &Keyed<GroupNo, Gate>, rows: &[Row], offered: &Offered) -> bool
     ensures { result ≡ is_settled gates.now rows.now offered.now }
 {
-    offered.id.view != number_in(gates, offered.id.group) || !awaited_in(rows, offered.id)
+    offered.id.view != number_in(gates, offered.id.group) || !awaited_at_last(rows, offered.id)
 }
 
 // How many messages from the first on are settled, where this many are.
@@ -362,6 +362,21 @@ fn awaited_in(rows: &[Row], id: Uid) -> bool
     ensures { result ≡ is_awaited rows.now id }
 {
     rows.iter().any(|row| row.awaits(id))
+}
+
+// Whether some row awaits a message, asked from the last row on: processes deliver in the order of their rows, so it is
+// the last ones that await a message while it is being delivered.
+fn awaited_at_last(rows: &[Row], id: Uid) -> bool
+    ensures { result ≡ is_awaited rows.now id }
+{
+    let mut left = rows.len();
+    while 0 < left {
+        left -= 1;
+        if rows[left].awaits(id) {
+            return true;
+        }
+    }
+    false
 }
 
 // The least count of a process's messages of a view that each member of the group has delivered.
