@@ -165,9 +165,8 @@ fn done_tags<L: Ledger>(
         most: 256,
     });
     let mut tags = Vec::new(alloc);
-    if let Some(Outcome::Answered(Ok(Taken::Entries(entries)), _)) = serve(
-        alloc, kept, mine, take,
-    ) {
+    let outcome = serve(alloc, kept, mine, take);
+    if let Some(Outcome::Answered(Ok(Taken::Entries(entries)), _)) = &outcome {
         add_tags(&mut tags, entries.as_slice())?;
     }
     tags.sort()?;
