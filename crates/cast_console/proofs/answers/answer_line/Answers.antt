@@ -1,0 +1,8 @@
+use Rattle.std.proofs.Common.{sym}
+use Rattle.cast_console.proofs.answers.answer_line.Goals as goal
+
+pub returns-in-Suspect-clause-done : goal.returns-in-Suspect-clause-done
+returns-in-Suspect-clause-done g c = rw c.in-Suspect.is c.served.ensures.done
+
+pub returns-in-Show-clause-text : goal.returns-in-Show-clause-text
+returns-in-Show-clause-text g c = rw (c.in-Show.is, c.said-in-Show.ensures.text, sym c.table-in-Show.ensures) c.show_text.ensures
