@@ -13,11 +13,15 @@ use std::sync::ledger::{Blank, Ledger};
 
 /// Behind the number of the domain, the frame in which site 9 installs a view of group 1 whose one member is the process 1.1. What it
 /// casts is let go at once.
-pub const ALONE: &str = "000900010000000101000100000001000000000100000000000000";
+pub const ALONE: &[u8] = &[
+    0, 9, 0, 1, 0, 0, 0, 1, 1, 0, 1, 0, 0, 0, 1, 0, 0, 0, 0, 1, 0, 0, 0, 0, 0, 0, 0,
+];
 
 /// The same of a view that has 2.1 too. It acknowledges nothing, so that what 1.1 casts is kept.
-pub const BESIDE_ANOTHER: &str =
-    "000900010000000202000100000001000200000001000000000100000000000000";
+pub const BESIDE_ANOTHER: &[u8] = &[
+    0, 9, 0, 1, 0, 0, 0, 2, 2, 0, 1, 0, 0, 0, 1, 0, 2, 0, 0, 0, 1, 0, 0, 0, 0, 1, 0, 0, 0, 0, 0, 0,
+    0,
+];
 
 // A domain with room for what is kept and pushed here.
 fn domain(alloc: Global, number: u8) -> Result<DomainConfig, NoMemory> {
@@ -83,20 +87,21 @@ pub fn takes(domain: u8) -> Asked {
 }
 
 // A frame of a domain comes.
-fn comes(alloc: Global, front: &str, domain: u8, rest: &str) -> Result<Asked> {
-    let digits = format!(in alloc; "{front}{domain:02x}{rest}")?;
-    let bytes = hex::decode(alloc, digits.as_str())?;
-    Ok(Asked::Datagram(Bytes::copy_from_slice(alloc, &bytes)?))
+fn comes(alloc: Global, kind: u8, domain: u8, rest: &[u8]) -> Result<Asked, NoMemory> {
+    let mut frame = Vec::new(alloc);
+    frame.extend_from_slice(&[0x43, 0x44, 1, kind, domain])?;
+    frame.extend_from_slice(rest)?;
+    Ok(Asked::Datagram(Bytes::copy_from_slice(alloc, &frame)?))
 }
 
 // The first program of a domain connects, and joins group 1, whose view site 9 installs.
-fn joins(alloc: Global, domain: u8, view: &str) -> Result<[Asked; 4]> {
+fn joins(alloc: Global, domain: u8, view: &[u8]) -> Result<[Asked; 4], NoMemory> {
     let group = GroupNo(1);
     Ok([
         Asked::Event(Event::Open(DomainNo(domain))),
         asks(domain, Request::Join { tag: 0, group }),
-        comes(alloc, "43440105", domain, "000900010000000100")?,
-        comes(alloc, "4344010a", domain, view)?,
+        comes(alloc, 5, domain, &[0, 9, 0, 1, 0, 0, 0, 1, 0])?,
+        comes(alloc, 10, domain, view)?,
     ])
 }
 
@@ -105,8 +110,9 @@ pub fn serve<L: Ledger>(alloc: Global, kept: &mut Kept<L>, mine: &mut Worked<L>,
     requires { 0 < mine.old.parts }
     ensures { mine.new.parts ≡ mine.old.parts }
 {
-    if let Ok(job) = decode(alloc, Raw { number: 0, asked }) {
-        drop(kept.serve_one(mine, job));
+    match decode(alloc, Raw { number: 0, asked }) {
+        Ok(job) => drop(kept.serve_one(mine, job)),
+        Err(done) => drop(done),
     }
 }
 
@@ -116,7 +122,7 @@ fn join_all<L: Ledger>(
     kept: &mut Kept<L>,
     mine: &mut Worked<L>,
     domains: u8,
-    view: &str,
+    view: &[u8],
 ) -> Result<()>
     requires { 0 < mine.old.parts }
     ensures { mine.new.parts ≡ mine.old.parts }
@@ -137,7 +143,7 @@ pub fn begun<L: Ledger>(
     blank: Blank,
     parts: u64,
     domains: u8,
-    view: &str,
+    view: &[u8],
 ) -> Result<(Kept<L>, Worked<L>)>
     requires some { 0 < parts }
     requires name { blank.name ≡ L.name }

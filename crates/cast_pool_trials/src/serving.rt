@@ -43,11 +43,8 @@ struct Ended<L: Ledger> {
     ghost one_part: { worked.parts ≡ 1 },
 }
 
-// What the domain of an event asks for: casts, and a Take behind each 63 of them.
-fn asked(alloc: Global, domains: u8, number: u32) -> Result<Asked, NoMemory> {
-    let domains = u32::from(domains.max(1));
-    let domain = (number % domains) as u8 + 1;
-    let round = number / domains;
+// What a domain asks for in a round: a cast, and a Take behind each 63 of them.
+fn asked(alloc: Global, domain: u8, round: u32) -> Result<Asked, NoMemory> {
     if round % ROUND == ROUND - 1 {
         Ok(takes(domain))
     } else {
@@ -55,13 +52,16 @@ fn asked(alloc: Global, domains: u8, number: u32) -> Result<Asked, NoMemory> {
     }
 }
 
-// So many events lie in the queue, and no more can come.
+// So many events lie in the queue, as many of each domain, and no more can come.
 fn queue_of<R: Wait>(rt: &R, alloc: Global, domains: u8, events: u32) -> Result<Receiver<Raw>> {
     let (jobs, queue) = crossbeam_channel::unbounded::<Raw, Global>(alloc)?;
-    for number in 0..events {
-        let asked = asked(alloc, domains, number)?;
-        let number = u64::from(number);
-        let _ = jobs.send(rt, Raw { number, asked });
+    let rounds = events.checked_div(u32::from(domains)).unwrap_or(0);
+    for round in 0..rounds {
+        for domain in 1..=domains {
+            let asked = asked(alloc, domain, round)?;
+            let number = u64::from(round);
+            let _ = jobs.send(rt, Raw { number, asked });
+        }
     }
     Ok(queue)
 }
