@@ -78,17 +78,30 @@ static void one_after_the_other(const void *payload, size_t size, size_t turns) 
     free(times);
 }
 
+/* Takes what has come, and waits for the first of it where it is told to. A program that writes without reading would stand still
+ * once neither stream has room. */
+static void take(int milliseconds, size_t *sent, size_t *delivered) {
+    enum castd_result result = castd_read(&session, &pushed, milliseconds);
+    while (result == CASTD_PUSHED) {
+        if (pushed.type == CASTD_CLOSED) fail("the session was closed");
+        if (is_own()) ++*delivered;
+        if (is_refused()) --*sent;
+        result = castd_read(&session, &pushed, 0);
+    }
+    if (result != CASTD_NONE) fail("the stream has ended");
+}
+
 static void in_flight(const void *payload, size_t size, size_t casts) {
     size_t sent = 0, delivered = 0;
     double begun = now();
     while (delivered < casts) {
-        while (sent < casts && sent - delivered < IN_FLIGHT) {
+        if (sent < casts && sent - delivered < IN_FLIGHT) {
             cast(payload, size);
             sent++;
+            take(0, &sent, &delivered);
+        } else {
+            take(-1, &sent, &delivered);
         }
-        read_on();
-        if (is_own()) delivered++;
-        if (is_refused()) sent--;
     }
     printf("%.0f\n", casts * 1e6 / (now() - begun));
 }
