@@ -26,7 +26,7 @@ pub fn setup_of(alloc: Global, test: u16) -> io::Result<Setup> {
     let path = path_of(alloc, test)?;
     let port = 7390 + test % 100;
     let text = format!(in alloc;
-        "[[site]]\nnumber = 1\naddress = \"127.0.0.1:{port}\"\n[[domain]]\nnumber = 1\nhome = 1\nsites = [1]\ngroups = [1]\nsocket = \"{path}\"\noutbox = 64\nheld = 256\n"
+        "[[site]]\nnumber = 1\naddress = \"127.0.0.1:{port}\"\n[[domain]]\nnumber = 1\nhome = 1\nsites = [1]\ngroups = [1]\nsocket = \"{path}\"\n"
     )?;
     match read(alloc, text.as_str(), SiteNo(1)) {
         Ok(setup) => Ok(setup),
