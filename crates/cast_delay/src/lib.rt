@@ -26,7 +26,8 @@
 //!
 //! The definitions are in `specs/`: `Ready` has the rule over delivered ids as a test and `Rule` in words, `Tallies`,
 //! `Rows` and `Queue` what the queue keeps and does, exactly, `Fits` when it tells of given processes, groups and messages,
-//! `Says` what its answers say of these, and `Laws` that it goes on so.
+//! `Says` what its answers say of these, and `Laws` that it goes on so. No contract speaks of `Settled` and `Offers`, which have
+//! what the queue knows of its messages so that it need not look at all.
 #![tactic(auto)]
 
 mod gate;

@@ -8,7 +8,8 @@
 //! left, the message comes back and nothing is changed.
 //!
 //! The definitions are in `specs/Store.antt`: what a domain keeps, the number of its next key, and what it is for keys
-//! to rise. Which message a list has under a key is in `cast_message/specs/Receipts.antt`.
+//! to rise; and in `specs/Keys.antt`: what a search by halving needs of that. Which message a list has under a key is in
+//! `cast_message/specs/Receipts.antt`.
 #![tactic(auto)]
 
 mod row;
