@@ -1,0 +1,154 @@
+ghost use Rattle.std.specs.Prelude.{◌≡◌, ◌≤◌, ◌<◌, ◌==◌, ◌&&◌, true, false, cond, IfOk, IfSome, IfNone, OnOk, OnErr};
+ghost use Rattle.std.specs.Option.{option_copied};
+ghost use Rattle.std.specs.List.{find};
+ghost use Rattle.std.specs.List.Sorted.{IsStrictlySortedBy};
+ghost use Rattle.cast_types.specs.declared.names.Uid.{Uid};
+ghost use Rattle.cast_types.specs.declared.names.Key.{Key};
+ghost use Rattle.cast_types.specs.Names.{uid_eq};
+ghost use Rattle.cast_index.specs.Index.{entry_cmp, has, is_pair, source_of, is_behind, is_from, left, lowest_past, IsFirstEntry, IsFirstBehind};
+
+use crate::entry::Entry;
+use cast_types::{Key, NoMemory, Proc, Source, Uid};
+use std::alloc::Global;
+use std::collections::BTreeSet;
+use std::marker::Model;
+
+/// Ids with keys. Contracts say `has` of it.
+#[derive(Drop)]
+pub struct Index {
+    entries: BTreeSet<Entry>,
+}
+
+impl Model for Index {
+    ghost use Rattle.std.specs.Prelude.{List};
+    ghost use Rattle.cast_index.specs.declared.entry.Entry.{Entry};
+
+    ghost Value = { List Entry };
+
+    ghost view = { λ i. i.entries.keys };
+}
+
+// Where messages of an id come from.
+fn source_of(id: Uid) -> Source
+    ensures { result ≡ source_of id }
+{
+    Source {
+        group: id.group,
+        view: id.view,
+        process: id.proc,
+    }
+}
+
+impl Index {
+    /// No ids.
+    pub fn new(alloc: Global) -> Self
+        ensures { (u : Uid) (k : Key) → has result u k ≡ false }
+    {
+        Index {
+            entries: BTreeSet::new(alloc),
+        }
+    }
+
+    /// An equal value.
+    pub fn copy(&self) -> Result<Self, NoMemory>
+        ensures { IfOk result (λ index. index ≡ self.now) }
+    {
+        Ok(Index {
+            entries: self.entries.clone()?,
+        })
+    }
+
+    /// Notes that a message is kept under a key. `NoMemory` changes nothing.
+    pub fn insert(&mut self, id: Uid, key: Key) -> Result<(), NoMemory>
+        ensures ok { OnOk result ((u : Uid) (k : Key) → has self.new u k ≡ cond (is_pair id key u k) true (has self.old u k)) }
+        ensures err { OnErr result (self.new ≡ self.old) }
+    {
+        self.entries.insert(Entry { id, number: key.0 })?;
+        Ok(())
+    }
+
+    /// Notes that it is kept there no longer. Takes no memory.
+    pub fn remove(&mut self, id: Uid, key: Key)
+        ensures { (u : Uid) (k : Key) → has self.new u k ≡ cond (is_pair id key u k) false (has self.old u k) }
+    {
+        self.entries.remove(&Entry { id, number: key.0 });
+    }
+
+    /// The least key under an id. Takes no memory.
+    pub fn key_of(&self, id: Uid) -> Option<Key>
+        ensures some { IfSome result (λ key. (has self.now id key ≡ true) × ((k : Key) → has self.now id k ≡ true → key.0 ≤ k.0)) }
+        ensures none { IfNone result ((k : Key) → has self.now id k ≡ false) }
+    {
+        let entry = first_from(&self.entries, Entry { id, number: 0 })?;
+        if entry.id != id {
+            return None;
+        }
+        Some(Key(entry.number))
+    }
+
+    /// The least id of a source that stands behind another one, the least of all where there is no other. Takes no memory.
+    pub fn first_behind(&self, after: Option<Source>) -> Option<Uid>
+        ensures some { IfSome result (IsFirstBehind self.now after) }
+        ensures none { IfNone result ((u : Uid) (k : Key) → has self.now u k ≡ true → is_behind after u ≡ false) }
+        ensures fewer { IfSome result (λ id. left self.now (Some (source_of id)) < left self.now after) }
+    {
+        let entry = entry_behind(&self.entries, after)?;
+        Some(entry.id)
+    }
+}
+
+// The first entry of a source that stands behind another one, the first of all where there is no other.
+fn entry_behind(entries: &BTreeSet<Entry>, after: Option<Source>) -> Option<&Entry>
+    ensures some { IfSome result (λ e. IsFirstEntry entries.now.keys (λ x. is_behind after x.id) e.now) }
+    ensures none { IfNone result ((u : Uid) (k : Key) → has entries.now.keys u k ≡ true → is_behind after u ≡ false) }
+{
+    match after {
+        Some(source) => first_past(entries, source),
+        None => entries.first(),
+    }
+}
+
+// The first entry at or above another one.
+fn first_from(entries: &BTreeSet<Entry>, lowest: Entry) -> Option<&Entry>
+    ensures some { IfSome result (λ e. IsFirstEntry entries.now.keys (is_from lowest) e.now) }
+    ensures none { IfNone result ((u : Uid) (k : Key) → has entries.now.keys u k ≡ true → is_from lowest (record { id = u; number = k.0 }) ≡ false) }
+{
+    let entry = entries.range(lowest..).next()?;
+    Some(entry)
+}
+
+// The first entry of a source that stands behind another one.
+fn first_past(entries: &BTreeSet<Entry>, source: Source) -> Option<&Entry>
+    ensures some { IfSome result (λ e. IsFirstEntry entries.now.keys (λ x. is_behind (Some source) x.id) e.now) }
+    ensures none { IfNone result ((u : Uid) (k : Key) → has entries.now.keys u k ≡ true → is_behind (Some source) u ≡ false) }
+{
+    match lowest_past(source) {
+        Some(lowest) => first_from(entries, lowest),
+        None => found_past(entries, source),
+    }
+}
+
+// So by looking at each, which is for a source of the greatest serial.
+fn found_past(entries: &BTreeSet<Entry>, source: Source) -> Option<&Entry>
+    ensures value { option_copied result ≡ find (λ e. is_behind (Some source) e.id) entries.now.keys }
+    ensures rising { IsStrictlySortedBy entry_cmp entries.now.keys }
+{
+    entries.iter().find(|entry| source < source_of(entry.id))
+}
+
+// The lowest entry that could be of a source behind another one, `None` where that has the greatest serial.
+fn lowest_past(source: Source) -> Option<Entry>
+    ensures { IfSome result (λ e. e ≡ lowest_past source) }
+{
+    let Proc { site, serial } = source.process;
+    let serial = serial.checked_add(1)?;
+    Some(Entry {
+        id: Uid {
+            group: source.group,
+            view: source.view,
+            proc: Proc { site, serial },
+            count: 0,
+        },
+        number: 0,
+    })
+}
