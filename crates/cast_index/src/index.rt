@@ -28,8 +28,8 @@ impl Model for Index {
     ghost view = { λ i. i.entries.keys };
 }
 
-// Where messages of an id come from.
-fn source_of(id: Uid) -> Source
+/// Where messages of an id come from.
+pub fn source_of(id: Uid) -> Source
     ensures { result ≡ source_of id }
 {
     Source {
