@@ -1,2 +1,3 @@
 pub mod Store
 pub mod Keys
+pub mod Ids

@@ -1,12 +1,18 @@
-ghost use Rattle.std.specs.Prelude.{◌≡◌, ◌<◌, [], IfOk, IfErr, IfNone, IfSome, OnOk, OnErr, IsTrue, true, length};
+ghost use Rattle.std.specs.Prelude.{◌≡◌, ◌<◌, ◌++◌, ◌∷◌, [], cond, false, get_or, vec_len, IfOk, IfErr, IfNone, IfSome, OnOk, OnErr, IsTrue, true, length};
 ghost use Rattle.std.specs.Option.{option_copied};
-ghost use Rattle.std.specs.List.{position};
+ghost use Rattle.std.specs.List.{position, remove};
+ghost use Rattle.cast_types.specs.declared.names.Key.{Key};
+ghost use Rattle.cast_types.specs.declared.names.Uid.{Uid};
+ghost use Rattle.cast_message.specs.declared.message.Received.{Received};
+ghost use Rattle.cast_index.specs.Index.{has};
 ghost use Rattle.cast_message.specs.Receipts.{key_eq, message_under};
+ghost use Rattle.cast_store.specs.Ids.{IsKeptOf, IsLedBy, is_named, message_of};
 ghost use Rattle.cast_store.specs.Store.{with_message, without_key, is_rising};
 ghost use Rattle.cast_store.specs.Keys.{keys_rise};
 
+use cast_index::{Index, source_of};
 use cast_message::{Message, Received};
-use cast_types::{DomainNo, Key, NoMemory};
+use cast_types::{DomainNo, Key, NoMemory, Uid};
 use std::alloc::Global;
 use std::marker::Model;
 
@@ -17,17 +23,19 @@ pub(crate) struct Row {
     /// The number of the next key, above each that was given out.
     next: usize,
     kept: Vec<Received>,
+    /// The ids of the messages, with their keys.
+    ids: Index,
 }
 
 impl Model for Row {
-    ghost use Rattle.std.specs.Prelude.{IsTrue};
-    ghost use Rattle.cast_store.specs.Store.{Shelf, is_rising};
+    ghost use Rattle.cast_store.specs.Store.{Shelf};
+    ghost use Rattle.cast_store.specs.Ids.{IsInOrder};
 
     ghost Value = { Shelf };
 
     ghost view = { λ r. record { domain = r.domain; next = r.next; kept = r.kept.items } };
 
-    ghost invariant = { λ r. IsTrue (is_rising r.next r.kept.items) };
+    ghost invariant = { λ r. IsInOrder r.next r.kept.items r.ids };
 }
 
 impl Row {
@@ -39,6 +47,7 @@ impl Row {
             domain,
             next: 0,
             kept: Vec::new(alloc),
+            ids: Index::new(alloc),
         }
     }
 
@@ -50,6 +59,7 @@ impl Row {
             domain: self.domain,
             next: self.next,
             kept: copy_received(*self.kept.allocator(), &self.kept)?,
+            ids: self.ids.copy()?,
         })
     }
 
@@ -80,13 +90,9 @@ impl Row {
             return Err(message);
         };
         let key = Key(self.next);
-        match self.kept.push(Received { key, message }) {
-            Ok(()) => {
-                self.next = next;
-                Ok(key)
-            }
-            Err(refused) => Err(refused.value.message),
-        }
+        keep(&mut self.kept, &mut self.ids, Received { key, message })?;
+        self.next = next;
+        Ok(key)
     }
 
     /// The message under a key.
@@ -104,8 +110,31 @@ impl Row {
         ensures none { IfNone result (self.new ≡ self.old) }
     {
         let place = place_under(&self.kept, key)?;
-        let removed = self.kept.remove(place);
-        Some(removed.message)
+        Some(take_out(&mut self.kept, &mut self.ids, place))
+    }
+
+    /// The first message of an id.
+    pub(crate) fn find(&self, id: Uid) -> Option<&Message>
+        ensures { option_copied result ≡ message_of self.now.kept id }
+    {
+        let key = self.ids.key_of(id)?;
+        self.get(key)
+    }
+
+    /// The key of a message that passes, among those that no message of their source stands before.
+    pub(crate) fn first_passing<F: Fn(Uid) -> bool>(&self, passes: F) -> Option<Key>
+        requires { F.IsAlwaysCallable passes }
+        ensures some { IfSome result (IsKeptOf (λ id. F.post passes id true) self.now.kept) }
+        ensures none { IfNone result (IsLedBy (λ id. F.post passes id false) self.now.kept) }
+    {
+        let mut after = None;
+        while let Some(id) = self.ids.first_behind(after) {
+            if passes(id) {
+                return self.ids.key_of(id);
+            }
+            after = Some(source_of(id));
+        }
+        None
     }
 
     /// The messages in order of receipt.
@@ -115,6 +144,38 @@ impl Row {
     {
         &self.kept
     }
+}
+
+// Keeps a message with its id. It comes back where there is no memory, and its id with its key is not in the index then.
+fn keep(kept: &mut Vec<Received>, ids: &mut Index, received: Received) -> Result<(), Message>
+    ensures kept { OnOk result (kept.new.items ≡ kept.old.items ++ received ∷ []) }
+    ensures named { OnOk result ((u : Uid) (k : Key) → has ids.new u k ≡ cond (is_named u k received) true (has ids.old u k)) }
+    ensures back { IfErr result (λ back. back ≡ received.message) }
+    ensures same { OnErr result (kept.new.items ≡ kept.old.items) }
+    ensures unnamed { OnErr result (has ids.old received.message.id received.key ≡ false → (u : Uid) (k : Key) → has ids.new u k ≡ has ids.old u k) }
+{
+    let id = received.message.id;
+    let key = received.key;
+    if ids.insert(id, key).is_err() {
+        return Err(received.message);
+    }
+    if let Err(refused) = kept.push(received) {
+        ids.remove(id, key);
+        return Err(refused.value.message);
+    }
+    Ok(())
+}
+
+// Takes out the message at a place, and its id.
+fn take_out(kept: &mut Vec<Received>, ids: &mut Index, place: usize) -> Message
+    requires { place < vec_len kept.old }
+    ensures value { (r : Received) → result ≡ (get_or kept.old.items place r).message }
+    ensures left { kept.new.items ≡ remove kept.old.items place }
+    ensures unnamed { (r : Received) (u : Uid) (k : Key) → has ids.new u k ≡ cond (is_named u k (get_or kept.old.items place r)) false (has ids.old u k) }
+{
+    let Received { key, message } = kept.remove(place);
+    ids.remove(message.id, key);
+    message
 }
 
 // Where the message under a key stands.

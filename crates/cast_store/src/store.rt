@@ -1,14 +1,15 @@
-ghost use Rattle.std.specs.Prelude.{◌≡◌, ◌≢◌, ◌+◌, ◌<◌, ◌∷◌, ◌++◌, [], IfOk, IfErr, IfNone, IfSome, OnOk, OnErr, IsTrue, not, filter, get_or, length, vec_len};
+ghost use Rattle.std.specs.Prelude.{◌≡◌, ◌≢◌, ◌+◌, ◌<◌, ◌∷◌, ◌++◌, [], IfOk, IfErr, IfNone, IfSome, OnOk, OnErr, IsTrue, true, false, not, filter, get_or, length, vec_len};
 ghost use Rattle.std.specs.Option.{option_copied};
 ghost use Rattle.std.specs.List.{position};
 ghost use Rattle.cast_types.specs.declared.names.DomainNo.{DomainNo};
 ghost use Rattle.cast_types.specs.Places.{update};
 ghost use Rattle.cast_message.specs.Receipts.{key_eq, message_under};
+ghost use Rattle.cast_store.specs.Ids.{IsKeptOf, IsLedBy, message_of};
 ghost use Rattle.cast_store.specs.Store.{Shelf, is_of, shelf_of, kept_in, next_in, with_message, without_key, is_rising};
 
 use crate::row::Row;
 use cast_message::{Message, Received};
-use cast_types::{DomainNo, Key, NoMemory};
+use cast_types::{DomainNo, Key, NoMemory, Uid};
 use std::alloc::Global;
 use std::marker::Model;
 
@@ -71,6 +72,29 @@ impl Store {
     {
         match row_among(&self.rows, domain) {
             Some(row) => row.get(key),
+            None => None,
+        }
+    }
+
+    /// The first message of an id that a domain keeps, `None` where it keeps none. Takes no memory.
+    pub fn find(&self, domain: DomainNo, id: Uid) -> Option<&Message>
+        ensures { option_copied result ≡ message_of (kept_in self.now domain) id }
+    {
+        match row_among(&self.rows, domain) {
+            Some(row) => row.find(id),
+            None => None,
+        }
+    }
+
+    /// The key of a message that a domain keeps and whose id passes, among those that no message of their source with a
+    /// lower count stands before; `None` where none of these passes. Takes no memory.
+    pub fn first_passing<F: Fn(Uid) -> bool>(&self, domain: DomainNo, passes: F) -> Option<Key>
+        requires { F.IsAlwaysCallable passes }
+        ensures some { IfSome result (IsKeptOf (λ id. F.post passes id true) (kept_in self.now domain)) }
+        ensures none { IfNone result (IsLedBy (λ id. F.post passes id false) (kept_in self.now domain)) }
+    {
+        match row_among(&self.rows, domain) {
+            Some(row) => row.first_passing(passes),
             None => None,
         }
     }

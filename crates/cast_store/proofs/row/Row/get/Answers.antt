@@ -7,7 +7,7 @@ use Rattle.cast_store.proofs.Searches.{rising_rise}
 use Rattle.cast_store.proofs.row.Row.get.Goals as goal
 
 pub place_under-requires : goal.place_under-requires
-place_under-requires c = rw c.deref.ensures.value (rising_rise c.self.inside.next c.self.inside.kept.items c.self.invariant)
+place_under-requires c = rw c.deref.ensures.value (rising_rise c.self.inside.next c.self.inside.kept.items c.self.invariant.rising)
 
 pub returns-in_err-place : goal.returns-in_err-place
 returns-in_err-place c =
