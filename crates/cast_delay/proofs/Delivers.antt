@@ -1,5 +1,5 @@
 -- What is told of a process, and what it delivers, its row takes in.
-use Rattle.std.proofs.Common.{◌≡◌, ◌↔◌, ◌⊎◌, ℕ, ◌-◌, ◌<◌, ◌≤◌, true, false, cond, ◌&&◌, ◌||◌, List, [], ◌∷◌, Option, Some, unwrap_or, refl, sym, ap, subst, ◌∙◌, inl, inr, arith}
+use Rattle.std.proofs.Common.{◌≡◌, ◌↔◌, ◌⊎◌, ℕ, ◌+◌, ◌-◌, ◌<◌, ◌≤◌, true, false, cond, ◌&&◌, ◌||◌, List, [], ◌∷◌, Option, Some, unwrap_or, refl, sym, ap, subst, ◌∙◌, inl, inr, arith}
 use Rattle.std.specs.Prelude.{nat_lt, nat_le, ◌==◌, if◌then◌else◌}
 use Rattle.std.specs.Ordering.{eq_by_cmp}
 use Rattle.std.specs.FinMap.Entries.{find, find-put}
@@ -12,7 +12,7 @@ use Rattle.cast_types.specs.Names.{group_cmp, group_eq, uid_eq, entry_of}
 use Rattle.cast_types.specs.Stamps.{ClockList}
 use Rattle.cast_types.proofs.Orders.{group_total, group_exact, proc_exact, same_uid, uid_itself, tie_self, tie_same}
 use Rattle.cast_types.proofs.CountLists.{sorted-put}
-use Rattle.cast_clock.specs.Times.{clock_of, view_of, join, has_room}
+use Rattle.cast_clock.specs.Times.{clock_of, view_of, count_in, join, has_room}
 use Rattle.cast_clock.proofs.Entries.{found_or}
 use Rattle.cast_message.specs.declared.message.Message.{Message}
 use Rattle.cast_types.specs.declared.source.Source.{Source}
@@ -74,35 +74,45 @@ ready_parts gates row id times ready =
       room = d.1;
     }
 
+-- a message that names itself in its time, ready by a row
+module _ (gates : List (GroupNo × Gate)) (row : Row) (id : Uid) (times : ClockList) (view : view_of times id.group ≡ id.view) (count : count_in times id.group id.proc ≡ id.count) (ready : RowReady gates row id times) where
+  own_past : has_past row id id.group (view_of times id.group) (clock_of times id.group).counts ≡ true
+  own_past =
+      let v = view_of times id.group in
+      let n = (gate_in gates id.group).number in
+      let past = has_past row id id.group v (clock_of times id.group).counts in
+      let here : row_allows row n id times id.group Member ≡ true =
+      subst (λ s. row_allows row n id times id.group s ≡ true) ready.member (found_or group_exact (λ h s. row_allows row (gate_in gates h).number id times h s) Outside (λ q. refl) row.standings ready.allowed id.group) in
+      elim (or_cases (nat_lt v n) ((v == n) && past) here) [
+        | inl lower ↦ absurd (omega (arith, ltb-true v n lower, view, ready.current))
+        | inr rest ↦ (and_parts (v == n) past rest).1
+      ]
+
+  -- all before the message's own count was delivered
+  pub all_before : id.count - 1 ≤ done_in row id.group id.view id.proc
+  all_before =
+      let g = id.group in
+      let v = view_of times g in
+      let counts = (clock_of times g).counts in
+      let found = found_or proc_exact (λ q n. nat_le (needed id g v (q, n)) (done_in row g v q)) 0
+      (λ q. le-leb (needed id g v (q, 0)) (done_in row g v q) (omega (arith, within_entry id g v (q, 0)))) counts own_past id.proc in
+      let own : nat_le (needed id g id.view (id.proc, id.count)) (done_in row g id.view id.proc) ≡ true =
+      subst (λ w. nat_le (needed id g w (id.proc, id.count)) (done_in row g w id.proc) ≡ true) view
+      (subst (λ n. nat_le (needed id g v (id.proc, n)) (done_in row g v id.proc) ≡ true) count found) in
+      omega (arith, leb-true (needed id g id.view (id.proc, id.count)) (done_in row g id.view id.proc) own, needed_own id g id.view (id.proc, id.count) (uid_itself id))
+
+  -- so it is the next one of its source
+  pub next_count : id.count ≡ done_in row id.group id.view id.proc + 1
+  next_count = omega (arith, all_before, ready.fresh)
+
 module _ (gate : GroupNo → Gate) (p : Process) (row : Row) (fits : RowFits gate p row) (m : Message) (sound : IsSound m) (gates : List (GroupNo × Gate)) (ready : RowReady gates row m.id m.times) where
   -- what was delivered of the message's sender
   abbrev before : ℕ
   before = done_in row m.id.group m.id.view m.id.proc
 
-  own_past : has_past row m.id m.id.group (view_of m.times m.id.group) (clock_of m.times m.id.group).counts ≡ true
-  own_past =
-      let v = view_of m.times m.id.group in
-      let n = (gate_in gates m.id.group).number in
-      let past = has_past row m.id m.id.group v (clock_of m.times m.id.group).counts in
-      let here : row_allows row n m.id m.times m.id.group Member ≡ true =
-      subst (λ s. row_allows row n m.id m.times m.id.group s ≡ true) ready.member (found_or group_exact (λ h s. row_allows row (gate_in gates h).number m.id m.times h s) Outside (λ q. refl) row.standings ready.allowed m.id.group) in
-      elim (or_cases (nat_lt v n) ((v == n) && past) here) [
-        | inl lower ↦ absurd (omega (arith, ltb-true v n lower, sound.view, ready.current))
-        | inr rest ↦ (and_parts (v == n) past rest).1
-      ]
-
   -- all before the message's own count
   enough : m.id.count - 1 ≤ before
-  enough =
-      let g = m.id.group in
-      let v = view_of m.times g in
-      let counts = (clock_of m.times g).counts in
-      let found = found_or proc_exact (λ q n. nat_le (needed m.id g v (q, n)) (done_in row g v q)) 0
-      (λ q. le-leb (needed m.id g v (q, 0)) (done_in row g v q) (omega (arith, within_entry m.id g v (q, 0)))) counts own_past m.id.proc in
-      let own : nat_le (needed m.id g m.id.view (m.id.proc, m.id.count)) before ≡ true =
-      subst (λ w. nat_le (needed m.id g w (m.id.proc, m.id.count)) (done_in row g w m.id.proc) ≡ true) sound.view
-      (subst (λ n. nat_le (needed m.id g v (m.id.proc, n)) (done_in row g v m.id.proc) ≡ true) sound.count found) in
-      omega (arith, leb-true (needed m.id g m.id.view (m.id.proc, m.id.count)) before own, needed_own m.id g m.id.view (m.id.proc, m.id.count) (uid_itself m.id))
+  enough = all_before gates row m.id m.times sound.view sound.count ready
 
   abbrev after : Row
   after = delivered_row m.id m.times row

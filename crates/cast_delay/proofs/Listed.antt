@@ -1,5 +1,5 @@
 -- Tests of lists: one test for each item, and another that says the same.
-use Rattle.std.proofs.Common.{◌≡◌, ℕ, zero, suc, ◌+◌, ◌<◌, ◌≤◌, Bool, true, false, cond, not, ◌&&◌, ◌||◌, List, [], ◌∷◌, ◌++◌, map, refl, sym, ap, subst, ◌∙◌, inl, inr, arith}
+use Rattle.std.proofs.Common.{◌≡◌, ◌⊎◌, ℕ, zero, suc, ◌+◌, ◌<◌, ◌≤◌, Bool, true, false, cond, not, ◌&&◌, ◌||◌, List, [], ◌∷◌, ◌++◌, map, Contains, refl, sym, ap, subst, ◌∙◌, inl, inr, arith}
 use Rattle.std.specs.List.{list_all, list_any, filter, flat_map, range_with_len}
 use Rattle.std.proofs.lemmas.Bool.{and_parts, and_from, cases_eq}
 
@@ -55,3 +55,18 @@ holds_range t zero a h = refl
 holds_range t (suc n) a h =
     and_from (t a) (list_all t (range_with_len (a + 1) n)) (h a (omega arith) (omega arith))
     (holds_range t n (a + 1) (λ k low high. h k (omega arith) (omega arith)))
+
+-- an item of a longer list is its first or one of the rest
+pub contains_cases : {A : Type 0} (x y : A) (xs : List A) → Contains (x ∷ xs) y → (x ≡ y) ⊎ Contains xs y
+contains_cases x y xs (zero, lt, at) = inl at
+contains_cases x y xs (suc k, lt, at) = inr (k, omega (arith, lt), at)
+
+-- a test of all items is one of each
+pub all_each : {A : Type 0} (t : A → Bool) (xs : List A) → list_all t xs ≡ true → (x : A) → Contains xs x → t x ≡ true
+all_each t [] all x has = absurd (omega (arith, has.1))
+all_each t (y ∷ xs) all x has =
+    let parts = and_parts (t y) (list_all t xs) all in
+    elim (contains_cases y x xs has) [
+      | inl here ↦ subst (λ z. t z ≡ true) here parts.0
+      | inr later ↦ all_each t xs parts.1 x later
+    ]

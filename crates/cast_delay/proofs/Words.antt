@@ -1,5 +1,5 @@
 -- The test of readiness says what the rule says in words.
-use Rattle.std.proofs.Common.{◌≡◌, ◌⊎◌, ℕ, zero, suc, Bool, true, not, ◌&&◌, ◌||◌, List, [], ◌∷◌, Contains, Option, Some, None, unwrap_or, refl, sym, ap, subst, ◌∙◌, inl, inr, arith}
+use Rattle.std.proofs.Common.{◌≡◌, ℕ, Bool, true, not, ◌&&◌, ◌||◌, List, [], ◌∷◌, Contains, Option, Some, None, unwrap_or, refl, sym, ap, subst, ◌∙◌, inl, inr, arith}
 use Rattle.std.specs.Prelude.{nat_lt, ◌==◌, IsTrue}
 use Rattle.std.specs.List.{list_all, range_with_len}
 use Rattle.std.specs.FinMap.Entries.{is_sorted}
@@ -24,16 +24,11 @@ use Rattle.cast_delay.specs.declared.turn.Turn.TheVariants.{Holding, Following}
 use Rattle.cast_delay.specs.declared.gate.Gate.{Gate}
 use Rattle.cast_delay.specs.Ready.{Process, is_cut_by, is_open_to, is_member, has_delivered, past_in, group_allows, has_turn, is_causally_ready, is_ready}
 use Rattle.cast_delay.specs.Rule.{HappenedBefore, Allows, IsCutBy, IsOpenTo, MayBeDelivered, IsTurnOf, MayBeDeliveredInTurn, RuleInWords, TurnInWords}
-use Rattle.cast_delay.proofs.Listed.{range_holds, holds_range}
+use Rattle.cast_delay.proofs.Listed.{contains_cases, all_each, range_holds, holds_range}
 use Rattle.cast_delay.proofs.Counted.{past_spelled}
 use Rattle.cast_delay.proofs.Delivers.{only_member}
 use Rattle.cast_types.proofs.Contains.{contains_here, contains_later}
 use Rattle.cast_delay.proofs.Turns.{in_turn, ready_causally, ready_has_turn}
-
--- an item of a longer list is its first or one of the rest
-contains_cases : {A : Type 0} (x y : A) (xs : List A) → Contains (x ∷ xs) y → (x ≡ y) ⊎ Contains xs y
-contains_cases x y xs (zero, lt, at) = inl at
-contains_cases x y xs (suc k, lt, at) = inr (k, omega (arith, lt), at)
 
 -- what was delivered is in the list
 delivered_in : (p : List Uid) (u : Uid) → is_among uid_eq u p ≡ true → Contains p u
@@ -50,16 +45,7 @@ in_delivered (x ∷ p) u has = elim (contains_cases x u p has) [
   | inr later ↦ or_right (uid_eq u x) (is_among uid_eq u p) (in_delivered p u later)
 ]
 
--- a test of all items is one of each
-all_each : {A : Type 0} (t : A → Bool) (xs : List A) → list_all t xs ≡ true → (x : A) → Contains xs x → t x ≡ true
-all_each t [] all x has = absurd (omega (arith, has.1))
-all_each t (y ∷ xs) all x has =
-    let parts = and_parts (t y) (list_all t xs) all in
-    elim (contains_cases y x xs has) [
-      | inl here ↦ subst (λ z. t z ≡ true) here parts.0
-      | inr later ↦ all_each t xs parts.1 x later
-    ]
-
+-- one of each item is a test of all
 each_all : {A : Type 0} (t : A → Bool) (xs : List A) → ((x : A) → Contains xs x → t x ≡ true) → list_all t xs ≡ true
 each_all t [] each = refl
 each_all t (y ∷ xs) each =
