@@ -10,5 +10,8 @@ pub mod Queues
 pub mod Words
 pub mod Least
 pub mod Settled
+pub mod Members
 pub mod Rises
+pub mod Sourced
+pub mod Indexed
 pub mod Halving

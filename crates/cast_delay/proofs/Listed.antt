@@ -1,6 +1,6 @@
 -- Tests of lists: one test for each item, and another that says the same.
-use Rattle.std.proofs.Common.{◌≡◌, ◌⊎◌, ℕ, zero, suc, ◌+◌, ◌<◌, ◌≤◌, Bool, true, false, cond, not, ◌&&◌, ◌||◌, List, [], ◌∷◌, ◌++◌, map, Contains, refl, sym, ap, subst, ◌∙◌, inl, inr, arith}
-use Rattle.std.specs.List.{list_all, list_any, filter, flat_map, range_with_len}
+use Rattle.std.proofs.Common.{◌≡◌, ◌⊎◌, ℕ, zero, suc, ◌+◌, ◌<◌, ◌≤◌, Bool, true, false, cond, not, ◌&&◌, ◌||◌, List, [], ◌∷◌, ◌++◌, map, take, drop, Contains, Option, Some, refl, sym, ap, subst, ◌∙◌, inl, inr, arith}
+use Rattle.std.specs.List.{list_all, list_any, filter, find, flat_map, range_with_len}
 use Rattle.std.proofs.lemmas.Bool.{and_parts, and_from, cases_eq}
 
 and_assoc : (a b c : Bool) → ((a && b) && c) ≡ (a && (b && c))
@@ -70,3 +70,22 @@ all_each t (y ∷ xs) all x has =
       | inl here ↦ subst (λ z. t z ≡ true) here parts.0
       | inr later ↦ all_each t xs parts.1 x later
     ]
+
+-- what fails on the first n items is looked for behind them
+pub find_past : {A : Type 0} (s t : A → Bool) → ((x : A) → s x ≡ true → t x ≡ false) → (xs : List A) (n : ℕ) → list_all s (take n xs) ≡ true → find t (drop n xs) ≡ find t xs
+find_past s t fails [] zero all = refl
+find_past s t fails [] (suc n) all = refl
+find_past s t fails (x ∷ xs) zero all = refl
+find_past s t fails (x ∷ xs) (suc n) all =
+    let parts = and_parts (s x) (list_all s (take n xs)) all in
+    find_past s t fails xs n parts.1
+    ∙ sym (ap (λ b. cond b (Some x) (find t xs)) (fails x parts.0))
+
+pub any_past : {A : Type 0} (s t : A → Bool) → ((x : A) → s x ≡ true → t x ≡ false) → (xs : List A) (n : ℕ) → list_all s (take n xs) ≡ true → list_any t (drop n xs) ≡ list_any t xs
+any_past s t fails [] zero all = refl
+any_past s t fails [] (suc n) all = refl
+any_past s t fails (x ∷ xs) zero all = refl
+any_past s t fails (x ∷ xs) (suc n) all =
+    let parts = and_parts (s x) (list_all s (take n xs)) all in
+    any_past s t fails xs n parts.1
+    ∙ sym (ap (λ b. b || list_any t xs) (fails x parts.0))

@@ -14,7 +14,7 @@ use Rattle.cast_message.specs.Receipts.{key_eq}
 use Rattle.cast_types.specs.declared.names.Key.{Key}
 use Rattle.cast_delay.specs.declared.offered.Offered.{Offered}
 use Rattle.cast_delay.specs.Queue.{but_offered}
-use Rattle.cast_delay.specs.Offers.{rises, all_below, key_of, HasKeysBelow}
+use Rattle.cast_delay.specs.Offers.{rises, all_below}
 
 module _ {X : Type 0} (n : X → ℕ) where
   parts_of : (x : X) (xs : List X) → rises n (x ∷ xs) ≡ true → (list_all (λ y. nat_lt (n x) (n y)) xs ≡ true) × (rises n xs ≡ true)
@@ -33,7 +33,7 @@ module _ {X : Type 0} (n : X → ℕ) where
   at_two (x ∷ xs) (suc i) (suc j) d up lt within = at_two xs i j d (parts_of x xs up).1 (omega arith) (omega arith)
 
   -- one more at the end
-  all_push : (t : X → Bool) (xs : List X) (x : X) → list_all t xs ≡ true → t x ≡ true → list_all t (xs ++ x ∷ []) ≡ true
+  pub all_push : (t : X → Bool) (xs : List X) (x : X) → list_all t xs ≡ true → t x ≡ true → list_all t (xs ++ x ∷ []) ≡ true
   all_push t [] x all last = and_from (t x) true last refl
   all_push t (y ∷ ys) x all last =
       let parts = and_parts (t y) (list_all t ys) all in
@@ -238,16 +238,3 @@ module _ {X : Type 0} (n : X → ℕ) where
 
     pub not_found : (xs : List X) → position is_k xs ≡ None → find is_k xs ≡ None
     not_found xs none = find_at is_k xs ∙ slice_get_past xs (position_or_len is_k xs) (past (position_or_len is_k xs) (length xs) none)
-
--- what is known of keys, with one message more and with some less
-pub known_push : (above next : Option ℕ) (offered : List Offered) (o : Offered) → HasKeysBelow above offered → IfSome next (λ top. (n : ℕ) × (above ≡ Some n) × (n ≤ o.key.0) × (o.key.0 < top)) → HasKeysBelow next (offered ++ o ∷ [])
-known_push above None offered o known fits = tt
-known_push above (Some top) offered o known (low, is, le, lt) =
-    let was : HasKeysBelow (Some low) offered = subst (λ a. HasKeysBelow a offered) is known in
-    (rises_push key_of low offered o le was.0 was.1, below_push key_of low top offered o le lt was.1)
-
-pub known_left : (above : Option ℕ) (key : Key) (offered : List Offered) → HasKeysBelow above offered → HasKeysBelow above (but_offered key offered)
-known_left None key offered known = tt
-known_left (Some top) key offered known =
-    let keep : Offered → Bool = λ o. not (key_eq o.key key) in
-    (rises_kept key_of keep offered known.0, all_kept key_of (λ o. nat_lt (key_of o) top) keep offered known.1)

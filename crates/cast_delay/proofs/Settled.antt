@@ -5,7 +5,7 @@ use Rattle.std.specs.List as list
 use Rattle.std.specs.Option.{option_map, option_map_or, option_and_then}
 use Rattle.std.specs.Ordering.{eq_by_cmp}
 use Rattle.std.specs.FinMap.Entries.{find, put, find-put}
-use Rattle.std.proofs.lemmas.Bool.{cases_Bool, false≢true, not-true, and_parts, and_from, or_cases, or_left, or_right, or_parts, eq-eqb, lt-ltb, leb-true, ltb-false, le-ltb}
+use Rattle.std.proofs.lemmas.Bool.{cases_Bool, false≢true, not-true, not_from_false, and_parts, and_from, or_cases, or_left, or_right, or_parts, eq-eqb, lt-ltb, leb-true, ltb-false, le-ltb}
 use Rattle.std.proofs.lemmas.List.Folds.{list_all_more}
 use Rattle.cast_types.specs.declared.names.GroupNo.{GroupNo}
 use Rattle.cast_types.specs.declared.names.Proc.{Proc}
@@ -28,30 +28,12 @@ use Rattle.cast_delay.specs.declared.turn.Turn.{Turn}
 use Rattle.cast_delay.specs.Ready.{is_member, has_turn, turn_in, open_gate}
 use Rattle.cast_delay.specs.Rows.{gate_in, standing_in, done_in, is_causally_ready_row, is_ready_row, awaits_row, delivered_row, told_row}
 use Rattle.cast_delay.specs.Queue.{Queue, next_key, may_deliver_in, row_of, but_row, change_row, first_for, has_candidate, is_awaited, offered_under, after_delivery, but_offered}
+use Rattle.cast_delay.specs.Offers.{none_ready}
 use Rattle.cast_delay.specs.Settled.{is_settled, AreSettled, despite_fact, is_next_of, despite_delivery}
 use Rattle.cast_delay.proofs.Finds.{found_any, put_at_group}
 use Rattle.cast_delay.proofs.Delivers.{ready_parts}
 
 -- Lists
-
--- what fails on the first n items is looked for behind them
-find_past : {A : Type 0} (s t : A → Bool) → ((x : A) → s x ≡ true → t x ≡ false) → (xs : List A) (n : ℕ) → list.list_all s (take n xs) ≡ true → list.find t (drop n xs) ≡ list.find t xs
-find_past s t fails [] zero all = refl
-find_past s t fails [] (suc n) all = refl
-find_past s t fails (x ∷ xs) zero all = refl
-find_past s t fails (x ∷ xs) (suc n) all =
-    let parts = and_parts (s x) (list.list_all s (take n xs)) all in
-    find_past s t fails xs n parts.1
-    ∙ sym (ap (λ b. cond b (Some x) (list.find t xs)) (fails x parts.0))
-
-any_past : {A : Type 0} (s t : A → Bool) → ((x : A) → s x ≡ true → t x ≡ false) → (xs : List A) (n : ℕ) → list.list_all s (take n xs) ≡ true → list.list_any t (drop n xs) ≡ list.list_any t xs
-any_past s t fails [] zero all = refl
-any_past s t fails [] (suc n) all = refl
-any_past s t fails (x ∷ xs) zero all = refl
-any_past s t fails (x ∷ xs) (suc n) all =
-    let parts = and_parts (s x) (list.list_all s (take n xs)) all in
-    any_past s t fails xs n parts.1
-    ∙ sym (ap (λ b. b || list.list_any t xs) (fails x parts.0))
 
 all_weaker : {A : Type 0} (s t : A → Bool) → ((x : A) → s x ≡ true → t x ≡ true) → (xs : List A) → list.list_all s xs ≡ true → list.list_all t xs ≡ true
 all_weaker s t weaker [] all = refl
@@ -99,24 +81,17 @@ module _ (gates : List (GroupNo × Gate)) (rows : List Row) (p : Proc) (row : Ro
         ]
   ]
 
-  module _ (offered : List Offered) (n : ℕ) (settled : AreSettled gates rows offered n) where
-    -- so the first message that is ready stands behind what is settled
-    pub first_past : (turns : List (GroupNo × Turn)) → first_for turns gates (drop n offered) row ≡ first_for turns gates offered row
-    first_past turns = find_past (is_settled gates rows) (is_ready_row turns gates row) (λ o is.
-        ap (λ b. b && (not o.atomic || has_turn (turn_in turns o.id.group) (entry_of o.id))) (not_ready o is)) offered n settled.each
+  -- so none of the first messages is, where these are settled
+  pub none_settled_ready : (offered : List Offered) (n : ℕ) → AreSettled gates rows offered n → none_ready gates row n offered ≡ true
+  none_settled_ready offered n settled =
+      all_weaker (is_settled gates rows) (λ o. not (is_causally_ready_row gates row o.id o.times)) (λ o is. not_from_false (is_causally_ready_row gates row o.id o.times) (not_ready o is)) (take n offered) settled.each
 
-    pub candidate_past : has_candidate gates (drop n offered) row ≡ has_candidate gates offered row
-    candidate_past = any_past (is_settled gates rows) (λ o. is_causally_ready_row gates row o.id o.times) not_ready offered n settled.each
+-- what a process may deliver is what its row may take
+pub may_deliver_row : (q : Queue) (p : Proc) (row : Row) → row_of q.rows p ≡ Some row → has_candidate q.gates q.offered row ≡ may_deliver_in q p
+may_deliver_row q p row at = sym (ap (λ (o : Option Row). option_map_or (has_candidate q.gates q.offered) o false) at)
 
--- and what a process may deliver is asked for there
-pub may_deliver_past : (q : Queue) (n : ℕ) → AreSettled q.gates q.rows q.offered n → (p : Proc) (row : Row) → row_of q.rows p ≡ Some row → has_candidate q.gates (drop n q.offered) row ≡ may_deliver_in q p
-may_deliver_past q n settled p row at =
-    candidate_past q.gates q.rows p row at q.offered n settled
-    ∙ sym (ap (λ (o : Option Row). option_map_or (has_candidate q.gates q.offered) o false) at)
-
-pub next_past : (q : Queue) (n : ℕ) → AreSettled q.gates q.rows q.offered n → (p : Proc) (row : Row) → row_of q.rows p ≡ Some row → (turns : List (GroupNo × Turn)) → option_map (λ o. o.key) (first_for turns q.gates (drop n q.offered) row) ≡ next_key turns q p
-next_past q n settled p row at turns =
-    ap (option_map (λ (o : Offered). o.key)) (first_past q.gates q.rows p row at q.offered n settled turns ∙ sym (ap (λ (o : Option Row). option_and_then (first_for turns q.gates q.offered) o) at))
+pub next_row : (q : Queue) (p : Proc) (row : Row) → row_of q.rows p ≡ Some row → (turns : List (GroupNo × Turn)) → option_map (λ o. o.key) (first_for turns q.gates q.offered row) ≡ next_key turns q p
+next_row q p row at turns = ap (option_map (λ (o : Offered). o.key)) (sym (ap (λ (o : Option Row). option_and_then (first_for turns q.gates q.offered) o) at))
 
 -- Changes
 

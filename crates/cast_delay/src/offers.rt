@@ -1,16 +1,21 @@
-ghost use Rattle.std.specs.Prelude.{◌≡◌, ℕ, ◌<◌, ◌≤◌, ◌∷◌, ◌++◌, [], true, IfOk, IfSome, OnOk, OnErr, length, take, drop, slice_get, slice_range, slice_index_or, Some};
+ghost use Rattle.std.specs.Prelude.{◌≡◌, ℕ, ◌<◌, ◌≤◌, ◌∷◌, ◌++◌, [], true, false, IfOk, IfSome, OnOk, OnErr, cond, length, take, drop, slice_get, slice_range, slice_index_or, Some};
 ghost use Rattle.std.specs.VecDeque.{deque_len};
 ghost use Rattle.std.specs.List.{position, remove};
-ghost use Rattle.std.specs.Option.{option_copied};
+ghost use Rattle.std.specs.Option.{option_copied, option_map_or};
+ghost use Rattle.cast_types.specs.declared.names.Key.{Key};
+ghost use Rattle.cast_types.specs.declared.names.Uid.{Uid};
 ghost use Rattle.cast_message.specs.Receipts.{key_eq};
+ghost use Rattle.cast_index.specs.Index.{has, is_pair, source_of};
 ghost use Rattle.cast_delay.specs.Queue.{first_for, has_candidate, offered_under, but_offered};
-ghost use Rattle.cast_delay.specs.Offers.{rises, key_of, HasKeysBelow};
+ghost use Rattle.cast_delay.specs.Rows.{is_causally_ready_row, is_ready_row};
+ghost use Rattle.cast_delay.specs.Offers.{rises, key_of, is_regular, none_ready, AreIndexed, AreOrderly, MayCome, next_of, passing, earlier};
 
 use crate::gate::Gate;
 use crate::offered::Offered;
-use crate::row::Row;
+use crate::row::{Row, count_in, view_in};
 use crate::turn::Turn;
-use cast_types::{GroupNo, Key, Keyed, NoMemory};
+use cast_index::Index;
+use cast_types::{GroupNo, Key, Keyed, NoMemory, Source, Uid};
 use std::alloc::Global;
 use std::collections::VecDeque;
 use std::marker::Model;
@@ -19,20 +24,23 @@ use std::marker::Model;
 #[derive(Drop)]
 pub struct Offers {
     messages: VecDeque<Offered>,
-    /// A number above all keys, as long as the keys rise in order of receipt. Then a message is found by halving.
+    /// A number above all keys, as long as the messages are orderly: keys rise in order of receipt, each message names
+    /// itself in its time, and no two have one id. Then a message is found by halving, and one that is ready by source.
     above: Option<usize>,
+    /// The ids of the messages with their keys, as long as they are orderly.
+    ids: Index,
 }
 
 impl Model for Offers {
     ghost use Rattle.std.specs.Prelude.{List};
     ghost use Rattle.cast_delay.specs.declared.offered.Offered.{Offered};
-    ghost use Rattle.cast_delay.specs.Offers.{HasKeysBelow};
+    ghost use Rattle.cast_delay.specs.Offers.{AreOrderly};
 
     ghost Value = { List Offered };
 
     ghost view = { λ o. o.messages.items };
 
-    ghost invariant = { λ o. HasKeysBelow o.above o.messages.items };
+    ghost invariant = { λ o. AreOrderly o.above o.ids o.messages.items };
 }
 
 impl Offers {
@@ -43,6 +51,7 @@ impl Offers {
         Offers {
             messages: VecDeque::new(alloc),
             above: Some(0),
+            ids: Index::new(alloc),
         }
     }
 
@@ -53,6 +62,7 @@ impl Offers {
         Ok(Offers {
             messages: copy_messages(&self.messages)?,
             above: self.above,
+            ids: self.ids.copy()?,
         })
     }
 
@@ -76,9 +86,16 @@ impl Offers {
         ensures ok { OnOk result (self.new ≡ self.old ++ offered ∷ []) }
         ensures err { OnErr result (self.new ≡ self.old) }
     {
-        let above = above_with(self.above, offered.key);
-        self.messages.push_back(offered)?;
-        self.above = above;
+        match above_with(self.above, &self.ids, &offered) {
+            Some(above) => {
+                push_with_id(&mut self.messages, &mut self.ids, offered)?;
+                self.above = Some(above);
+            }
+            None => {
+                self.messages.push_back(offered)?;
+                self.above = None;
+            }
+        }
         Ok(())
     }
 
@@ -92,7 +109,8 @@ impl Offers {
         }
     }
 
-    /// The first message behind the first ones that is ready for a row, where these are the turns of groups.
+    /// The first message that is ready for a row, where these are the turns of groups and none of the first ones is
+    /// ready.
     pub fn first_ready(
         &self,
         first: usize,
@@ -100,18 +118,32 @@ impl Offers {
         gates: &Keyed<GroupNo, Gate>,
         row: &Row,
     ) -> Option<&Offered>
-        requires { first ≤ length self.now }
-        ensures { option_copied result ≡ first_for turns.now gates.now (drop first self.now) row.now }
+        requires within { first ≤ length self.now }
+        requires none { none_ready gates.now row.now first self.now ≡ true }
+        ensures { option_copied result ≡ first_for turns.now gates.now self.now row.now }
     {
-        first_from(&self.messages, first, turns, gates, row)
+        if first == self.messages.len() {
+            return None;
+        }
+        match self.above {
+            Some(_) => first_by_source(&self.messages, &self.ids, turns, gates, row),
+            None => first_from(&self.messages, first, turns, gates, row),
+        }
     }
 
-    /// Whether some message behind the first ones is ready for a row but for the turns of groups.
+    /// Whether some message is ready for a row but for the turns of groups, where none of the first ones is.
     pub fn has_candidate(&self, first: usize, gates: &Keyed<GroupNo, Gate>, row: &Row) -> bool
-        requires { first ≤ length self.now }
-        ensures { result ≡ has_candidate gates.now (drop first self.now) row.now }
+        requires within { first ≤ length self.now }
+        requires none { none_ready gates.now row.now first self.now ≡ true }
+        ensures { result ≡ has_candidate gates.now self.now row.now }
     {
-        any_from(&self.messages, first, gates, row)
+        if first == self.messages.len() {
+            return false;
+        }
+        match self.above {
+            Some(_) => any_by_source(&self.messages, &self.ids, gates, row),
+            None => any_from(&self.messages, first, gates, row),
+        }
     }
 
     /// Keeps what is under other keys. The result says how many of those are among the first ones. Takes no memory.
@@ -121,21 +153,167 @@ impl Offers {
         ensures first { result ≡ length (but_offered key (take first self.old)) }
     {
         match self.above {
-            Some(_) => forget_found(&mut self.messages, key, first),
+            Some(_) => forget_found(&mut self.messages, &mut self.ids, key, first),
             None => forget_all(&mut self.messages, key, first),
         }
     }
 }
 
-// A number above all keys, also with one more.
-fn above_with(above: Option<usize>, key: Key) -> Option<usize>
-    ensures { IfSome result (λ top. (n : ℕ) × (above ≡ Some n) × (n ≤ key.0) × (key.0 < top)) }
+// A number above all keys, also with one message more, where the messages are orderly then.
+fn above_with(above: Option<usize>, ids: &Index, offered: &Offered) -> Option<usize>
+    ensures { IfSome result (λ top. (n : ℕ) × (above ≡ Some n) × MayCome n ids.now offered.now × (offered.now.key.0 < top)) }
 {
     let least = above?;
-    if key.0 < least {
+    if offered.key.0 < least || !is_regular(offered) || ids.key_of(offered.id).is_some() {
         return None;
     }
-    key.0.checked_add(1)
+    offered.key.0.checked_add(1)
+}
+
+// Whether a message names itself in its time.
+fn is_regular(offered: &Offered) -> bool
+    ensures { result ≡ is_regular offered.now }
+{
+    let id = offered.id;
+    view_in(&offered.times, id.group) == id.view
+        && count_in(&offered.times, id.group, id.proc) == id.count
+}
+
+// Adds a message whose id the index has not. `NoMemory` changes nothing.
+fn push_with_id(
+    messages: &mut VecDeque<Offered>,
+    ids: &mut Index,
+    offered: Offered,
+) -> Result<(), NoMemory>
+    requires { (k : Key) → has ids.old offered.id k ≡ false }
+    ensures ok { OnOk result (messages.new.items ≡ messages.old.items ++ offered ∷ []) }
+    ensures ok_ids { OnOk result ((u : Uid) (k : Key) → has ids.new u k ≡ cond (is_pair offered.id offered.key u k) true (has ids.old u k)) }
+    ensures err { OnErr result (messages.new.items ≡ messages.old.items) }
+    ensures err_ids { OnErr result ((u : Uid) (k : Key) → has ids.new u k ≡ has ids.old u k) }
+{
+    let (id, key) = (offered.id, offered.key);
+    ids.insert(id, key)?;
+    match messages.push_back(offered) {
+        Ok(()) => Ok(()),
+        Err(error) => {
+            ids.remove(id, key);
+            Err(error.into())
+        }
+    }
+}
+
+// The first message that is ready for a row, found by source: of each only the next one can be.
+fn first_by_source<'a>(
+    messages: &'a VecDeque<Offered>,
+    ids: &Index,
+    turns: &[(GroupNo, Turn)],
+    gates: &Keyed<GroupNo, Gate>,
+    row: &Row,
+) -> Option<&'a Offered>
+    requires { AreIndexed ids.now messages.now.items }
+    ensures { option_copied result ≡ first_for turns.now gates.now messages.now.items row.now }
+{
+    let mut best = None;
+    let mut after = None;
+    while let Some(id) = ids.first_behind(after) {
+        best = earlier(best, ready_next(messages, ids, turns, gates, row, id));
+        after = Some(source_of(id));
+    }
+    best
+}
+
+// Whether some message is ready for a row but for the turns of groups, asked source by source.
+fn any_by_source(
+    messages: &VecDeque<Offered>,
+    ids: &Index,
+    gates: &Keyed<GroupNo, Gate>,
+    row: &Row,
+) -> bool
+    requires { AreIndexed ids.now messages.now.items }
+    ensures { result ≡ has_candidate gates.now messages.now.items row.now }
+{
+    let mut after = None;
+    while let Some(id) = ids.first_behind(after) {
+        if may_take_next(messages, ids, gates, row, id) {
+            return true;
+        }
+        after = Some(source_of(id));
+    }
+    false
+}
+
+// Where messages of an id come from.
+fn source_of(id: Uid) -> Source
+    ensures { result ≡ source_of id }
+{
+    Source {
+        group: id.group,
+        view: id.view,
+        process: id.proc,
+    }
+}
+
+// Of two messages the one with the lesser key.
+fn earlier<'a>(one: Option<&'a Offered>, other: Option<&'a Offered>) -> Option<&'a Offered>
+    ensures { option_copied result ≡ earlier (option_copied one.entry) (option_copied other.entry) }
+{
+    match (one, other) {
+        (Some(first), Some(second)) if second.key.0 < first.key.0 => other,
+        (Some(_), _) => one,
+        (None, _) => other,
+    }
+}
+
+// The message that a row takes next of the source that an id is of, where it is ready.
+fn ready_next<'a>(
+    messages: &'a VecDeque<Offered>,
+    ids: &Index,
+    turns: &[(GroupNo, Turn)],
+    gates: &Keyed<GroupNo, Gate>,
+    row: &Row,
+    id: Uid,
+) -> Option<&'a Offered>
+    requires { AreIndexed ids.now messages.now.items }
+    ensures { option_copied result ≡ passing (is_ready_row turns.now gates.now row.now) (next_of row.now id messages.now.items) }
+{
+    let offered = next_of(messages, ids, row, id)?;
+    if row.is_ready(turns, gates, offered) {
+        Some(offered)
+    } else {
+        None
+    }
+}
+
+// Whether it is ready but for the turns of groups.
+fn may_take_next(
+    messages: &VecDeque<Offered>,
+    ids: &Index,
+    gates: &Keyed<GroupNo, Gate>,
+    row: &Row,
+    id: Uid,
+) -> bool
+    requires { AreIndexed ids.now messages.now.items }
+    ensures { result ≡ option_map_or (λ o. is_causally_ready_row gates.now row.now o.id o.times) (next_of row.now id messages.now.items) false }
+{
+    match next_of(messages, ids, row, id) {
+        Some(offered) => row.is_causally_ready(gates, offered.id, &offered.times),
+        None => false,
+    }
+}
+
+// The message that a row takes next of the source that an id is of.
+fn next_of<'a>(
+    messages: &'a VecDeque<Offered>,
+    ids: &Index,
+    row: &Row,
+    id: Uid,
+) -> Option<&'a Offered>
+    requires { AreIndexed ids.now messages.now.items }
+    ensures { option_copied result ≡ next_of row.now id messages.now.items }
+{
+    let count = row.done(id.group, id.view, id.proc).checked_add(1)?;
+    let key = ids.key_of(Uid { count, ..id })?;
+    found_under(messages, key)
 }
 
 // The first message from a place on that is ready for a row.
@@ -201,16 +379,24 @@ fn first_under(messages: &VecDeque<Offered>, key: Key) -> Option<&Offered>
     messages.iter().find(|offered| offered.key == key)
 }
 
-// Keeps what is under other keys, where keys rise. The result says how many of those are among the first ones.
-fn forget_found(messages: &mut VecDeque<Offered>, key: Key, first: usize) -> usize
-    requires rising { rises key_of messages.old.items ≡ true }
+// Keeps what is under other keys, where the messages are orderly. The result says how many of those are among the first
+// ones.
+fn forget_found(
+    messages: &mut VecDeque<Offered>,
+    ids: &mut Index,
+    key: Key,
+    first: usize,
+) -> usize
+    requires indexed { AreIndexed ids.old messages.old.items }
     requires first { first ≤ length messages.old.items }
+    ensures indexed { AreIndexed ids.new messages.new.items }
     ensures items { messages.new.items ≡ but_offered key messages.old.items }
     ensures first { result ≡ length (but_offered key (take first messages.old.items)) }
 {
     let Some(place) = place_under(messages, key) else {
         return first;
     };
+    ids.remove(messages[place].id, key);
     take_out(messages, place);
     if place < first { first - 1 } else { first }
 }

@@ -1,7 +1,7 @@
 ghost use Rattle.std.specs.Prelude.{◌≡◌, ℕ, List, OnOk, IfOk, ◌-◌, nat_le, not};
 ghost use Rattle.std.specs.List.{list_all, position};
 ghost use Rattle.cast_types.specs.Names.{named};
-ghost use Rattle.cast_clock.specs.Times.{clock_of, view_of};
+ghost use Rattle.cast_clock.specs.Times.{clock_of, view_of, count_in};
 ghost use Rattle.cast_delay.specs.Ready.{is_member};
 ghost use Rattle.cast_delay.specs.Rows.{needed};
 
@@ -32,8 +32,8 @@ pub struct Row {
     pub done: Tally,
 }
 
-// The clock's view, 0 of a group that the time says nothing of.
-fn view_in(times: &Stamp, group: GroupNo) -> u32
+/// The clock's view, 0 of a group that the time says nothing of.
+pub fn view_in(times: &Stamp, group: GroupNo) -> u32
     ensures { result ≡ view_of times.now group }
 {
     match times.get(group) {
@@ -49,6 +49,16 @@ fn counts_in(times: &Stamp, group: GroupNo) -> &[(Proc, u32)]
     match times.get(group) {
         Some(clock) => clock.counts.entries(),
         None => &[],
+    }
+}
+
+/// The clock's count of a process, 0 of a group that the time says nothing of.
+pub fn count_in(times: &Stamp, group: GroupNo, process: Proc) -> u32
+    ensures { result ≡ count_in times.now group process }
+{
+    match times.get(group) {
+        Some(clock) => clock.counts.get(process),
+        None => 0,
     }
 }
 

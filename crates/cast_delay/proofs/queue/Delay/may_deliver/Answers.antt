@@ -1,15 +1,20 @@
 use Rattle.std.proofs.Common.{◌≡◌, Some, false, rules}
 use Rattle.cast_delay.specs.Queue.{row_of, may_deliver_in}
 use Rattle.cast_delay.proofs.Queues.{may_deliver_means}
-use Rattle.cast_delay.proofs.Settled.{may_deliver_past}
+use Rattle.cast_delay.proofs.Settled.{none_settled_ready, may_deliver_row}
 use Rattle.cast_delay.proofs.queue.Delay.may_deliver.Goals as goal
 
--- what stands behind the settled messages tells as much as all
+-- none of the settled messages is ready
+pub has_candidate-requires-clause-none : goal.has_candidate-requires-clause-none
+has_candidate-requires-clause-none c =
+    let at : row_of c.self.inside.rows.items c.args.process ≡ Some c.in-Some.row.now = search rules in
+    none_settled_ready c.self.inside.gates c.self.inside.rows.items c.args.process c.in-Some.row.now at c.self.inside.offered c.self.inside.settled c.self.invariant
+
 told : (c : goal.After-has_candidate) → c.has_candidate.result ≡ may_deliver_in c.args.self.now c.args.process
 told c =
     let at : row_of c.self.inside.rows.items c.args.process ≡ Some c.in-Some.row.now = search rules in
-    let past = may_deliver_past (record { gates = c.self.inside.gates; offered = c.self.inside.offered; rows = c.self.inside.rows.items; reached = c.self.inside.reached }) c.self.inside.settled c.self.invariant c.args.process c.in-Some.row.now at in
-    search (rules, past)
+    let same = may_deliver_row (record { gates = c.self.inside.gates; offered = c.self.inside.offered; rows = c.self.inside.rows.items; reached = c.self.inside.reached }) c.args.process c.in-Some.row.now at in
+    search (rules, same)
 
 pub returns-in-Some-clause-value : goal.returns-in-Some-clause-value
 returns-in-Some-clause-value c = told c
