@@ -1,7 +1,7 @@
 -- Messages stay indexed: one comes, one is forgotten.
-use Rattle.std.proofs.Common.{◌≡◌, ℕ, ◌<◌, ◌≤◌, Bool, true, false, cond, not, ◌&&◌, ◌||◌, List, [], ◌∷◌, ◌++◌, get_or, Contains, Option, Some, None, refl, sym, ap, subst, ◌∙◌, inl, inr, arith}
+use Rattle.std.proofs.Common.{◌≡◌, ℕ, ◌<◌, Bool, true, false, cond, not, ◌&&◌, ◌||◌, List, [], ◌∷◌, ◌++◌, get_or, Contains, Option, Some, None, refl, sym, ap, subst, ◌∙◌, inl, inr, arith}
 use Rattle.std.specs.Prelude.{nat_lt, ◌==◌}
-use Rattle.std.specs.List.{list_any, position}
+use Rattle.std.specs.List.{position}
 use Rattle.std.proofs.lemmas.Bool.{cases_Bool, false≢true, false_from_ne_true, and_parts, and_from, not-true, not_from_false, eqb-true, eq-eqb}
 use Rattle.std.proofs.lemmas.List.Quantifiers.{position-Some}
 use Rattle.cast_types.specs.declared.names.Key.{Key}
@@ -132,11 +132,11 @@ module _ (entries later : List Entry) (offered : List Offered) (m : Offered) (ke
       let o = any_member test offered (sym (known.indexed u k) ∙ before.1) in
       let parts = and_parts (uid_eq u o.0.id) (key_eq k o.0.key) o.2 in
       let kept : keep o.0 ≡ true = not_from_false (key_eq o.0.key key) (false_from_ne_true (key_eq o.0.key key) (λ own.
-          let same = same_item key_of offered m o.0 known.rising there o.1 (omega (arith, at, eqb-true o.0.key.0 key.0 own)) in
-          let pair : is_pair m.id key u k ≡ true =
-          and_from (uid_eq m.id u) (key.0 == k.0) (ap (λ w. uid_eq w u) (ap (λ (x : Offered). x.id) same ∙ sym (same_uid u o.0.id parts.0)) ∙ uid_itself u)
-          (eq-eqb key.0 k.0 (omega (arith, eqb-true o.0.key.0 key.0 own, eqb-true k.0 o.0.key.0 parts.1))) in
-          false≢true (sym before.0 ∙ pair))) in
+      let same = same_item key_of offered m o.0 known.rising there o.1 (omega (arith, at, eqb-true o.0.key.0 key.0 own)) in
+      let pair : is_pair m.id key u k ≡ true =
+      and_from (uid_eq m.id u) (key.0 == k.0) (ap (λ w. uid_eq w u) (ap (λ (x : Offered). x.id) same ∙ sym (same_uid u o.0.id parts.0)) ∙ uid_itself u)
+      (eq-eqb key.0 k.0 (omega (arith, eqb-true o.0.key.0 key.0 own, eqb-true k.0 o.0.key.0 parts.1))) in
+      false≢true (sym before.0 ∙ pair))) in
       member_any test (but_offered key offered) o.0 (kept_member keep offered o.0 o.1 kept) o.2
 
   left_back : (u : Uid) (k : Key) → is_offered (but_offered key offered) u k ≡ true → has later u k ≡ true
@@ -146,7 +146,7 @@ module _ (entries later : List Entry) (offered : List Offered) (m : Offered) (ke
       let parts = and_parts (uid_eq u o.0.id) (key_eq k o.0.key) o.2 in
       let member = member_kept keep offered o.0 o.1 in
       let apart : is_pair m.id key u k ≡ false = false_from_ne_true (is_pair m.id key u k) (λ pair.
-          false≢true (sym (not-true (key_eq o.0.key key) member.1) ∙ eq-eqb o.0.key.0 key.0 (omega (arith, (pair_is m.id u key k pair).1, eqb-true k.0 o.0.key.0 parts.1)))) in
+      false≢true (sym (not-true (key_eq o.0.key key) member.1) ∙ eq-eqb o.0.key.0 key.0 (omega (arith, (pair_is m.id u key k pair).1, eqb-true k.0 o.0.key.0 parts.1)))) in
       now u k
       ∙ ap (λ b. cond b false (has entries u k)) apart
       ∙ known.indexed u k

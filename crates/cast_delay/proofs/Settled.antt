@@ -1,5 +1,5 @@
 -- Messages that are settled are ready for no row, and stay settled.
-use Rattle.std.proofs.Common.{◌≡◌, ℕ, zero, suc, ◌+◌, ◌<◌, ◌≤◌, Bool, true, false, cond, not, ◌&&◌, ◌||◌, List, [], ◌∷◌, length, take, drop, get_or, filter, Option, Some, None, unwrap_or, refl, sym, ap, subst, ◌∙◌, inl, inr, arith}
+use Rattle.std.proofs.Common.{◌≡◌, ℕ, zero, suc, ◌+◌, ◌<◌, ◌≤◌, Bool, true, false, cond, not, ◌&&◌, ◌||◌, List, [], ◌∷◌, length, take, get_or, filter, Option, Some, None, unwrap_or, refl, sym, ap, subst, ◌∙◌, inl, inr, arith}
 use Rattle.std.specs.Prelude.{◌==◌, nat_lt, nat_le, if◌then◌else◌}
 use Rattle.std.specs.List as list
 use Rattle.std.specs.Option.{option_map, option_map_or, option_and_then}
@@ -11,7 +11,7 @@ use Rattle.cast_types.specs.declared.names.GroupNo.{GroupNo}
 use Rattle.cast_types.specs.declared.names.Proc.{Proc}
 use Rattle.cast_types.specs.declared.names.Key.{Key}
 use Rattle.cast_types.specs.declared.names.Uid.{Uid}
-use Rattle.cast_types.specs.Names.{group_cmp, group_eq, proc_eq, entry_of}
+use Rattle.cast_types.specs.Names.{group_cmp, group_eq, proc_eq}
 use Rattle.cast_types.specs.Stamps.{ClockList}
 use Rattle.cast_types.specs.Sources.{source, source_cmp}
 use Rattle.cast_types.proofs.Orders.{same_group, tie_same}
@@ -25,8 +25,8 @@ use Rattle.cast_delay.specs.declared.row.Fact.{Fact}
 use Rattle.cast_delay.specs.declared.row.Fact.TheVariants as fact
 use Rattle.cast_delay.specs.declared.offered.Offered.{Offered}
 use Rattle.cast_delay.specs.declared.turn.Turn.{Turn}
-use Rattle.cast_delay.specs.Ready.{is_member, has_turn, turn_in, open_gate}
-use Rattle.cast_delay.specs.Rows.{gate_in, standing_in, done_in, is_causally_ready_row, is_ready_row, awaits_row, delivered_row, told_row}
+use Rattle.cast_delay.specs.Ready.{is_member, open_gate}
+use Rattle.cast_delay.specs.Rows.{gate_in, standing_in, done_in, is_causally_ready_row, awaits_row, delivered_row, told_row}
 use Rattle.cast_delay.specs.Queue.{Queue, next_key, may_deliver_in, row_of, but_row, change_row, first_for, has_candidate, is_awaited, offered_under, after_delivery, but_offered}
 use Rattle.cast_delay.specs.Offers.{none_ready}
 use Rattle.cast_delay.specs.Settled.{is_settled, AreSettled, despite_fact, is_next_of, despite_delivery}

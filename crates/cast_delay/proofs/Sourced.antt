@@ -1,12 +1,11 @@
 -- Of each source only the next message can be ready, so the first that is ready is found source by source.
-use Rattle.std.proofs.Common.{◌≡◌, ◌⊎◌, ℕ, ◌+◌, ◌<◌, ◌≤◌, Bool, true, false, cond, not, ◌&&◌, ◌||◌, List, Contains, length, drop, Option, Some, None, refl, sym, ap, subst, ◌∙◌, inl, inr, arith}
-use Rattle.std.specs.Prelude.{nat_lt, nat_le, ◌==◌}
+use Rattle.std.proofs.Common.{◌≡◌, ◌⊎◌, ℕ, ◌+◌, ◌<◌, ◌≤◌, Bool, true, false, cond, not, ◌&&◌, ◌||◌, List, Contains, drop, Option, Some, None, refl, sym, ap, subst, ◌∙◌, inl, inr, arith}
+use Rattle.std.specs.Prelude.{nat_le, ◌==◌}
 use Rattle.std.specs.List.{list_any, find}
 use Rattle.std.specs.Option.{option_map_or}
 use Rattle.std.specs.Ordering.{is_lt}
-use Rattle.std.proofs.lemmas.Bool.{cases_Bool, cases_lt, false≢true, false_from_ne_true, and_parts, and_from, and_left, and_right, not-true, not_from_false, not_from_true, lt-ltb, le-ltb, leb-true, eqb-true, eq-eqb}
+use Rattle.std.proofs.lemmas.Bool.{cases_Bool, cases_lt, false≢true, false_from_ne_true, and_parts, and_from, and_right, not-true, not_from_false, lt-ltb, le-ltb, leb-true, eqb-true, eq-eqb}
 use Rattle.std.proofs.lemmas.Cmp.{tied_itself}
-use Rattle.std.proofs.lemmas.List.{drop_all}
 use Rattle.cast_types.specs.declared.names.GroupNo.{GroupNo}
 use Rattle.cast_types.specs.declared.names.Key.{Key}
 use Rattle.cast_types.specs.declared.names.Uid.{Uid}
@@ -238,11 +237,3 @@ module _ (row : Row) (gates : List (GroupNo × Gate)) (offered : List Offered) (
 
   pub any_behind : has_candidate gates (drop n offered) row ≡ has_candidate gates offered row
   any_behind = any_past (λ o. not (is_causally_ready_row gates row o.id o.times)) (λ o. is_causally_ready_row gates row o.id o.times) (λ o not_so. not-true (is_causally_ready_row gates row o.id o.times) not_so) offered n none
-
-  -- and none is, where those are none
-  module _ (all : n ≡ length offered) where
-    pub none_first : (turns : List (GroupNo × Turn)) → first_for turns gates offered row ≡ None
-    none_first turns = sym (first_behind turns) ∙ ap (λ rest. first_for turns gates rest row) (drop_all n offered (omega (arith, all)))
-
-    pub none_candidate : has_candidate gates offered row ≡ false
-    none_candidate = sym any_behind ∙ ap (λ rest. has_candidate gates rest row) (drop_all n offered (omega (arith, all)))

@@ -30,7 +30,7 @@ all_below n top xs = list_all (λ x. nat_lt (n x) top) xs
 abbrev pub key_of : Offered → ℕ
 key_of o = o.key.0
 
--- whether a message's time has the message's own view and count
+-- whether a message names itself in its time: that has the message's own view and its count, which is a number of 32 bits
 abbrev pub is_regular : Offered → Bool
 is_regular o = nat_le o.id.count MAX_NUMBER && ((view_of o.times o.id.group == o.id.view) && (count_in o.times o.id.group o.id.proc == o.id.count))
 

@@ -24,6 +24,11 @@
 //! and count, and is noted as delivered only when all that happened before it was (`laws`). Of the answers `reached`
 //! alone takes memory; `forget` and `dismiss` take none. Where memory is refused, the queue is of no further use.
 //!
+//! Of each source, a process in a view of a group, only the message whose count comes next can be ready for a process.
+//! So where many messages wait, the question what is ready looks at one of each source, found by its id. This asks that
+//! keys rise in order of receipt, that each message's time has its own view and count, and that no two have one id; once
+//! it is not so, all that wait are looked at.
+//!
 //! The definitions are in `specs/`: `Ready` has the rule over delivered ids as a test and `Rule` in words, `Tallies`,
 //! `Rows` and `Queue` what the queue keeps and does, exactly, `Fits` when it tells of given processes, groups and messages,
 //! `Says` what its answers say of these, and `Laws` that it goes on so. No contract speaks of `Settled` and `Offers`, which have

@@ -20,6 +20,9 @@ use std::alloc::Global;
 use std::collections::VecDeque;
 use std::marker::Model;
 
+/// This many messages are looked at one by one, which costs no more than to look for the next one of each source.
+const FEW: usize = 16;
+
 /// Messages as the queue holds them, in order of receipt. Contracts see the list.
 #[derive(Drop)]
 pub struct Offers {
@@ -27,7 +30,7 @@ pub struct Offers {
     /// A number above all keys, as long as the messages are orderly: keys rise in order of receipt, each message names
     /// itself in its time, and no two have one id. Then a message is found by halving, and one that is ready by source.
     above: Option<usize>,
-    /// The ids of the messages with their keys, as long as they are orderly.
+    /// The ids of the messages with their keys, as long as the messages are orderly. Then it is not kept up any more.
     ids: Index,
 }
 
@@ -122,12 +125,11 @@ impl Offers {
         requires none { none_ready gates.now row.now first self.now ≡ true }
         ensures { option_copied result ≡ first_for turns.now gates.now self.now row.now }
     {
-        if first == self.messages.len() {
-            return None;
-        }
         match self.above {
-            Some(_) => first_by_source(&self.messages, &self.ids, turns, gates, row),
-            None => first_from(&self.messages, first, turns, gates, row),
+            Some(_) if FEW < self.messages.len() - first => {
+                first_by_source(&self.messages, &self.ids, turns, gates, row)
+            }
+            _ => first_from(&self.messages, first, turns, gates, row),
         }
     }
 
@@ -137,12 +139,11 @@ impl Offers {
         requires none { none_ready gates.now row.now first self.now ≡ true }
         ensures { result ≡ has_candidate gates.now self.now row.now }
     {
-        if first == self.messages.len() {
-            return false;
-        }
         match self.above {
-            Some(_) => any_by_source(&self.messages, &self.ids, gates, row),
-            None => any_from(&self.messages, first, gates, row),
+            Some(_) if FEW < self.messages.len() - first => {
+                any_by_source(&self.messages, &self.ids, gates, row)
+            }
+            _ => any_from(&self.messages, first, gates, row),
         }
     }
 
@@ -381,12 +382,7 @@ fn first_under(messages: &VecDeque<Offered>, key: Key) -> Option<&Offered>
 
 // Keeps what is under other keys, where the messages are orderly. The result says how many of those are among the first
 // ones.
-fn forget_found(
-    messages: &mut VecDeque<Offered>,
-    ids: &mut Index,
-    key: Key,
-    first: usize,
-) -> usize
+fn forget_found(messages: &mut VecDeque<Offered>, ids: &mut Index, key: Key, first: usize) -> usize
     requires indexed { AreIndexed ids.old messages.old.items }
     requires first { first ≤ length messages.old.items }
     ensures indexed { AreIndexed ids.new messages.new.items }

@@ -36,7 +36,8 @@ pub struct Delay {
     gates: Keyed<GroupNo, Gate>,
     offered: Offers,
     /// How many messages, from the first on, are known to be settled: no process here awaits them any more, or their
-    /// view is not the one that stands. None of them is ready for any process, so a question begins behind them.
+    /// view is not the one that stands. None of them is ready for any process, so a question looks at the few behind
+    /// them, and where these are many at the next one of each source.
     settled: usize,
     rows: Vec<Row>,
     reached: Tally,

@@ -4,7 +4,6 @@ use Rattle.cast_types.specs.declared.names.Key.{Key}
 use Rattle.cast_types.specs.declared.names.Uid.{Uid}
 use Rattle.cast_index.specs.Index.{has, is_behind, IsFirstBehind}
 use Rattle.cast_delay.specs.declared.offered.Offered.{Offered}
-use Rattle.cast_delay.specs.Queue.{has_candidate}
 use Rattle.cast_delay.specs.Rows.{is_causally_ready_row}
 use Rattle.cast_delay.specs.Offers.{next_of}
 use Rattle.cast_delay.proofs.Sourced.{any_none, none_step, some_step, any_whole}

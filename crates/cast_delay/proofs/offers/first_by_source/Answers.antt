@@ -1,13 +1,10 @@
 use Rattle.std.proofs.Common.{◌≡◌, Bool, true, false, rules}
 use Rattle.std.specs.Option.{option_copied}
-use Rattle.std.proofs.lemmas.Bool.{and_parts}
 use Rattle.cast_types.specs.declared.names.Key.{Key}
 use Rattle.cast_types.specs.declared.names.Uid.{Uid}
 use Rattle.cast_index.specs.Index.{has, is_behind, IsFirstBehind}
-use Rattle.cast_types.specs.Names.{entry_of}
 use Rattle.cast_delay.specs.declared.offered.Offered.{Offered}
-use Rattle.cast_delay.specs.Rows.{is_causally_ready_row, is_ready_row}
-use Rattle.cast_delay.specs.Offers.{next_of, passing}
+use Rattle.cast_delay.specs.Rows.{is_ready_row}
 use Rattle.cast_delay.proofs.Sourced.{first_none, first_step, first_whole, only_causally}
 use Rattle.cast_delay.proofs.offers.first_by_source.Goals as goal
 

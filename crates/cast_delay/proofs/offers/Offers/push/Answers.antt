@@ -1,8 +1,7 @@
-use Rattle.std.proofs.Common.{◌≡◌, ℕ, ◌++◌, ◌∷◌, [], true, cond, Some, subst, rules}
+use Rattle.std.proofs.Common.{◌≡◌, ◌++◌, ◌∷◌, [], true, cond, rules}
 use Rattle.cast_types.specs.declared.names.Key.{Key}
 use Rattle.cast_types.specs.declared.names.Uid.{Uid}
 use Rattle.cast_index.specs.Index.{has, is_pair}
-use Rattle.cast_delay.specs.Offers.{AreOrderly}
 use Rattle.cast_delay.proofs.Indexed.{orderly_more}
 use Rattle.cast_delay.proofs.offers.Offers.push.Goals as goal
 
