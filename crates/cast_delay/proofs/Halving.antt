@@ -7,6 +7,7 @@ use Rattle.std.specs.Cmp.{IsTotalOrder}
 use Rattle.std.specs.FinMap.Entries.{find, put, is_sorted, below_all, by_order}
 use Rattle.std.proofs.lemmas.Bool.{cases_eq, and_parts}
 use Rattle.cast_types.proofs.Rising.{less_is}
+use Rattle.cast_clock.proofs.Entries.{equal_is}
 
 module _ {K : Type 0} (R : K → K → Ordering) (total : IsTotalOrder R) where
   turned : (a b : K) (o : Ordering) → R a b ≡ o → R b a ≡ ordering_reverse o
@@ -56,6 +57,10 @@ module _ {K V : Type 0} (R : K → K → Ordering) (total : IsTotalOrder R) wher
 
     pub search_found : (es : List (K × V)) (i : ℕ) (d : K × V) → is_sorted R es ≡ true → i < length es → IsBinarySearchResult (λ e. R e.0 s) es (Ok i) → find R s es ≡ Some (get_or es i d).1
     search_found es i d up lt is = found_at es i d up lt (is d)
+
+    -- so is the one at a place where the key is tested
+    pub found_here : (es : List (K × V)) (i : ℕ) (d : K × V) → is_sorted R es ≡ true → i < length es → is_eq (R (get_or es i d).0 s) ≡ true → find R s es ≡ Some (get_or es i d).1
+    found_here es i d up lt tie = found_at es i d up lt (equal_is (R (get_or es i d).0 s) tie)
 
     put_at : (v : V) (es : List (K × V)) (i : ℕ) (d : K × V) → is_sorted R es ≡ true → i < length es → R (get_or es i d).0 s ≡ Equal → put R s v es ≡ set es i ((get_or es i d).0, v)
     put_at v [] i d up lt tie = absurd (omega arith)

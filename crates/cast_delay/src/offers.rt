@@ -5,17 +5,17 @@ ghost use Rattle.std.specs.Option.{option_copied, option_map_or};
 ghost use Rattle.cast_types.specs.declared.names.Key.{Key};
 ghost use Rattle.cast_types.specs.declared.names.Uid.{Uid};
 ghost use Rattle.cast_message.specs.Receipts.{key_eq};
-ghost use Rattle.cast_index.specs.Index.{has, is_pair, source_of};
+ghost use Rattle.cast_index.specs.Index.{has, is_pair};
 ghost use Rattle.cast_delay.specs.Queue.{first_for, has_candidate, offered_under, but_offered};
 ghost use Rattle.cast_delay.specs.Rows.{is_causally_ready_row, is_ready_row};
 ghost use Rattle.cast_delay.specs.Offers.{rises, key_of, is_regular, none_ready, AreIndexed, AreOrderly, MayCome, next_of, passing, earlier};
 
 use crate::gate::Gate;
 use crate::offered::Offered;
-use crate::row::{Row, count_in, view_in};
+use crate::row::Row;
 use crate::turn::Turn;
-use cast_index::Index;
-use cast_types::{GroupNo, Key, Keyed, NoMemory, Source, Uid};
+use cast_index::{Index, source_of};
+use cast_types::{GroupNo, Key, Keyed, NoMemory, Uid};
 use std::alloc::Global;
 use std::collections::VecDeque;
 use std::marker::Model;
@@ -176,8 +176,10 @@ fn is_regular(offered: &Offered) -> bool
     ensures { result ≡ is_regular offered.now }
 {
     let id = offered.id;
-    view_in(&offered.times, id.group) == id.view
-        && count_in(&offered.times, id.group, id.proc) == id.count
+    match offered.times.get(id.group) {
+        Some(clock) => clock.view == id.view && clock.counts.get(id.proc) == id.count,
+        None => id.view == 0 && id.count == 0,
+    }
 }
 
 // Adds a message whose id the index has not. `NoMemory` changes nothing.
@@ -241,17 +243,6 @@ fn any_by_source(
         after = Some(source_of(id));
     }
     false
-}
-
-// Where messages of an id come from.
-fn source_of(id: Uid) -> Source
-    ensures { result ≡ source_of id }
-{
-    Source {
-        group: id.group,
-        view: id.view,
-        process: id.proc,
-    }
 }
 
 // Of two messages the one with the lesser key.

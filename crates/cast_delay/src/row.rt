@@ -1,7 +1,10 @@
-ghost use Rattle.std.specs.Prelude.{◌≡◌, ℕ, List, OnOk, IfOk, ◌-◌, nat_le, not};
+ghost use Rattle.std.specs.Prelude.{◌≡◌, ℕ, List, OnOk, IfOk, ◌-◌, nat_le, not, unwrap_or};
 ghost use Rattle.std.specs.List.{list_all, position};
-ghost use Rattle.cast_types.specs.Names.{named};
-ghost use Rattle.cast_clock.specs.Times.{clock_of, view_of, count_in};
+ghost use Rattle.std.specs.Option.{option_copied};
+ghost use Rattle.std.specs.FinMap.Entries.{find};
+ghost use Rattle.cast_types.specs.Names.{named, group_cmp};
+ghost use Rattle.cast_types.specs.Stamps.{ClockList};
+ghost use Rattle.cast_clock.specs.Times.{first_clock};
 ghost use Rattle.cast_delay.specs.Ready.{is_member};
 ghost use Rattle.cast_delay.specs.Rows.{needed};
 
@@ -10,7 +13,7 @@ use crate::offered::Offered;
 use crate::tally::Tally;
 use crate::turn::{Turn, turn_in};
 use cast_clock::{ClockFault, Times};
-use cast_types::{GroupNo, Keyed, NoMemory, Proc, Source, Stamp, Standing, Uid};
+use cast_types::{Clock, GroupNo, Keyed, NoMemory, Proc, Source, Stamp, Standing, Uid};
 use std::alloc::{AllocError, Global};
 
 /// What is told of a process.
@@ -32,33 +35,35 @@ pub struct Row {
     pub done: Tally,
 }
 
-/// The clock's view, 0 of a group that the time says nothing of.
-pub fn view_in(times: &Stamp, group: GroupNo) -> u32
-    ensures { result ≡ view_of times.now group }
+// The clock of a group, and the place behind it: at a place, or else found from the front. Where groups are asked for
+// in rising order, each mostly stands behind the one before.
+fn clock_near(times: &Stamp, place: usize, group: GroupNo) -> (Option<&Clock>, usize)
+    ensures { option_copied result.0 ≡ find group_cmp group times.now }
 {
-    match times.get(group) {
+    let clocks = times.clocks();
+    if place < clocks.len() && clocks[place].0.cmp(&group).is_eq() {
+        return (Some(&clocks[place].1), place + 1);
+    }
+    (times.get(group), place)
+}
+
+// The clock's view, 0 where the time says nothing of the group.
+fn view_in(clock: Option<&Clock>) -> u32
+    ensures { result ≡ (unwrap_or (option_copied clock.entry) (first_clock 0)).view }
+{
+    match clock {
         Some(clock) => clock.view,
         None => 0,
     }
 }
 
-// The clock's counts, none of a group that the time says nothing of.
-fn counts_in(times: &Stamp, group: GroupNo) -> &[(Proc, u32)]
-    ensures { result.now ≡ (clock_of times.now group).counts }
+// The clock's counts, none where the time says nothing of the group.
+fn counts_in(clock: Option<&Clock>) -> &[(Proc, u32)]
+    ensures { result.now ≡ (unwrap_or (option_copied clock.entry) (first_clock 0)).counts }
 {
-    match times.get(group) {
+    match clock {
         Some(clock) => clock.counts.entries(),
         None => &[],
-    }
-}
-
-/// The clock's count of a process, 0 of a group that the time says nothing of.
-pub fn count_in(times: &Stamp, group: GroupNo, process: Proc) -> u32
-    ensures { result ≡ count_in times.now group process }
-{
-    match times.get(group) {
-        Some(clock) => clock.counts.get(process),
-        None => 0,
     }
 }
 
@@ -137,28 +142,40 @@ impl Row {
     fn has_past(&self, id: Uid, group: GroupNo, view: u32, counts: &[(Proc, u32)]) -> bool
         ensures { result ≡ has_past self.now id group view counts.now }
     {
-        counts.iter().all(|entry| needed(id, group, view, *entry)
-            <= self.done(group, view, entry.0))
+        let mut place = 0;
+        for entry in counts {
+            let source = Source {
+                group,
+                view,
+                process: entry.0,
+            };
+            let (done, next) = self.done.near(place, source);
+            if done < needed(id, group, view, *entry) {
+                return false;
+            }
+            place = next;
+        }
+        true
     }
 
-    // Whether nothing of a group holds the message back.
+    // Whether nothing of a group holds the message back, where this is the group's clock in the message's time.
     fn allows(
         &self,
         number: u32,
         id: Uid,
-        times: &Stamp,
         group: GroupNo,
+        clock: Option<&Clock>,
         standing: Standing,
     ) -> bool
-        ensures { result ≡ row_allows self.now number id times.now group standing }
+        ensures { (times : ClockList) → option_copied clock.entry ≡ find group_cmp group times → result ≡ row_allows self.now number id times group standing }
     {
-        let view = view_in(times, group);
+        let view = view_in(clock);
         match standing {
             Standing::Outside => true,
             Standing::Joining { heard, .. } => view <= heard,
             Standing::Member => {
                 view < number
-                    || (view == number && self.has_past(id, group, view, counts_in(times, group)))
+                    || (view == number && self.has_past(id, group, view, counts_in(clock)))
             }
         }
     }
@@ -167,13 +184,15 @@ impl Row {
     fn all_allow(&self, gates: &Keyed<GroupNo, Gate>, id: Uid, times: &Stamp) -> bool
         ensures { result ≡ all_allow gates.now self.now id times.now }
     {
-        self.standings.entries().iter().all(|(group, standing)| self.allows(
-            number_in(gates, *group),
-            id,
-            times,
-            *group,
-            *standing,
-        ))
+        let mut place = 0;
+        for (group, standing) in self.standings.entries() {
+            let (clock, next) = clock_near(times, place, *group);
+            if !self.allows(number_in(gates, *group), id, *group, clock, *standing) {
+                return false;
+            }
+            place = next;
+        }
+        true
     }
 
     /// Whether all that happened before a message was delivered to the process, a member of its group in the current

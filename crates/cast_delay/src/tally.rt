@@ -43,7 +43,15 @@ impl Tally {
     pub fn get(&self, source: Source) -> u32
         ensures { result ≡ count_at self.now source }
     {
-        count_in(&self.counts, source)
+        found_in(&self.counts, source).0
+    }
+
+    /// The count of a source, 0 where none is kept, and the place behind it. The place that is given is looked at
+    /// first: where sources are asked for in rising order, each mostly stands behind the one before.
+    pub fn near(&self, place: usize, source: Source) -> (u32, usize)
+        ensures { result.0 ≡ count_at self.now source }
+    {
+        near_in(&self.counts, place, source)
     }
 
     /// Sets the count of a source.
@@ -92,14 +100,25 @@ impl Tally {
     }
 }
 
-// The count of a source, 0 where none is kept, found by halving.
-fn count_in(counts: &[(Source, u32)], source: Source) -> u32
+// The count of a source, 0 where none is kept, and the place behind it: at a place, or else found by halving.
+fn near_in(counts: &[(Source, u32)], place: usize, source: Source) -> (u32, usize)
     requires { is_sorted source_cmp counts.now ≡ true }
-    ensures { result ≡ count_at counts.now source }
+    ensures { result.0 ≡ count_at counts.now source }
+{
+    if place < counts.len() && counts[place].0.cmp(&source).is_eq() {
+        return (counts[place].1, place + 1);
+    }
+    found_in(counts, source)
+}
+
+// The count of a source, 0 where none is kept, and the place behind it, found by halving.
+fn found_in(counts: &[(Source, u32)], source: Source) -> (u32, usize)
+    requires { is_sorted source_cmp counts.now ≡ true }
+    ensures { result.0 ≡ count_at counts.now source }
 {
     match counts.binary_search_by_key(&source, |entry| entry.0) {
-        Ok(place) => counts[place].1,
-        Err(_) => 0,
+        Ok(place) => (counts[place].1, place + 1),
+        Err(place) => (0, place),
     }
 }
 

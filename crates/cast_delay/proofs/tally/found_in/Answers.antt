@@ -4,7 +4,7 @@ use Rattle.cast_types.specs.declared.source.Source.{Source}
 use Rattle.cast_types.specs.Sources.{source_cmp}
 use Rattle.cast_types.proofs.Sources.{source_total}
 use Rattle.cast_delay.proofs.Halving.{search_found, search_absent}
-use Rattle.cast_delay.proofs.tally.count_in.Goals as goal
+use Rattle.cast_delay.proofs.tally.found_in.Goals as goal
 
 pub returns-in-Ok : goal.returns-in-Ok
 returns-in-Ok c =
@@ -14,4 +14,4 @@ returns-in-Ok c =
 pub returns-in-Err : goal.returns-in-Err
 returns-in-Err c =
     let by_source = c.in-Err.ensures.position (λ (e : Source × ℕ). e.0) (answers_always _ _ _ (λ f a r g called. search rules)) in
-    ap (λ (o : Option ℕ). unwrap_or o 0) (sym (search_absent source_cmp source_total c.args.source c.args.counts.now c.in-Err.field-0 c.requires by_source))
+    ap (λ (o : Option ℕ). unwrap_or o 0) (sym (search_absent source_cmp source_total c.args.source c.args.counts.now c.in-Err.place c.requires by_source))
