@@ -1,5 +1,5 @@
 -- What holds of each entry of a list in rising order of its keys.
-use Rattle.std.proofs.Common.{◌≡◌, suc, ◌≤◌, ◌⊎◌, inl, inr, length, arith, Bool, true, false, cond, ◌&&◌, List, [], ◌∷◌, Option, Some, None, unwrap_or, Ordering, Less, Equal, Greater, refl, sym, ap, subst, ◌∙◌}
+use Rattle.std.proofs.Common.{◌≡◌, ◌⊎◌, inl, inr, Bool, true, false, cond, ◌&&◌, List, [], ◌∷◌, Option, Some, None, unwrap_or, Ordering, Less, Equal, Greater, refl, sym, ap, subst, ◌∙◌}
 use Rattle.std.specs.Prelude.{T, IsTrue}
 use Rattle.std.specs.Ordering.{is_lt, is_eq}
 use Rattle.std.specs.Cmp.{IsTotalOrder}
@@ -112,12 +112,3 @@ found_or {R = R} exact P d absent es h q = elim (option_cases (find R q es)) [
 pub list_all_of : {A : Type 0} (p : A → Bool) (xs : List A) → ((x : A) → p x ≡ true) → list_all p xs ≡ true
 list_all_of p [] h = refl
 list_all_of p (x ∷ xs) h = and_true _ _ (h x) (list_all_of p xs h)
-
--- an entry more makes no list shorter
-pub longer_put : {K V : Type 0} (R : K → K → Ordering) (k : K) (v : V) (es : List (K × V)) → length es ≤ length (put R k v es)
-longer_put R k v [] = omega arith
-longer_put R k v (e ∷ es) = elim (R k e.0) as (λ o. suc (length es) ≤ length (by_order o ((k, v) ∷ e ∷ es) ((e.0, v) ∷ es) (e ∷ put R k v es))) [
-  | Less ↦ omega arith
-  | Equal ↦ omega arith
-  | Greater ↦ omega (arith, longer_put R k v es)
-]

@@ -4,3 +4,5 @@ pub mod Rooms
 pub mod Valid
 pub mod Orders
 pub mod Raised
+pub mod Halving
+pub mod News

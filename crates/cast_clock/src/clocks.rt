@@ -1,12 +1,14 @@
-ghost use Rattle.std.specs.Prelude.{◌≡◌, IfOk, IsTrue, true, nat_lt};
+ghost use Rattle.std.specs.Prelude.{◌≡◌, ◌<◌, ◌≤◌, ◌+◌, IfOk, IsOk, OnOk, OnErr, IsTrue, true, nat_lt, unwrap_or, vec_len, vec_capacity};
+ghost use Rattle.std.specs.Option.{option_copied};
 ghost use Rattle.std.specs.List.{list_all};
-ghost use Rattle.std.specs.FinMap.Entries.{is_sorted};
+ghost use Rattle.std.specs.FinMap.Entries.{put, is_sorted};
 ghost use Rattle.cast_types.specs.Names.{group_cmp};
 ghost use Rattle.cast_types.specs.Counts.{is_counts};
-ghost use Rattle.cast_clock.specs.Times.{clock_of, view_of, clock_at_most, at_most, join_clocks, clock_has_room, join, has_room, is_time};
+ghost use Rattle.cast_clock.specs.Times.{first_clock, clock_of, view_of, clock_at_most, at_most, join_clocks, clock_has_room};
+ghost use Rattle.cast_clock.specs.News.{is_known, news, put_all};
 
-use crate::counts::{counts_at_most, join_counts, joined_len};
-use cast_types::clock::copy_clocks;
+use crate::counts::{counts_at_most, covers, join_counts, joined_len};
+use crate::places::{find_near, place_near};
 use cast_types::limits::MAX_MEMBERS;
 use cast_types::{Clock, Counts, GroupNo, NoMemory, Proc, sorted};
 use std::alloc::Global;
@@ -67,28 +69,45 @@ pub fn all_at_most(clocks: &[(GroupNo, Clock)], others: &[(GroupNo, Clock)]) -> 
     clocks.iter().all(|e| is_at_most(&e.1, others, e.0))
 }
 
-/// Whether the joined clock of a group has at most 64 counts. Takes no memory.
-pub fn fits_joined(mine: &[(GroupNo, Clock)], theirs: &[(GroupNo, Clock)], group: GroupNo) -> bool
-    ensures { result ≡ clock_has_room (join_clocks (clock_of mine.now group) (clock_of theirs.now group)) }
+// A clock's view and counts: 0 and none where there is no clock.
+fn parts(clock: Option<&Clock>) -> (u32, &[(Proc, u32)])
+    ensures view { result.0 ≡ (unwrap_or (option_copied clock.entry) (first_clock 0)).view }
+    ensures counts { result.1.now ≡ (unwrap_or (option_copied clock.entry) (first_clock 0)).counts }
+    ensures valid { IsTrue (is_counts result.1.now) }
 {
-    let here = counts_among(mine, group);
-    let there = counts_among(theirs, group);
-    match view_among(mine, group).cmp(&view_among(theirs, group)) {
+    match clock {
+        Some(clock) => (clock.view, clock.counts.entries()),
+        None => (0, &[]),
+    }
+}
+
+/// Whether the joined clock has at most 64 counts. Takes no memory.
+pub fn fits_joined(mine: Option<&Clock>, theirs: &Clock) -> bool
+    ensures { result ≡ clock_has_room (join_clocks (unwrap_or (option_copied mine.entry) (first_clock 0)) theirs.now) }
+{
+    let (view, here) = parts(mine);
+    let there = theirs.counts.entries();
+    match view.cmp(&theirs.view) {
         Ordering::Less => there.len() <= MAX_MEMBERS,
         Ordering::Equal => joined_len(here, there) <= MAX_MEMBERS,
         Ordering::Greater => here.len() <= MAX_MEMBERS,
     }
 }
 
-/// Whether that holds of each of these groups.
-pub fn all_fit(
-    groups: &[(GroupNo, Clock)],
-    mine: &[(GroupNo, Clock)],
-    theirs: &[(GroupNo, Clock)],
-) -> bool
-    ensures { result ≡ list_all (λ e. clock_has_room (join_clocks (clock_of mine.now e.0) (clock_of theirs.now e.0))) groups.now }
+/// Whether each clock, joined with that of its group, has at most 64 counts. Takes no memory.
+pub fn all_fit(mine: &[(GroupNo, Clock)], theirs: &[(GroupNo, Clock)]) -> bool
+    requires { is_sorted group_cmp mine.now ≡ true }
+    ensures { result ≡ list_all (λ e. clock_has_room (join_clocks (clock_of mine.now e.0) e.1)) theirs.now }
 {
-    groups.iter().all(|e| fits_joined(mine, theirs, e.0))
+    let mut place = 0;
+    for (group, clock) in theirs {
+        let (found, next) = find_near(mine, place, group);
+        if !fits_joined(found, clock) {
+            return false;
+        }
+        place = next;
+    }
+    true
 }
 
 /// Whether each clock has a view from 1 on.
@@ -98,42 +117,103 @@ pub fn all_viewed(clocks: &[(GroupNo, Clock)]) -> bool
     clocks.iter().all(|e| e.1.view > 0)
 }
 
-/// The clock of the greater view, or of equal views the maximum of each count.
-#[tactic(auto, using(crate::proofs::Valid::joined_clock_valid))]
-pub fn join_clock(mine: Clock, theirs: &Clock) -> Result<Clock, NoMemory>
-    requires valid { IsTrue (is_counts mine.counts) }
-    requires room { clock_has_room (join_clocks mine theirs.now) ≡ true }
-    ensures value { IfOk result (λ c. c ≡ join_clocks mine theirs.now) }
-    ensures valid { IsTrue (is_counts (join_clocks mine theirs.now).counts) }
+// Whether a clock is kept that a join with the other leaves as it is.
+fn is_known(mine: Option<&Clock>, theirs: &Clock) -> bool
+    ensures { result ≡ is_known (option_copied mine.entry) theirs.now }
 {
-    let there = theirs.counts.entries();
-    match mine.view.cmp(&theirs.view) {
-        Ordering::Less => theirs.copy(),
-        Ordering::Equal => {
-            let Clock { view, counts } = mine;
-            let counts = join_counts(counts, there)?;
-            Ok(Clock { view, counts })
+    match mine {
+        Some(clock) => {
+            theirs.view < clock.view
+                || (clock.view == theirs.view
+                    && covers(clock.counts.entries(), theirs.counts.entries()))
         }
-        Ordering::Greater => Ok(mine),
+        None => false,
     }
 }
 
-/// The join of two times, group by group.
-pub fn join(
+/// The clock of the greater view, or of equal views the maximum of each count.
+#[tactic(auto, using(crate::proofs::Valid::joined_clock_valid))]
+pub fn join_clock(alloc: Global, mine: Option<&Clock>, theirs: &Clock) -> Result<Clock, NoMemory>
+    requires room { clock_has_room (join_clocks (unwrap_or (option_copied mine) (first_clock 0)) theirs.now) ≡ true }
+    ensures value { IfOk result (λ c. c ≡ join_clocks (unwrap_or (option_copied mine.entry) (first_clock 0)) theirs.now) }
+    ensures valid { IfOk result (λ c. IsTrue (is_counts c.counts)) }
+{
+    let (view, here) = parts(mine);
+    let there = theirs.counts.entries();
+    match view.cmp(&theirs.view) {
+        Ordering::Less => theirs.copy(),
+        Ordering::Equal => {
+            let counts = join_counts(alloc, here, there)?;
+            Ok(Clock { view, counts })
+        }
+        Ordering::Greater => {
+            let counts = Counts::from_entries(Vec::from_slice(alloc, here)?);
+            Ok(Clock { view, counts })
+        }
+    }
+}
+
+/// The joined clocks of the groups whose clock the join changes.
+pub fn news(
     alloc: Global,
     mine: &[(GroupNo, Clock)],
     theirs: &[(GroupNo, Clock)],
 ) -> Result<Vec<(GroupNo, Clock)>, NoMemory>
-    requires mine { IsTrue (is_time mine.now) }
-    requires theirs { IsTrue (is_sorted group_cmp theirs.now) }
-    requires room { has_room (join mine.now theirs.now) ≡ true }
-    ensures value { IfOk result (λ v. v.items ≡ join mine.now theirs.now) }
-    ensures valid { IfOk result (λ v. IsTrue (is_time v.items)) }
+    requires mine { is_sorted group_cmp mine.now ≡ true }
+    requires room { list_all (λ e. clock_has_room (join_clocks (clock_of mine.now e.0) e.1)) theirs.now ≡ true }
+    ensures value { IfOk result (λ v. v.items ≡ news mine.now theirs.now) }
+    ensures valid { IfOk result (λ v. list_all (λ e. is_counts e.1.counts) v.items ≡ true) }
 {
-    let mut joined = copy_clocks(alloc, mine)?;
+    let mut news = Vec::new(alloc);
+    let mut place = 0;
     for (group, clock) in theirs {
-        let here = clock_among(alloc, &joined, *group)?;
-        sorted::put(&mut joined, *group, join_clock(here, clock)?)?;
+        let (found, next) = find_near(mine, place, group);
+        if !is_known(found, clock) {
+            news.push((*group, join_clock(alloc, found, clock)?))?;
+        }
+        place = next;
     }
-    Ok(joined)
+    Ok(news)
+}
+
+/// Puts clocks in, one after the other. `NoMemory` changes nothing.
+pub fn put_all(
+    clocks: &mut Vec<(GroupNo, Clock)>,
+    news: Vec<(GroupNo, Clock)>,
+) -> Result<(), NoMemory>
+    requires { is_sorted group_cmp clocks.old.items ≡ true }
+    ensures ok { OnOk result (clocks.new.items ≡ put_all news.items clocks.old.items) }
+    ensures err { OnErr result (clocks.new.items ≡ clocks.old.items) }
+{
+    clocks.reserve(news.len())?;
+    let mut place = 0;
+    for (group, clock) in news {
+        place = put_near(clocks, place, group, clock)?;
+    }
+    Ok(())
+}
+
+// Sets the clock of a group. Answers the place behind it. The place that is given is looked at first.
+fn put_near(
+    clocks: &mut Vec<(GroupNo, Clock)>,
+    place: usize,
+    group: GroupNo,
+    clock: Clock,
+) -> Result<usize, NoMemory>
+    requires { is_sorted group_cmp clocks.old.items ≡ true }
+    ensures value { OnOk result (clocks.new.items ≡ put group_cmp group clock clocks.old.items) }
+    ensures len { vec_len clocks.new ≤ vec_len clocks.old + 1 }
+    ensures capacity { vec_capacity clocks.old ≤ vec_capacity clocks.new }
+    ensures succeeds { vec_len clocks.old < vec_capacity clocks.old → IsOk result }
+{
+    match place_near(clocks, place, &group) {
+        Ok(at) => {
+            clocks[at].1 = clock;
+            Ok(at + 1)
+        }
+        Err(at) => {
+            clocks.insert(at, (group, clock))?;
+            Ok(at + 1)
+        }
+    }
 }

@@ -16,6 +16,7 @@ mod clocks;
 mod counts;
 mod fault;
 pub mod laws;
+mod places;
 mod times;
 
 pub use fault::ClockFault;

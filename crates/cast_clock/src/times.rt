@@ -7,7 +7,7 @@ ghost use Rattle.cast_types.specs.Stamps.{is_stamp};
 ghost use Rattle.cast_clock.specs.Times.{no_time, view_of, count_in, bumped, entering, join, has_room, at_most, is_time, clock_of, IsAtMost};
 
 use crate::clocks::{
-    all_at_most, all_fit, all_viewed, clock_among, counts_among, join, view_among,
+    all_at_most, all_fit, all_viewed, clock_among, counts_among, news, put_all, view_among,
 };
 use crate::counts::{count_among, has_place};
 use crate::fault::ClockFault;
@@ -113,8 +113,7 @@ impl Times {
     pub fn has_room_for(&self, stamp: &Stamp) -> bool
         ensures { result ≡ has_room (join self.now stamp.now) }
     {
-        let theirs = stamp.clocks();
-        all_fit(&self.clocks, &self.clocks, theirs) && all_fit(theirs, &self.clocks, theirs)
+        all_fit(&self.clocks, stamp.clocks())
     }
 
     /// Joins the time with a stamp. `TooMany`: a group of the join has more than 64 counts. An error changes nothing.
@@ -127,7 +126,8 @@ impl Times {
         if !self.has_room_for(stamp) {
             return Err(ClockFault::TooMany);
         }
-        self.clocks = join(*self.clocks.allocator(), &self.clocks, stamp.clocks())?;
+        let news = news(*self.clocks.allocator(), &self.clocks, stamp.clocks())?;
+        put_all(&mut self.clocks, news)?;
         Ok(())
     }
 

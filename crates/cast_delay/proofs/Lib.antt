@@ -14,4 +14,3 @@ pub mod Members
 pub mod Rises
 pub mod Sourced
 pub mod Indexed
-pub mod Halving

@@ -5,7 +5,7 @@ use Rattle.std.proofs.lemmas.List.{get_or_default}
 use Rattle.cast_types.specs.Names.{group_cmp}
 use Rattle.cast_types.proofs.Orders.{group_total}
 use Rattle.cast_clock.proofs.Valid.{sorted_stamp}
-use Rattle.cast_delay.proofs.Halving.{found_here}
+use Rattle.cast_clock.proofs.Halving.{found_here}
 use Rattle.cast_delay.proofs.row.clock_near.Goals as goal
 
 -- the group at the place is the one that is asked for

@@ -3,7 +3,7 @@ use Rattle.std.proofs.lemmas.List.Sorted.{answers_always}
 use Rattle.cast_types.specs.declared.source.Source.{Source}
 use Rattle.cast_types.specs.Sources.{source_cmp}
 use Rattle.cast_types.proofs.Sources.{source_total}
-use Rattle.cast_delay.proofs.Halving.{search_found, search_absent}
+use Rattle.cast_clock.proofs.Halving.{search_found, search_absent}
 use Rattle.cast_delay.proofs.tally.found_in.Goals as goal
 
 pub returns-in-Ok : goal.returns-in-Ok

@@ -2,7 +2,7 @@ use Rattle.std.proofs.Common.{ℕ, Option, unwrap_or, ap, sym, ◌∙◌}
 use Rattle.std.specs.Ordering.{is_eq}
 use Rattle.cast_types.specs.Sources.{source_cmp}
 use Rattle.cast_types.proofs.Sources.{source_total}
-use Rattle.cast_delay.proofs.Halving.{found_here}
+use Rattle.cast_clock.proofs.Halving.{found_here}
 use Rattle.cast_delay.proofs.tally.near_in.Goals as goal
 
 -- the source at the place is the one that is asked for

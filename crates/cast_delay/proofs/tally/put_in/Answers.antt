@@ -5,7 +5,7 @@ use Rattle.std.proofs.lemmas.List.Sorted.{answers_always}
 use Rattle.cast_types.specs.declared.source.Source.{Source}
 use Rattle.cast_types.specs.Sources.{source_cmp}
 use Rattle.cast_types.proofs.Sources.{source_total}
-use Rattle.cast_delay.proofs.Halving.{put_found, put_absent}
+use Rattle.cast_clock.proofs.Halving.{put_found, put_absent}
 use Rattle.cast_delay.proofs.tally.put_in.Goals as goal
 
 -- the source was there, and its count is written over

@@ -1,4 +1,8 @@
-use Rattle.std.proofs.Common.{rules}
+use Rattle.std.proofs.Common.{◌≡◌, IsTrue, ◌∙◌, sym, subst, rules}
+use Rattle.cast_clock.specs.Times.{is_time}
+use Rattle.cast_clock.specs.News.{news, put_all}
+use Rattle.cast_clock.proofs.News.{all_fit, has_room-join, news_join, is_time-put_all}
+use Rattle.cast_clock.proofs.Valid.{sorted_stamp}
 use Rattle.cast_clock.proofs.times.Times.merge.Goals as goal
 
 pub returns-then-not-has_room_for-clause-err : goal.returns-then-not-has_room_for-clause-err
@@ -6,3 +10,28 @@ returns-then-not-has_room_for-clause-err c = search rules
 
 pub returns-clause-fits : goal.returns-clause-fits
 returns-clause-fits c = search rules
+
+pub news-requires-clause-room : goal.news-requires-clause-room
+news-requires-clause-room c =
+    let mine = c.args.self.now in
+    let theirs = c.args.stamp.now in
+    let valid : IsTrue (is_time mine) = subst (λ t. IsTrue (is_time t)) c.self.view_is c.self.invariant in
+    (λ i. all_fit ((c.deref.ensures.value ∙ c.self.view_is) i) (c.clocks.ensures.value i))
+    ∙ has_room-join mine theirs valid (sorted_stamp theirs c.clocks.ensures.valid)
+    ∙ sym c.has_room_for.ensures
+    ∙ c.if-not-has_room_for.false
+
+pub invariant_of-self-2 : goal.invariant_of-self-2
+invariant_of-self-2 c =
+    rw c.in_ok-put_all.ensures.ok (is_time-put_all c.in_ok-news.news.items c.self.inside.clocks.items c.self.invariant c.in_ok-news.ensures.valid)
+
+pub returns-clause-ok : goal.returns-clause-ok
+returns-clause-ok c =
+    let mine = c.args.self.now in
+    let theirs = c.args.stamp.now in
+    let valid : IsTrue (is_time mine) = subst (λ t. IsTrue (is_time t)) c.self.view_is c.self.invariant in
+    let made : c.in_ok-news.news.items ≡ news mine theirs =
+    c.in_ok-news.ensures.value ∙ (λ i. news ((c.deref.ensures.value ∙ c.self.view_is) i) (c.clocks.ensures.value i)) in
+    c.in_ok-put_all.ensures.ok
+    ∙ (λ i. put_all (made i) (c.self.view_is i))
+    ∙ news_join mine theirs valid (sorted_stamp theirs c.clocks.ensures.valid)
