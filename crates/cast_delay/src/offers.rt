@@ -20,7 +20,7 @@ use std::alloc::Global;
 use std::collections::VecDeque;
 use std::marker::Model;
 
-/// This many messages are looked at one by one, which costs no more than to look for the next one of each source.
+/// So many messages are looked at one by one; where more wait, the next one of each source is looked for.
 const FEW: usize = 16;
 
 /// Messages as the queue holds them, in order of receipt. Contracts see the list.
@@ -30,7 +30,7 @@ pub struct Offers {
     /// A number above all keys, as long as the messages are orderly: keys rise in order of receipt, each message names
     /// itself in its time, and no two have one id. Then a message is found by halving, and one that is ready by source.
     above: Option<usize>,
-    /// The ids of the messages with their keys, as long as the messages are orderly. Then it is not kept up any more.
+    /// The ids of the messages with their keys, as long as the messages are orderly; after that it is kept up no more.
     ids: Index,
 }
 
