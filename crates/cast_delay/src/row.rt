@@ -138,29 +138,38 @@ impl Row {
         least
     }
 
-    // Whether all of these counts but the message itself is delivered.
-    fn has_past(&self, id: Uid, group: GroupNo, view: u32, counts: &[(Proc, u32)]) -> bool
+    // Whether all of these counts but the message itself is delivered. The place is where the tally is looked at first,
+    // and moves on behind what is found.
+    fn has_past(
+        &self,
+        place: &mut usize,
+        id: Uid,
+        group: GroupNo,
+        view: u32,
+        counts: &[(Proc, u32)],
+    ) -> bool
         ensures { result ≡ has_past self.now id group view counts.now }
     {
-        let mut place = 0;
         for entry in counts {
             let source = Source {
                 group,
                 view,
                 process: entry.0,
             };
-            let (done, next) = self.done.near(place, source);
+            let (done, next) = self.done.near(*place, source);
             if done < needed(id, group, view, *entry) {
                 return false;
             }
-            place = next;
+            *place = next;
         }
         true
     }
 
-    // Whether nothing of a group holds the message back, where this is the group's clock in the message's time.
+    // Whether nothing of a group holds the message back, where this is the group's clock in the message's time. The
+    // place is where the tally is looked at first, and moves on behind what is found.
     fn allows(
         &self,
+        place: &mut usize,
         number: u32,
         id: Uid,
         group: GroupNo,
@@ -175,7 +184,7 @@ impl Row {
             Standing::Joining { heard, .. } => view <= heard,
             Standing::Member => {
                 view < number
-                    || (view == number && self.has_past(id, group, view, counts_in(clock)))
+                    || (view == number && self.has_past(place, id, group, view, counts_in(clock)))
             }
         }
     }
@@ -185,9 +194,11 @@ impl Row {
         ensures { result ≡ all_allow gates.now self.now id times.now }
     {
         let mut place = 0;
+        let mut done_place = 0;
         for (group, standing) in self.standings.entries() {
             let (clock, next) = clock_near(times, place, *group);
-            if !self.allows(number_in(gates, *group), id, *group, clock, *standing) {
+            let number = number_in(gates, *group);
+            if !self.allows(&mut done_place, number, id, *group, clock, *standing) {
                 return false;
             }
             place = next;
