@@ -35,8 +35,8 @@ pub struct Row {
     pub done: Tally,
 }
 
-// The clock of a group, and the place behind it: at a place, or else found from the front. Where groups are asked for
-// in rising order, each mostly stands behind the one before.
+// The clock of a group, and the place behind it: at a place, or else found by halving. Where groups are asked for in
+// rising order, each mostly stands behind the one before.
 fn clock_near(times: &Stamp, place: usize, group: GroupNo) -> (Option<&Clock>, usize)
     ensures { option_copied result.0 ≡ find group_cmp group times.now }
 {
@@ -44,7 +44,10 @@ fn clock_near(times: &Stamp, place: usize, group: GroupNo) -> (Option<&Clock>, u
     if place < clocks.len() && clocks[place].0.cmp(&group).is_eq() {
         return (Some(&clocks[place].1), place + 1);
     }
-    (times.get(group), place)
+    match clocks.binary_search_by_key(&group, |entry| entry.0) {
+        Ok(found) => (Some(&clocks[found].1), found + 1),
+        Err(next) => (None, next),
+    }
 }
 
 // The clock's view, 0 where the time says nothing of the group.
