@@ -19,6 +19,7 @@ pub mod Following
 pub mod Entering
 pub mod Passing
 pub mod Releases
+pub mod Freeing
 pub mod Commands
 pub mod Framing
 pub mod Dismissals

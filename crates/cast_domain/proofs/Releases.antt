@@ -157,21 +157,21 @@ abbrev drop_offered : List Offered → Key → List Offered
 drop_offered xs key = filter (λ x. not (key_eq x.key key)) xs
 
 -- all releases at once
-fold_release : (keys : List Key) (r : Records) → fold release_in r keys ≡ record r { part = record r.part { kept = fold drop_kept r.part.kept keys }; delay = record r.delay { offered = fold drop_offered r.delay.offered keys } }
+pub fold_release : (keys : List Key) (r : Records) → fold release_in r keys ≡ record r { part = record r.part { kept = fold drop_kept r.part.kept keys }; delay = record r.delay { offered = fold drop_offered r.delay.offered keys } }
 fold_release [] r = refl
 fold_release (key ∷ keys) r = fold_release keys (release_in r key)
 
-abbrev is_key : List Key → Key → Bool
+abbrev pub is_key : List Key → Key → Bool
 is_key keys key = list_any (key_eq key) keys
 
-filter_twice : {X : Type 0} (f g : X → Bool) (xs : List X) → filter f (filter g xs) ≡ filter (λ x. g x && f x) xs
+pub filter_twice : {X : Type 0} (f g : X → Bool) (xs : List X) → filter f (filter g xs) ≡ filter (λ x. g x && f x) xs
 filter_twice f g [] = refl
 filter_twice f g (x ∷ xs) = elim (g x) as (λ b. filter f (cond b (x ∷ filter g xs) (filter g xs)) ≡ cond (b && f x) (x ∷ filter (λ y. g y && f y) xs) (filter (λ y. g y && f y) xs)) [
   | true ↦ ap (λ ys. cond (f x) (x ∷ ys) ys) (filter_twice f g xs)
   | false ↦ filter_twice f g xs
 ]
 
-filter_same : {X : Type 0} (f g : X → Bool) (xs : List X) → ((x : X) → In x xs → f x ≡ g x) → filter f xs ≡ filter g xs
+pub filter_same : {X : Type 0} (f g : X → Bool) (xs : List X) → ((x : X) → In x xs → f x ≡ g x) → filter f xs ≡ filter g xs
 filter_same f g [] same = refl
 filter_same f g (x ∷ xs) same = λ i. cond (same x (inl refl) i) (x ∷ filter_same f g xs (λ y at. same y (inr at)) i) (filter_same f g xs (λ y at. same y (inr at)) i)
 

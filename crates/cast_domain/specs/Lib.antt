@@ -6,3 +6,4 @@ pub mod Fits
 pub mod Stepped
 pub mod Shows
 pub mod Copies
+pub mod Freed

@@ -222,7 +222,7 @@ impl Domain {
             outs: &mut step,
         };
         let taken = self.act(event, &mut lent)?;
-        self.let_go(&mut lent)?;
+        self.let_go(&mut lent);
         self.rest(&mut lent)?;
         let kept = lent.shared.store.kept(self.config.domain);
         self.trim_orders(kept);

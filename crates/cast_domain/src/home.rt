@@ -8,7 +8,7 @@ ghost use Rattle.cast_history.specs.Rules.Home.{announce, decide, drop_want, dro
 
 use crate::domain::Domain;
 use crate::lent::Lent;
-use crate::owing::{home_key, message_among, want_key};
+use crate::owing::{home_key, want_key};
 use crate::record::{
     ask_home_at, body_at, decide_at, installed_at, report_at, start_at, suspect_at,
 };
@@ -298,7 +298,7 @@ impl Domain {
     {
         let found = match body_of(self.record(place).home.bodies(), id) {
             Some(message) => Some(message),
-            None => message_among(lent.shared.store.kept(self.config.domain), id),
+            None => lent.shared.store.find(self.config.domain, id),
         };
         match found {
             Some(message) => Ok(Some(message.copy()?)),

@@ -199,7 +199,7 @@ impl Domain {
             return Ok(false);
         };
         self.send_places(place, serial, time, stamp, places, lent)?;
-        self.let_go(lent)?;
+        self.let_go(lent);
         Ok(true)
     }
 

@@ -1,7 +1,5 @@
 ghost use Rattle.std.specs.Prelude.{◌≡◌, ◌<◌, ◌+◌, IfOk, OnOk, vec_len};
-ghost use Rattle.std.specs.Option.{option_copied, option_map};
-ghost use Rattle.std.specs.List.{find};
-ghost use Rattle.cast_types.specs.Names.{uid_eq};
+ghost use Rattle.std.specs.Option.{option_map};
 ghost use Rattle.cast_message.specs.declared.site.SiteFrame.TheVariants as frame;
 ghost use Rattle.cast_view.specs.MemberSide.{first_asking};
 ghost use Rattle.cast_history.specs.Rules.Keys.{ask_key, home_key, id_in, message_key, want_key};
@@ -9,7 +7,7 @@ ghost use Rattle.cast_history.specs.Rules.Owing.{ask_frame, install_frame, frame
 
 use crate::domain::Domain;
 use crate::lent::Lent;
-use cast_message::{Message, Received, SiteFrame};
+use cast_message::SiteFrame;
 use cast_timer::{OwedKey, OwedKind, Side};
 use cast_types::{GroupNo, NoMemory, Proc, SiteNo, Uid};
 use cast_view::{HomeSide, Phase};
@@ -108,14 +106,6 @@ fn id_in(view: u32, key: &OwedKey) -> Uid
         proc: key.proc,
         count: key.count,
     }
-}
-
-/// The message of an id among kept ones.
-pub(crate) fn message_among(kept: &[Received], id: Uid) -> Option<&Message>
-    ensures { option_copied result ≡ option_map (λ x. x.message) (find (λ x. uid_eq x.message.id id) kept.now) }
-{
-    let received = kept.iter().find(|received| received.message.id == id)?;
-    Some(&received.message)
 }
 
 impl Domain {
@@ -236,7 +226,7 @@ impl Domain {
     fn data_frame(&self, id: Uid, lent: &Lent<'_>) -> Result<Option<SiteFrame>, NoMemory>
         ensures { IfOk result (λ f. f ≡ option_map frame.Data (message_in (records_in self.now lent.now) id)) }
     {
-        match message_among(lent.shared.store.kept(self.config.domain), id) {
+        match lent.shared.store.find(self.config.domain, id) {
             Some(message) => Ok(Some(SiteFrame::Data(message.copy()?))),
             None => Ok(None),
         }

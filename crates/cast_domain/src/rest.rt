@@ -100,7 +100,7 @@ impl Domain {
         };
         let delivery = delivery_of(message)?;
         self.deliver(process, key, delivery, lent)?;
-        self.let_go(lent)?;
+        self.let_go(lent);
         Ok(true)
     }
 

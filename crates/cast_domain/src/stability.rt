@@ -1,11 +1,11 @@
-ghost use Rattle.std.specs.Prelude.{◌≡◌, ◌<◌, IfOk, OnOk, map, filter, vec_len};
+ghost use Rattle.std.specs.Prelude.{◌≡◌, ◌<◌, true, IfNone, IfSome, OnOk, vec_len};
 ghost use Rattle.std.specs.List.{fold};
 ghost use Rattle.cast_history.specs.Rules.Data.{acknowledge};
 
 use crate::domain::Domain;
 use crate::lent::Lent;
 use crate::owing::message_key;
-use cast_message::{Received, SiteFrame};
+use cast_message::SiteFrame;
 use cast_model::Outs;
 use cast_timer::OwedKind;
 use cast_types::{Key, NoMemory, SiteNo, Uid};
@@ -18,6 +18,8 @@ impl Domain {
     ghost use Rattle.cast_history.specs.Rules.Stability.{is_used_ack, on_ack, on_stable, tell_more, tell_stable, with_ack};
     ghost use Rattle.cast_domain.specs.Records.{GivesBack, Keeps, KeepsBeside, records_in, records_of};
     ghost use Rattle.cast_domain.specs.Shared.{Part, no_part};
+    ghost use Rattle.cast_store.specs.Ids.{IsKeptOf};
+    ghost use Rattle.cast_domain.specs.Freed.{AreNotFree};
     ghost use Rattle.cast_domain.specs.Calls.{is_current_in, is_open_in, records, resting_records, release_in};
 
     // Acknowledges a received message: its site is owed that until it tells that the message is stable.
@@ -136,26 +138,24 @@ impl Domain {
     }
 
     // Lets go of all free messages.
-    pub(crate) fn let_go(&mut self, lent: &mut Lent<'_>) -> Result<(), NoMemory>
+    pub(crate) fn let_go(&mut self, lent: &mut Lent<'_>)
         ensures stays { KeepsBeside self.old lent.old self.new lent.new }
-        ensures made { OnOk result (records_in self.new lent.new ≡ let_go records resting_records (records_in self.old lent.old)) }
+        ensures made { records_in self.new lent.new ≡ let_go records resting_records (records_in self.old lent.old) }
     {
-        let free = self.free_keys(lent.shared.store.kept(self.config.domain))?;
-        for key in free.as_slice() {
-            self.release(*key, lent);
+        while let Some(key) = self.free_key(lent) {
+            self.release(key, lent);
         }
-        Ok(())
     }
 
-    // The keys of the free ones among kept messages.
-    fn free_keys(&self, kept: &[Received]) -> Result<Vec<Key>, NoMemory>
-        ensures { IfOk result (λ keys. keys.items ≡ map (λ x. x.key) (filter (λ x. is_free records resting_records (records_of self.now no_part no_outs) x.message.id) kept.now)) }
+    // The key of a free message, where one is free. Of each process's messages only the first one is looked at: where that is
+    // not free, none behind it is.
+    fn free_key(&self, lent: &Lent<'_>) -> Option<Key>
+        ensures some { IfSome result (IsKeptOf (λ id. is_free records resting_records (records_in self.now lent.now) id ≡ true) (records_in self.now lent.now).part.kept) }
+        ensures none { IfNone result (AreNotFree (records_in self.now lent.now)) }
     {
-        let alloc = *self.groups.allocator();
-        kept.iter()
-            .filter(|kept| self.is_free(kept.message.id))
-            .map(|kept| kept.key)
-            .collect(alloc)
+        lent.shared
+            .store
+            .first_passing(self.config.domain, |id| self.is_free(id))
     }
 
     // Whether a message is of the current view, which is not frozen, stable, and delivered to each member here.

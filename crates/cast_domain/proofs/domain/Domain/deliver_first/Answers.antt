@@ -36,7 +36,7 @@ returns-clause-made c =
     let some : ready_key_in r (local_in r k) ≡ Some key = ap (ready_key_in r) (sym own) ∙ sym c.in_ok-key.ensures ∙ c.in-Some.is in
     let found : message_under r.part.kept key ≡ Some m = sym c.get.ensures ∙ ap option_copied c.in-Some-get.is in
     let next : next_ready_in r k ≡ Some m = ap (λ (o : Option Key). option_map_or (message_under r.part.kept) o None) some ∙ found in
-    c.in_ok-let_go.ensures.made
+    c.let_go.ensures.made
     ∙ ap (release.let_go records resting_records) (
     c.in_ok-deliver.ensures.made
     ∙ (λ j. deliver_as r (own j) key (c.in_ok-delivery.ensures j))

@@ -1,24 +1,30 @@
-use Rattle.std.proofs.Common.{◌+◌, ◌∙◌, sym, ap, drop, arith}
-use Rattle.std.specs.List.{fold}
-use Rattle.std.proofs.lemmas.List.{drop_all}
-use Rattle.cast_domain.specs.Records.{records_in}
-use Rattle.cast_domain.specs.Calls.{release_in}
-use Rattle.cast_domain.proofs.Loops.{beside_then, fold_item}
+use Rattle.std.proofs.Common.{◌≡◌, ◌∙◌, sym, ap, true, length, ◌<◌, subst}
+use Rattle.cast_types.specs.declared.names.Uid.{Uid}
+use Rattle.cast_history.specs.Rules.Release as release
+use Rattle.cast_domain.specs.Records.{Records, records_in}
+use Rattle.cast_domain.specs.Calls.{records, resting_records}
+use Rattle.cast_domain.proofs.Loops.{beside_then}
+use Rattle.cast_domain.proofs.Freeing.{let_go_first, none_let_go, fewer_kept}
 use Rattle.cast_domain.proofs.domain.Domain.let_go.Goals as goal
 
 pub loop-key-preserved : goal.loop-key-preserved
 loop-key-preserved c =
-    let keys = c.as_slice-key-items.result.now in
-    let i = c.loop-key.key-index in
+    let r = records_in c.loop-key.self c.loop-key.lent in
     record {
       stays = beside_then c.loop-key.invariant.stays c.release.ensures.stays;
       left =
-          ap (λ x. fold release_in x (drop (i + 1) keys)) c.release.ensures.made
-          ∙ fold_item release_in (records_in c.loop-key.self c.loop-key.lent) keys i _ (omega arith)
+          ap (release.let_go records resting_records) c.release.ensures.made
+          ∙ let_go_first r c.in-Some.key c.in-Some.ensures.some
           ∙ c.loop-key.invariant.left;
     }
 
 pub returns-clause-made : goal.returns-clause-made
 returns-clause-made c =
-    sym (ap (fold release_in (records_in c.loop-key.self c.loop-key.lent)) (drop_all c.loop-key.key-index c.as_slice-key-items.result.now c.loop-key-test.false))
-    ∙ c.loop-key.invariant.left
+    let r = records_in c.loop-key.self c.loop-key.lent in
+    sym (none_let_go r c.in_default.ensures.none) ∙ c.loop-key.invariant.left
+
+pub loop-key-smaller : goal.loop-key-smaller
+loop-key-smaller c =
+    let r = records_in c.loop-key.self c.loop-key.lent in
+    subst (λ (x : Records). length x.part.kept < length r.part.kept) (sym c.release.ensures.made)
+    (fewer_kept r c.in-Some.key (λ (id : Uid). release.is_free records resting_records r id ≡ true) c.in-Some.ensures.some)

@@ -1,13 +1,16 @@
-use Rattle.std.proofs.Common.{◌≡◌, drop}
-use Rattle.std.specs.List.{fold}
+use Rattle.std.proofs.Common.{◌≡◌, length}
 use Rattle.cast_history.specs.Rules.Release as release
-use Rattle.cast_domain.specs.Calls.{release_in, records, resting_records}
+use Rattle.cast_domain.specs.Calls.{records, resting_records}
 use Rattle.cast_domain.specs.Records.{KeepsBeside, records_in}
+use Rattle.cast_domain.specs.Shared.{part_of}
 use Rattle.cast_domain.proofs.domain.Domain.let_go.Given as goal
 
--- the keys that are left lead to the same records
+-- to let go of what is free still leads to the same records
 abbrev pub invariant-loop-key : goal.invariant-loop-key
 invariant-loop-key l = record {
   stays : KeepsBeside l.fn.self l.fn.lent l.self l.lent;
-  left : fold release_in (records_in l.self l.lent) (drop l.key-index l.key-items) ≡ release.let_go records resting_records (records_in l.fn.self l.fn.lent);
+  left : release.let_go records resting_records (records_in l.self l.lent) ≡ release.let_go records resting_records (records_in l.fn.self l.fn.lent);
 }
+
+abbrev pub decreases-loop-key : goal.decreases-loop-key
+decreases-loop-key l = length (records_in l.self l.lent).part.kept

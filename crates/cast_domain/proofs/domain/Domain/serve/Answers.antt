@@ -50,15 +50,15 @@ returns-clause-steps c s means =
     let acts_lawful : IsLawful (acted b e) = lawful_acted b e lawful (unborn r b means.fits) typed in
     let acts_dismissed : AreDismissed acted_records = subst AreDismissed (sym made) (dismissed_acted r b e means.fits typed means.dismissed) in
     let after : Fits (records_in c.let_go.new.self c.let_go.new.lent) (let_go (acted b e)) =
-    subst (λ x. Fits x (let_go (acted b e))) (sym c.in_ok-let_go.ensures.made) (fits_let_go acted_records (acted b e) acts acts_lawful) in
-    let after_dismissed : AreDismissed (records_in c.let_go.new.self c.let_go.new.lent) = subst AreDismissed (sym c.in_ok-let_go.ensures.made) (dismissed_let_go acted_records acts_dismissed) in
+    subst (λ x. Fits x (let_go (acted b e))) (sym c.let_go.ensures.made) (fits_let_go acted_records (acted b e) acts acts_lawful) in
+    let after_dismissed : AreDismissed (records_in c.let_go.new.self c.let_go.new.lent) = subst AreDismissed (sym c.let_go.ensures.made) (dismissed_let_go acted_records acts_dismissed) in
     let after_lawful = lawful_let_go (acted b e) acts_lawful in
     let rested = c.in_ok-rest.ensures.rests (let_go (acted b e)) after after_lawful in
     let t = rested.0 in
     let fits = rested.2 in
     let lent = c.rest.new.lent in
     let added : c.append.new.self ≡ outs_then before lent.outs.now = search rules in
-    let same : c.rest.new.self.config.domain ≡ here.config.domain = ap (λ (k : DomainConfig). k.domain) (c.in_ok-rest.ensures.stays.same.config ∙ c.in_ok-let_go.ensures.stays.same.config ∙ c.in_ok-taken.ensures.same.1) in
+    let same : c.rest.new.self.config.domain ≡ here.config.domain = ap (λ (k : DomainConfig). k.domain) (c.in_ok-rest.ensures.stays.same.config ∙ c.let_go.ensures.stays.same.config ∙ c.in_ok-taken.ensures.same.1) in
     let last_lawful = lawful_rests (let_go (acted b e)) t after_lawful rested.1 in
     let rested_records = records_of c.rest.new.self (part_of c.rest.new.self.config.domain lent.shared.now) lent.outs.now in
     let trimmed : Fits (records_of c.trim_orders.new.self (part_of c.rest.new.self.config.domain lent.shared.now) lent.outs.now) t =

@@ -57,7 +57,7 @@ returns-clause-made c =
     let next : next_places (log_of r.orders (record_at r.groups i).name) ≡ Some c.in-Some.places =
     ap (λ g. next_places (log_of r.orders g)) (sym name) ∙ sym c.in_ok-places.ensures ∙ c.in-Some.is in
     let raised = raised_some (may_raise (time_of r.delay holder) h holder) (bumped (time_of r.delay holder) h holder) c.in-Some-2.time c.in-Some-2.stamp (sym c.in-Some-2.is ∙ c.in_ok-time.ensures) in
-    c.in_ok-let_go.ensures.made
+    c.let_go.ensures.made
     ∙ ap (release.let_go records resting_records) c.in_ok-send_places.ensures.made
     ∙ sym (places_made r i c.args.serial c.in-Some.places may next ((λ j. may_raise (time_of r.delay (sym p j)) (sym name j) (sym p j)) ∙ raised.0))
 
