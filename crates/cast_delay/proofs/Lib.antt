@@ -11,6 +11,5 @@ pub mod Words
 pub mod Least
 pub mod Settled
 pub mod Members
-pub mod Rises
 pub mod Sourced
 pub mod Indexed

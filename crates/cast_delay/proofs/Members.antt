@@ -1,10 +1,11 @@
 -- What a search in a list says of the list's items, and which is the first where a number of each rises.
 use Rattle.std.proofs.Common.{◌≡◌, ℕ, ◌<◌, ◌≤◌, Bool, true, false, cond, List, [], ◌∷◌, Contains, Some, None, refl, sym, ap, subst, ◌∙◌, inl, inr, arith}
 use Rattle.std.specs.Prelude.{nat_lt}
-use Rattle.std.specs.List.{list_all, list_any, filter, find}
-use Rattle.std.proofs.lemmas.Bool.{cases_Bool, false≢true, and_parts, or_cases, or_left, or_right, or_from, ltb-true}
+use Rattle.std.specs.List.{list_any, filter, find}
+use Rattle.std.proofs.lemmas.Bool.{cases_Bool, false≢true, or_cases, or_left, or_right, or_from, ltb-true}
 use Rattle.cast_types.proofs.Contains.{contains_here, contains_later}
-use Rattle.cast_delay.specs.Offers.{rises}
+use Rattle.cast_index.specs.Rises.{rises}
+use Rattle.cast_index.proofs.Rises.{parts_of}
 use Rattle.cast_delay.proofs.Listed.{contains_cases, all_each}
 
 module _ {X : Type 0} (t : X → Bool) where
@@ -83,10 +84,7 @@ module _ {X : Type 0} (t : X → Bool) where
 module _ {X : Type 0} (n : X → ℕ) where
   behind : (y : X) (ys : List X) (x : X) → rises n (y ∷ ys) ≡ true → Contains ys x → n y < n x
   behind y ys x up has =
-      ltb-true (n y) (n x) (all_each (λ z. nat_lt (n y) (n z)) ys (and_parts (list_all (λ z. nat_lt (n y) (n z)) ys) (rises n ys) up).0 x has)
-
-  rest_of : (y : X) (ys : List X) → rises n (y ∷ ys) ≡ true → rises n ys ≡ true
-  rest_of y ys up = (and_parts (list_all (λ z. nat_lt (n y) (n z)) ys) (rises n ys) up).1
+      ltb-true (n y) (n x) (all_each (λ z. nat_lt (n y) (n z)) ys (parts_of n y ys up).0 x has)
 
   -- items with one number are one
   pub same_item : (xs : List X) (a b : X) → rises n xs ≡ true → Contains xs a → Contains xs b → n a ≡ n b → a ≡ b
@@ -98,7 +96,7 @@ module _ {X : Type 0} (n : X → ℕ) where
     ]
     | inr a_later ↦ elim (contains_cases y b ys hb) [
       | inl b_here ↦ absurd (omega (arith, behind y ys a up a_later, ap n b_here, same))
-      | inr b_later ↦ same_item ys a b (rest_of y ys up) a_later b_later same
+      | inr b_later ↦ same_item ys a b (parts_of n y ys up).1 a_later b_later same
     ]
   ]
 
@@ -112,7 +110,7 @@ module _ {X : Type 0} (n : X → ℕ) where
         | inl first ↦ absurd (omega (arith, behind y ys m up later, least y (contains_here y ys) first))
         | inr other ↦
             ap (λ b. cond b (Some y) (find t ys)) other
-            ∙ first_is ys m (rest_of y ys up) later passes (λ x there. least x (contains_later x y ys there))
+            ∙ first_is ys m (parts_of n y ys up).1 later passes (λ x there. least x (contains_later x y ys there))
       ]
     ]
 
@@ -127,6 +125,6 @@ module _ {X : Type 0} (n : X → ℕ) where
           ]
       | inr other ↦ elim (contains_cases y x ys has) [
         | inl here ↦ absurd (false≢true (sym other ∙ ap t here ∙ passes))
-        | inr later ↦ found_least ys m (rest_of y ys up) (sym (ap (λ b. cond b (Some y) (find t ys)) other) ∙ found) x later passes
+        | inr later ↦ found_least ys m (parts_of n y ys up).1 (sym (ap (λ b. cond b (Some y) (find t ys)) other) ∙ found) x later passes
       ]
     ]

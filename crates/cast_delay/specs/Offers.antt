@@ -1,5 +1,5 @@
 -- What is known of the messages and of their ids, so that those that may be ready are found without looking at all.
-use Rattle.std.specs.Prelude.{◌≡◌, ℕ, ◌+◌, ◌≤◌, Bool, true, false, not, ◌&&◌, ◌==◌, nat_lt, nat_le, if◌then◌else◌, List, [], ◌∷◌, take, Option, Some, None}
+use Rattle.std.specs.Prelude.{◌≡◌, ℕ, ◌+◌, ◌≤◌, Bool, true, false, not, ◌&&◌, ◌==◌, nat_lt, nat_le, if◌then◌else◌, List, take, Option, Some, None}
 use Rattle.std.specs.List.{list_all, list_any, find}
 use Rattle.std.specs.Option.{option_and_then}
 use Rattle.cast_types.specs.declared.names.GroupNo.{GroupNo}
@@ -12,19 +12,11 @@ use Rattle.cast_clock.specs.Times.{view_of, count_in}
 use Rattle.cast_message.specs.Receipts.{key_eq}
 use Rattle.cast_index.specs.declared.entry.Entry.{Entry}
 use Rattle.cast_index.specs.Index.{has, is_behind}
+use Rattle.cast_index.specs.Rises.{rises, all_below}
 use Rattle.cast_delay.specs.declared.gate.Gate.{Gate}
 use Rattle.cast_delay.specs.declared.row.Row.{Row}
 use Rattle.cast_delay.specs.declared.offered.Offered.{Offered}
 use Rattle.cast_delay.specs.Rows.{done_in, is_causally_ready_row}
-
--- whether each number is below those of all that stand behind it
-abbrev pub rises : {X : Type 0} → (X → ℕ) → List X → Bool
-rises n [] = true
-rises n (x ∷ xs) = list_all (λ y. nat_lt (n x) (n y)) xs && rises n xs
-
--- whether each is below another number
-abbrev pub all_below : {X : Type 0} → (X → ℕ) → ℕ → List X → Bool
-all_below n top xs = list_all (λ x. nat_lt (n x) top) xs
 
 -- the number of a message's key
 abbrev pub key_of : Offered → ℕ

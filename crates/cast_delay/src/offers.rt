@@ -6,9 +6,10 @@ ghost use Rattle.cast_types.specs.declared.names.Key.{Key};
 ghost use Rattle.cast_types.specs.declared.names.Uid.{Uid};
 ghost use Rattle.cast_message.specs.Receipts.{key_eq};
 ghost use Rattle.cast_index.specs.Index.{has, is_pair};
+ghost use Rattle.cast_index.specs.Rises.{rises};
 ghost use Rattle.cast_delay.specs.Queue.{first_for, has_candidate, offered_under, but_offered};
 ghost use Rattle.cast_delay.specs.Rows.{is_causally_ready_row, is_ready_row};
-ghost use Rattle.cast_delay.specs.Offers.{rises, key_of, is_regular, none_ready, AreIndexed, AreOrderly, MayCome, next_of, passing, earlier};
+ghost use Rattle.cast_delay.specs.Offers.{key_of, is_regular, none_ready, AreIndexed, AreOrderly, MayCome, next_of, passing, earlier};
 
 use crate::gate::Gate;
 use crate::offered::Offered;

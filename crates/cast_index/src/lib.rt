@@ -6,7 +6,7 @@
 //! `copy` take memory; where it is refused nothing changes.
 //!
 //! The definitions are in `specs/Index.antt`: when an index has a pair, which ids stand behind a source, and what the
-//! first of them is.
+//! first of them is; and in `specs/Rises.antt`: what it is for a number of each item to rise.
 #![tactic(auto)]
 
 mod entry;

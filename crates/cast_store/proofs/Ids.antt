@@ -14,8 +14,10 @@ use Rattle.cast_message.specs.declared.message.Received.{Received}
 use Rattle.cast_message.specs.Receipts.{key_eq, message_under}
 use Rattle.cast_index.specs.declared.entry.Entry.{Entry}
 use Rattle.cast_index.specs.Index.{has, is_behind, source_of, IsFirstBehind}
-use Rattle.cast_store.specs.Store.{is_rising}
+use Rattle.cast_index.proofs.Rises.{above_at}
+use Rattle.cast_store.specs.Store.{key_of, is_rising}
 use Rattle.cast_store.specs.Ids.{IsKeptOf, IsLedBy, HasIdsOf, is_named, message_of}
+use Rattle.cast_store.proofs.Keys.{first_parts}
 
 -- One more
 
@@ -39,11 +41,9 @@ ids_push old new xs x ids named u k = named u k ∙ ap (λ b. cond (is_named u k
 pub not_named : (next : ℕ) (xs : List Received) (u : Uid) → is_rising next xs ≡ true → list_any (is_named u (record { 0 = next })) xs ≡ false
 not_named next [] u rises = refl
 not_named next (x ∷ xs) u rises =
-    let first = and_parts (nat_lt x.key.0 next) (list_all (λ s. nat_lt x.key.0 s.key.0) xs && is_rising next xs) rises in
-    let rest = and_parts (list_all (λ s. nat_lt x.key.0 s.key.0) xs) (is_rising next xs) first.1 in
-    let lt = ltb-true x.key.0 next first.0 in
-    ap (λ b. b || list_any (is_named u (record { 0 = next })) xs) (fails (uid_eq x.message.id u) (x.key.0 == next) (ne_eqb x.key.0 next (λ same. omega (arith, same, lt))))
-    ∙ not_named next xs u rest.1
+    let parts = first_parts next x xs rises in
+    ap (λ b. b || list_any (is_named u (record { 0 = next })) xs) (fails (uid_eq x.message.id u) (x.key.0 == next) (ne_eqb x.key.0 next (λ same. omega (arith, same, parts.0))))
+    ∙ not_named next xs u parts.2
   where
     fails : (a b : Bool) → b ≡ false → (a && b) ≡ false
     fails true b h = h
@@ -70,20 +70,18 @@ same_key a b h = ap (λ n. record { 0 = n }) (eqb-true a.0 b.0 h)
 any_remove : (next : ℕ) (xs : List Received) (i : ℕ) (d : Received) → is_rising next xs ≡ true → i < length xs → (u : Uid) (k : Key) → cond (is_named u k (get_or xs i d)) false (list_any (is_named u k) xs) ≡ list_any (is_named u k) (remove xs i)
 any_remove next [] i d rises lt u k = absurd (omega (arith, lt))
 any_remove next (x ∷ xs) zero d rises lt u k =
-    let first = and_parts (nat_lt x.key.0 next) (list_all (λ s. nat_lt x.key.0 s.key.0) xs && is_rising next xs) rises in
-    let rest = and_parts (list_all (λ s. nat_lt x.key.0 s.key.0) xs) (is_rising next xs) first.1 in
+    let parts = first_parts next x xs rises in
     elim (cases_Bool (is_named u k x)) [
       | inl here ↦
           let keys = same_key x.key k (and_parts (uid_eq x.message.id u) (x.key.0 == k.0) here).1 in
           ap (λ b. cond b false (b || list_any (is_named u k) xs)) here
-          ∙ sym (ap (λ q. list_any (is_named u q) xs) (sym keys) ∙ apart_any x.key xs rest.0 u)
+          ∙ sym (ap (λ q. list_any (is_named u q) xs) (sym keys) ∙ apart_any x.key xs parts.1 u)
       | inr other ↦ ap (λ b. cond b false (b || list_any (is_named u k) xs)) other
     ]
 any_remove next (x ∷ xs) (suc i) d rises lt u k =
-    let first = and_parts (nat_lt x.key.0 next) (list_all (λ s. nat_lt x.key.0 s.key.0) xs && is_rising next xs) rises in
-    let rest = and_parts (list_all (λ s. nat_lt x.key.0 s.key.0) xs) (is_rising next xs) first.1 in
+    let parts = first_parts next x xs rises in
     let r = get_or xs i d in
-    let above = above_at x.key.0 xs i d rest.0 (omega (arith, lt)) in
+    let above = above_at key_of x.key.0 xs i d parts.1 (omega (arith, lt)) in
     elim (cases_Bool (is_named u k x)) [
       | inl here ↦
           let keys = same_key x.key k (and_parts (uid_eq x.message.id u) (x.key.0 == k.0) here).1 in
@@ -96,14 +94,9 @@ any_remove next (x ∷ xs) (suc i) d rises lt u k =
           ∙ sym (ap (λ b. b || list_any (is_named u k) (remove xs i)) here)
       | inr other ↦
           ap (λ b. cond (is_named u k r) false (b || list_any (is_named u k) xs)) other
-          ∙ any_remove next xs i d rest.1 (omega (arith, lt)) u k
+          ∙ any_remove next xs i d parts.2 (omega (arith, lt)) u k
           ∙ sym (ap (λ b. b || list_any (is_named u k) (remove xs i)) other)
     ]
-  where
-    above_at : (m : ℕ) (ys : List Received) (j : ℕ) (e : Received) → list_all (λ s. nat_lt m s.key.0) ys ≡ true → j < length ys → m < (get_or ys j e).key.0
-    above_at m [] j e all within = absurd (omega (arith, within))
-    above_at m (y ∷ ys) zero e all within = ltb-true m y.key.0 (and_parts (nat_lt m y.key.0) (list_all (λ s. nat_lt m s.key.0) ys) all).0
-    above_at m (y ∷ ys) (suc j) e all within = above_at m ys j e (and_parts (nat_lt m y.key.0) (list_all (λ s. nat_lt m s.key.0) ys) all).1 (omega (arith, within))
 
 pub ids_remove : (next : ℕ) (old new : List Entry) (xs : List Received) (i : ℕ) (d : Received) → is_rising next xs ≡ true → i < length xs → HasIdsOf old xs → ((u : Uid) (k : Key) → has new u k ≡ cond (is_named u k (get_or xs i d)) false (has old u k)) → HasIdsOf new (remove xs i)
 ids_remove next old new xs i d rises lt ids unnamed u k =
@@ -173,14 +166,13 @@ first_of next xs u k rises there least = ap (λ (o : Option Received). option_ma
     go : (ys : List Received) → is_rising next ys ≡ true → list_any (is_named u k) ys ≡ true → ((j : Key) → list_any (is_named u j) ys ≡ true → k.0 ≤ j.0) → find (λ r. key_eq r.key k) ys ≡ find (λ r. uid_eq r.message.id u) ys
     go [] rises there least = absurd (false≢true there)
     go (y ∷ ys) rises there least =
-        let first = and_parts (nat_lt y.key.0 next) (list_all (λ s. nat_lt y.key.0 s.key.0) ys && is_rising next ys) rises in
-        let rest = and_parts (list_all (λ s. nat_lt y.key.0 s.key.0) ys) (is_rising next ys) first.1 in
+        let parts = first_parts next y ys rises in
         elim (cases_Bool (uid_eq y.message.id u)) [
           | inl same ↦
               let most = least y.key (ap (λ b. b || list_any (is_named u y.key) ys) (and_from (uid_eq y.message.id u) (y.key.0 == y.key.0) same (eq-eqb y.key.0 y.key.0 refl))) in
               let key : (y.key.0 == k.0) ≡ true = elim (or_cases (is_named u k y) (list_any (is_named u k) ys) there) [
                 | inl here ↦ (and_parts (uid_eq y.message.id u) (y.key.0 == k.0) here).1
-                | inr later ↦ let lt = behind y ys rest.0 later in absurd (omega (arith, lt, most))
+                | inr later ↦ let lt = behind y ys parts.1 later in absurd (omega (arith, lt, most))
               ] in
               ap (λ b. cond b (Some y) (find (λ r. key_eq r.key k) ys)) key
               ∙ sym (ap (λ b. cond b (Some y) (find (λ r. uid_eq r.message.id u) ys)) same)
@@ -189,9 +181,9 @@ first_of next xs u k rises there least = ap (λ (o : Option Received). option_ma
                 | inl here ↦ absurd (false≢true (sym other ∙ (and_parts (uid_eq y.message.id u) (y.key.0 == k.0) here).0))
                 | inr more ↦ more
               ] in
-              let lt = behind y ys rest.0 later in
+              let lt = behind y ys parts.1 later in
               ap (λ b. cond b (Some y) (find (λ r. key_eq r.key k) ys)) (ne_eqb y.key.0 k.0 (λ same. omega (arith, same, lt)))
-              ∙ go ys rest.1 later (λ j named. least j (or_more (is_named u j y) (list_any (is_named u j) ys) named))
+              ∙ go ys parts.2 later (λ j named. least j (or_more (is_named u j y) (list_any (is_named u j) ys) named))
               ∙ sym (ap (λ b. cond b (Some y) (find (λ r. uid_eq r.message.id u) ys)) other)
         ]
 

@@ -1,5 +1,4 @@
 pub mod Finds
 pub mod Keys
 pub mod Shelves
-pub mod Searches
 pub mod Ids

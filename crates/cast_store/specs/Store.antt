@@ -1,12 +1,13 @@
 -- What contracts see of a store: for each domain that it keeps messages for, these in order of receipt.
-use Rattle.std.specs.Prelude.{ℕ, ◌+◌, Bool, true, not, ◌&&◌, ◌==◌, nat_lt, List, [], ◌∷◌, ◌++◌, Option, filter}
-use Rattle.std.specs.List.{list_all, find}
+use Rattle.std.specs.Prelude.{ℕ, ◌+◌, Bool, not, ◌&&◌, ◌==◌, List, [], ◌∷◌, ◌++◌, Option, filter}
+use Rattle.std.specs.List.{find}
 use Rattle.std.specs.Option.{option_map_or}
 use Rattle.cast_types.specs.declared.names.DomainNo.{DomainNo}
 use Rattle.cast_types.specs.declared.names.Key.{Key}
 use Rattle.cast_message.specs.declared.message.Message.{Message}
 use Rattle.cast_message.specs.declared.message.Received.{Received}
 use Rattle.cast_message.specs.Receipts.{key_eq}
+use Rattle.cast_index.specs.Rises.{rises, all_below}
 
 -- what is kept for one domain, and the number of its next key
 pub record Shelf : Type 0 where
@@ -42,7 +43,10 @@ with_message m s = record s { next = s.next + 1; kept = s.kept ++ (record { key 
 abbrev pub without_key : Key → Shelf → Shelf
 without_key key s = record s { kept = but_under key s.kept }
 
--- whether each key is below the next one, and below those of all messages that stand behind it
+-- the number of a message's key
+abbrev pub key_of : Received → ℕ
+key_of r = r.key.0
+
+-- whether each key is below those of all messages that stand behind it, and below the next one
 abbrev pub is_rising : ℕ → List Received → Bool
-is_rising next [] = true
-is_rising next (r ∷ rs) = nat_lt r.key.0 next && (list_all (λ s. nat_lt r.key.0 s.key.0) rs && is_rising next rs)
+is_rising next kept = rises key_of kept && all_below key_of next kept

@@ -9,9 +9,9 @@
 //! leaves what every other domain keeps, and its next key. Only `put` takes memory; where it is refused, or no key is
 //! left, the message comes back and nothing is changed.
 //!
-//! The definitions are in `specs/Store.antt`: what a domain keeps, the number of its next key, and what it is for keys
-//! to rise; in `specs/Keys.antt`: what a search by halving needs of that; and in `specs/Ids.antt`: the first message of an id, and
-//! what the least counts of sources tell of all. Which message a list has under a key is in
+//! The definitions are in `specs/Store.antt`: what a domain keeps, the number of its next key, and that keys rise below
+//! it; and in `specs/Ids.antt`: the first message of an id, and what the least counts of sources tell of all. What it is
+//! for a number of each item to rise is in `cast_index/specs/Rises.antt`, and which message a list has under a key in
 //! `cast_message/specs/Receipts.antt`.
 #![tactic(auto)]
 

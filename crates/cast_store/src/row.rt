@@ -5,10 +5,10 @@ ghost use Rattle.cast_types.specs.declared.names.Key.{Key};
 ghost use Rattle.cast_types.specs.declared.names.Uid.{Uid};
 ghost use Rattle.cast_message.specs.declared.message.Received.{Received};
 ghost use Rattle.cast_index.specs.Index.{has};
+ghost use Rattle.cast_index.specs.Rises.{rises};
 ghost use Rattle.cast_message.specs.Receipts.{key_eq, message_under};
 ghost use Rattle.cast_store.specs.Ids.{IsKeptOf, IsLedBy, is_named, message_of};
-ghost use Rattle.cast_store.specs.Store.{with_message, without_key, is_rising};
-ghost use Rattle.cast_store.specs.Keys.{keys_rise};
+ghost use Rattle.cast_store.specs.Store.{with_message, without_key, key_of, is_rising};
 
 use cast_index::{Index, source_of};
 use cast_message::{Message, Received};
@@ -180,7 +180,7 @@ fn take_out(kept: &mut Vec<Received>, ids: &mut Index, place: usize) -> Message
 
 // Where the message under a key stands.
 fn place_under(kept: &[Received], key: Key) -> Option<usize>
-    requires { keys_rise kept.now ≡ true }
+    requires { rises key_of kept.now ≡ true }
     ensures place { result ≡ position (λ r. key_eq r.key key) kept.now }
     ensures within { IfSome result (λ i. i < length kept.now) }
 {

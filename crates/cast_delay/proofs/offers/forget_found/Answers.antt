@@ -4,11 +4,11 @@ use Rattle.cast_message.specs.Receipts.{key_eq}
 use Rattle.cast_types.specs.declared.names.Key.{Key}
 use Rattle.cast_types.specs.declared.names.Uid.{Uid}
 use Rattle.cast_index.specs.Index.{has, is_pair}
+use Rattle.cast_index.proofs.Rises.{removed_is, one_less, none_less, none_fewer, none_removed}
 use Rattle.cast_delay.specs.declared.offered.Offered.{Offered}
 use Rattle.cast_delay.specs.Offers.{key_of}
 use Rattle.cast_delay.specs.Queue.{but_offered}
 use Rattle.cast_delay.proofs.Indexed.{left_at}
-use Rattle.cast_delay.proofs.Rises.{removed_is, one_less, none_less, none_fewer, none_removed}
 use Rattle.cast_delay.proofs.offers.forget_found.Goals as goal
 
 -- where nothing is under the key

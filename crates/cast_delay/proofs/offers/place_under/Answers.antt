@@ -1,7 +1,7 @@
 use Rattle.std.proofs.Common.{◌<◌, length, sym, rules}
 use Rattle.std.proofs.lemmas.List.Sorted.{answers_always}
+use Rattle.cast_index.proofs.Rises.{searched_ok, searched_err}
 use Rattle.cast_delay.specs.Offers.{key_of}
-use Rattle.cast_delay.proofs.Rises.{searched_ok, searched_err}
 use Rattle.cast_delay.proofs.offers.place_under.Goals as goal
 
 -- the closure gives a message's key

@@ -3,11 +3,11 @@ use Rattle.std.specs.List.{position}
 use Rattle.cast_message.specs.declared.message.Received.{Received}
 use Rattle.cast_message.specs.Receipts.{key_eq}
 use Rattle.cast_store.proofs.Finds.{find_place, find_no_place}
-use Rattle.cast_store.proofs.Searches.{rising_rise}
+use Rattle.cast_store.proofs.Keys.{rising_parts}
 use Rattle.cast_store.proofs.row.Row.get.Goals as goal
 
 pub place_under-requires : goal.place_under-requires
-place_under-requires c = rw c.deref.ensures.value (rising_rise c.self.inside.next c.self.inside.kept.items c.self.invariant.rising)
+place_under-requires c = rw c.deref.ensures.value (rising_parts c.self.inside.next c.self.inside.kept.items c.self.invariant.rising).0
 
 pub returns-in_err-place : goal.returns-in_err-place
 returns-in_err-place c =

@@ -3,16 +3,16 @@ use Rattle.std.specs.Option.{option_map}
 use Rattle.std.specs.List.{find, position, remove}
 use Rattle.cast_message.specs.declared.message.Received.{Received}
 use Rattle.cast_message.specs.Receipts.{key_eq, message_under}
-use Rattle.cast_store.specs.Store.{Shelf, without_key, but_under, is_rising}
+use Rattle.cast_index.proofs.Rises.{removed_is}
+use Rattle.cast_store.specs.Store.{Shelf, without_key, but_under, key_of, is_rising}
 use Rattle.cast_store.specs.Ids.{HasIdsOf}
 use Rattle.cast_store.proofs.Ids.{ids_remove}
 use Rattle.cast_store.proofs.Finds.{find_place, find_no_place, keep_all}
-use Rattle.cast_store.proofs.Keys.{removed_is, rising_filter}
-use Rattle.cast_store.proofs.Searches.{rising_rise}
+use Rattle.cast_store.proofs.Keys.{rising_parts, rising_filter}
 use Rattle.cast_store.proofs.row.Row.remove.Goals as goal
 
 pub place_under-requires : goal.place_under-requires
-place_under-requires c = rw c.deref.ensures.value (rising_rise c.self.inside.next c.self.inside.kept.items c.self.invariant.rising)
+place_under-requires c = rw c.deref.ensures.value (rising_parts c.self.inside.next c.self.inside.kept.items c.self.invariant.rising).0
 
 -- where nothing is under the key
 missing : (c : goal.After-from_residual) → find (λ r. key_eq r.key c.args.key) c.args.self.now.kept ≡ None
@@ -37,7 +37,7 @@ found c = search rules
 left : (c : goal.After-take_out) → c.take_out.new.kept.items ≡ but_under c.args.key c.self.inside.kept.items
 left c =
     let items : c.take_out.new.kept.items ≡ remove c.self.inside.kept.items c.in_ok-place.place = search rules in
-    items ∙ removed_is c.self.inside.next c.args.key c.self.inside.kept.items c.in_ok-place.place c.self.invariant.rising (found c)
+    items ∙ removed_is key_of c.args.key.0 c.self.inside.kept.items c.in_ok-place.place (rising_parts c.self.inside.next c.self.inside.kept.items c.self.invariant.rising).0 (found c)
 
 pub invariant_of-self : goal.invariant_of-self
 invariant_of-self c =

@@ -10,13 +10,14 @@ use Rattle.std.proofs.lemmas.Cmp.{ranked}
 use Rattle.std.proofs.lemmas.Option.{cond_some, slice_get_past}
 use Rattle.std.proofs.lemmas.List.{take_all}
 use Rattle.std.proofs.lemmas.List.Folds.{find_at}
-use Rattle.cast_delay.specs.Offers.{rises, all_below}
+use Rattle.cast_types.proofs.Rising.{all_kept}
+use Rattle.cast_index.specs.Rises.{rises, all_below}
 
 module _ {X : Type 0} (n : X → ℕ) where
-  parts_of : (x : X) (xs : List X) → rises n (x ∷ xs) ≡ true → (list_all (λ y. nat_lt (n x) (n y)) xs ≡ true) × (rises n xs ≡ true)
+  pub parts_of : (x : X) (xs : List X) → rises n (x ∷ xs) ≡ true → (list_all (λ y. nat_lt (n x) (n y)) xs ≡ true) × (rises n xs ≡ true)
   parts_of x xs up = and_parts (list_all (λ y. nat_lt (n x) (n y)) xs) (rises n xs) up
 
-  above_at : (m : ℕ) (xs : List X) (i : ℕ) (d : X) → list_all (λ y. nat_lt m (n y)) xs ≡ true → i < length xs → m < n (get_or xs i d)
+  pub above_at : (m : ℕ) (xs : List X) (i : ℕ) (d : X) → list_all (λ y. nat_lt m (n y)) xs ≡ true → i < length xs → m < n (get_or xs i d)
   above_at m [] i d all lt = absurd (omega arith)
   above_at m (x ∷ xs) zero d all lt = ltb-true m (n x) (and_parts (nat_lt m (n x)) (list_all (λ y. nat_lt m (n y)) xs) all).0
   above_at m (x ∷ xs) (suc i) d all lt = above_at m xs i d (and_parts (nat_lt m (n x)) (list_all (λ y. nat_lt m (n y)) xs) all).1 (omega arith)
@@ -54,16 +55,6 @@ module _ {X : Type 0} (n : X → ℕ) where
       (rises_push low ys x le parts.1 below.1)
 
   -- some taken out
-  pub all_kept : (t keep : X → Bool) (xs : List X) → list_all t xs ≡ true → list_all t (filter keep xs) ≡ true
-  all_kept t keep [] all = refl
-  all_kept t keep (x ∷ xs) all =
-      let parts = and_parts (t x) (list_all t xs) all in
-      let rest = all_kept t keep xs parts.1 in
-      elim (keep x) as (λ b. list_all t (cond b (x ∷ filter keep xs) (filter keep xs)) ≡ true) [
-        | true ↦ and_from (t x) (list_all t (filter keep xs)) parts.0 rest
-        | false ↦ rest
-      ]
-
   pub rises_kept : (keep : X → Bool) (xs : List X) → rises n xs ≡ true → rises n (filter keep xs) ≡ true
   rises_kept keep [] up = refl
   rises_kept keep (x ∷ xs) up =
