@@ -113,10 +113,14 @@ places_none r i k may =
     ap (λ b. if b then option_map_or (list_places records resting_records r i k) (resting_records.next_places r i k) r else r) may
 
 -- nor does one that has nothing to list
-pub places_missing : (r : Records) (i k : ℕ) → may_list records resting_records r i k ≡ true → resting_records.next_places r i k ≡ None → set_order_by records resting_records r i k ≡ r
-places_missing r i k may next =
-    ap (λ b. if b then option_map_or (list_places records resting_records r i k) (resting_records.next_places r i k) r else r) may
-    ∙ ap (λ o. option_map_or (list_places records resting_records r i k) o r) next
+pub places_missing : (r : Records) (i k : ℕ) → resting_records.next_places r i k ≡ None → set_order_by records resting_records r i k ≡ r
+places_missing r i k next =
+    ap (λ o. if may_list records resting_records r i k then option_map_or (list_places records resting_records r i k) o r else r) next
+    ∙ either (may_list records resting_records r i k)
+  where
+    either : (b : Bool) → (if b then r else r) ≡ r
+    either true = refl
+    either false = refl
 
 -- nor one whose count cannot be raised
 pub places_unraised : (r : Records) (i k : ℕ) (q : Sequence) → may_list records resting_records r i k ≡ true → resting_records.next_places r i k ≡ Some q → may_raise (time_of r.delay (local_in r k)) (record_at r.groups i).name (local_in r k) ≡ false → set_order_by records resting_records r i k ≡ r

@@ -189,12 +189,12 @@ impl Domain {
     {
         let holder = self.process(serial);
         let group = self.record(place).name;
-        if !self.may_list(place, holder, lent) {
-            return Ok(false);
-        }
         let Some(places) = self.orders.assign(group)? else {
             return Ok(false);
         };
+        if !self.may_list(place, holder, lent) {
+            return Ok(false);
+        }
         let Some((time, stamp)) = self.raised(holder, group)? else {
             return Ok(false);
         };

@@ -22,12 +22,9 @@ returns-then-not-may_list-clause-made c =
 pub returns-in_default-clause-made : goal.returns-in_default-clause-made
 returns-in_default-clause-made c =
     let r = records_in c.args.self.now c.args.lent.now in
-    let p = c.process-holder.ensures in
     let i = c.args.place in
     let name : c.record.result.now.name ≡ (record_at r.groups i).name = ap (λ x. x.name) c.record.ensures in
-    let may : may_list records resting_records r i c.args.serial ≡ true =
-    (λ j. is_member (standing_of r.delay (sym p j) (record_at r.groups c.args.place).name) && (not (record_at r.groups c.args.place).here.frozen && may_order records r)) ∙ sym c.may_list.ensures ∙ c.if-not-may_list.false in
-    sym (places_missing r i c.args.serial may (ap (λ g. next_places (log_of r.orders g)) (sym name) ∙ sym c.in_ok-places.ensures ∙ c.in_default.is))
+    sym (places_missing r i c.args.serial (ap (λ g. next_places (log_of r.orders g)) (sym name) ∙ sym c.in_ok-places.ensures ∙ c.in_default.is))
 
 pub returns-in_default-2-clause-made : goal.returns-in_default-2-clause-made
 returns-in_default-2-clause-made c =
