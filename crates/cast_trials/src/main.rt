@@ -1,5 +1,6 @@
-//! Trials of the whole program and of the codec. `cast_trials rows SCRIPT ..` goes through worked examples, and
-//! `cast_trials speed FILE ROUNDS` measures how fast a frame is decoded and encoded.
+//! Trials of the whole program and of the codec. `cast_trials rows SCRIPT ..` goes through worked examples,
+//! `cast_trials speed FILE ROUNDS` measures how fast a frame is decoded and encoded, and `cast_trials steps SCRIPT` how long the
+//! steps of a script take.
 //!
 //! The worked examples are the scripts in `data/`, one for each rule, a script of five thousand events (`long`), one of sixteen
 //! domains (`tenants`), the frames in `stdin`, and command lines (`words`). What has to be printed for them stands in `stdout`, and
@@ -10,6 +11,7 @@ mod frames;
 mod long;
 mod scripts;
 mod speed;
+mod steps;
 mod tenants;
 mod words;
 
@@ -29,7 +31,8 @@ fn run<R: Clock + Env + Files + Input + Print + Eprint + AllocGlobal>(rt: &R) ->
             words::try_all(rt)?;
         }
         [_, job, file, rounds] if job.as_str() == "speed" => speed::measure(rt, file, rounds)?,
-        _ => bail!("usage: cast_trials rows SCRIPT .. | cast_trials speed FILE ROUNDS"),
+        [_, job, file] if job.as_str() == "steps" => steps::measure(rt, file)?,
+        _ => bail!("usage: cast_trials rows SCRIPT .. | speed FILE ROUNDS | steps SCRIPT"),
     }
     Ok(())
 }
