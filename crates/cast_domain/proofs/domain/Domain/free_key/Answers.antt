@@ -1,5 +1,4 @@
-use Rattle.std.proofs.Common.{rules, ◌≡◌, false, sym, ◌∙◌}
-use Rattle.cast_types.specs.declared.names.Uid.{Uid}
+use Rattle.std.proofs.Common.{rules}
 use Rattle.cast_domain.specs.Records.{records_in}
 use Rattle.cast_domain.proofs.Freeing.{if_none_free}
 use Rattle.cast_domain.proofs.domain.Domain.free_key.Goals as goal

@@ -2,7 +2,6 @@ use Rattle.std.proofs.Common.{◌≡◌, length}
 use Rattle.cast_history.specs.Rules.Release as release
 use Rattle.cast_domain.specs.Calls.{records, resting_records}
 use Rattle.cast_domain.specs.Records.{KeepsBeside, records_in}
-use Rattle.cast_domain.specs.Shared.{part_of}
 use Rattle.cast_domain.proofs.domain.Domain.let_go.Given as goal
 
 -- to let go of what is free still leads to the same records
