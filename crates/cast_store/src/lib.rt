@@ -4,10 +4,9 @@
 //! a domain count from 0 in order of receipt, whatever other domains do, and none is given twice until the domain is
 //! dropped. `put` adds a message at the end, under a key that was free; `get` finds it there, `kept` lends the whole
 //! list and `held` its length, until `remove` gives the message back or `drop_domain` lets all go. `find` gives the
-//! message of an id, and `first_passing` looks at the least count of each source alone, so that what lets go need not look
-//! at all that is kept. A call for one domain
-//! leaves what every other domain keeps, and its next key. Only `put` takes memory; where it is refused, or no key is
-//! left, the message comes back and nothing is changed.
+//! message of an id, and `first_passing` looks at the least count of each source alone, so that what lets go need not
+//! look at all that is kept. A call for one domain leaves what every other domain keeps, and its next key. Only `put`
+//! and `copy` take memory; where `put` is refused it, or no key is left, the message comes back and nothing is changed.
 //!
 //! The definitions are in `specs/Store.antt`: what a domain keeps, the number of its next key, and that keys rise below
 //! it; and in `specs/Ids.antt`: the first message of an id, and what the least counts of sources tell of all. What it is
