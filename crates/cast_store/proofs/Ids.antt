@@ -202,9 +202,6 @@ one_more Fails entries after id first fails failed u k there not_behind = elim (
   | inr before ↦ failed u k there before
 ]
 
-pub none_yet : (Fails : Uid → Type 0) (entries : List Entry) → HasFailed Fails entries None
-none_yet Fails entries u k there not_behind = absurd (false≢true (sym not_behind))
-
 pub all_led : (Fails : Uid → Type 0) (entries : List Entry) (kept : List Received) (after : Option Source) → HasIdsOf entries kept → ((u : Uid) (k : Key) → has entries u k ≡ true → is_behind after u ≡ false) → HasFailed Fails entries after → IsLedBy Fails kept
 all_led Fails entries kept after ids none failed r there =
     let named = ids r.message.id r.key ∙ has_kept r kept there in

@@ -4,8 +4,8 @@
 //! a domain count from 0 in order of receipt, whatever other domains do, and none is given twice until the domain is
 //! dropped. `put` adds a message at the end, under a key that was free; `get` finds it there, `kept` lends the whole
 //! list and `held` its length, until `remove` gives the message back or `drop_domain` lets all go. `find` gives the
-//! message of an id, and `first_passing` looks at the least count of each source alone, so that what lets go need not
-//! look at all that is kept. A call for one domain leaves what every other domain keeps, and its next key. Only `put`
+//! first message of an id, and `first_passing` one that passes a test, and none only where of each message's source one
+//! with no greater count fails. A call for one domain leaves what every other domain keeps, and its next key. Only `put`
 //! and `copy` take memory; where `put` is refused it, or no key is left, the message comes back and nothing is changed.
 //!
 //! The definitions are in `specs/Store.antt`: what a domain keeps, the number of its next key, and that keys rise below

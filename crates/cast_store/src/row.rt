@@ -121,7 +121,7 @@ impl Row {
         self.get(key)
     }
 
-    /// The key of a message that passes, among those that no message of their source stands before.
+    /// The key of a message that passes, none only where of each message's source one with no greater count fails.
     pub(crate) fn first_passing<F: Fn(Uid) -> bool>(&self, passes: F) -> Option<Key>
         requires { F.IsAlwaysCallable passes }
         ensures some { IfSome result (IsKeptOf (λ id. F.post passes id true) self.now.kept) }

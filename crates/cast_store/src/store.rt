@@ -86,8 +86,8 @@ impl Store {
         }
     }
 
-    /// The key of a message that a domain keeps and whose id passes, among those that no message of their source with a
-    /// lower count stands before; `None` where none of these passes. Takes no memory.
+    /// The key of a message that a domain keeps and whose id passes; `None` only where of the source of each message that
+    /// is kept one with no greater count fails. Of each source the least count alone is asked for. Takes no memory.
     pub fn first_passing<F: Fn(Uid) -> bool>(&self, domain: DomainNo, passes: F) -> Option<Key>
         requires { F.IsAlwaysCallable passes }
         ensures some { IfSome result (IsKeptOf (λ id. F.post passes id true) (kept_in self.now domain)) }

@@ -11,6 +11,8 @@ mod faults;
 #[cfg(test)]
 mod home;
 #[cfg(test)]
+mod index;
+#[cfg(test)]
 mod member;
 #[cfg(test)]
 mod messages;

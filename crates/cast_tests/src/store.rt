@@ -1,4 +1,4 @@
-use crate::messages::{causal, holds};
+use crate::messages::{causal, holds, id_of};
 use cast_message::Message;
 use cast_store::Store;
 use cast_types::{DomainNo, Key};
@@ -20,6 +20,10 @@ enum Step {
     Drops(DomainNo),
     // The count of the message that a domain keeps under a key, 0 where there is none.
     Has(DomainNo, usize, u32),
+    // Whether a domain keeps a message of this count.
+    Finds(DomainNo, u32, bool),
+    // The key of the message that may go first, where those of counts up to this one may.
+    Frees(DomainNo, u32, Option<usize>),
     // How many messages a domain keeps.
     Keeps(DomainNo, usize),
     // The key of what a domain keeps next.
@@ -48,6 +52,18 @@ fn count_under(store: &Store, domain: DomainNo, key: usize) -> u32 {
     }
 }
 
+fn finds(store: &Store, domain: DomainNo, count: u32) -> bool {
+    match store.find(domain, id_of(count)) {
+        Some(message) => message.id == id_of(count),
+        None => false,
+    }
+}
+
+fn frees(store: &Store, domain: DomainNo, most: u32) -> Option<usize> {
+    let Key(key) = store.first_passing(domain, |id| id.count <= most)?;
+    Some(key)
+}
+
 fn keeps(store: &Store, domain: DomainNo, len: usize) -> bool {
     store.held(domain) == len && store.kept(domain).len() == len
 }
@@ -62,6 +78,8 @@ fn does(alloc: Global, store: &mut Store, step: Step) -> Result<bool, Fail> {
             true
         }
         Step::Has(domain, key, count) => count_under(store, domain, key) == count,
+        Step::Finds(domain, count, is_there) => finds(store, domain, count) == is_there,
+        Step::Frees(domain, most, key) => frees(store, domain, most) == key,
         Step::Keeps(domain, len) => keeps(store, domain, len),
         Step::Next(domain, key) => store.next_key(domain) == Key(key),
     };
@@ -88,6 +106,11 @@ fn messages_are_kept_until_they_are_removed(rt: HostRuntime) -> Result<(), Fail>
             Step::Puts(THEIRS, 3, 0),
             Step::Has(MINE, 1, 2),
             Step::Next(MINE, 2),
+            Step::Finds(MINE, 2, true),
+            Step::Finds(MINE, 3, false),
+            Step::Frees(MINE, 0, None),
+            Step::Frees(MINE, 2, Some(0)),
+            Step::Frees(THEIRS, 2, None),
             Step::Removes(MINE, 1, 2),
             Step::Removes(MINE, 1, 0),
             Step::Keeps(MINE, 1),
