@@ -148,7 +148,7 @@ impl Times {
             return Ok(None);
         }
         let clocks = copy_clocks(*self.clocks.allocator(), &self.clocks)?;
-        Ok(Some(Stamp::from_clocks(clocks)))
+        Ok(Some(Stamp::from_clocks(clocks)?))
     }
 
     /// An equal value.

@@ -21,7 +21,7 @@ use Rattle.cast_delay.specs.declared.row.Fact.{Fact}
 use Rattle.cast_delay.specs.declared.row.Fact.TheVariants as fact
 use Rattle.cast_delay.specs.declared.gate.Gate.{Gate}
 use Rattle.cast_delay.specs.Ready.{Process, is_open_to, is_member, has_delivered}
-use Rattle.cast_types.specs.Sources.{source, source_cmp}
+use Rattle.cast_types.specs.Sources.{source, source_cmp, source_of}
 use Rattle.cast_delay.specs.Rows.{gate_in, standing_in, done_in, needed, has_past, row_allows, all_allow, is_causally_ready_row, delivered_row, told_row}
 use Rattle.cast_delay.specs.Fits.{HasNotEnded, RowFits, IsSound, told, delivering}
 use Rattle.cast_delay.proofs.Listed.{list_any-append}
@@ -116,9 +116,6 @@ module _ (gate : GroupNo → Gate) (p : Process) (row : Row) (fits : RowFits gat
 
   abbrev after : Row
   after = delivered_row m.id m.times row
-
-  abbrev source_of : Uid → Source
-  source_of u = source u.group u.view u.proc
 
   after_own : (u : Uid) → eq_by_cmp source_cmp (source_of u) (source_of m.id) ≡ true → done_in after u.group u.view u.proc ≡ m.id.count
   after_own u tie =

@@ -12,14 +12,14 @@ use Rattle.cast_types.specs.declared.names.Uid.{Uid}
 use Rattle.cast_types.specs.declared.limits.TheConstants.{MAX_NUMBER}
 use Rattle.cast_types.specs.declared.source.Source.{Source}
 use Rattle.cast_types.specs.Names.{uid_eq, entry_of}
-use Rattle.cast_types.specs.Sources.{source_cmp}
+use Rattle.cast_types.specs.Sources.{source_cmp, source_of}
 use Rattle.cast_types.proofs.Orders.{same_uid, uid_itself}
 use Rattle.cast_types.proofs.Rising.{less_is}
 use Rattle.cast_types.proofs.Sources.{source_total}
 use Rattle.cast_clock.specs.Times.{view_of, count_in}
 use Rattle.cast_message.specs.Receipts.{key_eq}
 use Rattle.cast_index.specs.declared.entry.Entry.{Entry}
-use Rattle.cast_index.specs.Index.{has, is_behind, source_of, IsFirstBehind}
+use Rattle.cast_index.specs.Index.{has, is_behind, IsFirstBehind}
 use Rattle.cast_delay.specs.declared.gate.Gate.{Gate}
 use Rattle.cast_delay.specs.declared.row.Row.{Row}
 use Rattle.cast_delay.specs.declared.turn.Turn.{Turn}

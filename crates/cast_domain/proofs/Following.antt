@@ -6,9 +6,10 @@ use Rattle.std.proofs.lemmas.Bool.{lt-ltb, ltb-true}
 use Rattle.cast_types.specs.declared.names.SiteNo.{SiteNo}
 use Rattle.cast_types.specs.declared.names.GroupNo.{GroupNo}
 use Rattle.cast_types.specs.declared.names.Uid.{Uid}
+use Rattle.cast_types.specs.Sources.{source_of}
 use Rattle.cast_timer.specs.Owed.{is_owed, due_at}
 use Rattle.cast_stable.specs.Stable.{Acked}
-use Rattle.cast_stable.specs.Ledger.{Ledger, source_of, acked_ledger, learnt_ledger}
+use Rattle.cast_stable.specs.Ledger.{Ledger, acked_ledger, learnt_ledger}
 use Rattle.cast_stable.specs.Fits.{Fits as AcksFits}
 use Rattle.cast_stable.proofs.Meanings.{upto_meant, ack_fits, learn_fits}
 use Rattle.cast_order.specs.Log.{log_of}

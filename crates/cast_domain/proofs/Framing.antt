@@ -16,6 +16,7 @@ use Rattle.cast_types.proofs.Orders.{same_uid, uid_itself}
 use Rattle.cast_clock.specs.Times.{clock_of, count_in}
 use Rattle.cast_types.specs.Counts.{is_within}
 use Rattle.cast_types.specs.Names.{group_eq}
+use Rattle.cast_types.specs.Sources.{source_of}
 use Rattle.cast_message.specs.Stretch.{Stretch}
 use Rattle.cast_order.specs.Log.{log_of, change_log, closed_by}
 use Rattle.cast_message.specs.declared.message.Message.{Message}
@@ -23,7 +24,7 @@ use Rattle.cast_message.specs.declared.message.Received.{Received}
 use Rattle.cast_message.specs.declared.site.SiteFrame.{SiteFrame}
 use Rattle.cast_message.specs.declared.client.Command.{Command}
 use Rattle.cast_message.specs.Bodies.{kind_of}
-use Rattle.cast_stable.specs.Ledger.{is_received_in, source_of}
+use Rattle.cast_stable.specs.Ledger.{is_received_in}
 use Rattle.cast_stable.proofs.Meanings.{stable_meant}
 use Rattle.std.specs.Prelude.{IsSome}
 use Rattle.std.proofs.lemmas.Bool.{false≢true}

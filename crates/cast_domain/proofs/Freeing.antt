@@ -9,6 +9,7 @@ use Rattle.cast_types.specs.declared.names.SiteNo.{SiteNo}
 use Rattle.cast_types.specs.declared.names.Uid.{Uid}
 use Rattle.cast_types.specs.declared.source.Source.{Source}
 use Rattle.cast_types.specs.Names.{site_eq}
+use Rattle.cast_types.specs.Sources.{source_of}
 use Rattle.cast_message.specs.declared.message.Received.{Received}
 use Rattle.cast_message.specs.Receipts.{key_eq}
 use Rattle.cast_store.specs.Ids.{IsKeptOf, IsLedBy}
@@ -17,7 +18,7 @@ use Rattle.cast_delay.specs.declared.offered.Offered.{Offered}
 use Rattle.cast_delay.specs.Ready.{is_member}
 use Rattle.cast_delay.specs.Rows.{standing_in, done_in, awaits_row}
 use Rattle.cast_delay.specs.Queue.{is_awaited}
-use Rattle.cast_stable.specs.Ledger.{Ledger, source_of, is_stable_among, is_stable_in, others_in, told_count, least_acked}
+use Rattle.cast_stable.specs.Ledger.{Ledger, is_stable_among, is_stable_in, others_in, told_count, least_acked}
 use Rattle.cast_history.specs.Rules.Release as release
 use Rattle.cast_domain.specs.Records.{Records}
 use Rattle.cast_domain.specs.Calls.{is_open_in, release_in, records, resting_records}

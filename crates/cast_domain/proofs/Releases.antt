@@ -11,6 +11,7 @@ use Rattle.cast_types.specs.declared.names.Proc.{Proc}
 use Rattle.cast_types.specs.declared.names.Key.{Key}
 use Rattle.cast_types.specs.declared.names.Uid.{Uid}
 use Rattle.cast_types.specs.Names.{group_eq}
+use Rattle.cast_types.specs.Sources.{source_of}
 use Rattle.cast_message.specs.declared.message.Message.{Message}
 use Rattle.cast_message.specs.declared.message.Received.{Received}
 use Rattle.cast_message.specs.Receipts.{key_eq, messages, message_under}
@@ -39,7 +40,7 @@ use Rattle.cast_domain.proofs.Over.{keeps_fewer}
 use Rattle.cast_domain.proofs.Standing.{orders_same, record_there, place_some, place_none, process_here, given_later, member_of_none}
 use Rattle.cast_types.proofs.Bools.{neither}
 use Rattle.cast_domain.proofs.Receipts.{live_now}
-use Rattle.cast_stable.specs.Ledger.{source_of, is_stable_in}
+use Rattle.cast_stable.specs.Ledger.{is_stable_in}
 use Rattle.cast_types.proofs.Contains.{contains_here, contains_later}
 
 -- Who awaits a message

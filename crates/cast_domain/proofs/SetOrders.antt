@@ -9,6 +9,7 @@ use Rattle.cast_types.specs.declared.names.Proc.{Proc}
 use Rattle.cast_types.specs.declared.limits.TheConstants.{MAX_NUMBER}
 use Rattle.cast_types.specs.Names.{site_eq, group_eq, proc_eq}
 use Rattle.cast_types.specs.Stamps.{ClockList}
+use Rattle.cast_types.specs.Sources.{source_of}
 use Rattle.cast_types.proofs.Orders.{same_site, group_itself, proc_itself, site_itself}
 use Rattle.cast_clock.specs.Times.{count_in, bumped}
 use Rattle.cast_clock.proofs.Raised.{bump_raises}
@@ -48,7 +49,6 @@ use Rattle.cast_domain.proofs.Commands.{next_sound, next_new, raised_counts, fit
 use Rattle.cast_domain.proofs.Turns.{Kept, kept_self, kept_if}
 use Rattle.cast_domain.proofs.Receipts.{live_now}
 use Rattle.cast_history.proofs.Lawful.{local_speaks}
-use Rattle.cast_stable.specs.Ledger.{source_of}
 
 -- The message
 

@@ -224,7 +224,7 @@ fn read_times(alloc: Global, bytes: &[u8]) -> Result<(Stamp, &[u8]), FrameFault>
 {
     let (count, rest) = read_byte(1, MAX_GROUPS as u8, bytes)?;
     let (clocks, rest) = read_clocks(alloc, count, rest)?;
-    Ok((Stamp::from_clocks(clocks), rest))
+    Ok((Stamp::from_clocks(clocks)?, rest))
 }
 
 #[tactic(auto, unfolding(crate::specs::Reading::bytes_at))]

@@ -12,12 +12,12 @@ use Rattle.cast_types.specs.declared.names.Uid.{Uid}
 use Rattle.cast_types.specs.declared.names.Key.{Key}
 use Rattle.cast_types.specs.declared.source.Source.{Source}
 use Rattle.cast_types.specs.Names.{uid_eq}
-use Rattle.cast_types.specs.Sources.{source_cmp}
+use Rattle.cast_types.specs.Sources.{source_cmp, source_of}
 use Rattle.cast_types.proofs.Orders.{same_uid, uid_itself}
 use Rattle.cast_types.proofs.Rising.{less_is}
 use Rattle.cast_types.proofs.Sources.{source_total}
 use Rattle.cast_index.specs.declared.entry.Entry.{Entry}
-use Rattle.cast_index.specs.Index.{entry_cmp, has, source_of, is_behind, is_from, left, lowest_past, IsFirstEntry, IsFirstBehind}
+use Rattle.cast_index.specs.Index.{entry_cmp, has, is_behind, is_from, left, lowest_past, IsFirstEntry, IsFirstBehind}
 use Rattle.cast_index.proofs.Orders.{entry_total, contained, ordered, from_lowest}
 use Rattle.std.specs.BTreeMap.{is_at}
 use Rattle.std.specs.BTreeMap.Range.{range_contains}

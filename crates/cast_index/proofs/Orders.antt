@@ -12,11 +12,11 @@ use Rattle.cast_types.specs.declared.names.Uid.{Uid}
 use Rattle.cast_types.specs.declared.names.Key.{Key}
 use Rattle.cast_types.specs.declared.source.Source.{Source}
 use Rattle.cast_types.specs.Names.{uid_cmp, uid_eq, group_cmp, proc_cmp, site_cmp}
-use Rattle.cast_types.specs.Sources.{source_cmp}
+use Rattle.cast_types.specs.Sources.{source_cmp, source_of}
 use Rattle.cast_types.proofs.Orders.{uid_total, uid_exact, same_uid, uid_itself}
 use Rattle.cast_types.proofs.Sources.{source_exact}
 use Rattle.cast_index.specs.declared.entry.Entry.{Entry}
-use Rattle.cast_index.specs.Index.{entry_cmp, is_pair, has, source_of, is_behind, lowest_past}
+use Rattle.cast_index.specs.Index.{entry_cmp, is_pair, has, is_behind, lowest_past}
 use Rattle.cast_index.specs.contracts.entry.EntryOrd.TheImpl as entry
 
 -- the derived order is that of the definitions

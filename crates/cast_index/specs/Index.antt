@@ -7,7 +7,7 @@ use Rattle.cast_types.specs.declared.names.Uid.{Uid}
 use Rattle.cast_types.specs.declared.names.Key.{Key}
 use Rattle.cast_types.specs.declared.source.Source.{Source}
 use Rattle.cast_types.specs.Names.{uid_cmp, uid_eq}
-use Rattle.cast_types.specs.Sources.{source, source_cmp}
+use Rattle.cast_types.specs.Sources.{source_cmp, source_of}
 use Rattle.cast_index.specs.declared.entry.Entry.{Entry}
 
 -- by id, and then by the key's number
@@ -21,10 +21,6 @@ is_pair id key u k = uid_eq id u && (key.0 == k.0)
 -- whether an index has an id with a key
 abbrev pub has : List Entry → Uid → Key → Bool
 has entries u k = list_any (λ e. uid_eq u e.id && (k.0 == e.number)) entries
-
--- where messages of an id come from
-abbrev pub source_of : Uid → Source
-source_of u = source u.group u.view u.proc
 
 -- whether an id's source stands behind another, as each does behind none
 abbrev pub is_behind : Option Source → Uid → Bool

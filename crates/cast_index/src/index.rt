@@ -5,10 +5,11 @@ ghost use Rattle.std.specs.List.Sorted.{IsStrictlySortedBy};
 ghost use Rattle.cast_types.specs.declared.names.Uid.{Uid};
 ghost use Rattle.cast_types.specs.declared.names.Key.{Key};
 ghost use Rattle.cast_types.specs.Names.{uid_eq};
-ghost use Rattle.cast_index.specs.Index.{entry_cmp, has, is_pair, source_of, is_behind, is_from, left, lowest_past, IsFirstEntry, IsFirstBehind};
+ghost use Rattle.cast_types.specs.Sources.{source_of};
+ghost use Rattle.cast_index.specs.Index.{entry_cmp, has, is_pair, is_behind, is_from, left, lowest_past, IsFirstEntry, IsFirstBehind};
 
 use crate::entry::Entry;
-use cast_types::{Key, NoMemory, Proc, Source, Uid};
+use cast_types::{Key, NoMemory, Proc, Source, Uid, source_of};
 use std::alloc::Global;
 use std::collections::BTreeSet;
 use std::marker::Model;
@@ -26,17 +27,6 @@ impl Model for Index {
     ghost Value = { List Entry };
 
     ghost view = { λ i. i.entries.keys };
-}
-
-/// Where messages of an id come from.
-pub fn source_of(id: Uid) -> Source
-    ensures { result ≡ source_of id }
-{
-    Source {
-        group: id.group,
-        view: id.view,
-        process: id.proc,
-    }
 }
 
 impl Index {

@@ -12,4 +12,4 @@
 mod entry;
 mod index;
 
-pub use index::{Index, source_of};
+pub use index::Index;

@@ -8,8 +8,9 @@ use Rattle.cast_types.specs.declared.names.Uid.{Uid}
 use Rattle.cast_types.specs.declared.source.Source.{Source}
 use Rattle.cast_types.specs.Names.{uid_eq, named}
 use Rattle.cast_types.specs.Sets.{is_among}
+use Rattle.cast_types.specs.Sources.{source_of}
 use Rattle.cast_stable.specs.Runs.{Run, contains, greatest}
-use Rattle.cast_stable.specs.Ledger.{Ledger, source_of, received_run, last_received_in}
+use Rattle.cast_stable.specs.Ledger.{Ledger, received_run, last_received_in}
 use Rattle.cast_stable.specs.Fits.{Past, Fits, SaysLast}
 
 -- the greatest number is at least the first and each of the others

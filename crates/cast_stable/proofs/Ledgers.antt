@@ -4,11 +4,11 @@ use Rattle.std.specs.FinMap.Entries.{find, put}
 use Rattle.cast_types.specs.declared.names.SiteNo.{SiteNo}
 use Rattle.cast_types.specs.declared.names.Uid.{Uid}
 use Rattle.cast_types.specs.declared.source.Source.{Source}
-use Rattle.cast_types.specs.Sources.{source_cmp}
+use Rattle.cast_types.specs.Sources.{source_cmp, source_of}
 use Rattle.cast_stable.specs.declared.witness.Witness.{Witness}
 use Rattle.cast_stable.specs.Runs.{Run, no_counts, inserted}
 use Rattle.cast_stable.specs.Witnesses.{witness_cmp, witness}
-use Rattle.cast_stable.specs.Ledger.{Ledger, source_of, received_ledger, acked_ledger}
+use Rattle.cast_stable.specs.Ledger.{Ledger, received_ledger, acked_ledger}
 
 pub received_step : (l : Ledger) (u : Uid) (s : Source) (o : Option Run) (run : Run) (es : List (Source × Run)) → s ≡ source_of u → o ≡ find source_cmp s l.received → run ≡ inserted (unwrap_or o no_counts) u.count → es ≡ put source_cmp s run l.received → record l { received = es } ≡ received_ledger l u
 received_step l u s o run es at read made is =

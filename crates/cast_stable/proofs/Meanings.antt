@@ -13,14 +13,14 @@ use Rattle.cast_types.specs.declared.names.Uid.{Uid}
 use Rattle.cast_types.specs.declared.source.Source.{Source}
 use Rattle.cast_types.specs.Names.{site_eq, group_eq, proc_eq, uid_eq, named}
 use Rattle.cast_types.specs.Sets.{is_among, set_at}
-use Rattle.cast_types.specs.Sources.{source, is_ended}
+use Rattle.cast_types.specs.Sources.{source, is_ended, source_of}
 use Rattle.cast_types.proofs.Orders.{group_total, group_exact, same_site, same_group, same_proc, same_uid, site_itself, group_itself, proc_itself}
 use Rattle.cast_types.proofs.Sources.{source_total, source_exact, find_but_ended}
 use Rattle.cast_stable.specs.declared.witness.Witness.{Witness}
 use Rattle.cast_stable.specs.Runs.{no_counts, is_run, contains, inserted}
 use Rattle.cast_stable.specs.Witnesses.{witness_cmp, witness}
 use Rattle.cast_stable.specs.Stable.{Acked, has_acked, stable_upto, was_told, is_known_stable}
-use Rattle.cast_stable.specs.Ledger.{Ledger, source_of, others_in, received_run, acked_run, told_count, is_received_in, has_acked_in, least_acked, upto_in, is_stable_among, is_stable_in, new_ledger, told_ledger, received_ledger, acked_ledger, learnt_ledger}
+use Rattle.cast_stable.specs.Ledger.{Ledger, others_in, received_run, acked_run, told_count, is_received_in, has_acked_in, least_acked, upto_in, is_stable_among, is_stable_in, new_ledger, told_ledger, received_ledger, acked_ledger, learnt_ledger}
 use Rattle.cast_stable.specs.Fits.{Past, Fits}
 use Rattle.cast_stable.proofs.Runs.{and_false, eqb_sym, next_apart, inserted_is, contains_inserted}
 use Rattle.cast_stable.proofs.Witnesses.{witness_total, witness_exact, key_cases, find_acked, put_here, put_elsewhere}

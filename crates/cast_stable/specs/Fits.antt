@@ -7,9 +7,10 @@ use Rattle.cast_types.specs.declared.names.Uid.{Uid}
 use Rattle.cast_types.specs.declared.source.Source.{Source}
 use Rattle.cast_types.specs.Names.{uid_eq, named}
 use Rattle.cast_types.specs.Sets.{is_among}
+use Rattle.cast_types.specs.Sources.{source_of}
 use Rattle.cast_stable.specs.Runs.{is_run}
 use Rattle.cast_stable.specs.Stable.{Acked, has_acked, was_told, stable_upto, is_known_stable}
-use Rattle.cast_stable.specs.Ledger.{Ledger, source_of, others_in, acked_run, told_count, is_received_in, has_acked_in}
+use Rattle.cast_stable.specs.Ledger.{Ledger, others_in, acked_run, told_count, is_received_in, has_acked_in}
 
 -- what a site was ever told of: the site itself, the other sites of each group's view, the sources of which a rule may
 -- still ask, and all messages received, acknowledged and told to be stable

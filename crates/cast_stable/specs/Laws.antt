@@ -6,8 +6,8 @@ use Rattle.cast_types.specs.declared.names.Uid.{Uid}
 use Rattle.cast_types.specs.declared.source.Source.{Source}
 use Rattle.cast_types.specs.Names.{group_eq}
 use Rattle.cast_types.specs.Sets.{set_at}
-use Rattle.cast_types.specs.Sources.{is_ended}
-use Rattle.cast_stable.specs.Ledger.{Ledger, source_of, upto_in, is_stable_in, new_ledger, told_ledger, received_ledger, acked_ledger, learnt_ledger}
+use Rattle.cast_types.specs.Sources.{is_ended, source_of}
+use Rattle.cast_stable.specs.Ledger.{Ledger, upto_in, is_stable_in, new_ledger, told_ledger, received_ledger, acked_ledger, learnt_ledger}
 use Rattle.cast_stable.specs.Fits.{Past, upto_by, is_stable_by, Fits}
 
 -- a new ledger means no views and no messages

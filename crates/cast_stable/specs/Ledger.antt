@@ -7,7 +7,7 @@ use Rattle.cast_types.specs.declared.names.GroupNo.{GroupNo}
 use Rattle.cast_types.specs.declared.names.Uid.{Uid}
 use Rattle.cast_types.specs.declared.source.Source.{Source}
 use Rattle.cast_types.specs.Names.{group_cmp, site_eq}
-use Rattle.cast_types.specs.Sources.{source_cmp, source, is_ended, but_ended}
+use Rattle.cast_types.specs.Sources.{source_cmp, source_of, is_ended, but_ended}
 use Rattle.cast_stable.specs.declared.witness.Witness.{Witness}
 use Rattle.cast_stable.specs.Runs.{Run, no_counts, contains, greatest, inserted}
 use Rattle.cast_stable.specs.Witnesses.{witness_cmp, witness}
@@ -20,9 +20,6 @@ pub record Ledger : Type 0 where
   pub received : List (Source × Run)
   pub acked : List (Witness × Run)
   pub told : List (Source × ℕ)
-
-abbrev pub source_of : Uid → Source
-source_of u = source u.group u.view u.proc
 
 abbrev pub others_in : Ledger → GroupNo → List SiteNo
 others_in l g = unwrap_or (find group_cmp g l.others) []

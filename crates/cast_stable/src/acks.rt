@@ -3,15 +3,15 @@ ghost use Rattle.std.specs.List.{reduce};
 ghost use Rattle.std.specs.Option.{option_copied};
 ghost use Rattle.cast_types.specs.Names.{uid_eq};
 ghost use Rattle.cast_types.specs.Sets.{is_among};
-ghost use Rattle.cast_types.specs.Sources.{source, but_ended};
+ghost use Rattle.cast_types.specs.Sources.{source, but_ended, source_of};
 ghost use Rattle.cast_stable.specs.Stable.{has_acked, stable_upto};
 ghost use Rattle.cast_stable.specs.Fits.{Past, upto_by, is_stable_by, Fits, SaysLast};
 ghost use Rattle.cast_stable.specs.Runs.{no_counts, contains, inserted};
-ghost use Rattle.cast_stable.specs.Ledger.{new_ledger, source_of, others_in, acked_run, acked_but_ended, told_count, told_ledger, received_ledger, acked_ledger, learnt_ledger, is_received_in, last_received_in, has_acked_in, upto_in, is_stable_in};
+ghost use Rattle.cast_stable.specs.Ledger.{new_ledger, others_in, acked_run, acked_but_ended, told_count, told_ledger, received_ledger, acked_ledger, learnt_ledger, is_received_in, last_received_in, has_acked_in, upto_in, is_stable_in};
 
 use crate::counted::Counted;
 use crate::witness::Witness;
-use cast_types::{GroupNo, Keyed, Listed, NoMemory, Proc, SiteNo, Source, Uid};
+use cast_types::{GroupNo, Keyed, Listed, NoMemory, Proc, SiteNo, Source, Uid, source_of};
 use std::alloc::Global;
 use std::marker::Model;
 
@@ -243,17 +243,6 @@ fn end_acked_in(entries: &mut Keyed<Witness, Counted>, group: GroupNo, number: u
     ensures { entries.new ≡ acked_but_ended group number entries.old }
 {
     entries.retain(|entry| !entry.0.source.is_ended(group, number));
-}
-
-// The process of a message in its view.
-fn source_of(id: Uid) -> Source
-    ensures { result ≡ source_of id }
-{
-    Source {
-        group: id.group,
-        view: id.view,
-        process: id.proc,
-    }
 }
 
 // Whether a count is in a set, an absent one being empty.

@@ -8,12 +8,13 @@ use Rattle.cast_types.specs.declared.names.Key.{Key}
 use Rattle.cast_types.specs.declared.names.Uid.{Uid}
 use Rattle.cast_types.specs.declared.source.Source.{Source}
 use Rattle.cast_types.specs.Names.{uid_eq}
+use Rattle.cast_types.specs.Sources.{source_of}
 use Rattle.cast_types.proofs.Orders.{same_uid, uid_itself}
 use Rattle.cast_types.proofs.Contains.{contains_here, contains_later}
 use Rattle.cast_message.specs.declared.message.Received.{Received}
 use Rattle.cast_message.specs.Receipts.{key_eq, message_under}
 use Rattle.cast_index.specs.declared.entry.Entry.{Entry}
-use Rattle.cast_index.specs.Index.{has, is_behind, source_of, IsFirstBehind}
+use Rattle.cast_index.specs.Index.{has, is_behind, IsFirstBehind}
 use Rattle.cast_index.proofs.Rises.{above_at}
 use Rattle.cast_store.specs.Store.{key_of, is_rising}
 use Rattle.cast_store.specs.Ids.{IsKeptOf, IsLedBy, HasIdsOf, is_named, message_of}

@@ -5,11 +5,12 @@ use Rattle.std.specs.Option.{option_map}
 use Rattle.cast_types.specs.declared.names.Key.{Key}
 use Rattle.cast_types.specs.declared.names.Uid.{Uid}
 use Rattle.cast_types.specs.Names.{uid_eq}
+use Rattle.cast_types.specs.Sources.{source_of}
 use Rattle.cast_message.specs.declared.message.Message.{Message}
 use Rattle.cast_message.specs.declared.message.Received.{Received}
 use Rattle.cast_store.specs.Store.{is_rising}
 use Rattle.cast_index.specs.declared.entry.Entry.{Entry}
-use Rattle.cast_index.specs.Index.{has, is_pair, source_of}
+use Rattle.cast_index.specs.Index.{has, is_pair}
 
 -- the first message of an id
 abbrev pub message_of : List Received → Uid → Option Message

@@ -10,9 +10,9 @@ ghost use Rattle.cast_message.specs.Receipts.{key_eq, message_under};
 ghost use Rattle.cast_store.specs.Ids.{IsKeptOf, IsLedBy, is_named, message_of};
 ghost use Rattle.cast_store.specs.Store.{with_message, without_key, key_of, is_rising};
 
-use cast_index::{Index, source_of};
+use cast_index::Index;
 use cast_message::{Message, Received};
-use cast_types::{DomainNo, Key, NoMemory, Uid};
+use cast_types::{DomainNo, Key, NoMemory, Uid, source_of};
 use std::alloc::Global;
 use std::marker::Model;
 

@@ -240,7 +240,7 @@ fn message(alloc: Global) -> Result<Message, Fail> {
             proc: THIRD,
             count: 1,
         },
-        times: Stamp::from_clocks(clocks),
+        times: Stamp::from_clocks(clocks)?,
         body: Body::Causal(Payload::from_bytes(Bytes::new())),
     })
 }

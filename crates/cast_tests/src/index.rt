@@ -1,6 +1,6 @@
 use crate::messages::{SENDER, holds, id_of};
-use cast_index::{Index, source_of};
-use cast_types::{Key, Proc, Uid};
+use cast_index::Index;
+use cast_types::{Key, Proc, Uid, source_of};
 use std::alloc::Global;
 use std::test::Fail;
 

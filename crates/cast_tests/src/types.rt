@@ -169,7 +169,7 @@ fn stamp_of_one(alloc: Global) -> Result<Stamp, NoMemory> {
     let mut clocks = Vec::new(alloc);
     let counts = Counts::new(alloc);
     clocks.push((GroupNo(7), Clock { view: 2, counts }))?;
-    Ok(Stamp::from_clocks(clocks))
+    Stamp::from_clocks(clocks)
 }
 
 // Whether a stamp has a clock of one group alone.

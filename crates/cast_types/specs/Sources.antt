@@ -4,6 +4,7 @@ use Rattle.std.specs.declared.cmp.Ordering.{Ordering}
 use Rattle.std.specs.Ordering.{nat_cmp, ordering_then}
 use Rattle.cast_types.specs.declared.names.GroupNo.{GroupNo}
 use Rattle.cast_types.specs.declared.names.Proc.{Proc}
+use Rattle.cast_types.specs.declared.names.Uid.{Uid}
 use Rattle.cast_types.specs.Names.{group_cmp, group_eq, proc_cmp}
 use Rattle.cast_types.specs.declared.source.Source.{Source}
 
@@ -13,6 +14,10 @@ source_cmp a b = ordering_then (group_cmp a.group b.group) (ordering_then (nat_c
 
 abbrev pub source : GroupNo → ℕ → Proc → Source
 source g view p = record { group = g; view = view; process = p }
+
+-- where messages of an id come from
+abbrev pub source_of : Uid → Source
+source_of u = source u.group u.view u.proc
 
 -- a source whose view of the group has ended, where this is the number of the view that stands
 abbrev pub is_ended : GroupNo → ℕ → Source → Bool

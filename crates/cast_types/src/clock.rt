@@ -9,6 +9,7 @@ use crate::names::GroupNo;
 use crate::{NoMemory, sorted};
 use std::alloc::Global;
 use std::marker::Model;
+use std::sync::Arc;
 
 /// What a time says of one group: a view, and a count of its messages for each process.
 #[derive(Drop)]
@@ -43,33 +44,37 @@ pub fn copy_clocks(
     Ok(copied)
 }
 
-/// The vector time that a message bears: 1 to 32 clocks of views from 1 on. Contracts see the list of clocks in
-/// rising order of their groups.
+/// The vector time that a message bears: 1 to 32 clocks of views from 1 on. It is never changed, so its copies share one list.
+/// Contracts see the list of clocks in rising order of their groups.
 #[derive(Drop)]
 pub struct Stamp {
-    clocks: Vec<(GroupNo, Clock)>,
+    clocks: Arc<Vec<(GroupNo, Clock)>, Global>,
 }
 
 impl Model for Stamp {
     ghost use Rattle.std.specs.Prelude.{List, IsTrue};
     ghost use Rattle.cast_types.specs.declared.names.GroupNo.{GroupNo};
     ghost use Rattle.cast_types.specs.declared.clock.Clock.{Clock};
+    ghost use Rattle.std.specs.Arc.{arc_value};
     ghost use Rattle.cast_types.specs.Stamps.{is_stamp};
 
     ghost Value = { List (GroupNo × Clock) };
 
-    ghost view = { λ s. s.clocks.items };
+    ghost view = { λ s. (arc_value s.clocks).items };
 
-    ghost invariant = { λ s. IsTrue (is_stamp s.clocks.items) };
+    ghost invariant = { λ s. IsTrue (is_stamp (arc_value s.clocks).items) };
 }
 
 impl Stamp {
-    /// The clocks of a vector.
-    pub fn from_clocks(clocks: Vec<(GroupNo, Clock)>) -> Self
+    /// The clocks of a vector. `NoMemory`: there is no room to share them from.
+    pub fn from_clocks(clocks: Vec<(GroupNo, Clock)>) -> Result<Self, NoMemory>
         requires { IsTrue (is_stamp clocks.items) }
-        ensures { result ≡ clocks.items }
+        ensures { IfOk result (λ s. s ≡ clocks.items) }
     {
-        Stamp { clocks }
+        let alloc = *clocks.allocator();
+        Ok(Stamp {
+            clocks: Arc::new(alloc, clocks)?,
+        })
     }
 
     /// The clocks in rising order of their groups, 1 to 32.
@@ -87,12 +92,13 @@ impl Stamp {
         sorted::find(&self.clocks, &group)
     }
 
-    /// An equal value.
+    /// An equal value, which shares the clocks of this one. Takes no memory. `NoMemory`: the clocks are shared by as many values as
+    /// can be counted.
     pub fn copy(&self) -> Result<Self, NoMemory>
         ensures { IfOk result (λ s. s ≡ self.now) }
     {
         Ok(Stamp {
-            clocks: copy_clocks(*self.clocks.allocator(), &self.clocks)?,
+            clocks: Arc::try_clone(&self.clocks)?,
         })
     }
 }

@@ -28,7 +28,7 @@ pub use keyed::Keyed;
 pub use listed::Listed;
 pub use names::{DomainNo, GroupNo, Key, Kind, Proc, SiteNo, Standing, Uid};
 pub use refusal::Refusal;
-pub use source::Source;
+pub use source::{Source, source_of};
 
 /// Want of memory: an allocation was refused.
 pub type NoMemory = std::alloc::AllocError;

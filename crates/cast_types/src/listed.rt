@@ -83,12 +83,16 @@ impl<T: Drop> Listed<T> {
         Ok(())
     }
 
-    /// Adds items at the end. `NoMemory` changes nothing.
+    /// Adds items at the end; where there was none, takes them over as they lie. `NoMemory` changes nothing.
     pub fn append(&mut self, items: Listed<T>) -> Result<(), NoMemory>
         ensures ok { OnOk result (self.new ≡ self.old ++ items) }
         ensures err { OnErr result (self.new ≡ self.old) }
     {
         let mut more = items.into_vec();
+        if self.cells.is_empty() {
+            self.cells = more;
+            return Ok(());
+        }
         self.cells.append(&mut more)?;
         Ok(())
     }

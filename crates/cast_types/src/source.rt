@@ -1,7 +1,7 @@
 ghost use Rattle.std.specs.Prelude.{◌≡◌};
-ghost use Rattle.cast_types.specs.Sources.{is_ended};
+ghost use Rattle.cast_types.specs.Sources.{is_ended, source_of};
 
-use crate::names::{GroupNo, Proc};
+use crate::names::{GroupNo, Proc, Uid};
 
 /// Where messages come from: a process in a view of a group.
 #[derive(Clone, Copy, Debug, PartialEq, Eq, PartialOrd, Ord)]
@@ -17,5 +17,16 @@ impl Source {
         ensures { result ≡ is_ended group number self }
     {
         self.group == group && self.view < number
+    }
+}
+
+/// Where messages of an id come from.
+pub fn source_of(id: Uid) -> Source
+    ensures { result ≡ source_of id }
+{
+    Source {
+        group: id.group,
+        view: id.view,
+        process: id.proc,
     }
 }
