@@ -12,4 +12,4 @@ from_clocks-requires c =
 
 pub returns : goal.returns
 unfolding times_at
-returns c = rw (c.in_ok-count.ensures, c.in_ok-clocks.ensures, c.from_clocks.ensures) refl
+returns c = rw (c.in_ok-count.ensures, c.in_ok-clocks.ensures, c.in_ok-from_clocks.ensures) refl
