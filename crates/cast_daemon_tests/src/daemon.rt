@@ -1,0 +1,78 @@
+//! A daemon of one site with one domain and one group, and the console that a test types on.
+use cast_config::{Setup, read};
+use cast_serve::serve;
+use cast_types::SiteNo;
+use std::alloc::Global;
+use std::io;
+use std::io::{BufRead, BufReader, Write};
+use std::net::Net;
+use std::os::unix::net::UnixStream;
+use std::rt::{Clock, Files};
+use std::sync::Wait;
+use std::thread::Threads;
+
+/// Types `stop` on the console.
+pub fn say_stop(mut typed: &UnixStream) {
+    let _ = typed.write_all(b"stop\n");
+}
+
+/// The path of the socket of the daemon of a test.
+pub fn path_of(alloc: Global, test: u16) -> io::Result<String> {
+    Ok(format!(in alloc; "cast_daemon_tests_{test}.sock")?)
+}
+
+/// The set-up of the daemon of a test, so that several run side by side.
+pub fn setup_of(alloc: Global, test: u16) -> io::Result<Setup> {
+    let path = path_of(alloc, test)?;
+    let port = 7390 + test % 100;
+    let text = format!(in alloc;
+        "[[site]]\nnumber = 1\naddress = \"127.0.0.1:{port}\"\n[[domain]]\nnumber = 1\nhome = 1\nsites = [1]\ngroups = [1]\nsocket = \"{path}\"\n"
+    )?;
+    match read(alloc, text.as_str(), SiteNo(1)) {
+        Ok(setup) => Ok(setup),
+        Err(_) => Err(io::Error::from(io::ErrorKind::InvalidInput)),
+    }
+}
+
+/// What came of a daemon.
+#[derive(Drop)]
+pub struct Ran {
+    pub status: u8,
+    pub out: Vec<u8>,
+    pub err: Vec<u8>,
+}
+
+/// Runs the daemon of a set-up over this console.
+pub fn served<R: Threads + Wait + Clock + Net + Files + Sync>(
+    rt: &R,
+    alloc: Global,
+    setup: &Setup,
+    console: BufReader<UnixStream>,
+) -> Ran {
+    let mut out = Vec::new(alloc);
+    let mut err = Vec::new(alloc);
+    let lines = console.lines(alloc);
+    let status = serve(
+        rt,
+        alloc,
+        setup,
+        2,
+        lines,
+        &mut out,
+        &mut err,
+        Vec::new(alloc),
+    );
+    Ran { status, out, err }
+}
+
+/// Runs the daemon of a test that cannot begin.
+pub fn run_unbound<R: Threads + Wait + Clock + Net + Files + Sync>(
+    rt: &R,
+    alloc: Global,
+    test: u16,
+) -> io::Result<Ran> {
+    let setup = setup_of(alloc, test)?;
+    let (typed, console) = UnixStream::pair(rt)?;
+    drop(typed);
+    Ok(served(rt, alloc, &setup, BufReader::new(alloc, console)?))
+}
