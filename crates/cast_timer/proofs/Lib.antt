@@ -4,3 +4,4 @@ pub mod Orders
 pub mod Owing
 pub mod Renewing
 pub mod Index
+pub mod AllRenewed

@@ -1,6 +1,6 @@
 -- The frames that a domain owes: a set in order of due moments, and at one moment in order of keys.
 use Rattle.std.specs.Prelude.{ℕ, Bool, true, false, not, nat_le, ◌&&◌, ◌==◌, List, map, filter}
-use Rattle.std.specs.List.{list_any}
+use Rattle.std.specs.List.{list_any, fold}
 use Rattle.std.specs.declared.cmp.Ordering.{Ordering}
 use Rattle.std.specs.Ordering.{nat_cmp, ordering_then}
 use Rattle.cast_types.specs.Names.{site_cmp, group_cmp, proc_cmp, site_eq, group_eq, proc_eq}
@@ -90,3 +90,7 @@ due_frames now owed = filter (λ o. nat_le o.due now) owed
 -- their keys, in the order in which they are sent
 abbrev pub due_at : ℕ → List Owed → List OwedKey
 due_at now owed = map (λ o. o.key) (due_frames now owed)
+
+-- all frames that are due at a moment are owed for another one, one after the other
+abbrev pub all_renewed : ℕ → ℕ → List Owed → List Owed
+all_renewed now due owed = fold (λ os key. renewed os key due) owed (due_at now owed)

@@ -1,5 +1,7 @@
 ghost use Rattle.std.specs.Prelude.{◌≡◌, false, [], IfNone, IfOk, IfSome, IsTrue, OnOk, OnErr};
-ghost use Rattle.cast_timer.specs.Owed.{owed_cmp, key_eq, is_owed, with_owed, paid, is_of_view, is_upto, renewed, due_frames, due_at};
+ghost use Rattle.std.specs.List.{fold};
+ghost use Rattle.cast_timer.specs.Owed.{owed_cmp, key_eq, is_owed, with_owed, paid, is_of_view, is_upto, renewed, due_frames, due_at, all_renewed};
+ghost use Rattle.cast_timer.specs.Index.{IsIndex, due_of, renewed_due, renewed_dues};
 ghost use Rattle.cast_types.specs.Rising.{is_rising};
 
 use crate::key::{Owed, OwedKey, is_of_view, is_upto};
@@ -7,6 +9,10 @@ use cast_types::{GroupNo, NoMemory};
 use std::alloc::{AllocError, Global};
 use std::collections::{BTreeMap, BTreeSet};
 use std::marker::Model;
+
+// Up to one in so many of a domain's frames are owed for another moment one by one, and more of them all at once: a search
+// for each of a few takes less than a walk over all.
+const ONE_IN: usize = 8;
 
 /// What one domain owes, in order of due moments and then of keys. No key is owed twice.
 #[derive(Drop)]
@@ -79,6 +85,19 @@ impl Frames {
         }
     }
 
+    /// Owes all frames that are due at the moment `now` for the moment `due`, and for no other. `NoMemory`: some of them
+    /// may be owed so.
+    pub(crate) fn renew_due(&mut self, alloc: Global, now: u64, due: u64) -> Result<(), NoMemory>
+        ensures { OnOk result (self.new ≡ all_renewed now due self.old) }
+    {
+        let keys = self.due(alloc, now)?;
+        if keys.len() <= self.dues.len() / ONE_IN {
+            self.renew_each(&keys, due)
+        } else {
+            self.renew_at_once(alloc, now, due)
+        }
+    }
+
     /// Owes the frame of a key no more.
     pub(crate) fn pay(&mut self, key: &OwedKey)
         ensures { self.new ≡ paid (key_eq key.now) self.old }
@@ -127,6 +146,27 @@ impl Frames {
         Ok(keys)
     }
 
+    // Owes the frames of keys for a moment, one after the other. `NoMemory`: some of them may be owed so.
+    fn renew_each(&mut self, keys: &[OwedKey], due: u64) -> Result<(), NoMemory>
+        ensures { OnOk result (self.new ≡ fold (λ os key. renewed os key due) self.old keys.now) }
+    {
+        for key in keys {
+            self.renew(Owed { due, key: *key })?;
+        }
+        Ok(())
+    }
+
+    // Owes all frames that are due at the moment `now` for the moment `due`, without a search for each. `NoMemory`
+    // changes nothing.
+    fn renew_at_once(&mut self, alloc: Global, now: u64, due: u64) -> Result<(), NoMemory>
+        ensures ok { OnOk result (self.new ≡ all_renewed now due self.old) }
+        ensures err { OnErr result (self.new ≡ self.old) }
+    {
+        self.owed = renewed_frames(alloc, &self.dues, now, due)?;
+        renew_dues(&mut self.dues, now, due);
+        Ok(())
+    }
+
     // A key whose frame is owed, and that differs from this one at most in a lower count. It looks at the keys between the
     // lowest such and this one alone.
     fn upto(&self, key: &OwedKey) -> Option<OwedKey>
@@ -141,4 +181,37 @@ impl Frames {
         }
         None
     }
+}
+
+// The frames of a map of moments, once all that are due at the moment `now` are owed for the moment `due`.
+fn renewed_frames(
+    alloc: Global,
+    dues: &BTreeMap<OwedKey, u64>,
+    now: u64,
+    due: u64,
+) -> Result<BTreeSet<Owed>, NoMemory>
+    ensures { IfOk result (λ owed. IsIndex (due_of (renewed_dues now due dues.now.entries)) owed.keys) }
+{
+    let frames = dues.iter().map(|(key, at)| Owed {
+        due: renewed_due(*at, now, due),
+        key: *key,
+    });
+    frames.collect(alloc)
+}
+
+// Owes all frames of a map of moments that are due at the moment `now` for the moment `due`, in one walk that keeps each.
+fn renew_dues(dues: &mut BTreeMap<OwedKey, u64>, now: u64, due: u64)
+    ensures { dues.new.entries ≡ renewed_dues now due dues.old.entries }
+{
+    dues.retain(|_, at| {
+        *at = renewed_due(*at, now, due);
+        true
+    });
+}
+
+// The moment of a frame, once all that are due at the moment `now` are owed for the moment `due`.
+fn renewed_due(at: u64, now: u64, due: u64) -> u64
+    ensures { result ≡ renewed_due now due at }
+{
+    if at <= now { due } else { at }
 }

@@ -1,10 +1,11 @@
-ghost use Rattle.std.specs.Prelude.{◌≡◌, ◌≢◌, ◌<◌, ◌∷◌, ◌++◌, [], false, IfOk, IsTrue, IfSome, OnOk, OnErr, filter, get_or, length, not, vec_len};
+ghost use Rattle.std.specs.Prelude.{◌≡◌, ◌≢◌, ◌<◌, ◌∷◌, ◌++◌, List, [], false, IfOk, IsTrue, IfSome, OnOk, OnErr, filter, get_or, length, not, vec_len};
 ghost use Rattle.std.specs.List.{position};
 ghost use Rattle.std.specs.Option.{option_copied};
 ghost use Rattle.cast_types.specs.declared.names.DomainNo.{DomainNo};
+ghost use Rattle.cast_timer.specs.declared.key.Owed.{Owed};
 ghost use Rattle.cast_types.specs.Sets.{with_item};
 ghost use Rattle.cast_types.specs.Places.{update};
-ghost use Rattle.cast_timer.specs.Owed.{owed_cmp, key_eq, with_owed, is_owed, paid, is_of_view, is_upto, renewed, due_frames, due_at};
+ghost use Rattle.cast_timer.specs.Owed.{owed_cmp, key_eq, with_owed, is_owed, paid, is_of_view, is_upto, renewed, due_frames, due_at, all_renewed};
 ghost use Rattle.cast_types.specs.Rising.{is_rising};
 ghost use Rattle.cast_timer.specs.Rows.{is_of, row_of, owed_in};
 
@@ -117,6 +118,18 @@ impl Timers {
         }
     }
 
+    /// Owes all of the domain's frames that are due at the moment `now` for the moment `due`, both in milliseconds, and for
+    /// no other moment any more. `NoMemory`: some of them may be owed so.
+    pub fn renew_due(&mut self, domain: DomainNo, now: u64, due: u64) -> Result<(), NoMemory>
+        ensures own { OnOk result (owed_in self.new domain ≡ all_renewed now due (owed_in self.old domain)) }
+        ensures others { (e : DomainNo) → e ≢ domain → owed_in self.new e ≡ owed_in self.old e }
+    {
+        match place_among(&self.rows, domain) {
+            Some(place) => renew_due_at(&mut self.rows, place, now, due),
+            None => Ok(()),
+        }
+    }
+
     /// Whether the domain owes the frame of a key, for whichever moment. Takes no memory.
     pub fn is_owed(&self, domain: DomainNo, key: &OwedKey) -> bool
         ensures { result ≡ is_owed (owed_in self.now domain) key.now }
@@ -226,6 +239,19 @@ fn renew_at(rows: &mut Vec<Row>, place: usize, frame: Owed) -> Result<(), NoMemo
 {
     let row = &mut rows[place];
     row.frames.renew(frame)
+}
+
+// Owes all frames of the domain of a place that are due at the moment `now` for the moment `due` alone. `NoMemory`: some
+// of them may be owed so.
+#[tactic(auto, using(cast_types::proofs::Updates::set_update))]
+fn renew_due_at(rows: &mut Vec<Row>, place: usize, now: u64, due: u64) -> Result<(), NoMemory>
+    requires { place < vec_len rows.old }
+    ensures ok { OnOk result (rows.new.items ≡ update rows.old.items place (λ r. record r { frames = all_renewed now due r.frames })) }
+    ensures others { (f : List Owed) × (rows.new.items ≡ update rows.old.items place (λ r. record r { frames = f })) }
+{
+    let alloc = *rows.allocator();
+    let row = &mut rows[place];
+    row.frames.renew_due(alloc, now, due)
 }
 
 // Keeps the rows of other domains.
