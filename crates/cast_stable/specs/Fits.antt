@@ -39,6 +39,10 @@ pub record Fits (past : Past) (l : Ledger) : Type 0 where
   pub runs : (s : Source) (from : SiteNo) → is_run (acked_run l s from) ≡ true
   pub learnt : (u : Uid) → past.is_live (source_of u) ≡ true → 0 < u.count → nat_le u.count (told_count l (source_of u)) ≡ was_told past.told u
 
+-- a fact of each past of which the ledger tells and in which the source is live
+abbrev pub WhileLive : Ledger → Source → (Past → Type 0) → Type 0
+WhileLive l s P = (past : Past) → Fits past l → past.is_live s ≡ true → P past
+
 -- no message of the source with a greater count was received, and one with this count was, unless it is 0
 pub record SaysLast (received : List Uid) (s : Source) (last : ℕ) : Type 0 where
   pub most : (count : ℕ) → 0 < count → is_among uid_eq (named s.group s.view (s.process, count)) received ≡ true → count ≤ last

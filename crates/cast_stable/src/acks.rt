@@ -5,7 +5,7 @@ ghost use Rattle.cast_types.specs.Names.{uid_eq};
 ghost use Rattle.cast_types.specs.Sets.{is_among};
 ghost use Rattle.cast_types.specs.Sources.{source, but_ended, source_of};
 ghost use Rattle.cast_stable.specs.Stable.{has_acked, stable_upto};
-ghost use Rattle.cast_stable.specs.Fits.{Past, upto_by, is_stable_by, Fits, SaysLast};
+ghost use Rattle.cast_stable.specs.Fits.{upto_by, is_stable_by, WhileLive, SaysLast};
 ghost use Rattle.cast_stable.specs.Runs.{no_counts, contains, inserted};
 ghost use Rattle.cast_stable.specs.Ledger.{new_ledger, others_in, acked_run, acked_but_ended, told_count, told_ledger, received_ledger, acked_ledger, learnt_ledger, is_received_in, last_received_in, has_acked_in, upto_in, is_stable_in};
 
@@ -97,7 +97,7 @@ impl Acks {
     /// Whether this site received a message. Takes no memory.
     pub fn is_received(&self, id: Uid) -> bool
         ensures value { result ≡ is_received_in self.now id }
-        ensures meaning { (past : Past) → Fits past self.now → past.is_live (source_of id) ≡ true → 0 < id.count → result ≡ is_among uid_eq id past.received }
+        ensures meaning { WhileLive self.now (source_of id) (λ past. 0 < id.count → result ≡ is_among uid_eq id past.received) }
     {
         contains(self.received.get(&source_of(id)), id.count)
     }
@@ -106,7 +106,7 @@ impl Acks {
     /// received none. Takes no memory.
     pub fn last_received(&self, group: GroupNo, view: u32, process: Proc) -> u32
         ensures value { result ≡ last_received_in self.now (source group view process) }
-        ensures meaning { (past : Past) → Fits past self.now → past.is_live (source group view process) ≡ true → SaysLast past.received (source group view process) result }
+        ensures meaning { WhileLive self.now (source group view process) (λ past. SaysLast past.received (source group view process) result) }
     {
         match self.received.get(&Source {
             group,
@@ -135,7 +135,7 @@ impl Acks {
     /// Whether a site acknowledged a message. Takes no memory.
     pub fn has_acked(&self, from: SiteNo, id: Uid) -> bool
         ensures value { result ≡ has_acked_in self.now from id }
-        ensures meaning { (past : Past) → Fits past self.now → past.is_live (source_of id) ≡ true → 0 < id.count → result ≡ has_acked past.acks id from }
+        ensures meaning { WhileLive self.now (source_of id) (λ past. 0 < id.count → result ≡ has_acked past.acks id from) }
     {
         let witness = Witness {
             source: source_of(id),
@@ -148,7 +148,7 @@ impl Acks {
     /// view of the counts that each acknowledged without a gap, 0 where there is no other site. Takes no memory.
     pub fn stable_upto(&self, id: Uid) -> u32
         ensures value { result ≡ upto_in self.now id }
-        ensures meaning { (past : Past) → Fits past self.now → past.is_live (source_of id) ≡ true → past.others id.group ≢ [] → result ≡ upto_by past id }
+        ensures meaning { WhileLive self.now (source_of id) (λ past. past.others id.group ≢ [] → result ≡ upto_by past id) }
     {
         self.least_acked(source_of(id), self.others(id.group))
             .unwrap_or(0)
@@ -170,7 +170,7 @@ impl Acks {
     /// the acknowledgements of all other sites; another by what its site told. Takes no memory.
     pub fn is_stable(&self, id: Uid) -> bool
         ensures value { result ≡ is_stable_in self.now id }
-        ensures meaning { (past : Past) → Fits past self.now → past.is_live (source_of id) ≡ true → 0 < id.count → result ≡ is_stable_by past id }
+        ensures meaning { WhileLive self.now (source_of id) (λ past. 0 < id.count → result ≡ is_stable_by past id) }
     {
         if self.others(id.group).is_empty() {
             return true;
@@ -185,7 +185,7 @@ impl Acks {
     /// memory.
     pub fn may_free(&self, id: Uid, is_awaited: bool) -> bool
         ensures value { result ≡ (is_stable_in self.now id && not is_awaited) }
-        ensures meaning { (past : Past) → Fits past self.now → past.is_live (source_of id) ≡ true → 0 < id.count → result ≡ (is_stable_by past id && not is_awaited) }
+        ensures meaning { WhileLive self.now (source_of id) (λ past. 0 < id.count → result ≡ (is_stable_by past id && not is_awaited)) }
     {
         self.is_stable(id) && !is_awaited
     }
