@@ -7,13 +7,9 @@ use Rattle.std.proofs.lemmas.List.Quantifiers.{position-Some}
 use Rattle.cast_types.specs.declared.names.DomainNo.{DomainNo}
 use Rattle.cast_types.specs.Places.{update}
 use Rattle.cast_outbox.specs.Pending.{Pending, entries_of}
-use Rattle.cast_outbox.specs.Outboxes.{is_of, sessions_in, outboxes_in}
+use Rattle.cast_outbox.specs.Outboxes.{is_of, sessions_in, outboxes_in, with_sessions}
 use Rattle.cast_outbox.specs.declared.outboxes.Row.{Row}
 use Rattle.cast_outbox.proofs.Finds.{find_place, find_no_place, find_update, find_update_no, find_push_yes, find_push_no, find_filter, find_filter_none}
-
--- a row whose sessions are changed
-abbrev pub with_sessions : (List Pending → List Pending) → Row → Row
-with_sessions f r = record r { sessions = f r.sessions }
 
 -- the sessions by the row
 abbrev sessions_by : Option Row → List Pending

@@ -1,8 +1,9 @@
 -- What the sessions of all domains were pushed and have not taken.
-use Rattle.std.specs.Prelude.{ℕ, Bool, ◌==◌, List, [], Option}
+use Rattle.std.specs.Prelude.{ℕ, Bool, ◌==◌, List, [], ◌∷◌, Option}
 use Rattle.std.specs.List.{find}
 use Rattle.std.specs.Option.{option_map_or}
 use Rattle.cast_types.specs.declared.names.DomainNo.{DomainNo}
+use Rattle.cast_types.specs.Sets.{set_at}
 use Rattle.cast_message.specs.declared.client.Push.{Push}
 use Rattle.cast_outbox.specs.Pending.{Pending, entries_of}
 use Rattle.cast_outbox.specs.declared.outboxes.Row.{Row}
@@ -22,3 +23,17 @@ sessions_in rows d = option_map_or (λ r. r.sessions) (row_of rows d) []
 -- for a domain and a serial, the entries that were pushed and not taken, in order
 abbrev pub outboxes_in : List Row → DomainNo → ℕ → List Push
 outboxes_in rows d = entries_of (sessions_in rows d)
+
+-- Changes
+
+-- the outbox of one serial changed
+abbrev pub changed_at : ℕ → (List Push → List Push) → (ℕ → List Push) → ℕ → List Push
+changed_at k f outboxes = set_at (λ a b. a == b) outboxes k (f (outboxes k))
+
+-- a row whose sessions are changed
+abbrev pub with_sessions : (List Pending → List Pending) → Row → Row
+with_sessions f r = record r { sessions = f r.sessions }
+
+-- the row of a domain in which one session was pushed these entries
+abbrev pub first_row : DomainNo → ℕ → List Push → Row
+first_row d k entries = record { domain = d; sessions = record { serial = k; entries = entries } ∷ [] }

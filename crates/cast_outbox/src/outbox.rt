@@ -1,7 +1,7 @@
-ghost use Rattle.std.specs.Prelude.{◌≡◌, ◌≤◌, ◌++◌, [], IfOk, OnOk, OnErr, if◌then◌else◌, length, slice_get, take, drop};
+ghost use Rattle.std.specs.Prelude.{◌≡◌, ◌≤◌, ◌++◌, [], IfOk, OnOk, OnErr, length, slice_get, take, drop};
 ghost use Rattle.std.specs.Option.{option_copied};
 ghost use Rattle.std.specs.VecDeque.{deque_len, deque_capacity};
-ghost use Rattle.cast_outbox.specs.Pending.{is_full_at, with_entry};
+ghost use Rattle.cast_outbox.specs.Pending.{with_entry, told_at};
 
 use cast_message::Push;
 use cast_types::{Listed, NoMemory, Refusal};
@@ -71,7 +71,7 @@ impl Outbox {
     /// Adds an entry at the end, or where as many as the limit stand there, the end of the session in its place.
     /// `NoMemory` changes nothing.
     pub(crate) fn push(&mut self, limit: u32, entry: Push) -> Result<Pushed, NoMemory>
-        ensures value { IfOk result (λ p. p ≡ (if is_full_at limit self.old.entries then Pushed.Slow else Pushed.Kept)) }
+        ensures value { IfOk result (λ p. p ≡ told_at limit self.old.entries) }
         ensures ok { OnOk result (self.new ≡ record self.old { entries = with_entry limit entry self.old.entries }) }
         ensures err { OnErr result (self.new ≡ self.old) }
     {

@@ -1,12 +1,10 @@
-ghost use Rattle.std.specs.Prelude.{◌≡◌, ◌≢◌, ◌<◌, ◌==◌, ◌∷◌, ◌++◌, [], IfOk, IfSome, OnOk, OnErr, if◌then◌else◌, drop, filter, get_or, length, not, slice_get, take, vec_len};
+ghost use Rattle.std.specs.Prelude.{◌≡◌, ◌≢◌, ◌<◌, ◌∷◌, ◌++◌, [], IfOk, IfSome, OnOk, OnErr, drop, filter, get_or, length, not, slice_get, take, vec_len};
 ghost use Rattle.std.specs.List.{position};
 ghost use Rattle.std.specs.Option.{option_copied};
 ghost use Rattle.cast_types.specs.declared.names.DomainNo.{DomainNo};
-ghost use Rattle.cast_types.specs.declared.refusal.Refusal.TheVariants as refusal;
 ghost use Rattle.cast_types.specs.Places.{update};
-ghost use Rattle.cast_types.specs.Sets.{set_at};
-ghost use Rattle.cast_outbox.specs.Pending.{entries_of, is_full_at, with_entry, changed_there, changed_for, but_for};
-ghost use Rattle.cast_outbox.specs.Outboxes.{is_of, row_of, outboxes_in};
+ghost use Rattle.cast_outbox.specs.Pending.{entries_of, with_entry, changed_there, changed_for, but_for, told_at};
+ghost use Rattle.cast_outbox.specs.Outboxes.{is_of, row_of, outboxes_in, changed_at, with_sessions, first_row};
 ghost use Rattle.cast_outbox.specs.declared.outboxes.Row.{Row};
 
 use crate::outbox::Pushed;
@@ -62,7 +60,7 @@ impl Outboxes {
     /// The session of a serial begins in a domain: its outbox is empty, and what was there is dropped. `NoMemory` changes
     /// nothing.
     pub fn open(&mut self, domain: DomainNo, serial: u32) -> Result<(), NoMemory>
-        ensures ok { OnOk result (outboxes_in self.new domain ≡ set_at (λ a b. a == b) (outboxes_in self.old domain) serial []) }
+        ensures ok { OnOk result (outboxes_in self.new domain ≡ changed_at serial (λ _. []) (outboxes_in self.old domain)) }
         ensures err { OnErr result (self.new ≡ self.old) }
         ensures others { (e : DomainNo) → e ≢ domain → outboxes_in self.new e ≡ outboxes_in self.old e }
     {
@@ -82,8 +80,8 @@ impl Outboxes {
         limit: u32,
         entry: Push,
     ) -> Result<Pushed, NoMemory>
-        ensures value { IfOk result (λ p. p ≡ (if is_full_at limit (outboxes_in self.old domain serial) then Pushed.Slow else Pushed.Kept)) }
-        ensures ok { OnOk result (outboxes_in self.new domain ≡ set_at (λ a b. a == b) (outboxes_in self.old domain) serial (outboxes_in self.old domain serial ++ (if is_full_at limit (outboxes_in self.old domain serial) then Push.Closed refusal.Slow else entry) ∷ [])) }
+        ensures value { IfOk result (λ p. p ≡ told_at limit (outboxes_in self.old domain serial)) }
+        ensures ok { OnOk result (outboxes_in self.new domain ≡ changed_at serial (with_entry limit entry) (outboxes_in self.old domain)) }
         ensures err { OnErr result (self.new ≡ self.old) }
         ensures others { (e : DomainNo) → e ≢ domain → outboxes_in self.new e ≡ outboxes_in self.old e }
     {
@@ -102,7 +100,7 @@ impl Outboxes {
         most: u32,
     ) -> Result<Listed<Push>, NoMemory>
         ensures value { IfOk result (λ taken. taken ≡ take most (outboxes_in self.old domain serial)) }
-        ensures ok { OnOk result (outboxes_in self.new domain ≡ set_at (λ a b. a == b) (outboxes_in self.old domain) serial (drop most (outboxes_in self.old domain serial))) }
+        ensures ok { OnOk result (outboxes_in self.new domain ≡ changed_at serial (drop most) (outboxes_in self.old domain)) }
         ensures err { OnErr result (self.new ≡ self.old) }
         ensures others { (e : DomainNo) → e ≢ domain → outboxes_in self.new e ≡ outboxes_in self.old e }
     {
@@ -135,7 +133,7 @@ impl Outboxes {
 
     /// The session of a serial is over: its outbox is dropped, and its memory with it. Takes no memory.
     pub fn close(&mut self, domain: DomainNo, serial: u32)
-        ensures own { outboxes_in self.new domain ≡ set_at (λ a b. a == b) (outboxes_in self.old domain) serial [] }
+        ensures own { outboxes_in self.new domain ≡ changed_at serial (λ _. []) (outboxes_in self.old domain) }
         ensures others { (e : DomainNo) → e ≢ domain → outboxes_in self.new e ≡ outboxes_in self.old e }
     {
         if let Some(place) = place_among(&self.rows, domain) {
@@ -171,7 +169,7 @@ fn place_among(rows: &[Row], domain: DomainNo) -> Option<usize>
 #[tactic(auto, using(cast_types::proofs::Updates::set_update))]
 fn open_at(rows: &mut Vec<Row>, place: usize, serial: u32) -> Result<(), NoMemory>
     requires { place < vec_len rows.old }
-    ensures ok { OnOk result (rows.new.items ≡ update rows.old.items place (λ r. record r { sessions = changed_for serial (λ _. []) r.sessions })) }
+    ensures ok { OnOk result (rows.new.items ≡ update rows.old.items place (with_sessions (changed_for serial (λ _. [])))) }
     ensures err { OnErr result (rows.new.items ≡ rows.old.items) }
 {
     let row = &mut rows[place];
@@ -180,7 +178,7 @@ fn open_at(rows: &mut Vec<Row>, place: usize, serial: u32) -> Result<(), NoMemor
 
 // Opens the first outbox of a domain. `NoMemory` changes nothing.
 fn open_first(rows: &mut Vec<Row>, domain: DomainNo, serial: u32) -> Result<(), NoMemory>
-    ensures ok { OnOk result (rows.new.items ≡ rows.old.items ++ record { domain = domain; sessions = record { serial = serial; entries = [] } ∷ [] } ∷ []) }
+    ensures ok { OnOk result (rows.new.items ≡ rows.old.items ++ first_row domain serial [] ∷ []) }
     ensures err { OnErr result (rows.new.items ≡ rows.old.items) }
 {
     let mut sessions = Sessions::new(*rows.allocator());
@@ -199,8 +197,8 @@ fn push_at(
     entry: Push,
 ) -> Result<Pushed, NoMemory>
     requires { place < vec_len rows.old }
-    ensures value { IfOk result (λ p. (r : Row) → p ≡ (if is_full_at limit (entries_of (get_or rows.old.items place r).sessions serial) then Pushed.Slow else Pushed.Kept)) }
-    ensures ok { OnOk result (rows.new.items ≡ update rows.old.items place (λ r. record r { sessions = changed_for serial (with_entry limit entry) r.sessions })) }
+    ensures value { IfOk result (λ p. (r : Row) → p ≡ told_at limit (entries_of (get_or rows.old.items place r).sessions serial)) }
+    ensures ok { OnOk result (rows.new.items ≡ update rows.old.items place (with_sessions (changed_for serial (with_entry limit entry)))) }
     ensures err { OnErr result (rows.new.items ≡ rows.old.items) }
 {
     let row = &mut rows[place];
@@ -215,8 +213,8 @@ fn push_first(
     limit: u32,
     entry: Push,
 ) -> Result<Pushed, NoMemory>
-    ensures value { IfOk result (λ p. p ≡ (if is_full_at limit [] then Pushed.Slow else Pushed.Kept)) }
-    ensures ok { OnOk result (rows.new.items ≡ rows.old.items ++ record { domain = domain; sessions = record { serial = serial; entries = with_entry limit entry [] } ∷ [] } ∷ []) }
+    ensures value { IfOk result (λ p. p ≡ told_at limit []) }
+    ensures ok { OnOk result (rows.new.items ≡ rows.old.items ++ first_row domain serial (with_entry limit entry []) ∷ []) }
     ensures err { OnErr result (rows.new.items ≡ rows.old.items) }
 {
     let mut sessions = Sessions::new(*rows.allocator());
@@ -235,7 +233,7 @@ fn take_at(
 ) -> Result<Listed<Push>, NoMemory>
     requires { place < vec_len rows.old }
     ensures value { IfOk result (λ taken. (r : Row) → taken ≡ take most (entries_of (get_or rows.old.items place r).sessions serial)) }
-    ensures ok { OnOk result (rows.new.items ≡ update rows.old.items place (λ r. record r { sessions = changed_there serial (drop most) r.sessions })) }
+    ensures ok { OnOk result (rows.new.items ≡ update rows.old.items place (with_sessions (changed_there serial (drop most)))) }
     ensures err { OnErr result (rows.new.items ≡ rows.old.items) }
 {
     let row = &mut rows[place];
@@ -246,7 +244,7 @@ fn take_at(
 #[tactic(auto, using(cast_types::proofs::Updates::set_update))]
 fn close_at(rows: &mut Vec<Row>, place: usize, serial: u32)
     requires { place < vec_len rows.old }
-    ensures { rows.new.items ≡ update rows.old.items place (λ r. record r { sessions = but_for serial r.sessions }) }
+    ensures { rows.new.items ≡ update rows.old.items place (with_sessions (but_for serial)) }
 {
     let row = &mut rows[place];
     row.sessions.close(serial);

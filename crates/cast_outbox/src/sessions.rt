@@ -1,8 +1,8 @@
-ghost use Rattle.std.specs.Prelude.{◌≡◌, ◌<◌, ◌∷◌, ◌++◌, [], IfOk, IfSome, OnOk, OnErr, if◌then◌else◌, drop, get_or, length, slice_get, take, vec_len};
+ghost use Rattle.std.specs.Prelude.{◌≡◌, ◌<◌, ◌∷◌, ◌++◌, [], IfOk, IfSome, OnOk, OnErr, drop, get_or, length, slice_get, take, vec_len};
 ghost use Rattle.std.specs.List.{find, position};
 ghost use Rattle.std.specs.Option.{option_copied};
 ghost use Rattle.cast_types.specs.Places.{update};
-ghost use Rattle.cast_outbox.specs.Pending.{Pending, is_for, entries_of, is_full_at, with_entry, changed, changed_there, changed_for, but_for};
+ghost use Rattle.cast_outbox.specs.Pending.{Pending, is_for, entries_of, with_entry, changed, changed_there, changed_for, but_for, told_at};
 
 use crate::outbox::{Outbox, Pushed};
 use cast_message::Push;
@@ -61,7 +61,7 @@ impl Sessions {
     /// Adds an entry to the outbox of a serial, or the end of its session where the outbox is full. `NoMemory` changes
     /// nothing.
     pub(crate) fn push(&mut self, serial: u32, limit: u32, entry: Push) -> Result<Pushed, NoMemory>
-        ensures value { IfOk result (λ p. p ≡ (if is_full_at limit (entries_of self.old serial) then Pushed.Slow else Pushed.Kept)) }
+        ensures value { IfOk result (λ p. p ≡ told_at limit (entries_of self.old serial)) }
         ensures ok { OnOk result (self.new ≡ changed_for serial (with_entry limit entry) self.old) }
         ensures err { OnErr result (self.new ≡ self.old) }
     {
@@ -155,7 +155,7 @@ fn push_at(
     entry: Push,
 ) -> Result<Pushed, NoMemory>
     requires { place < vec_len outboxes.old }
-    ensures value { IfOk result (λ p. (x : Pending) → p ≡ (if is_full_at limit (get_or outboxes.old.items place x).entries then Pushed.Slow else Pushed.Kept)) }
+    ensures value { IfOk result (λ p. (x : Pending) → p ≡ told_at limit (get_or outboxes.old.items place x).entries) }
     ensures ok { OnOk result (outboxes.new.items ≡ update outboxes.old.items place (changed (with_entry limit entry))) }
     ensures err { OnErr result (outboxes.new.items ≡ outboxes.old.items) }
 {
@@ -170,7 +170,7 @@ fn push_first(
     limit: u32,
     entry: Push,
 ) -> Result<Pushed, NoMemory>
-    ensures value { IfOk result (λ p. p ≡ (if is_full_at limit [] then Pushed.Slow else Pushed.Kept)) }
+    ensures value { IfOk result (λ p. p ≡ told_at limit []) }
     ensures ok { OnOk result (outboxes.new.items ≡ outboxes.old.items ++ record { serial = serial; entries = with_entry limit entry [] } ∷ []) }
     ensures err { OnErr result (outboxes.new.items ≡ outboxes.old.items) }
 {

@@ -1,13 +1,11 @@
 use Rattle.std.proofs.Common.{◌≡◌, ℕ, List, [], Some, None, ap, sym, ◌∙◌}
-use Rattle.std.specs.Prelude.{if◌then◌else◌}
 use Rattle.std.specs.List.{position}
 use Rattle.std.proofs.lemmas.Result.{IfOk-weaker, on_ok_weaker, on_err_weaker}
 use Rattle.cast_types.proofs.Results.{either_way}
 use Rattle.cast_message.specs.declared.client.Push.{Push}
 use Rattle.cast_outbox.specs.declared.outbox.Pushed.{Pushed}
-use Rattle.cast_outbox.specs.declared.outbox.Pushed.TheVariants as pushed
 use Rattle.cast_outbox.specs.declared.outboxes.Row.{Row}
-use Rattle.cast_outbox.specs.Pending.{Pending, entries_of, is_full_at, with_entry, changed_for}
+use Rattle.cast_outbox.specs.Pending.{Pending, entries_of, with_entry, told_at, changed_for}
 use Rattle.cast_outbox.specs.Outboxes.{is_of, sessions_in, outboxes_in}
 use Rattle.cast_outbox.proofs.Entries.{with_at, entries_changed}
 use Rattle.cast_outbox.proofs.Rows.{empty, sessions_at, sessions_changed, sessions_absent, sessions_pushed, others_changed, others_pushed}
@@ -15,7 +13,7 @@ use Rattle.cast_outbox.proofs.outboxes.Outboxes.push.Goals as goal
 
 -- what is told where these are a domain's outboxes
 told : ℕ → ℕ → List Pending → Pushed
-told k limit xs = if is_full_at limit (entries_of xs k) then pushed.Slow else pushed.Kept
+told k limit xs = told_at limit (entries_of xs k)
 
 pub returns-in-Some-clause-value : goal.returns-in-Some-clause-value
 unfolding told
