@@ -18,7 +18,7 @@ use Rattle.cast_delay.specs.declared.gate.Gate.{Gate}
 use Rattle.cast_delay.specs.Ready.{open_gate, is_member}
 use Rattle.cast_types.specs.Sources.{source, but_ended}
 use Rattle.cast_delay.specs.Tallies.{Tally, raised_at}
-use Rattle.cast_delay.specs.Rows.{standing_in, done_in, is_causally_ready_row, is_ready_row, has_delivered_in, passed_by, awaits_row, ended_row, delivered_row}
+use Rattle.cast_delay.specs.Rows.{gate_in, standing_in, done_in, is_causally_ready_row, is_ready_row, has_delivered_in, passed_by, awaits_row, ended_row, delivered_row}
 
 pub record Queue : Type 0 where
   pub gates : List (GroupNo × Gate)
@@ -84,6 +84,10 @@ but_row p rows = filter (λ r. not (proc_eq r.process p)) rows
 -- offered no more what is under a key
 abbrev pub but_offered : Key → List Offered → List Offered
 but_offered key offered = filter (λ o. not (key_eq o.key key)) offered
+
+-- the queue with another gate of a group
+abbrev pub queue_gating : GroupNo → (Gate → Gate) → Queue → Queue
+queue_gating g change q = record q { gates = put group_cmp g (change (gate_in q.gates g)) q.gates }
 
 -- the queue once a group has a view of this number: no flush has frozen it, and of views below nothing is told more
 abbrev pub queue_viewing : GroupNo → ℕ → Queue → Queue

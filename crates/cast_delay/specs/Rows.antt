@@ -1,10 +1,11 @@
 -- What the queue keeps of a process, counts in place of ids, and the tests over it.
-use Rattle.std.specs.Prelude.{ℕ, ◌-◌, Bool, true, not, ◌&&◌, ◌||◌, ◌==◌, nat_lt, nat_le, if◌then◌else◌, List, length, unwrap_or}
+use Rattle.std.specs.Prelude.{◌≡◌, ℕ, ◌-◌, Bool, true, not, ◌&&◌, ◌||◌, ◌==◌, nat_lt, nat_le, if◌then◌else◌, List, length, Option, unwrap_or}
 use Rattle.std.specs.List.{list_all, position}
 use Rattle.std.specs.FinMap.Entries.{find, put}
 use Rattle.cast_types.specs.declared.names.GroupNo.{GroupNo}
 use Rattle.cast_types.specs.declared.names.Proc.{Proc}
 use Rattle.cast_types.specs.declared.names.Uid.{Uid}
+use Rattle.cast_types.specs.declared.clock.Clock.{Clock}
 use Rattle.cast_types.specs.declared.names.Standing.{Standing}
 use Rattle.cast_types.specs.declared.names.Standing.TheVariants.{Outside, Joining, Member}
 use Rattle.cast_types.specs.Names.{Entry, group_cmp, uid_eq, named, entry_of}
@@ -23,6 +24,10 @@ use Rattle.cast_delay.specs.declared.row.Fact.TheVariants as fact
 -- the gate of a group: number 0 and not frozen where nothing was told of it
 abbrev pub gate_in : List (GroupNo × Gate) → GroupNo → Gate
 gate_in gates g = unwrap_or (find group_cmp g gates) (open_gate 0)
+
+-- a group's clock in a time, none where the time has none of the group
+abbrev pub IsClockIn : ClockList → GroupNo → Option Clock → Type 0
+IsClockIn times g clock = clock ≡ find group_cmp g times
 
 abbrev pub standing_in : Row → GroupNo → Standing
 standing_in row g = unwrap_or (find group_cmp g row.standings) Outside

@@ -1,17 +1,16 @@
-ghost use Rattle.std.specs.Prelude.{◌≡◌, ◌<◌, ◌&&◌, ◌++◌, ◌∷◌, [], IfOk, OnOk, nat_lt, not, length, slice_get, map, filter};
-ghost use Rattle.std.specs.List.{list_any};
+ghost use Rattle.std.specs.Prelude.{◌≡◌, ◌<◌, ◌++◌, ◌∷◌, [], IfOk, OnOk, not, length, slice_get, map, filter};
 ghost use Rattle.std.specs.Option.{option_copied, option_map, option_map_or};
 ghost use Rattle.std.specs.FinMap.Entries.{put};
-ghost use Rattle.cast_types.specs.Names.{group_cmp, proc_eq};
+ghost use Rattle.cast_types.specs.Names.{proc_eq};
 ghost use Rattle.cast_types.specs.declared.names.GroupNo.{GroupNo};
 ghost use Rattle.cast_types.specs.declared.names.Proc.{Proc};
 ghost use Rattle.cast_types.specs.declared.names.Standing.TheVariants.{Outside};
 ghost use Rattle.cast_message.specs.Receipts.{key_eq};
 ghost use Rattle.cast_delay.specs.declared.turn.Turn.{Turn};
-ghost use Rattle.cast_delay.specs.Ready.{frozen_gate, pending_gate, is_member, has_delivered};
-ghost use Rattle.cast_delay.specs.Rows.{gate_in, ended_row, told_row, standing_in, done_in};
+ghost use Rattle.cast_delay.specs.Ready.{frozen_gate, pending_gate, has_delivered};
+ghost use Rattle.cast_delay.specs.Rows.{ended_row, told_row, standing_in};
 ghost use Rattle.cast_delay.specs.Tallies.{counts_in};
-ghost use Rattle.cast_delay.specs.Queue.{new_row, row_of, but_row, change_row, first_for, offered_under, next_key, has_candidate, may_deliver_in, delivered_in, passed_in, but_offered, is_awaited, least_in, after_delivery, reached_after, queue_viewing, queue_delivering};
+ghost use Rattle.cast_delay.specs.Queue.{new_row, row_of, but_row, change_row, first_for, offered_under, next_key, has_candidate, may_deliver_in, delivered_in, passed_in, but_offered, is_awaited, least_in, after_delivery, reached_after, queue_viewing, queue_delivering, queue_gating};
 ghost use Rattle.cast_delay.specs.Fits.{offer_of};
 ghost use Rattle.cast_delay.specs.Settled.{is_settled, AreSettled, despite_fact, is_next_of, despite_delivery};
 ghost use Rattle.cast_delay.specs.Says.{SaysAwaited, SaysFirstReady, SaysMayDeliver, SaysDelivered, SaysPassed, SaysReached, SaysTime, SaysStanding};
@@ -140,7 +139,7 @@ impl Delay {
 
     /// Freezes a group: of its messages only those are delivered that are within its cut, where an Install waits.
     pub fn freeze(&mut self, group: GroupNo) -> Result<(), NoMemory>
-        ensures { OnOk result (self.new ≡ record self.old { gates = put group_cmp group (frozen_gate (gate_in self.old.gates group)) self.old.gates }) }
+        ensures { OnOk result (self.new ≡ queue_gating group frozen_gate self.old) }
     {
         let gate = frozen_in(&self.gates, group)?;
         self.gates.put(group, gate)?;
@@ -150,7 +149,7 @@ impl Delay {
     /// Takes in that the Install of a group's next view waits, with this cut: the group is frozen, and of its messages
     /// those within the cut are delivered.
     pub fn pend(&mut self, group: GroupNo, cut: &Counts) -> Result<(), NoMemory>
-        ensures { OnOk result (self.new ≡ record self.old { gates = put group_cmp group (pending_gate cut.now (gate_in self.old.gates group)) self.old.gates }) }
+        ensures { OnOk result (self.new ≡ queue_gating group (pending_gate cut.now) self.old) }
     {
         let number = number_in(&self.gates, group);
         let cut = Some(cut.copy()?);
@@ -187,7 +186,7 @@ impl Delay {
     /// Whether some process that is a member of a message's group has not delivered the message, whose view has not
     /// ended and whose count is from 1 on. Takes no memory.
     pub fn is_awaited(&self, id: Uid) -> bool
-        ensures value { result ≡ list_any (λ row. is_member (standing_in row id.group) && nat_lt (done_in row id.group id.view id.proc) id.count) self.now.rows }
+        ensures value { result ≡ is_awaited self.now.rows id }
         ensures meaning { SaysAwaited self.now id result }
     {
         awaited_in(&self.rows, id)

@@ -1,12 +1,11 @@
 ghost use Rattle.std.specs.Prelude.{◌≡◌, ℕ, List, OnOk, IfOk, ◌-◌, nat_le, not, unwrap_or};
 ghost use Rattle.std.specs.List.{list_all, position};
 ghost use Rattle.std.specs.Option.{option_copied};
-ghost use Rattle.std.specs.FinMap.Entries.{find};
-ghost use Rattle.cast_types.specs.Names.{named, group_cmp};
+ghost use Rattle.cast_types.specs.Names.{named};
 ghost use Rattle.cast_types.specs.Stamps.{ClockList};
 ghost use Rattle.cast_clock.specs.Times.{first_clock};
 ghost use Rattle.cast_delay.specs.Ready.{is_member};
-ghost use Rattle.cast_delay.specs.Rows.{needed};
+ghost use Rattle.cast_delay.specs.Rows.{needed, IsClockIn};
 
 use crate::gate::{Gate, is_open_in, number_in};
 use crate::offered::Offered;
@@ -38,7 +37,7 @@ pub struct Row {
 // The clock of a group, and the place behind it: at a place, or else found by halving. Where groups are asked for in
 // rising order, each mostly stands behind the one before.
 fn clock_near(times: &Stamp, place: usize, group: GroupNo) -> (Option<&Clock>, usize)
-    ensures { option_copied result.0 ≡ find group_cmp group times.now }
+    ensures { IsClockIn times.now group (option_copied result.0) }
 {
     let clocks = times.clocks();
     if place < clocks.len() && clocks[place].0.cmp(&group).is_eq() {
@@ -179,7 +178,7 @@ impl Row {
         clock: Option<&Clock>,
         standing: Standing,
     ) -> bool
-        ensures { (times : ClockList) → option_copied clock.entry ≡ find group_cmp group times → result ≡ row_allows self.now number id times group standing }
+        ensures { (times : ClockList) → IsClockIn times group (option_copied clock.entry) → result ≡ row_allows self.now number id times group standing }
     {
         let view = view_in(clock);
         match standing {
