@@ -1,7 +1,6 @@
 -- What the calls of a domain do to its records, exactly.
 use Rattle.std.specs.Prelude.{ℕ, ◌+◌, min, max, Bool, false, not, ◌&&◌, ◌||◌, ◌==◌, nat_lt, nat_le, if◌then◌else◌, List, [], ◌∷◌, ◌++◌, length, take, map, filter, get_or, slice_get, Option, Some, None}
 use Rattle.std.specs.List.{fold, find, list_all, list_any, range_with_len}
-use Rattle.std.specs.FinMap.Entries.{put}
 use Rattle.std.specs.Option.{option_map, option_map_or}
 use Rattle.cast_types.specs.declared.names.SiteNo.{SiteNo}
 use Rattle.cast_types.specs.declared.names.GroupNo.{GroupNo}
@@ -11,9 +10,10 @@ use Rattle.cast_types.specs.declared.names.Key.{Key}
 use Rattle.cast_types.specs.declared.names.Standing.{Standing}
 use Rattle.cast_types.specs.declared.names.Standing.TheVariants.{Outside, Joining, Member}
 use Rattle.cast_types.specs.declared.refusal.Refusal.{Refusal}
+use Rattle.cast_types.specs.declared.refusal.Refusal.TheVariants.{Slow}
 use Rattle.cast_types.specs.declared.limits.TheConstants.{MAX_NUMBER, MAX_MOMENT, MAX_PLACED, MAX_POSITION}
-use Rattle.cast_types.specs.Names.{Entry, site_eq, group_eq, group_cmp, proc_eq, uid_eq, is_atomic, named, entry_of}
-use Rattle.cast_types.specs.Sets.{is_among}
+use Rattle.cast_types.specs.Names.{Entry, site_eq, group_eq, proc_eq, uid_eq, entry_eq, entry_cmp, is_atomic, named, entry_of}
+use Rattle.cast_types.specs.Sets.{is_among, with_item}
 use Rattle.cast_types.specs.Places.{update}
 use Rattle.cast_types.specs.Counts.{CountList, is_within}
 use Rattle.cast_types.specs.Sources.{source}
@@ -22,6 +22,7 @@ use Rattle.cast_clock.specs.Times.{no_time, count_in, bumped, entering}
 use Rattle.cast_message.specs.declared.message.Body.{Body}
 use Rattle.cast_message.specs.declared.message.Body.TheVariants as body
 use Rattle.cast_message.specs.declared.message.Message.{Message}
+use Rattle.cast_message.specs.declared.message.Received.{Received}
 use Rattle.cast_message.specs.declared.site.Change.{Change}
 use Rattle.cast_message.specs.declared.site.SiteFrame.{SiteFrame}
 use Rattle.cast_message.specs.declared.client.Push.{Push}
@@ -31,15 +32,15 @@ use Rattle.cast_message.specs.Membership.{Membership}
 use Rattle.cast_message.specs.Stretch.{Stretch}
 use Rattle.cast_message.specs.Keeping.{KeptList}
 use Rattle.cast_flush.specs.declared.report.Report.{Report}
-use Rattle.cast_delay.specs.Ready.{frozen_gate, pending_gate, is_member, covered}
+use Rattle.cast_delay.specs.Ready.{frozen_gate, pending_gate, is_member, first_of, covered}
 use Rattle.cast_delay.specs.Tallies.{counts_in}
 use Rattle.cast_delay.specs.declared.turn.Turn.{Turn}
 use Rattle.cast_delay.specs.declared.turn.Turn.TheVariants.{Holding, Following}
 use Rattle.cast_delay.specs.Fits.{offer_of}
-use Rattle.cast_delay.specs.Rows.{gate_in, standing_in, told_row}
+use Rattle.cast_delay.specs.Rows.{standing_in, told_row}
 use Rattle.cast_delay.specs.declared.row.Fact.{Fact}
 use Rattle.cast_delay.specs.declared.row.Fact.TheVariants as fact
-use Rattle.cast_delay.specs.Queue.{Queue, new_row, row_of, but_row, change_row, next_key, queue_viewing, queue_delivering, is_awaited, delivered_in, passed_in}
+use Rattle.cast_delay.specs.Queue.{Queue, new_row, row_of, but_row, change_row, next_key, queue_gating, queue_viewing, queue_delivering, is_awaited, delivered_in, passed_in}
 use Rattle.cast_order.specs.Log.{Log, log_of, change_log, but_log, learnt, next_in, passed, told, next_places, assigned, closed_by, whole_kept, tail_start_in, tail_ids_in, has_room_in as has_room_in_log}
 use Rattle.cast_stable.specs.Ledger.{others_in, last_received_in, is_received_in, has_acked_in, upto_in, is_stable_in, told_ledger, received_ledger, acked_ledger, learnt_ledger}
 use Rattle.cast_timer.specs.declared.key.OwedKey.{OwedKey}
@@ -62,14 +63,22 @@ use Rattle.cast_history.specs.Rules.Interface.{Site, Sessions, Resting}
 use Rattle.cast_history.specs.Rules.Rest.{tell_if, told_of}
 use Rattle.cast_history.specs.Rules.Room.{may_order}
 use Rattle.cast_history.specs.Rules.Leaving.{end_session}
-use Rattle.cast_history.specs.Rules.Events.{acted}
+use Rattle.cast_history.specs.Rules.Events.{acted, answered}
+use Rattle.cast_history.specs.Rules.Home.{on_flushed}
+use Rattle.cast_history.specs.Rules.Views.{on_install}
+use Rattle.cast_history.specs.Rules.Flushes.{complete}
 use Rattle.cast_model.specs.declared.event.Event.{Event}
 use Rattle.cast_model.specs.declared.event.Event.TheVariants.{Gone}
+use Rattle.cast_model.specs.declared.event.Taken.{Taken}
 use Rattle.cast_history.specs.Rules.Sending.{may_raise}
-use Rattle.cast_history.specs.Reports.{kept_list}
+use Rattle.cast_history.specs.Reports.{is_unplaced, kept_list}
 use Rattle.cast_domain.specs.declared.rest.Delivery.{Delivery}
 use Rattle.cast_domain.specs.Records.{Records}
 use Rattle.cast_domain.specs.Fits.{status_in}
+
+-- a list with one more item where a fact holds
+abbrev pub added_if : {A : Type 0} → Bool → A → List A → List A
+added_if holds x xs = if holds then xs ++ x ∷ [] else xs
 
 -- Names
 
@@ -128,6 +137,10 @@ go_in r k = record r { sessions = filter (λ x. not (x.serial == k)) r.sessions;
 -- its outbox has as many entries as it may have
 abbrev pub is_full_in : Records → ℕ → Bool
 is_full_in r k = nat_le r.quotas.outbox (length (r.part.outboxes k))
+
+-- why a session is closed: where its outbox is full its program is too slow, whatever else is the matter
+abbrev pub reason_in : Records → ℕ → Refusal → Refusal
+reason_in r k refusal = if is_full_in r k then Slow else refusal
 
 abbrev pub take_entries_in : Records → ℕ → ℕ → Records
 take_entries_in r k most = record r { part = part_taking r.part k most }
@@ -277,14 +290,21 @@ abbrev pub pass_in : Records → ℕ → Bool → ℕ → Membership → ℕ →
 pass_in r i skips n members request = complete_in (put_out_all_in (record_at r.groups i).name skips members r) i n members request
 
 -- who is put out then, and who is a member of a group
-abbrev pub gone_in : Records → ℕ → Bool → Membership → List ℕ
-gone_in r i skips members = filter (is_put_out_in (record_at r.groups i).name skips members r) (serials_in r)
+abbrev pub serials_put_out : GroupNo → Bool → Membership → Records → List ℕ
+serials_put_out g skips members r = filter (is_put_out_in g skips members r) (serials_in r)
 
 abbrev pub is_member_in : Records → GroupNo → ℕ → Bool
 is_member_in r g k = is_member (standing_of r.delay (local_in r k) g)
 
+abbrev pub serials_of_members : Records → GroupNo → List ℕ
+serials_of_members r g = filter (is_member_in r g) (serials_in r)
+
+-- of the group at a place
+abbrev pub gone_in : Records → ℕ → Bool → Membership → List ℕ
+gone_in r i skips members = serials_put_out (record_at r.groups i).name skips members r
+
 abbrev pub members_in : Records → ℕ → List ℕ
-members_in r i = filter (is_member_in r (record_at r.groups i).name) (serials_in r)
+members_in r i = serials_of_members r (record_at r.groups i).name
 
 -- The site's part in a flush
 
@@ -294,28 +314,55 @@ freeze_in r i =
     let g : GroupNo = (record_at r.groups i).name in
     record r {
       groups = update r.groups i (λ x. record x { here = frozen_side x.here });
-      delay = record r.delay { gates = put group_cmp g (frozen_gate (gate_in r.delay.gates g)) r.delay.gates };
+      delay = queue_gating g frozen_gate r.delay;
     }
+
+-- an Install that waits, by the parts of its frame
+abbrev pub pending_of : Membership → ℕ → CountList → Pending
+pending_of members request cut = record { members = members; request = request; cut = cut }
+
+-- it waits at a group
+abbrev pub with_install : Pending → GroupRecord → GroupRecord
+with_install p x = record x { here = with_pending x.here p }
 
 -- the Install of its next view waits, and its order is closed
 abbrev pub pend_in : Records → ℕ → Pending → Stretch → Records
 pend_in r i p tail =
     let g : GroupNo = (record_at r.groups i).name in
     record r {
-      groups = update r.groups i (λ x. record x { here = with_pending x.here p });
-      delay = record r.delay { gates = put group_cmp g (pending_gate p.cut (gate_in r.delay.gates g)) r.delay.gates };
+      groups = update r.groups i (with_install p);
+      delay = queue_gating g (pending_gate p.cut) r.delay;
       orders = change_log g (closed_by (is_within p.cut) tail.start tail.ids) r.orders;
     }
+
+-- the last message of the view of a group that a process here sent
+abbrev pub last_sent_of : Records → GroupRecord → Proc → Entry
+last_sent_of r x p = (p, last_received_in r.acks (source x.name x.here.number p))
 
 -- how far the messages of each process were delivered here in the view of a group, and the last ones that members here sent
 abbrev pub had_of : Records → GroupRecord → List Entry
 had_of r x =
     counts_in x.name x.here.number r.delay.reached
-    ++ map (λ p. (p, last_received_in r.acks (source x.name x.here.number p))) (filter (is_at r.site) (members_of x.here))
+    ++ map (last_sent_of r x) (filter (is_at r.site) (members_of x.here))
 
 -- a kept message of the group's view
 abbrev pub is_kept_of : GroupRecord → Message → Bool
 is_kept_of x m = group_eq m.id.group x.name && (m.id.view == x.here.number)
+
+abbrev pub kept_of_view : GroupRecord → List Received → List Message
+kept_of_view x kept = filter (is_kept_of x) (messages kept)
+
+-- names with that of a kept message, if it is of the group's view
+abbrev pub with_name_of : GroupRecord → Message → List Entry → List Entry
+with_name_of x m names = if is_kept_of x m then with_item entry_cmp (entry_of m.id) names else names
+
+-- a message is an ABCAST of this name
+abbrev pub is_abcast_named : Entry → Message → Bool
+is_abcast_named e m = is_atomic (kind_of m.body) && entry_eq (entry_of m.id) e
+
+-- a kept message of the group's view is an ABCAST of this name, for which the view's order has no place
+abbrev pub is_unplaced_of : Records → GroupRecord → List Received → Entry → Bool
+is_unplaced_of r x kept e = is_unplaced (kept_of_view x kept) (whole_kept (log_of r.orders x.name)) e
 
 -- the end of the order that a log has
 abbrev pub tail_in : Log → Stretch
@@ -324,7 +371,7 @@ tail_in l = record { start = min MAX_POSITION (tail_start_in l); ids = tail_ids_
 abbrev pub report_at : Records → GroupRecord → Report
 report_at r x =
     report_of x.here (had_of r x) (tail_in (log_of r.orders x.name))
-    (kept_list (filter (is_kept_of x) (messages r.part.kept)) (whole_kept (log_of r.orders x.name)))
+    (kept_list (kept_of_view x r.part.kept) (whole_kept (log_of r.orders x.name)))
 
 -- some member here has not delivered a message of the view of a group
 abbrev pub is_awaited_of : Records → GroupRecord → Entry → Bool
@@ -338,8 +385,28 @@ is_received_of r x e =
 abbrev pub has_cut_of : Records → GroupRecord → CountList → Bool
 has_cut_of r x cut = list_all (λ e. not (is_awaited_of r x e)) cut
 
+-- names with that of a message, unless it was received
+abbrev pub with_unreceived : Records → GroupRecord → Entry → List Entry → List Entry
+with_unreceived r x e names = if is_received_of r x e then names else names ++ e ∷ []
+
+-- some member here has not delivered it, and it was not received
+abbrev pub is_missing_of : Records → GroupRecord → Entry → Bool
+is_missing_of r x e = is_awaited_of r x e && not (is_received_of r x e)
+
+-- of the first messages of a process
+abbrev pub missing_upto : Records → GroupRecord → Entry → List Entry
+missing_upto r x e = filter (is_missing_of r x) (first_of e)
+
+-- of those that a cut covers
 abbrev pub missing_of : Records → GroupRecord → CountList → List Entry
-missing_of r x cut = take MAX_PLACED (filter (λ e. is_awaited_of r x e && not (is_received_of r x e)) (covered cut))
+missing_of r x cut = take MAX_PLACED (filter (is_missing_of r x) (covered cut))
+
+-- of the group at a place
+abbrev pub has_cut_in : Records → ℕ → CountList → Bool
+has_cut_in r i cut = has_cut_of r (record_at r.groups i) cut
+
+abbrev pub missing_in : Records → ℕ → CountList → List Entry
+missing_in r i cut = missing_of r (record_at r.groups i) cut
 
 -- a message is of the view that its group has here, which no flush has frozen
 abbrev pub is_open_in : Records → Uid → Bool
@@ -356,9 +423,13 @@ release_in r key =
       delay = record r.delay { offered = filter (λ o. not (key_eq o.key key)) r.delay.offered };
     }
 
--- and so all whose ids pass a test
+-- the keys of messages whose ids pass a test
+abbrev pub keys_passing : (Uid → Bool) → List Received → List Key
+keys_passing passes kept = map (λ x. x.key) (filter (λ x. passes x.message.id) kept)
+
+-- those of kept messages are released
 abbrev pub release_all_in : Records → (Uid → Bool) → Records
-release_all_in r passes = fold release_in r (map (λ x. x.key) (filter (λ x. passes x.message.id) r.part.kept))
+release_all_in r passes = fold release_in r (keys_passing passes r.part.kept)
 
 -- a message of a view that has ended, of the group at a place
 abbrev pub is_ended_in : Records → ℕ → Uid → Bool
@@ -459,6 +530,21 @@ abbrev pub acted_in : Records → Event → Records
 acted_in r (Gone d k) = end_in r k
 acted_in r e = acted records records_sessions r e
 
+-- and what it is answered
+abbrev pub answered_in : Records → Event → Taken
+answered_in r e = answered records records_sessions r e
+
+-- Rules of what has many parts, by these
+
+abbrev pub on_flushed_in : Records → ℕ → SiteNo → ℕ → CountList → Stretch → KeptList → Records
+on_flushed_in r i from view counts tail kept = on_flushed records r i from view (reported counts tail kept)
+
+abbrev pub on_install_in : Records → ℕ → SiteNo → ℕ → Membership → ℕ → CountList → Stretch → Records
+on_install_in r i from view members request cut tail = on_install records r i from view members request cut tail
+
+abbrev pub complete_pending_in : Records → ℕ → Membership → ℕ → CountList → Records
+complete_pending_in r i members request cut = complete records r i (pending_of members request cut)
+
 -- The order of a view
 
 abbrev pub log_in : Records → GroupNo → Log
@@ -537,6 +623,10 @@ note_delivered_in r k m = option_map_or (λ key. note_delivered_under r (local_i
 abbrev pub raised_at : Records → ℕ → ℕ → ClockList
 raised_at r i k = bumped (time_of r.delay (local_in r k)) (record_at r.groups i).name (local_in r k)
 
+-- a process is a member of a group, which no flush has frozen, and there is room for one more set-order message
+abbrev pub may_list_of : Records → GroupRecord → Proc → Bool
+may_list_of r x p = is_member (standing_of r.delay p x.name) && (not x.here.frozen && may_order records r)
+
 -- the holder of the group at a place lists what it has to list in its next message
 abbrev pub note_listed_in : Records → ℕ → ℕ → Records
 note_listed_in r i k =
@@ -551,8 +641,8 @@ resting_records = record {
   next_ready = next_ready_in;
   is_open = is_open_in;
   is_delivered = λ r u. not (is_awaited r.delay.rows u);
-  has_cut = λ r i cut. has_cut_of r (record_at r.groups i) cut;
-  missing = λ r i cut. missing_of r (record_at r.groups i) cut;
+  has_cut = has_cut_in;
+  missing = missing_in;
   next_places = λ r i k. next_places (log_in r (record_at r.groups i).name);
   note_delivered = note_delivered_in;
   note_listed = note_listed_in;

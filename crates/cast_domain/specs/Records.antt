@@ -1,10 +1,11 @@
 -- A domain's records as contracts see them: lists and what the queue keeps.
-use Rattle.std.specs.Prelude.{◌≡◌, ℕ, Bool, List, Option}
+use Rattle.std.specs.Prelude.{◌≡◌, ℕ, Bool, false, List, Option}
 use Rattle.cast_types.specs.declared.names.DomainNo.{DomainNo}
 use Rattle.cast_types.specs.declared.names.SiteNo.{SiteNo}
 use Rattle.cast_types.specs.declared.names.Proc.{Proc}
 use Rattle.cast_types.specs.declared.names.Uid.{Uid}
 use Rattle.cast_types.specs.declared.refusal.Refusal.{Refusal}
+use Rattle.cast_types.specs.Counts.{CountList}
 use Rattle.cast_message.specs.declared.site.SiteFrame.{SiteFrame}
 use Rattle.cast_delay.specs.Queue.{Queue}
 use Rattle.cast_stable.specs.Ledger.{Ledger}
@@ -18,7 +19,9 @@ use Rattle.cast_quota.specs.declared.quotas.Quotas.{Quotas}
 use Rattle.cast_message.specs.declared.client.Push.{Push}
 use Rattle.cast_model.specs.declared.event.Outs.{Outs}
 use Rattle.cast_domain.specs.declared.lent.Lent.{Lent}
-use Rattle.cast_domain.specs.Shared.{Part, part_of, LeavesOthers}
+use Rattle.cast_model.specs.Outs.{no_outs}
+use Rattle.cast_domain.specs.declared.shared.Shared.{Shared}
+use Rattle.cast_domain.specs.Shared.{Part, no_part, part_of, LeavesOthers}
 
 -- what a domain keeps, and what a step has sent, delivered and pushed so far
 pub record Records : Type 0 where
@@ -59,9 +62,17 @@ records_of d part o =
       pushed = o.pushed;
     }
 
--- a domain with what it is lent
+-- beside all that is shared, and what a step has sent
+abbrev pub records_beside : Domain → Shared → Outs → Records
+records_beside d shared o = records_of d (part_of d.config.domain shared) o
+
+-- with what it is lent
 abbrev pub records_in : Domain → Lent → Records
-records_in d lent = records_of d (part_of d.config.domain lent.shared.now) lent.outs.now
+records_in d lent = records_beside d lent.shared.now lent.outs.now
+
+-- what it keeps itself: without a part, and before anything is sent
+abbrev pub own_records : Domain → Records
+own_records d = records_of d no_part no_outs
 
 abbrev pub number_of : Domain → DomainNo
 number_of d = d.config.domain
@@ -92,6 +103,35 @@ pub record KeepsBeside (old : Domain) (lent : Lent) (new : Domain) (later : Lent
   pub same : Keeps old new
   pub back : GivesBack old.config.domain lent later
 
+-- What a call makes of the records, by the rule that it follows
+
+abbrev pub Makes : (Records → Records) → Domain → Lent → Domain → Lent → Type 0
+Makes rule old lent new later = records_in new later ≡ rule (records_in old lent)
+
+-- by a rule that names the cut of an Install, whatever that is
+abbrev pub MakesAtAnyCut : (Records → CountList → Records) → Domain → Lent → Domain → Lent → Type 0
+MakesAtAnyCut rule old lent new later = (cut : CountList) → records_in new later ≡ rule (records_in old lent) cut
+
+-- a call of the domain alone, whatever its part is and was sent
+abbrev pub MakesAlone : (Records → Records) → Domain → Domain → Type 0
+MakesAlone rule old new = (o : Outs) (part : Part) → records_of new part o ≡ rule (records_of old part o)
+
+-- and one that sends or delivers, whatever the domain's part is
+abbrev pub MakesWithOuts : (Records → Records) → Domain → Outs → Domain → Outs → Type 0
+MakesWithOuts rule old before new after = (part : Part) → records_of new part after ≡ rule (records_of old part before)
+
+-- where a call tells that nothing changed, nothing did
+abbrev pub StaysUnless : Domain → Lent → Domain → Lent → Bool → Type 0
+StaysUnless old lent new later changed = changed ≡ false → records_in new later ≡ records_in old lent
+
+-- what the domain alone answers of its records, whatever its part is and was sent
+abbrev pub TellsAlone : {A : Type 0} → (Records → A) → Domain → A → Type 0
+TellsAlone answer d x = (o : Outs) (part : Part) → x ≡ answer (records_of d part o)
+
 -- a call led to these records, with this refusal or none
 abbrev pub IsAttempt : Records → Attempt Records → Option Refusal → Type 0
 IsAttempt r attempt refusal = (r, refusal) ≡ attempt
+
+-- by the rule of what may be refused
+abbrev pub Attempts : (Records → Attempt Records) → Domain → Lent → Domain → Lent → Option Refusal → Type 0
+Attempts rule old lent new later refusal = IsAttempt (records_in new later) (rule (records_in old lent)) refusal

@@ -11,6 +11,7 @@ use Rattle.cast_timer.specs.declared.key.Owed.{Owed}
 use Rattle.cast_timer.specs.declared.key.OwedKey.{OwedKey}
 use Rattle.cast_timer.specs.Owed.{with_owed, paid, renewed, key_eq as owed_key_eq, is_of_view, is_upto}
 use Rattle.cast_timer.specs.Rows.{owed_in}
+use Rattle.cast_outbox.specs.Pending.{with_entry}
 use Rattle.cast_outbox.specs.Outboxes.{outboxes_in}
 use Rattle.cast_types.specs.Sets.{set_at}
 use Rattle.cast_message.specs.declared.client.Push.{Push}
@@ -71,6 +72,10 @@ part_boxing p k entries = record p { outboxes = set_at (λ a b. a == b) p.outbox
 
 abbrev pub part_pushing : Part → ℕ → Push → Part
 part_pushing p k entry = part_boxing p k (p.outboxes k ++ entry ∷ [])
+
+-- the entry is pushed, or the end of its session, where as many stand there as may
+abbrev pub part_pushing_within : ℕ → Part → ℕ → Push → Part
+part_pushing_within limit p k entry = part_boxing p k (with_entry limit entry (p.outboxes k))
 
 abbrev pub part_taking : Part → ℕ → ℕ → Part
 part_taking p k most = part_boxing p k (drop most (p.outboxes k))

@@ -1,9 +1,11 @@
 -- What a step of a domain is: the step of the history that its records stand for.
-use Rattle.std.specs.Prelude.{◌≡◌, []}
+use Rattle.std.specs.Prelude.{◌≡◌, [], Result, Ok}
+use Rattle.cast_types.specs.declared.refusal.Refusal.TheVariants.{Halted}
 use Rattle.cast_domain.specs.declared.domain.Domain.{Domain}
 use Rattle.cast_model.specs.declared.event.Event.{Event}
 use Rattle.cast_model.specs.declared.event.Outs.{Outs}
 use Rattle.cast_model.specs.declared.event.Taken.{Taken}
+use Rattle.cast_model.specs.declared.event.Taken.TheVariants.{Refused}
 use Rattle.cast_history.specs.State.{State}
 use Rattle.cast_history.specs.Run.{IsStep}
 use Rattle.cast_history.specs.Rest.{RestsAt}
@@ -44,3 +46,8 @@ IsStepped old part e answer new next before after = (s : State) → Means old pa
 abbrev pub IsSteppedBeside : Domain → Shared → Outs → Event → Domain → Shared → Outs → Taken → Type 0
 IsSteppedBeside old shared before e new later after answer =
     IsStepped old (part_of (number_of old) shared) e answer new (part_of (number_of old) later) before after
+
+-- an event is refused since the domain is halted, and nothing changes: the domain, what is shared, and what was sent
+abbrev pub IsRefusedBeside : {E : Type 0} → Domain → Shared → Outs → Domain → Shared → Outs → Result Taken E → Type 0
+IsRefusedBeside old shared before new later after result =
+    (result ≡ Ok (Refused Halted)) × (new ≡ old) × (later ≡ shared) × (after ≡ before)

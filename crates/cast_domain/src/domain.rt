@@ -94,14 +94,12 @@ impl Domain {
 
 impl Domain {
     ghost use Rattle.cast_types.specs.Names.{site_eq};
-    ghost use Rattle.cast_model.specs.declared.event.Outs.{Outs};
     ghost use Rattle.cast_model.specs.Events.{domain_of};
-    ghost use Rattle.cast_domain.specs.Records.{GivesBack, Keeps, KeepsBeside, is_halted, number_of, records_in, records_of};
-    ghost use Rattle.cast_domain.specs.Shared.{LeavesOthers, Part, part_of};
+    ghost use Rattle.cast_domain.specs.Records.{GivesBack, Keeps, KeepsBeside, is_halted, number_of, records_in, records_beside, Makes, MakesAlone, MakesWithOuts};
+    ghost use Rattle.cast_domain.specs.Shared.{LeavesOthers, part_of};
     ghost use Rattle.cast_history.specs.Lawful.{IsTyped};
-    ghost use Rattle.cast_history.specs.Rules.Events.{answered};
-    ghost use Rattle.cast_domain.specs.Stepped.{IsSteppedBeside};
-    ghost use Rattle.cast_domain.specs.Calls.{acted_in, records, records_sessions, place_among, record_at, send_in, tell_in};
+    ghost use Rattle.cast_domain.specs.Stepped.{IsSteppedBeside, IsRefusedBeside};
+    ghost use Rattle.cast_domain.specs.Calls.{acted_in, records, place_among, record_at, send_in, tell_in, answered_in};
 
     /// The process of a session.
     pub(crate) fn process(&self, serial: u32) -> Proc
@@ -146,7 +144,7 @@ impl Domain {
     // Tells the delay queue of a process.
     pub(crate) fn tell(&mut self, process: Proc, fact: Fact) -> Result<(), NoMemory>
         ensures kept { Keeps self.old self.new }
-        ensures made { OnOk result ((o : Outs) (part : Part) → records_of self.new part o ≡ tell_in (records_of self.old part o) process fact) }
+        ensures made { OnOk result (MakesAlone (λ r. tell_in r process fact) self.old self.new) }
         ensures groups { self.new.groups ≡ self.old.groups }
     {
         self.delay.tell(process, &fact)?;
@@ -155,7 +153,7 @@ impl Domain {
 
     // Sends a frame to a site.
     pub(crate) fn send(&self, outs: &mut Outs, to: SiteNo, frame: SiteFrame) -> Result<(), NoMemory>
-        ensures { OnOk result ((part : Part) → records_of self.now part outs.new ≡ send_in (records_of self.now part outs.old) to frame) }
+        ensures { OnOk result (MakesWithOuts (λ r. send_in r to frame) self.now outs.old self.now outs.new) }
     {
         outs.send(self.config.domain, to, frame)
     }
@@ -187,7 +185,7 @@ impl Domain {
         ensures number { number_of self.new ≡ number_of self.old }
         ensures running { is_halted self.old ≡ false → OnOk result (is_halted self.new ≡ false) }
         ensures halts { OnErr result (is_halted self.new ≡ true) }
-        ensures halted { is_halted self.old ≡ true → (result ≡ Ok (Taken.Refused Refusal.Halted)) × (self.new ≡ self.old) × (shared.new ≡ shared.old) × (outs.new ≡ outs.old) }
+        ensures halted { is_halted self.old ≡ true → IsRefusedBeside self.old shared.old outs.old self.new shared.new outs.new result }
         ensures steps { is_halted self.old ≡ false → IfOk result (IsSteppedBeside self.old shared.old outs.old event.now self.new shared.new outs.new) }
         ensures nothing { OnErr result (outs.new ≡ outs.old) }
         ensures others { LeavesOthers (number_of self.old) shared.old shared.new }
@@ -210,7 +208,7 @@ impl Domain {
         shared: &mut Shared,
         outs: &mut Outs,
     ) -> Result<Taken, NoMemory>
-        ensures answer { IfOk result (λ t. t ≡ answered records records_sessions (records_of self.old (part_of (number_of self.old) shared.old) outs.old) event.now) }
+        ensures answer { IfOk result (λ t. t ≡ answered_in (records_beside self.old shared.old outs.old) event.now) }
         ensures same { (self.new.site ≡ self.old.site) × (self.new.config ≡ self.old.config) × (self.new.halted ≡ self.old.halted) }
         ensures others { LeavesOthers self.old.config.domain shared.old shared.new }
         ensures steps { IfOk result (IsSteppedBeside self.old shared.old outs.old event.now self.new shared.new outs.new) }
@@ -232,10 +230,10 @@ impl Domain {
 
     // What the event does at once.
     fn act(&mut self, event: &Event, lent: &mut Lent<'_>) -> Result<Taken, NoMemory>
-        ensures answer { IfOk result (λ t. t ≡ answered records records_sessions (records_in self.old lent.old) event.now) }
+        ensures answer { IfOk result (λ t. t ≡ answered_in (records_in self.old lent.old) event.now) }
         ensures same { (self.new.site ≡ self.old.site) × (self.new.config ≡ self.old.config) × (self.new.halted ≡ self.old.halted) }
         ensures back { GivesBack self.old.config.domain lent.old lent.new }
-        ensures made { OnOk result (records_in self.new lent.new ≡ acted_in (records_in self.old lent.old) event.now) }
+        ensures made { OnOk result (Makes (λ r. acted_in r event.now) self.old lent.old self.new lent.new) }
         ensures typed { IsTyped event.now }
     {
         match event {

@@ -1,23 +1,17 @@
-ghost use Rattle.std.specs.Prelude.{◌≡◌, ◌<◌, ◌≤◌, ◌&&◌, ◌||◌, ◌==◌, ◌++◌, true, false, not, min, if◌then◌else◌, IfOk, OnOk, [], ◌∷◌, filter, length, map, take, vec_len};
+ghost use Rattle.std.specs.Prelude.{◌≡◌, ◌<◌, ◌≤◌, ◌&&◌, ◌||◌, ◌==◌, ◌++◌, true, min, IfOk, OnOk, length, map, take, vec_len};
 ghost use Rattle.std.specs.List.{fold, list_all, list_any};
-ghost use Rattle.cast_types.specs.Counts.{CountList};
-ghost use Rattle.cast_types.specs.Names.{entry_cmp, entry_eq, entry_of, group_eq, is_atomic};
-ghost use Rattle.cast_types.specs.Sets.{set_of, with_item};
-ghost use Rattle.cast_types.specs.Sources.{source};
+ghost use Rattle.cast_types.specs.Names.{entry_cmp, entry_of, group_eq};
+ghost use Rattle.cast_types.specs.Sets.{set_of};
 ghost use Rattle.cast_types.specs.declared.limits.TheConstants.{MAX_PLACED, MAX_POSITION};
-ghost use Rattle.cast_delay.specs.Ready.{first_of};
-ghost use Rattle.cast_message.specs.Bodies.{kind_of};
-ghost use Rattle.cast_message.specs.Receipts.{messages};
 ghost use Rattle.cast_order.specs.Log.{log_of, whole_kept};
-ghost use Rattle.cast_stable.specs.Ledger.{last_received_in};
 ghost use Rattle.cast_view.specs.Sites.{is_at};
 ghost use Rattle.cast_view.specs.MemberSide.{answers_prepare, verdict_of};
 ghost use Rattle.cast_view.specs.declared.member.Pending.{Pending};
 ghost use Rattle.cast_view.specs.declared.member.Verdict.TheVariants.{Pends};
-ghost use Rattle.cast_history.specs.Reports.{is_unplaced, kept_list};
-ghost use Rattle.cast_domain.specs.Calls.{is_kept_of};
+ghost use Rattle.cast_history.specs.Reports.{kept_list};
+ghost use Rattle.cast_domain.specs.Calls.{is_kept_of, with_name_of, is_abcast_named};
 ghost use Rattle.cast_history.specs.Rules.Data.{want_no_more};
-ghost use Rattle.cast_history.specs.Rules.Flushes.{complete, complete_or_want, go_on, go_on_all, is_wanted_here, on_prepare, on_wanted, own_want_key, want_own};
+ghost use Rattle.cast_history.specs.Rules.Flushes.{complete_or_want, go_on, go_on_all, is_wanted_here, on_prepare, on_wanted, own_want_key, want_own};
 
 use crate::domain::Domain;
 use crate::frames::is_named;
@@ -33,12 +27,9 @@ use cast_types::{Counts, Listed, NoMemory, Proc, SiteNo, Uid, sorted};
 
 impl Domain {
     ghost use Rattle.cast_types.specs.Names.{Entry};
-    ghost use Rattle.cast_model.specs.declared.event.Outs.{Outs};
-    ghost use Rattle.cast_model.specs.Outs.{no_outs};
     ghost use Rattle.cast_history.specs.Rules.Asking.{is_from_home};
-    ghost use Rattle.cast_domain.specs.Records.{GivesBack, Keeps, KeepsBeside, records_in, records_of};
-    ghost use Rattle.cast_domain.specs.Shared.{Part, no_part};
-    ghost use Rattle.cast_domain.specs.Calls.{freeze_in, had_of, has_cut_of, is_awaited_of, is_received_of, missing_of, pend_in, record_at, records, report_at, resting_records, tail_in};
+    ghost use Rattle.cast_domain.specs.Records.{GivesBack, Keeps, KeepsBeside, records_in, own_records, Makes, MakesAtAnyCut, MakesAlone, StaysUnless, TellsAlone};
+    ghost use Rattle.cast_domain.specs.Calls.{freeze_in, had_of, is_awaited_of, is_received_of, pend_in, record_at, records, report_at, resting_records, tail_in, pending_of, last_sent_of, kept_of_view, is_unplaced_of, has_cut_in, missing_in, added_if, missing_upto, with_unreceived, complete_pending_in};
 
     // Prepare: the home asks what the site has of a view. From the first answer on the group is frozen, and the site answers as
     // often as it is asked, until an Install waits.
@@ -51,7 +42,7 @@ impl Domain {
     ) -> Result<(), NoMemory>
         requires { place < vec_len self.old.groups }
         ensures stays { KeepsBeside self.old lent.old self.new lent.new }
-        ensures made { OnOk result (records_in self.new lent.new ≡ on_prepare records (records_in self.old lent.old) place from view) }
+        ensures made { OnOk result (Makes (λ r. on_prepare records r place from view) self.old lent.old self.new lent.new) }
     {
         if !self.is_asked(place, from, view) {
             return Ok(());
@@ -73,7 +64,7 @@ impl Domain {
     // Whether the home asks for a report of the view of the group at a place, and no Install waits.
     fn is_asked(&self, place: usize, from: SiteNo, view: u32) -> bool
         requires { place < vec_len self.now.groups }
-        ensures { (o : Outs) (part : Part) → result ≡ (is_from_home records (records_of self.now part o) from && answers_prepare (record_at self.now.groups.items place).here view) }
+        ensures { TellsAlone (λ r. is_from_home records r from && answers_prepare (record_at r.groups place).here view) self.now result }
     {
         self.is_from_home(from) && self.record(place).here.answers_prepare(view)
     }
@@ -83,7 +74,7 @@ impl Domain {
         requires placed { place < vec_len self.old.groups }
         requires answered { answers_prepare (record_at self.old.groups.items place).here view ≡ true }
         ensures same { Keeps self.old self.new }
-        ensures made { OnOk result ((o : Outs) (part : Part) → records_of self.new part o ≡ freeze_in (records_of self.old part o) place) }
+        ensures made { OnOk result (MakesAlone (λ r. freeze_in r place) self.old self.new) }
     {
         let group = self.record(place).name;
         freeze_at(&mut self.groups, place, view);
@@ -104,7 +95,7 @@ impl Domain {
         requires placed { place < vec_len self.old.groups }
         requires waits { verdict_of (record_at self.old.groups.items place).here view ≡ Pends }
         ensures same { Keeps self.old self.new }
-        ensures made { OnOk result ((o : Outs) (part : Part) → records_of self.new part o ≡ pend_in (records_of self.old part o) place (record { members = members.now; request = request; cut = cut.now }) tail.now) }
+        ensures made { OnOk result (MakesAlone (λ r. pend_in r place (pending_of members.now request cut.now) tail.now) self.old self.new) }
     {
         let group = self.record(place).name;
         pend_at(&mut self.groups, place, view, members, request, cut)?;
@@ -128,7 +119,7 @@ impl Domain {
 
     // How far the messages of each process were delivered here in the view of a group, and the last ones that members here sent.
     fn had(&self, group: &GroupRecord) -> Result<Vec<(Proc, u32)>, NoMemory>
-        ensures { IfOk result (λ had. had.items ≡ had_of (records_of self.now no_part no_outs) group.now) }
+        ensures { IfOk result (λ had. had.items ≡ had_of (own_records self.now) group.now) }
     {
         let mut had = self.delay.reached(group.name, group.here.number())?;
         for member in group.here.members() {
@@ -144,7 +135,7 @@ impl Domain {
         member: Proc,
         had: &mut Vec<(Proc, u32)>,
     ) -> Result<(), NoMemory>
-        ensures { OnOk result (had.new.items ≡ (if is_at self.now.site member then had.old.items ++ (member, last_received_in self.now.acks (source group.now.name group.now.here.number member)) ∷ [] else had.old.items)) }
+        ensures { OnOk result (had.new.items ≡ added_if (is_at self.now.site member) (last_sent_of (own_records self.now) group.now member) had.old.items) }
     {
         if member.site != self.site {
             return Ok(());
@@ -158,7 +149,7 @@ impl Domain {
 
     // The names of kept messages of the view of a group, in order, each marked where it is an ABCAST for which its order has no place.
     fn kept_of(&self, group: &GroupRecord, kept: &[Received]) -> Result<Kept, NoMemory>
-        ensures { IfOk result (λ list. list ≡ kept_list (filter (is_kept_of group.now) (messages kept.now)) (whole_kept (log_of self.now.orders group.now.name))) }
+        ensures { IfOk result (λ list. list ≡ kept_list (kept_of_view group.now kept.now) (whole_kept (log_of self.now.orders group.now.name))) }
     {
         let mut names = self.names_of(group, kept)?;
         names.truncate(MAX_KEPT);
@@ -168,7 +159,7 @@ impl Domain {
 
     // The names of kept messages of the view of a group, in order.
     fn names_of(&self, group: &GroupRecord, kept: &[Received]) -> Result<Vec<(Proc, u32)>, NoMemory>
-        ensures { IfOk result (λ names. names.items ≡ set_of entry_cmp (map (λ m. entry_of m.id) (filter (is_kept_of group.now) (messages kept.now)))) }
+        ensures { IfOk result (λ names. names.items ≡ set_of entry_cmp (map (λ m. entry_of m.id) (kept_of_view group.now kept.now))) }
     {
         let mut names = Vec::new(*self.groups.allocator());
         for received in kept {
@@ -184,7 +175,7 @@ impl Domain {
         kept: &[Received],
         names: &[(Proc, u32)],
     ) -> Result<Vec<((Proc, u32), bool)>, NoMemory>
-        ensures { IfOk result (λ marked. marked.items ≡ map (λ e. (e, is_unplaced (filter (is_kept_of group.now) (messages kept.now)) (whole_kept (log_of self.now.orders group.now.name)) e)) names.now) }
+        ensures { IfOk result (λ marked. marked.items ≡ map (λ e. (e, is_unplaced_of (own_records self.now) group.now kept.now e)) names.now) }
     {
         let mut marked = Vec::new(*self.groups.allocator());
         for name in names {
@@ -195,7 +186,7 @@ impl Domain {
 
     // Whether a kept message of the view of a group is an ABCAST for which its order has no place.
     fn is_unplaced(&self, group: &GroupRecord, kept: &[Received], name: (Proc, u32)) -> bool
-        ensures { result ≡ is_unplaced (filter (is_kept_of group.now) (messages kept.now)) (whole_kept (log_of self.now.orders group.now.name)) name }
+        ensures { result ≡ is_unplaced_of (own_records self.now) group.now kept.now name }
     {
         is_abcast_among(group, kept, name) && !self.orders.knows(group.name, name)
     }
@@ -210,7 +201,7 @@ impl Domain {
     ) -> Result<(), NoMemory>
         requires { place < vec_len self.old.groups }
         ensures stays { KeepsBeside self.old lent.old self.new lent.new }
-        ensures made { OnOk result (records_in self.new lent.new ≡ on_wanted records (records_in self.old lent.old) place from message.now) }
+        ensures made { OnOk result (Makes (λ r. on_wanted records r place from message.now) self.old lent.old self.new lent.new) }
         ensures len { OnOk result (vec_len self.new.groups ≡ vec_len self.old.groups) }
     {
         if !self.is_from_home(from) || !self.is_wanted_here(place, message, lent) {
@@ -237,7 +228,7 @@ impl Domain {
     // A message is wanted from the home no more.
     pub(crate) fn want_no_more(&self, id: Uid, lent: &mut Lent<'_>)
         ensures back { GivesBack self.now.config.domain lent.old lent.new }
-        ensures made { records_in self.now lent.new ≡ want_no_more records (records_in self.now lent.old) id }
+        ensures made { Makes (λ r. want_no_more records r id) self.now lent.old self.now lent.new }
     {
         self.pay(&message_key(OwedKind::Want, id, self.config.home), lent);
     }
@@ -245,8 +236,8 @@ impl Domain {
     // Installs that wait are completed, or what the site lacks is wanted, by group. Answers whether anything changed.
     pub(crate) fn go_on_all(&mut self, lent: &mut Lent<'_>) -> Result<bool, NoMemory>
         ensures stays { KeepsBeside self.old lent.old self.new lent.new }
-        ensures made { OnOk result (records_in self.new lent.new ≡ go_on_all records resting_records (records_in self.old lent.old)) }
-        ensures still { IfOk result (λ changed. changed ≡ false → records_in self.new lent.new ≡ records_in self.old lent.old) }
+        ensures made { OnOk result (Makes (go_on_all records resting_records) self.old lent.old self.new lent.new) }
+        ensures still { IfOk result (StaysUnless self.old lent.old self.new lent.new) }
     {
         let mut changed = false;
         for place in 0..self.groups.len() {
@@ -260,8 +251,8 @@ impl Domain {
     // until then the site wants what is missing.
     fn go_on(&mut self, place: usize, lent: &mut Lent<'_>) -> Result<bool, NoMemory>
         ensures stays { KeepsBeside self.old lent.old self.new lent.new }
-        ensures made { OnOk result (records_in self.new lent.new ≡ go_on records resting_records (records_in self.old lent.old) place) }
-        ensures still { IfOk result (λ changed. changed ≡ false → records_in self.new lent.new ≡ records_in self.old lent.old) }
+        ensures made { OnOk result (Makes (λ r. go_on records resting_records r place) self.old lent.old self.new lent.new) }
+        ensures still { IfOk result (StaysUnless self.old lent.old self.new lent.new) }
     {
         if place >= self.groups.len() {
             return Ok(false);
@@ -289,7 +280,7 @@ impl Domain {
         requires placed { place < vec_len self.old.groups }
         requires below { (record_at self.old.groups.items place).here.number < 4294967295 }
         ensures stays { KeepsBeside self.old lent.old self.new lent.new }
-        ensures made { OnOk result ((cut : CountList) → records_in self.new lent.new ≡ complete records (records_in self.old lent.old) place (record { members = members.now; request = request; cut = cut })) }
+        ensures made { OnOk result (MakesAtAnyCut (λ r. complete_pending_in r place members.now request) self.old lent.old self.new lent.new) }
     {
         let next = self.record(place).here.number() + 1;
         self.install_view(false, place, self.config.home, next, members, request, lent)?;
@@ -300,7 +291,7 @@ impl Domain {
     // each process.
     fn has_cut(&self, place: usize, cut: &Counts) -> bool
         requires { place < vec_len self.now.groups }
-        ensures { result ≡ has_cut_of (records_of self.now no_part no_outs) (record_at self.now.groups.items place) cut.now }
+        ensures { result ≡ has_cut_in (own_records self.now) place cut.now }
     {
         let record = self.record(place);
         cut.entries()
@@ -310,7 +301,7 @@ impl Domain {
 
     // Whether some member here has not delivered a message of the view of a group.
     pub(crate) fn is_awaited_of(&self, group: &GroupRecord, proc: Proc, count: u32) -> bool
-        ensures { result ≡ is_awaited_of (records_of self.now no_part no_outs) group.now (proc, count) }
+        ensures { result ≡ is_awaited_of (own_records self.now) group.now (proc, count) }
     {
         self.delay.is_awaited(Uid {
             group: group.name,
@@ -329,8 +320,8 @@ impl Domain {
     ) -> Result<bool, NoMemory>
         requires { place < vec_len self.now.groups }
         ensures back { GivesBack self.now.config.domain lent.old lent.new }
-        ensures made { OnOk result (records_in self.now lent.new ≡ fold (want_own records place) (records_in self.now lent.old) (missing_of (records_in self.now lent.old) (record_at self.now.groups.items place) cut.now)) }
-        ensures still { IfOk result (λ changed. changed ≡ false → records_in self.now lent.new ≡ records_in self.now lent.old) }
+        ensures made { OnOk result (Makes (λ r. fold (want_own records place) r (missing_in r place cut.now)) self.now lent.old self.now lent.new) }
+        ensures still { IfOk result (StaysUnless self.now lent.old self.now lent.new) }
     {
         let missing = self.missing(place, cut)?;
         let changed = self.want_all_missing(place, missing.as_slice(), lent)?;
@@ -346,8 +337,8 @@ impl Domain {
     ) -> Result<bool, NoMemory>
         requires { place < vec_len self.now.groups }
         ensures back { GivesBack self.now.config.domain lent.old lent.new }
-        ensures made { OnOk result (records_in self.now lent.new ≡ fold (want_own records place) (records_in self.now lent.old) missing.now) }
-        ensures still { IfOk result (λ changed. changed ≡ false → records_in self.now lent.new ≡ records_in self.now lent.old) }
+        ensures made { OnOk result (Makes (λ r. fold (want_own records place) r missing.now) self.now lent.old self.now lent.new) }
+        ensures still { IfOk result (StaysUnless self.now lent.old self.now lent.new) }
     {
         let mut changed = false;
         for name in missing {
@@ -366,8 +357,8 @@ impl Domain {
     ) -> Result<bool, NoMemory>
         requires { place < vec_len self.now.groups }
         ensures back { GivesBack self.now.config.domain lent.old lent.new }
-        ensures made { OnOk result (records_in self.now lent.new ≡ want_own records place (records_in self.now lent.old) name) }
-        ensures still { IfOk result (λ changed. changed ≡ false → records_in self.now lent.new ≡ records_in self.now lent.old) }
+        ensures made { OnOk result (Makes (λ r. want_own records place r name) self.now lent.old self.now lent.new) }
+        ensures still { IfOk result (StaysUnless self.now lent.old self.now lent.new) }
     {
         let record = self.record(place);
         let id = Uid {
@@ -388,7 +379,7 @@ impl Domain {
     // not all have delivered: at most at the kept ones, and at 64 more.
     fn missing(&self, place: usize, cut: &Counts) -> Result<Vec<(Proc, u32)>, NoMemory>
         requires { place < vec_len self.now.groups }
-        ensures { IfOk result (λ missing. missing.items ≡ missing_of (records_of self.now no_part no_outs) (record_at self.now.groups.items place) cut.now) }
+        ensures { IfOk result (λ missing. missing.items ≡ missing_in (own_records self.now) place cut.now) }
     {
         let record = self.record(place);
         let mut missing = Vec::new(*self.groups.allocator());
@@ -407,7 +398,7 @@ impl Domain {
         missing: &mut Vec<(Proc, u32)>,
     ) -> Result<(), NoMemory>
         requires { length missing.old.items ≤ 64 }
-        ensures { OnOk result (missing.new.items ≡ take MAX_PLACED (missing.old.items ++ filter (λ e. is_awaited_of (records_of self.now no_part no_outs) group.now e && not (is_received_of (records_of self.now no_part no_outs) group.now e)) (first_of (proc, last)))) }
+        ensures { OnOk result (missing.new.items ≡ take MAX_PLACED (missing.old.items ++ missing_upto (own_records self.now) group.now (proc, last))) }
     {
         let delivered = self
             .delay
@@ -429,7 +420,7 @@ impl Domain {
         count: u32,
         missing: &mut Vec<(Proc, u32)>,
     ) -> Result<(), NoMemory>
-        ensures { OnOk result (missing.new.items ≡ (if is_received_of (records_of self.now no_part no_outs) group.now (proc, count) then missing.old.items else missing.old.items ++ (proc, count) ∷ [])) }
+        ensures { OnOk result (missing.new.items ≡ with_unreceived (own_records self.now) group.now (proc, count) missing.old.items) }
     {
         if self.is_received_of(group, proc, count) {
             return Ok(());
@@ -440,7 +431,7 @@ impl Domain {
 
     // Whether a message of the view of a group was received: of a process that is no member, and of another site, nothing was.
     pub(crate) fn is_received_of(&self, group: &GroupRecord, proc: Proc, count: u32) -> bool
-        ensures { result ≡ is_received_of (records_of self.now no_part no_outs) group.now (proc, count) }
+        ensures { result ≡ is_received_of (own_records self.now) group.now (proc, count) }
     {
         let id = Uid {
             group: group.name,
@@ -466,7 +457,7 @@ fn add_name(
     message: &Message,
     names: &mut Vec<(Proc, u32)>,
 ) -> Result<(), NoMemory>
-    ensures { OnOk result (names.new.items ≡ (if is_kept_of group.now message.now then with_item entry_cmp (entry_of message.now.id) names.old.items else names.old.items)) }
+    ensures { OnOk result (names.new.items ≡ with_name_of group.now message.now names.old.items) }
 {
     if !is_kept_of(group, message) {
         return Ok(());
@@ -477,7 +468,7 @@ fn add_name(
 
 // Whether one of the kept messages of the view of a group is an ABCAST of this name.
 fn is_abcast_among(group: &GroupRecord, kept: &[Received], name: (Proc, u32)) -> bool
-    ensures { result ≡ list_any (λ r. is_kept_of group.now r.message && (is_atomic (kind_of r.message.body) && entry_eq (entry_of r.message.id) name)) kept.now }
+    ensures { result ≡ list_any (λ r. is_kept_of group.now r.message && is_abcast_named name r.message) kept.now }
 {
     kept.iter()
         .any(|received| is_kept_abcast(group, &received.message, name))
@@ -485,14 +476,14 @@ fn is_abcast_among(group: &GroupRecord, kept: &[Received], name: (Proc, u32)) ->
 
 // Whether a kept message is of the view of a group, and an ABCAST of this name.
 fn is_kept_abcast(group: &GroupRecord, message: &Message, name: (Proc, u32)) -> bool
-    ensures { result ≡ (is_kept_of group.now message.now && (is_atomic (kind_of message.now.body) && entry_eq (entry_of message.now.id) name)) }
+    ensures { result ≡ (is_kept_of group.now message.now && is_abcast_named name message.now) }
 {
     is_kept_of(group, message) && is_abcast(message, name)
 }
 
 // Whether a message is an ABCAST of this name.
 fn is_abcast(message: &Message, name: (Proc, u32)) -> bool
-    ensures { result ≡ (is_atomic (kind_of message.now.body) && entry_eq (entry_of message.now.id) name) }
+    ensures { result ≡ is_abcast_named name message.now }
 {
     message.kind().is_atomic() && (message.id.proc, message.id.count) == name
 }

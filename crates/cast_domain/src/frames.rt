@@ -69,10 +69,8 @@ fn group_of(frame: &SiteFrame) -> GroupNo
 }
 
 impl Domain {
-    ghost use Rattle.cast_model.specs.declared.event.Outs.{Outs};
     ghost use Rattle.cast_view.specs.MemberSide.{is_taken_in};
-    ghost use Rattle.cast_domain.specs.Records.{Keeps, KeepsBeside, records_in, records_of};
-    ghost use Rattle.cast_domain.specs.Shared.{Part};
+    ghost use Rattle.cast_domain.specs.Records.{Keeps, KeepsBeside, Makes, MakesAlone, TellsAlone};
     ghost use Rattle.cast_domain.specs.Calls.{records, complete_in, enter_in, send_in, standing_of, take_in, time_of, view_in};
     ghost use Rattle.cast_clock.specs.Times.{entering};
 
@@ -84,7 +82,7 @@ impl Domain {
         lent: &mut Lent<'_>,
     ) -> Result<(), NoMemory>
         ensures stays { KeepsBeside self.old lent.old self.new lent.new }
-        ensures made { OnOk result (records_in self.new lent.new ≡ framed records (records_in self.old lent.old) from frame.now) }
+        ensures made { OnOk result (Makes (λ r. framed records r from frame.now) self.old lent.old self.new lent.new) }
     {
         if !is_among(from, self.config.sites.as_slice()) {
             return Ok(());
@@ -105,7 +103,7 @@ impl Domain {
     ) -> Result<(), NoMemory>
         requires { place < vec_len self.old.groups }
         ensures stays { KeepsBeside self.old lent.old self.new lent.new }
-        ensures made { OnOk result (records_in self.new lent.new ≡ on_frame records (records_in self.old lent.old) place from frame.now) }
+        ensures made { OnOk result (Makes (λ r. on_frame records r place from frame.now) self.old lent.old self.new lent.new) }
     {
         match frame {
             SiteFrame::Data(message) => self.data(place, from, message, lent),
@@ -163,7 +161,7 @@ impl Domain {
     ) -> Result<(), NoMemory>
         requires { place < vec_len self.old.groups }
         ensures stays { KeepsBeside self.old lent.old self.new lent.new }
-        ensures made { OnOk result (records_in self.new lent.new ≡ on_data records (records_in self.old lent.old) place from message.now) }
+        ensures made { OnOk result (Makes (λ r. on_data records r place from message.now) self.old lent.old self.new lent.new) }
     {
         if self.is_used(place, from, message) {
             return self.use_data(from, message, lent);
@@ -179,7 +177,7 @@ impl Domain {
     // Whether a message is of the site's view and comes from the process's own site, which is another.
     fn is_used(&self, place: usize, from: SiteNo, message: &Message) -> bool
         requires { place < vec_len self.now.groups }
-        ensures { (o : Outs) (part : Part) → result ≡ is_used records (records_of self.now part o) place from message.now }
+        ensures { TellsAlone (λ r. is_used records r place from message.now) self.now result }
     {
         message.id.proc.site == from
             && !(from == self.site)
@@ -195,7 +193,7 @@ impl Domain {
         lent: &mut Lent<'_>,
     ) -> Result<(), NoMemory>
         ensures stays { KeepsBeside self.old lent.old self.new lent.new }
-        ensures made { OnOk result (records_in self.new lent.new ≡ use_data records (records_in self.old lent.old) from message.now) }
+        ensures made { OnOk result (Makes (λ r. use_data records r from message.now) self.old lent.old self.new lent.new) }
     {
         if self.acks.is_received(message.id) {
             self.send(lent.outs, from, SiteFrame::Ack(message.id))?;
@@ -212,7 +210,7 @@ impl Domain {
 
     // Whether all groups of the message's time are configured, its process is one of these members, and its own time counts it.
     pub(crate) fn is_well_formed(&self, members: &[Proc], message: &Message) -> bool
-        ensures { (o : Outs) (part : Part) → result ≡ is_well_formed records (records_of self.now part o) members.now message.now }
+        ensures { TellsAlone (λ r. is_well_formed records r members.now message.now) self.now result }
     {
         self.knows_groups(message) && is_named(message.id.proc, members) && counts_itself(message)
     }
@@ -235,7 +233,7 @@ impl Domain {
     ) -> Result<(), NoMemory>
         requires { place < vec_len self.old.groups }
         ensures stays { KeepsBeside self.old lent.old self.new lent.new }
-        ensures made { OnOk result (records_in self.new lent.new ≡ on_asked records (records_in self.old lent.old) place from number full) }
+        ensures made { OnOk result (Makes (λ r. on_asked records r place from number full) self.old lent.old self.new lent.new) }
     {
         match self.record(place).here.first_request() {
             Some(asking) => {
@@ -253,7 +251,7 @@ impl Domain {
     fn take_answer(&mut self, place: usize, lent: &mut Lent<'_>) -> Result<(), NoMemory>
         requires { place < vec_len self.old.groups }
         ensures stays { KeepsBeside self.old lent.old self.new lent.new }
-        ensures made { OnOk result (records_in self.new lent.new ≡ take_answer records (records_in self.old lent.old) place) }
+        ensures made { OnOk result (Makes (λ r. take_answer records r place) self.old lent.old self.new lent.new) }
         ensures len { vec_len self.new.groups ≡ vec_len self.old.groups }
     {
         let key = ask_key(self.record(place).name, self.config.home);
@@ -273,7 +271,7 @@ impl Domain {
     ) -> Result<(), NoMemory>
         requires { place < vec_len self.old.groups }
         ensures stays { KeepsBeside self.old lent.old self.new lent.new }
-        ensures made { OnOk result (records_in self.new lent.new ≡ deny_if records full (records_in self.old lent.old) place asking) }
+        ensures made { OnOk result (Makes (λ r. deny_if records full r place asking) self.old lent.old self.new lent.new) }
     {
         if full {
             self.deny(place, asking, lent)?;
@@ -284,7 +282,7 @@ impl Domain {
     fn deny(&mut self, place: usize, asking: Asking, lent: &mut Lent<'_>) -> Result<(), NoMemory>
         requires { place < vec_len self.old.groups }
         ensures stays { KeepsBeside self.old lent.old self.new lent.new }
-        ensures made { OnOk result (records_in self.new lent.new ≡ deny records (records_in self.old lent.old) place asking) }
+        ensures made { OnOk result (Makes (λ r. deny records r place asking) self.old lent.old self.new lent.new) }
     {
         let group = self.record(place).name;
         let serial = asking.proc.serial;
@@ -310,7 +308,7 @@ impl Domain {
     ) -> Result<(), NoMemory>
         requires { place < vec_len self.old.groups }
         ensures same { Keeps self.old self.new }
-        ensures made { OnOk result ((o : Outs) (part : Part) → records_of self.new part o ≡ complete_in (records_of self.old part o) place view members.now request) }
+        ensures made { OnOk result (MakesAlone (λ r. complete_in r place view members.now request) self.old self.new) }
     {
         let group = self.record(place).name;
         self.take_view(place, view, members)?;
@@ -322,7 +320,7 @@ impl Domain {
     fn take_view(&mut self, place: usize, view: u32, members: &Members) -> Result<(), NoMemory>
         requires { place < vec_len self.old.groups }
         ensures same { Keeps self.old self.new }
-        ensures made { OnOk result ((o : Outs) (part : Part) → records_of self.new part o ≡ view_in (records_of self.old part o) place view members.now) }
+        ensures made { OnOk result (MakesAlone (λ r. view_in r place view members.now) self.old self.new) }
     {
         let group = self.record(place).name;
         view_at(&mut self.groups, place, self.site, view, members)?;
@@ -343,7 +341,7 @@ impl Domain {
         request: u32,
     ) -> Result<(), NoMemory>
         ensures same { Keeps self.old self.new }
-        ensures made { OnOk result ((o : Outs) (p : Part) → records_of self.new p o ≡ fold (take_in group view request) (records_of self.old p o) members.now) }
+        ensures made { OnOk result (MakesAlone (λ r. fold (take_in group view request) r members.now) self.old self.new) }
     {
         for process in members {
             self.take_in(*process, group, view, request)?;
@@ -360,7 +358,7 @@ impl Domain {
         request: u32,
     ) -> Result<(), NoMemory>
         ensures same { Keeps self.old self.new }
-        ensures made { OnOk result ((o : Outs) (part : Part) → records_of self.new part o ≡ take_in group view request (records_of self.old part o) process) }
+        ensures made { OnOk result (MakesAlone (λ r. take_in group view request r process) self.old self.new) }
     {
         if process.site == self.site && self.is_taken_in(process, group, request) {
             self.enter(process, group, view)?;
@@ -379,7 +377,7 @@ impl Domain {
     // A process enters a view.
     fn enter(&mut self, process: Proc, group: GroupNo, view: u32) -> Result<(), NoMemory>
         ensures same { Keeps self.old self.new }
-        ensures made { OnOk result ((o : Outs) (part : Part) → records_of self.new part o ≡ enter_in group view (records_of self.old part o) process) }
+        ensures made { OnOk result (MakesAlone (λ r. enter_in group view r process) self.old self.new) }
     {
         let entered = self.entered(process, group, view)?;
         self.tell(process, Fact::Time(entered))?;

@@ -1,10 +1,10 @@
-ghost use Rattle.std.specs.Prelude.{◌≡◌, ◌<◌, ◌&&◌, not, false, IfOk, OnOk, vec_len};
+ghost use Rattle.std.specs.Prelude.{◌≡◌, ◌<◌, ◌&&◌, not, IfOk, OnOk, vec_len};
 ghost use Rattle.std.specs.List.{find, fold};
 ghost use Rattle.std.specs.Option.{option_copied};
 ghost use Rattle.cast_types.specs.Names.{entry_eq, entry_of, site_eq, uid_eq};
 ghost use Rattle.cast_history.specs.Rules.Requests.{answer_ask, on_ask};
 ghost use Rattle.cast_types.specs.Sets.{is_among};
-ghost use Rattle.cast_history.specs.Rules.Home.{announce, decide, drop_want, drop_wants, forwardable, is_of_home, lead, lead_group, on_flushed, on_forward, on_installed, on_want, owe_of_home, prepare, release_site, start, suspect, suspect_in, want, want_bodies, want_eq, wants};
+ghost use Rattle.cast_history.specs.Rules.Home.{announce, decide, drop_want, drop_wants, forwardable, is_of_home, lead, lead_group, on_forward, on_installed, on_want, owe_of_home, prepare, release_site, start, suspect, suspect_in, want, want_bodies, want_eq, wants};
 
 use crate::domain::Domain;
 use crate::lent::Lent;
@@ -19,10 +19,8 @@ use cast_timer::OwedKind;
 use cast_types::{Counts, Listed, NoMemory, Proc, SiteNo, Uid};
 
 impl Domain {
-    ghost use Rattle.cast_model.specs.declared.event.Outs.{Outs};
-    ghost use Rattle.cast_domain.specs.Records.{GivesBack, Keeps, KeepsBeside, records_in, records_of};
-    ghost use Rattle.cast_domain.specs.Shared.{Part};
-    ghost use Rattle.cast_domain.specs.Calls.{record_at, records, reported};
+    ghost use Rattle.cast_domain.specs.Records.{GivesBack, Keeps, KeepsBeside, records_in, Makes, MakesWithOuts, StaysUnless, TellsAlone};
+    ghost use Rattle.cast_domain.specs.Calls.{record_at, records, on_flushed_in};
 
     // Ask: at the home a request is taken in, and answered where it is the next one of its site or was answered before.
     pub(crate) fn asked_of_home(
@@ -36,7 +34,7 @@ impl Domain {
     ) -> Result<(), NoMemory>
         requires { place < vec_len self.old.groups }
         ensures same { Keeps self.old self.new }
-        ensures made { OnOk result ((part : Part) → records_of self.new part outs.new ≡ on_ask records (records_of self.old part outs.old) place from number change process) }
+        ensures made { OnOk result (MakesWithOuts (λ r. on_ask records r place from number change process) self.old outs.old self.new outs.new) }
     {
         if !self.is_home() {
             return Ok(());
@@ -56,7 +54,7 @@ impl Domain {
         outs: &mut Outs,
     ) -> Result<(), NoMemory>
         requires { place < vec_len self.now.groups }
-        ensures { OnOk result ((part : Part) → records_of self.now part outs.new ≡ answer_ask records (records_of self.now part outs.old) place to number full) }
+        ensures { OnOk result (MakesWithOuts (λ r. answer_ask records r place to number full) self.now outs.old self.now outs.new) }
     {
         match full {
             Some(full) => {
@@ -83,7 +81,7 @@ impl Domain {
     ) -> Result<(), NoMemory>
         requires { place < vec_len self.old.groups }
         ensures stays { KeepsBeside self.old lent.old self.new lent.new }
-        ensures made { OnOk result (records_in self.new lent.new ≡ on_installed records (records_in self.old lent.old) place from view) }
+        ensures made { OnOk result (Makes (λ r. on_installed records r place from view) self.old lent.old self.new lent.new) }
     {
         if self.is_home() && self.record(place).home.takes_installed(from, view) {
             let key = home_key(OwedKind::Install, self.record(place).name, from);
@@ -106,7 +104,7 @@ impl Domain {
     ) -> Result<(), NoMemory>
         requires { place < vec_len self.old.groups }
         ensures stays { KeepsBeside self.old lent.old self.new lent.new }
-        ensures made { OnOk result (records_in self.new lent.new ≡ on_flushed records (records_in self.old lent.old) place from view (reported counts.now tail.now kept.now)) }
+        ensures made { OnOk result (Makes (λ r. on_flushed_in r place from view counts.now tail.now kept.now) self.old lent.old self.new lent.new) }
     {
         if self.is_home() && self.record(place).home.takes_report(from, view) {
             let key = home_key(OwedKind::Prepare, self.record(place).name, from);
@@ -124,7 +122,7 @@ impl Domain {
     // A site is suspected: at the home nothing is awaited from it any more.
     pub(crate) fn suspect(&mut self, site: SiteNo, lent: &mut Lent<'_>) -> Result<(), NoMemory>
         ensures stays { KeepsBeside self.old lent.old self.new lent.new }
-        ensures made { OnOk result (records_in self.new lent.new ≡ suspect records (records_in self.old lent.old) site) }
+        ensures made { OnOk result (Makes (λ r. suspect records r site) self.old lent.old self.new lent.new) }
     {
         if self.is_home() {
             for place in 0..self.groups.len() {
@@ -143,7 +141,7 @@ impl Domain {
     ) -> Result<(), NoMemory>
         requires { place < vec_len self.old.groups }
         ensures stays { KeepsBeside self.old lent.old self.new lent.new }
-        ensures made { OnOk result (records_in self.new lent.new ≡ suspect_in records site (records_in self.old lent.old) place) }
+        ensures made { OnOk result (Makes (λ r. suspect_in records site r place) self.old lent.old self.new lent.new) }
         ensures len { vec_len self.new.groups ≡ vec_len self.old.groups }
     {
         let wanted = self.wants(place)?;
@@ -157,7 +155,7 @@ impl Domain {
     fn release_site(&self, place: usize, site: SiteNo, lent: &mut Lent<'_>)
         requires { place < vec_len self.now.groups }
         ensures back { GivesBack self.now.config.domain lent.old lent.new }
-        ensures made { records_in self.now lent.new ≡ release_site records (records_in self.now lent.old) place site }
+        ensures made { Makes (λ r. release_site records r place site) self.now lent.old self.now lent.new }
     {
         let group = self.record(place).name;
         self.pay(&home_key(OwedKind::Prepare, group, site), lent);
@@ -173,7 +171,7 @@ impl Domain {
     ) -> Result<(), NoMemory>
         requires { place < vec_len self.now.groups }
         ensures back { GivesBack self.now.config.domain lent.old lent.new }
-        ensures made { OnOk result (records_in self.now lent.new ≡ drop_wants records (records_in self.now lent.old) place before.now) }
+        ensures made { OnOk result (Makes (λ r. drop_wants records r place before.now) self.now lent.old self.now lent.new) }
     {
         let still = self.wants(place)?;
         self.drop_all(place, still.as_slice(), before, lent);
@@ -190,7 +188,7 @@ impl Domain {
     )
         requires { place < vec_len self.now.groups }
         ensures back { GivesBack self.now.config.domain lent.old lent.new }
-        ensures made { records_in self.now lent.new ≡ fold (drop_want records place still.now) (records_in self.now lent.old) before.now }
+        ensures made { Makes (λ r. fold (drop_want records place still.now) r before.now) self.now lent.old self.now lent.new }
     {
         for wanted in before {
             self.drop_want(place, still, *wanted, lent);
@@ -207,7 +205,7 @@ impl Domain {
     )
         requires { place < vec_len self.now.groups }
         ensures back { GivesBack self.now.config.domain lent.old lent.new }
-        ensures made { records_in self.now lent.new ≡ drop_want records place still.now (records_in self.now lent.old) wanted }
+        ensures made { Makes (λ r. drop_want records place still.now r wanted) self.now lent.old self.now lent.new }
     {
         if !is_wanted(wanted, still) {
             self.pay(&want_key(self.record(place).name, wanted), lent);
@@ -223,7 +221,7 @@ impl Domain {
     ) -> Result<(), NoMemory>
         requires { place < vec_len self.old.groups }
         ensures stays { KeepsBeside self.old lent.old self.new lent.new }
-        ensures made { OnOk result (records_in self.new lent.new ≡ on_forward records (records_in self.old lent.old) place message.now) }
+        ensures made { OnOk result (Makes (λ r. on_forward records r place message.now) self.old lent.old self.new lent.new) }
     {
         let Some(wanted) = self.want_for(place, message.id)? else {
             return Ok(());
@@ -240,7 +238,7 @@ impl Domain {
     // From which site the home wants a message, where it wants it.
     fn want_for(&self, place: usize, id: Uid) -> Result<Option<(SiteNo, (Proc, u32))>, NoMemory>
         requires { place < vec_len self.now.groups }
-        ensures { IfOk result (λ w. (o : Outs) (part : Part) → w ≡ find (λ x. entry_eq x.1 (entry_of id)) (wants records (records_of self.now part o) place)) }
+        ensures { IfOk result (TellsAlone (λ r. find (λ x. entry_eq x.1 (entry_of id)) (wants records r place)) self.now) }
     {
         let wants = self.wants(place)?;
         Ok(want_of(wants.as_slice(), id).copied())
@@ -256,7 +254,7 @@ impl Domain {
     // Whether a message is of the view that the home decided last, and well formed in it.
     fn is_flushed_message(&self, place: usize, message: &Message) -> bool
         requires { place < vec_len self.now.groups }
-        ensures { (o : Outs) (part : Part) → result ≡ is_of_home records (records_of self.now part o) place message.now }
+        ensures { TellsAlone (λ r. is_of_home records r place message.now) self.now result }
     {
         let home = &self.record(place).home;
         message.id.view == home.number() && self.is_well_formed(home.members().list(), message)
@@ -272,7 +270,7 @@ impl Domain {
     ) -> Result<(), NoMemory>
         requires { place < vec_len self.now.groups }
         ensures back { GivesBack self.now.config.domain lent.old lent.new }
-        ensures made { OnOk result (records_in self.now lent.new ≡ on_want records (records_in self.now lent.old) place from id) }
+        ensures made { OnOk result (Makes (λ r. on_want records r place from id) self.now lent.old self.now lent.new) }
     {
         if self.is_own_want(from) {
             return Ok(());
@@ -309,8 +307,8 @@ impl Domain {
     // The home starts flushes and decides views, by group.
     pub(crate) fn lead(&mut self, lent: &mut Lent<'_>) -> Result<bool, NoMemory>
         ensures stays { KeepsBeside self.old lent.old self.new lent.new }
-        ensures made { OnOk result (records_in self.new lent.new ≡ lead records (records_in self.old lent.old)) }
-        ensures still { IfOk result (λ changed. changed ≡ false → records_in self.new lent.new ≡ records_in self.old lent.old) }
+        ensures made { OnOk result (Makes (lead records) self.old lent.old self.new lent.new) }
+        ensures still { IfOk result (StaysUnless self.old lent.old self.new lent.new) }
     {
         let mut changed = false;
         if self.is_home() {
@@ -326,8 +324,8 @@ impl Domain {
     fn lead_group(&mut self, place: usize, lent: &mut Lent<'_>) -> Result<bool, NoMemory>
         requires { place < vec_len self.old.groups }
         ensures stays { KeepsBeside self.old lent.old self.new lent.new }
-        ensures made { OnOk result (records_in self.new lent.new ≡ lead_group records (records_in self.old lent.old) place) }
-        ensures still { IfOk result (λ changed. changed ≡ false → records_in self.new lent.new ≡ records_in self.old lent.old) }
+        ensures made { OnOk result (Makes (λ r. lead_group records r place) self.old lent.old self.new lent.new) }
+        ensures still { IfOk result (StaysUnless self.old lent.old self.new lent.new) }
         ensures len { vec_len self.new.groups ≡ vec_len self.old.groups }
     {
         let started = self.start(place, lent)?;
@@ -340,8 +338,8 @@ impl Domain {
     fn start(&mut self, place: usize, lent: &mut Lent<'_>) -> Result<bool, NoMemory>
         requires { place < vec_len self.old.groups }
         ensures stays { KeepsBeside self.old lent.old self.new lent.new }
-        ensures made { OnOk result (records_in self.new lent.new ≡ start records (records_in self.old lent.old) place) }
-        ensures still { IfOk result (λ changed. changed ≡ false → records_in self.new lent.new ≡ records_in self.old lent.old) }
+        ensures made { OnOk result (Makes (λ r. start records r place) self.old lent.old self.new lent.new) }
+        ensures still { IfOk result (StaysUnless self.old lent.old self.new lent.new) }
         ensures len { vec_len self.new.groups ≡ vec_len self.old.groups }
     {
         if !self.record(place).home.may_start() {
@@ -356,8 +354,8 @@ impl Domain {
     fn want_bodies(&self, place: usize, lent: &mut Lent<'_>) -> Result<bool, NoMemory>
         requires { place < vec_len self.now.groups }
         ensures back { GivesBack self.now.config.domain lent.old lent.new }
-        ensures made { OnOk result (records_in self.now lent.new ≡ want_bodies records (records_in self.now lent.old) place) }
-        ensures still { IfOk result (λ changed. changed ≡ false → records_in self.now lent.new ≡ records_in self.now lent.old) }
+        ensures made { OnOk result (Makes (λ r. want_bodies records r place) self.now lent.old self.now lent.new) }
+        ensures still { IfOk result (StaysUnless self.now lent.old self.now lent.new) }
     {
         let wants = self.wants(place)?;
         let changed = self.want_all(place, wants.as_slice(), lent)?;
@@ -367,7 +365,7 @@ impl Domain {
     // The messages that the home lacks, each with the site that it wants it from.
     fn wants(&self, place: usize) -> Result<Listed<(SiteNo, (Proc, u32))>, NoMemory>
         requires { place < vec_len self.now.groups }
-        ensures { IfOk result (λ ws. (o : Outs) (part : Part) → ws ≡ wants records (records_of self.now part o) place) }
+        ensures { IfOk result (TellsAlone (λ r. wants records r place) self.now) }
     {
         let record = self.record(place);
         record.home.wants(record.name)
@@ -382,8 +380,8 @@ impl Domain {
     ) -> Result<bool, NoMemory>
         requires { place < vec_len self.now.groups }
         ensures back { GivesBack self.now.config.domain lent.old lent.new }
-        ensures made { OnOk result (records_in self.now lent.new ≡ fold (want records place) (records_in self.now lent.old) wants.now) }
-        ensures still { IfOk result (λ changed. changed ≡ false → records_in self.now lent.new ≡ records_in self.now lent.old) }
+        ensures made { OnOk result (Makes (λ r. fold (want records place) r wants.now) self.now lent.old self.now lent.new) }
+        ensures still { IfOk result (StaysUnless self.now lent.old self.now lent.new) }
     {
         let mut changed = false;
         for wanted in wants {
@@ -402,8 +400,8 @@ impl Domain {
     ) -> Result<bool, NoMemory>
         requires { place < vec_len self.now.groups }
         ensures back { GivesBack self.now.config.domain lent.old lent.new }
-        ensures made { OnOk result (records_in self.now lent.new ≡ want records place (records_in self.now lent.old) wanted) }
-        ensures still { IfOk result (λ changed. changed ≡ false → records_in self.now lent.new ≡ records_in self.now lent.old) }
+        ensures made { OnOk result (Makes (λ r. want records place r wanted) self.now lent.old self.now lent.new) }
+        ensures still { IfOk result (StaysUnless self.now lent.old self.now lent.new) }
     {
         let key = want_key(self.record(place).name, wanted);
         if lent.shared.timers.is_owed(self.config.domain, &key) {
@@ -417,8 +415,8 @@ impl Domain {
     fn decide(&mut self, place: usize, lent: &mut Lent<'_>) -> Result<bool, NoMemory>
         requires { place < vec_len self.old.groups }
         ensures stays { KeepsBeside self.old lent.old self.new lent.new }
-        ensures made { OnOk result (records_in self.new lent.new ≡ decide records (records_in self.old lent.old) place) }
-        ensures still { IfOk result (λ changed. changed ≡ false → records_in self.new lent.new ≡ records_in self.old lent.old) }
+        ensures made { OnOk result (Makes (λ r. decide records r place) self.old lent.old self.new lent.new) }
+        ensures still { IfOk result (StaysUnless self.old lent.old self.new lent.new) }
         ensures len { vec_len self.new.groups ≡ vec_len self.old.groups }
     {
         let record = self.record(place);
@@ -434,7 +432,7 @@ impl Domain {
     fn prepare(&self, place: usize, lent: &mut Lent<'_>) -> Result<(), NoMemory>
         requires { place < vec_len self.now.groups }
         ensures back { GivesBack self.now.config.domain lent.old lent.new }
-        ensures made { OnOk result (records_in self.now lent.new ≡ prepare records (records_in self.now lent.old) place) }
+        ensures made { OnOk result (Makes (λ r. prepare records r place) self.now lent.old self.now lent.new) }
     {
         let home = &self.record(place).home;
         self.owe_of_home(OwedKind::Prepare, place, home.phase().awaited(), lent)?;
@@ -445,7 +443,7 @@ impl Domain {
     fn announce(&self, place: usize, lent: &mut Lent<'_>) -> Result<(), NoMemory>
         requires { place < vec_len self.now.groups }
         ensures back { GivesBack self.now.config.domain lent.old lent.new }
-        ensures made { OnOk result (records_in self.now lent.new ≡ announce records (records_in self.now lent.old) place) }
+        ensures made { OnOk result (Makes (λ r. announce records r place) self.now lent.old self.now lent.new) }
     {
         let home = &self.record(place).home;
         self.owe_of_home(OwedKind::Install, place, home.phase().waiting(), lent)?;
@@ -462,7 +460,7 @@ impl Domain {
     ) -> Result<(), NoMemory>
         requires { place < vec_len self.now.groups }
         ensures back { GivesBack self.now.config.domain lent.old lent.new }
-        ensures made { OnOk result (records_in self.now lent.new ≡ fold (owe_of_home records kind place) (records_in self.now lent.old) sites.now) }
+        ensures made { OnOk result (Makes (λ r. fold (owe_of_home records kind place) r sites.now) self.now lent.old self.now lent.new) }
     {
         for site in sites {
             self.owe_to(kind, place, *site, lent)?;
@@ -480,7 +478,7 @@ impl Domain {
     ) -> Result<(), NoMemory>
         requires { place < vec_len self.now.groups }
         ensures back { GivesBack self.now.config.domain lent.old lent.new }
-        ensures made { OnOk result (records_in self.now lent.new ≡ owe_of_home records kind place (records_in self.now lent.old) to) }
+        ensures made { OnOk result (Makes (λ r. owe_of_home records kind place r to) self.now lent.old self.now lent.new) }
     {
         self.owe(home_key(kind, self.record(place).name, to), lent)
     }

@@ -10,7 +10,7 @@ use cast_types::limits::MAX_NUMBER;
 use cast_types::{GroupNo, NoMemory, Refusal, Standing};
 
 impl Domain {
-    ghost use Rattle.cast_domain.specs.Records.{IsAttempt, KeepsBeside, records_in};
+    ghost use Rattle.cast_domain.specs.Records.{KeepsBeside, Makes, Attempts};
     ghost use Rattle.cast_domain.specs.Calls.{records};
 
     // Lets a process leave a group, or says why not.
@@ -21,7 +21,7 @@ impl Domain {
         lent: &mut Lent<'_>,
     ) -> Result<Option<Refusal>, NoMemory>
         ensures stays { KeepsBeside self.old lent.old self.new lent.new }
-        ensures made { IfOk result (IsAttempt (records_in self.new lent.new) (leave records (records_in self.old lent.old) serial group)) }
+        ensures made { IfOk result (Attempts (λ r. leave records r serial group) self.old lent.old self.new lent.new) }
     {
         match self.place_of(group) {
             Some(place) => self.leave_at(place, serial, group, lent),
@@ -39,7 +39,7 @@ impl Domain {
     ) -> Result<Option<Refusal>, NoMemory>
         requires { place < vec_len self.old.groups }
         ensures stays { KeepsBeside self.old lent.old self.new lent.new }
-        ensures made { IfOk result (IsAttempt (records_in self.new lent.new) (leave_at records (records_in self.old lent.old) serial group place)) }
+        ensures made { IfOk result (Attempts (λ r. leave_at records r serial group place) self.old lent.old self.new lent.new) }
         ensures len { vec_len self.new.groups ≡ vec_len self.old.groups }
     {
         match self.delay.standing(self.process(serial), group) {
@@ -61,7 +61,7 @@ impl Domain {
     ) -> Result<(), NoMemory>
         requires { place < vec_len self.old.groups }
         ensures stays { KeepsBeside self.old lent.old self.new lent.new }
-        ensures made { OnOk result (records_in self.new lent.new ≡ leave_group records (records_in self.old lent.old) serial group place) }
+        ensures made { OnOk result (Makes (λ r. leave_group records r serial group place) self.old lent.old self.new lent.new) }
         ensures len { vec_len self.new.groups ≡ vec_len self.old.groups }
     {
         let process = self.process(serial);
@@ -77,7 +77,7 @@ impl Domain {
     // A process leaves all its groups.
     pub(crate) fn leave_all(&mut self, serial: u32, lent: &mut Lent<'_>) -> Result<(), NoMemory>
         ensures stays { KeepsBeside self.old lent.old self.new lent.new }
-        ensures made { OnOk result (records_in self.new lent.new ≡ leave_all records (records_in self.old lent.old) serial) }
+        ensures made { OnOk result (Makes (λ r. leave_all records r serial) self.old lent.old self.new lent.new) }
         ensures len { vec_len self.new.groups ≡ vec_len self.old.groups }
     {
         for place in 0..self.groups.len() {

@@ -1,7 +1,6 @@
-ghost use Rattle.std.specs.Prelude.{◌≡◌, ◌<◌, ◌&&◌, not, false, IfOk, OnOk, vec_len};
+ghost use Rattle.std.specs.Prelude.{◌≡◌, ◌<◌, IfOk, OnOk, vec_len};
 ghost use Rattle.std.specs.List.{list_any};
 ghost use Rattle.cast_delay.specs.Ready.{is_member};
-ghost use Rattle.cast_model.specs.Outs.{no_outs};
 ghost use Rattle.cast_domain.specs.Calls.{learn_in, record_at, sets_order_at};
 ghost use Rattle.cast_history.specs.Rules.Room.{may_order, may_take};
 ghost use Rattle.cast_history.specs.Rules.Order.{may_list, send_places, set_order_by, set_order, set_orders};
@@ -19,10 +18,8 @@ use cast_types::{GroupNo, Key, Kind, NoMemory, Proc, Stamp, Standing, Uid};
 use cast_view::MemberSide;
 
 impl Domain {
-    ghost use Rattle.cast_model.specs.declared.event.Outs.{Outs};
-    ghost use Rattle.cast_domain.specs.Records.{Keeps, KeepsBeside, records_in, records_of};
-    ghost use Rattle.cast_domain.specs.Shared.{Part, no_part};
-    ghost use Rattle.cast_domain.specs.Calls.{awaits_own_in, records, resting_records, sets_order_in, is_own_in, note_delivery_in, ready_key_in, settled_in, raised_at, standing_of, turn_at, turns_in};
+    ghost use Rattle.cast_domain.specs.Records.{Keeps, KeepsBeside, records_in, own_records, Makes, MakesAlone, StaysUnless, TellsAlone};
+    ghost use Rattle.cast_domain.specs.Calls.{awaits_own_in, records, resting_records, sets_order_in, is_own_in, note_delivery_in, ready_key_in, settled_in, raised_at, turn_at, turns_in, may_list_of};
 
     // Whether a set-order message may be sent or received beside the messages that are kept, and a holder may deliver
     // an ABCAST.
@@ -51,14 +48,14 @@ impl Domain {
 
     // Whether one of these messages is such an ABCAST.
     fn is_own_among(&self, process: Proc, kept: &[Received]) -> bool
-        ensures { result ≡ list_any (λ x. is_own_in (records_of self.now no_part no_outs) process x.message) kept.now }
+        ensures { result ≡ list_any (λ x. is_own_in (own_records self.now) process x.message) kept.now }
     {
         kept.iter().any(|kept| self.is_own(process, &kept.message))
     }
 
     // Whether a message is such an ABCAST.
     fn is_own(&self, process: Proc, message: &Message) -> bool
-        ensures { result ≡ is_own_in (records_of self.now no_part no_outs) process message.now }
+        ensures { result ≡ is_own_in (own_records self.now) process message.now }
     {
         message.kind().is_atomic()
             && message.id.proc == process
@@ -109,7 +106,7 @@ impl Domain {
 
     // How many messages of a process of this site are stable in a view: all in a view of this site alone.
     fn settled(&self, group: GroupNo, view: u32, process: Proc) -> u32
-        ensures { (o : Outs) (part : Part) → result ≡ settled_in (records_of self.now part o) group view process }
+        ensures { TellsAlone (λ r. settled_in r group view process) self.now result }
     {
         if self.acks.others(group).is_empty() {
             return MAX_NUMBER;
@@ -126,7 +123,7 @@ impl Domain {
     // may have passed places.
     pub(crate) fn note_delivery(&mut self, process: Proc, id: Uid) -> Result<(), NoMemory>
         ensures same { Keeps self.old self.new }
-        ensures made { OnOk result ((o : Outs) (part : Part) → records_of self.new part o ≡ note_delivery_in (records_of self.old part o) process id) }
+        ensures made { OnOk result (MakesAlone (λ r. note_delivery_in r process id) self.old self.new) }
     {
         if self.sets_order(id.group, process) {
             return self.orders.tell(id.group, (id.proc, id.count));
@@ -138,7 +135,7 @@ impl Domain {
 
     // Whether a process is the holder of a group's view and sets its order, which it does while no flush has frozen the group.
     fn sets_order(&self, group: GroupNo, process: Proc) -> bool
-        ensures { (o : Outs) (part : Part) → result ≡ sets_order_in (records_of self.now part o) group process }
+        ensures { TellsAlone (λ r. sets_order_in r group process) self.now result }
     {
         match self.place_of(group) {
             Some(place) => sets_order(&self.record(place).here, process),
@@ -149,8 +146,8 @@ impl Domain {
     // The holders at this site set orders, by group. Answers whether anything changed.
     pub(crate) fn set_orders(&mut self, lent: &mut Lent<'_>) -> Result<bool, NoMemory>
         ensures stays { KeepsBeside self.old lent.old self.new lent.new }
-        ensures made { OnOk result (records_in self.new lent.new ≡ set_orders records resting_records (records_in self.old lent.old)) }
-        ensures still { IfOk result (λ changed. changed ≡ false → records_in self.new lent.new ≡ records_in self.old lent.old) }
+        ensures made { OnOk result (Makes (set_orders records resting_records) self.old lent.old self.new lent.new) }
+        ensures still { IfOk result (StaysUnless self.old lent.old self.new lent.new) }
     {
         let mut changed = false;
         for place in 0..self.groups.len() {
@@ -163,8 +160,8 @@ impl Domain {
     // The holder of the group at a place sets its order, where it is a process of this site.
     fn set_order(&mut self, place: usize, lent: &mut Lent<'_>) -> Result<bool, NoMemory>
         ensures stays { KeepsBeside self.old lent.old self.new lent.new }
-        ensures made { OnOk result (records_in self.new lent.new ≡ set_order records resting_records (records_in self.old lent.old) place) }
-        ensures still { IfOk result (λ changed. changed ≡ false → records_in self.new lent.new ≡ records_in self.old lent.old) }
+        ensures made { OnOk result (Makes (λ r. set_order records resting_records r place) self.old lent.old self.new lent.new) }
+        ensures still { IfOk result (StaysUnless self.old lent.old self.new lent.new) }
     {
         if place >= self.groups.len() {
             return Ok(false);
@@ -184,8 +181,8 @@ impl Domain {
     ) -> Result<bool, NoMemory>
         requires { place < vec_len self.old.groups }
         ensures stays { KeepsBeside self.old lent.old self.new lent.new }
-        ensures made { OnOk result (records_in self.new lent.new ≡ set_order_by records resting_records (records_in self.old lent.old) place serial) }
-        ensures still { IfOk result (λ changed. changed ≡ false → records_in self.new lent.new ≡ records_in self.old lent.old) }
+        ensures made { OnOk result (Makes (λ r. set_order_by records resting_records r place serial) self.old lent.old self.new lent.new) }
+        ensures still { IfOk result (StaysUnless self.old lent.old self.new lent.new) }
     {
         let holder = self.process(serial);
         let group = self.record(place).name;
@@ -207,7 +204,7 @@ impl Domain {
     // message.
     fn may_list(&self, place: usize, holder: Proc, lent: &Lent<'_>) -> bool
         requires { place < vec_len self.now.groups }
-        ensures { result ≡ (is_member (standing_of self.now.delay holder (record_at self.now.groups.items place).name) && (not (record_at self.now.groups.items place).here.frozen && may_order records (records_in self.now lent.now))) }
+        ensures { result ≡ may_list_of (records_in self.now lent.now) (record_at self.now.groups.items place) holder }
     {
         let record = self.record(place);
         is_member(self.delay.standing(holder, record.name))
@@ -226,10 +223,10 @@ impl Domain {
         lent: &mut Lent<'_>,
     ) -> Result<(), NoMemory>
         requires placed { place < vec_len self.old.groups }
-        requires raised { time ≡ raised_at (records_of self.old no_part no_outs) place serial }
+        requires raised { time ≡ raised_at (own_records self.old) place serial }
         requires stamped { stamp ≡ time }
         ensures stays { KeepsBeside self.old lent.old self.new lent.new }
-        ensures made { OnOk result (records_in self.new lent.new ≡ send_places records resting_records (records_in self.old lent.old) place serial places) }
+        ensures made { OnOk result (Makes (λ r. send_places records resting_records r place serial places) self.old lent.old self.new lent.new) }
     {
         let holder = self.process(serial);
         let group = self.record(place).name;

@@ -109,15 +109,13 @@ fn id_in(view: u32, key: &OwedKey) -> Uid
 }
 
 impl Domain {
-    ghost use Rattle.cast_model.specs.declared.event.Outs.{Outs};
-    ghost use Rattle.cast_domain.specs.Shared.{Part};
-    ghost use Rattle.cast_domain.specs.Records.{GivesBack, KeepsBeside, records_in, records_of};
+    ghost use Rattle.cast_domain.specs.Records.{GivesBack, KeepsBeside, records_in, Makes, TellsAlone};
     ghost use Rattle.cast_domain.specs.Calls.{message_in, pay_in, record_at, records};
 
     // Sends a frame, and owes it from then on, unless it is owed already.
     pub(crate) fn owe(&self, key: OwedKey, lent: &mut Lent<'_>) -> Result<(), NoMemory>
         ensures back { GivesBack self.now.config.domain lent.old lent.new }
-        ensures made { OnOk result (records_in self.now lent.new ≡ owe records (records_in self.now lent.old) key) }
+        ensures made { OnOk result (Makes (λ r. owe records r key) self.now lent.old self.now lent.new) }
     {
         if lent.shared.timers.is_owed(self.config.domain, &key) {
             return Ok(());
@@ -130,7 +128,7 @@ impl Domain {
     // Owes a frame no more.
     pub(crate) fn pay(&self, key: &OwedKey, lent: &mut Lent<'_>)
         ensures back { GivesBack self.now.config.domain lent.old lent.new }
-        ensures made { records_in self.now lent.new ≡ pay_in (records_in self.now lent.old) key.now }
+        ensures made { Makes (λ r. pay_in r key.now) self.now lent.old self.now lent.new }
     {
         lent.shared.pay(self.config.domain, key);
     }
@@ -145,7 +143,7 @@ impl Domain {
     // Sends the frame that a key stands for, where there is one.
     pub(crate) fn send_for(&self, key: &OwedKey, lent: &mut Lent<'_>) -> Result<(), NoMemory>
         ensures back { GivesBack self.now.config.domain lent.old lent.new }
-        ensures made { OnOk result (records_in self.now lent.new ≡ send_for records (records_in self.now lent.old) key.now) }
+        ensures made { OnOk result (Makes (λ r. send_for records r key.now) self.now lent.old self.now lent.new) }
     {
         match self.frame_for(key, lent)? {
             Some(frame) => self.send(lent.outs, key.site, frame),
@@ -189,7 +187,7 @@ impl Domain {
     // The number of the view that a side of a flush of the group at a place wants messages of.
     fn wanted_view(&self, place: usize, side: Side) -> u32
         requires { place < vec_len self.now.groups }
-        ensures { (o : Outs) (part : Part) → result ≡ wanted_view records (records_of self.now part o) place side }
+        ensures { TellsAlone (λ r. wanted_view records r place side) self.now result }
     {
         match side {
             Side::Site => self.record(place).here.number(),
@@ -235,7 +233,7 @@ impl Domain {
     // Time passes: the moment is at least this one, and what is due is sent again.
     pub(crate) fn tick(&mut self, millis: u64, lent: &mut Lent<'_>) -> Result<(), NoMemory>
         ensures stays { KeepsBeside self.old lent.old self.new lent.new }
-        ensures made { OnOk result (records_in self.new lent.new ≡ tick records (records_in self.old lent.old) millis) }
+        ensures made { OnOk result (Makes (λ r. tick records r millis) self.old lent.old self.new lent.new) }
     {
         self.moment.reach(millis);
         self.resend_due(lent)
@@ -244,7 +242,7 @@ impl Domain {
     // Sends all frames that are due again, in their order.
     fn resend_due(&self, lent: &mut Lent<'_>) -> Result<(), NoMemory>
         ensures back { GivesBack self.now.config.domain lent.old lent.new }
-        ensures made { OnOk result (records_in self.now lent.new ≡ resend_due records (records_in self.now lent.old)) }
+        ensures made { OnOk result (Makes (resend_due records) self.now lent.old self.now lent.new) }
     {
         let now = self.moment.millis();
         for key in lent.shared.timers.due(self.config.domain, now)? {
@@ -256,7 +254,7 @@ impl Domain {
     // Sends a frame that is due again.
     fn resend(&self, key: OwedKey, lent: &mut Lent<'_>) -> Result<(), NoMemory>
         ensures back { GivesBack self.now.config.domain lent.old lent.new }
-        ensures made { OnOk result (records_in self.now lent.new ≡ resend records (records_in self.now lent.old) key) }
+        ensures made { OnOk result (Makes (λ r. resend records r key) self.now lent.old self.now lent.new) }
     {
         self.send_for(&key, lent)?;
         lent.shared.renew(self.config.domain, key, self.next_due())?;

@@ -2,11 +2,11 @@ ghost use Rattle.std.specs.Prelude.{◌≡◌, ◌<◌, true, IfOk, IfSome, OnOk
 ghost use Rattle.std.specs.List.{position};
 ghost use Rattle.cast_types.specs.Names.{group_eq};
 ghost use Rattle.cast_types.specs.Places.{update};
-ghost use Rattle.cast_view.specs.MemberSide.{answers_prepare, frozen_side, verdict_of, with_answer, with_pending, with_request, with_view};
+ghost use Rattle.cast_view.specs.MemberSide.{answers_prepare, frozen_side, verdict_of, with_answer, with_request, with_view};
 ghost use Rattle.cast_view.specs.declared.member.Verdict.TheVariants.{Pends};
 ghost use Rattle.cast_view.specs.Home.{answer_to, may_decide};
 ghost use Rattle.cast_view.specs.Home.HomeMove.{Asked, Brought, Decided, Installed, Reported, Started, Suspected};
-ghost use Rattle.cast_domain.specs.Calls.{moved_home, record_at};
+ghost use Rattle.cast_domain.specs.Calls.{moved_home, record_at, pending_of, with_install};
 
 use cast_flush::Report;
 use cast_message::{Change, Members, Message};
@@ -118,7 +118,7 @@ pub(crate) fn pend_at(
 ) -> Result<(), NoMemory>
     requires placed { place < vec_len groups.old }
     requires waits { verdict_of (record_at groups.old.items place).here number ≡ Pends }
-    ensures items { OnOk result (groups.new.items ≡ update groups.old.items place (λ x. record x { here = with_pending x.here (record { members = members.now; request = request; cut = cut.now }) })) }
+    ensures items { OnOk result (groups.new.items ≡ update groups.old.items place (with_install (pending_of members.now request cut.now))) }
     ensures len { vec_len groups.new ≡ vec_len groups.old }
 {
     let record = &mut groups[place];

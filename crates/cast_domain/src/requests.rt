@@ -1,6 +1,7 @@
-ghost use Rattle.std.specs.Prelude.{◌≡◌, ◌<◌, ◌≤◌, ◌+◌, ◌==◌, if◌then◌else◌, IfOk, OnOk, Some, None, length, vec_len};
+ghost use Rattle.std.specs.Prelude.{◌≡◌, ◌<◌, ◌≤◌, ◌+◌, ◌==◌, IfOk, OnOk, Some, None, length, vec_len};
 ghost use Rattle.std.specs.List.{fold};
 ghost use Rattle.cast_history.specs.Rules.Commands.{body_of, cast, cast_at, commanded, join, join_at, requested};
+ghost use Rattle.cast_model.specs.declared.event.Event.TheVariants as event;
 ghost use Rattle.cast_domain.specs.Calls.{record_at};
 ghost use Rattle.cast_history.specs.Rules.Sending.{send_data, send_message};
 ghost use Rattle.cast_history.specs.Rules.Asking.{ask_home, request};
@@ -23,11 +24,9 @@ use std::alloc::AllocError;
 impl Domain {
     ghost use Rattle.cast_clock.specs.Times.{view_of};
     ghost use Rattle.cast_model.specs.declared.event.Outs.{Outs};
-    ghost use Rattle.cast_model.specs.Session.{is_open_status};
-    ghost use Rattle.cast_domain.specs.Records.{GivesBack, IsAttempt, KeepsBeside, records_in, records_of};
+    ghost use Rattle.cast_domain.specs.Records.{GivesBack, KeepsBeside, records_in, records_of, Makes, Attempts, number_of};
     ghost use Rattle.cast_domain.specs.Shared.{Part};
-    ghost use Rattle.cast_domain.specs.Fits.{status_in};
-    ghost use Rattle.cast_domain.specs.Calls.{raised_in, records, receive_in, time_of};
+    ghost use Rattle.cast_domain.specs.Calls.{raised_in, records, receive_in, time_of, answered_in};
 
     // A program does something.
     pub(crate) fn command(
@@ -36,9 +35,9 @@ impl Domain {
         command: &Command,
         lent: &mut Lent<'_>,
     ) -> Result<Taken, NoMemory>
-        ensures answer { IfOk result (λ t. t ≡ (if is_open_status (status_in self.old.sessions.items serial) then Taken.Nothing else Taken.Refused Refusal.NotOpen)) }
+        ensures answer { IfOk result (λ t. t ≡ answered_in (records_in self.old lent.old) (event.Command (number_of self.old) serial command.now)) }
         ensures stays { KeepsBeside self.old lent.old self.new lent.new }
-        ensures made { OnOk result (records_in self.new lent.new ≡ commanded records (records_in self.old lent.old) serial command.now) }
+        ensures made { OnOk result (Makes (λ r. commanded records r serial command.now) self.old lent.old self.new lent.new) }
     {
         if !self.is_open(serial) {
             return Ok(Taken::Refused(Refusal::NotOpen));
@@ -58,7 +57,7 @@ impl Domain {
         lent: &mut Lent<'_>,
     ) -> Result<(), NoMemory>
         ensures stays { KeepsBeside self.old lent.old self.new lent.new }
-        ensures made { OnOk result (records_in self.new lent.new ≡ requested records (records_in self.old lent.old) serial request.now) }
+        ensures made { OnOk result (Makes (λ r. requested records r serial request.now) self.old lent.old self.new lent.new) }
     {
         match request {
             Request::Join { group, .. } => {
@@ -89,7 +88,7 @@ impl Domain {
         lent: &mut Lent<'_>,
     ) -> Result<Option<Refusal>, NoMemory>
         ensures stays { KeepsBeside self.old lent.old self.new lent.new }
-        ensures made { IfOk result (λ refusal. (records_in self.new lent.new, refusal) ≡ join records (records_in self.old lent.old) serial group) }
+        ensures made { IfOk result (Attempts (λ r. join records r serial group) self.old lent.old self.new lent.new) }
     {
         match self.place_of(group) {
             Some(place) => self.join_at(place, serial, group, lent),
@@ -107,7 +106,7 @@ impl Domain {
     ) -> Result<Option<Refusal>, NoMemory>
         requires { place < vec_len self.old.groups }
         ensures stays { KeepsBeside self.old lent.old self.new lent.new }
-        ensures made { IfOk result (IsAttempt (records_in self.new lent.new) (join_at records (records_in self.old lent.old) serial group place)) }
+        ensures made { IfOk result (Attempts (λ r. join_at records r serial group place) self.old lent.old self.new lent.new) }
     {
         let process = self.process(serial);
         match self.delay.standing(process, group) {
@@ -150,7 +149,7 @@ impl Domain {
         requires placed { place < vec_len self.old.groups }
         requires numbered { (record_at self.old.groups.items place).here.asked < 4294967295 }
         ensures stays { KeepsBeside self.old lent.old self.new lent.new }
-        ensures made { OnOk result (records_in self.new lent.new ≡ request records (records_in self.old lent.old) place change process) }
+        ensures made { OnOk result (Makes (λ r. request records r place change process) self.old lent.old self.new lent.new) }
         ensures len { vec_len self.new.groups ≡ vec_len self.old.groups }
     {
         let is_first = self.record(place).here.requests().is_empty();
@@ -165,7 +164,7 @@ impl Domain {
     pub(crate) fn ask_home(&self, place: usize, lent: &mut Lent<'_>) -> Result<(), NoMemory>
         requires { place < vec_len self.now.groups }
         ensures back { GivesBack self.now.config.domain lent.old lent.new }
-        ensures made { OnOk result (records_in self.now lent.new ≡ ask_home records (records_in self.now lent.old) place) }
+        ensures made { OnOk result (Makes (λ r. ask_home records r place) self.now lent.old self.now lent.new) }
     {
         let record = self.record(place);
         if record.here.requests().is_empty() {
@@ -184,7 +183,7 @@ impl Domain {
         lent: &mut Lent<'_>,
     ) -> Result<Option<Refusal>, NoMemory>
         ensures stays { KeepsBeside self.old lent.old self.new lent.new }
-        ensures made { IfOk result (IsAttempt (records_in self.new lent.new) (cast records (records_in self.old lent.old) serial group kind payload.now)) }
+        ensures made { IfOk result (Attempts (λ r. cast records r serial group kind payload.now) self.old lent.old self.new lent.new) }
     {
         match self.place_of(group) {
             Some(place) => self.cast_at(place, serial, group, kind, payload, lent),
@@ -204,7 +203,7 @@ impl Domain {
     ) -> Result<Option<Refusal>, NoMemory>
         requires { at < vec_len self.old.groups }
         ensures stays { KeepsBeside self.old lent.old self.new lent.new }
-        ensures made { IfOk result (IsAttempt (records_in self.new lent.new) (cast_at records (records_in self.old lent.old) serial group kind payload.now at)) }
+        ensures made { IfOk result (Attempts (λ r. cast_at records r serial group kind payload.now at) self.old lent.old self.new lent.new) }
     {
         let process = self.process(serial);
         if payload.len() > MAX_PAYLOAD {
@@ -279,7 +278,7 @@ impl Domain {
         lent: &mut Lent<'_>,
     ) -> Result<(), NoMemory>
         ensures stays { KeepsBeside self.old lent.old self.new lent.new }
-        ensures made { OnOk result (records_in self.new lent.new ≡ send_message records (records_in self.old lent.old) message) }
+        ensures made { OnOk result (Makes (λ r. send_message records r message) self.old lent.old self.new lent.new) }
     {
         let id = message.id;
         self.receive(message, lent)?;
@@ -290,7 +289,7 @@ impl Domain {
     // Sends an own message to sites.
     fn send_data(&self, id: Uid, sites: &[SiteNo], lent: &mut Lent<'_>) -> Result<(), NoMemory>
         ensures back { GivesBack self.now.config.domain lent.old lent.new }
-        ensures made { OnOk result (records_in self.now lent.new ≡ fold (send_data records id) (records_in self.now lent.old) sites.now) }
+        ensures made { OnOk result (Makes (λ r. fold (send_data records id) r sites.now) self.now lent.old self.now lent.new) }
     {
         for site in sites {
             self.send_data_to(id, *site, lent)?;
@@ -301,7 +300,7 @@ impl Domain {
     // Sends an own message to a site, and owes it until that has acknowledged it, as it may have done before.
     fn send_data_to(&self, id: Uid, to: SiteNo, lent: &mut Lent<'_>) -> Result<(), NoMemory>
         ensures back { GivesBack self.now.config.domain lent.old lent.new }
-        ensures made { OnOk result (records_in self.now lent.new ≡ send_data records id (records_in self.now lent.old) to) }
+        ensures made { OnOk result (Makes (λ r. send_data records id r to) self.now lent.old self.now lent.new) }
     {
         let key = message_key(OwedKind::Data, id, to);
         if self.acks.has_acked(to, id) {
@@ -313,7 +312,7 @@ impl Domain {
     // Receives a message: it is the last one in order of receipt.
     pub(crate) fn receive(&mut self, message: Message, lent: &mut Lent<'_>) -> Result<(), NoMemory>
         ensures stays { KeepsBeside self.old lent.old self.new lent.new }
-        ensures made { OnOk result (records_in self.new lent.new ≡ receive_in (records_in self.old lent.old) message) }
+        ensures made { OnOk result (Makes (λ r. receive_in r message) self.old lent.old self.new lent.new) }
     {
         let key = lent.shared.store.next_key(self.config.domain);
         self.delay.offer(key, &message)?;

@@ -1,4 +1,4 @@
-ghost use Rattle.std.specs.Prelude.{◌≡◌, ◌<◌, false, IfOk, OnOk, vec_len};
+ghost use Rattle.std.specs.Prelude.{◌≡◌, ◌<◌, IfOk, OnOk, vec_len};
 ghost use Rattle.std.specs.List.{fold};
 ghost use Rattle.cast_domain.specs.Calls.{delivery_of};
 ghost use Rattle.cast_history.specs.Rules.Rest.{told_of, tell_if, deliver_first, deliver_all, settle, pass};
@@ -19,8 +19,7 @@ pub(crate) struct Delivery {
 }
 
 impl Domain {
-    ghost use Rattle.cast_domain.specs.Records.{Keeps, KeepsBeside, records_in, records_of};
-    ghost use Rattle.cast_domain.specs.Shared.{Part};
+    ghost use Rattle.cast_domain.specs.Records.{Keeps, KeepsBeside, records_in, Makes, MakesAlone, MakesWithOuts, StaysUnless};
     ghost use Rattle.cast_domain.specs.Fits.{AreDismissed};
     ghost use Rattle.cast_domain.specs.Stepped.{IsRested};
     ghost use Rattle.cast_domain.specs.Calls.{deliver_as, note_if_in, records, resting_records, take_delivery_in};
@@ -43,8 +42,8 @@ impl Domain {
     // home. Answers whether anything changed.
     fn pass(&mut self, lent: &mut Lent<'_>) -> Result<bool, NoMemory>
         ensures stays { KeepsBeside self.old lent.old self.new lent.new }
-        ensures made { OnOk result (records_in self.new lent.new ≡ pass records resting_records (records_in self.old lent.old)) }
-        ensures still { IfOk result (λ changed. changed ≡ false → records_in self.new lent.new ≡ records_in self.old lent.old) }
+        ensures made { OnOk result (Makes (pass records resting_records) self.old lent.old self.new lent.new) }
+        ensures still { IfOk result (StaysUnless self.old lent.old self.new lent.new) }
     {
         let settled = self.settle(lent)?;
         let ordered = self.set_orders(lent)?;
@@ -56,8 +55,8 @@ impl Domain {
     // Each process delivers until nothing is ready for it.
     fn settle(&mut self, lent: &mut Lent<'_>) -> Result<bool, NoMemory>
         ensures stays { KeepsBeside self.old lent.old self.new lent.new }
-        ensures made { OnOk result (records_in self.new lent.new ≡ settle records resting_records (records_in self.old lent.old)) }
-        ensures still { IfOk result (λ changed. changed ≡ false → records_in self.new lent.new ≡ records_in self.old lent.old) }
+        ensures made { OnOk result (Makes (settle records resting_records) self.old lent.old self.new lent.new) }
+        ensures still { IfOk result (StaysUnless self.old lent.old self.new lent.new) }
     {
         let mut changed = false;
         for place in 0..self.delay.admitted() {
@@ -72,8 +71,8 @@ impl Domain {
     // A process delivers until nothing is ready for it. It delivers no message twice.
     fn deliver_all(&mut self, serial: u32, lent: &mut Lent<'_>) -> Result<bool, NoMemory>
         ensures stays { KeepsBeside self.old lent.old self.new lent.new }
-        ensures made { OnOk result (records_in self.new lent.new ≡ deliver_all records resting_records (records_in self.old lent.old) serial) }
-        ensures still { IfOk result (λ changed. changed ≡ false → records_in self.new lent.new ≡ records_in self.old lent.old) }
+        ensures made { OnOk result (Makes (λ r. deliver_all records resting_records r serial) self.old lent.old self.new lent.new) }
+        ensures still { IfOk result (StaysUnless self.old lent.old self.new lent.new) }
     {
         let mut changed = false;
         for _turn in 0..self.held(lent) {
@@ -88,8 +87,8 @@ impl Domain {
     // A process delivers the first message that is ready for it, and what is free then is let go. Answers whether there was one.
     fn deliver_first(&mut self, serial: u32, lent: &mut Lent<'_>) -> Result<bool, NoMemory>
         ensures stays { KeepsBeside self.old lent.old self.new lent.new }
-        ensures made { OnOk result (records_in self.new lent.new ≡ deliver_first records resting_records serial (records_in self.old lent.old)) }
-        ensures still { IfOk result (λ delivered. delivered ≡ false → records_in self.new lent.new ≡ records_in self.old lent.old) }
+        ensures made { OnOk result (Makes (deliver_first records resting_records serial) self.old lent.old self.new lent.new) }
+        ensures still { IfOk result (StaysUnless self.old lent.old self.new lent.new) }
     {
         let process = self.process(serial);
         let Some(key) = self.next_ready(process, lent)? else {
@@ -113,7 +112,7 @@ impl Domain {
         lent: &mut Lent<'_>,
     ) -> Result<(), NoMemory>
         ensures stays { KeepsBeside self.old lent.old self.new lent.new }
-        ensures made { OnOk result (records_in self.new lent.new ≡ deliver_as (records_in self.old lent.old) process key delivery) }
+        ensures made { OnOk result (Makes (λ r. deliver_as r process key delivery) self.old lent.old self.new lent.new) }
     {
         self.take_delivery(process, key, delivery.id, lent.outs)?;
         self.note_if(delivery.atomic, process, delivery.id)?;
@@ -130,7 +129,7 @@ impl Domain {
         outs: &mut Outs,
     ) -> Result<(), NoMemory>
         ensures same { Keeps self.old self.new }
-        ensures made { OnOk result ((part : Part) → records_of self.new part outs.new ≡ take_delivery_in (records_of self.old part outs.old) process key id) }
+        ensures made { OnOk result (MakesWithOuts (λ r. take_delivery_in r process key id) self.old outs.old self.new outs.new) }
     {
         self.delay.delivered(process, key)?;
         outs.delivered.push((self.config.domain, process, id))?;
@@ -140,7 +139,7 @@ impl Domain {
     // Notes for the order of its view that a process delivered a message, if it is an ABCAST.
     fn note_if(&mut self, atomic: bool, process: Proc, id: Uid) -> Result<(), NoMemory>
         ensures same { Keeps self.old self.new }
-        ensures made { OnOk result ((o : Outs) (part : Part) → records_of self.new part o ≡ note_if_in atomic (records_of self.old part o) process id) }
+        ensures made { OnOk result (MakesAlone (λ r. note_if_in atomic r process id) self.old self.new) }
     {
         if atomic {
             self.note_delivery(process, id)?;
@@ -156,7 +155,7 @@ impl Domain {
         lent: &mut Lent<'_>,
     ) -> Result<(), NoMemory>
         ensures stays { KeepsBeside self.old lent.old self.new lent.new }
-        ensures made { OnOk result (records_in self.new lent.new ≡ tell_if records (records_in self.old lent.old) process.serial push) }
+        ensures made { OnOk result (Makes (λ r. tell_if records r process.serial push) self.old lent.old self.new lent.new) }
     {
         match push {
             Some(push) => self.push(process.serial, push, lent),

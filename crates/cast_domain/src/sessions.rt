@@ -1,10 +1,9 @@
-ghost use Rattle.std.specs.Prelude.{◌≡◌, ◌+◌, ◌==◌, ◌++◌, ◌∷◌, [], false, true, filter, if◌then◌else◌, length, map, not, IfOk, OnOk, vec_len};
+ghost use Rattle.std.specs.Prelude.{◌≡◌, ◌+◌, ◌==◌, ◌++◌, ◌∷◌, [], false, true, filter, length, map, not, IfOk, OnOk, vec_len};
 ghost use Rattle.std.specs.Option.{option_copied};
 ghost use Rattle.std.specs.List.{find};
 ghost use Rattle.cast_model.specs.Session.{is_gone_status, is_open_status};
-ghost use Rattle.cast_quota.specs.Quotas.{is_in_range};
-ghost use Rattle.cast_history.specs.Rules.Events.{is_taken};
 ghost use Rattle.cast_history.specs.Rules.Leaving.{close_session, tell, tell_open};
+ghost use Rattle.cast_model.specs.declared.event.Event.TheVariants as event;
 ghost use Rattle.cast_domain.specs.Calls.{with_status};
 ghost use Rattle.cast_domain.specs.Fits.{status_in};
 
@@ -18,11 +17,10 @@ use cast_types::limits::MAX_NUMBER;
 use cast_types::{NoMemory, Refusal};
 
 impl Domain {
-    ghost use Rattle.cast_model.specs.declared.event.Outs.{Outs};
-    ghost use Rattle.cast_domain.specs.Records.{GivesBack, Keeps, KeepsBeside, records_in, records_of};
-    ghost use Rattle.cast_domain.specs.Shared.{Part, part_of};
+    ghost use Rattle.cast_domain.specs.Records.{GivesBack, Keeps, KeepsBeside, records_in, own_records, Makes, MakesAlone, TellsAlone, number_of};
+    ghost use Rattle.cast_domain.specs.Shared.{part_of};
     ghost use Rattle.cast_history.specs.Rules.Events.{may_open, opened, took};
-    ghost use Rattle.cast_domain.specs.Calls.{close_in, end_in, go_in, is_full_in, open_in, push_in, records, records_sessions, set_quota_in, take_entries_in};
+    ghost use Rattle.cast_domain.specs.Calls.{close_in, end_in, go_in, is_full_in, open_in, push_in, records, records_sessions, take_entries_in, reason_in, answered_in, acted_in};
 
     // How the session of a serial stands.
     fn status(&self, serial: u32) -> Status
@@ -60,10 +58,10 @@ impl Domain {
 
     // A program connects.
     pub(crate) fn open(&mut self, lent: &mut Lent<'_>) -> Result<Taken, NoMemory>
-        ensures answer { IfOk result (λ t. t ≡ (if may_open records records_sessions (records_in self.old lent.old) then Taken.Opened (self.old.used + 1) else Taken.Refused Refusal.TooManySessions)) }
+        ensures answer { IfOk result (λ t. t ≡ answered_in (records_in self.old lent.old) (event.Open (number_of self.old))) }
         ensures same { (self.new.site ≡ self.old.site) × (self.new.config ≡ self.old.config) × (self.new.halted ≡ self.old.halted) }
         ensures back { GivesBack self.old.config.domain lent.old lent.new }
-        ensures made { OnOk result (records_in self.new lent.new ≡ opened records records_sessions (records_in self.old lent.old)) }
+        ensures made { OnOk result (Makes (opened records records_sessions) self.old lent.old self.new lent.new) }
     {
         if !self.may_open() {
             return Ok(Taken::Refused(Refusal::TooManySessions));
@@ -75,7 +73,7 @@ impl Domain {
 
     // Whether one more session may be opened.
     fn may_open(&self) -> bool
-        ensures { (o : Outs) (part : Part) → result ≡ may_open records records_sessions (records_of self.now part o) }
+        ensures { TellsAlone (may_open records records_sessions) self.now result }
     {
         self.quotas.check_open(self.sessions.len()) && self.used != MAX_NUMBER
     }
@@ -85,7 +83,7 @@ impl Domain {
         requires { serial ≡ self.old.used + 1 }
         ensures same { (self.new.site ≡ self.old.site) × (self.new.config ≡ self.old.config) × (self.new.halted ≡ self.old.halted) }
         ensures back { GivesBack self.old.config.domain lent.old lent.new }
-        ensures made { OnOk result (records_in self.new lent.new ≡ open_in (records_in self.old lent.old)) }
+        ensures made { OnOk result (Makes open_in self.old lent.old self.new lent.new) }
     {
         let process = self.process(serial);
         let opened = Push::Opened(process);
@@ -105,7 +103,7 @@ impl Domain {
     fn push_entry(&self, serial: u32, entry: Push, lent: &mut Lent<'_>) -> Result<(), NoMemory>
         requires { is_full_in (records_in self.now lent.old) serial ≡ false }
         ensures back { GivesBack self.now.config.domain lent.old lent.new }
-        ensures made { OnOk result (records_in self.now lent.new ≡ push_in (records_in self.now lent.old) serial entry) }
+        ensures made { OnOk result (Makes (λ r. push_in r serial entry) self.now lent.old self.now lent.new) }
     {
         lent.outs.push(self.config.domain, serial, &entry)?;
         lent.shared
@@ -121,7 +119,7 @@ impl Domain {
         lent: &mut Lent<'_>,
     ) -> Result<(), NoMemory>
         ensures stays { KeepsBeside self.old lent.old self.new lent.new }
-        ensures made { OnOk result (records_in self.new lent.new ≡ tell records (records_in self.old lent.old) serial entry) }
+        ensures made { OnOk result (Makes (λ r. tell records r serial entry) self.old lent.old self.new lent.new) }
         ensures len { vec_len self.new.groups ≡ vec_len self.old.groups }
     {
         if !self.is_open(serial) {
@@ -133,7 +131,7 @@ impl Domain {
     // The same where it is open.
     fn push_open(&mut self, serial: u32, entry: Push, lent: &mut Lent<'_>) -> Result<(), NoMemory>
         ensures stays { KeepsBeside self.old lent.old self.new lent.new }
-        ensures made { OnOk result (records_in self.new lent.new ≡ tell_open records (records_in self.old lent.old) serial entry) }
+        ensures made { OnOk result (Makes (λ r. tell_open records r serial entry) self.old lent.old self.new lent.new) }
         ensures len { vec_len self.new.groups ≡ vec_len self.old.groups }
     {
         if self.is_full(serial, lent) {
@@ -153,7 +151,7 @@ impl Domain {
         lent: &mut Lent<'_>,
     ) -> Result<(), NoMemory>
         ensures stays { KeepsBeside self.old lent.old self.new lent.new }
-        ensures made { OnOk result (records_in self.new lent.new ≡ close_session records (records_in self.old lent.old) serial refusal) }
+        ensures made { OnOk result (Makes (λ r. close_session records r serial refusal) self.old lent.old self.new lent.new) }
         ensures len { vec_len self.new.groups ≡ vec_len self.old.groups }
     {
         self.close(serial, refusal, lent)?;
@@ -164,7 +162,7 @@ impl Domain {
     // Closes a session: its program is told why, and nothing after that.
     fn close(&mut self, serial: u32, refusal: Refusal, lent: &mut Lent<'_>) -> Result<(), NoMemory>
         ensures stays { KeepsBeside self.old lent.old self.new lent.new }
-        ensures made { OnOk result (records_in self.new lent.new ≡ close_in (records_in self.old lent.old) serial (if is_full_in (records_in self.old lent.old) serial then Refusal.Slow else refusal)) }
+        ensures made { OnOk result (Makes (λ r. close_in r serial (reason_in r serial refusal)) self.old lent.old self.new lent.new) }
         ensures len { vec_len self.new.groups ≡ vec_len self.old.groups }
     {
         let why = self.reason(serial, refusal, lent);
@@ -182,7 +180,7 @@ impl Domain {
 
     // Why a session is closed.
     fn reason(&self, serial: u32, refusal: Refusal, lent: &Lent<'_>) -> Refusal
-        ensures { result ≡ (if is_full_in (records_in self.now lent.now) serial then Refusal.Slow else refusal) }
+        ensures { result ≡ reason_in (records_in self.now lent.now) serial refusal }
     {
         if self.is_full(serial, lent) {
             return Refusal::Slow;
@@ -196,9 +194,9 @@ impl Domain {
         serial: u32,
         lent: &mut Lent<'_>,
     ) -> Result<Taken, NoMemory>
-        ensures answer { IfOk result (λ t. t ≡ (if is_gone_status (status_in self.old.sessions.items serial) then Taken.Refused Refusal.NotOpen else Taken.Nothing)) }
+        ensures answer { IfOk result (λ t. t ≡ answered_in (records_in self.old lent.old) (event.Gone (number_of self.old) serial)) }
         ensures stays { KeepsBeside self.old lent.old self.new lent.new }
-        ensures made { OnOk result (records_in self.new lent.new ≡ end_in (records_in self.old lent.old) serial) }
+        ensures made { OnOk result (Makes (λ r. end_in r serial) self.old lent.old self.new lent.new) }
     {
         if self.is_gone(serial) {
             return Ok(Taken::Refused(Refusal::NotOpen));
@@ -213,7 +211,7 @@ impl Domain {
     // The program of a session is gone.
     fn go(&mut self, serial: u32, lent: &mut Lent<'_>)
         ensures stays { KeepsBeside self.old lent.old self.new lent.new }
-        ensures made { records_in self.new lent.new ≡ go_in (records_in self.old lent.old) serial }
+        ensures made { Makes (λ r. go_in r serial) self.old lent.old self.new lent.new }
         ensures len { vec_len self.new.groups ≡ vec_len self.old.groups }
     {
         lent.shared.close_outbox(self.config.domain, serial);
@@ -227,9 +225,9 @@ impl Domain {
         most: u32,
         lent: &mut Lent<'_>,
     ) -> Result<Taken, NoMemory>
-        ensures answer { IfOk result (λ t. t ≡ (if is_gone_status (status_in self.old.sessions.items serial) then Taken.Refused Refusal.NotOpen else if is_taken most then Taken.Entries (records_sessions.entries (records_in self.old lent.old) serial most) else Taken.Refused Refusal.OutOfRange)) }
+        ensures answer { IfOk result (λ t. t ≡ answered_in (records_in self.old lent.old) (event.Take (number_of self.old) serial most)) }
         ensures stays { KeepsBeside self.old lent.old self.new lent.new }
-        ensures made { OnOk result (records_in self.new lent.new ≡ took records records_sessions (records_in self.old lent.old) serial most) }
+        ensures made { OnOk result (Makes (λ r. took records records_sessions r serial most) self.old lent.old self.new lent.new) }
     {
         if self.is_gone(serial) {
             return Ok(Taken::Refused(Refusal::NotOpen));
@@ -243,9 +241,9 @@ impl Domain {
 
     // Gives a quota another value, if that is in its range.
     pub(crate) fn set_quota(&mut self, name: QuotaName, value: u32) -> Taken
-        ensures answer { result ≡ (if is_in_range name value then Taken.Nothing else Taken.Refused Refusal.OutOfRange) }
+        ensures answer { result ≡ answered_in (own_records self.old) (event.Quota (number_of self.old) name value) }
         ensures kept { Keeps self.old self.new }
-        ensures made { (o : Outs) (part : Part) → records_of self.new part o ≡ (if is_in_range name value then set_quota_in (records_of self.old part o) name value else records_of self.old part o) }
+        ensures made { MakesAlone (λ r. acted_in r (event.Quota (number_of self.old) name value)) self.old self.new }
     {
         match self.quotas.set(name, value) {
             Ok(()) => Taken::Nothing,

@@ -1,6 +1,7 @@
-ghost use Rattle.std.specs.Prelude.{◌≡◌, false, IfOk, OnOk, if◌then◌else◌, nat_le, [], ◌∷◌, length, take};
+ghost use Rattle.std.specs.Prelude.{◌≡◌, false, IfOk, OnOk, [], ◌∷◌, take};
 ghost use Rattle.cast_timer.specs.Owed.{is_owed};
 ghost use Rattle.cast_types.specs.declared.names.DomainNo.{DomainNo};
+ghost use Rattle.cast_outbox.specs.Pending.{told_at};
 
 use cast_message::{Message, Push};
 use cast_outbox::{Outboxes, Pushed};
@@ -19,7 +20,7 @@ pub struct Shared {
 }
 
 impl Shared {
-    ghost use Rattle.cast_domain.specs.Shared.{LeavesOthers, no_part, part_boxing, part_of, part_pushing, part_taking, part_owing, part_paying, part_paying_upto, part_paying_view, part_renewing, part_with, part_without};
+    ghost use Rattle.cast_domain.specs.Shared.{LeavesOthers, no_part, part_boxing, part_of, part_taking, part_owing, part_paying, part_paying_upto, part_paying_view, part_renewing, part_with, part_without, part_pushing_within};
 
     /// Nothing is kept, nothing is owed, and no outbox is open.
     pub fn new(alloc: Global) -> Self
@@ -129,8 +130,8 @@ impl Shared {
         limit: u32,
         entry: Push,
     ) -> Result<Pushed, NoMemory>
-        ensures value { IfOk result (λ p. p ≡ (if nat_le limit (length ((part_of domain self.old).outboxes serial)) then Pushed.Slow else Pushed.Kept)) }
-        ensures part { OnOk result (part_of domain self.new ≡ part_pushing (part_of domain self.old) serial (if nat_le limit (length ((part_of domain self.old).outboxes serial)) then Push.Closed Refusal.Slow else entry)) }
+        ensures value { IfOk result (λ p. p ≡ told_at limit ((part_of domain self.old).outboxes serial)) }
+        ensures part { OnOk result (part_of domain self.new ≡ part_pushing_within limit (part_of domain self.old) serial entry) }
         ensures others { LeavesOthers domain self.old self.new }
     {
         self.outboxes.push(domain, serial, limit, entry)

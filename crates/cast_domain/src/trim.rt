@@ -10,17 +10,14 @@ use cast_model::Outs;
 use cast_types::{Proc, Uid};
 
 impl Domain {
-    ghost use Rattle.cast_model.specs.declared.event.Outs.{Outs};
-    ghost use Rattle.cast_model.specs.Outs.{no_outs};
-    ghost use Rattle.cast_domain.specs.Records.{Keeps, records_of};
-    ghost use Rattle.cast_domain.specs.Shared.{Part, no_part};
+    ghost use Rattle.cast_domain.specs.Records.{Keeps, own_records, MakesAlone};
     ghost use Rattle.cast_domain.specs.Calls.{record_at};
     ghost use Rattle.cast_domain.specs.Trims.{count_first, is_counted_of, is_over_of, is_past_of, trim_all_in, trim_in};
 
     // Forgets the oldest ids of each group's order that are over. While few are kept that takes no more than to see so.
     pub(crate) fn trim_orders(&mut self, kept: &[Received])
         ensures same { Keeps self.old self.new }
-        ensures made { (o : Outs) (part : Part) → records_of self.new part o ≡ trim_all_in kept.now (records_of self.old part o) }
+        ensures made { MakesAlone (trim_all_in kept.now) self.old self.new }
     {
         for place in 0..self.groups.len() {
             self.trim_order(place, kept);
@@ -32,7 +29,7 @@ impl Domain {
         requires { place < vec_len self.old.groups }
         ensures same { Keeps self.old self.new }
         ensures groups { self.new.groups ≡ self.old.groups }
-        ensures made { (o : Outs) (part : Part) → records_of self.new part o ≡ trim_in kept.now (records_of self.old part o) place }
+        ensures made { MakesAlone (λ r. trim_in kept.now r place) self.old self.new }
     {
         let group = self.record(place).name;
         let over = self.over_first(place, self.orders.oldest(group), kept);
@@ -42,7 +39,7 @@ impl Domain {
     // How many of these ids of the view of the group at a place, the first ones, are over.
     fn over_first(&self, place: usize, ids: &[(Proc, u32)], kept: &[Received]) -> usize
         requires { place < vec_len self.now.groups }
-        ensures { result ≡ count_first (is_over_of (records_of self.now no_part no_outs) (record_at self.now.groups.items place) kept.now) ids.now }
+        ensures { result ≡ count_first (is_over_of (own_records self.now) (record_at self.now.groups.items place) kept.now) ids.now }
     {
         match self.first_to_stay(self.record(place), ids, kept) {
             Some(first) => first,
@@ -57,7 +54,7 @@ impl Domain {
         ids: &[(Proc, u32)],
         kept: &[Received],
     ) -> Option<usize>
-        ensures { result ≡ position (λ e. not (is_over_of (records_of self.now no_part no_outs) group.now kept.now e)) ids.now }
+        ensures { result ≡ position (λ e. not (is_over_of (own_records self.now) group.now kept.now e)) ids.now }
     {
         ids.iter()
             .position(|(proc, count)| !self.is_over(group, *proc, *count, kept))
@@ -65,7 +62,7 @@ impl Domain {
 
     // Whether a message of the view of a group is over: received, kept no longer, and passed by each member here.
     fn is_over(&self, group: &GroupRecord, proc: Proc, count: u32, kept: &[Received]) -> bool
-        ensures { result ≡ is_over_of (records_of self.now no_part no_outs) group.now kept.now (proc, count) }
+        ensures { result ≡ is_over_of (own_records self.now) group.now kept.now (proc, count) }
     {
         self.is_received_of(group, proc, count)
             && !is_kept_among(kept, named(group, proc, count))
@@ -74,14 +71,14 @@ impl Domain {
 
     // Whether each member of a group here is past a message of its view: it has delivered it, and counted it where it sent it.
     fn is_past(&self, group: &GroupRecord, proc: Proc, count: u32) -> bool
-        ensures { result ≡ is_past_of (records_of self.now no_part no_outs) group.now (proc, count) }
+        ensures { result ≡ is_past_of (own_records self.now) group.now (proc, count) }
     {
         0 < count && !self.is_awaited_of(group, proc, count) && self.is_counted(group, proc, count)
     }
 
     // Whether a process has counted so many of its messages of a group, where it is a member of that here.
     fn is_counted(&self, group: &GroupRecord, process: Proc, count: u32) -> bool
-        ensures { result ≡ is_counted_of (records_of self.now no_part no_outs) group.now (process, count) }
+        ensures { result ≡ is_counted_of (own_records self.now) group.now (process, count) }
     {
         if process.site != self.site || !is_member(self.delay.standing(process, group.name)) {
             return true;

@@ -1,9 +1,9 @@
-ghost use Rattle.std.specs.Prelude.{◌≡◌, ◌<◌, ◌++◌, ◌∷◌, [], if◌then◌else◌, IfOk, OnOk, map, filter, vec_len};
+ghost use Rattle.std.specs.Prelude.{◌≡◌, ◌<◌, IfOk, OnOk, vec_len};
 ghost use Rattle.cast_delay.specs.Ready.{is_member};
 ghost use Rattle.std.specs.List.{fold, list_any};
 ghost use Rattle.cast_view.specs.Sites.{is_at};
 ghost use Rattle.cast_history.specs.Rules.Data.{is_outdated};
-ghost use Rattle.cast_history.specs.Rules.Views.{change_view, enter_and_tell, install, on_install, on_out, tell_out, tell_view};
+ghost use Rattle.cast_history.specs.Rules.Views.{change_view, enter_and_tell, install, on_out, tell_out, tell_view};
 
 use crate::domain::Domain;
 use crate::frames::is_named;
@@ -16,14 +16,10 @@ use cast_types::{Counts, GroupNo, Key, NoMemory, Proc, SiteNo, Standing, Uid};
 use cast_view::Verdict;
 
 impl Domain {
-    ghost use Rattle.cast_types.specs.Counts.{CountList};
     ghost use Rattle.cast_types.specs.Names.{proc_eq};
     ghost use Rattle.cast_types.specs.Sets.{is_among};
-    ghost use Rattle.cast_model.specs.declared.event.Outs.{Outs};
-    ghost use Rattle.cast_model.specs.Outs.{no_outs};
-    ghost use Rattle.cast_domain.specs.Records.{Keeps, KeepsBeside, records_in, records_of};
-    ghost use Rattle.cast_domain.specs.Shared.{Part, no_part};
-    ghost use Rattle.cast_domain.specs.Calls.{is_ended_in, is_member_in, is_put_out_in, pass_in, put_out_all_in, put_out_if_in, put_out_in, records, serials_in};
+    ghost use Rattle.cast_domain.specs.Records.{Keeps, KeepsBeside, own_records, Makes, MakesAtAnyCut, MakesAlone, TellsAlone};
+    ghost use Rattle.cast_domain.specs.Calls.{is_ended_in, is_member_in, is_put_out_in, pass_in, put_out_all_in, put_out_if_in, put_out_in, records, serials_put_out, serials_of_members, keys_passing, on_install_in, local_in, added_if};
 
     // Install: answered again where the site knows its number; else completed where the site has no view, and where it skips
     // a view. The Install of the next view of a site that has one waits, unless one does.
@@ -40,7 +36,7 @@ impl Domain {
     ) -> Result<(), NoMemory>
         requires { place < vec_len self.old.groups }
         ensures stays { KeepsBeside self.old lent.old self.new lent.new }
-        ensures made { OnOk result (records_in self.new lent.new ≡ on_install records (records_in self.old lent.old) place from view members.now request cut.now tail.now) }
+        ensures made { OnOk result (Makes (λ r. on_install_in r place from view members.now request cut.now tail.now) self.old lent.old self.new lent.new) }
     {
         if !self.is_from_home(from) {
             return Ok(());
@@ -75,7 +71,7 @@ impl Domain {
     ) -> Result<(), NoMemory>
         requires { place < vec_len self.old.groups }
         ensures stays { KeepsBeside self.old lent.old self.new lent.new }
-        ensures made { OnOk result ((cut : CountList) → records_in self.new lent.new ≡ install records skips (records_in self.old lent.old) place from view members.now request cut) }
+        ensures made { OnOk result (MakesAtAnyCut (λ r. install records skips r place from view members.now request) self.old lent.old self.new lent.new) }
     {
         let group = self.record(place).name;
         self.change_view(skips, place, view, members, request, lent)?;
@@ -93,7 +89,7 @@ impl Domain {
     ) -> Result<(), NoMemory>
         requires { place < vec_len self.old.groups }
         ensures stays { KeepsBeside self.old lent.old self.new lent.new }
-        ensures made { OnOk result (records_in self.new lent.new ≡ on_out records (records_in self.old lent.old) place view) }
+        ensures made { OnOk result (Makes (λ r. on_out records r place view) self.old lent.old self.new lent.new) }
     {
         if self.record(place).here.number() < view {
             let nobody = Members::new(*self.groups.allocator());
@@ -114,7 +110,7 @@ impl Domain {
     ) -> Result<(), NoMemory>
         requires { place < vec_len self.old.groups }
         ensures stays { KeepsBeside self.old lent.old self.new lent.new }
-        ensures made { OnOk result ((cut : CountList) → records_in self.new lent.new ≡ change_view records skips (records_in self.old lent.old) place view members.now request cut) }
+        ensures made { OnOk result (MakesAtAnyCut (λ r. change_view records skips r place view members.now request) self.old lent.old self.new lent.new) }
     {
         let group = self.record(place).name;
         self.enter_and_tell(skips, place, view, members, request, lent)?;
@@ -135,7 +131,7 @@ impl Domain {
     ) -> Result<(), NoMemory>
         requires { place < vec_len self.old.groups }
         ensures stays { KeepsBeside self.old lent.old self.new lent.new }
-        ensures made { OnOk result ((cut : CountList) → records_in self.new lent.new ≡ enter_and_tell records skips (records_in self.old lent.old) place view members.now request cut) }
+        ensures made { OnOk result (MakesAtAnyCut (λ r. enter_and_tell records skips r place view members.now request) self.old lent.old self.new lent.new) }
         ensures len { OnOk result (vec_len self.new.groups ≡ vec_len self.old.groups) }
     {
         let group = self.record(place).name;
@@ -154,7 +150,7 @@ impl Domain {
         skips: bool,
         members: &Members,
     ) -> Result<Vec<u32>, NoMemory>
-        ensures { IfOk result (λ out. out.items ≡ filter (is_put_out_in group skips members.now (records_of self.now no_part no_outs)) (serials_in (records_of self.now no_part no_outs))) }
+        ensures { IfOk result (λ out. out.items ≡ serials_put_out group skips members.now (own_records self.now)) }
     {
         let mut out = Vec::new(*self.groups.allocator());
         for place in 0..self.delay.admitted() {
@@ -174,7 +170,7 @@ impl Domain {
         serial: u32,
         out: &mut Vec<u32>,
     ) -> Result<(), NoMemory>
-        ensures { OnOk result (out.new.items ≡ (if is_put_out_in group skips members.now (records_of self.now no_part no_outs) serial then out.old.items ++ serial ∷ [] else out.old.items)) }
+        ensures { OnOk result (out.new.items ≡ added_if (is_put_out_in group skips members.now (own_records self.now) serial) serial out.old.items) }
     {
         if self.is_put_out(group, skips, members, serial) {
             out.push(serial)?;
@@ -184,7 +180,7 @@ impl Domain {
 
     // The serials of the members here of a group.
     fn serials_of_members(&self, group: GroupNo) -> Result<Vec<u32>, NoMemory>
-        ensures { IfOk result (λ here. here.items ≡ filter (is_member_in (records_of self.now no_part no_outs) group) (serials_in (records_of self.now no_part no_outs))) }
+        ensures { IfOk result (λ here. here.items ≡ serials_of_members (own_records self.now) group) }
     {
         let mut here = Vec::new(*self.groups.allocator());
         for place in 0..self.delay.admitted() {
@@ -197,7 +193,7 @@ impl Domain {
 
     // Adds a serial, if its process is a member of a group.
     fn add_member(&self, group: GroupNo, serial: u32, here: &mut Vec<u32>) -> Result<(), NoMemory>
-        ensures { OnOk result (here.new.items ≡ (if is_member_in (records_of self.now no_part no_outs) group serial then here.old.items ++ serial ∷ [] else here.old.items)) }
+        ensures { OnOk result (here.new.items ≡ added_if (is_member_in (own_records self.now) group serial) serial here.old.items) }
     {
         if is_member(self.delay.standing(self.process(serial), group)) {
             here.push(serial)?;
@@ -214,7 +210,7 @@ impl Domain {
         lent: &mut Lent<'_>,
     ) -> Result<(), NoMemory>
         ensures stays { KeepsBeside self.old lent.old self.new lent.new }
-        ensures made { OnOk result (records_in self.new lent.new ≡ fold (tell_out records group view) (records_in self.old lent.old) serials.now) }
+        ensures made { OnOk result (Makes (λ r. fold (tell_out records group view) r serials.now) self.old lent.old self.new lent.new) }
         ensures len { OnOk result (vec_len self.new.groups ≡ vec_len self.old.groups) }
     {
         for serial in serials {
@@ -233,7 +229,7 @@ impl Domain {
         lent: &mut Lent<'_>,
     ) -> Result<(), NoMemory>
         ensures stays { KeepsBeside self.old lent.old self.new lent.new }
-        ensures made { OnOk result (records_in self.new lent.new ≡ fold (tell_view records group view members.now) (records_in self.old lent.old) serials.now) }
+        ensures made { OnOk result (Makes (λ r. fold (tell_view records group view members.now) r serials.now) self.old lent.old self.new lent.new) }
         ensures len { OnOk result (vec_len self.new.groups ≡ vec_len self.old.groups) }
     {
         for serial in serials {
@@ -252,7 +248,7 @@ impl Domain {
         lent: &mut Lent<'_>,
     ) -> Result<(), NoMemory>
         ensures stays { KeepsBeside self.old lent.old self.new lent.new }
-        ensures made { OnOk result (records_in self.new lent.new ≡ tell_view records group view members.now (records_in self.old lent.old) serial) }
+        ensures made { OnOk result (Makes (λ r. tell_view records group view members.now r serial) self.old lent.old self.new lent.new) }
         ensures len { OnOk result (vec_len self.new.groups ≡ vec_len self.old.groups) }
     {
         let push = Push::View {
@@ -275,7 +271,7 @@ impl Domain {
     ) -> Result<(), NoMemory>
         requires { place < vec_len self.old.groups }
         ensures same { Keeps self.old self.new }
-        ensures made { OnOk result ((o : Outs) (part : Part) → records_of self.new part o ≡ pass_in (records_of self.old part o) place skips view members.now request) }
+        ensures made { OnOk result (MakesAlone (λ r. pass_in r place skips view members.now request) self.old self.new) }
         ensures len { OnOk result (vec_len self.new.groups ≡ vec_len self.old.groups) }
     {
         let group = self.record(place).name;
@@ -292,7 +288,7 @@ impl Domain {
         members: &Members,
     ) -> Result<(), NoMemory>
         ensures same { Keeps self.old self.new }
-        ensures made { OnOk result ((o : Outs) (part : Part) → records_of self.new part o ≡ put_out_all_in group skips members.now (records_of self.old part o)) }
+        ensures made { OnOk result (MakesAlone (put_out_all_in group skips members.now) self.old self.new) }
     {
         for place in 0..self.delay.admitted() {
             if let Some(process) = self.delay.process_at(place) {
@@ -311,7 +307,7 @@ impl Domain {
         serial: u32,
     ) -> Result<(), NoMemory>
         ensures same { Keeps self.old self.new }
-        ensures made { OnOk result ((o : Outs) (part : Part) → records_of self.new part o ≡ put_out_if_in group skips members.now (records_of self.old part o) serial) }
+        ensures made { OnOk result (MakesAlone (λ r. put_out_if_in group skips members.now r serial) self.old self.new) }
     {
         if self.is_put_out(group, skips, members, serial) {
             self.put_out(group, serial)?;
@@ -321,7 +317,7 @@ impl Domain {
 
     // Whether a process is a member that a view lacks, or a member where a view was skipped.
     fn is_put_out(&self, group: GroupNo, skips: bool, members: &Members, serial: u32) -> bool
-        ensures { (o : Outs) (part : Part) → result ≡ is_put_out_in group skips members.now (records_of self.now part o) serial }
+        ensures { TellsAlone (λ r. is_put_out_in group skips members.now r serial) self.now result }
     {
         let process = self.process(serial);
         is_member(self.delay.standing(process, group))
@@ -331,7 +327,7 @@ impl Domain {
     // A member is put out.
     fn put_out(&mut self, group: GroupNo, serial: u32) -> Result<(), NoMemory>
         ensures same { Keeps self.old self.new }
-        ensures made { OnOk result ((o : Outs) (part : Part) → records_of self.new part o ≡ put_out_in group (records_of self.old part o) (record { site = self.old.site; serial = serial })) }
+        ensures made { OnOk result (MakesAlone (λ r. put_out_in group r (local_in r serial)) self.old self.new) }
     {
         let process = self.process(serial);
         self.tell(process, Fact::Standing(group, Standing::Outside))?;
@@ -342,7 +338,7 @@ impl Domain {
     fn release_ended(&mut self, place: usize, lent: &mut Lent<'_>) -> Result<(), NoMemory>
         requires { place < vec_len self.old.groups }
         ensures stays { KeepsBeside self.old lent.old self.new lent.new }
-        ensures made { OnOk result (records_in self.new lent.new ≡ records.release_ended (records_in self.old lent.old) place) }
+        ensures made { OnOk result (Makes (λ r. records.release_ended r place) self.old lent.old self.new lent.new) }
     {
         let ended = self.ended_keys(place, lent.shared.store.kept(self.config.domain))?;
         for key in ended.as_slice() {
@@ -354,7 +350,7 @@ impl Domain {
     // The keys of those among kept messages.
     fn ended_keys(&self, place: usize, kept: &[Received]) -> Result<Vec<Key>, NoMemory>
         requires { place < vec_len self.now.groups }
-        ensures { IfOk result (λ keys. keys.items ≡ map (λ x. x.key) (filter (λ x. is_ended_in (records_of self.now no_part no_outs) place x.message.id) kept.now)) }
+        ensures { IfOk result (λ keys. keys.items ≡ keys_passing (is_ended_in (own_records self.now) place) kept.now) }
     {
         let alloc = *self.groups.allocator();
         kept.iter()
@@ -366,7 +362,7 @@ impl Domain {
     // Whether a message is of a view of the group at a place that has ended.
     fn is_ended(&self, place: usize, id: Uid) -> bool
         requires { place < vec_len self.now.groups }
-        ensures { result ≡ is_ended_in (records_of self.now no_part no_outs) place id }
+        ensures { result ≡ is_ended_in (own_records self.now) place id }
     {
         let record = self.record(place);
         id.group == record.name && id.view < record.here.number()
@@ -375,7 +371,7 @@ impl Domain {
     // Whether a message is of an older view than the one that the group at a place has here, in which its site has no member.
     pub(crate) fn is_outdated(&self, place: usize, from: SiteNo, message: &Message) -> bool
         requires { place < vec_len self.now.groups }
-        ensures { (o : Outs) (part : Part) → result ≡ is_outdated records (records_of self.now part o) place from message.now }
+        ensures { TellsAlone (λ r. is_outdated records r place from message.now) self.now result }
     {
         let here = &self.record(place).here;
         here.view().is_some() && message.id.view < here.number() && !is_at(from, here.members())
