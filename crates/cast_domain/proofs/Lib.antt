@@ -27,6 +27,7 @@ pub mod Ending
 pub mod Turns
 pub mod Rounds
 pub mod SetOrders
+pub mod Resending
 pub mod Resting
 pub mod Standstill
 pub mod Events

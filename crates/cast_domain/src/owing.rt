@@ -1,9 +1,10 @@
 ghost use Rattle.std.specs.Prelude.{◌≡◌, ◌<◌, ◌+◌, IfOk, OnOk, vec_len};
+ghost use Rattle.std.specs.List.{fold};
 ghost use Rattle.std.specs.Option.{option_map};
 ghost use Rattle.cast_message.specs.declared.site.SiteFrame.TheVariants as frame;
 ghost use Rattle.cast_view.specs.MemberSide.{first_asking};
 ghost use Rattle.cast_history.specs.Rules.Keys.{ask_key, home_key, id_in, message_key, want_key};
-ghost use Rattle.cast_history.specs.Rules.Owing.{ask_frame, install_frame, frame_for, frame_of_kind, owe, resend, resend_due, send_for, tick, wanted_view};
+ghost use Rattle.cast_history.specs.Rules.Owing.{ask_frame, install_frame, frame_for, frame_of_kind, owe, resend_due, send_for, tick, wanted_view};
 
 use crate::domain::Domain;
 use crate::lent::Lent;
@@ -239,25 +240,27 @@ impl Domain {
         self.resend_due(lent)
     }
 
-    // Sends all frames that are due again, in their order.
+    // Sends all frames that are due again, in their order, and then owes them all for the next moment: what is sent does not
+    // hang on what is owed.
     fn resend_due(&self, lent: &mut Lent<'_>) -> Result<(), NoMemory>
         ensures back { GivesBack self.now.config.domain lent.old lent.new }
         ensures made { OnOk result (Makes (resend_due records) self.now lent.old self.now lent.new) }
     {
         let now = self.moment.millis();
-        for key in lent.shared.timers.due(self.config.domain, now)? {
-            self.resend(key, lent)?;
-        }
-        Ok(())
+        let keys = lent.shared.timers.due(self.config.domain, now)?;
+        self.send_all(keys, lent)?;
+        lent.shared
+            .renew_due(self.config.domain, now, self.next_due())
     }
 
-    // Sends a frame that is due again.
-    fn resend(&self, key: OwedKey, lent: &mut Lent<'_>) -> Result<(), NoMemory>
+    // Sends the frames that keys stand for, in their order.
+    fn send_all(&self, keys: Vec<OwedKey>, lent: &mut Lent<'_>) -> Result<(), NoMemory>
         ensures back { GivesBack self.now.config.domain lent.old lent.new }
-        ensures made { OnOk result (Makes (λ r. resend records r key) self.now lent.old self.now lent.new) }
+        ensures made { OnOk result (Makes (λ r. fold (send_for records) r keys.items) self.now lent.old self.now lent.new) }
     {
-        self.send_for(&key, lent)?;
-        lent.shared.renew(self.config.domain, key, self.next_due())?;
+        for key in keys {
+            self.send_for(&key, lent)?;
+        }
         Ok(())
     }
 }

@@ -20,7 +20,7 @@ pub struct Shared {
 }
 
 impl Shared {
-    ghost use Rattle.cast_domain.specs.Shared.{LeavesOthers, no_part, part_boxing, part_of, part_taking, part_owing, part_paying, part_paying_upto, part_paying_view, part_renewing, part_with, part_without, part_pushing_within};
+    ghost use Rattle.cast_domain.specs.Shared.{LeavesOthers, no_part, part_boxing, part_of, part_taking, part_owing, part_paying, part_paying_upto, part_paying_view, part_renewing_due, part_with, part_without, part_pushing_within};
 
     /// Nothing is kept, nothing is owed, and no outbox is open.
     pub fn new(alloc: Global) -> Self
@@ -73,12 +73,12 @@ impl Shared {
         Ok(())
     }
 
-    // Owes a frame at another moment.
-    pub(crate) fn renew(&mut self, domain: DomainNo, key: OwedKey, due: u64) -> Result<(), NoMemory>
-        ensures part { OnOk result (part_of domain self.new ≡ part_renewing (part_of domain self.old) key due) }
+    // Owes all frames that are due at a moment for another one.
+    pub(crate) fn renew_due(&mut self, domain: DomainNo, now: u64, due: u64) -> Result<(), NoMemory>
+        ensures part { OnOk result (part_of domain self.new ≡ part_renewing_due (part_of domain self.old) now due) }
         ensures others { LeavesOthers domain self.old self.new }
     {
-        self.timers.renew(domain, key, due)?;
+        self.timers.renew_due(domain, now, due)?;
         Ok(())
     }
 
