@@ -52,8 +52,8 @@ const SECOND: OwedKey = OwedKey {
 enum Step<'a> {
     // A domain owes a frame for a moment, which it did not owe.
     Owes(DomainNo, OwedKey, u64),
-    // It owes the frame for this moment, and for no other any more.
-    Renews(DomainNo, OwedKey, u64),
+    // What it owes that is due at a moment, it owes for this other one.
+    Renews(DomainNo, u64, u64),
     // It owes the frame no more.
     Pays(DomainNo, OwedKey),
     // It owes no more the frames up to this one.
@@ -81,7 +81,7 @@ fn does(timers: &mut Timers, step: Step<'_>) -> Result<bool, NoMemory> {
             }
             timers.owe(domain, key, due)?;
         }
-        Step::Renews(domain, key, due) => timers.renew(domain, key, due)?,
+        Step::Renews(domain, now, due) => timers.renew_due(domain, now, due)?,
         Step::Pays(domain, key) => timers.pay(domain, &key),
         Step::PaysUpto(domain, key) => timers.pay_upto(domain, &key),
         Step::Drops(domain) => timers.drop_domain(domain),
@@ -114,7 +114,7 @@ fn frames_are_due_until_they_are_paid(rt: HostRuntime) -> Result<(), Fail> {
             Step::Owes(HERE, ASK, 200),
             Step::Due(HERE, 149, &[]),
             Step::Due(HERE, 200, &[SECOND, ASK, FIRST]),
-            Step::Renews(HERE, SECOND, 300),
+            Step::Renews(HERE, 150, 300),
             Step::Due(HERE, 299, &[ASK, FIRST]),
             Step::Pays(HERE, ASK),
             Step::Owed(HERE, ASK, false),

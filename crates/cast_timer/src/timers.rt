@@ -5,7 +5,7 @@ ghost use Rattle.cast_types.specs.declared.names.DomainNo.{DomainNo};
 ghost use Rattle.cast_timer.specs.declared.key.Owed.{Owed};
 ghost use Rattle.cast_types.specs.Sets.{with_item};
 ghost use Rattle.cast_types.specs.Places.{update};
-ghost use Rattle.cast_timer.specs.Owed.{owed_cmp, key_eq, with_owed, is_owed, paid, is_of_view, is_upto, renewed, due_frames, due_at, all_renewed};
+ghost use Rattle.cast_timer.specs.Owed.{owed_cmp, key_eq, with_owed, is_owed, paid, is_of_view, is_upto, due_frames, due_at, all_renewed};
 ghost use Rattle.cast_types.specs.Rising.{is_rising};
 ghost use Rattle.cast_timer.specs.Rows.{is_of, row_of, owed_in};
 
@@ -101,20 +101,6 @@ impl Timers {
     {
         if let Some(place) = place_among(&self.rows, domain) {
             pay_view_at(&mut self.rows, place, group);
-        }
-    }
-
-    /// Owes the domain's frame of a key for the moment `due`, in milliseconds, and for no other moment any more.
-    /// `NoMemory` changes nothing.
-    pub fn renew(&mut self, domain: DomainNo, key: OwedKey, due: u64) -> Result<(), NoMemory>
-        ensures own { OnOk result (owed_in self.new domain ≡ renewed (owed_in self.old domain) key due) }
-        ensures err { OnErr result (self.new ≡ self.old) }
-        ensures others { (e : DomainNo) → e ≢ domain → owed_in self.new e ≡ owed_in self.old e }
-    {
-        let frame = Owed { due, key };
-        match place_among(&self.rows, domain) {
-            Some(place) => renew_at(&mut self.rows, place, frame),
-            None => owe_first(&mut self.rows, domain, frame),
         }
     }
 
@@ -228,17 +214,6 @@ fn pay_view_at(rows: &mut Vec<Row>, place: usize, group: GroupNo)
 {
     let row = &mut rows[place];
     row.frames.pay_view(group);
-}
-
-// Owes a frame of the domain of a place for its moment alone. `NoMemory` changes nothing.
-#[tactic(auto, using(cast_types::proofs::Updates::set_update))]
-fn renew_at(rows: &mut Vec<Row>, place: usize, frame: Owed) -> Result<(), NoMemory>
-    requires { place < vec_len rows.old }
-    ensures ok { OnOk result (rows.new.items ≡ update rows.old.items place (λ r. record r { frames = renewed r.frames frame.key frame.due })) }
-    ensures err { OnErr result (rows.new.items ≡ rows.old.items) }
-{
-    let row = &mut rows[place];
-    row.frames.renew(frame)
 }
 
 // Owes all frames of the domain of a place that are due at the moment `now` for the moment `due` alone. `NoMemory`: some
