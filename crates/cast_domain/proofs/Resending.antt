@@ -1,16 +1,22 @@
--- All frames that are due are sent again first, and then owed for another moment: the same as one frame after the other.
-use Rattle.std.proofs.Common.{◌≡◌, ℕ, List, [], ◌∷◌, Option, Some, None, refl, sym, ap, ◌∙◌}
+-- All frames that are due are sent again first, and then owed for another moment: the same as one frame after the other. And
+-- a message is sent to many sites as one frame.
+use Rattle.std.proofs.Common.{◌≡◌, ℕ, true, List, [], ◌∷◌, Option, Some, None, refl, sym, ap, ◌∙◌}
+use Rattle.std.specs.Prelude.{◌==◌}
 use Rattle.std.specs.List.{fold}
-use Rattle.std.specs.Option.{option_map_or, option_and_then}
+use Rattle.std.specs.Option.{option_map, option_map_or, option_and_then}
+use Rattle.std.proofs.lemmas.Bool.{and_parts, false≢true}
+use Rattle.cast_types.specs.declared.names.SiteNo.{SiteNo}
 use Rattle.cast_message.specs.declared.site.SiteFrame.{SiteFrame}
 use Rattle.cast_timer.specs.declared.key.OwedKey.{OwedKey}
 use Rattle.cast_timer.specs.declared.key.OwedKind.{OwedKind}
 use Rattle.cast_timer.specs.declared.key.OwedKind.TheVariants.{Ask, Data, Prepare, Want, Install, Ack}
 use Rattle.cast_timer.specs.declared.key.Side.TheVariants.{Site, Home}
-use Rattle.cast_timer.specs.Owed.{renewed, due_at}
+use Rattle.cast_timer.specs.Owed.{renewed, due_at, kind_rank, key_eq, is_same_message}
+use Rattle.cast_timer.proofs.Owing.{same_key}
 use Rattle.cast_history.specs.Rules.Owing.{frame_of_kind, frame_for, send_for, resend, resend_due}
 use Rattle.cast_domain.specs.Shared.{part_renewing_due}
 use Rattle.cast_domain.specs.Records.{Records}
+use Rattle.cast_domain.specs.Resent.{IsFrameOf}
 use Rattle.cast_domain.specs.Calls.{records, place_in, send_in, note_resent_in, next_due_in}
 
 -- what a frame says does not hang on what is owed
@@ -76,3 +82,51 @@ resent r sent is moment =
     ∙ ap (λ all. fold note_resent_in sent all) same
     ∙ ap (λ s. fold note_resent_in s keys) is
     ∙ one_by_one keys r
+
+-- sending changes nothing that a frame says
+kind_sent : (r : Records) (to : SiteNo) (f : SiteFrame) (x : OwedKey) (h : ℕ) (kind : OwedKind) → frame_of_kind records (send_in r to f) h x kind ≡ frame_of_kind records r h x kind
+kind_sent r to f x h Ask = refl
+kind_sent r to f x h Data = refl
+kind_sent r to f x h Prepare = refl
+kind_sent r to f x h Want = elim x.side as (λ side. frame_of_kind records (send_in r to f) h (record x { side = side }) Want ≡ frame_of_kind records r h (record x { side = side }) Want) [
+  | Site ↦ refl
+  | Home ↦ refl
+]
+kind_sent r to f x h Install = refl
+kind_sent r to f x h Ack = refl
+
+pub frame_sent : (r : Records) (to : SiteNo) (f : SiteFrame) (x : OwedKey) → frame_for records (send_in r to f) x ≡ frame_for records r x
+frame_sent r to f x = elim (place_in r x.group) as (λ o. option_and_then (λ h. frame_of_kind records (send_in r to f) h x x.kind) o ≡ option_and_then (λ h. frame_of_kind records r h x x.kind) o) [
+  | None ↦ refl
+  | Some h ↦ kind_sent r to f x h x.kind
+]
+
+data_of : (kind : OwedKind) → kind_rank kind == 1 ≡ true → kind ≡ Data
+data_of Ask is = absurd (false≢true is)
+data_of Data is = refl
+data_of Prepare is = absurd (false≢true is)
+data_of Want is = absurd (false≢true is)
+data_of Install is = absurd (false≢true is)
+data_of Ack is = absurd (false≢true is)
+
+-- a message says the same to each site
+site_alike : (r : Records) (x : OwedKey) (s : SiteNo) → x.kind ≡ Data → frame_for records r (record x { site = s }) ≡ frame_for records r x
+site_alike r x s is =
+    ap (λ kind. option_and_then (λ h. frame_of_kind records r h (record x { site = s }) kind) (place_in r x.group)) is
+    ∙ ap (λ kind. option_and_then (λ h. frame_of_kind records r h x kind) (place_in r x.group)) (sym is)
+
+pub same_frame : (r : Records) (key other : OwedKey) → is_same_message key other ≡ true → frame_for records r key ≡ frame_for records r other
+same_frame r key other same =
+    let parts = and_parts (kind_rank key.kind == kind_rank Data) (key_eq (record other { site = key.site }) key) same in
+    let is : record other { site = key.site } ≡ key = same_key (record other { site = key.site }) key parts.1 in
+    let kind : other.kind ≡ Data = ap (λ (k : OwedKey). k.kind) is ∙ data_of key.kind parts.0 in
+    ap (frame_for records r) (sym is) ∙ site_alike r other key.site kind
+
+-- what a key stands for, with the key
+pub stands_found : (r : Records) (key : OwedKey) (o : Option SiteFrame) → frame_for records r key ≡ o → IsFrameOf r (option_map (λ x. (key, x)) o)
+stands_found r key None is = cc
+stands_found r key (Some f) is = is
+
+pub found_alone : (key : OwedKey) (o : Option SiteFrame) → option_map (λ (l : OwedKey × SiteFrame). l.1) (option_map (λ x. (key, x)) o) ≡ o
+found_alone key None = refl
+found_alone key (Some f) = refl

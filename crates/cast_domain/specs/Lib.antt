@@ -1,6 +1,7 @@
 pub mod Shared
 pub mod Records
 pub mod Calls
+pub mod Resent
 pub mod Trims
 pub mod Fits
 pub mod Stepped

@@ -1,6 +1,6 @@
 ghost use Rattle.std.specs.Prelude.{◌≡◌, ◌<◌, ◌+◌, IfOk, OnOk, vec_len};
 ghost use Rattle.std.specs.List.{fold};
-ghost use Rattle.std.specs.Option.{option_map};
+ghost use Rattle.std.specs.Option.{option_map, option_map_or};
 ghost use Rattle.cast_message.specs.declared.site.SiteFrame.TheVariants as frame;
 ghost use Rattle.cast_view.specs.MemberSide.{first_asking};
 ghost use Rattle.cast_history.specs.Rules.Keys.{ask_key, home_key, id_in, message_key, want_key};
@@ -111,7 +111,8 @@ fn id_in(view: u32, key: &OwedKey) -> Uid
 
 impl Domain {
     ghost use Rattle.cast_domain.specs.Records.{GivesBack, KeepsBeside, records_in, Makes, TellsAlone};
-    ghost use Rattle.cast_domain.specs.Calls.{message_in, pay_in, record_at, records};
+    ghost use Rattle.cast_domain.specs.Calls.{message_in, pay_in, record_at, records, send_in};
+    ghost use Rattle.cast_domain.specs.Resent.{IsFrameOf};
 
     // Sends a frame, and owes it from then on, unless it is owed already.
     pub(crate) fn owe(&self, key: OwedKey, lent: &mut Lent<'_>) -> Result<(), NoMemory>
@@ -258,9 +259,75 @@ impl Domain {
         ensures back { GivesBack self.now.config.domain lent.old lent.new }
         ensures made { OnOk result (Makes (λ r. fold (send_for records) r keys.items) self.now lent.old self.now lent.new) }
     {
+        let mut last = None;
         for key in keys {
-            self.send_for(&key, lent)?;
+            last = self.send_behind(key, last, lent)?;
         }
         Ok(())
+    }
+
+    // Sends the frame that a key stands for, behind the one that was sent last, and gives it with its key. The keys of a message
+    // that goes to many sites stand next to each other, so that it is looked for once.
+    fn send_behind(
+        &self,
+        key: OwedKey,
+        last: Option<(OwedKey, SiteFrame)>,
+        lent: &mut Lent<'_>,
+    ) -> Result<Option<(OwedKey, SiteFrame)>, NoMemory>
+        requires stands { IsFrameOf (records_in self.now lent.old) last }
+        ensures back { GivesBack self.now.config.domain lent.old lent.new }
+        ensures made { OnOk result (Makes (λ r. send_for records r key) self.now lent.old self.now lent.new) }
+        ensures stands { IfOk result (IsFrameOf (records_in self.now lent.new)) }
+    {
+        let found = self.frame_behind(key, last, lent)?;
+        self.send_found(key.site, &found, lent)?;
+        Ok(found)
+    }
+
+    // The frame that a key stands for, which is mostly the one that was sent last, with its key.
+    fn frame_behind(
+        &self,
+        key: OwedKey,
+        last: Option<(OwedKey, SiteFrame)>,
+        lent: &Lent<'_>,
+    ) -> Result<Option<(OwedKey, SiteFrame)>, NoMemory>
+        requires stands { IsFrameOf (records_in self.now lent.now) last }
+        ensures stands { IfOk result (IsFrameOf (records_in self.now lent.now)) }
+        ensures frame { IfOk result (λ f. option_map (λ l. l.1) f ≡ frame_for records (records_in self.now lent.now) key) }
+    {
+        match last {
+            Some((other, frame)) if key.is_same_message(&other) => Ok(Some((other, frame))),
+            _ => self.frame_with_key(key, lent),
+        }
+    }
+
+    // Sends a frame that was found to a site.
+    fn send_found(
+        &self,
+        to: SiteNo,
+        found: &Option<(OwedKey, SiteFrame)>,
+        lent: &mut Lent<'_>,
+    ) -> Result<(), NoMemory>
+        ensures back { GivesBack self.now.config.domain lent.old lent.new }
+        ensures made { OnOk result (Makes (λ r. option_map_or (λ l. send_in r to l.1) found.now r) self.now lent.old self.now lent.new) }
+    {
+        match found {
+            Some((_, frame)) => self.send(lent.outs, to, frame.copy()?),
+            None => Ok(()),
+        }
+    }
+
+    // The frame that a key stands for, with the key.
+    fn frame_with_key(
+        &self,
+        key: OwedKey,
+        lent: &Lent<'_>,
+    ) -> Result<Option<(OwedKey, SiteFrame)>, NoMemory>
+        ensures { IfOk result (λ f. f ≡ option_map (λ x. (key, x)) (frame_for records (records_in self.now lent.now) key)) }
+    {
+        match self.frame_for(&key, lent)? {
+            Some(frame) => Ok(Some((key, frame))),
+            None => Ok(None),
+        }
     }
 }

@@ -65,6 +65,10 @@ paid test owed = filter (λ o. not (test o.key)) owed
 abbrev pub is_upto : OwedKey → OwedKey → Bool
 is_upto key other = key_eq (record other { count = key.count }) key && nat_le other.count key.count
 
+-- whether both keys are of messages, and of the same one: they differ at most in their sites
+abbrev pub is_same_message : OwedKey → OwedKey → Bool
+is_same_message key other = (kind_rank key.kind == kind_rank Data) && key_eq (record other { site = key.site }) key
+
 -- whether a frame is about a message of the group, as a site owes it: its Data, its Ack or the site's Want
 abbrev pub is_of_messages : OwedKind → Side → Bool
 is_of_messages Ask by = false

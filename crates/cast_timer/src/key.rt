@@ -1,5 +1,5 @@
 ghost use Rattle.std.specs.Prelude.{◌≡◌};
-ghost use Rattle.cast_timer.specs.Owed.{is_of_messages, is_of_view, is_upto};
+ghost use Rattle.cast_timer.specs.Owed.{is_of_messages, is_of_view, is_same_message, is_upto};
 
 use cast_types::{GroupNo, Proc, SiteNo};
 
@@ -41,6 +41,19 @@ pub struct OwedKey {
     pub site: SiteNo,
     /// Who owes it.
     pub side: Side,
+}
+
+impl OwedKey {
+    /// Whether both are of messages, and of the same one, to whichever sites.
+    pub fn is_same_message(&self, other: &OwedKey) -> bool
+        ensures { result ≡ is_same_message self.now other.now }
+    {
+        let here = OwedKey {
+            site: self.site,
+            ..*other
+        };
+        self.kind == OwedKind::Data && here == *self
+    }
 }
 
 // Whether the second key differs from the first at most in its count, and has no higher one.
