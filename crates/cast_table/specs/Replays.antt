@@ -211,6 +211,11 @@ pub record IsReplay (config : Config) (events : List Event) (log : Log) : Type 0
   pub given : AllZip (IsServed config.site events log.answers) served log.given
   pub answers : AreAnswers served events log.answers
 
+-- what the log of a replay says, where no two domains have one number and each names its groups in rising order
+abbrev pub SaysReplay : Config → List Event → Log → Type 0
+SaysReplay config events log =
+    are_distinct config.domains ≡ true → have_rising_groups config.domains ≡ true → IsReplay config events log
+
 -- an event is answered that it names no domain exactly where it names one that is not configured; a tick never is
 abbrev pub TellsNoDomain : List DomainConfig → Event → Result Taken Fault → Type 0
 TellsNoDomain configs event answer = (answer ≡ Err NoDomain) ↔ (finds_domain event configs ≡ false)

@@ -95,6 +95,14 @@ lent table outs = record { shared = table.shared; outs = outs }
 abbrev pub lending : Shared → Outs → List DomainNo → Lent
 lending shared outs halted = record { shared = shared; outs = record outs { halted = halted } }
 
+-- a relation of what is lent before and after, where the halted domains are noted apart
+abbrev pub OnLent : (Lent → Lent → Type 0) → Shared → Outs → List DomainNo → Shared → Outs → List DomainNo → Type 0
+OnLent Related shared before halted later after more = Related (lending shared before halted) (lending later after more)
+
+-- and of a table's domains and what these are lent
+abbrev pub InTable : (List Domain → List Domain → Lent → Lent → Type 0) → Table → Outs → Table → Outs → Type 0
+InTable Related old before new after = Related (domains_of old) (domains_of new) (lent old before) (lent new after)
+
 -- the part of a domain in what is lent
 abbrev pub part_in : Lent → Domain → Part
 part_in l d = part_of (number_of d) l.shared

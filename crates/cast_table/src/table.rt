@@ -1,12 +1,12 @@
-ghost use Rattle.std.specs.Prelude.{◌≡◌, ◌≢◌, ◌<◌, ◌≤◌, ◌+◌, ◌-◌, ◌++◌, [], Err, IfOk, IfSome, None, OnErr, OnOk, length, map, replicate, true, vec_len};
+ghost use Rattle.std.specs.Prelude.{◌≡◌, ◌≢◌, ◌<◌, ◌≤◌, ◌+◌, ◌-◌, ◌++◌, [], Err, IfOk, IfSome, None, OnErr, OnOk, length, map, replicate, vec_len};
 ghost use Rattle.std.specs.List.{AllZip, find, insert};
 ghost use Rattle.std.specs.Option.{option_copied};
 ghost use Rattle.std.specs.Vec.{vec_capacity};
 ghost use Rattle.cast_domain.specs.Copies.{IsCopyOf as IsDomainCopy};
 ghost use Rattle.cast_domain.specs.Records.{number_of};
 ghost use Rattle.cast_model.specs.Events.{domain_of};
-ghost use Rattle.cast_table.specs.Tables.{AreApplied, AreTurns, IsApplied, IsAppliedTo, IsLeastOf, IsNew, IsTicked, IsTurn, IsUnchanged, NotesHalts, NotesOne, SharesNothing, answer_in_turn, by_number, domain_eq, domains_of, halted_by, lending, lent, lower, picked, place_above, place_for, place_named, stopped, without};
-ghost use Rattle.cast_table.specs.Replays.{AddsEntry, AnswersNoDomain, IsReplay, are_distinct, by_session, frames_of, given_of, have_rising_groups, lacks_memory, of_domain, untagged};
+ghost use Rattle.cast_table.specs.Tables.{AreApplied, AreTurns, IsApplied, IsAppliedTo, IsLeastOf, IsNew, IsTicked, IsTurn, IsUnchanged, NotesHalts, NotesOne, SharesNothing, answer_in_turn, by_number, domain_eq, domains_of, halted_by, lower, picked, place_above, place_for, place_named, stopped, without, OnLent, InTable};
+ghost use Rattle.cast_table.specs.Replays.{AddsEntry, AnswersNoDomain, by_session, frames_of, given_of, lacks_memory, of_domain, untagged, SaysReplay};
 ghost use Rattle.cast_table.specs.Copies.{IsCopyOf};
 ghost use Rattle.cast_table.specs.Shows.{ShowsGroups, ShowsHistory, groups_at, shown_at};
 
@@ -62,7 +62,7 @@ impl Table {
     /// halted is left as it is, and where one finds no memory the others go on. What is sent, delivered and pushed, and
     /// each domain that is halted, is added to `outs`.
     pub fn apply(&mut self, event: &Event, outs: &mut Outs) -> Result<Taken, Fault>
-        ensures applied { IsApplied result event.now (domains_of self.old) (domains_of self.new) (lent self.old outs.old) (lent self.new outs.new) }
+        ensures applied { InTable (IsApplied result event.now) self.old outs.old self.new outs.new }
         ensures unchanged { IsUnchanged result self.old self.new outs.old outs.new }
         ensures halted { NotesHalts result event.now (domains_of self.old) (domains_of self.new) outs.old.halted outs.new.halted }
     {
@@ -105,7 +105,7 @@ impl Table {
         event: &Event,
         outs: &mut Outs,
     ) -> Result<Taken, Fault>
-        ensures applied { IsAppliedTo (Some number) result event.now (domains_of self.old) (domains_of self.new) (lent self.old outs.old) (lent self.new outs.new) }
+        ensures applied { InTable (IsAppliedTo (Some number) result event.now) self.old outs.old self.new outs.new }
         ensures unchanged { IsUnchanged result self.old self.new outs.old outs.new }
         ensures halted { NotesOne result number outs.old.halted outs.new.halted }
     {
@@ -124,7 +124,7 @@ impl Table {
     // Makes the steps of all domains in turn: the event is a tick.
     fn apply_to_all(&mut self, event: &Event, outs: &mut Outs) -> Result<Taken, Fault>
         requires { domain_of event.now ≡ None }
-        ensures applied { IsTicked result event.now (domains_of self.old) (domains_of self.new) (lent self.old outs.old) (lent self.new outs.new) }
+        ensures applied { InTable (IsTicked result event.now) self.old outs.old self.new outs.new }
         ensures unchanged { IsUnchanged result self.old self.new outs.old outs.new }
         ensures halted { outs.new.halted ≡ outs.old.halted ++ stopped (domains_of self.old) (domains_of self.new) }
     {
@@ -218,7 +218,7 @@ fn turn(
     halted: &mut Vec<DomainNo>,
 ) -> Result<Taken, Fault>
     requires { length halted.old.items < vec_capacity halted.old }
-    ensures turn { IsTurn result event.now domain.old domain.new (lending shared.old outs.old halted.old.items) (lending shared.new outs.new halted.new.items) }
+    ensures turn { OnLent (IsTurn result event.now domain.old domain.new) shared.old outs.old halted.old.items shared.new outs.new halted.new.items }
     ensures begun { result ≢ Err Fault.NoMemory }
     ensures unnamed { domain_of event.now ≡ None → result ≡ answer_in_turn domain.old domain.new }
     ensures noted { halted.new.items ≡ halted.old.items ++ halted_by result }
@@ -244,7 +244,7 @@ fn turns(
 )
     requires unnamed { domain_of event.now ≡ None }
     requires room { length halted.old.items + vec_len domains.old ≤ vec_capacity halted.old }
-    ensures turns { AreTurns event.now domains.old.items domains.new.items (lending shared.old outs.old halted.old.items) (lending shared.new outs.new halted.new.items) }
+    ensures turns { OnLent (AreTurns event.now domains.old.items domains.new.items) shared.old outs.old halted.old.items shared.new outs.new halted.new.items }
     ensures noted { halted.new.items ≡ halted.old.items ++ stopped domains.old.items domains.new.items }
 {
     for domain in domains.iter_mut() {
@@ -278,7 +278,7 @@ fn lower(least: Option<DomainNo>, number: DomainNo) -> DomainNo
 /// to begin with, or the log has no room.
 pub fn replay(alloc: Global, config: Config, events: &[Event]) -> Result<Log, NoMemory>
     ensures all { IfOk result (λ log. length log.answers ≡ length events.now) }
-    ensures replayed { IfOk result (λ log. are_distinct config.domains ≡ true → have_rising_groups config.domains ≡ true → IsReplay config events.now log) }
+    ensures replayed { IfOk result (SaysReplay config events.now) }
     ensures no_domain { IfOk result (λ log. AnswersNoDomain config events.now log) }
 {
     let mut table = Table::new(alloc, &config)?;
@@ -296,7 +296,7 @@ fn apply_each(
     events: &[Event],
     outs: &mut Outs,
 ) -> Result<Listed<Result<Taken, Fault>>, NoMemory>
-    ensures { IfOk result (λ all. AreApplied all events.now (domains_of table.old) (domains_of table.new) (lent table.old outs.old) (lent table.new outs.new)) }
+    ensures { IfOk result (λ all. InTable (AreApplied all events.now) table.old outs.old table.new outs.new) }
 {
     let mut answers = Listed::new(alloc);
     for event in events {
