@@ -3,7 +3,8 @@ use Rattle.std.specs.List.{find, position_from}
 use Rattle.std.specs.Prelude.{◌++◌, ◌==◌, Bool, Contains, List, Option, Some, [], false, filter, if◌then◌else◌, map, true, ℕ, ◌∷◌, ◌≡◌}
 use Rattle.cast_domain.specs.Fits.{Means}
 use Rattle.cast_domain.specs.Records.{is_halted, number_of}
-use Rattle.cast_domain.specs.Shared.{part_of}
+use Rattle.cast_domain.specs.Shared.{no_part, part_of}
+use Rattle.cast_domain.specs.declared.domain.Domain.{Domain}
 use Rattle.cast_history.specs.Run.{IsStep}
 use Rattle.cast_history.specs.State.{State}
 use Rattle.cast_message.specs.declared.site.SiteFrame.{SiteFrame}
@@ -18,7 +19,7 @@ use Rattle.cast_types.specs.declared.names.DomainNo.{DomainNo}
 use Rattle.cast_types.specs.declared.names.Proc.{Proc}
 use Rattle.cast_types.specs.declared.names.SiteNo.{SiteNo}
 use Rattle.cast_types.specs.declared.names.Uid.{Uid}
-use Rattle.cast_world.specs.Network.{Becomes, Happens, Leads, Network, event_at}
+use Rattle.cast_world.specs.Network.{Becomes, Happens, Leads, Network, event_at, start}
 use Rattle.cast_world.specs.declared.step.Happening.TheVariants.{Local, Sent}
 use Rattle.cast_world.specs.declared.step.Packet.{Packet}
 use Rattle.cast_world.specs.declared.step.Step.{Step}
@@ -62,10 +63,20 @@ pub record StandsFor (world : World) (w : Network) : Type 0 where
   pub daemons : (s : SiteNo) (d : Daemon) → daemon_at s (daemons_of world) ≡ Some d → StandsAt d (w.at s)
   pub idle : (s : SiteNo) (k : ℕ) → is_among site_eq s w.sites ≡ false → ((w.at s).process k).delivered ≡ []
 
+-- a daemon with this domain at a site, before its first event: nothing is shared, and nothing was delivered
+abbrev pub IsNew : SiteNo → Domain → Daemon → Type 0
+IsNew site domain daemon =
+    (daemon.site ≡ site) × (daemon.domain ≡ domain) × ((d : DomainNo) → part_of d daemon.shared ≡ no_part) × (daemon.delivered ≡ [])
+
 -- each of these configurations has one domain: the one that the site has
 abbrev pub AreSolo : List Config → (SiteNo → DomainConfig) → Type 0
 AreSolo configs config =
     (c : Config) → Contains configs c → (c.domains ≡ config c.site ∷ []) × (is_rising group_cmp (config c.site).groups ≡ true)
+
+-- daemons of such configurations stand for the network in which nothing has happened
+abbrev pub StandsAtStart : List Config → World → Type 0
+StandsAtStart configs world =
+    (config : SiteNo → DomainConfig) → AreSolo configs config → StandsFor world (start (map (λ c. c.site) configs) config)
 
 -- what a site sends is on the network
 abbrev pub sent_from : SiteNo → List (SiteNo × SiteFrame) → List Packet

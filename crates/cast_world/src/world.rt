@@ -1,11 +1,7 @@
 ghost use Rattle.std.specs.Prelude.{◌≡◌, ◌++◌, ◌<◌, ◌==◌, [], true, false, Some, IfSome, IfOk, OnOk, OnErr, if◌then◌else◌, length, map, vec_len};
-ghost use Rattle.cast_types.specs.declared.names.DomainNo.{DomainNo};
-ghost use Rattle.cast_types.specs.declared.names.SiteNo.{SiteNo};
-ghost use Rattle.cast_model.specs.declared.config.DomainConfig.{DomainConfig};
 ghost use Rattle.cast_domain.specs.Records.{number_of};
-ghost use Rattle.cast_domain.specs.Shared.{no_part, part_of};
-ghost use Rattle.cast_world.specs.Network.{Network, is_local, names, start};
-ghost use Rattle.cast_world.specs.Worlds.{Acts, AreSolo, Hands, Runs, Serves, ServesAt, StandsFor, Takes, delivered_at, has_failed, ids_of, place_named, sent_from};
+ghost use Rattle.cast_world.specs.Network.{Network, is_local, names};
+ghost use Rattle.cast_world.specs.Worlds.{Acts, Hands, Runs, Serves, ServesAt, StandsFor, Takes, delivered_at, has_failed, ids_of, place_named, sent_from, IsNew, StandsAtStart};
 
 use crate::step::{Happening, Packet, Step};
 use cast_domain::{Domain, Shared};
@@ -26,7 +22,7 @@ struct Daemon {
 impl Daemon {
     /// A daemon before its first event.
     fn new(alloc: Global, site: SiteNo, domain: Domain) -> Self
-        ensures { (result.site ≡ site) × (result.domain ≡ domain) × ((d : DomainNo) → part_of d result.shared ≡ no_part) × (result.delivered ≡ []) }
+        ensures { IsNew site domain result }
     {
         Daemon {
             site,
@@ -69,7 +65,7 @@ pub struct World {
 impl World {
     /// A daemon for each of these configurations, before its first event: at its site, and of its first domain. One without a domain has none.
     pub fn new(alloc: Global, configs: &[Config]) -> Result<Self, NoMemory>
-        ensures { IfOk result (λ world. (config : SiteNo → DomainConfig) → AreSolo configs.now config → StandsFor world (start (map (λ c. c.site) configs.now) config)) }
+        ensures { IfOk result (StandsAtStart configs.now) }
     {
         let mut daemons = Vec::new(alloc);
         for config in configs {
