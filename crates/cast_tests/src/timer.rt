@@ -47,6 +47,19 @@ const SECOND: OwedKey = OwedKey {
     side: Side::Site,
 };
 
+// The first one again, to another site.
+const FIRST_BESIDE: OwedKey = OwedKey {
+    kind: OwedKind::Data,
+    group: GroupNo(7),
+    proc: Proc {
+        site: SiteNo(1),
+        serial: 3,
+    },
+    count: 1,
+    site: SiteNo(4),
+    side: Side::Site,
+};
+
 // What is done with the timers, and what is to be seen of them.
 #[derive(Clone, Copy)]
 enum Step<'a> {
@@ -64,6 +77,8 @@ enum Step<'a> {
     Due(DomainNo, u64, &'a [OwedKey]),
     // Whether a domain owes a frame.
     Owed(DomainNo, OwedKey, bool),
+    // Whether two keys are of one message.
+    Same(OwedKey, OwedKey, bool),
 }
 
 // Whether these frames of a domain are due at a moment, in this order.
@@ -89,6 +104,7 @@ fn does(timers: &mut Timers, step: Step<'_>) -> Result<bool, NoMemory> {
         Step::Owed(domain, key, is_owed) => {
             return Ok(timers.is_owed(domain, &key) == is_owed);
         }
+        Step::Same(key, other, is_same) => return Ok(key.is_same_message(&other) == is_same),
     }
     Ok(true)
 }
@@ -123,6 +139,8 @@ fn frames_are_due_until_they_are_paid(rt: HostRuntime) -> Result<(), Fail> {
             Step::Owed(THERE, FIRST, true),
             Step::Drops(THERE),
             Step::Owed(THERE, FIRST, false),
+            Step::Same(FIRST, FIRST_BESIDE, true),
+            Step::Same(FIRST, SECOND, false),
         ],
     )
 }
