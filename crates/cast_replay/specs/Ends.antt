@@ -15,15 +15,23 @@ use Rattle.cast_replay.specs.declared.run.RunFault.{RunFault}
 use Rattle.cast_replay.specs.declared.run.RunFault.TheVariants.{Unreadable, BadLine, NoMemory}
 use Rattle.cast_replay.specs.Shown.{Shows}
 
--- in the text of its log, or in why it has none. Where memory ran out the bytes are a text, of which nothing more is said
-abbrev pub Ends : List ℕ → Result (List ℕ) RunFault → Type 0
+-- an end: the text of the log, or why there is none
+abbrev pub End : Type 0
+End = Result (List ℕ) RunFault
+
+-- the bytes of a file, or none where it could not be read
+abbrev pub Reading : Type 0
+Reading = Option (List ℕ)
+
+-- where memory ran out the bytes are a text, of which nothing more is said
+abbrev pub Ends : List ℕ → End → Type 0
 Ends bytes (Ok text) = IsUtf8 bytes × Shows bytes text
 Ends bytes (Err Unreadable) = ¬ (IsUtf8 bytes)
 Ends bytes (Err (BadLine line reason)) = IsUtf8 bytes × (script_of bytes ≡ Err (line, reason))
 Ends bytes (Err NoMemory) = IsUtf8 bytes
 
--- the same of a file, which has these bytes, or could not be read
-abbrev pub EndsOn : Option (List ℕ) → Result (List ℕ) RunFault → Type 0
+-- the same of a file
+abbrev pub EndsOn : Reading → End → Type 0
 EndsOn (Some bytes) end = Ends bytes end
 EndsOn None end = (end ≡ Err Unreadable) ⊎ (end ≡ Err NoMemory)
 
@@ -38,14 +46,14 @@ faulted (script.At line reason) = BadLine line reason
 faulted script.NoMemory = NoMemory
 
 -- the status of the program
-abbrev pub status_of : Result (List ℕ) RunFault → ℕ
+abbrev pub status_of : End → ℕ
 status_of (Ok text) = 0
 status_of (Err Unreadable) = 3
 status_of (Err (BadLine line reason)) = 4
 status_of (Err NoMemory) = 5
 
 -- what it prints
-abbrev pub output_of : Result (List ℕ) RunFault → List ℕ
+abbrev pub output_of : End → List ℕ
 output_of (Ok text) = text
 output_of (Err fault) = []
 
@@ -61,14 +69,14 @@ IsTold old new bytes Failed = Appends old new bytes ⊎ (WrotePart old new bytes
 
 -- the writer of errors was told of an end: nothing of a log, and of a fault what is said of it, or that memory ran out where
 -- there was none to say it
-abbrev pub IsToldOf : Option (List ℕ) → Option (List ℕ) → List ℕ → Result (List ℕ) RunFault → Type 0 → Type 0
+abbrev pub IsToldOf : Option (List ℕ) → Option (List ℕ) → List ℕ → End → Type 0 → Type 0
 IsToldOf old new name (Ok text) Failed = IsTold old new [] Failed
 IsToldOf old new name (Err fault) Failed = IsTold old new (fault_text name fault) Failed ⊎ IsTold old new (fault_text name NoMemory) Failed
 
 -- the program had this end: its status says so, its log was written, and the writer of errors was told; contents say what each
 -- writer holds, before and after
 abbrev pub IsEnd : {O E : Type 0} → (O → Option (List ℕ)) → Watched O → Watched O → (E → Option (List ℕ)) → Watched E → Watched E
-    → List ℕ → ℕ → Result (List ℕ) RunFault → Type 0
+    → List ℕ → ℕ → End → Type 0
 IsEnd out_contents out out_now err_contents err err_now name status end =
     (status ≡ status_of end)
     × IsTold (out_contents out.device) (out_contents out_now.device) (output_of end) (HasFailedOrStalled out_now)

@@ -1,10 +1,9 @@
-ghost use Rattle.std.specs.Prelude.{◌≡◌, ◌≢◌, ℕ, List, [], Option, IfOk, IfErr, Err};
+ghost use Rattle.std.specs.Prelude.{◌≡◌, ◌≢◌, [], IfOk, IfErr, Err};
 ghost use Rattle.std.specs.Str.{IsUtf8};
 ghost use Rattle.std.specs.String.{string_bytes};
-ghost use Rattle.std.specs.declared.result.Result.{Result};
 ghost use Rattle.cast_device.specs.Watching.{HasFailedOrStalled};
 ghost use Rattle.cast_script.specs.declared.script.ScriptFault.{ScriptFault};
-ghost use Rattle.cast_replay.specs.Ends.{Ends, EndsAs, EndsOn, IsEnd, IsTold, IsToldOf, fault_text, faulted, status_of};
+ghost use Rattle.cast_replay.specs.Ends.{Ends, EndsAs, EndsOn, IsEnd, IsTold, IsToldOf, fault_text, faulted, status_of, End, Reading};
 ghost use Rattle.cast_replay.specs.declared.run.RunFault.TheVariants.{NoMemory, Unreadable};
 
 use cast_device::{Watched, write_whole};
@@ -127,7 +126,7 @@ pub fn run_script<O: Write, E: Write>(
     err: &mut Watched<E>,
 ) -> u8
     // The log, the status and the errors are those of one end.
-    ensures ended { (end : Result (List ℕ) RunFault) × Ends bytes.now end × IsEnd O.contents out.old out.new E.contents err.old err.new name.now result end }
+    ensures ended { (end : End) × Ends bytes.now end × IsEnd O.contents out.old out.new E.contents err.old err.new name.now result end }
     // And no writer is called that has nothing to write.
     ensures done { result ≡ 0 → err.new.device ≡ err.old.device }
     ensures failed { result ≢ 0 → out.new.device ≡ out.old.device }
@@ -152,7 +151,7 @@ pub fn replay_file<R: Files + AllocGlobal, O: Write, E: Write>(
     err: &mut Watched<E>,
 ) -> u8
     // There are bytes, of which all that was written is the end; or they cannot be read, and that was said.
-    ensures ended { (read : Option (List ℕ)) × (end : Result (List ℕ) RunFault) × EndsOn read end × IsEnd O.contents out.old out.new E.contents err.old err.new name.now result end }
+    ensures ended { (read : Reading) × (end : End) × EndsOn read end × IsEnd O.contents out.old out.new E.contents err.old err.new name.now result end }
     ensures done { result ≡ 0 → err.new.device ≡ err.old.device }
     ensures failed { result ≢ 0 → out.new.device ≡ out.old.device }
 {
