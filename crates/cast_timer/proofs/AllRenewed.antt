@@ -8,7 +8,7 @@ use Rattle.std.specs.Ordering.{is_lt}
 use Rattle.std.specs.Map.{lookup}
 use Rattle.std.specs.BTreeSet.{BTreeSet, IsFromIterResult}
 use Rattle.std.specs.BTreeMap.{is_at}
-use Rattle.std.proofs.lemmas.Bool.{and_parts, and_from, cases_Bool, eq-eqb, false≢true}
+use Rattle.std.proofs.lemmas.Bool.{and_parts, and_from, cases_Bool, eq-eqb, false≢true, or_right}
 use Rattle.std.proofs.lemmas.Cmp.{tied_itself}
 use Rattle.std.proofs.lemmas.Option.{none-some, same_Some}
 use Rattle.std.proofs.lemmas.Map.Made.{lookup-map_values}
@@ -23,10 +23,6 @@ use Rattle.cast_timer.specs.contracts.key.OwedKeyOrd.TheImpl as keys
 use Rattle.cast_timer.proofs.Derived.{owed_order}
 use Rattle.cast_timer.proofs.Orders.{owed_total, before}
 use Rattle.cast_timer.proofs.Index.{same_frame, frame_itself, frame_tests, looked_up, has_kept, index_renewed, owed_by}
-
-later : (a b : Bool) → b ≡ true → (a || b) ≡ true
-later true b h = refl
-later false b h = h
 
 either : (a b : Bool) → (a || b) ≡ true → a ≡ false → b ≡ true
 either true b h other = absurd (false≢true (sym other))
@@ -77,13 +73,13 @@ same_rising (o ∷ os) (p ∷ ps) rising rises to from =
     rest_to : o ≡ p → before o os ≡ true → (q : Owed) → has os q ≡ true → has ps q ≡ true
     rest_to one above q there = elim (cases_Bool (frame_eq q p)) [
       | inl this ↦ absurd (apart o q (not_among o q os above there) (one ∙ sym (same_frame q p this)))
-      | inr other ↦ either (frame_eq q p) (has ps q) (to q (later (frame_eq q o) (has os q) there)) other
+      | inr other ↦ either (frame_eq q p) (has ps q) (to q (or_right (frame_eq q o) (has os q) there)) other
     ]
 
     rest_from : o ≡ p → before p ps ≡ true → (q : Owed) → has ps q ≡ true → has os q ≡ true
     rest_from one over q there = elim (cases_Bool (frame_eq q o)) [
       | inl this ↦ absurd (apart p q (not_among p q ps over there) (sym one ∙ sym (same_frame q o this)))
-      | inr other ↦ either (frame_eq q o) (has os q) (from q (later (frame_eq q p) (has ps q) there)) other
+      | inr other ↦ either (frame_eq q o) (has os q) (from q (or_right (frame_eq q p) (has ps q) there)) other
     ]
 
 -- so one map goes with one list of frames
@@ -195,7 +191,7 @@ owes_by f (e ∷ es) key t some =
       | inl this ↦
           let at : f e.1 ≡ t = same_Some (f e.1) t (sym (ap (λ b. option_map f (cond b (Some e.1) (due_of es key))) this) ∙ some) in
           ap (λ b. b || rest) (and_from (t == f e.1) (key_eq key e.0) (eq-eqb t (f e.1) (sym at)) this)
-      | inr other ↦ later (frame_eq o (framed f e)) rest (owes_by f es key t (sym (ap (λ b. option_map f (cond b (Some e.1) (due_of es key))) other) ∙ some))
+      | inr other ↦ or_right (frame_eq o (framed f e)) rest (owes_by f es key t (sym (ap (λ b. option_map f (cond b (Some e.1) (due_of es key))) other) ∙ some))
     ]
 
 found_by : (es : List (OwedKey × ℕ)) → All (λ e. lookup (is_at (keys.cmp-value.it e.0)) es ≡ Some e.1) es → All (λ e. due_of es e.0 ≡ Some e.1) es
