@@ -1,12 +1,11 @@
 -- A map of moments goes with the frames that are owed: what is put, taken out and looked up in both says the same.
 use Rattle.std.proofs.Common.{◌≡◌, ℕ, Bool, true, false, not, cond, ◌&&◌, ◌||◌, List, [], ◌∷◌, ◌++◌, filter, Ordering, Less, Equal, Greater, Option, Some, None, refl, sym, ap, ◌∙◌, append_assoc, append-nil, inl, inr, arith}
-use Rattle.std.specs.Prelude.{◌==◌, is_some, length, map, nat_le, ◌<◌, ◌≤◌, IsTrue}
+use Rattle.std.specs.Prelude.{◌==◌, is_some, length, map, nat_le, ◌<◌, ◌≤◌}
 use Rattle.std.specs.List.{list_any, list_all}
 use Rattle.std.specs.Ordering.{is_eq, is_gt, is_le, is_lt, match_ordering, nat_cmp, ordering_then, ordering_reverse}
 use Rattle.std.specs.Set.{remove_key}
 use Rattle.std.specs.BTreeMap.{is_at}
 use Rattle.std.specs.BTreeMap.Range.{entries_between, range_contains}
-use Rattle.std.specs.declared.ops.Bound.{Bound}
 use Rattle.std.specs.declared.ops.Bound.TheVariants.{Included}
 use Rattle.std.specs.BTreeSet.{insert_key}
 use Rattle.std.specs.Map.{lookup}
@@ -21,7 +20,7 @@ use Rattle.cast_types.specs.Rising.{is_rising}
 use Rattle.cast_types.proofs.Rising.{rising-with_item, rising_kept, all_kept}
 use Rattle.cast_timer.specs.declared.key.OwedKey.{OwedKey}
 use Rattle.cast_timer.specs.declared.key.Owed.{Owed}
-use Rattle.cast_timer.specs.Owed.{kind_rank, side_rank, key_cmp, owed_cmp, key_eq, is_owed, paid, is_upto, renewed, with_owed, due_frames, due_at}
+use Rattle.cast_timer.specs.Owed.{kind_rank, side_rank, key_cmp, owed_cmp, key_eq, is_owed, paid, is_upto, renewed, due_frames, due_at}
 use Rattle.cast_timer.specs.Index.{frame_eq, has, due_of, IsIndex}
 use Rattle.cast_timer.specs.contracts.key.OwedOrd.TheImpl as owed
 use Rattle.cast_timer.specs.contracts.key.OwedKeyOrd.TheImpl as keys

@@ -1,4 +1,4 @@
-use Rattle.std.proofs.Common.{rules, ◌≡◌, true, ap, sym, ◌∙◌, ◌++◌}
+use Rattle.std.proofs.Common.{ap, sym, ◌∙◌, ◌++◌}
 use Rattle.std.specs.Prelude.{nat_le}
 use Rattle.cast_types.proofs.Rising.{rising_kept}
 use Rattle.cast_timer.specs.Owed.{owed_cmp, due_at}

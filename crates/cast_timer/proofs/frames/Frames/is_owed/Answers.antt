@@ -1,4 +1,4 @@
-use Rattle.std.proofs.Common.{◌≡◌, ℕ, Option, ap, ◌∙◌}
+use Rattle.std.proofs.Common.{ℕ, Option, ap, ◌∙◌}
 use Rattle.std.specs.Prelude.{is_some}
 use Rattle.cast_timer.specs.Index.{due_of}
 use Rattle.cast_timer.proofs.Index.{looked_up, owed_by}

@@ -1,5 +1,5 @@
-use Rattle.std.proofs.Common.{◌≡◌, rules, None, ◌∙◌, sym}
-use Rattle.cast_timer.specs.Owed.{key_eq, paid}
+use Rattle.std.proofs.Common.{None, ◌∙◌, sym}
+use Rattle.cast_timer.specs.Owed.{key_eq}
 use Rattle.cast_timer.specs.Index.{due_of}
 use Rattle.cast_timer.proofs.Index.{looked_up, moved, paid_one, paid_lacking, index_paid}
 use Rattle.cast_timer.proofs.frames.Frames.pay.Goals as goal

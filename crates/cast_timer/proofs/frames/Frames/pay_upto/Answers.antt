@@ -1,4 +1,4 @@
-use Rattle.std.proofs.Common.{rules, ◌≡◌, ◌<◌, ◌∙◌, List, length, ap, sym, subst}
+use Rattle.std.proofs.Common.{◌<◌, ◌∙◌, List, length, ap, sym, subst}
 use Rattle.cast_timer.specs.declared.key.Owed.{Owed}
 use Rattle.cast_timer.specs.Owed.{is_upto, paid}
 use Rattle.cast_timer.proofs.Index.{paid_again, paid_fewer}

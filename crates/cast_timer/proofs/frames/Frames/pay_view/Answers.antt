@@ -1,7 +1,6 @@
-use Rattle.std.proofs.Common.{◌≡◌, rules, not, List, filter, ap, ◌∙◌, refl}
+use Rattle.std.proofs.Common.{◌≡◌, rules, not, filter, ap, ◌∙◌}
 use Rattle.std.proofs.lemmas.Fn.{filter_same}
 use Rattle.std.proofs.lemmas.Map.Made.{filter_same_pairs}
-use Rattle.cast_timer.specs.declared.key.OwedKey.{OwedKey}
 use Rattle.cast_timer.specs.Owed.{is_of_view, paid}
 use Rattle.cast_timer.specs.Index.{due_of}
 use Rattle.cast_timer.proofs.Index.{looked_kept, index_paid}

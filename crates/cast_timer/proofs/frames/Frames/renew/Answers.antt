@@ -1,4 +1,4 @@
-use Rattle.std.proofs.Common.{◌≡◌, ℕ, rules, Some, None, ◌∙◌, sym, ap, List}
+use Rattle.std.proofs.Common.{Some, ◌∙◌, sym, ap, List}
 use Rattle.std.specs.Set.{remove_key}
 use Rattle.std.specs.BTreeMap.{is_at}
 use Rattle.std.proofs.lemmas.Bool.{false_from_ne_true, eqb-true}
