@@ -52,27 +52,39 @@ fn command<'a>(alloc: Global) -> Result<Command<'a>, clap::Error> {
 
 // The words of `serve`.
 fn serve_command<'a>(alloc: Global) -> Result<Command<'a>, clap::Error> {
-    let config = Arg::new(alloc, "CONFIG")
-        .help("The configuration")
-        .required(true)
-        .action(ArgAction::Set);
-    let site = Arg::new(alloc, "site")
-        .long("site")
-        .help("The number of the own site")
-        .required(true)
-        .value_parser(value_parser!(u16).range(1..65_536));
-    let workers = Arg::new(alloc, "workers")
-        .long("workers")
-        .help("How many threads serve, 1 to 64")
-        .default_value("4")
-        .value_parser(value_parser!(u8).range(1..65));
     Ok(
         Command::new(alloc, "serve")
             .about("Runs the daemon of a site")
-            .arg(config)?
-            .arg(site)?
-            .arg(workers)?,
+            .arg(config_argument(alloc))?
+            .arg(site_argument(alloc))?
+            .arg(workers_argument(alloc))?,
     )
+}
+
+// The name of a configuration.
+fn config_argument<'a>(alloc: Global) -> Arg<'a> {
+    Arg::new(alloc, "CONFIG")
+        .help("The configuration")
+        .required(true)
+        .action(ArgAction::Set)
+}
+
+// The number of the own site.
+fn site_argument<'a>(alloc: Global) -> Arg<'a> {
+    Arg::new(alloc, "site")
+        .long("site")
+        .help("The number of the own site")
+        .required(true)
+        .value_parser(value_parser!(u16).range(1..65_536))
+}
+
+// How many threads serve.
+fn workers_argument<'a>(alloc: Global) -> Arg<'a> {
+    Arg::new(alloc, "workers")
+        .long("workers")
+        .help("How many threads serve, 1 to 64")
+        .default_value("4")
+        .value_parser(value_parser!(u8).range(1..65))
 }
 
 // What these words say.
