@@ -20,7 +20,7 @@ use Rattle.cast_domain.specs.Records.{number_of, is_halted}
 use Rattle.cast_domain.specs.Shared.{part_of, LeavesOthers}
 use Rattle.cast_domain.proofs.Shares.{others_part}
 use Rattle.cast_table.specs.Tables.{domain_eq, place_named, IsTurn, Lent, IsTurnAt, IsAppliedAt, IsAppliedTo, IsApplied, IsTicked, AreTurns, NotesHalts, NotesHaltsOf, NotesOne, answer_in_turn, halted_by, stopped, IsLeast, IsLeastOf}
-use Rattle.cast_table.specs.Replays.{names, is_own}
+use Rattle.cast_table.specs.Owns.{names, is_own}
 use Rattle.cast_table.proofs.Parts.{same_domain, domain_itself, domain_flipped}
 use Rattle.cast_table.proofs.Places.{named_there, same_some, none_some}
 use Rattle.cast_pool.specs.declared.trail.Noted.{Noted}

@@ -11,7 +11,7 @@ use Rattle.cast_model.specs.Events.{domain_of}
 use Rattle.cast_domain.specs.declared.domain.Domain.{Domain}
 use Rattle.cast_domain.specs.Records.{number_of}
 use Rattle.cast_table.specs.Tables.{domain_eq}
-use Rattle.cast_table.specs.Replays.{is_configured, are_distinct, is_own, names}
+use Rattle.cast_table.specs.Owns.{is_configured, are_distinct, is_own, names}
 use Rattle.cast_table.proofs.Parts.{same_domain, domain_itself, domain_flipped}
 use Rattle.cast_table.proofs.Places.{IsNumbered, none_some, same_some}
 use Rattle.cast_pool.specs.Traces.{is_among}

@@ -23,7 +23,7 @@ use Rattle.cast_domain.specs.Copies.{IsCopyOf as IsDomainCopy}
 use Rattle.cast_table.specs.declared.table.Table.{Table}
 use Rattle.cast_table.specs.Tables.{domains_of, shared_of, lent, by_number, IsNew, SharesNothing, IsApplied, NotesHalts}
 use Rattle.cast_table.specs.Copies.{IsCopyOf}
-use Rattle.cast_table.specs.Replays.{are_distinct, have_rising_groups}
+use Rattle.cast_table.specs.Owns.{are_distinct, have_rising_groups}
 use Rattle.cast_table.proofs.Places.{IsNumbered}
 use Rattle.cast_table.proofs.Ordered.{distinct_by_number, rising_by_number}
 use Rattle.cast_pool.specs.declared.trail.Entry.{Entry}

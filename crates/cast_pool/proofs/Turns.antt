@@ -15,7 +15,7 @@ use Rattle.cast_domain.specs.Records.{number_of, is_halted}
 use Rattle.cast_domain.specs.Shared.{Part, part_of}
 use Rattle.cast_domain.specs.Fits.{Means}
 use Rattle.cast_table.specs.Tables.{domain_eq, IsTurn, Lent, halted_by}
-use Rattle.cast_table.specs.Replays.{names, is_own}
+use Rattle.cast_table.specs.Owns.{names, is_own}
 use Rattle.cast_table.proofs.Parts.{domain_itself, other_unnamed, named_own}
 use Rattle.cast_pool.specs.declared.trail.Noted.{Noted}
 use Rattle.cast_pool.specs.declared.trail.Noted.TheVariants as noted

@@ -16,7 +16,7 @@ use Rattle.cast_domain.specs.Records.{is_halted}
 use Rattle.cast_domain.specs.Shared.{Part}
 use Rattle.cast_domain.specs.Fits.{Means}
 use Rattle.cast_table.specs.Tables.{domain_eq, IsLeast}
-use Rattle.cast_table.specs.Replays.{names, is_own}
+use Rattle.cast_table.specs.Owns.{names, is_own}
 use Rattle.cast_pool.specs.declared.trail.Noted.{Noted}
 use Rattle.cast_pool.specs.declared.trail.Noted.TheVariants.{Nothing, Opened, Refused, Entries, Halted}
 use Rattle.cast_pool.specs.declared.trail.Entry.{Entry}

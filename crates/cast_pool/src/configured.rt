@@ -3,7 +3,7 @@ ghost use Rattle.std.specs.List.{list_all};
 ghost use Rattle.std.specs.Ordering.{is_lt};
 ghost use Rattle.cast_types.specs.Names.{group_cmp};
 ghost use Rattle.cast_types.specs.Rising.{is_rising};
-ghost use Rattle.cast_table.specs.Replays.{are_distinct, have_rising_groups, is_configured};
+ghost use Rattle.cast_table.specs.Owns.{are_distinct, have_rising_groups, is_configured};
 
 use cast_model::{Config, DomainConfig};
 use cast_types::{DomainNo, GroupNo};

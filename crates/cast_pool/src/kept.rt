@@ -1,6 +1,6 @@
 //! The table with its trace, and the jobs. Nothing outside this module changes a kept table, or makes a job or what comes of it.
 ghost use Rattle.std.specs.Prelude.{◌≡◌, ◌+◌, ◌<◌, ◌≤◌, ◌^◌, [], true, Ok, IfOk, OnOk, OnErr, IfErr, length};
-ghost use Rattle.cast_table.specs.Replays.{are_distinct, have_rising_groups};
+ghost use Rattle.cast_table.specs.Owns.{are_distinct, have_rising_groups};
 ghost use Rattle.cast_pool.specs.Kept.{Replays, Seen, events_of};
 ghost use Rattle.cast_pool.specs.Served.{IsDone, IsTrimmed, Serves};
 ghost use Rattle.cast_pool.specs.Tasks.{IsUndecoded, task_of};

@@ -1,6 +1,6 @@
 //! The threads of a daemon, and their end.
 ghost use Rattle.std.specs.Prelude.{◌≡◌, ◌+◌, ◌<◌, true, OnOk};
-ghost use Rattle.cast_table.specs.Replays.{are_distinct, have_rising_groups};
+ghost use Rattle.cast_table.specs.Owns.{are_distinct, have_rising_groups};
 
 use crate::client::{Shared, run_client};
 use crate::console::run_console;

@@ -1,16 +1,6 @@
 pub mod Places
 pub mod Turns
 pub mod Applies
-pub mod Each
 pub mod Parts
-pub mod Grouped
-pub mod Runs
-pub mod Later
 pub mod Ordered
-pub mod Served
-pub mod Named
-pub mod Ticked
-pub mod SoFars
-pub mod Replayed
 pub mod Meant
-pub mod Agreeing

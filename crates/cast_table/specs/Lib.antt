@@ -1,5 +1,4 @@
 pub mod Tables
-pub mod Replays
+pub mod Owns
 pub mod Shows
 pub mod Copies
-pub mod Laws

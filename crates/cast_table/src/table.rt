@@ -1,20 +1,18 @@
-ghost use Rattle.std.specs.Prelude.{◌≡◌, ◌≢◌, ◌<◌, ◌≤◌, ◌+◌, ◌-◌, ◌++◌, [], Err, IfOk, IfSome, None, OnErr, OnOk, length, map, replicate, vec_len};
+ghost use Rattle.std.specs.Prelude.{◌≡◌, ◌≢◌, ◌<◌, ◌≤◌, ◌+◌, ◌++◌, Err, IfOk, IfSome, None, OnErr, OnOk, length, vec_len};
 ghost use Rattle.std.specs.List.{AllZip, find, insert};
 ghost use Rattle.std.specs.Option.{option_copied};
 ghost use Rattle.std.specs.Vec.{vec_capacity};
 ghost use Rattle.cast_domain.specs.Copies.{IsCopyOf as IsDomainCopy};
 ghost use Rattle.cast_domain.specs.Records.{number_of};
 ghost use Rattle.cast_model.specs.Events.{domain_of};
-ghost use Rattle.cast_table.specs.Tables.{AreApplied, AreTurns, IsApplied, IsAppliedTo, IsLeastOf, IsNew, IsTicked, IsTurn, IsUnchanged, NotesHalts, NotesOne, SharesNothing, answer_in_turn, by_number, domain_eq, domains_of, halted_by, lower, picked, place_above, place_for, place_named, stopped, without, OnLent, InTable};
-ghost use Rattle.cast_table.specs.Replays.{AddsEntry, AnswersNoDomain, by_session, frames_of, given_of, lacks_memory, of_domain, untagged, SaysReplay};
+ghost use Rattle.cast_table.specs.Tables.{AreTurns, IsApplied, IsAppliedTo, IsLeastOf, IsNew, IsTicked, IsTurn, IsUnchanged, NotesHalts, NotesOne, SharesNothing, answer_in_turn, by_number, domain_eq, domains_of, halted_by, lower, place_above, place_for, place_named, stopped, OnLent, InTable};
 ghost use Rattle.cast_table.specs.Copies.{IsCopyOf};
 ghost use Rattle.cast_table.specs.Shows.{ShowsGroups, ShowsHistory, groups_at, shown_at};
 
 use cast_domain::{Domain, GroupShown, Shared, Shown};
-use cast_message::{Push, SiteFrame};
-use cast_model::{Config, Event, Fault, Given, Log, Outs, Taken};
-use cast_types::{DomainNo, Listed, NoMemory, SiteNo};
-use std::alloc::{AllocError, Global};
+use cast_model::{Config, Event, Fault, Outs, Taken};
+use cast_types::{DomainNo, Listed, NoMemory};
+use std::alloc::Global;
 use std::mem;
 
 /// The domains of a daemon, in the order of their numbers, and what they share.
@@ -98,6 +96,13 @@ impl Table {
         }
     }
 
+    /// Its domains, in the order of their numbers.
+    pub fn into_domains(self) -> Vec<Domain>
+        ensures { result.items ≡ domains_of self }
+    {
+        self.domains
+    }
+
     // Makes the step of the first domain of this number, which the event names.
     fn apply_named(
         &mut self,
@@ -176,8 +181,8 @@ fn place_above(domains: &[Domain], number: DomainNo) -> Option<usize>
     domains.iter().position(|domain| number < domain.number())
 }
 
-// Where the first domain of a number stands.
-fn place_of(domains: &[Domain], number: DomainNo) -> Option<usize>
+/// Where the first domain of a number stands.
+pub fn place_of(domains: &[Domain], number: DomainNo) -> Option<usize>
     ensures named { result ≡ place_named number domains.now }
     ensures within { IfSome result (λ i. i < length domains.now) }
 {
@@ -271,164 +276,4 @@ fn lower(least: Option<DomainNo>, number: DomainNo) -> DomainNo
         Some(other) if other <= number => other,
         _ => number,
     }
-}
-
-/// Applies events one after another to a daemon that was just started. Until want of memory halts it, each domain answers,
-/// sends and pushes what it does where it is served alone, with no other event. `NoMemory` where an event finds no memory
-/// to begin with, or the log has no room.
-pub fn replay(alloc: Global, config: Config, events: &[Event]) -> Result<Log, NoMemory>
-    ensures all { IfOk result (λ log. length log.answers ≡ length events.now) }
-    ensures replayed { IfOk result (SaysReplay config events.now) }
-    ensures no_domain { IfOk result (λ log. AnswersNoDomain config events.now log) }
-{
-    let mut table = Table::new(alloc, &config)?;
-    let mut outs = Outs::new(alloc);
-    let answers = apply_each(alloc, &mut table, events, &mut outs)?;
-    let given = given_by_all(alloc, &config, table, &outs)?;
-    Ok(Log { answers, given })
-}
-
-// Applies events one after another, and gathers the answers. `NoMemory` where an event finds no memory to begin with, or
-// the answers have no room.
-fn apply_each(
-    alloc: Global,
-    table: &mut Table,
-    events: &[Event],
-    outs: &mut Outs,
-) -> Result<Listed<Result<Taken, Fault>>, NoMemory>
-    ensures { IfOk result (λ all. InTable (AreApplied all events.now) table.old outs.old table.new outs.new) }
-{
-    let mut answers = Listed::new(alloc);
-    for event in events {
-        let answer = table.apply(event, outs);
-        if lacks_memory(&answer) {
-            return Err(AllocError);
-        }
-        answers.push(answer)?;
-    }
-    Ok(answers)
-}
-
-// Whether there was no memory to begin with.
-fn lacks_memory(answer: &Result<Taken, Fault>) -> bool
-    ensures { result ≡ lacks_memory answer.now }
-{
-    matches!(answer, Err(Fault::NoMemory))
-}
-
-// What each domain gave, in the order of the configuration, where this came of all events.
-fn given_by_all(
-    alloc: Global,
-    config: &Config,
-    table: Table,
-    outs: &Outs,
-) -> Result<Listed<Given>, NoMemory>
-    ensures { IfOk result (λ given. given ≡ map (given_of outs.now) (picked config.now.domains (domains_of table))) }
-{
-    let mut domains = table.domains;
-    let mut given = Listed::new(alloc);
-    for config in config.domains.as_slice() {
-        if let Some(domain) = take_of(&mut domains, config.domain) {
-            given.push(given_by(alloc, &domain, outs)?)?;
-        }
-    }
-    Ok(given)
-}
-
-// Takes out the first domain of a number.
-fn take_of(domains: &mut Vec<Domain>, number: DomainNo) -> Option<Domain>
-    ensures first { result ≡ find (λ d. domain_eq (number_of d) number) domains.old.items }
-    ensures others { domains.new.items ≡ without number domains.old.items }
-{
-    let place = place_of(domains, number)?;
-    Some(domains.remove(place))
-}
-
-// What a domain gave, where this came of all events.
-fn given_by(alloc: Global, domain: &Domain, outs: &Outs) -> Result<Given, NoMemory>
-    ensures { IfOk result (λ given. given ≡ given_of outs.now domain.now) }
-{
-    let number = domain.number();
-    let pushed = pushed_for(alloc, number, outs.pushed.as_slice())?;
-    Ok(Given {
-        domain: number,
-        pushes: by_session(alloc, pushed)?,
-        sent: sent_for(alloc, number, outs.frames.as_slice())?,
-        halted: domain.is_halted(),
-    })
-}
-
-// The frames that were sent for a domain.
-fn sent_for(
-    alloc: Global,
-    number: DomainNo,
-    frames: &[(DomainNo, SiteNo, SiteFrame)],
-) -> Result<Listed<(SiteNo, SiteFrame)>, NoMemory>
-    ensures { IfOk result (λ sent. sent ≡ frames_of number frames.now) }
-{
-    let mut sent = Listed::new(alloc);
-    for (domain, to, frame) in frames {
-        if *domain == number {
-            sent.push((*to, frame.copy()?))?;
-        }
-    }
-    Ok(sent)
-}
-
-// The entries that were pushed for a domain.
-fn pushed_for(
-    alloc: Global,
-    number: DomainNo,
-    pushed: &[(DomainNo, u32, Push)],
-) -> Result<Listed<(DomainNo, u32, Push)>, NoMemory>
-    ensures { IfOk result (λ own. own ≡ of_domain number pushed.now) }
-{
-    let mut own = Outs::new(alloc);
-    for (domain, serial, entry) in pushed {
-        if *domain == number {
-            own.push(*domain, *serial, entry)?;
-        }
-    }
-    Ok(own.pushed)
-}
-
-// What was pushed to each session, from serial 1 on, where these entries were pushed for a domain.
-fn by_session(
-    alloc: Global,
-    pushed: Listed<(DomainNo, u32, Push)>,
-) -> Result<Listed<Listed<Push>>, NoMemory>
-    ensures { IfOk result (λ sessions. sessions ≡ by_session (untagged pushed)) }
-{
-    let mut sessions = Vec::new(alloc);
-    for (_, serial, entry) in pushed.into_vec() {
-        add_entry(alloc, &mut sessions, serial, entry)?;
-    }
-    Ok(Listed::from_vec(sessions))
-}
-
-// Adds an entry to those of its session.
-fn add_entry(
-    alloc: Global,
-    sessions: &mut Vec<Listed<Push>>,
-    serial: u32,
-    entry: Push,
-) -> Result<(), NoMemory>
-    ensures { OnOk result (AddsEntry serial entry sessions.old.items sessions.new.items) }
-{
-    reach(alloc, sessions, serial as usize)?;
-    if serial > 0 {
-        sessions[serial as usize - 1].push(entry)?;
-    }
-    Ok(())
-}
-
-// Adds empty lists until there are so many.
-fn reach(alloc: Global, sessions: &mut Vec<Listed<Push>>, len: usize) -> Result<(), NoMemory>
-    ensures { OnOk result (sessions.new.items ≡ sessions.old.items ++ replicate (len - length sessions.old.items) []) }
-{
-    let missing = len.saturating_sub(sessions.len());
-    for _more in 0..missing {
-        sessions.push(Listed::new(alloc))?;
-    }
-    Ok(())
 }

@@ -1,7 +1,7 @@
 use Rattle.std.proofs.Common.{◌≡◌, Ok, subst}
 use Rattle.cast_script.specs.Readings.{script_of}
 use Rattle.cast_script.proofs.Distinct.{has_distinct, has_rising}
-use Rattle.cast_table.specs.Replays.{IsReplay}
+use Rattle.cast_isolation.specs.Replays.{IsReplay}
 use Rattle.cast_replay.proofs.run.printed_log.Goals as goal
 
 pub returns : goal.returns

@@ -1,0 +1,13 @@
+mod Each
+mod Parts
+mod Numbered
+mod Grouped
+mod Runs
+mod Later
+mod Back
+mod Served
+mod Named
+mod Ticked
+mod SoFars
+mod Replayed
+mod Agreeing

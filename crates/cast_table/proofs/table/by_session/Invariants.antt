@@ -1,7 +1,0 @@
-use Rattle.std.proofs.Common.{◌≡◌}
-use Rattle.cast_table.specs.Replays.{by_session, untagged}
-use Rattle.cast_table.proofs.table.by_session.Given as goal
-
--- what the entries so far give
-abbrev pub invariant-loop-serial : goal.invariant-loop-serial
-invariant-loop-serial l = l.sessions.items ≡ by_session (untagged l.yielded)
