@@ -1,5 +1,5 @@
 -- What a domain gives follows from its configuration and its own events.
-use Rattle.std.proofs.Common.{◌≡◌, List, Ok, None, map, sym, ap, subst, ◌∙◌}
+use Rattle.std.proofs.Common.{◌≡◌, List, Ok, map, sym, ap, subst, ◌∙◌}
 use Rattle.cast_model.specs.declared.event.Event.{Event}
 use Rattle.cast_history.specs.State.{opening}
 use Rattle.cast_history.specs.Agreeing.{Outcome, RunsAs}

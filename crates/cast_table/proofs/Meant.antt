@@ -1,5 +1,5 @@
 -- What is shown of a domain is what the history says that it stands for.
-use Rattle.std.proofs.Common.{◌≡◌, List, length, map, filter, Some, sym, ap, ◌∙◌}
+use Rattle.std.proofs.Common.{◌≡◌, length, map, filter, Some, sym, ap, ◌∙◌}
 use Rattle.std.specs.List.{range_with_len}
 use Rattle.std.specs.Option.{option_map}
 use Rattle.std.proofs.lemmas.List.{length-map}
@@ -8,8 +8,6 @@ use Rattle.cast_types.specs.declared.names.DomainNo.{DomainNo}
 use Rattle.cast_message.specs.declared.message.Received.{Received}
 use Rattle.cast_domain.specs.declared.domain.Domain.{Domain}
 use Rattle.cast_domain.specs.declared.record.GroupRecord.{GroupRecord}
-use Rattle.cast_domain.specs.declared.show.Shown.{Shown}
-use Rattle.cast_domain.specs.declared.show.GroupShown.{GroupShown}
 use Rattle.cast_domain.specs.Records.{number_of, is_halted}
 use Rattle.cast_domain.specs.Shared.{Part, part_of}
 use Rattle.cast_domain.specs.Shows.{shown_of, group_shown, groups_shown}
@@ -17,7 +15,7 @@ use Rattle.cast_domain.specs.Fits.{Means, Core, is_there, session_for, record_fo
 use Rattle.cast_history.specs.State.{State}
 use Rattle.cast_history.specs.Run.{before_event}
 use Rattle.cast_table.specs.declared.table.Table.{Table}
-use Rattle.cast_table.specs.Shows.{domain_at, shown_at, groups_at, shown_by, groups_by, ShowsHistory, ShowsGroups}
+use Rattle.cast_table.specs.Shows.{shown_at, groups_at, shown_by, groups_by, ShowsHistory, ShowsGroups}
 
 shown_meant : (d : Domain) (part : Part) (s : State) → Means d part s → shown_of d part ≡ shown_by s (is_halted d)
 shown_meant d part s means =
