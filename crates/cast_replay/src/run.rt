@@ -7,7 +7,7 @@ ghost use Rattle.cast_replay.specs.Ends.{Ends, EndsAs, EndsOn, IsEnd, IsTold, Is
 ghost use Rattle.cast_replay.specs.declared.run.RunFault.TheVariants.{NoMemory, Unreadable};
 
 use cast_device::{Watched, write_whole};
-use cast_isolation::replay::replay;
+use cast_isolation::replay;
 use cast_print::print;
 use cast_script::{Reason, ScriptFault, parse};
 use cast_types::NoMemory;

@@ -1,6 +1,6 @@
 use Rattle.std.proofs.Common.{◌≡◌, ◌++◌, drop}
 use Rattle.cast_isolation.specs.Replays.{frames_of}
-use Rattle.cast_isolation.proofs.replay.sent_for.Given as goal
+use Rattle.cast_isolation.proofs.replays.sent_for.Given as goal
 
 -- what was found, and what is left
 abbrev pub invariant-loop-domain : goal.invariant-loop-domain

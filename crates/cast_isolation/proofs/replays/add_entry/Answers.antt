@@ -2,7 +2,7 @@ use Rattle.std.proofs.Common.{◌≡◌, ◌∙◌, ◌++◌, ◌+◌, ◌-◌, 
 use Rattle.cast_message.specs.declared.client.Push.{Push}
 use Rattle.cast_isolation.specs.Replays.{by_session}
 use Rattle.cast_isolation.proofs.Grouped.{nowhere_more, session_more}
-use Rattle.cast_isolation.proofs.replay.add_entry.Goals as goal
+use Rattle.cast_isolation.proofs.replays.add_entry.Goals as goal
 
 pub returns-in_ok-push : goal.returns-in_ok-push
 returns-in_ok-push c = λ pushed was.

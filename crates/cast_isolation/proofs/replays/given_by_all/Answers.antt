@@ -5,8 +5,8 @@ use Rattle.cast_model.specs.declared.log.Given.{Given}
 use Rattle.cast_table.specs.Tables.{domains_of, picked}
 use Rattle.cast_isolation.specs.Replays.{given_of}
 use Rattle.cast_isolation.proofs.Back.{picked_more}
-use Rattle.cast_isolation.proofs.replay.given_by_all.Goals as goal
-use Rattle.cast_isolation.proofs.replay.given_by_all.Goals.{in-Some+in_ok-given_by+in_ok-push, in_default}
+use Rattle.cast_isolation.proofs.replays.given_by_all.Goals as goal
+use Rattle.cast_isolation.proofs.replays.given_by_all.Goals.{in-Some+in_ok-given_by+in_ok-push, in_default}
 
 pub loop-config-init : goal.loop-config-init
 loop-config-init c =

@@ -1,7 +1,7 @@
 use Rattle.cast_table.specs.Tables.{domains_of, lent}
 use Rattle.cast_isolation.proofs.SoFars.{ordered, so_far_all}
 use Rattle.cast_isolation.proofs.Replayed.{replayed, answered_all, told_no_domain}
-use Rattle.cast_isolation.proofs.replay.replay.Goals as goal
+use Rattle.cast_isolation.proofs.replays.replay.Goals as goal
 
 pub returns-clause-all : goal.returns-clause-all
 returns-clause-all c =

@@ -5,7 +5,7 @@ use Rattle.cast_model.specs.declared.log.Fault.TheVariants.{NoMemory}
 use Rattle.cast_table.specs.Tables.{AreApplied, domains_of, lent}
 use Rattle.cast_isolation.specs.Replays.{lacks_memory}
 use Rattle.cast_isolation.proofs.Each.{applied_more}
-use Rattle.cast_isolation.proofs.replay.apply_each.Goals as goal
+use Rattle.cast_isolation.proofs.replays.apply_each.Goals as goal
 
 pub loop-event-init : goal.loop-event-init
 loop-event-init c =

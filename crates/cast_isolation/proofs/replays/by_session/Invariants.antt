@@ -1,6 +1,6 @@
 use Rattle.std.proofs.Common.{◌≡◌}
 use Rattle.cast_isolation.specs.Replays.{by_session, untagged}
-use Rattle.cast_isolation.proofs.replay.by_session.Given as goal
+use Rattle.cast_isolation.proofs.replays.by_session.Given as goal
 
 -- what the entries so far give
 abbrev pub invariant-loop-serial : goal.invariant-loop-serial

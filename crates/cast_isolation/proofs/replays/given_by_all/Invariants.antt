@@ -1,7 +1,7 @@
 use Rattle.std.proofs.Common.{◌≡◌, ◌++◌, map, drop}
 use Rattle.cast_table.specs.Tables.{domains_of, picked}
 use Rattle.cast_isolation.specs.Replays.{given_of}
-use Rattle.cast_isolation.proofs.replay.given_by_all.Given as goal
+use Rattle.cast_isolation.proofs.replays.given_by_all.Given as goal
 
 -- what was given, and what the domains that are left are to give
 abbrev pub invariant-loop-config : goal.invariant-loop-config

@@ -1,7 +1,7 @@
 use Rattle.std.proofs.Common.{◌≡◌, ◌∙◌, None, Some, ap}
 use Rattle.cast_table.specs.Tables.{place_named}
 use Rattle.cast_isolation.proofs.Back.{none_first, some_first}
-use Rattle.cast_isolation.proofs.replay.take_of.Goals as goal
+use Rattle.cast_isolation.proofs.replays.take_of.Goals as goal
 
 pub returns-in_err-place-clause-first : goal.returns-in_err-place-clause-first
 returns-in_err-place-clause-first c =

@@ -1,6 +1,6 @@
 use Rattle.std.proofs.Common.{take}
 use Rattle.cast_table.specs.Tables.{AreApplied, domains_of, lent}
-use Rattle.cast_isolation.proofs.replay.apply_each.Given as goal
+use Rattle.cast_isolation.proofs.replays.apply_each.Given as goal
 
 -- what the events so far did
 abbrev pub invariant-loop-event : goal.invariant-loop-event

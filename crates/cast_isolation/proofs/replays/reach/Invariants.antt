@@ -1,5 +1,5 @@
 use Rattle.std.proofs.Common.{◌≡◌, ◌++◌, replicate, []}
-use Rattle.cast_isolation.proofs.replay.reach.Given as goal
+use Rattle.cast_isolation.proofs.replays.reach.Given as goal
 
 -- so many empty lists were added
 abbrev pub invariant-loop-more : goal.invariant-loop-more
