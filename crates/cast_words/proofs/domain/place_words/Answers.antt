@@ -9,11 +9,6 @@ use Rattle.cast_words.specs.Words.{texts}
 use Rattle.cast_words.specs.Readings.{fixed_of, new_domain_of, place_words, site_of}
 use Rattle.cast_words.proofs.domain.place_words.Goals as goal
 
-ends_at_second : (before : List DomainConfig) (ws : List (Bor (List ℕ))) (d : Bor (List ℕ)) (domain : DomainNo) (e : Reason) → length ws ≡ 3 → new_domain_of before (get_or ws 0 d).now ≡ Ok domain → fixed_of (codes "home") (get_or ws 1 d).now ≡ Err e → place_words before (texts ws) ≡ Err e
-unfolding place_words
-ends_at_second before (a ∷ b ∷ c ∷ []) d domain e three first at = rw (first, at) refl
-ends_at_second before ws d domain e three first at = absurd (omega arith)
-
 ends_at_third : (before : List DomainConfig) (ws : List (Bor (List ℕ))) (d : Bor (List ℕ)) (domain : DomainNo) (u : Unit {0}) (e : Reason) → length ws ≡ 3 → new_domain_of before (get_or ws 0 d).now ≡ Ok domain → fixed_of (codes "home") (get_or ws 1 d).now ≡ Ok u → site_of (get_or ws 2 d).now ≡ Err e → place_words before (texts ws) ≡ Err e
 unfolding place_words
 ends_at_third before (a ∷ b ∷ c ∷ []) d domain u e three first second at = rw (first, second, at) refl
@@ -23,12 +18,6 @@ is_read : (before : List DomainConfig) (ws : List (Bor (List ℕ))) (d : Bor (Li
 unfolding place_words
 is_read before (a ∷ b ∷ c ∷ []) d domain u home three first second third = rw (first, second, third) refl
 is_read before ws d domain u home three first second third = absurd (omega arith)
-
-pub returns-in_err-fixed_word : goal.returns-in_err-fixed_word
-returns-in_err-fixed_word c =
-    let domain = sym c.in_ok-domain.ensures in
-    let p = err_from_is_err_and c.from_residual-in_err-fixed_word.result c.from_residual-in_err-fixed_word.ensures.1 in
-    rw (p.1, p.2) (sym (ends_at_second c.args.before.now c.args.words.now _ c.in_ok-domain.domain c.in_err-fixed_word.field-0.0 (omega arith) domain (sym c.in_err-fixed_word.ensures)))
 
 pub returns-in_err-site_word : goal.returns-in_err-site_word
 returns-in_err-site_word c =
