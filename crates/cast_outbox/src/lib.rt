@@ -17,8 +17,6 @@
 mod outbox;
 mod outboxes;
 mod sessions;
-#[cfg(test)]
-mod tests;
 
 pub use outbox::Pushed;
 pub use outboxes::Outboxes;

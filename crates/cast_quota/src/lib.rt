@@ -9,7 +9,5 @@
 
 pub mod limits;
 pub mod quotas;
-#[cfg(test)]
-mod tests;
 
 pub use quotas::{QuotaName, Quotas};

@@ -19,9 +19,13 @@ mod messages;
 #[cfg(test)]
 mod order;
 #[cfg(test)]
+mod outbox;
+#[cfg(test)]
 mod pumps;
 #[cfg(test)]
 mod pushes;
+#[cfg(test)]
+mod quota;
 #[cfg(test)]
 mod stable;
 #[cfg(test)]

@@ -1,5 +1,5 @@
-use crate::quotas::is_in_range;
-use crate::{QuotaName, Quotas};
+use cast_quota::quotas::is_in_range;
+use cast_quota::{QuotaName, Quotas};
 use cast_types::Refusal;
 
 fn value_of(quotas: &Quotas, name: QuotaName) -> u32 {

@@ -1,5 +1,5 @@
-use crate::{Outboxes, Pushed};
 use cast_message::Push;
+use cast_outbox::{Outboxes, Pushed};
 use cast_types::{DomainNo, NoMemory, Proc, SiteNo};
 use std::alloc::Global;
 use std::test::Fail;
