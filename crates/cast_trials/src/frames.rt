@@ -4,7 +4,8 @@
 
 use cast_client::{ClientRead, decode_client, encode_client, encode_push, encode_request};
 use cast_frame::{FrameFault, decode_site, encode_site};
-use cast_message::ClientFrame;
+use cast_message::{ClientFrame, SiteFrame};
+use cast_types::{DomainNo, SiteNo};
 use std::alloc::{AllocError, Global};
 use std::io;
 
@@ -14,12 +15,23 @@ fn site_text(alloc: Global, bytes: &[u8]) -> Result<String, AllocError> {
         Ok(read) => read,
         Err(fault) => return fault_text(alloc, fault),
     };
-    let copied = frame.copy()?;
-    let written = encode_site(alloc, domain, site, &copied)?;
-    let same = word_of(written.as_slice() == bytes);
+    let same = word_of(is_copy_written(alloc, domain, site, &frame, bytes)?);
     let number = domain.0;
     let from = site.0;
     format!(in alloc; "domain {number} from {from} {same}")
+}
+
+// Whether a copy of a frame between sites is written as these bytes.
+fn is_copy_written(
+    alloc: Global,
+    domain: DomainNo,
+    site: SiteNo,
+    frame: &SiteFrame,
+    bytes: &[u8],
+) -> Result<bool, AllocError> {
+    let copied = frame.copy()?;
+    let written = encode_site(alloc, domain, site, &copied)?;
+    Ok(written.as_slice() == bytes)
 }
 
 fn fault_text(alloc: Global, fault: FrameFault) -> Result<String, AllocError> {

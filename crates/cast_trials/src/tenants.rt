@@ -80,28 +80,44 @@ fn later_event<W: Write>(text: &mut W, number: u32, group: u32, round: u32) -> i
     }
 }
 
-// The script of all domains, or that of one. There the others' events are ticks that change nothing, so that each event has the
-// same number.
-fn script(alloc: Global, only: Option<u32>) -> io::Result<Vec<u8>> {
-    let mut text = Vec::new(alloc);
+// Whether a script of all domains, or of one, has a domain.
+fn has(only: Option<u32>, number: u32) -> bool {
+    only.is_none_or(|one| one == number)
+}
+
+// The head of a script.
+fn head<W: Write>(text: &mut W, only: Option<u32>) -> io::Result<()> {
     writeln!(text, "site 1")?;
     for (number, home, group, quotas) in TENANTS {
-        if only.is_none_or(|one| one == number) {
+        if has(only, number) {
             writeln!(
                 text,
                 "domain {number} home {home} sites 1,2,9 groups {group},99 quotas {quotas}"
             )?;
         }
     }
-    for round in 0..ROUNDS {
-        for (number, home, group, _) in TENANTS {
-            if only.is_none_or(|one| one == number) {
-                event(&mut text, number, home, group, round)?;
-            } else {
-                writeln!(text, "tick 0")?;
-            }
+    Ok(())
+}
+
+// The events of a round, and a tick behind them.
+fn events<W: Write>(text: &mut W, only: Option<u32>, round: u32) -> io::Result<()> {
+    for (number, home, group, _) in TENANTS {
+        if has(only, number) {
+            event(text, number, home, group, round)?;
+        } else {
+            writeln!(text, "tick 0")?;
         }
-        writeln!(text, "tick {}", round.wrapping_mul(10))?;
+    }
+    writeln!(text, "tick {}", round.wrapping_mul(10))
+}
+
+// The script of all domains, or that of one. There the others' events are ticks that change nothing, so that each event has the
+// same number.
+fn script(alloc: Global, only: Option<u32>) -> io::Result<Vec<u8>> {
+    let mut text = Vec::new(alloc);
+    head(&mut text, only)?;
+    for round in 0..ROUNDS {
+        events(&mut text, only, round)?;
     }
     Ok(text)
 }

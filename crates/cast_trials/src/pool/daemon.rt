@@ -86,11 +86,15 @@ pub fn takes(domain: u8) -> Asked {
     })
 }
 
+// The bytes of a frame of a domain.
+fn frame(alloc: Global, kind: u8, domain: u8, rest: &[u8]) -> Result<Vec<u8>, NoMemory> {
+    let head = [0x43, 0x44, 1, kind, domain];
+    head.iter().chain(rest).copied().collect(alloc)
+}
+
 // A frame of a domain comes.
 fn comes(alloc: Global, kind: u8, domain: u8, rest: &[u8]) -> Result<Asked, NoMemory> {
-    let mut frame = Vec::new(alloc);
-    frame.extend_from_slice(&[0x43, 0x44, 1, kind, domain])?;
-    frame.extend_from_slice(rest)?;
+    let frame = frame(alloc, kind, domain, rest)?;
     Ok(Asked::Datagram(Bytes::copy_from_slice(alloc, &frame)?))
 }
 
