@@ -132,10 +132,7 @@ impl Desk {
 
     // A number, from 1 on, whose answer finds this purpose.
     fn register(&mut self, purpose: Purpose) -> Result<u64, NoMemory> {
-        if self.last == u64::MAX {
-            return Err(AllocError);
-        }
-        let number = self.last + 1;
+        let number = self.last.checked_add(1).ok_or(AllocError)?;
         if let Purpose::Other = purpose {
             self.last = number;
             return Ok(number);
