@@ -15,8 +15,8 @@ use std::thread;
 use std::thread::{JoinHandle, Scope, Threads};
 use std::time::Instant;
 
-// Of 64 events of a domain the last takes what was pushed: where all of these bits of its place are set.
-const LAST: u32 = 63;
+// Of so many events of a domain the last takes what was pushed.
+const ROUND: u32 = 64;
 
 /// What a run of workers came to.
 #[derive(Drop)]
@@ -45,10 +45,11 @@ struct Ended<L: Ledger> {
 
 // What a domain asks for in a round: a cast, and a Take behind each 63 of them.
 fn asked(alloc: Global, domain: u8, round: u32) -> Result<Asked, NoMemory> {
-    if round & LAST == LAST {
-        return Ok(takes(domain));
+    if round % ROUND == ROUND - 1 {
+        Ok(takes(domain))
+    } else {
+        casts(alloc, domain, round)
     }
-    casts(alloc, domain, round)
 }
 
 // So many events lie in the queue, as many of each domain, and no more can come.
