@@ -18,6 +18,8 @@ enum Row {
     Joins(u16, u16),
     // It casts in a group.
     Casts(u16, u16),
+    // It casts in a group, to be delivered in one order by all.
+    Abcasts(u16, u16),
     // A site, the first, is told that another may be lost.
     Suspects(u16, u16),
     // A frame comes to a site.
@@ -52,13 +54,13 @@ fn joins(site: u16, group: u16) -> Step {
     )
 }
 
-fn casts(site: u16, group: u16) -> Step {
+fn casts(site: u16, group: u16, kind: CastKind) -> Step {
     asks(
         site,
         Request::Cast {
             tag: 8,
             group: GroupNo(group),
-            kind: CastKind::Causal,
+            kind,
             payload: Bytes::new(),
         },
     )
@@ -85,7 +87,8 @@ fn does(world: &mut World, sites: &[u16], row: Row) -> Result<(), NoMemory> {
     match row {
         Row::Opens(site) => world.run(&[local(site, Event::Open(DOMAIN))]),
         Row::Joins(site, group) => world.run(&[joins(site, group)]),
-        Row::Casts(site, group) => world.run(&[casts(site, group)]),
+        Row::Casts(site, group) => world.run(&[casts(site, group, CastKind::Causal)]),
+        Row::Abcasts(site, group) => world.run(&[casts(site, group, CastKind::Atomic)]),
         Row::Suspects(site, lost) => world.run(&[local(
             site,
             Event::Suspect(DOMAIN, SiteNo(lost)),
@@ -126,21 +129,24 @@ fn domain(alloc: Global, sites: &[u16], groups: &[u16]) -> Result<DomainConfig, 
     Ok(config)
 }
 
-// Whether the first process of a site has delivered these messages, by group, view and sender's site, each the sender's first of the view.
-fn has_delivered(world: &World, site: u16, messages: &[(u16, u32, u16)]) -> Result<bool, NoMemory> {
+// A message of the first process of a site, by group, view, that site, and its count.
+type Message = (u16, u32, u16, u32);
+
+// Whether the first process of a site has delivered these messages, in this order.
+fn has_delivered(world: &World, site: u16, messages: &[Message]) -> Result<bool, NoMemory> {
     let process = Proc {
         site: SiteNo(site),
         serial: 1,
     };
     let ids = world.delivered(DOMAIN, process)?;
     let mut same = ids.len() == messages.len();
-    for (id, (group, view, sender)) in ids.as_slice().iter().zip(messages.iter()) {
-        same = same && *id == first(*group, *view, *sender);
+    for (id, message) in ids.as_slice().iter().zip(messages.iter()) {
+        same = same && *id == named(*message);
     }
     Ok(same)
 }
 
-fn first(group: u16, view: u32, sender: u16) -> Uid {
+fn named((group, view, sender, count): Message) -> Uid {
     Uid {
         group: GroupNo(group),
         view,
@@ -148,27 +154,28 @@ fn first(group: u16, view: u32, sender: u16) -> Uid {
             site: SiteNo(sender),
             serial: 1,
         },
-        count: 1,
+        count,
     }
 }
 
-// After these rows the first process of a site has delivered these messages.
+// After these rows the first process of each of these sites has delivered these messages.
 fn leads(
     alloc: Global,
     sites: &[u16],
     groups: &[u16],
     rows: &[Row],
-    site: u16,
-    messages: &[(u16, u32, u16)],
+    delivered: &[(u16, &[Message])],
 ) -> Result<(), Fail> {
     let mut world = World::new(alloc, &configs(alloc, sites, groups)?)?;
     for row in rows {
         does(&mut world, sites, *row)?;
     }
-    if has_delivered(&world, site, messages)? {
-        return Ok(());
+    for (site, messages) in delivered {
+        if !has_delivered(&world, *site, messages)? {
+            return Err(Fail::new(format_args!("site {site}: other messages were delivered")));
+        }
     }
-    Err(Fail::new(format_args!("other messages were delivered")))
+    Ok(())
 }
 
 // 1.1 and 2.1 are in both groups. 2.1 casts in group 1 and then in group 2, and the second cast comes first.
@@ -193,13 +200,12 @@ fn a_message_waits_for_one_of_another_group(rt: HostRuntime) -> Result<(), Fail>
             Row::Comes(1, 25),
             Row::Comes(1, 24),
         ],
-        1,
-        &[(1, 2, 2), (2, 2, 2)],
+        &[(1, &[(1, 2, 2, 1), (2, 2, 2, 1)])],
     )
 }
 
 // All are in one view. 3.1 casts, which reaches site 2 alone, and once more, which reaches site 1 alone, and is suspected: the first
-// belongs to the view that ends, and the second does not.
+// belongs to the view that ends, and the second does not, at both sites that pass to the next view.
 #[test]
 fn a_view_ends_with_what_some_site_received_in_order(rt: HostRuntime) -> Result<(), Fail> {
     leads(
@@ -223,8 +229,7 @@ fn a_view_ends_with_what_some_site_received_in_order(rt: HostRuntime) -> Result<
             Row::Suspects(1, 3),
             Row::Come(28, 42),
         ],
-        1,
-        &[(1, 3, 3)],
+        &[(1, &[(1, 3, 3, 1)]), (2, &[(1, 3, 3, 1)])],
     )
 }
 
@@ -257,7 +262,65 @@ fn a_joining_process_waits_for_the_view_that_it_will_enter(rt: HostRuntime) -> R
             Row::Comes(3, 21),
             Row::Comes(3, 23),
         ],
-        3,
-        &[(1, 2, 1), (2, 2, 1)],
+        &[(3, &[(1, 2, 1, 1), (2, 2, 1, 1)])],
+    )
+}
+
+// 2.1 holds the order of the view of all three. 1.1 and 3.1 cast; both casts come to site 2, that of 3.1 first, and 2.1 tells their order by its
+// two messages, which reach site 3 alone.
+const HOLDER_TELLS: [Row; 15] = [
+    Row::Opens(2),
+    Row::Joins(2, 1),
+    Row::Come(0, 4),
+    Row::Opens(1),
+    Row::Joins(1, 1),
+    Row::Come(4, 12),
+    Row::Opens(3),
+    Row::Joins(3, 1),
+    Row::Come(12, 24),
+    Row::Abcasts(1, 1),
+    Row::Abcasts(3, 1),
+    Row::Comes(2, 27),
+    Row::Comes(2, 24),
+    Row::Comes(3, 30),
+    Row::Comes(3, 33),
+];
+
+// What each member has delivered is a prefix of what the holder has: none, one, and both.
+#[test]
+fn members_deliver_the_first_of_the_order(rt: HostRuntime) -> Result<(), Fail> {
+    leads(
+        rt.alloc(),
+        &[1, 2, 3],
+        &[1],
+        &HOLDER_TELLS,
+        &[
+            (1, &[]),
+            (2, &[(1, 3, 3, 1), (1, 3, 2, 1), (1, 3, 1, 1), (1, 3, 2, 2)]),
+            (3, &[(1, 3, 3, 1), (1, 3, 2, 1)]),
+        ],
+    )
+}
+
+// Then the holder is lost. 1.1, which knew nothing of the order and had its own cast first, delivers both in that order, as 3.1 does. The
+// holder's second message was delivered at no site that reports.
+#[test]
+fn a_lost_holder_leaves_its_order(rt: HostRuntime) -> Result<(), Fail> {
+    let alloc = rt.alloc();
+    let mut rows = Vec::new(alloc);
+    for row in HOLDER_TELLS {
+        rows.push(row)?;
+    }
+    rows.push(Row::Suspects(1, 2))?;
+    rows.push(Row::Come(36, 60))?;
+    leads(
+        alloc,
+        &[1, 2, 3],
+        &[1],
+        &rows,
+        &[
+            (1, &[(1, 3, 3, 1), (1, 3, 1, 1), (1, 3, 2, 1)]),
+            (3, &[(1, 3, 3, 1), (1, 3, 2, 1), (1, 3, 1, 1)]),
+        ],
     )
 }

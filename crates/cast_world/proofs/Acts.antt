@@ -1,7 +1,7 @@
 -- Places in lists of acts.
 use Rattle.std.proofs.Common.{ap, arith, inl, inr, sym, ◌∙◌}
 use Rattle.std.proofs.lemmas.Bool.{cases_Bool, eq-eqb, eqb-true, false≢true, true≢false}
-use Rattle.std.proofs.lemmas.List.Elements.{Contains-append_cases, Contains-append_left, Contains-append_right}
+use Rattle.std.proofs.lemmas.List.Elements.{Contains-append_cases, Contains-append_left, Contains-append_right, Contains-push_cases}
 use Rattle.std.specs.Prelude.{◌++◌, Bool, Contains, List, [], false, refl, suc, true, zero, ℕ, ◌∷◌, ◌≡◌, ◌⊎◌, ◌≡◌}
 use Rattle.cast_history.specs.Acts.{Act}
 use Rattle.cast_history.specs.Acts.Act.{Delivered, Entered, Left, Sent}
@@ -83,3 +83,27 @@ first_entry g (x ∷ b) = elim (enters g x) [
     | inr none ↦ inr (λ k c at. elim (contains_cons x b _ at) [ inl here ↦ never k c here | inr there ↦ none k c there ])
   ]
 ]
+
+-- Messages that were sent stand among earlier acts, where the last act sends none
+
+is_sending : Act → Bool
+is_sending (Sent m) = true
+is_sending (Delivered m) = false
+is_sending (Entered g n cut) = false
+is_sending (Left g) = false
+
+sent_before : (acts : List Act) (y : Act) (m : Message) → is_sending y ≡ false → Contains (acts ++ y ∷ []) (Sent m) → Contains acts (Sent m)
+unfolding is_sending
+sent_before acts y m other at = elim (Contains-push_cases acts y (Sent m) at) [ inl old ↦ old | inr new ↦ absurd (true≢false (sym (ap is_sending new) ∙ other)) ]
+
+pub sent_delivered : (acts : List Act) (x m : Message) → Contains (acts ++ Delivered x ∷ []) (Sent m) → Contains acts (Sent m)
+unfolding is_sending
+sent_delivered acts x m at = sent_before acts (Delivered x) m refl at
+
+pub sent_entered : (acts : List Act) (g : GroupNo) (n : ℕ) (cut : CountList) (m : Message) → Contains (acts ++ Entered g n cut ∷ []) (Sent m) → Contains acts (Sent m)
+unfolding is_sending
+sent_entered acts g n cut m at = sent_before acts (Entered g n cut) m refl at
+
+pub sent_left : (acts : List Act) (g : GroupNo) (m : Message) → Contains (acts ++ Left g ∷ []) (Sent m) → Contains acts (Sent m)
+unfolding is_sending
+sent_left acts g m at = sent_before acts (Left g) m refl at

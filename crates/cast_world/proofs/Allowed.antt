@@ -27,6 +27,16 @@ passes test [] e x at = absurd (omega (arith, at.1))
 passes test (y ∷ xs) e x (zero, lt, is) = subst (λ z. test z ≡ true) is (and_parts _ _ e).0
 passes test (y ∷ xs) e x (suc k, lt, is) = passes test xs (and_parts _ _ e).1 x (k, omega arith, is)
 
+-- what passes the test of a filter
+pub passed : {X : Type 0} (test : X → Bool) (xs : List X) (x : X) → Contains (filter test xs) x → test x ≡ true
+passed test [] x at = absurd (omega (arith, at.1))
+passed {X} test (y ∷ ys) x at = go (test y) refl at (passed test ys x)
+  where
+    go : (b : Bool) → test y ≡ b → Contains (cond b (y ∷ filter test ys) (filter test ys)) x → (Contains (filter test ys) x → test x ≡ true) → test x ≡ true
+    go true e (zero, lt, is) more = ap test (sym is) ∙ e
+    go true e (suc n, lt, is) more = more (n, omega arith, is)
+    go false e has more = more has
+
 pub contains_more : {X : Type 0} (y : X) (xs : List X) (x : X) → Contains xs x → Contains (y ∷ xs) x
 contains_more y xs x (k, lt, is) = (suc k, omega (arith, lt), is)
 

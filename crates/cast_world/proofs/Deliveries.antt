@@ -13,7 +13,6 @@ use Rattle.cast_history.specs.Run.{IsStep, after_event, before_event}
 use Rattle.cast_history.specs.State.{State, local, with_delivery}
 use Rattle.cast_message.specs.Membership.{Membership}
 use Rattle.cast_message.specs.declared.message.Message.{Message}
-use Rattle.cast_message.specs.declared.site.SiteFrame.{SiteFrame}
 use Rattle.cast_model.specs.declared.config.DomainConfig.{DomainConfig}
 use Rattle.cast_model.specs.declared.event.Event.{Event}
 use Rattle.cast_model.specs.declared.event.Taken.{Taken}
@@ -25,10 +24,9 @@ use Rattle.cast_types.specs.declared.names.Proc.{Proc}
 use Rattle.cast_types.specs.declared.names.SiteNo.{SiteNo}
 use Rattle.cast_types.specs.declared.names.Standing.TheVariants.{Joining}
 use Rattle.cast_types.specs.declared.names.Uid.{Uid}
-use Rattle.cast_world.proofs.Events.{HasCome, after_event_keeps, rests_keeps}
+use Rattle.cast_world.proofs.Events.{Any, after_event_keeps, any_came, rests_keeps}
 use Rattle.cast_world.proofs.Kept.{Kept}
 use Rattle.cast_world.proofs.Laters.{set_all}
-use Rattle.cast_model.specs.declared.event.Event.TheVariants as event
 
 -- of these deliveries those of a process
 abbrev pub ids_by : Proc → List (Proc × Uid) → List Uid
@@ -58,9 +56,6 @@ pub record DeliversFrom (s : State) (here : SiteNo) (config : DomainConfig) (pro
 module _ (s : State) where
   abbrev Delivers : State → Type 0
   Delivers t = DeliversFrom s t.here t.config t.process t.deliveries
-
-  abbrev Any : SiteNo → SiteFrame → Type 0
-  Any from f = Unit {0}
 
   -- processes that have delivered what they had
   same_delivered : (t : State) → Delivers t → (process : ℕ → Process) → ((k : ℕ) → (process k).delivered ≡ (t.process k).delivered) → DeliversFrom s t.here t.config process t.deliveries
@@ -116,7 +111,7 @@ module _ (s : State) where
     opens = λ t d. d;
     answers = λ t g d. d;
     joins = λ t k g d open_it known out. one_same t d k (record (t.process k) { standing = set_at group_eq (t.process k).standing g (Joining ((t.group g).asked + 1) (view_of (t.process k).time g)) }) refl;
-    sends = λ t g k content d member. one_same t d k (record (t.process k) { time = (next_message t g k content).times }) refl;
+    sends = λ t g k content d member may. one_same t d k (record (t.process k) { time = (next_message t g k content).times }) refl;
     receives = λ t from m d came view member. d;
     delivers = λ t k m d c ready. one_more t d k m;
     freezes = λ t g d current. d;
@@ -124,16 +119,6 @@ module _ (s : State) where
     passes = λ t g skipped n members request cut d comes. passing_same t d g skipped n members request cut;
     homes = λ t g what d may. d;
   }
-
-  any_came : (e : Event) → HasCome Any e
-  any_came (event.Open d) = tt
-  any_came (event.Command d n c) = tt
-  any_came (event.Gone d n) = tt
-  any_came (event.Frame d from f) = tt
-  any_came (event.Suspect d site) = tt
-  any_came (event.Quota d name value) = tt
-  any_came (event.Take d n most) = tt
-  any_came (event.Tick t) = tt
 
   first_deliveries : Delivers (before_event s)
   first_deliveries = record { placed = refl; same = refl; delivered = λ k. sym (append-nil (s.process k).delivered) }

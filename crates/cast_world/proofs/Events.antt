@@ -1,14 +1,16 @@
 -- What the moves of a history keep, it keeps through each event and through the rest that follows.
-use Rattle.std.proofs.Common.{subst}
-use Rattle.std.proofs.lemmas.Bool.{and_parts}
+use Rattle.std.proofs.Common.{ap, inl, inr, subst, sym}
+use Rattle.std.proofs.lemmas.Bool.{and_parts, eq-eqb, false≢true}
 use Rattle.std.specs.List.{find, fold}
-use Rattle.std.specs.Prelude.{◌&&◌, ◌+◌, Bool, None, Option, Some, false, length, not, refl, ℕ, ◌≡◌}
+use Rattle.std.specs.Prelude.{Bool, Contains, None, Option, Some, false, if◌then◌else◌, is_some, length, not, refl, true, unwrap_or, ℕ, ◌&&◌, ◌+◌, ◌==◌, ◌≡◌, ◌⊎◌}
 use Rattle.cast_delay.specs.Ready.{is_member}
+use Rattle.cast_history.specs.Acts.Act.{Delivered}
 use Rattle.cast_history.specs.Effects.{delivering, sending}
 use Rattle.cast_history.specs.History.{history}
+use Rattle.cast_history.specs.Order.{has_place, holds, order_of, unlisted}
 use Rattle.cast_history.specs.Reports.{has_delivered_cut, missing_in}
 use Rattle.cast_history.specs.Rest.{RestsAt, deliver_all, deliver_first, is_free, let_go, pass, set_order, set_order_by, set_orders, settle}
-use Rattle.cast_history.specs.Resting.{next_places, resting}
+use Rattle.cast_history.specs.Resting.{next_places, places_of, resting}
 use Rattle.cast_history.specs.Rules.Events.{is_taken, may_open}
 use Rattle.cast_history.specs.Rules.Flushes.{complete, complete_or_want, go_on, go_on_all, own_want_key, want_own}
 use Rattle.cast_history.specs.Rules.Order.{list_places, may_list}
@@ -18,20 +20,24 @@ use Rattle.cast_history.specs.Run.{after_event, before_event}
 use Rattle.cast_history.specs.State.{State, local, serials, setting_quota, taking, with_delivery}
 use Rattle.cast_history.specs.Step.{acted, opening_next, sessions_given}
 use Rattle.cast_history.specs.Turns.{is_ready_for}
+use Rattle.cast_message.specs.Sequence.{Sequence}
 use Rattle.cast_message.specs.declared.client.Push.{Push}
 use Rattle.cast_message.specs.declared.message.Message.{Message}
 use Rattle.cast_message.specs.declared.site.SiteFrame.{SiteFrame}
 use Rattle.cast_model.specs.Session.{is_gone, taken_from}
 use Rattle.cast_model.specs.declared.event.Event.{Event}
 use Rattle.cast_quota.specs.Quotas.{is_in_range, with_quota}
+use Rattle.cast_types.specs.Names.{site_eq}
 use Rattle.cast_types.specs.declared.names.GroupNo.{GroupNo}
 use Rattle.cast_types.specs.declared.names.Proc.{Proc}
 use Rattle.cast_types.specs.declared.names.SiteNo.{SiteNo}
-use Rattle.cast_view.specs.MemberSide.{holder_at}
+use Rattle.cast_view.specs.Home.{is_empty}
+use Rattle.cast_view.specs.MemberSide.{holder_at, holder_of, is_process}
 use Rattle.cast_view.specs.declared.member.Pending.{Pending}
+use Rattle.cast_world.proofs.Entries.{delivered_now, told_agrees}
 use Rattle.cast_world.proofs.Handlers.{commanded_keeps, framed_keeps, install_keeps, lead_keeps, sending_keeps, suspect_keeps}
 use Rattle.cast_world.proofs.Keeps.{found_is, keeps_fold, keeps_if, keeps_iterate, keeps_option}
-use Rattle.cast_world.proofs.Kept.{Kept, KeptByTelling, completes}
+use Rattle.cast_world.proofs.Kept.{AcksFreely, Kept, OwedTrue, FullyKept, FullyKeptByTelling, completes, lists, kept_fully}
 use Rattle.cast_world.proofs.Telling.{end_session_keeps, owe_keeps, tell_keeps, tick_keeps}
 use Rattle.cast_message.specs.declared.message.Body.TheVariants as body
 use Rattle.cast_model.specs.declared.event.Event.TheVariants as event
@@ -47,8 +53,36 @@ HasCome Came (event.Quota d name value) = Unit {0}
 HasCome Came (event.Take d n most) = Unit {0}
 HasCome Came (event.Tick t) = Unit {0}
 
-module _ (I : State → Type 0) (Came : SiteNo → SiteFrame → Type 0) (home_here : Bool) (k : Kept I Came home_here) where
-  abbrev t : KeptByTelling I
+-- whatever frames come
+abbrev pub Any : SiteNo → SiteFrame → Type 0
+Any from f = Unit {0}
+
+pub any_came : (e : Event) → HasCome Any e
+any_came (event.Open d) = tt
+any_came (event.Command d n c) = tt
+any_came (event.Gone d n) = tt
+any_came (event.Frame d from f) = tt
+any_came (event.Suspect d site) = tt
+any_came (event.Quota d name value) = tt
+any_came (event.Take d n most) = tt
+any_came (event.Tick t) = tt
+
+is_false : (b : Bool) → not b ≡ true → b ≡ false
+is_false true e = absurd (false≢true e)
+is_false false e = refl
+
+-- who is a view's holder at this site holds its order
+pub holder_here : (here : SiteNo) (o : Option Proc) (p : Proc) → elim o as (λ x. Option Proc) [ Some q ↦ if site_eq q.site here then Some q else None | None ↦ None ] ≡ Some p →
+    is_process (record { site = here; serial = p.serial }) o ≡ true
+holder_here here None p e = absurd (false≢true (ap is_some e))
+holder_here here (Some q) p e = go (site_eq q.site here) refl e
+  where
+    go : (b : Bool) → site_eq q.site here ≡ b → (if b then Some q else None) ≡ Some p → (site_eq q.site here && (q.serial == p.serial)) ≡ true
+    go true same is = λ i. same i && eq-eqb q.serial p.serial (ap (λ (o : Option Proc). (unwrap_or o q).serial) is) i
+    go false other is = absurd (false≢true (ap is_some is))
+
+module _ (I : State → Type 0) (Between : GroupNo → State → Type 0) (Came : SiteNo → SiteFrame → Type 0) (home_here : Bool) (k : FullyKept I Between Came home_here) where
+  abbrev t : FullyKeptByTelling I
   t = k.telling
 
   -- The rest
@@ -56,9 +90,12 @@ module _ (I : State → Type 0) (Came : SiteNo → SiteFrame → Type 0) (home_h
   let_go_keeps : (s : State) → I s → I (let_go s)
   let_go_keeps s i = t.releases s (is_free s) i
 
-  tell_if_keeps : (s : State) (n : ℕ) (o : Option Push) → I s → I (tell_if history s n o)
-  tell_if_keeps s n (Some p) i = tell_keeps I t s n p i
-  tell_if_keeps s n None i = i
+  tell_of_keeps : (s : State) (n : ℕ) (m : Message) → I s → Contains (s.acts n) (Delivered m) → I (tell_if history s n (told_of m.id m.body))
+  tell_of_keeps s n m i delivered = go (told_of m.id m.body) refl
+    where
+      go : (o : Option Push) → told_of m.id m.body ≡ o → I (tell_if history s n o)
+      go None e = i
+      go (Some p) e = tell_keeps I t s n p i (told_agrees (s.acts n) m delivered p e)
 
   deliver_first_keeps : (n : ℕ) (s : State) → I s → I (deliver_first n s)
   deliver_first_keeps n s i = go (find (is_ready_for s n) s.got) refl
@@ -67,24 +104,33 @@ module _ (I : State → Type 0) (Came : SiteNo → SiteFrame → Type 0) (home_h
       go None e = i
       go (Some m) e =
           let found = found_is (is_ready_for s n) s.got m e in
-          let_go_keeps (delivering s n m) (tell_if_keeps (with_delivery s n m) n (told_of m.id m.body) (k.delivers s n m i found.1 found.0))
+          let_go_keeps (delivering s n m) (tell_of_keeps (with_delivery s n m) n m (k.delivers s n m i found.1 found.0) (delivered_now s n m))
 
   settle_keeps : (s : State) → I s → I (settle s)
   settle_keeps s i = keeps_fold I deliver_all (λ r n j. keeps_iterate I (deliver_first n) (deliver_first_keeps n) (length r.got) r j) (serials s) s i
 
-  set_order_by_keeps : (s : State) (g : GroupNo) (n : ℕ) → I s → I (set_order_by s g n)
-  set_order_by_keeps s g n i = keeps_if I (may_list history resting s g n) _ s
+  -- the places that a holder sets next are those after the order known here
+  next_are : (s : State) (g : GroupNo) (n : ℕ) (places : Sequence) → next_places s g n ≡ Some places → body.Order places ≡ body.Order (places_of s g n)
+  next_are s g n places e = ap (λ (p : Sequence). body.Order p) (go (not (is_empty (unlisted s g n)) && has_place (order_of s g)) e)
+    where
+      go : (b : Bool) → (if b then Some (places_of s g n) else None) ≡ Some places → places ≡ places_of s g n
+      go true is = sym (ap (λ o. unwrap_or o places) is)
+      go false is = absurd (false≢true (ap is_some is))
+
+  set_order_by_keeps : (s : State) (g : GroupNo) (n : ℕ) → I s → holds s g n ≡ true → I (set_order_by s g n)
+  set_order_by_keeps s g n i held = keeps_if I (may_list history resting s g n) _ s
       (λ may. keeps_option I (list_places history resting s g n) (next_places s g n) s
-      (λ places _. keeps_if I (may_raise (s.process n).time g (local s n)) (let_go (sending s g n (body.Order places))) s
-      (λ _. let_go_keeps (sending s g n (body.Order places)) (sending_keeps I Came home_here k s g n (body.Order places) i (and_parts (is_member ((s.process n).standing g)) _ may).0))
+      (λ places next. keeps_if I (may_raise (s.process n).time g (local s n)) (let_go (sending s g n (body.Order places))) s
+      (λ _. let_go_keeps (sending s g n (body.Order places)) (sending_keeps I Between Came home_here k s g n (body.Order places) i (and_parts (is_member ((s.process n).standing g)) _ may).0
+      (lists held (is_false (s.group g).frozen (and_parts (not (s.group g).frozen) _ (and_parts (is_member ((s.process n).standing g)) _ may).1).0) (next_are s g n places next))))
       (λ _. i)) i) (λ _. i)
 
   set_order_keeps : (s : State) (g : GroupNo) → I s → I (set_order s g)
-  set_order_keeps s g i = go (holder_at s.here (s.group g))
+  set_order_keeps s g i = go (holder_at s.here (s.group g)) refl
     where
-      go : (o : Option Proc) → I (elim o [ Some p ↦ set_order_by s g p.serial | None ↦ s ])
-      go (Some p) = set_order_by_keeps s g p.serial i
-      go None = i
+      go : (o : Option Proc) → holder_at s.here (s.group g) ≡ o → I (elim o [ Some p ↦ set_order_by s g p.serial | None ↦ s ])
+      go (Some p) e = set_order_by_keeps s g p.serial i (holder_here s.here (holder_of (s.group g)) p e)
+      go None e = i
 
   go_on_keeps : (s : State) (g : GroupNo) → I s → I (go_on history resting s g)
   go_on_keeps s g i = go (s.group g).pending refl
@@ -92,34 +138,45 @@ module _ (I : State → Type 0) (Came : SiteNo → SiteFrame → Type 0) (home_h
       go : (o : Option Pending) → (s.group g).pending ≡ o → I (elim o [ Some p ↦ complete_or_want history resting s g p | None ↦ s ])
       go None e = i
       go (Some p) e = keeps_if I (has_delivered_cut s g p.cut) (complete history s g p) (fold (want_own history g) s (missing_in s g p.cut))
-          (λ all. install_keeps I Came home_here k s g false s.config.home ((s.group g).number + 1) p.members p.request p.cut i (completes p e all refl refl refl refl refl))
-          (λ _. keeps_fold I (want_own history g) (λ r x j. owe_keeps I t r (own_want_key history r g x) j) (missing_in s g p.cut) s i)
+          (λ all. install_keeps I Between Came home_here k s g false s.config.home ((s.group g).number + 1) p.members p.request p.cut i (completes p e all refl refl refl refl refl))
+          (λ _. keeps_fold I (want_own history g) (λ r x j. owe_keeps I t r (own_want_key history r g x) j tt) (missing_in s g p.cut) s i)
 
   pub pass_keeps : (s : State) → I s → I (pass s)
   pass_keeps s i =
       let settled : State = settle s in
       let ordered : State = set_orders settled in
       let gone_on : State = go_on_all history resting ordered in
-      lead_keeps I Came home_here k gone_on
+      lead_keeps I Between Came home_here k gone_on
       (keeps_fold I (go_on history resting) go_on_keeps ordered.config.groups ordered
       (keeps_fold I set_order set_order_keeps settled.config.groups settled (settle_keeps s i)))
 
-  pub rests_keeps : (s r : State) → RestsAt s r → I s → I r
-  rests_keeps s r (n, leads, rest) i = subst I leads (keeps_iterate I pass pass_keeps n s i)
+  pub rests_keeps_fully : (s r : State) → RestsAt s r → I s → I r
+  rests_keeps_fully s r (n, leads, rest) i = subst I leads (keeps_iterate I pass pass_keeps n s i)
 
   -- Events
 
+  owed_or_free : (s : State) → I s → OwedTrue s ⊎ AcksFreely I
+  owed_or_free s i = elim k.truly [ inl owed ↦ inl (owed s i) | inr free ↦ inr free ]
+
   acted_keeps : (s : State) (e : Event) → I s → HasCome Came e → I (acted s e)
   acted_keeps s (event.Open d) i come = keeps_if I (may_open history sessions_given s) (opening_next s) s (λ _. k.opens s i) (λ _. i)
-  acted_keeps s (event.Command d n c) i come = commanded_keeps I Came home_here k s n c i
+  acted_keeps s (event.Command d n c) i come = commanded_keeps I Between Came home_here k s n c i
   acted_keeps s (event.Gone d n) i come = end_session_keeps I t s n i
-  acted_keeps s (event.Frame d from f) i come = framed_keeps I Came home_here k s from f i come
-  acted_keeps s (event.Suspect d site) i come = suspect_keeps I Came home_here k s site i
+  acted_keeps s (event.Frame d from f) i come = framed_keeps I Between Came home_here k s from f i come
+  acted_keeps s (event.Suspect d site) i come = suspect_keeps I Between Came home_here k s site i
   acted_keeps s (event.Quota d name value) i come = keeps_if I (is_in_range name value) (setting_quota s name value) s
-      (λ _. t.books s (with_quota name value s.quotas) s.moment s.acks s.told s.owed s.casts s.pushes i) (λ _. i)
+      (λ _. t.books s (with_quota name value s.quotas) s.moment s.casts i) (λ _. i)
   acted_keeps s (event.Take d n most) i come = keeps_if I (not (is_gone (s.session n)) && is_taken most) (taking s n most) s
       (λ _. t.sets_session s n (taken_from most (s.session n)) i (λ e. e)) (λ _. i)
-  acted_keeps s (event.Tick time) i come = tick_keeps I t s time i
+  acted_keeps s (event.Tick time) i come = tick_keeps I t s time i (owed_or_free s i)
+
+  pub event_keeps_fully : (s : State) (e : Event) → I (before_event s) → HasCome Came e → I (after_event s e)
+  event_keeps_fully s e i come = let_go_keeps (acted (before_event s) e) (acted_keeps (before_event s) e i come)
+
+-- the same of what does not look at what is owed
+module _ (I : State → Type 0) (Came : SiteNo → SiteFrame → Type 0) (home_here : Bool) (k : Kept I Came home_here) where
+  pub rests_keeps : (s r : State) → RestsAt s r → I s → I r
+  rests_keeps = rests_keeps_fully I (λ g. I) Came home_here (kept_fully I Came home_here k)
 
   pub after_event_keeps : (s : State) (e : Event) → I (before_event s) → HasCome Came e → I (after_event s e)
-  after_event_keeps s e i come = let_go_keeps (acted (before_event s) e) (acted_keeps (before_event s) e i come)
+  after_event_keeps = event_keeps_fully I (λ g. I) Came home_here (kept_fully I Came home_here k)

@@ -54,6 +54,18 @@ TellsOf z g = Unit {0}
 abbrev pub IsAwaited : Entry → Type 0
 IsAwaited e = Unit {0}
 
+-- which groups deliver nothing once a flush has frozen them, until an Install waits: each
+abbrev pub StopsIn : GroupNo → Type 0
+StopsIn g = Unit {0}
+
+-- which ABCASTs are delivered in their turn alone: each
+abbrev pub WaitsForTurn : Message → Type 0
+WaitsForTurn m = Unit {0}
+
+-- which messages that a site reported are within the cut: each
+abbrev pub IsCounted : Entry → Type 0
+IsCounted e = Unit {0}
+
 -- a message that a process sent, after these acts: it has the process's name, counts itself, and covers all done before
 pub record SentWell (me : Proc) (a : List Act) (z : Message) : Type 0 where
   pub own : z.id.proc ≡ me

@@ -21,7 +21,7 @@ use Rattle.cast_view.specs.MemberSide.{MemberSide, has_view, members_of}
 use Rattle.cast_view.specs.declared.member.Pending.{Pending}
 use Rattle.cast_view.specs.declared.phase.Decision.{Decision}
 use Rattle.cast_view.specs.declared.phase.Phase.TheVariants.{Installing}
-use Rattle.cast_world.proofs.Facts.{Each, IsIn}
+use Rattle.cast_world.proofs.Facts.{Each, IsCounted, IsIn}
 use Rattle.cast_world.proofs.Homes.{Awaits, reports_of}
 use Rattle.cast_world.proofs.Invariants.{Sites}
 use Rattle.cast_message.specs.declared.site.SiteFrame.TheVariants as frame
@@ -119,7 +119,7 @@ abbrev pub Covered : Choice → (GroupNo → ℕ) → Sites → GroupNo → ℕ 
 Covered choice number at g view =
     (p : Proc) → IsChosen choice g view p → IsChosen choice g (view + 1) p →
     (counts : CountList) × Told choice number (at p.site) g view counts
-    × ((e : Entry) → IsChosen choice g view e.0 → e.1 ≤ count_of counts e.0 → IsTrue (is_within (choice g (view + 1)).cut e))
+    × ((e : Entry) → IsCounted e → IsChosen choice g view e.0 → e.1 ≤ count_of counts e.0 → IsTrue (is_within (choice g (view + 1)).cut e))
 
 -- all that holds of flushes, at the states of all sites
 abbrev pub AllCovered : Choice → (GroupNo → ℕ) → Sites → Type 0

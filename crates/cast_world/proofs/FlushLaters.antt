@@ -1,6 +1,6 @@
 -- What holds of flushes still holds when others have moved and the home has decided more.
 use Rattle.std.proofs.Common.{ap, arith, inl, inr, subst, sym, ◌∙◌}
-use Rattle.std.specs.Prelude.{◌+◌, Contains, IsTrue, ℕ, ◌≡◌, ◌≤◌}
+use Rattle.std.specs.Prelude.{◌+◌, Contains, IsTrue, refl, ℕ, ◌≡◌, ◌≤◌}
 use Rattle.cast_history.specs.State.{State}
 use Rattle.cast_message.specs.declared.site.SiteFrame.{SiteFrame}
 use Rattle.cast_types.specs.Counts.{CountList, is_within}
@@ -15,6 +15,16 @@ use Rattle.cast_message.specs.declared.site.SiteFrame.TheVariants as frame
 -- what was decided stands, and more may be
 abbrev pub Extends : Choice → (GroupNo → ℕ) → Choice → (GroupNo → ℕ) → Type 0
 Extends choice number more next = (g : GroupNo) → (number g ≤ next g) × ((n : ℕ) → n ≤ number g → more g n ≡ choice g n)
+
+pub extends_same : (choice : Choice) (number : GroupNo → ℕ) → Extends choice number choice number
+extends_same choice number g = (omega arith, λ n le. refl)
+
+pub extends_then : (first : Choice) (low : GroupNo → ℕ) (choice : Choice) (number : GroupNo → ℕ) (more : Choice) (next : GroupNo → ℕ) → Extends first low choice number → Extends choice number more next →
+    Extends first low more next
+extends_then first low choice number more next one two g = (
+  (let a = (one g).0 in let b = (two g).0 in omega (arith, a, b)),
+  λ n le. let a = (one g).0 in (two g).1 n (omega (arith, a, le)) ∙ (one g).1 n le,
+)
 
 pub told_extends : (choice : Choice) (number : GroupNo → ℕ) (more : Choice) (next : GroupNo → ℕ) → Extends choice number more next → (t : State) (g : GroupNo) (view : ℕ) (counts : CountList) →
     Told choice number t g view counts → Told more next t g view counts
@@ -84,4 +94,4 @@ module _ (home : SiteNo) (choice more : Choice) (at next : Sites) (ext : Extends
       let one = (ext g).1 view (omega (arith, decided)) in
       let two = (ext g).1 (view + 1) decided in
       let was = covered p (subst (λ (c : Chosen). Contains c.members.list p) one before) (subst (λ (c : Chosen). Contains c.members.list p) two after) in
-      (was.0, told p.site g view was.0 was.1, λ e chosen low. subst (λ (c : Chosen). IsTrue (is_within c.cut e)) (sym two) (was.2 e (subst (λ (c : Chosen). Contains c.members.list e.0) one chosen) low))
+      (was.0, told p.site g view was.0 was.1, λ e counted chosen low. subst (λ (c : Chosen). IsTrue (is_within c.cut e)) (sym two) (was.2 e counted (subst (λ (c : Chosen). Contains c.members.list e.0) one chosen) low))

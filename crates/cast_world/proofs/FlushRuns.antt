@@ -21,7 +21,7 @@ use Rattle.cast_world.proofs.Cuts.{counted, passes_above, still_in}
 use Rattle.cast_world.proofs.Events.{after_event_keeps, rests_keeps}
 use Rattle.cast_world.proofs.Facts.{Facts}
 use Rattle.cast_world.proofs.Flush.{AllCovered, Choice, IsTrueOf, SiteAgrees, Told, numbers}
-use Rattle.cast_world.proofs.FlushLaters.{agrees_later, covered_later, true_later}
+use Rattle.cast_world.proofs.FlushLaters.{agrees_later, covered_later, extends_same, true_later}
 use Rattle.cast_world.proofs.FlushSteps.{FlushNow, Flushing, kept_flush, own_agrees}
 use Rattle.cast_world.proofs.Homes.{idle_not}
 use Rattle.cast_world.proofs.Invariants.{Sites}
@@ -48,7 +48,7 @@ module _ (home : SiteNo) (w : Network) (h : AllHold home w) (choice : Choice) (a
   abbrev at0 : Sites
   at0 = sites_at home w a t0
 
-  same_number : (g : GroupNo) → numbers at0 home g ≡ numbers w.at home g
+  pub same_number : (g : GroupNo) → numbers at0 home g ≡ numbers w.at home g
   same_number g = go (site_eq a home) refl
     where
       go : (b : Bool) → site_eq a home ≡ b → ((if b then t0 else w.at home).home g).number ≡ ((w.at home).home g).number
@@ -69,7 +69,7 @@ module _ (home : SiteNo) (w : Network) (h : AllHold home w) (choice : Choice) (a
       go true e = here t0 (subst (λ z. Told choice (numbers w.at home) (w.at z) g view counts) (sym (same_site a s e)) told)
       go false e = here (w.at s) told
 
-  flush_first : Flushing home w a t0 choice
+  pub flush_first : Flushing home w a t0 choice
   flush_first = record {
     sites = λ s. go s (site_eq a s) refl;
     packets = λ p c. true_later home choice choice w.at at0 extends same_told p.from p.to p.frame (h.packets p c) (agree.packets p c);
@@ -90,7 +90,7 @@ module _ (home : SiteNo) (w : Network) (h : AllHold home w) (choice : Choice) (a
           record { groups = y.groups; ones = y.ones; homes = y.homes; received = y.received; sent = λ to f c. absurd (omega (arith, c.1)) })
       go s false e = agrees_later home choice choice w.at at0 (λ g. ((let same = same_number g in omega (arith, same)), λ n le. refl)) same_told s (w.at s) (h.sites s) (agree.sites s)
 
-flush_last : (home : SiteNo) (w : Network) (a : SiteNo) (t : State) (choice : Choice) → Flushing home w a t choice → AllAgree home (moved w a t) choice
+pub flush_last : (home : SiteNo) (w : Network) (a : SiteNo) (t : State) (choice : Choice) → Flushing home w a t choice → AllAgree home (moved w a t) choice
 flush_last home w a t choice f = record {
   sites = f.sites;
   packets = λ p c. elim (Contains-append_cases w.sent (map (λ (x : SiteNo × SiteFrame). record { from = a; to = x.0; frame = x.1 }) t.frames) p c) [
@@ -109,15 +109,19 @@ AllKept home w = AllHold home w × (choice : Choice) × AllAgree home w choice
 step_kept : (home : SiteNo) (w v : Network) (step : Step) → Happens w step v → AllKept home w → AllKept home v
 step_kept home w v step happens (h, choice, agree) = go (event_of w step) refl happens
   where
-    after : (t : State) → FlushNow home w step.site t → AllKept home (moved w step.site t)
-    after t (now, more, f) = (last home w h step.site t now, more, flush_last home w step.site t more f)
+    -- the numbers at the first moment of the step
+    low : GroupNo → ℕ
+    low = numbers (sites_at home w step.site (before_event (w.at step.site))) home
+
+    after : (t : State) → FlushNow home w step.site choice low t → AllKept home (moved w step.site t)
+    after t (now, more, f, ext) = (last home w h step.site t now, more, flush_last home w step.site t more f)
 
     go : (o : Option Event) → event_of w step ≡ o → Becomes w step.site o v → AllKept home v
     go None e same = subst (AllKept home) (sym same) (h, choice, agree)
     go (Some made) e (answer, t, is, same) = subst (AllKept home) (sym same) (after t
-        (rests_keeps (FlushNow home w step.site) (Arrived home w step.site) (site_eq step.site home) (kept_flush home w step.site) (after_event (w.at step.site) made) t is.rests
-        (after_event_keeps (FlushNow home w step.site) (Arrived home w step.site) (site_eq step.site home) (kept_flush home w step.site) (w.at step.site) made
-        (first home w h step.site, choice, flush_first home w h choice agree step.site) (step_arrives home w h step made e))))
+        (rests_keeps (FlushNow home w step.site choice low) (Arrived home w step.site) (site_eq step.site home) (kept_flush home w step.site choice low) (after_event (w.at step.site) made) t is.rests
+        (after_event_keeps (FlushNow home w step.site choice low) (Arrived home w step.site) (site_eq step.site home) (kept_flush home w step.site choice low) (w.at step.site) made
+        (first home w h step.site, choice, flush_first home w h choice agree step.site, extends_same choice low) (step_arrives home w h step made e))))
 
 leads_kept : (home : SiteNo) (steps : List Step) (w v : Network) → Leads w steps v → AllKept home w → AllKept home v
 leads_kept home [] w v same i = subst (AllKept home) (sym same) i
@@ -125,10 +129,10 @@ leads_kept home (step ∷ steps) w v (u, one, more) i = leads_kept home steps u 
 
 -- The start
 
-no_choice : Choice
+pub no_choice : Choice
 no_choice g n = record { members = no_members; cut = [] }
 
-start_agrees : (sites : List SiteNo) (config : SiteNo → DomainConfig) (home : SiteNo) → AllAgree home (start sites config) no_choice
+pub start_agrees : (sites : List SiteNo) (config : SiteNo → DomainConfig) (home : SiteNo) → AllAgree home (start sites config) no_choice
 unfolding no_choice
 start_agrees sites config home = record {
   sites = λ s. record {
@@ -157,7 +161,7 @@ start_agrees sites config home = record {
 pub kept_in_every : (sites : List SiteNo) (config : SiteNo → DomainConfig) (steps : List Step) (w : Network) → Reaches sites config steps w → AllKept (config record { 0 = 0 }).home w
 kept_in_every sites config steps w r =
     let home : SiteNo = (config record { 0 = 0 }).home in
-    leads_kept home steps (start sites config) w r.leads (start_holds sites config home (λ s. r.agree.home s record { 0 = 0 }), no_choice, start_agrees sites config home)
+    leads_kept home steps (start sites config) w r.leads (start_holds sites config home (λ s. r.home s record { 0 = 0 }), no_choice, start_agrees sites config home)
 
 -- who passes from one view to the next has delivered exactly the cut
 pub passes_with_cut : AllPassWithCut

@@ -1,16 +1,17 @@
 -- What the moves of a history keep, its rules of commands and frames keep.
+use Rattle.cast_types.proofs.Orders.{uid_itself}
 use Rattle.std.proofs.Common.{ap, arith, inl, inr, subst, sym, ◌∙◌}
 use Rattle.std.proofs.lemmas.Bool.{and_parts, eq-eqb, eqb-true, false≢true, leb-false, ltb-false, ltb-true, true≢false}
-use Rattle.std.specs.List.{find, fold, list_all}
+use Rattle.std.specs.List.{find, fold, list_all, list_any}
 use Rattle.std.specs.Option.{option_map_or, option_or}
-use Rattle.std.specs.Prelude.{◌&&◌, ◌+◌, ◌++◌, ◌<◌, ◌==◌, Bool, Contains, List, None, Option, Some, [], false, filter, if◌then◌else◌, length, map, min, nat_le, nat_lt, not, refl, true, unwrap_or, ℕ, ◌∷◌, ◌≡◌, ◌≤◌, ◌⊎◌}
+use Rattle.std.specs.Prelude.{◌&&◌, ◌||◌, ◌+◌, ◌++◌, ◌<◌, ◌==◌, Bool, Contains, List, None, Option, Some, [], false, filter, if◌then◌else◌, length, map, min, nat_le, nat_lt, not, refl, true, unwrap_or, ℕ, ◌∷◌, ◌≡◌, ◌≤◌, ◌⊎◌}
 use Rattle.cast_clock.specs.Times.{view_of}
 use Rattle.cast_delay.specs.Ready.{is_member, is_outside}
 use Rattle.cast_flush.specs.declared.report.Report.{Report}
 use Rattle.cast_history.specs.Effects.{next_message}
 use Rattle.cast_history.specs.Entering.{freezing, passing}
 use Rattle.cast_history.specs.History.{history}
-use Rattle.cast_history.specs.Owing.{paying}
+use Rattle.cast_history.specs.Owing.{paying, paying_upto}
 use Rattle.cast_history.specs.Reports.{had_here, report_in}
 use Rattle.cast_history.specs.Rules.Asking.{is_from_home, is_home, request}
 use Rattle.cast_history.specs.Rules.Commands.{body_of, cast, cast_at, commanded, join, join_at, leave, reply, requested, send_own}
@@ -27,6 +28,8 @@ use Rattle.cast_history.specs.Rules.Sending.{may_raise, send_data}
 use Rattle.cast_history.specs.Rules.Stability.{is_used_ack, on_ack, on_stable, tell_more, tell_stable, with_ack}
 use Rattle.cast_history.specs.Rules.Views.{change_view, enter_and_tell, install, no_members, on_install, on_out, tell_out, tell_view}
 use Rattle.cast_history.specs.State.{State, awaits_own, counting_cast, emitted, is_ended, is_group, is_received, is_stable, local, local_members, message_of, noting_sent, others_of, outside, receiving, releasing_ended, set_group, set_home, set_standing, upto}
+use Rattle.cast_message.specs.Bodies.{kind_of}
+use Rattle.cast_message.specs.Keeping.{KeptList}
 use Rattle.cast_message.specs.Membership.{Membership}
 use Rattle.cast_message.specs.Stretch.{Stretch}
 use Rattle.cast_message.specs.declared.client.CastKind.{CastKind}
@@ -39,9 +42,9 @@ use Rattle.cast_message.specs.declared.site.SiteFrame.{SiteFrame}
 use Rattle.cast_model.specs.Session.{is_open}
 use Rattle.cast_model.specs.declared.limits.TheConstants.{MAX_CASTS}
 use Rattle.cast_stable.specs.Stable.{has_acked}
-use Rattle.cast_timer.specs.Owed.{is_of_view, is_owed, is_upto, key_eq, paid}
+use Rattle.cast_timer.specs.Owed.{is_owed, is_upto}
 use Rattle.cast_types.specs.Counts.{CountList}
-use Rattle.cast_types.specs.Names.{Entry, entry_eq, entry_of, group_eq, proc_eq, site_eq, uid_eq}
+use Rattle.cast_types.specs.Names.{Entry, entry_eq, entry_of, group_eq, is_order, proc_eq, site_eq, uid_eq}
 use Rattle.cast_types.specs.Sets.{is_among}
 use Rattle.cast_types.specs.declared.limits.TheConstants.{MAX_NUMBER, MAX_PAYLOAD}
 use Rattle.cast_types.specs.declared.names.GroupNo.{GroupNo}
@@ -57,10 +60,12 @@ use Rattle.cast_view.specs.MemberSide.{MemberSide, answers_prepare, counts_by, f
 use Rattle.cast_view.specs.declared.member.Asking.{Asking}
 use Rattle.cast_view.specs.declared.member.Verdict.{Verdict}
 use Rattle.cast_view.specs.declared.member.Verdict.TheVariants.{Again, Completes, Ignored, Pends, Skips}
+use Rattle.cast_world.proofs.Entries.{agrees_later, members_entered, put_out_left, tell_all_goes_on, tell_all_keeps}
 use Rattle.cast_world.proofs.Keeps.{found_is, keeps_fold, keeps_if, keeps_option}
-use Rattle.cast_world.proofs.Kept.{Comes, Kept, KeptByTelling, ends, installs, skips}
-use Rattle.cast_world.proofs.Telling.{ask_home_keeps, close_session_keeps, leave_at_keeps, outcome, owe_keeps, owed_keeps, pay_keeps, request_keeps, send_for_keeps, tell_keeps}
+use Rattle.cast_world.proofs.Kept.{Comes, MaySend, FullyKept, FullyKeptByTelling, casts, ends, installs, skips}
+use Rattle.cast_world.proofs.Telling.{ask_home_keeps, close_session_keeps, leave_at_keeps, outcome, owe_keeps, pay_keeps, request_keeps, send_for_keeps, tell_keeps}
 use Rattle.cast_message.specs.declared.site.Change.TheVariants as change
+use Rattle.cast_message.specs.declared.client.CastKind.TheVariants as kind_name
 use Rattle.cast_message.specs.declared.client.Command.TheVariants as command
 use Rattle.cast_message.specs.declared.site.SiteFrame.TheVariants as frame
 use Rattle.cast_timer.specs.declared.key.OwedKind.TheVariants as kinds
@@ -76,29 +81,36 @@ not_false true e = absurd (false≢true e)
 not_false false e = refl
 
 -- what a site reports of a view stays the same when the view is frozen
+told_tail : State → GroupNo → MemberSide → Stretch
+told_tail s g x = (report_in (record s { group = λ h. x }) g).tail
+
+told_kept : State → GroupNo → MemberSide → KeptList
+told_kept s g x = (report_in (record s { group = λ h. x }) g).kept
+
 told_counts : State → GroupNo → MemberSide → CountList
 told_counts s g x = counts_by (greatest_of (map entry_of (filter (λ u. group_eq u.group g && (u.view == x.number)) (had_here s)))) (members_of x)
 
-module _ (I : State → Type 0) (Came : SiteNo → SiteFrame → Type 0) (home_here : Bool) (k : Kept I Came home_here) where
-  abbrev t : KeptByTelling I
+module _ (I : State → Type 0) (Between : GroupNo → State → Type 0) (Came : SiteNo → SiteFrame → Type 0) (home_here : Bool) (k : FullyKept I Between Came home_here) where
+  abbrev t : FullyKeptByTelling I
   t = k.telling
 
   -- Messages of local processes
 
   send_data_keeps : (u : Uid) (s : State) (to : SiteNo) → I s → I (send_data history u s to)
   send_data_keeps u s to i = keeps_if I (has_acked s.acks u to) (send_for history s (message_key kinds.Data u to)) (owe history s (message_key kinds.Data u to))
-      (λ _. send_for_keeps I t s (message_key kinds.Data u to) i) (λ _. owe_keeps I t s (message_key kinds.Data u to) i)
+      (λ _. send_for_keeps I t s (message_key kinds.Data u to) i tt) (λ _. owe_keeps I t s (message_key kinds.Data u to) i tt)
 
-  pub sending_keeps : (s : State) (g : GroupNo) (n : ℕ) (content : Body) → I s → is_member ((s.process n).standing g) ≡ true → I (send_own history s n (next_message s g n content))
-  sending_keeps s g n content i member =
+  pub sending_keeps : (s : State) (g : GroupNo) (n : ℕ) (content : Body) → I s → is_member ((s.process n).standing g) ≡ true → MaySend s g n content →
+      I (send_own history s n (next_message s g n content))
+  sending_keeps s g n content i member may =
       let m : Message = next_message s g n content in
       let taken : State = receiving (noting_sent s n m) m in
-      keeps_fold I (send_data history m.id) (send_data_keeps m.id) (others_of taken m.id.group) taken (k.sends s g n content i member)
+      keeps_fold I (send_data history m.id) (send_data_keeps m.id) (others_of taken m.id.group) taken (k.sends s g n content i member may)
 
   -- Commands
 
   reply_keeps : (a : Attempt State) (n tag : ℕ) → I a.0 → I (reply history a n tag)
-  reply_keeps a n tag i = tell_keeps I t a.0 n (push.Reply tag a.1) i
+  reply_keeps a n tag i = tell_keeps I t a.0 n (push.Reply tag a.1) i tt
 
   join_keeps : (s : State) (n : ℕ) (g : GroupNo) → I s → is_open (s.session n) ≡ true → I (outcome (join history s n g))
   join_keeps s n g i open_it = place (is_group s g) refl
@@ -130,6 +142,11 @@ module _ (I : State → Type 0) (Came : SiteNo → SiteFrame → Type 0) (home_h
   refused_or true s refusal a i else_keeps = i
   refused_or false s refusal a i else_keeps = else_keeps refl
 
+  -- a cast sets no order
+  no_order : (kind : CastKind) (payload : List ℕ) → is_order (kind_of (body_of kind payload)) ≡ false
+  no_order kind_name.Causal payload = refl
+  no_order kind_name.Atomic payload = refl
+
   cast_keeps : (s : State) (n : ℕ) (g : GroupNo) (kind : CastKind) (payload : List ℕ) → I s → I (outcome (cast history s n g kind payload))
   cast_keeps s n g kind payload i = place (is_group s g)
     where
@@ -142,8 +159,8 @@ module _ (I : State → Type 0) (Came : SiteNo → SiteFrame → Type 0) (home_h
           (λ _. refused_or (not (may_raise (s.process n).time g (local s n))) s HeldFull (counting_cast (send_own history s n (next_message s g n (body_of kind payload))), None) i
           (λ _.
           let sent : State = send_own history s n (next_message s g n (body_of kind payload)) in
-          t.books sent sent.quotas sent.moment sent.acks sent.told sent.owed (min MAX_CASTS (sent.casts + 1)) sent.pushes
-          (sending_keeps s g n (body_of kind payload) i (not_true (is_member ((s.process n).standing g)) member))))))))
+          t.books sent sent.quotas sent.moment (min MAX_CASTS (sent.casts + 1))
+          (sending_keeps s g n (body_of kind payload) i (not_true (is_member ((s.process n).standing g)) member) (casts (no_order kind payload)))))))))
 
       place : (b : Bool) → I (outcome (option_map_or (cast_at history s n g kind payload) (if b then Some g else None) (s, Some NoGroup)))
       place true = at
@@ -160,9 +177,19 @@ module _ (I : State → Type 0) (Came : SiteNo → SiteFrame → Type 0) (home_h
 
   -- Messages of other sites
 
-  acknowledge_keeps : (s : State) (to : SiteNo) (u : Uid) → I s → I (acknowledge history s to u)
-  acknowledge_keeps s to u i = keeps_if I (is_stable s u) (emitted s to (frame.Ack u)) (owe history s (message_key kinds.Ack u to))
-      (λ _. t.emits s to (frame.Ack u) i tt) (λ _. owe_keeps I t s (message_key kinds.Ack u to) i)
+  -- what was received is acknowledged
+  acknowledge_keeps : (s : State) (to : SiteNo) (u : Uid) → I s → is_received s u ≡ true → u.view ≡ (s.group u.group).number → I (acknowledge history s to u)
+  acknowledge_keeps s to u i has current = keeps_if I (is_stable s u) (emitted s to (frame.Ack u)) (owe history s (message_key kinds.Ack u to))
+      (λ _. t.emits s to (frame.Ack u) i tt has)
+      (λ _. owe_keeps I t s (message_key kinds.Ack u to) i (ap (λ n. is_received s (record { group = u.group; view = n; proc = u.proc; count = u.count })) (sym current) ∙ has))
+
+  received_now : (got : List Message) (m : Message) → list_any (λ x. uid_eq x.id m.id) (got ++ m ∷ []) ≡ true
+  received_now [] m = ap (λ b. b || false) (uid_itself m.id)
+  received_now (x ∷ got) m = go (uid_eq x.id m.id) (received_now got m)
+    where
+      go : (b : Bool) → list_any (λ y. uid_eq y.id m.id) (got ++ m ∷ []) ≡ true → (b || list_any (λ y. uid_eq y.id m.id) (got ++ m ∷ [])) ≡ true
+      go true more = refl
+      go false more = more
 
   well_formed_member : (s : State) (members : List Proc) (m : Message) → is_well_formed history s members m ≡ true → is_among proc_eq m.id.proc members ≡ true
   well_formed_member s members m e = (and_parts (is_among proc_eq m.id.proc members) (counts_itself m) (and_parts (list_all (λ c. is_among group_eq c.0 s.config.groups) m.times) _ e).1).0
@@ -172,34 +199,35 @@ module _ (I : State → Type 0) (Came : SiteNo → SiteFrame → Type 0) (home_h
       let a = and_parts (site_eq m.id.proc.site from) _ used in
       let b = and_parts (not (site_eq from s.here)) _ a.1 in
       let c = and_parts (m.id.view == (s.group m.id.group).number) (is_well_formed history s (members_of (s.group m.id.group)) m) b.1 in
-      let taken : I (receiving s m) = k.receives s from m i (inl came) (eqb-true m.id.view (s.group m.id.group).number c.0) (well_formed_member s (members_of (s.group m.id.group)) m c.1) in
-      keeps_if I (is_received s m.id) (emitted s from (frame.Ack m.id)) _ (λ _. t.emits s from (frame.Ack m.id) i tt)
+      let current : m.id.view ≡ (s.group m.id.group).number = eqb-true m.id.view (s.group m.id.group).number c.0 in
+      let taken : I (receiving s m) = k.receives s from m i (inl came) current (well_formed_member s (members_of (s.group m.id.group)) m c.1) in
+      keeps_if I (is_received s m.id) (emitted s from (frame.Ack m.id)) _ (λ has. t.emits s from (frame.Ack m.id) i tt has)
       (λ _. keeps_if I (may_take history s m.body) (want_no_more history (acknowledge history (receiving s m) from m.id) m.id) s
-      (λ _. pay_keeps I t (acknowledge history (receiving s m) from m.id) (message_key kinds.Want m.id (acknowledge history (receiving s m) from m.id).config.home) (acknowledge_keeps (receiving s m) from m.id taken)) (λ _. i))
+      (λ _. pay_keeps I t (acknowledge history (receiving s m) from m.id) (message_key kinds.Want m.id (acknowledge history (receiving s m) from m.id).config.home) (acknowledge_keeps (receiving s m) from m.id taken (received_now s.got m) current)) (λ _. i))
 
   on_data_keeps : (s : State) (from : SiteNo) (m : Message) → I s → Came from (frame.Data m) → I (on_data history s m.id.group from m)
   on_data_keeps s from m i came = keeps_if I (is_used history s m.id.group from m) (use_data history s from m) _ (use_data_keeps s from m i came)
       (λ _. keeps_if I (is_outdated history s m.id.group from m) (emitted s from (frame.Out m.id.group (s.group m.id.group).number)) s
-      (λ _. t.emits s from (frame.Out m.id.group (s.group m.id.group).number) i refl) (λ _. i))
+      (λ _. t.emits s from (frame.Out m.id.group (s.group m.id.group).number) i refl tt) (λ _. i))
 
   -- Stability
 
-  with_ack_keeps : (s : State) (from : SiteNo) (u : Uid) → I s → I (with_ack history s from u)
-  with_ack_keeps s from u i = t.books s s.quotas s.moment (s.acks ++ (from, u) ∷ []) s.told (paid (key_eq (message_key kinds.Data u from)) s.owed) s.casts s.pushes i
+  with_ack_keeps : (s : State) (from : SiteNo) (u : Uid) → I s → Came from (frame.Ack u) → I (with_ack history s from u)
+  with_ack_keeps s from u i came = k.acknowledged (paying s (message_key kinds.Data u from)) from u (pay_keeps I t s (message_key kinds.Data u from) i) came
 
-  on_ack_keeps : (s : State) (from : SiteNo) (u : Uid) → I s → I (on_ack history s u.group from u)
-  on_ack_keeps s from u i =
+  on_ack_keeps : (s : State) (from : SiteNo) (u : Uid) → I s → Came from (frame.Ack u) → I (on_ack history s u.group from u)
+  on_ack_keeps s from u i came =
       let after : State = with_ack history s from u in
-      let j : I (with_ack history s from u) = with_ack_keeps s from u i in
+      let j : I (with_ack history s from u) = with_ack_keeps s from u i came in
       keeps_if I (is_used_ack history s u.group from u) _ s
       (λ _. keeps_if I (nat_le u.count (upto s u)) (tell_stable history u (upto s u) after from) (tell_more history u (upto s u) after)
-      (λ _. t.emits after from (frame.Stable (record u { count = upto s u })) j tt)
+      (λ _. t.emits after from (frame.Stable (record u { count = upto s u })) j tt tt)
       (λ _. keeps_if I (nat_lt (upto s u) (upto after u)) (fold (tell_stable history u (upto after u)) after (others_of after u.group)) after
-      (λ _. keeps_fold I (tell_stable history u (upto after u)) (λ r to l. t.emits r to (frame.Stable (record u { count = upto after u })) l tt) (others_of after u.group) after j) (λ _. j))) (λ _. i)
+      (λ _. keeps_fold I (tell_stable history u (upto after u)) (λ r to l. t.emits r to (frame.Stable (record u { count = upto after u })) l tt tt) (others_of after u.group) after j) (λ _. j))) (λ _. i)
 
-  on_stable_keeps : (s : State) (from : SiteNo) (u : Uid) → I s → I (on_stable history s u.group from u)
-  on_stable_keeps s from u i = keeps_if I (is_current (s.group u.group) u.view && site_eq u.proc.site from) _ s
-      (λ _. t.books s s.quotas s.moment s.acks (s.told ++ u ∷ []) (paid (is_upto (message_key kinds.Ack u u.proc.site)) s.owed) s.casts s.pushes i) (λ _. i)
+  on_stable_keeps : (s : State) (from : SiteNo) (u : Uid) → I s → Came from (frame.Stable u) → I (on_stable history s u.group from u)
+  on_stable_keeps s from u i came = keeps_if I (is_current (s.group u.group) u.view && site_eq u.proc.site from) _ s
+      (λ _. k.learns (paying_upto s (message_key kinds.Ack u u.proc.site)) from u (t.pays s (is_upto (message_key kinds.Ack u u.proc.site)) i) came) (λ _. i)
 
   -- Requests
 
@@ -211,11 +239,11 @@ module _ (I : State → Type 0) (Came : SiteNo → SiteFrame → Type 0) (home_h
 
       answer : (o : Option Bool) → I (answer_ask history (set_home s g (moved (Asked from number what q) (s.home g))) g from number o)
       answer None = k.homes s g (Asked from number what q) i came
-      answer (Some full) = t.emits (set_home s g (moved (Asked from number what q) (s.home g))) from (frame.Asked g number full) (k.homes s g (Asked from number what q) i came) tt
+      answer (Some full) = t.emits (set_home s g (moved (Asked from number what q) (s.home g))) from (frame.Asked g number full) (k.homes s g (Asked from number what q) i came) tt tt
 
   deny_keeps : (s : State) (g : GroupNo) (a : Asking) → I s → I (deny history s g a)
   deny_keeps s g a i = keeps_if I (is_joining_by ((s.process a.proc.serial).standing g) a.number) _ s
-      (λ _. tell_keeps I t (outside s a.proc.serial g) a.proc.serial (push.Denied g GroupFull) (t.parts s a.proc.serial g i)) (λ _. i)
+      (λ _. tell_keeps I t (outside s a.proc.serial g) a.proc.serial (push.Denied g GroupFull) (t.parts s a.proc.serial g i) tt) (λ _. i)
 
   take_answer_keeps : (s : State) (g : GroupNo) → I s → I (take_answer history s g)
   take_answer_keeps s g i =
@@ -236,7 +264,7 @@ module _ (I : State → Type 0) (Came : SiteNo → SiteFrame → Type 0) (home_h
   -- Flushes
 
   on_prepare_keeps : (s : State) (from : SiteNo) (g : GroupNo) (view : ℕ) → I s → I (on_prepare history s g from view)
-  unfolding told_counts
+  unfolding told_counts told_tail told_kept
   on_prepare_keeps s from g view i = keeps_if I (is_from_home history s from && answers_prepare (s.group g) view) _ s
       (λ answers.
       let current = and_parts (has_view (s.group g)) ((s.group g).number == view) (and_parts (is_current (s.group g) view) _ (and_parts (is_from_home history s from) _ answers).1).0 in
@@ -247,6 +275,10 @@ module _ (I : State → Type 0) (Came : SiteNo → SiteFrame → Type 0) (home_h
         ap (λ (x : MemberSide). x.frozen) here,
         ap (λ (x : MemberSide). has_view x) here ∙ current.0,
         ap (told_counts s g) (sym here),
+      ) (
+        ap (λ (x : MemberSide). is_pending x) here ∙ not_false (is_pending (s.group g)) (and_parts (is_current (s.group g) view) (not (is_pending (s.group g))) (and_parts (is_from_home history s from) _ answers).1).1,
+        ap (told_tail s g) (sym here),
+        ap (told_kept s g) (sym here),
       )) (λ _. i)
 
   on_wanted_keeps : (s : State) (from : SiteNo) (m : Message) → I s → Came from (frame.Forward m) → I (on_wanted history s m.id.group from m)
@@ -261,17 +293,17 @@ module _ (I : State → Type 0) (Came : SiteNo → SiteFrame → Type 0) (home_h
   -- The home
 
   prepare_keeps : (s : State) (g : GroupNo) → I s → I (prepare history s g)
-  prepare_keeps s g i = keeps_fold I (owe_of_home history kinds.Prepare g) (λ r to j. owe_keeps I t r (home_key kinds.Prepare g to) j) (awaited_of (s.home g).phase) s i
+  prepare_keeps s g i = keeps_fold I (owe_of_home history kinds.Prepare g) (λ r to j. owe_keeps I t r (home_key kinds.Prepare g to) j tt) (awaited_of (s.home g).phase) s i
 
   announce_keeps : (s : State) (g : GroupNo) → I s → I (announce history s g)
-  announce_keeps s g i = keeps_fold I (owe_of_home history kinds.Install g) (λ r to j. owe_keeps I t r (home_key kinds.Install g to) j) (waiting_of (s.home g).phase) s i
+  announce_keeps s g i = keeps_fold I (owe_of_home history kinds.Install g) (λ r to j. owe_keeps I t r (home_key kinds.Install g to) j tt) (waiting_of (s.home g).phase) s i
 
   start_keeps : (s : State) (g : GroupNo) → I s → I (start history s g)
   start_keeps s g i = keeps_if I (may_start (s.home g)) (prepare history (set_home s g (moved Started (s.home g))) g) s
       (λ _. prepare_keeps (set_home s g (moved Started (s.home g))) g (k.homes s g Started i tt)) (λ _. i)
 
   want_bodies_keeps : (s : State) (g : GroupNo) → I s → I (want_bodies history s g)
-  want_bodies_keeps s g i = keeps_fold I (want history g) (λ r w j. owe_keeps I t r (want_key g w) j) (wants history s g) s i
+  want_bodies_keeps s g i = keeps_fold I (want history g) (λ r w j. owe_keeps I t r (want_key g w) j tt) (wants history s g) s i
 
   decide_keeps : (s : State) (g : GroupNo) → home_here ≡ true → I s → I (decide history s g)
   decide_keeps s g here i = keeps_if I (may_decide g (s.home g)) (announce history (set_home s g (moved Decided (s.home g))) g) s
@@ -320,7 +352,7 @@ module _ (I : State → Type 0) (Came : SiteNo → SiteFrame → Type 0) (home_h
   on_want_keeps : (s : State) (from : SiteNo) (u : Uid) → I s → I (on_want history s u.group from u)
   on_want_keeps s from u i = keeps_if I (site_eq from s.here && not (is_home history s)) s _ (λ _. i)
       (λ _. keeps_option I (λ m. emitted s from (frame.Forward m)) (forwardable history s u.group u) s
-      (λ m is. t.emits s from (frame.Forward m) i (has (find (λ x. uid_eq x.id u) (bodies_of (s.home u.group).phase)) refl m is)) i)
+      (λ m is. t.emits s from (frame.Forward m) i (has (find (λ x. uid_eq x.id u) (bodies_of (s.home u.group).phase)) refl m is) tt) i)
     where
       has : (o : Option Message) → find (λ x. uid_eq x.id u) (bodies_of (s.home u.group).phase) ≡ o → (m : Message) → option_or o (message_of s u) ≡ Some m →
           Contains s.kept m ⊎ ((g : GroupNo) × Contains (bodies_of (s.home g).phase) m)
@@ -339,15 +371,18 @@ module _ (I : State → Type 0) (Came : SiteNo → SiteFrame → Type 0) (home_h
       let entered : State = passing s g skipped n members request cut in
       let out : State = fold (tell_out history g n) entered (history.put_out s g skipped members) in
       let told : State = fold (tell_view history g n members) out (local_members entered g) in
-      let all : I (enter_and_tell history skipped s g n members request cut) =
-      keeps_fold I (tell_view history g n members) (λ r q j. tell_keeps I t r q (push.View g n members) j) (local_members entered g) out
-      (keeps_fold I (tell_out history g n) (λ r q j. tell_keeps I t r q (push.Ejected g n) j) (history.put_out s g skipped members) entered (k.passes s g skipped n members request cut i comes)) in
-      owed_keeps I t (releasing_ended told g) (paid (is_of_view g) told.owed) (t.releases told (is_ended told g) all)
+      let b : FullyKeptByTelling (Between g) = k.between g in
+      let all : Between g (enter_and_tell history skipped s g n members request cut) =
+      tell_all_keeps (push.View g n members) (Between g) b (local_members entered g) out
+      (tell_all_keeps (push.Ejected g n) (Between g) b (history.put_out s g skipped members) entered (k.passes s g skipped n members request cut i comes) (put_out_left s g skipped n members request cut))
+      (λ q at. agrees_later (entered.acts q) (out.acts q) (tell_all_goes_on (push.Ejected g n) (history.put_out s g skipped members) entered (put_out_left s g skipped n members request cut) q)
+      (push.View g n members) (members_entered s g skipped n members request cut q at)) in
+      k.ends (releasing_ended told g) g (b.releases told (is_ended told g) all)
 
   pub install_keeps : (s : State) (g : GroupNo) (skipped : Bool) (to : SiteNo) (n : ℕ) (members : Membership) (request : ℕ) (cut : CountList) → I s →
       Comes Came s g skipped n members request cut → I (install history skipped s g to n members request cut)
   install_keeps s g skipped to n members request cut i comes =
-      t.emits (change_view history skipped s g n members request cut) to (frame.Installed g n) (change_view_keeps s g skipped n members request cut i comes) tt
+      t.emits (change_view history skipped s g n members request cut) to (frame.Installed g n) (change_view_keeps s g skipped n members request cut i comes) tt tt
 
   -- what a verdict leads to
   abbrev By : (s : State) (from : SiteNo) (g : GroupNo) (n : ℕ) (members : Membership) (request : ℕ) (cut : CountList) (tail : Stretch) → Verdict → Type 0
@@ -363,13 +398,13 @@ module _ (I : State → Type 0) (Came : SiteNo → SiteFrame → Type 0) (home_h
       Came from (frame.Install g n members request cut tail) → I (on_install history s g from n members request cut tail)
   on_install_keeps s from g n members request cut tail i came = keeps_if I (is_from_home history s from) _ s (λ _. again (nat_le n (s.group g).number) refl) (λ _. i)
     where
-      waits : (b : Bool) → has_view (s.group g) ≡ true → n ≡ (s.group g).number + 1 → By s from g n members request cut tail (if b then Ignored else Pends)
-      waits true has is = i
-      waits false has is = k.pends s from g (record { members = members; request = request; cut = cut }) tail i (subst (λ v. Came from (frame.Install g v members request cut tail)) is came) has
+      waits : (b : Bool) → has_view (s.group g) ≡ true → n ≡ (s.group g).number + 1 → is_pending (s.group g) ≡ b → By s from g n members request cut tail (if b then Ignored else Pends)
+      waits true has is quiet = i
+      waits false has is quiet = k.pends s from g (record { members = members; request = request; cut = cut }) tail i (subst (λ v. Came from (frame.Install g v members request cut tail)) is came) has quiet
 
       has_none : (b : Bool) → not (has_view (s.group g)) ≡ b → (s.group g).number < n → n ≡ (s.group g).number + 1 → By s from g n members request cut tail (if b then Completes else if is_pending (s.group g) then Ignored else Pends)
       has_none true none up is = install_keeps s g false from n members request cut i (installs from tail came (not_false (has_view (s.group g)) none) refl up)
-      has_none false some up is = waits (is_pending (s.group g)) (not_true (has_view (s.group g)) some) is
+      has_none false some up is = waits (is_pending (s.group g)) (not_true (has_view (s.group g)) some) is refl
 
       skipping : (b : Bool) → nat_lt ((s.group g).number + 1) n ≡ b → (s.group g).number < n →
           By s from g n members request cut tail (if b then Skips else if not (has_view (s.group g)) then Completes else if is_pending (s.group g) then Ignored else Pends)
@@ -379,7 +414,7 @@ module _ (I : State → Type 0) (Came : SiteNo → SiteFrame → Type 0) (home_h
 
       again : (b : Bool) → nat_le n (s.group g).number ≡ b →
           By s from g n members request cut tail (if b then Again else if nat_lt ((s.group g).number + 1) n then Skips else if not (has_view (s.group g)) then Completes else if is_pending (s.group g) then Ignored else Pends)
-      again true low = t.emits s from (frame.Installed g n) i tt
+      again true low = t.emits s from (frame.Installed g n) i tt tt
       again false high = skipping (nat_lt ((s.group g).number + 1) n) refl (leb-false n (s.group g).number high)
 
   on_out_keeps : (s : State) (from : SiteNo) (g : GroupNo) (n : ℕ) → I s → Came from (frame.Out g n) → I (on_out history s g n)
@@ -390,8 +425,8 @@ module _ (I : State → Type 0) (Came : SiteNo → SiteFrame → Type 0) (home_h
 
   on_frame_keeps : (s : State) (from : SiteNo) (f : SiteFrame) → I s → Came from f → I (on_frame history s (group_of f) from f)
   on_frame_keeps s from (frame.Data m) i came = on_data_keeps s from m i came
-  on_frame_keeps s from (frame.Ack u) i came = on_ack_keeps s from u i
-  on_frame_keeps s from (frame.Stable u) i came = on_stable_keeps s from u i
+  on_frame_keeps s from (frame.Ack u) i came = on_ack_keeps s from u i came
+  on_frame_keeps s from (frame.Stable u) i came = on_stable_keeps s from u i came
   on_frame_keeps s from (frame.Ask g number what p) i came = on_ask_keeps s from g number what p i came
   on_frame_keeps s from (frame.Asked g number full) i came = on_asked_keeps s from g number full i
   on_frame_keeps s from (frame.Prepare g view) i came = on_prepare_keeps s from g view i

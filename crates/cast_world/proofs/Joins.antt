@@ -54,8 +54,8 @@ module _ (home : SiteNo) (w : Network) (a : SiteNo) (s : State) where
       and_then t k (record (t.process k) { standing = set_at group_eq (t.process k).standing g (Joining ((t.group g).asked + 1) (view_of (t.process k).time g)) }) i.1
           (onward_joins (t.process k) g ((t.group g).asked + 1) (view_of (t.process k).time g)),
     );
-    sends = λ t g k content i member. (
-      now_kept.sends t g k content i.0 member,
+    sends = λ t g k content i member may. (
+      now_kept.sends t g k content i.0 member may,
       and_then t k (record (t.process k) { time = (next_message t g k content).times }) i.1 (onward_time (t.process k) (next_message t g k content)
           (λ h. let same = bumped_view (t.process k).time g (local t k) h in omega (arith, same))),
     );
@@ -113,4 +113,4 @@ joins_go_forward sites config steps w v step r happens s k g request heard joini
 pub views_are_decided : AllViewsAreDecided
 views_are_decided sites config steps w s r =
     let all = holds_in_every sites config steps w r in
-    subst (ViewsAreDecided w) (r.agree.home record { 0 = 0 } s) ((λ q k g. ((all.sites q).ones k).views g), λ q m g c. ((all.sites q).received m c).views g)
+    subst (ViewsAreDecided w) (r.home record { 0 = 0 } s) ((λ q k g. ((all.sites q).ones k).views g), λ q m g c. ((all.sites q).received m c).views g)

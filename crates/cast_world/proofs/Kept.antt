@@ -1,16 +1,22 @@
 -- The moves of a history, each with all that is known when a rule makes it.
-use Rattle.std.specs.Prelude.{◌+◌, ◌<◌, Bool, Contains, List, Some, false, true, ℕ, ◌≡◌, ◌⊎◌}
+use Rattle.std.proofs.Common.{inr}
+use Rattle.std.specs.Prelude.{◌+◌, ◌++◌, ◌<◌, Bool, Contains, List, Some, [], false, true, ℕ, ◌∷◌, ◌≡◌, ◌⊎◌}
 use Rattle.cast_clock.specs.Times.{view_of}
 use Rattle.cast_delay.specs.Ready.{is_member, is_outside}
 use Rattle.cast_history.specs.Effects.{next_message}
 use Rattle.cast_history.specs.Entering.{freezing, passing, pending_install}
 use Rattle.cast_history.specs.History.{history}
+use Rattle.cast_history.specs.Order.{holds}
+use Rattle.cast_history.specs.Owing.{paying_view}
 use Rattle.cast_history.specs.Reports.{has_delivered_cut, report_in}
+use Rattle.cast_history.specs.Resting.{places_of}
 use Rattle.cast_history.specs.Rules.Asking.{is_home}
+use Rattle.cast_history.specs.Rules.Keys.{id_in}
 use Rattle.cast_history.specs.Rules.Views.{no_members}
-use Rattle.cast_history.specs.State.{State, emitted, is_group, noting_sent, outside, receiving, releasing, set_group, set_home, set_session, set_standing, with_delivery}
+use Rattle.cast_history.specs.State.{State, emitted, is_group, is_received, noting_ack, noting_sent, noting_stable, outside, receiving, releasing, set_group, set_home, set_session, set_standing, with_delivery}
 use Rattle.cast_history.specs.Step.{opening_next}
 use Rattle.cast_history.specs.Turns.{is_ready_for}
+use Rattle.cast_message.specs.Bodies.{kind_of}
 use Rattle.cast_message.specs.Membership.{Membership}
 use Rattle.cast_message.specs.Stretch.{Stretch}
 use Rattle.cast_message.specs.declared.client.Push.{Push}
@@ -21,9 +27,12 @@ use Rattle.cast_message.specs.declared.site.SiteFrame.{SiteFrame}
 use Rattle.cast_model.specs.Session.{Session, is_open}
 use Rattle.cast_quota.specs.declared.quotas.Quotas.{Quotas}
 use Rattle.cast_stable.specs.Stable.{Acked}
+use Rattle.cast_timer.specs.Owed.{is_of_view, paid, renewed, with_owed}
 use Rattle.cast_timer.specs.declared.key.Owed.{Owed}
+use Rattle.cast_timer.specs.declared.key.OwedKey.{OwedKey}
+use Rattle.cast_timer.specs.declared.key.OwedKind.{OwedKind}
 use Rattle.cast_types.specs.Counts.{CountList}
-use Rattle.cast_types.specs.Names.{proc_eq}
+use Rattle.cast_types.specs.Names.{is_order, proc_eq}
 use Rattle.cast_types.specs.Sets.{is_among}
 use Rattle.cast_types.specs.declared.names.GroupNo.{GroupNo}
 use Rattle.cast_types.specs.declared.names.Proc.{Proc}
@@ -32,11 +41,14 @@ use Rattle.cast_types.specs.declared.names.Standing.TheVariants.{Joining}
 use Rattle.cast_types.specs.declared.names.Uid.{Uid}
 use Rattle.cast_view.specs.Home.{HomeMove, answer_in, bodies_of, may_decide, moved}
 use Rattle.cast_view.specs.Home.HomeMove.{Asked, Brought, Decided, Installed, Reported, Started, Suspected}
-use Rattle.cast_view.specs.MemberSide.{has_view, members_of, with_answer, with_request}
+use Rattle.cast_view.specs.MemberSide.{has_view, is_pending, members_of, with_answer, with_request}
 use Rattle.cast_view.specs.declared.member.Asking.{Asking}
 use Rattle.cast_view.specs.declared.member.Pending.{Pending}
 use Rattle.cast_view.specs.declared.phase.Decision.{Decision}
 use Rattle.cast_view.specs.declared.phase.Phase.TheVariants.{Installing}
+use Rattle.cast_world.specs.Laws.{AgreesWith}
+use Rattle.cast_message.specs.declared.message.Body.TheVariants as body
+use Rattle.cast_timer.specs.declared.key.OwedKind.TheVariants as kinds
 use Rattle.cast_message.specs.declared.site.SiteFrame.TheVariants as frame
 
 -- a frame says nothing but what its sender has
@@ -68,6 +80,12 @@ MayMove Came s g (Brought m) = (from : SiteNo) × Came from (frame.Forward m)
 MayMove Came s g Decided = (is_home history s ≡ true) × (may_decide g (s.home g) ≡ true)
 MayMove Came s g (Installed from view) = Unit {0}
 
+-- what a member may send: a cast at all times; a set-order message only where it holds the view's order, no flush has frozen the group, and it
+-- sets the places after the order known here
+pub data MaySend (s : State) (g : GroupNo) (k : ℕ) (content : Body) : Type 0 where
+  casts : is_order (kind_of content) ≡ false → MaySend s g k content
+  lists : holds s g k ≡ true → (s.group g).frozen ≡ false → content ≡ body.Order (places_of s g k) → MaySend s g k content
+
 -- how a site comes to pass to a view: the Install that waited is completed; one comes where the site has no view, or skips a view; or it is
 -- told of a view without members here
 pub data Comes (Came : SiteNo → SiteFrame → Type 0) (s : State) (g : GroupNo) (skipped : Bool) (n : ℕ) (members : Membership) (request : ℕ) (cut : CountList) : Type 0 where
@@ -98,7 +116,7 @@ pub record Kept (I : State → Type 0) (Came : SiteNo → SiteFrame → Type 0) 
   pub answers : (s : State) (g : GroupNo) → I s → I (set_group s g (with_answer (s.group g)))
   pub joins : (s : State) (k : ℕ) (g : GroupNo) → I s → is_open (s.session k) ≡ true → is_group s g ≡ true → is_outside ((s.process k).standing g) ≡ true →
       I (set_standing s k g (Joining ((s.group g).asked + 1) (view_of (s.process k).time g)))
-  pub sends : (s : State) (g : GroupNo) (k : ℕ) (content : Body) → I s → is_member ((s.process k).standing g) ≡ true →
+  pub sends : (s : State) (g : GroupNo) (k : ℕ) (content : Body) → I s → is_member ((s.process k).standing g) ≡ true → MaySend s g k content →
       I (receiving (noting_sent s k (next_message s g k content)) (next_message s g k content))
   pub receives : (s : State) (from : SiteNo) (m : Message) → I s → Came from (frame.Data m) ⊎ Came from (frame.Forward m) →
       m.id.view ≡ (s.group m.id.group).number → is_among proc_eq m.id.proc (members_of (s.group m.id.group)) ≡ true → I (receiving s m)
@@ -109,3 +127,117 @@ pub record Kept (I : State → Type 0) (Came : SiteNo → SiteFrame → Type 0) 
   pub passes : (s : State) (g : GroupNo) (skipped : Bool) (n : ℕ) (members : Membership) (request : ℕ) (cut : CountList) → I s →
       Comes Came s g skipped n members request cut → I (passing s g skipped n members request cut)
   pub homes : (s : State) (g : GroupNo) (what : HomeMove) → I s → MayMove Came s g what → I (set_home s g (moved what (s.home g)))
+
+-- The same moves with all that is known of them: of what is owed, of acknowledgements, of what a report and an Install say, and of what programs
+-- are told
+
+-- an Ack that is owed is of a message that was received
+abbrev pub OwesOf : State → OwedKey → OwedKind → Type 0
+OwesOf s key kinds.Ask = Unit {0}
+OwesOf s key kinds.Data = Unit {0}
+OwesOf s key kinds.Prepare = Unit {0}
+OwesOf s key kinds.Want = Unit {0}
+OwesOf s key kinds.Install = Unit {0}
+OwesOf s key kinds.Ack = is_received s (id_in (s.group key.group).number key) ≡ true
+
+abbrev pub Owes : State → OwedKey → Type 0
+Owes s key = OwesOf s key key.kind
+
+abbrev pub OwedTrue : State → Type 0
+OwedTrue s = (o : Owed) → Contains s.owed o → Owes s o.key
+
+-- what else a frame says
+abbrev pub Adds : State → SiteFrame → Type 0
+Adds s (frame.Data m) = Unit {0}
+Adds s (frame.Ack u) = is_received s u ≡ true
+Adds s (frame.Stable u) = Unit {0}
+Adds s (frame.Ask g number what p) = Unit {0}
+Adds s (frame.Asked g number full) = Unit {0}
+Adds s (frame.Prepare g view) = Unit {0}
+Adds s (frame.Flushed g view counts tail kept) = (is_pending (s.group g) ≡ false) × (tail ≡ (report_in s g).tail) × (kept ≡ (report_in s g).kept)
+Adds s (frame.Want u) = Unit {0}
+Adds s (frame.Forward m) = Unit {0}
+Adds s (frame.Install g view members request cut tail) =
+    (waiting : List SiteNo) × (d : Decision) × (bodies : List Message) × ((s.home g).phase ≡ Installing waiting d bodies) × (tail ≡ d.tail)
+Adds s (frame.Installed g view) = Unit {0}
+Adds s (frame.Out g view) = Unit {0}
+
+pub record FullyKeptByTelling (I : State → Type 0) : Type 0 where
+  pub emits : (s : State) (to : SiteNo) (f : SiteFrame) → I s → Says s to f → Adds s f → I (emitted s to f)
+  pub books : (s : State) (quotas : Quotas) (moment casts : ℕ) → I s → I (record s { quotas = quotas; moment = moment; casts = casts })
+  pub pushes : (s : State) (k : ℕ) (p : Push) → I s → AgreesWith (s.acts k) p → I (record s { pushes = s.pushes ++ (k, p) ∷ [] })
+  pub owes : (s : State) (key : OwedKey) (due : ℕ) → I s → Owes s key → I (record s { owed = with_owed s.owed key due })
+  pub renews : (s : State) (key : OwedKey) (due : ℕ) → I s → Owes s key → I (record s { owed = renewed s.owed key due })
+  pub pays : (s : State) (test : OwedKey → Bool) → I s → I (record s { owed = paid test s.owed })
+  pub releases : (s : State) (passes : Uid → Bool) → I s → I (releasing s passes)
+  pub sets_session : (s : State) (k : ℕ) (v : Session) → I s → (is_open v ≡ true → is_open (s.session k) ≡ true) → I (set_session s k v)
+  pub parts : (s : State) (k : ℕ) (g : GroupNo) → I s → I (outside s k g)
+  pub requests : (s : State) (g : GroupNo) (what : Change) (p : Proc) → I s → I (set_group s g (with_request (s.group g) what p))
+
+-- Acks may be sent, and owed again, at all times
+abbrev pub AcksFreely : (State → Type 0) → Type 0
+AcksFreely I =
+    ((s : State) (to : SiteNo) (u : Uid) → I s → I (emitted s to (frame.Ack u)))
+    × ((s : State) (key : OwedKey) (due : ℕ) → I s → I (record s { owed = renewed s.owed key due }))
+
+-- where a site passes to a view, Between holds of the group until nothing is owed for the view before it
+pub record FullyKept (I : State → Type 0) (Between : GroupNo → State → Type 0) (Came : SiteNo → SiteFrame → Type 0) (home_here : Bool) : Type 0 where
+  pub telling : FullyKeptByTelling I
+  pub between : (g : GroupNo) → FullyKeptByTelling (Between g)
+  pub truly : ((s : State) → I s → OwedTrue s) ⊎ AcksFreely I
+  pub fixed : (s : State) → I s → is_home history s ≡ home_here
+  pub opens : (s : State) → I s → I (opening_next s)
+  pub answers : (s : State) (g : GroupNo) → I s → I (set_group s g (with_answer (s.group g)))
+  pub joins : (s : State) (k : ℕ) (g : GroupNo) → I s → is_open (s.session k) ≡ true → is_group s g ≡ true → is_outside ((s.process k).standing g) ≡ true →
+      I (set_standing s k g (Joining ((s.group g).asked + 1) (view_of (s.process k).time g)))
+  pub sends : (s : State) (g : GroupNo) (k : ℕ) (content : Body) → I s → is_member ((s.process k).standing g) ≡ true → MaySend s g k content →
+      I (receiving (noting_sent s k (next_message s g k content)) (next_message s g k content))
+  pub receives : (s : State) (from : SiteNo) (m : Message) → I s → Came from (frame.Data m) ⊎ Came from (frame.Forward m) →
+      m.id.view ≡ (s.group m.id.group).number → is_among proc_eq m.id.proc (members_of (s.group m.id.group)) ≡ true → I (receiving s m)
+  pub acknowledged : (s : State) (from : SiteNo) (u : Uid) → I s → Came from (frame.Ack u) → I (noting_ack s from u)
+  pub learns : (s : State) (from : SiteNo) (u : Uid) → I s → Came from (frame.Stable u) → I (noting_stable s u)
+  pub delivers : (s : State) (k : ℕ) (m : Message) → I s → Contains s.got m → is_ready_for s k m ≡ true → I (with_delivery s k m)
+  pub freezes : (s : State) (g : GroupNo) → I s → has_view (s.group g) ≡ true → I (freezing s g)
+  pub pends : (s : State) (from : SiteNo) (g : GroupNo) (p : Pending) (tail : Stretch) → I s →
+      Came from (frame.Install g ((s.group g).number + 1) p.members p.request p.cut tail) → has_view (s.group g) ≡ true → is_pending (s.group g) ≡ false → I (pending_install s g p tail)
+  pub passes : (s : State) (g : GroupNo) (skipped : Bool) (n : ℕ) (members : Membership) (request : ℕ) (cut : CountList) → I s →
+      Comes Came s g skipped n members request cut → Between g (passing s g skipped n members request cut)
+  pub ends : (s : State) (g : GroupNo) → Between g s → I (paying_view s g)
+  pub homes : (s : State) (g : GroupNo) (what : HomeMove) → I s → MayMove Came s g what → I (set_home s g (moved what (s.home g)))
+
+-- what is kept by the moves above is kept by these
+module _ (I : State → Type 0) (Came : SiteNo → SiteFrame → Type 0) (home_here : Bool) (k : Kept I Came home_here) where
+  full_telling : FullyKeptByTelling I
+  full_telling = record {
+    emits = λ s to f i says adds. k.telling.emits s to f i says;
+    books = λ s quotas moment casts i. k.telling.books s quotas moment s.acks s.told s.owed casts s.pushes i;
+    pushes = λ s n p i agrees. k.telling.books s s.quotas s.moment s.acks s.told s.owed s.casts (s.pushes ++ (n, p) ∷ []) i;
+    owes = λ s key due i owes. k.telling.books s s.quotas s.moment s.acks s.told (with_owed s.owed key due) s.casts s.pushes i;
+    renews = λ s key due i owes. k.telling.books s s.quotas s.moment s.acks s.told (renewed s.owed key due) s.casts s.pushes i;
+    pays = λ s test i. k.telling.books s s.quotas s.moment s.acks s.told (paid test s.owed) s.casts s.pushes i;
+    releases = k.telling.releases;
+    sets_session = k.telling.sets_session;
+    parts = k.telling.parts;
+    requests = k.telling.requests;
+  }
+
+  pub kept_fully : FullyKept I (λ g. I) Came home_here
+  kept_fully = record {
+    telling = full_telling;
+    between = λ g. full_telling;
+    truly = inr ((λ s to u i. k.telling.emits s to (frame.Ack u) i tt), λ s key due i. k.telling.books s s.quotas s.moment s.acks s.told (renewed s.owed key due) s.casts s.pushes i);
+    fixed = k.fixed;
+    opens = k.opens;
+    answers = k.answers;
+    joins = k.joins;
+    sends = k.sends;
+    receives = k.receives;
+    acknowledged = λ s from u i came. k.telling.books s s.quotas s.moment (s.acks ++ (from, u) ∷ []) s.told s.owed s.casts s.pushes i;
+    learns = λ s from u i came. k.telling.books s s.quotas s.moment s.acks (s.told ++ u ∷ []) s.owed s.casts s.pushes i;
+    delivers = k.delivers;
+    freezes = k.freezes;
+    pends = λ s from g p tail i came has waits. k.pends s from g p tail i came has;
+    passes = k.passes;
+    ends = λ s g i. k.telling.books s s.quotas s.moment s.acks s.told (paid (is_of_view g) s.owed) s.casts s.pushes i;
+    homes = k.homes;
+  }

@@ -11,11 +11,11 @@ use Rattle.cast_types.specs.declared.names.GroupNo.{GroupNo}
 use Rattle.cast_types.specs.declared.names.Uid.{Uid}
 use Rattle.cast_world.proofs.Facts.{Each, HasDelivered, HasDone, IsIn}
 
-head_or : {X : Type 0} → X → List X → X
+unfoldable pub head_or : {X : Type 0} → X → List X → X
 head_or d [] = d
 head_or d (x ∷ xs) = x
 
-tail_of : {X : Type 0} → List X → List X
+unfoldable pub tail_of : {X : Type 0} → List X → List X
 tail_of [] = []
 tail_of (x ∷ xs) = xs
 

@@ -199,7 +199,7 @@ facts home w h = record {
 pub holds_in_every : (sites : List SiteNo) (config : SiteNo → DomainConfig) (steps : List Step) (w : Network) → Reaches sites config steps w → AllHold (config record { 0 = 0 }).home w
 holds_in_every sites config steps w r =
     let home : SiteNo = (config record { 0 = 0 }).home in
-    leads_holds home steps (start sites config) w r.leads (start_holds sites config home (λ s. r.agree.home s record { 0 = 0 }))
+    leads_holds home steps (start sites config) w r.leads (start_holds sites config home (λ s. r.home s record { 0 = 0 }))
 
 -- no process delivers a message before one that happened before it and is due to it
 pub causal_delivery : CausalDelivery

@@ -17,26 +17,26 @@ use Rattle.cast_types.specs.declared.names.Proc.{Proc}
 use Rattle.cast_types.specs.declared.names.SiteNo.{SiteNo}
 use Rattle.cast_types.specs.declared.names.Uid.{Uid}
 use Rattle.cast_world.proofs.Acts.{contains_around, contains_here, entered_other}
-use Rattle.cast_world.proofs.Allowed.{contains_kept}
+use Rattle.cast_world.proofs.Allowed.{contains_kept, passed}
 use Rattle.cast_world.proofs.Cuts.{delivered_within}
 use Rattle.cast_world.proofs.Events.{after_event_keeps, rests_keeps}
 use Rattle.cast_world.proofs.Facts.{Facts, IsIn}
 use Rattle.cast_world.proofs.FlushRuns.{AllKept, kept_in_every, passes_with_cut}
-use Rattle.cast_world.proofs.FlushSteps.{passed}
 use Rattle.cast_world.proofs.Homes.{among_kept}
 use Rattle.cast_world.proofs.Lists.{contains_split, entered_same, never_nil}
 use Rattle.cast_world.proofs.Ones.{outside_not_member}
 use Rattle.cast_world.proofs.Runs.{facts, first, nothing, start_holds, step_arrives, step_holds}
 use Rattle.cast_world.proofs.Seen.{AllSeen, SeenNow, kept_seen}
 use Rattle.cast_world.proofs.Steps.{AllHold, Arrived}
+use Rattle.cast_world.specs.Agreement.{Passes, delivered_of, of_view}
 use Rattle.cast_world.specs.HappenedBefore.{NeverLeft, acts_of}
-use Rattle.cast_world.specs.Laws.{AllDeliverTheSame, Passes, PassesWithCut, SameMessages, delivered_in}
+use Rattle.cast_world.specs.Laws.{AllDeliverTheSame, PassesWithCut, SameMessages}
 use Rattle.cast_world.specs.Network.{Becomes, Happens, Leads, Network, Reaches, event_of, start}
 use Rattle.cast_world.specs.declared.step.Step.{Step}
 
 -- Every run
 
-abbrev EachSeen : Network → Type 0
+abbrev pub EachSeen : Network → Type 0
 EachSeen w = (s : SiteNo) → AllSeen (w.at s)
 
 step_seen : (home : SiteNo) (w v : Network) (step : Step) → Happens w step v → AllHold home w → EachSeen w → EachSeen v
@@ -57,10 +57,10 @@ leads_seen : (home : SiteNo) (steps : List Step) (w v : Network) → Leads w ste
 leads_seen home [] w v same h all = subst EachSeen (sym same) all
 leads_seen home (step ∷ steps) w v (u, one, more) h all = leads_seen home steps u v more (step_holds home w u step one h) (step_seen home w u step one h all)
 
-seen_in_every : (sites : List SiteNo) (config : SiteNo → DomainConfig) (steps : List Step) (w : Network) → Reaches sites config steps w → EachSeen w
+pub seen_in_every : (sites : List SiteNo) (config : SiteNo → DomainConfig) (steps : List Step) (w : Network) → Reaches sites config steps w → EachSeen w
 seen_in_every sites config steps w r =
     let home : SiteNo = (config record { 0 = 0 }).home in
-    leads_seen home steps (start sites config) w r.leads (start_holds sites config home (λ s. r.agree.home s record { 0 = 0 }))
+    leads_seen home steps (start sites config) w r.leads (start_holds sites config home (λ s. r.home s record { 0 = 0 }))
     (λ s k. record { inside = λ g e. absurd (outside_not_member e); reached = λ g v cut c. absurd (nothing _ c); seen = λ a c x e. absurd (never_nil a c x e) })
 
 -- The law
@@ -71,7 +71,7 @@ module _ (w : Network) (f : Facts w) (seen : EachSeen w) (p : Proc) (g : GroupNo
   until = a ++ Entered g view before ∷ b
 
   -- after the next view was entered no message of this one is delivered
-  none_after : (m : Message) → Contains c (Delivered m) → m.id.group ≡ g → m.id.view ≡ view → ⊥
+  pub none_after : (m : Message) → Contains c (Delivered m) → m.id.group ≡ g → m.id.view ≡ view → ⊥
   none_after m at group in_view =
       let s = contains_split c (Delivered m) at in
       let past : List Act = until ++ Entered g (view + 1) cut ∷ s.0 in
@@ -97,7 +97,7 @@ module _ (home : SiteNo) (w : Network) (all : AllKept home w) (seen : EachSeen w
   abbrev f : Facts w
   f = facts home w all.0
 
-  same_one : (p q : Proc) (g : GroupNo) (view : ℕ) → Passes w p g view → Passes w q g view → (u : Uid) → Contains (delivered_in w p g view) u → Contains (delivered_in w q g view) u
+  same_one : (p q : Proc) (g : GroupNo) (view : ℕ) → Passes w p g view → Passes w q g view → (u : Uid) → Contains (of_view g view (delivered_of w p)) u → Contains (of_view g view (delivered_of w q)) u
   same_one p q g view (before, cut, a, b, c, is, stays) (before_q, cut_q, a_q, b_q, c_q, is_q, stays_q) u at =
       let test : Uid → Bool = λ x. group_eq x.group g && (x.view == view) in
       let tests = and_parts (group_eq u.group g) (u.view == view) (passed test ((w.at p.site).process p.serial).delivered u at) in
@@ -117,7 +117,7 @@ module _ (home : SiteNo) (w : Network) (all : AllKept home w) (seen : EachSeen w
       let listed : Contains ((w.at q.site).process q.serial).delivered u = subst (λ x. Contains ((w.at q.site).process q.serial).delivered x) (done.1 ∙ sym name) (((all.2.sites q.site).ones q.serial).has done.0 whole) in
       contains_kept test ((w.at q.site).process q.serial).delivered u listed (λ i. eq-eqb u.group.0 g.0 (ap (λ (x : GroupNo). x.0) group) i && eq-eqb u.view view in_view i)
 
-  pub same_all : SameMessages w
+  pub same_all : SameMessages w (delivered_of w)
   same_all p q g view one two u = (same_one p q g view one two u, same_one q p g view two one u)
 
 pub same_messages : AllDeliverTheSame

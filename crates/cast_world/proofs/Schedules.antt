@@ -1,14 +1,27 @@
 -- Worked schedules over several sites.
-use Rattle.std.specs.Prelude.{◌+◌, List, None, Some, [], length, refl, slice_get, suc, zero, ℕ, ◌∷◌, ◌≡◌}
+use Rattle.cast_delay.proofs.Members.{member_any}
+use Rattle.std.proofs.Common.{ap, append_assoc, subst, sym, ◌∙◌}
+use Rattle.std.proofs.lemmas.Bool.{false≢true, true≢false}
+use Rattle.std.proofs.lemmas.List.Elements.{Contains-append_left, Contains-append_right}
+use Rattle.std.specs.List.{list_any}
+use Rattle.std.specs.Prelude.{◌+◌, ◌++◌, Bool, Contains, List, None, Some, [], false, is_some, length, refl, slice_get, suc, true, unwrap_or, zero, ℕ, ◌∷◌, ◌≡◌}
+use Rattle.cast_history.specs.Acts.{Act}
+use Rattle.cast_history.specs.Acts.Act.{Delivered, Entered, Left, Sent as Sends}
 use Rattle.cast_message.specs.declared.client.Request.TheVariants.{Cast, Join}
 use Rattle.cast_model.specs.declared.config.DomainConfig.{DomainConfig}
 use Rattle.cast_model.specs.declared.event.Event.{Event}
+use Rattle.cast_order.specs.Order.{known_order}
 use Rattle.cast_quota.specs.Quotas.{usual}
+use Rattle.cast_types.specs.Counts.{CountList}
 use Rattle.cast_types.specs.declared.names.DomainNo.{DomainNo}
 use Rattle.cast_types.specs.declared.names.GroupNo.{GroupNo}
 use Rattle.cast_types.specs.declared.names.Proc.{Proc}
 use Rattle.cast_types.specs.declared.names.SiteNo.{SiteNo}
 use Rattle.cast_types.specs.declared.names.Uid.{Uid}
+use Rattle.cast_view.specs.MemberSide.{is_pending}
+use Rattle.cast_world.proofs.Allowed.{contains_more}
+use Rattle.cast_world.specs.Agreement.{IsWithin, Passes, abcasts_in}
+use Rattle.cast_world.specs.HappenedBefore.{NeverLeft, acts_of}
 use Rattle.cast_world.specs.Network.{Network, happens_in, leads_in, start}
 use Rattle.cast_world.specs.declared.step.Happening.TheVariants.{Local, Sent}
 use Rattle.cast_world.specs.declared.step.Step.{Step}
@@ -46,6 +59,9 @@ joins s g = does s (event.Command domain 1 (command.Request (Join 7 (group g))))
 abbrev casts : ℕ → ℕ → Step
 casts s g = does s (event.Command domain 1 (command.Request (Cast 8 (group g) kind.Causal [])))
 
+abbrev abcasts : ℕ → ℕ → Step
+abcasts s g = does s (event.Command domain 1 (command.Request (Cast 8 (group g) kind.Atomic [])))
+
 abbrev suspects : ℕ → ℕ → Step
 suspects s t = does s (event.Suspect domain (site t))
 
@@ -68,6 +84,58 @@ begun sites groups = start sites (λ s. config sites groups)
 -- what the first process of a site delivered
 abbrev delivered : Network → ℕ → List Uid
 delivered w s = ((w.at (site s)).process 1).delivered
+
+-- the ABCASTs that it delivered of a view of group 1
+abbrev delivered_abcasts : Network → ℕ → ℕ → List Uid
+delivered_abcasts w s view = abcasts_in w (proc s 1) (group 1) view
+
+-- Who passes a view and who is within one, by the places of their entries
+
+is_leaving : Act → Bool
+is_leaving (Sends m) = false
+is_leaving (Delivered m) = false
+is_leaving (Entered g view cut) = false
+is_leaving (Left g) = true
+
+never_left : (g : GroupNo) (acts : List Act) → list_any is_leaving acts ≡ false → NeverLeft g acts
+unfolding is_leaving
+never_left g acts none at = true≢false (sym (member_any is_leaving acts (Left g) at refl) ∙ none)
+
+-- what stands behind a place
+abbrev behind : ℕ → List Act → List Act
+behind n [] = []
+behind zero (x ∷ acts) = acts
+behind (suc n) (x ∷ acts) = behind n acts
+
+split_at : (acts : List Act) (n : ℕ) (x : Act) → slice_get acts n ≡ Some x → (a : List Act) × (acts ≡ a ++ x ∷ behind n acts)
+split_at [] n x e = absurd (false≢true (ap is_some e))
+split_at (y ∷ acts) zero x e = ([], ap (λ z. z ∷ acts) (ap (λ o. unwrap_or o y) e))
+split_at (y ∷ acts) (suc n) x e = let rest = split_at acts n x e in (y ∷ rest.0, ap (λ l. y ∷ l) rest.1)
+
+passes_at : (w : Network) (p : Proc) (g : GroupNo) (view : ℕ) (before cut : CountList) (n k : ℕ) →
+    slice_get (acts_of w p) n ≡ Some (Entered g view before) → slice_get (behind n (acts_of w p)) k ≡ Some (Entered g (view + 1) cut) →
+    list_any is_leaving (acts_of w p) ≡ false → Passes w p g view
+passes_at w p g view before cut n k first second none =
+    let one = split_at (acts_of w p) n (Entered g view before) first in
+    let two = split_at (behind n (acts_of w p)) k (Entered g (view + 1) cut) second in
+    let is : acts_of w p ≡ (one.0 ++ Entered g view before ∷ two.0) ++ Entered g (view + 1) cut ∷ behind k (behind n (acts_of w p)) =
+    one.1 ∙ ap (λ l. one.0 ++ Entered g view before ∷ l) two.1 ∙ sym (append_assoc one.0 (Entered g view before ∷ two.0) (Entered g (view + 1) cut ∷ behind k (behind n (acts_of w p)))) in (
+      before,
+      cut,
+      one.0,
+      two.0,
+      behind k (behind n (acts_of w p)),
+      is,
+      λ at. never_left g (acts_of w p) none (subst (λ l. Contains l (Left g)) (sym is)
+          (Contains-append_left (one.0 ++ Entered g view before ∷ two.0) (Entered g (view + 1) cut ∷ behind k (behind n (acts_of w p))) (Left g)
+          (Contains-append_right one.0 (Entered g view before ∷ two.0) (Left g) (contains_more (Entered g view before) two.0 (Left g) at)))),
+    )
+
+within_at : (w : Network) (p : Proc) (g : GroupNo) (view : ℕ) (cut : CountList) (n : ℕ) → slice_get (acts_of w p) n ≡ Some (Entered g view cut) →
+    list_any is_leaving (behind n (acts_of w p)) ≡ false → ((w.at p.site).group g).number ≡ view → is_pending ((w.at p.site).group g) ≡ false → IsWithin w p g view
+within_at w p g view cut n entered none current waits =
+    let one = split_at (acts_of w p) n (Entered g view cut) entered in
+    record { entered = (cut, one.0, behind n (acts_of w p), one.1, never_left g (behind n (acts_of w p)) none); current = current; waits = waits }
 
 -- Two sites in views of two groups: what comes before a message of one group may be of the other
 
@@ -108,14 +176,92 @@ suspected =
     let n : ℕ = length three.sent in
     drained 60 (n + 4) (leads_in 3 three (casts 3 1 ∷ casts 3 1 ∷ hand 2 (n + 1) ∷ hand 1 (n + 2) ∷ suspects 1 3 ∷ []))
 
--- x belongs to the view that ends, and z does not
+-- x belongs to the view that ends, and z does not, at each site that passes to the next view
 suspected_delivered : delivered suspected 1 ≡ uid 1 3 (proc 3 1) 1 ∷ []
 unfolding suspected three
 suspected_delivered = refl
 
+suspected_delivered_there : delivered suspected 2 ≡ uid 1 3 (proc 3 1) 1 ∷ []
+unfolding suspected three
+suspected_delivered_there = refl
+
+suspected_passes : Passes suspected (proc 1 1) (group 1) 3
+unfolding suspected three is_leaving
+suspected_passes = passes_at suspected (proc 1 1) (group 1) 3 [] ((proc 3 1, 1) ∷ []) 2 1 refl refl refl
+
+suspected_passes_there : Passes suspected (proc 2 1) (group 1) 3
+unfolding suspected three is_leaving
+suspected_passes_there = passes_at suspected (proc 2 1) (group 1) 3 [] ((proc 3 1, 1) ∷ []) 1 1 refl refl refl
+
 suspected_view : ((suspected.at (site 2)).group (group 1)).number ≡ 4
 unfolding suspected three
 suspected_view = refl
+
+-- The holder of a view is lost once it told the order, before who cast an ABCAST knows it
+
+-- 2.1 holds the order of the view of all three
+held : Network
+held =
+    let sites : List SiteNo = site 1 ∷ site 2 ∷ site 3 ∷ [] in
+    through (through (through (begun sites (group 1 ∷ [])) (opens 2 ∷ joins 2 1 ∷ [])) (opens 1 ∷ joins 1 1 ∷ [])) (opens 3 ∷ joins 3 1 ∷ [])
+
+-- 1.1 casts x and 3.1 casts y. Both come to site 2, y first, so 2.1 delivers y before x. That it does so comes to site 3 alone, and x does not
+told : Network
+unfolding held known_order
+told =
+    let n : ℕ = length held.sent in
+    leads_in 3 held (abcasts 1 1 ∷ abcasts 3 1 ∷ hand 2 (n + 3) ∷ hand 2 n ∷ hand 3 (n + 6) ∷ hand 3 (n + 9) ∷ [])
+
+-- what each delivered is a prefix of what the next one did
+told_delivered : delivered_abcasts told 1 3 ≡ []
+unfolding told held known_order
+told_delivered = refl
+
+told_delivered_to_site_3 : delivered_abcasts told 3 3 ≡ uid 1 3 (proc 3 1) 1 ∷ []
+unfolding told held known_order
+told_delivered_to_site_3 = refl
+
+told_delivered_to_holder : delivered_abcasts told 2 3 ≡ uid 1 3 (proc 3 1) 1 ∷ uid 1 3 (proc 1 1) 1 ∷ []
+unfolding told held known_order
+told_delivered_to_holder = refl
+
+told_within : IsWithin told (proc 1 1) (group 1) 3
+unfolding told held known_order is_leaving
+told_within = within_at told (proc 1 1) (group 1) 3 [] 1 refl refl refl refl
+
+told_within_site_3 : IsWithin told (proc 3 1) (group 1) 3
+unfolding told held known_order is_leaving
+told_within_site_3 = within_at told (proc 3 1) (group 1) 3 [] 0 refl refl refl refl
+
+-- site 2 makes no step any more, and is suspected
+lost : Network
+unfolding told held known_order
+lost = through told (suspects 1 2 ∷ [])
+
+-- so 1.1, which had x first, delivers y before it too
+lost_delivered : delivered lost 1 ≡ uid 1 3 (proc 3 1) 1 ∷ uid 1 3 (proc 1 1) 1 ∷ uid 1 3 (proc 2 1) 1 ∷ []
+unfolding lost told held known_order
+lost_delivered = refl
+
+lost_delivered_there : delivered lost 3 ≡ uid 1 3 (proc 3 1) 1 ∷ uid 1 3 (proc 2 1) 1 ∷ uid 1 3 (proc 1 1) 1 ∷ []
+unfolding lost told held known_order
+lost_delivered_there = refl
+
+lost_order : delivered_abcasts lost 1 3 ≡ uid 1 3 (proc 3 1) 1 ∷ uid 1 3 (proc 1 1) 1 ∷ []
+unfolding lost told held known_order
+lost_order = refl
+
+lost_order_there : delivered_abcasts lost 3 3 ≡ uid 1 3 (proc 3 1) 1 ∷ uid 1 3 (proc 1 1) 1 ∷ []
+unfolding lost told held known_order
+lost_order_there = refl
+
+lost_passes : Passes lost (proc 1 1) (group 1) 3
+unfolding lost told held known_order is_leaving
+lost_passes = passes_at lost (proc 1 1) (group 1) 3 [] ((proc 1 1, 1) ∷ (proc 2 1, 1) ∷ (proc 3 1, 1) ∷ []) 1 4 refl refl refl
+
+lost_passes_there : Passes lost (proc 3 1) (group 1) 3
+unfolding lost told held known_order is_leaving
+lost_passes_there = passes_at lost (proc 3 1) (group 1) 3 [] ((proc 1 1, 1) ∷ (proc 2 1, 1) ∷ (proc 3 1, 1) ∷ []) 0 4 refl refl refl
 
 -- A joining process does not deliver past the view that it will enter
 

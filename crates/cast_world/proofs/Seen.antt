@@ -225,8 +225,8 @@ module _ (home : SiteNo) (w : Network) (a : SiteNo) where
       stood t i.1 n (record (t.process n) { standing = set_at group_eq (t.process n).standing g (Joining ((t.group g).asked + 1) (view_of (t.process n).time g)) })
           (seen_asks (t.process n) (t.acts n) (i.1 n) g ((t.group g).asked + 1) (view_of (t.process n).time g)),
     );
-    sends = λ t g n content i member. (
-      k.sends t g n content i.0 member,
+    sends = λ t g n content i member may. (
+      k.sends t g n content i.0 member may,
       changed t i.1 n (record (t.process n) { time = (next_message t g n content).times }) (t.acts n ++ Sent (next_message t g n content) ∷ [])
           (seen_sent (t.process n) (t.acts n) (i.1 n) (next_message t g n content) (λ h. bumped_view (t.process n).time g (local t n) h)),
     );

@@ -190,7 +190,7 @@ module _ (home : SiteNo) (w : Network) (a : SiteNo) where
     joins = λ t k g now open_it known out.
         let u : State = set_standing t k g (Joining ((t.group g).asked + 1) (view_of (t.process k).time g)) in
         move t u (later_join t k g (view_of (t.process k).time g)) (λ x own sound. join_site (sites_at u) home a t x k g ((t.group g).asked + 1) open_it (group_among t.config.groups g known) out) now;
-    sends = λ t g k content now member.
+    sends = λ t g k content now member may.
         let m : Message = next_message t g k content in
         let u : State = receiving (noting_sent t k m) m in
         move t u (later_sent t k m) (λ x own sound. sent_site (sites_at u) home a t x g k content own member) now;

@@ -1,8 +1,10 @@
 -- What is kept by owing frames, asking the home, leaving groups and telling programs.
-use Rattle.std.proofs.Common.{arith, subst, sym}
+use Rattle.cast_world.specs.Laws.{AgreesWith}
+use Rattle.std.proofs.Common.{arith, inl, inr, subst, sym, ◌∙◌}
 use Rattle.std.proofs.lemmas.Bool.{false≢true}
 use Rattle.std.specs.Option.{option_and_then, option_map, option_map_or}
-use Rattle.std.specs.Prelude.{◌++◌, ◌==◌, Bool, Contains, List, None, Option, Some, [], false, if◌then◌else◌, refl, true, ℕ, ◌∷◌, ◌≡◌}
+use Rattle.std.specs.List.{fold, list_any}
+use Rattle.std.specs.Prelude.{cond, map, nat_le, suc, zero, ◌⊎◌, ◌==◌, Bool, Contains, List, None, Option, Some, [], false, if◌then◌else◌, refl, true, ℕ, ◌∷◌, ◌≡◌}
 use Rattle.cast_delay.specs.Ready.{is_outside}
 use Rattle.cast_history.specs.History.{history}
 use Rattle.cast_history.specs.Owing.{at_moment, next_due, noting_owed, paying}
@@ -10,13 +12,13 @@ use Rattle.cast_history.specs.Rules.Asking.{ask_home, request}
 use Rattle.cast_history.specs.Rules.Keys.{ask_key, id_in}
 use Rattle.cast_history.specs.Rules.Leaving.{Attempt, close_session, end_session, leave_all, leave_at, leave_each, leave_group, tell, tell_open}
 use Rattle.cast_history.specs.Rules.Owing.{ask_frame, frame_for, frame_of_kind, install_frame, owe, resend, send_for, tick}
-use Rattle.cast_history.specs.State.{State, closing, going, is_filled, is_group, local, message_of, outside, pushing, set_group, set_session, with_push}
+use Rattle.cast_history.specs.State.{State, closing, emitted, going, is_filled, is_group, local, message_of, outside, pushing, set_group, set_session, with_push}
 use Rattle.cast_message.specs.declared.client.Push.{Push}
 use Rattle.cast_message.specs.declared.message.Message.{Message}
 use Rattle.cast_message.specs.declared.site.Change.{Change}
 use Rattle.cast_message.specs.declared.site.SiteFrame.{SiteFrame}
 use Rattle.cast_model.specs.Session.{Session, closed, is_gone, is_open, no_session, pushed_to}
-use Rattle.cast_timer.specs.Owed.{is_owed, key_eq, paid, renewed, with_owed}
+use Rattle.cast_timer.specs.Owed.{due_at, due_frames, is_owed, key_eq}
 use Rattle.cast_timer.specs.declared.key.Owed.{Owed}
 use Rattle.cast_timer.specs.declared.key.OwedKey.{OwedKey}
 use Rattle.cast_timer.specs.declared.key.OwedKind.{OwedKind}
@@ -33,7 +35,7 @@ use Rattle.cast_view.specs.declared.member.Asking.{Asking}
 use Rattle.cast_view.specs.declared.phase.Phase.{Phase}
 use Rattle.cast_view.specs.declared.phase.Phase.TheVariants.{Gathering, Idle, Installing}
 use Rattle.cast_world.proofs.Keeps.{found_is, keeps_fold, keeps_if}
-use Rattle.cast_world.proofs.Kept.{KeptByTelling, Says}
+use Rattle.cast_world.proofs.Kept.{AcksFreely, Adds, Owes, OwedTrue, OwesOf, Says, FullyKeptByTelling}
 use Rattle.cast_message.specs.declared.site.Change.TheVariants as change
 use Rattle.cast_message.specs.declared.site.SiteFrame.TheVariants as frame
 use Rattle.cast_timer.specs.declared.key.OwedKind.TheVariants as kinds
@@ -49,65 +51,130 @@ OnSome P (Some x) = P x
 
 -- The frame of a key says what is so
 
-asks : (s : State) (to : SiteNo) (g : GroupNo) (a : List Asking) → (s.group g).requests ≡ a → OnSome (Says s to) (option_map (ask_frame g) (first_asking a))
-asks s to g [] e = tt
-asks s to g (a ∷ rest) e = (a, subst (λ as_listed. Contains as_listed a) (sym e) (0, omega arith, refl), refl)
+abbrev Tells : State → SiteNo → SiteFrame → Type 0
+Tells s to f = Says s to f × Adds s f
 
-installs_it : (s : State) (to : SiteNo) (g : GroupNo) (p : Phase) → (s.home g).phase ≡ p → OnSome (Says s to) (install_frame g (s.home g) to p)
+asks : (s : State) (to : SiteNo) (g : GroupNo) (a : List Asking) → (s.group g).requests ≡ a → OnSome (Tells s to) (option_map (ask_frame g) (first_asking a))
+asks s to g [] e = tt
+asks s to g (a ∷ rest) e = ((a, subst (λ as_listed. Contains as_listed a) (sym e) (0, omega arith, refl), refl), tt)
+
+installs_it : (s : State) (to : SiteNo) (g : GroupNo) (p : Phase) → (s.home g).phase ≡ p → OnSome (Tells s to) (install_frame g (s.home g) to p)
 installs_it s to g Idle e = tt
 installs_it s to g (Gathering awaited reports bodies) e = tt
-installs_it s to g (Installing waiting d bodies) e = (waiting, d, bodies, e, refl, refl, refl, refl)
+installs_it s to g (Installing waiting d bodies) e = ((waiting, d, bodies, e, refl, refl, refl, refl), (waiting, d, bodies, e, refl))
 
-data_says : (s : State) (to : SiteNo) (o : Option Message) → ((m : Message) → o ≡ Some m → Contains s.kept m) → OnSome (Says s to) (option_map frame.Data o)
+data_says : (s : State) (to : SiteNo) (o : Option Message) → ((m : Message) → o ≡ Some m → Contains s.kept m) → OnSome (Tells s to) (option_map frame.Data o)
 data_says s to None has = tt
-data_says s to (Some m) has = has m refl
+data_says s to (Some m) has = (has m refl, tt)
 
-kind_says : (s : State) (key : OwedKey) (kind : OwedKind) → OnSome (Says s key.site) (frame_of_kind history s key.group key kind)
-kind_says s key kinds.Ask = asks s key.site key.group (s.group key.group).requests refl
-kind_says s key kinds.Data = data_says s key.site (message_of s (id_in (s.group key.group).number key))
+kind_says : (s : State) (key : OwedKey) (kind : OwedKind) → OwesOf s key kind → OnSome (Tells s key.site) (frame_of_kind history s key.group key kind)
+kind_says s key kinds.Ask owes = asks s key.site key.group (s.group key.group).requests refl
+kind_says s key kinds.Data owes = data_says s key.site (message_of s (id_in (s.group key.group).number key))
     (λ m e. (found_is (λ x. uid_eq x.id (id_in (s.group key.group).number key)) s.kept m e).1)
-kind_says s key kinds.Prepare = tt
-kind_says s key kinds.Want = tt
-kind_says s key kinds.Install = installs_it s key.site key.group (s.home key.group).phase refl
-kind_says s key kinds.Ack = tt
+kind_says s key kinds.Prepare owes = (tt, tt)
+kind_says s key kinds.Want owes = (tt, tt)
+kind_says s key kinds.Install owes = installs_it s key.site key.group (s.home key.group).phase refl
+kind_says s key kinds.Ack owes = (tt, owes)
 
-pub says_for : (s : State) (key : OwedKey) → OnSome (Says s key.site) (frame_for history s key)
-says_for s key = go (is_group s key.group)
+pub says_for : (s : State) (key : OwedKey) → Owes s key → OnSome (Tells s key.site) (frame_for history s key)
+says_for s key owes = go (is_group s key.group)
   where
-    go : (b : Bool) → OnSome (Says s key.site) (option_and_then (λ h. frame_of_kind history s h key key.kind) (if b then Some key.group else None))
-    go true = kind_says s key key.kind
+    go : (b : Bool) → OnSome (Tells s key.site) (option_and_then (λ h. frame_of_kind history s h key key.kind) (if b then Some key.group else None))
+    go true = kind_says s key key.kind owes
     go false = tt
 
-module _ (I : State → Type 0) (k : KeptByTelling I) where
-  pub owed_keeps : (s : State) (owed : List Owed) → I s → I (record s { owed = owed })
-  owed_keeps s owed i = k.books s s.quotas s.moment s.acks s.told owed s.casts s.pushes i
+due_owed : (now : ℕ) (owed : List Owed) (key : OwedKey) → Contains (due_at now owed) key → (o : Owed) × Contains owed o × (o.key ≡ key)
+due_owed now [] key at = absurd (omega (arith, at.1))
+due_owed now (o ∷ owed) key at = go (nat_le o.due now) at (due_owed now owed key)
+  where
+    more : ((x : Owed) × Contains owed x × (x.key ≡ key)) → (x : Owed) × Contains (o ∷ owed) x × (x.key ≡ key)
+    more r = (r.0, (suc r.1.0, omega (arith, r.1.1), r.1.2), r.2)
 
+    go : (b : Bool) → Contains (map (λ (x : Owed). x.key) (cond b (o ∷ due_frames now owed) (due_frames now owed))) key → (Contains (due_at now owed) key → (x : Owed) × Contains owed x × (x.key ≡ key)) →
+        (x : Owed) × Contains (o ∷ owed) x × (x.key ≡ key)
+    go true (zero, lt, is) rest = (o, (0, omega arith, refl), is)
+    go true (suc n, lt, is) rest = more (rest (n, omega (arith, lt), is))
+    go false there rest = more (rest there)
+
+-- sending changes nothing that an owed Ack rests on
+pub owes_same : (s t : State) (key : OwedKey) (kind : OwedKind) → t.got ≡ s.got → t.group ≡ s.group → OwesOf s key kind → OwesOf t key kind
+owes_same s t key kinds.Ask got group owes = tt
+owes_same s t key kinds.Data got group owes = tt
+owes_same s t key kinds.Prepare got group owes = tt
+owes_same s t key kinds.Want got group owes = tt
+owes_same s t key kinds.Install got group owes = tt
+owes_same s t key kinds.Ack got group owes = (λ i. list_any (λ (m : Message). uid_eq m.id (id_in (group i key.group).number key)) (got i)) ∙ owes
+
+owes_sent : (s : State) (sent other : OwedKey) → Owes s other → Owes (send_for history s sent) other
+owes_sent s sent other owes = go (frame_for history s sent)
+  where
+    go : (o : Option SiteFrame) → Owes (option_map_or (history.send s sent.site) o s) other
+    go None = owes
+    go (Some f) = owes_same s (emitted s sent.site f) other other.kind refl refl owes
+
+module _ (I : State → Type 0) (k : FullyKeptByTelling I) where
   pub pay_keeps : (s : State) (key : OwedKey) → I s → I (paying s key)
-  pay_keeps s key i = owed_keeps s (paid (key_eq key) s.owed) i
+  pay_keeps s key i = k.pays s (key_eq key) i
 
-  pub send_for_keeps : (s : State) (key : OwedKey) → I s → I (send_for history s key)
-  send_for_keeps s key i = go (frame_for history s key) (says_for s key)
+  pub send_for_keeps : (s : State) (key : OwedKey) → I s → Owes s key → I (send_for history s key)
+  send_for_keeps s key i owes = go (frame_for history s key) (says_for s key owes)
     where
-      go : (o : Option SiteFrame) → OnSome (Says s key.site) o → I (option_map_or (history.send s key.site) o s)
+      go : (o : Option SiteFrame) → OnSome (Tells s key.site) o → I (option_map_or (history.send s key.site) o s)
       go None says = i
-      go (Some f) says = k.emits s key.site f i says
+      go (Some f) says = k.emits s key.site f i says.0 says.1
 
-  pub owe_keeps : (s : State) (key : OwedKey) → I s → I (owe history s key)
-  owe_keeps s key i = keeps_if I (is_owed s.owed key) s (noting_owed (send_for history s key) key) (λ _. i)
-      (λ _. owed_keeps (send_for history s key) (with_owed (send_for history s key).owed key (next_due (send_for history s key))) (send_for_keeps s key i))
+  pub owe_keeps : (s : State) (key : OwedKey) → I s → Owes s key → I (owe history s key)
+  owe_keeps s key i owes = keeps_if I (is_owed s.owed key) s (noting_owed (send_for history s key) key) (λ _. i)
+      (λ _. k.owes (send_for history s key) key (next_due (send_for history s key)) (send_for_keeps s key i owes) (owes_sent s key key owes))
 
-  pub resend_keeps : (s : State) (key : OwedKey) → I s → I (resend history s key)
-  resend_keeps s key i = owed_keeps (send_for history s key) (renewed (send_for history s key).owed key (next_due (send_for history s key))) (send_for_keeps s key i)
+  resend_keeps : (s : State) (key : OwedKey) → I s → Owes s key → I (resend history s key)
+  resend_keeps s key i owes = k.renews (send_for history s key) key (next_due (send_for history s key)) (send_for_keeps s key i owes) (owes_sent s key key owes)
 
-  pub tick_keeps : (s : State) (t : ℕ) → I s → I (tick history s t)
-  tick_keeps s t i =
+  owes_resent : (s : State) (sent other : OwedKey) → Owes s other → Owes (resend history s sent) other
+  owes_resent s sent other owes = owes_same (send_for history s sent) (resend history s sent) other other.kind refl refl (owes_sent s sent other owes)
+
+  -- where what is owed is so
+  resend_all : (keys : List OwedKey) (s : State) → I s → ((key : OwedKey) → Contains keys key → Owes s key) → I (fold (resend history) s keys)
+  resend_all [] s i owes = i
+  resend_all (key ∷ keys) s i owes = resend_all keys (resend history s key) (resend_keeps s key i (owes key (0, omega arith, refl)))
+      (λ other at. owes_resent s key other (owes other (suc at.0, omega (arith, at.1), at.2)))
+
+  -- and where Acks may be sent freely
+  send_freely : AcksFreely I → (s : State) (key : OwedKey) → I s → I (send_for history s key)
+  send_freely free s key i = go (is_group s key.group) key.kind
+    where
+      other : (o : Option SiteFrame) → OnSome (Tells s key.site) o → I (option_map_or (history.send s key.site) o s)
+      other None says = i
+      other (Some f) says = k.emits s key.site f i says.0 says.1
+
+      go : (b : Bool) (kind : OwedKind) → I (option_map_or (history.send s key.site) (option_and_then (λ h. frame_of_kind history s h key kind) (if b then Some key.group else None)) s)
+      go false kind = i
+      go true kinds.Ask = other (frame_of_kind history s key.group key kinds.Ask) (kind_says s key kinds.Ask tt)
+      go true kinds.Data = other (frame_of_kind history s key.group key kinds.Data) (kind_says s key kinds.Data tt)
+      go true kinds.Prepare = other (frame_of_kind history s key.group key kinds.Prepare) (kind_says s key kinds.Prepare tt)
+      go true kinds.Want = other (frame_of_kind history s key.group key kinds.Want) (kind_says s key kinds.Want tt)
+      go true kinds.Install = other (frame_of_kind history s key.group key kinds.Install) (kind_says s key kinds.Install tt)
+      go true kinds.Ack = free.0 s key.site (id_in (s.group key.group).number key) i
+
+  pub tick_keeps : (s : State) (t : ℕ) → I s → OwedTrue s ⊎ AcksFreely I → I (tick history s t)
+  tick_keeps s t i truly =
       let now : State = at_moment s t in
-      keeps_fold I (resend history) resend_keeps (history.due now) now (k.books s s.quotas now.moment s.acks s.told s.owed s.casts s.pushes i)
+      let j : I now = k.books s s.quotas now.moment s.casts i in
+      elim truly [
+        | inl owed ↦ resend_all (history.due now) now j (λ key at.
+            let from = due_owed now.moment s.owed key at in
+            let owes = owed from.0 from.1 in
+            subst (λ (z : OwedKey). Owes now z) from.2 (owes_same s now from.0.key from.0.key.kind refl refl owes))
+        | inr free ↦ keeps_fold I (resend history) (λ r key l. freely free r key l) (history.due now) now j
+      ]
+    where
+      freely : AcksFreely I → (r : State) (key : OwedKey) → I r → I (resend history r key)
+      freely free r key l = free.1 (send_for history r key) key (next_due (send_for history r key)) (send_freely free r key l)
 
   -- Requests of local processes
 
   pub ask_home_keeps : (s : State) (g : GroupNo) → I s → I (ask_home history s g)
-  ask_home_keeps s g i = keeps_if I (is_empty (s.group g).requests) s (owe history s (ask_key g s.config.home)) (λ _. i) (λ _. owe_keeps s (ask_key g s.config.home) i)
+  ask_home_keeps s g i = keeps_if I (is_empty (s.group g).requests) s (owe history s (ask_key g s.config.home)) (λ _. i) (λ _. owe_keeps s (ask_key g s.config.home) i tt)
 
   pub request_keeps : (s : State) (g : GroupNo) (what : Change) (p : Proc) → I s → I (request history s g what p)
   request_keeps s g what p i =
@@ -130,24 +197,25 @@ module _ (I : State → Type 0) (k : KeptByTelling I) where
 
   -- Sessions
 
-  with_push_keeps : (s : State) (n : ℕ) (v : Session) (p : Push) → I s → is_open (s.session n) ≡ true → I (with_push s n v p)
-  with_push_keeps s n v p i is = k.books (set_session s n v) s.quotas s.moment s.acks s.told s.owed s.casts (s.pushes ++ (n, p) ∷ []) (k.sets_session s n v i (λ _. is))
+  with_push_keeps : (s : State) (n : ℕ) (v : Session) (p : Push) → I s → AgreesWith (s.acts n) p → is_open (s.session n) ≡ true → I (with_push s n v p)
+  with_push_keeps s n v p i agrees is = k.pushes (set_session s n v) n p (k.sets_session s n v i (λ _. is)) agrees
 
-  pub push_keeps : (s : State) (n : ℕ) (p : Push) → I s → I (pushing s n p)
-  push_keeps s n p i = keeps_if I (is_open (s.session n)) (with_push s n (pushed_to (s.session n) p) p) s (λ is. with_push_keeps s n (pushed_to (s.session n) p) p i is) (λ _. i)
+  pub push_keeps : (s : State) (n : ℕ) (p : Push) → I s → AgreesWith (s.acts n) p → I (pushing s n p)
+  push_keeps s n p i agrees =
+      keeps_if I (is_open (s.session n)) (with_push s n (pushed_to (s.session n) p) p) s (λ is. with_push_keeps s n (pushed_to (s.session n) p) p i agrees is) (λ _. i)
 
   pub close_keeps : (s : State) (n : ℕ) (refusal : Refusal) → I s → I (closing s n refusal)
   close_keeps s n refusal i = keeps_if I (is_open (s.session n)) (with_push s n (closed refusal (s.session n)) (push.Closed refusal)) s
-      (λ is. with_push_keeps s n (closed refusal (s.session n)) (push.Closed refusal) i is) (λ _. i)
+      (λ is. with_push_keeps s n (closed refusal (s.session n)) (push.Closed refusal) i tt is) (λ _. i)
 
   pub close_session_keeps : (s : State) (n : ℕ) (refusal : Refusal) → I s → I (close_session history s n refusal)
   close_session_keeps s n refusal i =
       let why : Refusal = if is_filled s n then Slow else refusal in
       leave_all_keeps (closing s n why) n (close_keeps s n why i)
 
-  pub tell_keeps : (s : State) (n : ℕ) (p : Push) → I s → I (tell history s n p)
-  tell_keeps s n p i = keeps_if I (is_open (s.session n)) (tell_open history s n p) s
-      (λ _. keeps_if I (is_filled s n) (close_session history s n Slow) (pushing s n p) (λ _. close_session_keeps s n Slow i) (λ _. push_keeps s n p i)) (λ _. i)
+  pub tell_keeps : (s : State) (n : ℕ) (p : Push) → I s → AgreesWith (s.acts n) p → I (tell history s n p)
+  tell_keeps s n p i agrees = keeps_if I (is_open (s.session n)) (tell_open history s n p) s
+      (λ _. keeps_if I (is_filled s n) (close_session history s n Slow) (pushing s n p) (λ _. close_session_keeps s n Slow i) (λ _. push_keeps s n p i agrees)) (λ _. i)
 
   pub end_session_keeps : (s : State) (n : ℕ) → I s → I (end_session history s n)
   end_session_keeps s n i = keeps_if I (is_gone (s.session n)) s (leave_all history (going s n) n) (λ _. i)

@@ -1,22 +1,28 @@
 -- What holds of every list of steps.
-use Rattle.std.specs.Prelude.{◌&&◌, ◌+◌, ◌++◌, ◌<◌, ◌==◌, Contains, IsTrue, List, filter, ℕ, ◌↔◌, ◌∷◌, ◌≡◌, ◌≤◌, ◌⊎◌}
+use Rattle.std.specs.Prelude.{◌+◌, ◌++◌, ◌<◌, Contains, IsTrue, List, length, take, ℕ, ◌↔◌, ◌∷◌, ◌≡◌, ◌≤◌, ◌⊎◌}
 use Rattle.cast_clock.specs.Times.{at_most, count_in, view_of}
 use Rattle.cast_history.specs.Acts.{Act}
-use Rattle.cast_history.specs.Acts.Act.{Delivered, Entered, Sent}
+use Rattle.cast_history.specs.Acts.Act.{Delivered, Entered, Left, Sent}
 use Rattle.cast_history.specs.Noted.{delivered_by}
+use Rattle.cast_history.specs.Rules.Commands.{body_of}
+use Rattle.cast_message.specs.Membership.{Membership}
+use Rattle.cast_message.specs.Stretch.{Stretch}
+use Rattle.cast_message.specs.declared.client.Push.{Push}
 use Rattle.cast_message.specs.declared.message.Message.{Message}
 use Rattle.cast_model.specs.declared.config.DomainConfig.{DomainConfig}
 use Rattle.cast_types.specs.Counts.{CountList, is_within}
-use Rattle.cast_types.specs.Names.{Entry, group_eq, named}
+use Rattle.cast_types.specs.Names.{Entry, named}
 use Rattle.cast_types.specs.Stamps.{ClockList}
 use Rattle.cast_types.specs.declared.names.GroupNo.{GroupNo}
 use Rattle.cast_types.specs.declared.names.Proc.{Proc}
 use Rattle.cast_types.specs.declared.names.SiteNo.{SiteNo}
 use Rattle.cast_types.specs.declared.names.Standing.TheVariants.{Joining, Member}
 use Rattle.cast_types.specs.declared.names.Uid.{Uid}
+use Rattle.cast_world.specs.Agreement.{HasMember, IsPrefix, IsWithin, Passes, WasInstalled, abcasts_in, abcasts_of_view, delivered_of, of_view, order_at}
 use Rattle.cast_world.specs.HappenedBefore.{HappenedBefore, IsDue, NeverLeft, StandsBefore, acts_of}
 use Rattle.cast_world.specs.Network.{Happens, Network, Reaches}
 use Rattle.cast_world.specs.declared.step.Step.{Step}
+use Rattle.cast_message.specs.declared.client.Push.TheVariants as push
 
 -- a time has a later view of a message's group, or its view and a count at least the message's
 abbrev pub Covers : ClockList → Uid → Type 0
@@ -72,36 +78,64 @@ PassesWithCut w =
     acts_of w p ≡ a ++ Entered g view before ∷ b ++ Entered g (view + 1) cut ∷ c → NeverLeft g b →
     ((m : Message) × (m.id ≡ named g view e) × Contains b (Delivered m)) ↔ ((1 ≤ e.1) × IsTrue (is_within cut e))
 
--- a process passed from a view to the next as a member
-abbrev pub Passes : Network → Proc → GroupNo → ℕ → Type 0
-Passes w p g view =
-    (before cut : CountList) × (a b c : List Act)
-    × (acts_of w p ≡ a ++ Entered g view before ∷ b ++ Entered g (view + 1) cut ∷ c) × NeverLeft g b
-
--- what a process delivered in a view, in order
-abbrev pub delivered_in : Network → Proc → GroupNo → ℕ → List Uid
-delivered_in w p g view =
-    filter (λ u. group_eq u.group g && (u.view == view)) ((w.at p.site).process p.serial).delivered
+-- The laws of views speak of lists: of each process what it delivered, in order
 
 -- who passes from one view to the next delivered the same messages of the first
-abbrev pub SameMessages : Network → Type 0
-SameMessages w =
+abbrev pub SameMessages : Network → (Proc → List Uid) → Type 0
+SameMessages w delivered =
     (p q : Proc) (g : GroupNo) (view : ℕ) → Passes w p g view → Passes w q g view →
-    (u : Uid) → Contains (delivered_in w p g view) u ↔ Contains (delivered_in w q g view) u
+    (u : Uid) → Contains (of_view g view (delivered p)) u ↔ Contains (of_view g view (delivered q)) u
+
+-- and its ABCASTs in the same order
+abbrev pub SameOrder : Network → (Proc → List Uid) → Type 0
+SameOrder w delivered =
+    (p q : Proc) (g : GroupNo) (view : ℕ) → Passes w p g view → Passes w q g view →
+    abcasts_of_view w g view (delivered p) ≡ abcasts_of_view w g view (delivered q)
+
+-- of two who are within a view one has delivered a prefix of the view's ABCASTs that the other has delivered
+abbrev pub OrdersAgree : Network → (Proc → List Uid) → Type 0
+OrdersAgree w delivered =
+    (p q : Proc) (g : GroupNo) (view : ℕ) → IsWithin w p g view → IsWithin w q g view →
+    IsPrefix (abcasts_of_view w g view (delivered p)) (abcasts_of_view w g view (delivered q))
+    ⊎ IsPrefix (abcasts_of_view w g view (delivered q)) (abcasts_of_view w g view (delivered p))
+
+-- as many places of a view's order as the Install of the next view does not list are known, and alike, at each site that has a member in the view
+abbrev pub StartsAreKnown : Network → Type 0
+StartsAreKnown w =
+    (g : GroupNo) (view : ℕ) (members : Membership) (tail : Stretch) → WasInstalled w g (view + 1) members tail →
+    (first : List Entry) × (length first ≡ tail.start) × ((s : SiteNo) → HasMember w s g view → take tail.start (order_at w s g view) ≡ first)
 
 -- what a process delivered is, in order, what its acts say
 abbrev pub ListsAreActs : Network → Type 0
-ListsAreActs w = (p : Proc) → ((w.at p.site).process p.serial).delivered ≡ delivered_by (acts_of w p)
+ListsAreActs w = (p : Proc) → delivered_of w p ≡ delivered_by (acts_of w p)
+
+-- and so are the ABCASTs of a view among that
+abbrev pub AbcastsAreActs : Network → Type 0
+AbcastsAreActs w = (p : Proc) (g : GroupNo) (view : ℕ) → abcasts_of_view w g view (delivered_of w p) ≡ abcasts_in w p g view
+
+-- what a program is told of its process is what that did: it entered a view, delivered a message, left a group or was put out of it
+abbrev pub AgreesWith : List Act → Push → Type 0
+AgreesWith acts (push.Opened p) = Unit {0}
+AgreesWith acts (push.Reply tag refusal) = Unit {0}
+AgreesWith acts (push.View g view members) = (cut : CountList) × Contains acts (Entered g view cut)
+AgreesWith acts (push.Deliver u kind payload) = (m : Message) × Contains acts (Delivered m) × (m.id ≡ u) × (m.body ≡ body_of kind payload)
+AgreesWith acts (push.Ejected g view) = Contains acts (Left g)
+AgreesWith acts (push.Denied g refusal) = Unit {0}
+AgreesWith acts (push.Closed refusal) = Unit {0}
+
+-- so is all that programs were pushed at the last event of a site
+abbrev pub PushesAreActs : Network → Type 0
+PushesAreActs w = (s : SiteNo) (k : ℕ) (p : Push) → Contains (w.at s).pushes (k, p) → AgreesWith ((w.at s).acts k) p
 
 -- an id stands before another in a list
 abbrev pub IsBefore : List Uid → Uid → Uid → Type 0
 IsBefore ids u v = (a b c : List Uid) × (ids ≡ a ++ u ∷ b ++ v ∷ c)
 
 -- so what happened before a message and is due stands before it in the list of what the process delivered
-abbrev pub ListsAreInOrder : Network → Type 0
-ListsAreInOrder w =
+abbrev pub ListsAreInOrder : Network → (Proc → List Uid) → Type 0
+ListsAreInOrder w delivered =
     (p : Proc) (x m : Message) → Contains (acts_of w p) (Delivered m) → HappenedBefore w x m → IsDue (acts_of w p) x.id m →
-    IsBefore ((w.at p.site).process p.serial).delivered x.id m.id
+    IsBefore (delivered p) x.id m.id
 
 -- The laws, over every list of steps
 
@@ -137,11 +171,30 @@ AllJoinsGoForward =
 abbrev pub AllPassWithCut : Type 0
 AllPassWithCut = HoldsInEveryNetwork PassesWithCut
 
+-- of what processes delivered
+abbrev pub HoldsOfDeliveries : (Network → (Proc → List Uid) → Type 0) → Type 0
+HoldsOfDeliveries law = HoldsInEveryNetwork (λ w. law w (delivered_of w))
+
 abbrev pub AllDeliverTheSame : Type 0
-AllDeliverTheSame = HoldsInEveryNetwork SameMessages
+AllDeliverTheSame = HoldsOfDeliveries SameMessages
+
+abbrev pub AllDeliverInOneOrder : Type 0
+AllDeliverInOneOrder = HoldsOfDeliveries SameOrder
+
+abbrev pub AllOrdersAgree : Type 0
+AllOrdersAgree = HoldsOfDeliveries OrdersAgree
+
+abbrev pub AllStartsAreKnown : Type 0
+AllStartsAreKnown = HoldsInEveryNetwork StartsAreKnown
 
 abbrev pub AllListsAreActs : Type 0
 AllListsAreActs = HoldsInEveryNetwork ListsAreActs
 
+abbrev pub AllAbcastsAreActs : Type 0
+AllAbcastsAreActs = HoldsInEveryNetwork AbcastsAreActs
+
+abbrev pub AllPushesAreActs : Type 0
+AllPushesAreActs = HoldsInEveryNetwork PushesAreActs
+
 abbrev pub AllListsAreInOrder : Type 0
-AllListsAreInOrder = HoldsInEveryNetwork ListsAreInOrder
+AllListsAreInOrder = HoldsOfDeliveries ListsAreInOrder

@@ -1,4 +1,5 @@
 pub mod Network
 pub mod HappenedBefore
+pub mod Agreement
 pub mod Laws
 pub mod Worlds

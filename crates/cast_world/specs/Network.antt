@@ -79,16 +79,13 @@ abbrev pub Leads : Network → List Step → Network → Type 0
 Leads w [] v = v ≡ w
 Leads w (step ∷ steps) v = (u : Network) × Happens w step u × Leads u steps v
 
--- all sites name the same domain, home, sites and groups
-pub record Agree (sites : List SiteNo) (config : SiteNo → DomainConfig) : Type 0 where
-  pub domain : (s t : SiteNo) → (config s).domain ≡ (config t).domain
-  pub home : (s t : SiteNo) → (config s).home ≡ (config t).home
-  pub groups : (s t : SiteNo) → (config s).groups ≡ (config t).groups
-  pub named : (s : SiteNo) → (config s).sites ≡ sites
+-- all sites name the same home
+abbrev pub AgreeOnHome : (SiteNo → DomainConfig) → Type 0
+AgreeOnHome config = (s t : SiteNo) → (config s).home ≡ (config t).home
 
 -- a list of steps leads from the start to w
 pub record Reaches (sites : List SiteNo) (config : SiteNo → DomainConfig) (steps : List Step) (w : Network) : Type 0 where
-  pub agree : Agree sites config
+  pub home : AgreeOnHome config
   pub leads : Leads (start sites config) steps w
 
 -- The same, computed: each event is followed by so many passes

@@ -19,7 +19,9 @@ use Rattle.cast_types.specs.declared.names.DomainNo.{DomainNo}
 use Rattle.cast_types.specs.declared.names.Proc.{Proc}
 use Rattle.cast_types.specs.declared.names.SiteNo.{SiteNo}
 use Rattle.cast_types.specs.declared.names.Uid.{Uid}
-use Rattle.cast_world.specs.Network.{Becomes, Happens, Leads, Network, event_at, start}
+use Rattle.cast_world.specs.Agreement.{delivered_of}
+use Rattle.cast_world.specs.Laws.{HoldsInEveryNetwork, ListsAreInOrder, OrdersAgree, SameMessages, SameOrder}
+use Rattle.cast_world.specs.Network.{AgreeOnHome, Becomes, Happens, Leads, Network, Reaches, event_at, start}
 use Rattle.cast_world.specs.declared.step.Happening.TheVariants.{Local, Sent}
 use Rattle.cast_world.specs.declared.step.Packet.{Packet}
 use Rattle.cast_world.specs.declared.step.Step.{Step}
@@ -104,9 +106,44 @@ Runs steps old new = (w : Network) → StandsFor old w → (v : Network) × Lead
 abbrev pub delivered_at : Network → DomainNo → Proc → List Uid
 delivered_at w d p = if (w.at p.site).config.domain.0 == d.0 then ((w.at p.site).process p.serial).delivered else []
 
+-- what daemons are asked to tell of a process's deliveries is so of whatever network they stand for
+abbrev pub TellsDelivered : World → DomainNo → Proc → List Uid → Type 0
+TellsDelivered world d p ids = (w : Network) → StandsFor world w → ids ≡ delivered_at w d p
+
 -- whatever network daemons stood for, they stand for the one that what happens at a site of theirs leads to
 abbrev pub Acts : SiteNo → Event → World → World → Type 0
 Acts s e old new = (w : Network) → StandsFor old w → (v : Network) × Becomes w s (event_at w s (Local e)) v × StandsFor new v
 
 abbrev pub Hands : SiteNo → ℕ → World → World → Type 0
 Hands s number old new = (w : Network) → StandsFor old w → (v : Network) × Becomes w s (event_at w s (Sent number)) v × StandsFor new v
+
+-- Laws
+
+-- daemons of such configurations, all of one home, are run by a list of steps: they stand for a network to which these steps lead
+abbrev pub AllRunsAreNetworks : Type 0
+AllRunsAreNetworks =
+    (configs : List Config) (config : SiteNo → DomainConfig) (steps : List Step) (old new : World) →
+    AgreeOnHome config → AreSolo configs config → StandsAtStart configs old → Runs steps old new →
+    (w : Network) × Reaches (map (λ c. c.site) configs) config steps w × StandsFor new w
+
+-- what they are asked to tell of a process's deliveries is what it delivered in this network
+abbrev pub AllAnswersAreLists : Type 0
+AllAnswersAreLists = HoldsInEveryNetwork (λ w.
+    (world : World) (p : Proc) (ids : List Uid) → StandsFor world w → TellsDelivered world (w.at p.site).config.domain p ids → ids ≡ delivered_of w p)
+
+-- so a law of what processes delivered holds of what daemons are asked to tell of each
+abbrev pub HoldsOfAnswers : (Network → (Proc → List Uid) → Type 0) → Type 0
+HoldsOfAnswers law = HoldsInEveryNetwork (λ w.
+    (world : World) (told : Proc → List Uid) → StandsFor world w → ((p : Proc) → TellsDelivered world (w.at p.site).config.domain p (told p)) → law w told)
+
+abbrev pub AllTellInOrder : Type 0
+AllTellInOrder = HoldsOfAnswers ListsAreInOrder
+
+abbrev pub AllTellTheSame : Type 0
+AllTellTheSame = HoldsOfAnswers SameMessages
+
+abbrev pub AllTellOneOrder : Type 0
+AllTellOneOrder = HoldsOfAnswers SameOrder
+
+abbrev pub AllToldOrdersAgree : Type 0
+AllToldOrdersAgree = HoldsOfAnswers OrdersAgree

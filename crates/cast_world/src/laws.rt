@@ -1,4 +1,5 @@
-ghost use Rattle.cast_world.specs.Laws.{AllDeliverTheSame, AllDeliveriesWereSent, AllJoinsGoForward, AllListsAreActs, AllListsAreInOrder, AllNamesAreUnique, AllPassWithCut, AllStampsRise, AllStampsRiseStrictly, AllViewsAreDecided, CausalDelivery};
+ghost use Rattle.cast_world.specs.Laws.{AllAbcastsAreActs, AllDeliverInOneOrder, AllDeliverTheSame, AllDeliveriesWereSent, AllJoinsGoForward, AllListsAreActs, AllListsAreInOrder, AllNamesAreUnique, AllOrdersAgree, AllPassWithCut, AllPushesAreActs, AllStampsRise, AllStampsRiseStrictly, AllStartsAreKnown, AllViewsAreDecided, CausalDelivery};
+ghost use Rattle.cast_world.specs.Worlds.{AllAnswersAreLists, AllRunsAreNetworks, AllTellInOrder, AllTellOneOrder, AllTellTheSame, AllToldOrdersAgree};
 
 /// No process delivers a message before one that happened before it and is due to it: that one stands earlier among what the process did,
 /// and in the list of what it delivered.
@@ -7,9 +8,11 @@ pub fn causal_delivery()
     ensures listed { AllListsAreInOrder }
 {}
 
-/// What a process delivered is, in order, what its acts say that it delivered.
+/// What a process delivered is, in order, what its acts say that it delivered; and the ABCASTs that it delivered of a view are, in order, those
+/// among what it delivered of the view.
 pub fn lists_are_acts()
-    ensures { AllListsAreActs }
+    ensures delivered { AllListsAreActs }
+    ensures abcasts { AllAbcastsAreActs }
 {}
 
 /// A stamp is at least that of each message that happened before. It covers all that the earlier one covers, and the earlier one does not
@@ -44,7 +47,35 @@ pub fn passes_with_cut()
     ensures { AllPassWithCut }
 {}
 
-/// Who passes from one view to the next delivered the same messages of the first.
-pub fn same_messages()
-    ensures { AllDeliverTheSame }
+/// Views agree. Who passes from one view to the next delivered the same messages of the first as all others who do, and its ABCASTs in the
+/// same order. Of two members of a view, until an Install of the next one comes to their sites, one has delivered a prefix of the view's
+/// ABCASTs that the other has delivered.
+pub fn views_agree()
+    ensures same_messages { AllDeliverTheSame }
+    ensures same_order { AllDeliverInOneOrder }
+    ensures prefix { AllOrdersAgree }
+{}
+
+/// An Install lists the end of the order of the view before it. All that comes before that end is known, and known alike, at each site
+/// that has a member in that view.
+pub fn starts_are_known()
+    ensures { AllStartsAreKnown }
+{}
+
+/// What a program is told of its process is so: it entered the view that is pushed, delivered the message that is pushed, and left the group
+/// or was put out of it where it is told that it is ejected.
+pub fn pushes_are_acts()
+    ensures { AllPushesAreActs }
+{}
+
+/// What daemons tell. After any list of steps the daemons of a [`World`](crate::World), all of one home, stand for a network to which these
+/// steps lead, and what `World::delivered` answers of a process is what the process delivered in it. So what holds of deliveries holds of
+/// these answers: they are in causal order, and views agree.
+pub fn answers_agree()
+    ensures networks { AllRunsAreNetworks }
+    ensures lists { AllAnswersAreLists }
+    ensures causal { AllTellInOrder }
+    ensures same_messages { AllTellTheSame }
+    ensures same_order { AllTellOneOrder }
+    ensures prefix { AllToldOrdersAgree }
 {}

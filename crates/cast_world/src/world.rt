@@ -1,7 +1,7 @@
 ghost use Rattle.std.specs.Prelude.{◌≡◌, ◌++◌, ◌<◌, ◌==◌, [], true, false, Some, IfSome, IfOk, OnOk, OnErr, if◌then◌else◌, length, map, vec_len};
 ghost use Rattle.cast_domain.specs.Records.{number_of};
-ghost use Rattle.cast_world.specs.Network.{Network, is_local, names};
-ghost use Rattle.cast_world.specs.Worlds.{Acts, Hands, Runs, Serves, ServesAt, StandsFor, Takes, delivered_at, has_failed, ids_of, place_named, sent_from, IsNew, StandsAtStart};
+ghost use Rattle.cast_world.specs.Network.{is_local, names};
+ghost use Rattle.cast_world.specs.Worlds.{Acts, Hands, Runs, Serves, ServesAt, Takes, TellsDelivered, has_failed, ids_of, place_named, sent_from, IsNew, StandsAtStart};
 
 use crate::step::{Happening, Packet, Step};
 use cast_domain::{Domain, Shared};
@@ -103,7 +103,7 @@ impl World {
     /// The messages that a process of a domain delivered, in order: none where the network has no such domain or process. `NoMemory` also
     /// after `run` answered it.
     pub fn delivered(&self, domain: DomainNo, process: Proc) -> Result<Listed<Uid>, NoMemory>
-        ensures ids { IfOk result (λ ids. (w : Network) → StandsFor self.now w → ids ≡ delivered_at w domain process) }
+        ensures ids { IfOk result (TellsDelivered self.now domain process) }
         ensures failed { OnOk result (has_failed self.now ≡ false) }
     {
         if self.failed {

@@ -2,4 +2,4 @@ use Rattle.cast_world.proofs.Listed as lemma
 use Rattle.cast_world.proofs.laws.lists_are_acts.Goals as goal
 
 pub returns : goal.returns
-returns c = lemma.lists_are_acts
+returns c = record { delivered = lemma.lists_are_acts; abcasts = lemma.abcasts_are_acts }

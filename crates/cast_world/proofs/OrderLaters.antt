@@ -1,0 +1,82 @@
+-- What holds of orders still holds when other sites have moved and the home has decided more.
+use Rattle.std.proofs.Common.{ap, arith, inl, inr, subst, sym, ◌∙◌}
+use Rattle.std.proofs.lemmas.Bool.{false≢true}
+use Rattle.std.specs.Prelude.{Bool, Contains, List, None, Option, Some, false, refl, true, ℕ, ◌≡◌, ◌≤◌, ◌⊎◌}
+use Rattle.cast_clock.specs.Times.{view_of}
+use Rattle.cast_history.specs.Acts.Act.{Delivered, Sent}
+use Rattle.cast_message.specs.Membership.{Membership}
+use Rattle.cast_message.specs.declared.message.Message.{Message}
+use Rattle.cast_types.specs.Names.{Entry, proc_eq}
+use Rattle.cast_types.specs.declared.names.GroupNo.{GroupNo}
+use Rattle.cast_types.specs.declared.names.Proc.{Proc}
+use Rattle.cast_types.specs.declared.names.SiteNo.{SiteNo}
+use Rattle.cast_types.specs.declared.names.Uid.{Uid}
+use Rattle.cast_view.specs.MemberSide.{MemberSide}
+use Rattle.cast_world.proofs.Derivation.{unique}
+use Rattle.cast_world.proofs.Facts.{ActWell, Each}
+use Rattle.cast_world.proofs.Flush.{Choice, Chosen, GroupAgrees, numbers}
+use Rattle.cast_world.proofs.FlushLaters.{Extends}
+use Rattle.cast_world.proofs.FlushSites.{same_proc}
+use Rattle.cast_world.proofs.Invariants.{Ahead, SiteHolds, Sites, WasSent}
+use Rattle.cast_world.proofs.Lists.{contains_split}
+use Rattle.cast_world.proofs.Orders.{Begun, OrderHolds, tells}
+
+module _ (home : SiteNo) (choice more : Choice) (at next : Sites) (ext : Extends choice (numbers at home) more (numbers next home)) (ahead : Ahead at next) where
+  pub sent_later : (m : Message) → WasSent at m → WasSent next m
+  sent_later m was = (ahead m.id.proc.site).sent m.id.proc.serial m was
+
+  pub begun_later : (g : GroupNo) (view : ℕ) → Begun choice (numbers at home) at g view → Begun more (numbers next home) next g view
+  begun_later g view b = record {
+    holder = b.holder;
+    message = b.message;
+    decided = (let up = (ext g).0 in let low = b.decided in omega (arith, up, low));
+    chosen = ap (λ (c : Chosen). c.members.holder) ((ext g).1 view b.decided) ∙ b.chosen;
+    sent = sent_later b.message b.sent;
+    own = b.own;
+    in_view = b.in_view;
+  }
+
+  pub order_later : (g : GroupNo) (view : ℕ) (order : List Entry) → OrderHolds choice (numbers at home) at g view order → OrderHolds more (numbers next home) next g view order
+  order_later g view order o = record {
+    apart = o.apart;
+    few = o.few;
+    atomic = λ e c. let m = o.atomic e c in (m.0, sent_later m.0 m.1, m.2, m.3);
+    begun = elim o.begun [ inl none ↦ inl none | inr b ↦ inr (begun_later g view b) ];
+  }
+
+-- who tells a view's order is the one that was chosen with it
+pub teller_chosen : (choice : Choice) (g : GroupNo) (group : MemberSide) → GroupAgrees choice g group → (here : SiteNo) (k : ℕ) → tells here group k ≡ true →
+    (choice g group.number).members.holder ≡ Some (record { site = here; serial = k })
+teller_chosen choice g group agrees here k e = go group.view refl e
+  where
+    by_name : (m : Membership) → m ≡ (choice g group.number).members → (o : Option Proc) → m.holder ≡ o → elim o as (λ x. Bool) [ Some q ↦ proc_eq q (record { site = here; serial = k }) | None ↦ false ] ≡ true →
+        (choice g group.number).members.holder ≡ Some (record { site = here; serial = k })
+    by_name m same None is y = absurd (false≢true y)
+    by_name m same (Some q) is y = ap (λ (x : Membership). x.holder) (sym same) ∙ is ∙ ap (λ z. Some z) (same_proc q (record { site = here; serial = k }) y)
+
+    go : (o : Option Membership) → group.view ≡ o → elim (elim o as (λ x. Option Proc) [ Some m ↦ m.holder | None ↦ None ]) as (λ x. Bool) [ Some q ↦ proc_eq q (record { site = here; serial = k }) | None ↦ false ] ≡ true →
+        (choice g group.number).members.holder ≡ Some (record { site = here; serial = k })
+    go None is y = absurd (false≢true y)
+    go (Some m) is y = by_name m (agrees.view m is) m.holder refl y
+
+-- Of all sites
+
+module _ (at : Sites) (home : SiteNo) (all : (s : SiteNo) → SiteHolds at home s (at s)) where
+  pub each_at : (p : Proc) → Each (ActWell p) ((at p.site).acts p.serial)
+  each_at p = let x = all p.site in subst (λ z. Each (ActWell record { site = z; serial = p.serial }) ((at p.site).acts p.serial)) x.here_is (x.ones p.serial).fits.each
+
+  -- messages of one name are one
+  pub one_message : (x y : Message) → WasSent at x → WasSent at y → x.id ≡ y.id → x ≡ y
+  one_message x y at_x at_y same =
+      unique x.id.proc ((at x.id.proc.site).acts x.id.proc.serial) (each_at x.id.proc) x y at_x
+      (subst (λ (p : Proc). Contains ((at p.site).acts p.serial) (Sent y)) (ap (λ (u : Uid). u.proc) (sym same)) at_y) same
+
+  -- the time of who sent or delivered a message has reached its view
+  pub reached : (s : SiteNo) (k : ℕ) (m : Message) → Contains ((at s).acts k) (Sent m) ⊎ Contains ((at s).acts k) (Delivered m) → WasSent at m → m.id.view ≤ view_of ((at s).process k).time m.id.group
+  reached s k m did sent =
+      let parts = contains_split ((at m.id.proc.site).acts m.id.proc.serial) (Sent m) sent in
+      let itself = (each_at m.id.proc parts.0 parts.1 (Sent m) parts.2).itself in
+      elim (((all s).ones k).fits.covered m did m.id itself) [
+        | inl above ↦ omega (arith, above)
+        | inr level ↦ (let same = level.0 in omega (arith, same))
+      ]

@@ -1,0 +1,159 @@
+-- What holds of orders at a site is kept where it passes to a view. Nothing of that view was delivered yet, and a process here that is to tell
+-- its order has told nothing.
+use Rattle.std.proofs.Common.{ap, arith, inl, inr, subst, sym, ◌∙◌}
+use Rattle.std.proofs.lemmas.Bool.{false≢true}
+use Rattle.std.specs.Prelude.{◌++◌, ◌<◌, Bool, Contains, [], false, if◌then◌else◌, length, refl, true, unwrap_or, ℕ, ◌∷◌, ◌≡◌, ◌≤◌}
+use Rattle.cast_delay.specs.Ready.{has_delivered}
+use Rattle.cast_history.specs.Acts.Act.{Delivered, Entered, Sent}
+use Rattle.cast_history.specs.Entering.{enters, in_view, is_put_out, passing, putting_out}
+use Rattle.cast_history.specs.Noted.{abcasts_by}
+use Rattle.cast_history.specs.Order.{told_by}
+use Rattle.cast_history.specs.State.{State, local}
+use Rattle.cast_message.specs.Bodies.{kind_of}
+use Rattle.cast_message.specs.Membership.{Membership}
+use Rattle.cast_message.specs.declared.message.Message.{Message}
+use Rattle.cast_types.specs.Counts.{CountList}
+use Rattle.cast_types.specs.Names.{Entry, group_eq, is_atomic}
+use Rattle.cast_types.specs.Sets.{set_at}
+use Rattle.cast_types.specs.declared.names.GroupNo.{GroupNo}
+use Rattle.cast_types.specs.declared.names.Proc.{Proc}
+use Rattle.cast_types.specs.declared.names.SiteNo.{SiteNo}
+use Rattle.cast_types.specs.declared.names.Standing.TheVariants.{Member}
+use Rattle.cast_types.specs.declared.names.Uid.{Uid}
+use Rattle.cast_view.specs.MemberSide.{MemberSide, is_pending, with_view}
+use Rattle.cast_world.proofs.Acts.{sent_entered}
+use Rattle.cast_world.proofs.Flush.{Choice, Chosen, GroupAgrees, numbers}
+use Rattle.cast_world.proofs.FlushLaters.{Extends}
+use Rattle.cast_world.proofs.FlushSteps.{Flushing, own_agrees, passes_up}
+use Rattle.cast_world.proofs.Invariants.{Sites, WasSent}
+use Rattle.cast_world.proofs.Kept.{Comes}
+use Rattle.cast_world.proofs.Laters.{set_group_all}
+use Rattle.cast_world.proofs.Listings.{done_none, no_abcast, parts_of_id}
+use Rattle.cast_world.proofs.Lists.{never_nil}
+use Rattle.cast_world.proofs.Local.{cases_group}
+use Rattle.cast_world.proofs.Ones.{set_here, set_other}
+use Rattle.cast_world.proofs.OrderLaters.{teller_chosen}
+use Rattle.cast_world.proofs.OrderMoves.{abcast_had, own_ordered, stand_in}
+use Rattle.cast_world.proofs.OrderSites.{all_part_ordered, one_same}
+use Rattle.cast_world.proofs.Orders.{AllOrdered, OneOrdered, Orders, SiteOrdered, Stands, done_in, tells}
+use Rattle.cast_world.proofs.Steps.{Arrived, Now, own_holds, own_is, sites_at}
+use Rattle.cast_world.specs.Agreement.{IsPrefix, is_in}
+use Rattle.cast_world.specs.Network.{Network}
+
+module _ (home : SiteNo) (w : Network) (a : SiteNo) where
+  abbrev at : State → Sites
+  at t = sites_at home w a t
+
+  abbrev number : State → GroupNo → ℕ
+  number t = numbers (sites_at home w a t) home
+
+  module _ (t : State) (now : Now home w a t) (choice : Choice) (f : Flushing home w a t choice) (order : Orders) (x : AllOrdered choice (number t) (at t) order) where
+    abbrev own : SiteOrdered order t
+    own = own_ordered home w a t now choice f order x
+
+    abbrev stand : (g : GroupNo) (v : ℕ) (m : Message) (fact : ℕ × Entry) → Contains t.got m → is_in g v m.id ≡ true → Contains (told_by m.body) fact → Stands (order g v) fact
+    stand = stand_in home w a t now choice f order x
+
+    abbrev noted : (k : ℕ) (z : Uid) → Contains (t.abcasts k) z → (m : Message) × WasSent (at t) m × (m.id ≡ z) × (is_atomic (kind_of m.body) ≡ true) × Contains (t.acts k) (Delivered m) × (has_delivered (t.process k) z ≡ true)
+    noted = abcast_had home w a t now choice f order x
+
+    module _ (g : GroupNo) (skipped : Bool) (n : ℕ) (members : Membership) (request : ℕ) (cut : CountList) (comes : Comes (Arrived home w a) t g skipped n members request cut) where
+      abbrev u : State
+      u = passing t g skipped n members request cut
+
+      abbrev left : State
+      left = putting_out t g skipped members
+
+      abbrev side : MemberSide
+      side = with_view t.here n members (t.group g)
+
+      module _ (more : Choice) (fu : Flushing home w a u more) (ext : Extends choice (number t) more (number u)) where
+        left_ordered : SiteOrdered order left
+        left_ordered = all_part_ordered order t own g (is_put_out t g skipped members)
+
+        up : (t.group g).number < n
+        up = passes_up home w a choice (number t) t g skipped n members request cut comes
+
+        -- nothing was delivered of the view yet
+        pub none_done : (k : ℕ) → done_in g n (t.abcasts k) ≡ []
+        none_done k = done_none g n (t.abcasts k) (λ z c is.
+            let two = parts_of_id g n z is in
+            let was = own.low k z c in
+            let same : (t.group z.group).number ≡ (t.group g).number = ap (λ y. (t.group y).number) two.0 in
+            let view = two.1 in
+            let lt = up in
+            omega (arith, was, same, view, lt))
+
+        -- and where a process here tells its order nothing of it was told
+        none_told : (k : ℕ) → tells t.here side k ≡ true → order g n ≡ []
+        none_told k held = elim (x.orders g n).begun [
+          | inl none ↦ none
+          | inr b ↦ absurd (
+              let agrees : GroupAgrees more g side = subst (GroupAgrees more g) (set_here t.group g side g refl) ((own_agrees home w a u more fu).groups g) in
+              let named_it = teller_chosen more g side agrees t.here k held in
+              let was : more g n ≡ choice g n = (ext g).1 n b.decided in
+              let holder : b.holder ≡ local t k = ap (λ o. unwrap_or o b.holder) (sym b.chosen ∙ sym (ap (λ (c : Chosen). c.members.holder) was) ∙ named_it) in
+              let two = parts_of_id g n b.message.id b.in_view in
+              let sent : Contains ((at t t.here).acts k) (Sent b.message) = subst (λ (p : Proc). Contains ((at t p.site).acts p.serial) (Sent b.message)) (b.own ∙ holder) b.sent in
+              let here : at t t.here ≡ t = ap (at t) (own_holds home w a t now).here_is ∙ own_is home w a t in
+              let before = own.low_sent k b.message (subst (λ (z : State). Contains (z.acts k) (Sent b.message)) here sent) in
+              let same : (t.group b.message.id.group).number ≡ (t.group g).number = ap (λ y. (t.group y).number) two.0 in
+              let lt = up in
+              let view = two.1 in
+              omega (arith, before, same, view, lt))
+        ]
+
+        one_new : (k : ℕ) → OneOrdered ((u.process k).standing g) (tells t.here side k) (order g n) g n (record { site = t.here; serial = k }) (t.abcasts k) t.got
+        one_new k = record {
+          follows = λ _ _. record { begins = (order g n, ap (λ l. l ++ order g n) (none_done k)); known = λ b c y is lt. absurd (let none = ap length (none_done k) in omega (arith, none, lt)) };
+          leads = λ held.
+              let none = none_told k held in
+              record {
+                all = subst (λ l. IsPrefix l (done_in g n (t.abcasts k))) (sym none) (done_in g n (t.abcasts k), refl);
+                told = λ b c y is. absurd (never_nil b c y (sym none ∙ is));
+                places = (let few = ap length (none_done k) in omega (arith, few));
+              };
+        }
+
+        abbrev next : GroupNo → MemberSide
+        next = set_at group_eq t.group g side
+
+        -- in another group it is as it was
+        pub standing_same : (h : GroupNo) (k : ℕ) → (g ≡ h → ⊥) → (u.process k).standing h ≡ Member → (left.process k).standing h ≡ Member
+        standing_same h k apart e = go (enters left g members request k) e
+          where
+            go : (b : Bool) → (if b then in_view g n (left.process k) else left.process k).standing h ≡ Member → (left.process k).standing h ≡ Member
+            go true s = sym (set_other (left.process k).standing g Member h apart) ∙ s
+            go false s = s
+
+        one_in : (h : GroupNo) (k : ℕ) → is_pending (next h) ≡ false →
+            OneOrdered ((u.process k).standing h) (tells t.here (next h) k) (order h (next h).number) h (next h).number (record { site = t.here; serial = k }) (t.abcasts k) t.got
+        one_in h k waits = elim (cases_group g h) [
+          | inl here ↦ subst (λ (z : MemberSide). OneOrdered ((u.process k).standing h) (tells t.here z k) (order h z.number) h z.number (record { site = t.here; serial = k }) (t.abcasts k) t.got) (sym (set_here t.group g side h here))
+              (subst (λ y. OneOrdered ((u.process k).standing y) (tells t.here side k) (order y n) y n (record { site = t.here; serial = k }) (t.abcasts k) t.got) here (one_new k))
+          | inr apart ↦ subst (λ (z : MemberSide). is_pending z ≡ false → OneOrdered ((u.process k).standing h) (tells t.here z k) (order h z.number) h z.number (record { site = t.here; serial = k }) (t.abcasts k) t.got)
+              (sym (set_other t.group g side h apart))
+              (λ quiet. one_same ((left.process k).standing h) ((u.process k).standing h) (tells t.here (t.group h) k) (order h (t.group h).number) h (t.group h).number (record { site = t.here; serial = k }) (t.abcasts k) (t.abcasts k) t.got t.got refl (λ m c. c)
+              (standing_same h k apart) (left_ordered.ones h k quiet)) waits
+        ]
+
+        later : (h : GroupNo) (z : ℕ) → z ≤ (t.group h).number → z ≤ (next h).number
+        later h z = set_group_all (λ j (y : MemberSide). z ≤ (t.group j).number → z ≤ y.number) t.group g side (λ j le. le) (λ le. let lt = up in omega (arith, le, lt)) h
+
+        sent_was : (k : ℕ) (m : Message) (b : Bool) → Contains (if b then left.acts k ++ Entered g n cut ∷ [] else left.acts k) (Sent m) → Contains (left.acts k) (Sent m)
+        sent_was k m true c = sent_entered (left.acts k) g n cut m c
+        sent_was k m false c = c
+
+        acts_same : (k : ℕ) (b : Bool) → abcasts_by (left.acts k) ≡ abcasts_by (if b then left.acts k ++ Entered g n cut ∷ [] else left.acts k)
+        acts_same k true = no_abcast (left.acts k) (Entered g n cut) refl
+        acts_same k false = refl
+
+        pub passes_ordered : SiteOrdered order u
+        passes_ordered = record {
+          listed = λ k. left_ordered.listed k ∙ acts_same k (enters left g members request k);
+          once = own.once;
+          low = λ k z c. later z.group z.view (own.low k z c);
+          low_sent = λ k m c. later m.id.group m.id.view (left_ordered.low_sent k m (sent_was k m (enters left g members request k) c));
+          frozen = set_group_all (λ h (z : MemberSide). is_pending z ≡ true → z.frozen ≡ true) t.group g side own.frozen (λ e. absurd (false≢true e));
+          ones = one_in;
+        }

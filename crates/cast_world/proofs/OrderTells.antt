@@ -1,0 +1,219 @@
+-- Who tells a view's order knows all of it, and has still to list what it delivered beyond it.
+use Rattle.cast_types.proofs.Orders.{proc_itself, same_entry}
+use Rattle.std.proofs.Common.{ap, arith, inl, inr, subst, sym, ◌∙◌}
+use Rattle.std.proofs.lemmas.Bool.{and_parts, false≢true, ltb-true, true≢false}
+use Rattle.std.proofs.lemmas.List.{length-append}
+use Rattle.std.specs.List.{enumerate_from}
+use Rattle.std.specs.Prelude.{◌&&◌, ◌+◌, ◌++◌, ◌<◌, ◌==◌, Bool, Contains, List, None, Option, Some, [], false, filter, if◌then◌else◌, length, nat_lt, not, refl, true, ◌||◌, ℕ, ◌∷◌, ◌≡◌, ◌≤◌}
+use Rattle.cast_delay.specs.Ready.{has_delivered, has_turn, is_causally_ready, is_cut_by, is_member, is_open_to}
+use Rattle.cast_delay.specs.declared.turn.Turn.TheVariants.{Following, Holding}
+use Rattle.cast_history.specs.History.{history}
+use Rattle.cast_history.specs.Order.{facts_in, has_place, holds, ids_told, is_of_view, lists_of, order_of, order_told, told_by, unlisted, unsettled}
+use Rattle.cast_history.specs.Rules.Room.{may_order}
+use Rattle.cast_history.specs.State.{State, gate_of, local}
+use Rattle.cast_history.specs.Turns.{has_room_for_order, is_ready_for, turn_of}
+use Rattle.cast_message.specs.Bodies.{kind_of}
+use Rattle.cast_message.specs.declared.message.Body.{Body}
+use Rattle.cast_message.specs.declared.message.Message.{Message}
+use Rattle.cast_order.specs.Order.{listed_ids, next_of, still_to_list}
+use Rattle.cast_types.specs.Counts.{CountList}
+use Rattle.cast_types.specs.Names.{Entry, entry_of, is_atomic, is_order, named, proc_eq}
+use Rattle.cast_types.specs.declared.limits.TheConstants.{MAX_POSITION, MAX_UNSETTLED}
+use Rattle.cast_types.specs.declared.names.GroupNo.{GroupNo}
+use Rattle.cast_view.specs.MemberSide.{is_pending}
+use Rattle.cast_view.specs.declared.member.Pending.{Pending}
+use Rattle.cast_world.proofs.Acts.{contains_here}
+use Rattle.cast_world.proofs.Allowed.{contains_kept, contains_mapped, passed}
+use Rattle.cast_world.proofs.Facts.{StopsIn, WaitsForTurn}
+use Rattle.cast_world.proofs.Homes.{among_kept}
+use Rattle.cast_world.proofs.Listings.{apart_done, still_is}
+use Rattle.cast_world.proofs.Lists.{contains_split}
+use Rattle.cast_world.proofs.Orders.{Apart, KnowsFirst, Leads, Stands, done_in}
+use Rattle.cast_world.proofs.Prefixes.{flat_has, in_flat, known_begins, known_places, known_reaches, known_whole, place_in, told_at, told_id}
+use Rattle.cast_world.proofs.Runs.{from_mapped}
+use Rattle.cast_message.specs.declared.message.Body.TheVariants as body
+use Rattle.cast_world.specs.Agreement.{IsPrefix, is_in}
+
+-- What a body tells
+
+pub told_ids : (b : Body) (f : ℕ × Entry) → Contains (told_by b) f → Contains (ids_told b) f.1
+told_ids (body.Causal payload) f at = absurd (omega (arith, at.1))
+told_ids (body.Atomic payload) f at = absurd (omega (arith, at.1))
+told_ids (body.Order s) f at = told_id s.ids s.first f at
+
+pub told_sets : (b : Body) (f : ℕ × Entry) → Contains (told_by b) f → is_order (kind_of b) ≡ true
+told_sets (body.Causal payload) f at = absurd (omega (arith, at.1))
+told_sets (body.Atomic payload) f at = absurd (omega (arith, at.1))
+told_sets (body.Order s) f at = refl
+
+pub tells_none : (b : Body) → is_order (kind_of b) ≡ false → told_by b ≡ []
+tells_none (body.Causal payload) e = refl
+tells_none (body.Atomic payload) e = refl
+tells_none (body.Order s) e = absurd (true≢false e)
+
+listed_at : (ids : List Entry) (place : ℕ) (e : Entry) → Contains ids e → (n : ℕ) × Contains (enumerate_from place ids) (n, e)
+listed_at ids place e at =
+    let s = contains_split ids e at in
+    (place + length s.0, subst (λ l. Contains (enumerate_from place l) (place + length s.0, e)) (sym s.2) (told_at s.0 s.1 e place))
+
+pub ids_place : (b : Body) (e : Entry) → Contains (ids_told b) e → (n : ℕ) × Contains (told_by b) (n, e)
+ids_place (body.Causal payload) e at = absurd (omega (arith, at.1))
+ids_place (body.Atomic payload) e at = absurd (omega (arith, at.1))
+ids_place (body.Order s) e at = listed_at s.ids s.first e at
+
+stands_among : (order : List Entry) (f : ℕ × Entry) → Stands order f → Contains order f.1
+stands_among order f (a, c, is, at) = subst (λ l. Contains l f.1) (sym is) (contains_here a c f.1)
+
+-- At a site, of a group in which no Install waits
+
+module _ (order : List Entry) (t : State) (g : GroupNo) (waits : is_pending (t.group g) ≡ false)
+    (stand : (m : Message) (f : ℕ × Entry) → Contains t.got m → is_in g (t.group g).number m.id ≡ true → Contains (told_by m.body) f → Stands order f) where
+  pub is_told : order_of t g ≡ order_told t g
+  is_told = ap (λ b. if b then t.closed g else order_told t g) waits
+
+  facts_stand : (f : ℕ × Entry) → Contains (facts_in t g) f → Stands order f
+  facts_stand f at =
+      let from = in_flat (λ (m : Message). told_by m.body) (filter (λ m. is_of_view t g m.id) t.got) f at in
+      stand from.0 f (among_kept (λ (m : Message). is_of_view t g m.id) t.got from.0 from.1) (passed (λ (m : Message). is_of_view t g m.id) t.got from.0 from.1) from.2
+
+  -- what the site knows of it begins it
+  pub knows_begin : IsPrefix (order_of t g) order
+  knows_begin = subst (λ l. IsPrefix l order) (sym is_told) (known_begins order (facts_in t g) facts_stand)
+
+  -- each place that it knows was told here
+  pub told_place : (a c : List Entry) (e : Entry) → order ≡ a ++ e ∷ c → length a < length (order_of t g) → (m : Message) × Contains t.got m × (is_in g (t.group g).number m.id ≡ true) × Contains (told_by m.body) (length a + 1, e)
+  told_place a c e is lt =
+      let whole : order_told t g ++ knows_begin.0 ≡ order = ap (λ l. l ++ knows_begin.0) (sym is_told) ∙ knows_begin.1 in
+      let long = ap length is_told in
+      elim (place_in (order_told t g) knows_begin.0 a c e (whole ∙ is)) [
+        | inl old ↦
+            let from = in_flat (λ (m : Message). told_by m.body) (filter (λ m. is_of_view t g m.id) t.got) (length a + 1, e) (known_places (facts_in t g) a old.0 e old.1) in
+            (from.0, among_kept (λ (m : Message). is_of_view t g m.id) t.got from.0 from.1, passed (λ (m : Message). is_of_view t g m.id) t.got from.0 from.1, from.2)
+        | inr new ↦ absurd (
+            let n = ap length new.1 in
+            let parts = length-append (order_told t g) new.0 in
+            omega (arith, n, parts, lt, long))
+      ]
+
+  -- who follows the order, with each place of what it delivered told here, has delivered a prefix of what the site knows
+  pub knows_done : (done : List Entry) → IsPrefix done order → KnowsFirst t.got g (t.group g).number order (length done) → length done ≤ MAX_POSITION → IsPrefix done (order_told t g)
+  knows_done done begins known few = known_reaches order (facts_in t g) facts_stand done begins
+      (λ a c e is lt. let m = known a c e is lt in flat_has (λ (z : Message). told_by z.body) (filter (λ z. is_of_view t g z.id) t.got) m.0 (length a + 1, e) (contains_kept (λ (z : Message). is_of_view t g z.id) t.got m.0 m.1 m.2) m.3) few
+
+  -- who tells the order
+  module _ (k : ℕ) (l : Leads order g (t.group g).number (local t k) (t.abcasts k) t.got) (once : Apart (t.abcasts k)) where
+    abbrev rest : List Entry
+    rest = l.all.0
+
+    abbrev done : List Entry
+    done = done_in g (t.group g).number (t.abcasts k)
+
+    all_told : (a c : List Entry) (e : Entry) → order ≡ a ++ e ∷ c → Contains (facts_in t g) (length a + 1, e)
+    all_told a c e is =
+        let m = l.told a c e is in
+        flat_has (λ (z : Message). told_by z.body) (filter (λ z. is_of_view t g z.id) t.got) m.0 (length a + 1, e) (contains_kept (λ (z : Message). is_of_view t g z.id) t.got m.0 m.1 m.2) m.4
+
+    pub done_length : length done ≡ length order + length rest
+    done_length = ap length (sym l.all.1) ∙ length-append order rest
+
+    -- it knows all of it
+    pub knows_all : order_of t g ≡ order
+    knows_all = is_told ∙ known_whole order (facts_in t g) facts_stand all_told (let n = done_length in let p = l.places in omega (arith, n, p))
+
+    apart : Apart (order ++ rest)
+    apart = subst Apart (sym l.all.1) (apart_done g (t.group g).number (t.abcasts k) once)
+
+    abbrev own : Message → Bool
+    own m = is_of_view t g m.id && (is_order (kind_of m.body) && proc_eq m.id.proc (local t k))
+
+    abbrev as_listed : Message → ℕ × List Entry
+    as_listed m = (m.id.count, ids_told m.body)
+
+    has_listed : (e : Entry) → Contains order e → Contains (listed_ids (lists_of t g k)) e
+    has_listed e at =
+        let s = contains_split order e at in
+        let m = l.told s.0 s.1 e s.2 in
+        flat_has (λ (x : ℕ × List Entry). x.1) (lists_of t g k) (as_listed m.0) e
+        (contains_mapped as_listed (filter own t.got) m.0 (contains_kept own t.got m.0 m.1
+        (λ i. m.2 i && (told_sets m.0.body (length s.0 + 1, e) m.4 i && (ap (λ p. proc_eq p (local t k)) m.3 ∙ proc_itself (local t k)) i))))
+        (told_ids m.0.body (length s.0 + 1, e) m.4)
+
+    only_listed : (e : Entry) → Contains (listed_ids (lists_of t g k)) e → Contains order e
+    only_listed e at =
+        let from = in_flat (λ (x : ℕ × List Entry). x.1) (lists_of t g k) e at in
+        let m = from_mapped as_listed (filter own t.got) from.0 from.1 in
+        let place = ids_place m.0.body e (subst (λ (x : ℕ × List Entry). Contains x.1 e) (sym m.2) from.2) in
+        stands_among order (place.0, e) (stand m.0 (place.0, e) (among_kept own t.got m.0 m.1) (and_parts (is_of_view t g m.0.id) _ (passed own t.got m.0 m.1)).0 place.1)
+
+    -- and what it has still to list is what it delivered beyond
+    pub still_lists : unlisted t g k ≡ rest
+    still_lists = ap (λ d. still_to_list d (listed_ids (lists_of t g k))) (sym l.all.1) ∙ still_is order rest (listed_ids (lists_of t g k)) apart has_listed only_listed
+
+    -- where there is a place for one more, all that it delivered and that one have places
+    pub has_place_for : has_place (order_of t g ++ unlisted t g k) ≡ true → length done + 1 ≤ MAX_POSITION
+    has_place_for e =
+        let lt = ltb-true (length (order_of t g ++ unlisted t g k)) MAX_POSITION e in
+        let same : length (order_of t g ++ unlisted t g k) ≡ length done = (λ i. length (knows_all i ++ still_lists i)) ∙ ap length l.all.1 in
+        omega (arith, lt, same)
+
+-- A delivery
+
+-- a frozen group in which no Install waits delivers nothing
+pub is_open : (t : State) (k : ℕ) (m : Message) → StopsIn m.id.group → is_ready_for t k m ≡ true → is_pending (t.group m.id.group) ≡ false → (t.group m.id.group).frozen ≡ false
+is_open t k m stops ready waits = go (t.group m.id.group).frozen refl (t.group m.id.group).pending refl
+  where
+    gate : is_open_to (gate_of t m.id.group) (entry_of m.id) ≡ true
+    gate =
+        let a = and_parts (is_causally_ready t.config.groups (gate_of t) (t.process k) m) _ ready in
+        let b = and_parts (is_member ((t.process k).standing m.id.group)) _ a.0 in
+        let c = and_parts (m.id.view == (t.group m.id.group).number) _ b.1 in
+        (and_parts (is_open_to (gate_of t m.id.group) (entry_of m.id)) _ c.1).0
+
+    go : (b : Bool) → (t.group m.id.group).frozen ≡ b → (o : Option Pending) → (t.group m.id.group).pending ≡ o → (t.group m.id.group).frozen ≡ false
+    go false e o is = e
+    go true e None is = absurd (false≢true (sym (λ i. not (e i) || is_cut_by (elim (is i) as (λ x. Option CountList) [ Some p ↦ Some p.cut | None ↦ None ]) (entry_of m.id)) ∙ gate))
+    go true e (Some p) is = absurd (true≢false (sym (ap (λ (o : Option Pending). elim o as (λ x. Bool) [ Some q ↦ true | None ↦ false ]) is) ∙ waits))
+
+module _ (t : State) (k : ℕ) (m : Message) (waits : WaitsForTurn m) (ready : is_ready_for t k m ≡ true) (atomic : is_atomic (kind_of m.body) ≡ true) where
+  abbrev g : GroupNo
+  g = m.id.group
+
+  pub has_its_turn : has_turn (turn_of t k g) (entry_of m.id) ≡ true
+  has_its_turn = sym (ap (λ b. not b || has_turn (turn_of t k g) (entry_of m.id)) atomic) ∙ (and_parts (is_causally_ready t.config.groups (gate_of t) (t.process k) m) _ ready).1
+
+  entry_is : (o : Option Entry) (e : Entry) → has_turn (Following o) e ≡ true → o ≡ Some e
+  entry_is None e is = absurd (false≢true is)
+  entry_is (Some n) e is = ap (λ z. Some z) (sym (same_entry e n is))
+
+  -- who tells the order has room for it
+  pub has_room : holds t g k ≡ true → (t.group g).frozen ≡ false → has_place (order_of t g ++ unlisted t g k) ≡ true
+  has_room held open_it =
+      let turn : turn_of t k g ≡ Holding (has_room_for_order t g k) = λ i. if held i && not (open_it i) then Holding (has_room_for_order t g k) else Following (next_of (λ e. has_delivered (t.process k) (named g (t.group g).number e)) (order_of t g)) in
+      let room : has_room_for_order t g k ≡ true = sym (ap (λ z. has_turn z (entry_of m.id)) turn) ∙ has_its_turn in
+      (and_parts _ (has_place (order_of t g ++ unlisted t g k)) (and_parts (may_order history t) _ room).1).1
+
+  -- and few of what it delivered is unsettled
+  pub has_few : holds t g k ≡ true → (t.group g).frozen ≡ false → length (unsettled t g k) + 1 ≤ MAX_UNSETTLED
+  has_few held open_it =
+      let turn : turn_of t k g ≡ Holding (has_room_for_order t g k) = λ i. if held i && not (open_it i) then Holding (has_room_for_order t g k) else Following (next_of (λ e. has_delivered (t.process k) (named g (t.group g).number e)) (order_of t g)) in
+      let room : has_room_for_order t g k ≡ true = sym (ap (λ z. has_turn z (entry_of m.id)) turn) ∙ has_its_turn in
+      let lt = ltb-true (length (unsettled t g k)) MAX_UNSETTLED (and_parts (nat_lt (length (unsettled t g k)) MAX_UNSETTLED) _ (and_parts (may_order history t) _ room).1).0 in
+      omega (arith, lt)
+
+  -- who does not delivers what stands next
+  pub is_next : holds t g k ≡ false → next_of (λ e. has_delivered (t.process k) (named g (t.group g).number e)) (order_of t g) ≡ Some (entry_of m.id)
+  is_next other =
+      let next : Option Entry = next_of (λ e. has_delivered (t.process k) (named g (t.group g).number e)) (order_of t g) in
+      let turn : turn_of t k g ≡ Following next = ap (λ b. if b && not (t.group g).frozen then Holding (has_room_for_order t g k) else Following next) other in
+      entry_is next (entry_of m.id) (sym (ap (λ z. has_turn z (entry_of m.id)) turn) ∙ has_its_turn)
+
+  -- so does anyone in a frozen group
+  pub is_next_frozen : (t.group g).frozen ≡ true → next_of (λ e. has_delivered (t.process k) (named g (t.group g).number e)) (order_of t g) ≡ Some (entry_of m.id)
+  is_next_frozen frozen =
+      let next : Option Entry = next_of (λ e. has_delivered (t.process k) (named g (t.group g).number e)) (order_of t g) in
+      let turn : turn_of t k g ≡ Following next = ap (λ b. if b then Holding (has_room_for_order t g k) else Following next) (never (holds t g k) frozen) in
+      entry_is next (entry_of m.id) (sym (ap (λ z. has_turn z (entry_of m.id)) turn) ∙ has_its_turn)
+    where
+      never : (b : Bool) → (t.group m.id.group).frozen ≡ true → (b && not (t.group m.id.group).frozen) ≡ false
+      never true e = ap not e
+      never false e = refl
