@@ -205,7 +205,8 @@ held =
     let sites : List SiteNo = site 1 ∷ site 2 ∷ site 3 ∷ [] in
     through (through (through (begun sites (group 1 ∷ [])) (opens 2 ∷ joins 2 1 ∷ [])) (opens 1 ∷ joins 1 1 ∷ [])) (opens 3 ∷ joins 3 1 ∷ [])
 
--- 1.1 casts x and 3.1 casts y. Both come to site 2, y first, so 2.1 delivers y before x. That it does so comes to site 3 alone, and x does not
+-- 1.1 casts x and 3.1 casts y. Both come to site 2, y first, so 2.1 delivers y before x. It tells so to sites 1 and 3, and only site 3 hears it;
+-- x does not come there
 told : Network
 unfolding held known_order
 told =
@@ -233,12 +234,12 @@ told_within_site_3 : IsWithin told (proc 3 1) (group 1) 3
 unfolding told held known_order is_leaving
 told_within_site_3 = within_at told (proc 3 1) (group 1) 3 [] 0 refl refl refl refl
 
--- site 2 makes no step any more, and is suspected
+-- then site 2 makes no step any more, and is suspected
 lost : Network
 unfolding told held known_order
 lost = through told (suspects 1 2 ∷ [])
 
--- so 1.1, which had x first, delivers y before it too
+-- 1.1, which had x first, delivers y before it too
 lost_delivered : delivered lost 1 ≡ uid 1 3 (proc 3 1) 1 ∷ uid 1 3 (proc 1 1) 1 ∷ uid 1 3 (proc 2 1) 1 ∷ []
 unfolding lost told held known_order
 lost_delivered = refl

@@ -99,7 +99,8 @@ OrdersAgree w delivered =
     IsPrefix (abcasts_of_view w g view (delivered p)) (abcasts_of_view w g view (delivered q))
     ⊎ IsPrefix (abcasts_of_view w g view (delivered q)) (abcasts_of_view w g view (delivered p))
 
--- as many places of a view's order as the Install of the next view does not list are known, and alike, at each site that has a member in the view
+-- an Install lists the end of the order of the view before it, from a start on. The places before the start are known, and alike, at each site that
+-- has a member in that view
 abbrev pub StartsAreKnown : Network → Type 0
 StartsAreKnown w =
     (g : GroupNo) (view : ℕ) (members : Membership) (tail : Stretch) → WasInstalled w g (view + 1) members tail →
