@@ -4,7 +4,7 @@ use cast_serve::serve;
 use cast_types::SiteNo;
 use std::alloc::Global;
 use std::io;
-use std::io::{BufRead, BufReader, Write};
+use std::io::{BufReader, Write};
 use std::net::Net;
 use std::os::unix::net::UnixStream;
 use std::rt::{Clock, Files};
@@ -21,17 +21,33 @@ pub fn path_of(alloc: Global, test: u16) -> io::Result<String> {
     Ok(format!(in alloc; "cast_daemon_tests_{test}.sock")?)
 }
 
-/// The set-up of the daemon of a test, so that several run side by side.
-pub fn setup_of(alloc: Global, test: u16) -> io::Result<Setup> {
-    let path = path_of(alloc, test)?;
+// The set-up of a daemon with these domains, each with the path of its socket, and with the port of a test.
+fn setup_with(alloc: Global, test: u16, domains: &[(u8, &str)]) -> io::Result<Setup> {
     let port = 7390 + test % 100;
-    let text = format!(in alloc;
-        "[[site]]\nnumber = 1\naddress = \"127.0.0.1:{port}\"\n[[domain]]\nnumber = 1\nhome = 1\nsites = [1]\ngroups = [1]\nsocket = \"{path}\"\n"
-    )?;
+    let mut text = format!(in alloc; "[[site]]\nnumber = 1\naddress = \"127.0.0.1:{port}\"\n")?;
+    for (domain, path) in domains {
+        write!(
+            text,
+            "[[domain]]\nnumber = {domain}\nhome = 1\nsites = [1]\ngroups = [1]\nsocket = \"{path}\"\n"
+        )?;
+    }
     match read(alloc, text.as_str(), SiteNo(1)) {
         Ok(setup) => Ok(setup),
         Err(_) => Err(io::Error::from(io::ErrorKind::InvalidInput)),
     }
+}
+
+/// The set-up of the daemon of a test, so that several run side by side.
+pub fn setup_of(alloc: Global, test: u16) -> io::Result<Setup> {
+    let path = path_of(alloc, test)?;
+    setup_with(alloc, test, &[(1, path.as_str())])
+}
+
+/// The set-up of the daemon of a test with a second domain, whose socket has the path of another test.
+pub fn setup_of_two(alloc: Global, test: u16, second: u16) -> io::Result<Setup> {
+    let path = path_of(alloc, test)?;
+    let also = path_of(alloc, second)?;
+    setup_with(alloc, test, &[(1, path.as_str()), (2, also.as_str())])
 }
 
 /// What came of a daemon.
@@ -51,13 +67,12 @@ pub fn served<R: Threads + Wait + Clock + Net + Files + Sync>(
 ) -> Ran {
     let mut out = Vec::new(alloc);
     let mut err = Vec::new(alloc);
-    let lines = console.lines(alloc);
     let status = serve(
         rt,
         alloc,
         setup,
         2,
-        lines,
+        console,
         &mut out,
         &mut err,
         Vec::new(alloc),
@@ -65,14 +80,35 @@ pub fn served<R: Threads + Wait + Clock + Net + Files + Sync>(
     Ran { status, out, err }
 }
 
-/// Runs the daemon of a test that cannot begin.
+/// Runs the daemon of a set-up over this console, which is also where it answers.
+pub fn answering<R: Threads + Wait + Clock + Net + Files + Sync>(
+    rt: &R,
+    alloc: Global,
+    setup: &Setup,
+    console: UnixStream,
+) -> io::Result<u8> {
+    let mut out = console.try_clone()?;
+    let mut err = Vec::new(alloc);
+    let console = BufReader::new(alloc, console)?;
+    Ok(serve(
+        rt,
+        alloc,
+        setup,
+        2,
+        console,
+        &mut out,
+        &mut err,
+        Vec::new(alloc),
+    ))
+}
+
+/// Runs the daemon of a set-up that cannot begin.
 pub fn run_unbound<R: Threads + Wait + Clock + Net + Files + Sync>(
     rt: &R,
     alloc: Global,
-    test: u16,
+    setup: &Setup,
 ) -> io::Result<Ran> {
-    let setup = setup_of(alloc, test)?;
     let (typed, console) = UnixStream::pair(rt)?;
     drop(typed);
-    Ok(served(rt, alloc, &setup, BufReader::new(alloc, console)?))
+    Ok(served(rt, alloc, setup, BufReader::new(alloc, console)?))
 }

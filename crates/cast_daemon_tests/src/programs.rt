@@ -175,6 +175,21 @@ fn cast_until_view(alloc: Global, program: &mut Program, all: &mut Vec<u8>) -> i
     Ok(())
 }
 
+/// So many programs, one after another, join, cast two hundred times, and are gone without having read anything.
+pub fn crash<R: Net + Clock>(rt: &R, alloc: Global, path: &str, programs: u32) -> io::Result<()> {
+    let mut bytes = Vec::new(alloc);
+    bytes.extend_from_slice(&JOIN)?;
+    for _ in 0..200u32 {
+        bytes.extend_from_slice(&CAST)?;
+    }
+    for _ in 0..programs {
+        let stream = connected(rt, path)?;
+        // The daemon may refuse it, or close it before all is written.
+        let _ = (&stream).write_all(&bytes);
+    }
+    Ok(())
+}
+
 /// Plays a scene, and answers the letters of what its programs were pushed.
 pub fn play<R: Net + Clock>(
     rt: &R,

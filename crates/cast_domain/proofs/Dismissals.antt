@@ -68,18 +68,19 @@ module _ (site : SiteNo) (names : List Proc) (gone : ℕ → Bool) where
   -- an Install is completed, or what it lacks is wanted
   remain_go_on : (r : Records) → Same r → (i : ℕ) → Same (go_on records resting_records r i)
   remain_go_on r h i = elim (record_at r.groups i).here.pending as (λ o. Same (elim o [ Some p ↦ complete_or_want records resting_records r i p | None ↦ r ])) [
-    | Some p ↦ elim (resting_records.has_cut r i p.cut) as (λ b. Same (if b then complete records r i p else fold (want_own records i) r (resting_records.missing r i p.cut))) [
+    | Some p ↦ elim (resting_records.has_cut r i p.cut) as (λ b. Same (if b then let_go records resting_records (complete records r i p) else fold (want_own records i) r (resting_records.missing r i p.cut))) [
       | true ↦
           let v : ℕ = (record_at r.groups i).here.number + 1 in
           let g : GroupNo = (record_at r.groups i).name in
           let entered : Records = pass_in r i false v p.members p.request in
           let out : Records = fold (tell_out records g v) entered (gone_in r i false p.members) in
           let told : Records = fold (tell_view records g v p.members) out (members_in entered i) in
-          remain_release site names gone told
+          remain_let_go site names gone (complete records r i p)
+          (remain_release site names gone told
           (remain_fold site names gone (tell_view records g v p.members) (λ x same k. told_keeps records Same (all_remain site names gone) x same k (push.View g v p.members)) (members_in entered i) out
           (remain_fold site names gone (tell_out records g v) (λ x same k. told_keeps records Same (all_remain site names gone) x same k (push.Ejected g v)) (gone_in r i false p.members) entered
           (remain_pass_to site names gone r h i false v p.members p.request)))
-          (is_ended_in told i)
+          (is_ended_in told i))
       | false ↦ remain_fold site names gone (want_own records i) (λ x same e. owe_keeps records Same (moves_remain site names gone) x same (own_want_key records x i e)) (resting_records.missing r i p.cut) r h
     ]
     | None ↦ h

@@ -2,6 +2,7 @@ pub mod Places
 pub mod Attempts
 pub mod Times
 pub mod Loops
+pub mod Flagged
 pub mod Staying
 pub mod Over
 pub mod Logs

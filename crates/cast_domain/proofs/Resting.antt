@@ -7,8 +7,9 @@ use Rattle.cast_history.specs.State.{State}
 use Rattle.cast_history.specs.History.{history}
 use Rattle.cast_history.specs.Resting.{resting}
 use Rattle.cast_history.specs.Lawful.{IsLawful}
-use Rattle.cast_history.specs.Rest.{pass}
+use Rattle.cast_history.specs.Rest.{pass, let_go}
 use Rattle.cast_history.specs.Rules.Rest as rest
+use Rattle.cast_history.proofs.Lawful.{lawful_let_go}
 use Rattle.cast_history.proofs.LawfulSteps.{lawful_deliver_all, lawful_set_order_by}
 use Rattle.cast_history.proofs.Rules.Rest.{FollowsToRest, pass_follows}
 use Rattle.cast_domain.specs.Records.{Records}
@@ -18,6 +19,7 @@ use Rattle.cast_domain.proofs.Following.{IsAt}
 use Rattle.cast_domain.proofs.Framing.{StandsIn, there, records_follow_all}
 use Rattle.cast_domain.proofs.Turns.{kept_all, fits_deliver_all}
 use Rattle.cast_domain.proofs.Rows.{was_given_in}
+use Rattle.cast_domain.proofs.Releases.{fits_let_go}
 use Rattle.cast_domain.proofs.Rounds.{round_settle}
 use Rattle.cast_history.specs.Rules.Interface.{Resting}
 use Rattle.cast_history.specs.Rules.Home.{lead}
@@ -31,7 +33,8 @@ use Rattle.cast_types.proofs.Orders.{group_itself}
 use Rattle.cast_view.specs.declared.member.Pending.{Pending}
 use Rattle.cast_history.specs.State.{is_group}
 use Rattle.cast_history.specs.Reports.{has_delivered_cut, missing_in}
-use Rattle.cast_history.specs.Rules.Flushes.{want_own, complete_or_want, go_on, go_on_all}
+use Rattle.cast_history.specs.Rules.Release as release
+use Rattle.cast_history.specs.Rules.Flushes.{complete, want_own, complete_or_want, go_on, go_on_all}
 use Rattle.cast_history.specs.Lawful.{Waits}
 use Rattle.cast_history.proofs.Rules.Follows.{choose, each}
 use Rattle.cast_history.proofs.Rules.Flushes.{want_own_follows, complete_follows}
@@ -46,6 +49,10 @@ at_listed : (gs : List GroupNo) (i : ℕ) (g : GroupNo) → slice_get gs i ≡ S
 at_listed [] i g at = absurd (none-some g at)
 at_listed (h ∷ gs) zero g at = or_left (group_eq g h) (is_among group_eq g gs) (ap (group_eq g) (same_Some h g at) ∙ group_itself g)
 at_listed (h ∷ gs) (suc i) g at = or_right (group_eq g h) (is_among group_eq g gs) (at_listed gs i g at)
+
+-- what is free is let go on both sides
+stands_let_go : (groups : List GroupNo) (r : Records) (s : State) → StandsIn groups r s → StandsIn groups (release.let_go records resting_records r) (let_go s)
+stands_let_go groups r s f = ((fits_let_go r s f.0.0 f.1, f.0.1), lawful_let_go s f.1)
 
 -- the Install that waits is completed on both sides, or the same is wanted
 stands_go_on : (groups : List GroupNo) (r : Records) (s : State) → StandsIn groups r s → (i : ℕ) (g : GroupNo) → IsAt groups i g → StandsIn groups (go_on records resting_records r i) (go_on history resting s g)
@@ -63,7 +70,8 @@ stands_go_on groups r s f i g at =
     waits None known = f
     waits (Some p) known =
         choose (StandsIn groups) (has_cut_of r (record_at r.groups i) p.cut) (has_delivered_cut s g p.cut) _ _ _ _ (cut_there r s f.0.0 i g here p.cut)
-        (λ _. complete_follows records history (StandsIn groups) (IsAt groups) (records_follow_all groups) r s f i g at g placed p known.1)
+        (λ _. stands_let_go groups (complete records r i p) (complete history s g p)
+        (complete_follows records history (StandsIn groups) (IsAt groups) (records_follow_all groups) r s f i g at g placed p known.1))
         (λ _. subst (λ es. StandsIn groups (fold (want_own records i) r es) (fold (want_own history g) s (missing_in s g p.cut))) (sym (missing_there r s f.0.0 f.1 i g here p.cut))
         (each (StandsIn groups) (want_own records i) (want_own history g) (want_own_follows records history (StandsIn groups) (IsAt groups) (records_follow_all groups) i g at) (missing_in s g p.cut) r s f))
 

@@ -28,6 +28,8 @@ use Rattle.cast_history.specs.Rules.Rest.{tell_if, told_of, deliver_first, deliv
 use Rattle.cast_domain.specs.Records.{Records}
 use Rattle.cast_domain.specs.Calls.{local_in, serials_in, put_out_in, put_out_if_in, put_out_all_in, take_delivery_in, note_if_in, note_delivered_under, ready_key_in, next_ready_in, turns_in, records, resting_records}
 use Rattle.cast_domain.specs.Fits.{Fits}
+use Rattle.cast_domain.specs.Flags.{changes_over}
+use Rattle.cast_domain.proofs.Flagged.{either_of}
 use Rattle.cast_domain.proofs.Loops.{fold_item}
 use Rattle.cast_domain.proofs.Rows.{names_of, serials_named, row_untested}
 use Rattle.cast_history.proofs.Rules.Rest.{told_if_keeps}
@@ -103,10 +105,30 @@ round_next f r x h i p at =
     there : slice_get (serials_in r) i ≡ Some p.serial
     there = ap (λ ks. slice_get ks i) (sym (same_serials r x h)) ∙ serial_there x.delay.rows i p at
 
+-- so it is the first of those that are left, and of the steps one changes something: its own, or one of those behind it
+round_items : (r x : Records) → RemainAs r x → (i : ℕ) (p : Proc) → option_map (λ row. row.process) (slice_get x.delay.rows i) ≡ Some p → drop i (serials_in r) ≡ p.serial ∷ drop (i + 1) (serials_in r)
+round_items r x h i p at =
+    drop_more (serials_in r) i 0 (slice_get_within (serials_in r) i p.serial there)
+    ∙ ap (λ k. k ∷ drop (i + 1) (serials_in r)) (get_or_from_slice_get (serials_in r) i p.serial 0 there)
+  where
+    there : slice_get (serials_in r) i ≡ Some p.serial
+    there = ap (λ ks. slice_get ks i) (sym (same_serials r x h)) ∙ serial_there x.delay.rows i p at
+
+pub round_changes : (flag : Records → ℕ → Bool) (step : Records → ℕ → Records) (r x v : Records) → RemainAs r x → (changed told : Bool) (i : ℕ) (p : Proc) → option_map (λ row. row.process) (slice_get x.delay.rows i) ≡ Some p → told ≡ flag x p.serial → v ≡ step x p.serial → ((changed || told) || changes_over flag step v (drop (i + 1) (serials_in r))) ≡ (changed || changes_over flag step x (drop i (serials_in r)))
+round_changes flag step r x v h changed told i p at is made =
+    let later : List ℕ = drop (i + 1) (serials_in r) in
+    either_of changed told (changes_over flag step v later)
+    ∙ (λ j. changed || (is j || changes_over flag step (made j) later))
+    ∙ sym (ap (λ ks. changed || changes_over flag step x ks) (round_items r x h i p at))
+
 -- past the last place there is none
+pub round_over : (r x : Records) → RemainAs r x → (i : ℕ) → option_map (λ row. row.process) (slice_get x.delay.rows i) ≡ None → drop (i + 1) (serials_in r) ≡ drop i (serials_in r)
+round_over r x h i none =
+    none_left x.delay.rows (serials_in r) (ap length (sym (same_serials r x h)) ∙ length-map x.delay.rows (λ (row : Row). row.process.serial)) i none
+
 pub round_past : (f : Records → ℕ → Records) (r x : Records) → RemainAs r x → (i : ℕ) → option_map (λ row. row.process) (slice_get x.delay.rows i) ≡ None → fold f x (drop (i + 1) (serials_in r)) ≡ fold f x (drop i (serials_in r))
 round_past f r x h i none =
-    ap (fold f x) (none_left x.delay.rows (serials_in r) (ap length (sym (same_serials r x h)) ∙ length-map x.delay.rows (λ (row : Row). row.process.serial)) i none)
+    ap (fold f x) (round_over r x h i none)
 
 -- Serials that are gathered row by row: those so far, with those that are left
 

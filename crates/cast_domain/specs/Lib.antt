@@ -8,3 +8,4 @@ pub mod Stepped
 pub mod Shows
 pub mod Copies
 pub mod Freed
+pub mod Flags

@@ -5,6 +5,7 @@ ghost use Rattle.cast_types.specs.Sets.{set_of};
 ghost use Rattle.cast_types.specs.declared.limits.TheConstants.{MAX_PLACED, MAX_POSITION};
 ghost use Rattle.cast_order.specs.Log.{log_of, whole_kept};
 ghost use Rattle.cast_view.specs.Sites.{is_at};
+ghost use Rattle.cast_domain.specs.Flags.{goes_on as goes_on_at, goes_on_some, wants_own_more};
 ghost use Rattle.cast_view.specs.MemberSide.{answers_prepare, verdict_of};
 ghost use Rattle.cast_view.specs.declared.member.Pending.{Pending};
 ghost use Rattle.cast_view.specs.declared.member.Verdict.TheVariants.{Pends};
@@ -238,6 +239,7 @@ impl Domain {
         ensures stays { KeepsBeside self.old lent.old self.new lent.new }
         ensures made { OnOk result (Makes (go_on_all records resting_records) self.old lent.old self.new lent.new) }
         ensures still { IfOk result (StaysUnless self.old lent.old self.new lent.new) }
+        ensures told { IfOk result (λ changed. changed ≡ goes_on_some (records_in self.old lent.old)) }
     {
         let mut changed = false;
         for place in 0..self.groups.len() {
@@ -247,12 +249,13 @@ impl Domain {
         Ok(changed)
     }
 
-    // The Install that waits at the group of a place, where one does, is completed once each member here has delivered its cut;
-    // until then the site wants what is missing.
+    // The Install that waits at the group of a place, where one does, is completed once each member here has delivered its cut, and
+    // what is free then is let go; until then the site wants what is missing.
     fn go_on(&mut self, place: usize, lent: &mut Lent<'_>) -> Result<bool, NoMemory>
         ensures stays { KeepsBeside self.old lent.old self.new lent.new }
         ensures made { OnOk result (Makes (λ r. go_on records resting_records r place) self.old lent.old self.new lent.new) }
         ensures still { IfOk result (StaysUnless self.old lent.old self.new lent.new) }
+        ensures told { IfOk result (λ changed. changed ≡ goes_on_at (records_in self.old lent.old) place) }
     {
         if place >= self.groups.len() {
             return Ok(false);
@@ -266,6 +269,7 @@ impl Domain {
         let members = pending.members.copy()?;
         let request = pending.request;
         self.complete_pending(place, &members, request, lent)?;
+        self.let_go(lent);
         Ok(true)
     }
 
@@ -322,6 +326,7 @@ impl Domain {
         ensures back { GivesBack self.now.config.domain lent.old lent.new }
         ensures made { OnOk result (Makes (λ r. fold (want_own records place) r (missing_in r place cut.now)) self.now lent.old self.now lent.new) }
         ensures still { IfOk result (StaysUnless self.now lent.old self.now lent.new) }
+        ensures told { IfOk result (λ changed. changed ≡ list_any (wants_own_more (records_in self.now lent.old) place) (missing_in (records_in self.now lent.old) place cut.now)) }
     {
         let missing = self.missing(place, cut)?;
         let changed = self.want_all_missing(place, missing.as_slice(), lent)?;
@@ -339,6 +344,7 @@ impl Domain {
         ensures back { GivesBack self.now.config.domain lent.old lent.new }
         ensures made { OnOk result (Makes (λ r. fold (want_own records place) r missing.now) self.now lent.old self.now lent.new) }
         ensures still { IfOk result (StaysUnless self.now lent.old self.now lent.new) }
+        ensures told { IfOk result (λ changed. changed ≡ list_any (wants_own_more (records_in self.now lent.old) place) missing.now) }
     {
         let mut changed = false;
         for name in missing {
@@ -359,6 +365,7 @@ impl Domain {
         ensures back { GivesBack self.now.config.domain lent.old lent.new }
         ensures made { OnOk result (Makes (λ r. want_own records place r name) self.now lent.old self.now lent.new) }
         ensures still { IfOk result (StaysUnless self.now lent.old self.now lent.new) }
+        ensures told { IfOk result (λ changed. changed ≡ wants_own_more (records_in self.now lent.old) place name) }
     {
         let record = self.record(place);
         let id = Uid {

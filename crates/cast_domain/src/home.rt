@@ -1,5 +1,7 @@
 ghost use Rattle.std.specs.Prelude.{◌≡◌, ◌<◌, ◌&&◌, not, IfOk, OnOk, vec_len};
-ghost use Rattle.std.specs.List.{find, fold};
+ghost use Rattle.std.specs.List.{find, fold, list_any};
+ghost use Rattle.cast_view.specs.Home.{may_start, may_decide};
+ghost use Rattle.cast_domain.specs.Flags.{leads_in, leads_some, wants_more};
 ghost use Rattle.std.specs.Option.{option_copied};
 ghost use Rattle.cast_types.specs.Names.{entry_eq, entry_of, site_eq, uid_eq};
 ghost use Rattle.cast_history.specs.Rules.Requests.{answer_ask, on_ask};
@@ -309,6 +311,7 @@ impl Domain {
         ensures stays { KeepsBeside self.old lent.old self.new lent.new }
         ensures made { OnOk result (Makes (lead records) self.old lent.old self.new lent.new) }
         ensures still { IfOk result (StaysUnless self.old lent.old self.new lent.new) }
+        ensures told { IfOk result (λ changed. changed ≡ leads_some (records_in self.old lent.old)) }
     {
         let mut changed = false;
         if self.is_home() {
@@ -326,6 +329,7 @@ impl Domain {
         ensures stays { KeepsBeside self.old lent.old self.new lent.new }
         ensures made { OnOk result (Makes (λ r. lead_group records r place) self.old lent.old self.new lent.new) }
         ensures still { IfOk result (StaysUnless self.old lent.old self.new lent.new) }
+        ensures told { IfOk result (λ changed. changed ≡ leads_in (records_in self.old lent.old) place) }
         ensures len { vec_len self.new.groups ≡ vec_len self.old.groups }
     {
         let started = self.start(place, lent)?;
@@ -340,6 +344,7 @@ impl Domain {
         ensures stays { KeepsBeside self.old lent.old self.new lent.new }
         ensures made { OnOk result (Makes (λ r. start records r place) self.old lent.old self.new lent.new) }
         ensures still { IfOk result (StaysUnless self.old lent.old self.new lent.new) }
+        ensures told { IfOk result (λ changed. changed ≡ may_start (record_at self.old.groups.items place).home) }
         ensures len { vec_len self.new.groups ≡ vec_len self.old.groups }
     {
         if !self.record(place).home.may_start() {
@@ -356,6 +361,7 @@ impl Domain {
         ensures back { GivesBack self.now.config.domain lent.old lent.new }
         ensures made { OnOk result (Makes (λ r. want_bodies records r place) self.now lent.old self.now lent.new) }
         ensures still { IfOk result (StaysUnless self.now lent.old self.now lent.new) }
+        ensures told { IfOk result (λ changed. changed ≡ list_any (wants_more (records_in self.now lent.old) place) (wants records (records_in self.now lent.old) place)) }
     {
         let wants = self.wants(place)?;
         let changed = self.want_all(place, wants.as_slice(), lent)?;
@@ -382,6 +388,7 @@ impl Domain {
         ensures back { GivesBack self.now.config.domain lent.old lent.new }
         ensures made { OnOk result (Makes (λ r. fold (want records place) r wants.now) self.now lent.old self.now lent.new) }
         ensures still { IfOk result (StaysUnless self.now lent.old self.now lent.new) }
+        ensures told { IfOk result (λ changed. changed ≡ list_any (wants_more (records_in self.now lent.old) place) wants.now) }
     {
         let mut changed = false;
         for wanted in wants {
@@ -402,6 +409,7 @@ impl Domain {
         ensures back { GivesBack self.now.config.domain lent.old lent.new }
         ensures made { OnOk result (Makes (λ r. want records place r wanted) self.now lent.old self.now lent.new) }
         ensures still { IfOk result (StaysUnless self.now lent.old self.now lent.new) }
+        ensures told { IfOk result (λ changed. changed ≡ wants_more (records_in self.now lent.old) place wanted) }
     {
         let key = want_key(self.record(place).name, wanted);
         if lent.shared.timers.is_owed(self.config.domain, &key) {
@@ -417,6 +425,7 @@ impl Domain {
         ensures stays { KeepsBeside self.old lent.old self.new lent.new }
         ensures made { OnOk result (Makes (λ r. decide records r place) self.old lent.old self.new lent.new) }
         ensures still { IfOk result (StaysUnless self.old lent.old self.new lent.new) }
+        ensures told { IfOk result (λ changed. changed ≡ may_decide (record_at self.old.groups.items place).name (record_at self.old.groups.items place).home) }
         ensures len { vec_len self.new.groups ≡ vec_len self.old.groups }
     {
         let record = self.record(place);

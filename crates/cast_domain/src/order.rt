@@ -1,6 +1,7 @@
 ghost use Rattle.std.specs.Prelude.{◌≡◌, ◌<◌, IfOk, OnOk, vec_len};
 ghost use Rattle.std.specs.List.{list_any};
 ghost use Rattle.cast_delay.specs.Ready.{is_member};
+ghost use Rattle.cast_domain.specs.Flags.{lists_some, orders_at, orders_some};
 ghost use Rattle.cast_domain.specs.Calls.{learn_in, record_at, sets_order_at};
 ghost use Rattle.cast_history.specs.Rules.Room.{may_order, may_take};
 ghost use Rattle.cast_history.specs.Rules.Order.{may_list, send_places, set_order_by, set_order, set_orders};
@@ -148,6 +149,7 @@ impl Domain {
         ensures stays { KeepsBeside self.old lent.old self.new lent.new }
         ensures made { OnOk result (Makes (set_orders records resting_records) self.old lent.old self.new lent.new) }
         ensures still { IfOk result (StaysUnless self.old lent.old self.new lent.new) }
+        ensures told { IfOk result (λ changed. changed ≡ orders_some (records_in self.old lent.old)) }
     {
         let mut changed = false;
         for place in 0..self.groups.len() {
@@ -162,6 +164,7 @@ impl Domain {
         ensures stays { KeepsBeside self.old lent.old self.new lent.new }
         ensures made { OnOk result (Makes (λ r. set_order records resting_records r place) self.old lent.old self.new lent.new) }
         ensures still { IfOk result (StaysUnless self.old lent.old self.new lent.new) }
+        ensures told { IfOk result (λ changed. changed ≡ orders_at (records_in self.old lent.old) place) }
     {
         if place >= self.groups.len() {
             return Ok(false);
@@ -183,6 +186,7 @@ impl Domain {
         ensures stays { KeepsBeside self.old lent.old self.new lent.new }
         ensures made { OnOk result (Makes (λ r. set_order_by records resting_records r place serial) self.old lent.old self.new lent.new) }
         ensures still { IfOk result (StaysUnless self.old lent.old self.new lent.new) }
+        ensures told { IfOk result (λ changed. changed ≡ lists_some (records_in self.old lent.old) place serial) }
     {
         let holder = self.process(serial);
         let group = self.record(place).name;

@@ -1,6 +1,7 @@
 ghost use Rattle.std.specs.Prelude.{◌≡◌, ◌<◌, IfOk, OnOk, vec_len};
 ghost use Rattle.std.specs.List.{fold};
 ghost use Rattle.cast_domain.specs.Calls.{delivery_of};
+ghost use Rattle.cast_domain.specs.Flags.{delivers_some, has_ready, passes_some};
 ghost use Rattle.cast_history.specs.Rules.Rest.{told_of, tell_if, deliver_first, deliver_all, settle, pass};
 
 use crate::domain::Domain;
@@ -44,6 +45,7 @@ impl Domain {
         ensures stays { KeepsBeside self.old lent.old self.new lent.new }
         ensures made { OnOk result (Makes (pass records resting_records) self.old lent.old self.new lent.new) }
         ensures still { IfOk result (StaysUnless self.old lent.old self.new lent.new) }
+        ensures told { IfOk result (λ changed. changed ≡ passes_some (records_in self.old lent.old)) }
     {
         let settled = self.settle(lent)?;
         let ordered = self.set_orders(lent)?;
@@ -57,6 +59,7 @@ impl Domain {
         ensures stays { KeepsBeside self.old lent.old self.new lent.new }
         ensures made { OnOk result (Makes (settle records resting_records) self.old lent.old self.new lent.new) }
         ensures still { IfOk result (StaysUnless self.old lent.old self.new lent.new) }
+        ensures told { IfOk result (λ changed. changed ≡ delivers_some (records_in self.old lent.old)) }
     {
         let mut changed = false;
         for place in 0..self.delay.admitted() {
@@ -73,6 +76,7 @@ impl Domain {
         ensures stays { KeepsBeside self.old lent.old self.new lent.new }
         ensures made { OnOk result (Makes (λ r. deliver_all records resting_records r serial) self.old lent.old self.new lent.new) }
         ensures still { IfOk result (StaysUnless self.old lent.old self.new lent.new) }
+        ensures told { IfOk result (λ changed. changed ≡ has_ready (records_in self.old lent.old) serial) }
     {
         let mut changed = false;
         for _turn in 0..self.held(lent) {
@@ -89,6 +93,7 @@ impl Domain {
         ensures stays { KeepsBeside self.old lent.old self.new lent.new }
         ensures made { OnOk result (Makes (deliver_first records resting_records serial) self.old lent.old self.new lent.new) }
         ensures still { IfOk result (StaysUnless self.old lent.old self.new lent.new) }
+        ensures told { IfOk result (λ changed. changed ≡ has_ready (records_in self.old lent.old) serial) }
     {
         let process = self.process(serial);
         let Some(key) = self.next_ready(process, lent)? else {

@@ -10,10 +10,11 @@ use Rattle.cast_history.specs.History.{history}
 use Rattle.cast_history.specs.Resting.{resting}
 use Rattle.cast_history.specs.Reports.{has_delivered_cut, missing_in}
 use Rattle.cast_history.specs.Rules.Flushes.{own_want_key, complete, want_own, complete_or_want, go_on, go_on_all}
+use Rattle.cast_history.specs.Rest.{let_go}
 use Rattle.cast_history.specs.Endings.{pendings}
 use Rattle.cast_history.proofs.Totals.{In}
 use Rattle.cast_history.proofs.Alikes.{Alike, alike_self, alike_then, alike_fold, alike_owe}
-use Rattle.cast_history.proofs.Rests.{pendings_alike, completed_less, moves_complete}
+use Rattle.cast_history.proofs.Rests.{pendings_alike, let_go_less, moves_completed}
 
 -- fewer Installs wait, in the same groups, or all is alike but what is owed and sent
 pub record GoesOn (s : State) (t : State) : Type 0 where
@@ -33,10 +34,10 @@ goes_then : (s t u : State) → GoesOn s t → GoesOn t u → GoesOn s u
 goes_then s t u a b = record { config = b.config ∙ a.config; way = way_then s t u a.way b.way }
 
 -- one that waits is completed, or what is missing is wanted
-goes_waiting : (s : State) (g : GroupNo) (p : Pending) → In g s.config.groups → (s.group g).pending ≡ Some p → (b : Bool) → GoesOn s (if b then complete history s g p else fold (want_own history g) s (missing_in s g p.cut))
+goes_waiting : (s : State) (g : GroupNo) (p : Pending) → In g s.config.groups → (s.group g).pending ≡ Some p → (b : Bool) → GoesOn s (if b then let_go (complete history s g p) else fold (want_own history g) s (missing_in s g p.cut))
 goes_waiting s g p at waits true =
     let is : is_pending (s.group g) ≡ true = ap (λ (o : Option Pending). elim o as (λ _. Bool) [ Some p ↦ true | None ↦ false ]) waits in
-    record { config = (moves_complete s g p at is).config; way = inl (completed_less s g p at is) }
+    record { config = (moves_completed s g p at is).config; way = inl (let_go_less s g p at is) }
 goes_waiting s g p at waits false =
     goes_alike s (fold (want_own history g) s (missing_in s g p.cut))
     (alike_fold (want_own history g) (λ t e. alike_owe t (own_want_key history t g e)) (missing_in s g p.cut) s)

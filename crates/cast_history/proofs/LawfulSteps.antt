@@ -266,7 +266,7 @@ waits_typed s g l p is = (subst (Waits (s.group g).frozen) is (l.waiting g)).1
 -- it is completed, or what it lacks is wanted
 pub lawful_go_on : (s : State) (g : GroupNo) → is_group s g ≡ true → IsLawful s → IsLawful (go_on history resting s g)
 lawful_go_on s g listed l =
-    go_on_keeps history resting IsLawful all_lawful s l g g (ap (λ b. if b then Some g else None) listed) (waits_typed s g l)
+    go_on_keeps history resting IsLawful all_lawful lawful_let_go s l g g (ap (λ b. if b then Some g else None) listed) (waits_typed s g l)
 
 -- that a site wants messages changes nothing of this
 pub same_want_own : (g : GroupNo) (es : List Entry) (s : State) → SameLaw s (fold (want_own history g) s es)
@@ -276,7 +276,7 @@ same_want_own g es s = same_fold (want_own history g) (λ t e. same_owe t (own_w
 pub go_on_config : (s : State) (g : GroupNo) → (go_on history resting s g).config ≡ s.config
 go_on_config s g = waits (s.group g).pending
   where
-    of_cut : (b : Bool) (p : Pending) → (if b then complete history s g p else fold (want_own history g) s (missing_in s g p.cut)).config ≡ s.config
+    of_cut : (b : Bool) (p : Pending) → (if b then let_go (complete history s g p) else fold (want_own history g) s (missing_in s g p.cut)).config ≡ s.config
     of_cut true p = (alike_installing s g false s.config.home ((s.group g).number + 1) p.members p.request p.cut).config
     of_cut false p = (same_want_own g (missing_in s g p.cut) s).config
 

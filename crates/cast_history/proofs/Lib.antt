@@ -19,6 +19,8 @@ pub mod Alikes
 pub mod Settles
 pub mod Rests
 pub mod Going
+pub mod Quiet
+pub mod Still
 pub mod Spots
 pub mod Lawful
 pub mod Telling

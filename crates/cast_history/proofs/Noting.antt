@@ -370,8 +370,8 @@ noted_complete s g p n =
 -- or what it lacks is wanted
 noted_go_on : (s : State) (g : GroupNo) → IsNoted s → IsNoted (go_on history resting s g)
 noted_go_on s g n = elim (s.group g).pending as (λ o. IsNoted (elim o [ Some p ↦ complete_or_want history resting s g p | None ↦ s ])) [
-  | Some p ↦ elim (has_delivered_cut s g p.cut) as (λ b. IsNoted (if b then complete history s g p else fold (want_own history g) s (missing_in s g p.cut))) [
-    | true ↦ noted_complete s g p n
+  | Some p ↦ elim (has_delivered_cut s g p.cut) as (λ b. IsNoted (if b then let_go (complete history s g p) else fold (want_own history g) s (missing_in s g p.cut))) [
+    | true ↦ noted_let_go (complete history s g p) (noted_complete s g p n)
     | false ↦ noted_fold (want_own history g) (λ t e m. owe_keeps history IsNoted noted_moves t m (own_want_key history t g e)) (missing_in s g p.cut) s n
   ]
   | None ↦ n

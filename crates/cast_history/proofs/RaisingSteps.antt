@@ -179,7 +179,7 @@ counts_set_order s g l c =
 -- the Install that waits is completed, or what it lacks is wanted
 pub counts_go_on : (s : State) (g : GroupNo) → is_group s g ≡ true → IsLawful s → CountsMembers s → CountsMembers (go_on history resting s g)
 counts_go_on s g listed l c =
-    (go_on_keeps history resting IsCounted all_counted s (l, c) g g (ap (λ b. if b then Some g else None) listed) (waits_typed s g l)).1
+    (go_on_keeps history resting IsCounted all_counted (λ t h. (lawful_let_go t h.0, counts_let_go t h.1)) s (l, c) g g (ap (λ b. if b then Some g else None) listed) (waits_typed s g l)).1
 
 pub counts_start : (s : State) (g : GroupNo) → CountsMembers s → CountsMembers (start history s g)
 counts_start s g c = counts_same s (start history s g) (same_start s g) c

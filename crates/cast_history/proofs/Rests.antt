@@ -87,7 +87,7 @@ lessens_then s t u (inl a) (inr b) = let same = b.0 in inl (omega (arith, a, sam
 lessens_then s t u (inr a) (inl b) = let same = a.0 in inl (omega (arith, b, same))
 lessens_then s t u (inr a) (inr b) = let less = a.1 in let lesser = b.1 in inr (b.0 ∙ a.0, omega (arith, less, lesser))
 
-falls_then : (s t u : State) → Falls s t → Falls t u → Falls s u
+pub falls_then : (s t u : State) → Falls s t → Falls t u → Falls s u
 falls_then s t u (inl a) (inl b) = inl (omega arith)
 falls_then s t u (inl a) (inr b) = let same = b.0 in inl (omega (arith, a, same))
 falls_then s t u (inr a) (inl b) = let same = a.0 in inl (omega (arith, b, same))
@@ -103,7 +103,7 @@ way_then s t u (inl a) (inr b) = inr (subst (λ x. Falls x u) a b)
 way_then s t u (inr a) (inl b) = inr (subst (Falls s) (sym b) a)
 way_then s t u (inr a) (inr b) = inr (falls_then s t u a b)
 
-moves_then : (s t u : State) → Moves s t → Moves t u → Moves s u
+pub moves_then : (s t u : State) → Moves s t → Moves t u → Moves s u
 moves_then s t u a b = record { config = b.config ∙ a.config; used = b.used ∙ a.used; way = way_then s t u a.way b.way }
 
 moves_if : (s x y : State) (b : Bool) → (b ≡ true → Moves s x) → Moves s y → Moves s (if b then x else y)
@@ -111,7 +111,7 @@ moves_if s x y true p q = p refl
 moves_if s x y false p q = q
 
 -- over a list, each of whose items moves from any state with these serials and this configuration
-moves_fold : {X : Type 0} (o : State) (f : State → X → State) (xs : List X) → ((x : X) → In x xs → (s : State) → s.used ≡ o.used → s.config ≡ o.config → Moves s (f s x)) → (s : State) → s.used ≡ o.used → s.config ≡ o.config → Moves s (fold f s xs)
+pub moves_fold : {X : Type 0} (o : State) (f : State → X → State) (xs : List X) → ((x : X) → In x xs → (s : State) → s.used ≡ o.used → s.config ≡ o.config → Moves s (f s x)) → (s : State) → s.used ≡ o.used → s.config ≡ o.config → Moves s (fold f s xs)
 moves_fold o f [] h s u c = moves_self s
 moves_fold o f (x ∷ xs) h s u c =
     let a : Moves s (f s x) = h x (inl refl) s u c in
@@ -160,7 +160,7 @@ moves_first s k at =
           (record { config = a.config; used = a.used; way = inr (falls_by s (with_delivery s k m) (delivering_one s k m) a refl (to_do_delivers s k m at e)) })
     ] refl
 
-moves_iterate : (n : ℕ) (k : ℕ) (s : State) → In k (serials s) → Moves s (iterate n (deliver_first k) s)
+pub moves_iterate : (n : ℕ) (k : ℕ) (s : State) → In k (serials s) → Moves s (iterate n (deliver_first k) s)
 moves_iterate zero k s at = moves_self s
 moves_iterate (suc n) k s at =
     let a : Moves s (deliver_first k s) = moves_first s k at in
@@ -205,6 +205,13 @@ not_frozen s g k may =
     let a = and_parts (is_member ((s.process k).standing g)) _ may in
     not-true (s.group g).frozen (and_parts (not (s.group g).frozen) _ a.1).0
 
+pub falls_order : (s : State) (g : GroupNo) (p : Proc) → In g s.config.groups → holder_at s.here (s.group g) ≡ Some p → may_set_order s g p.serial ≡ true → Falls s (let_go (sending_message s p.serial (order_message s g p.serial)))
+falls_order s g p at holder may =
+    let m : Message = order_message s g p.serial in
+    let t : State = sending_message s p.serial m in
+    let a : Alike (receiving s m) (let_go t) = alike_then (receiving s m) t (let_go t) (alike_sending s g p.serial m.body) (alike_let_go t) in
+    falls_by s (receiving s m) (let_go t) a refl (to_do_orders s g p at holder (not_frozen s g p.serial may) (has_unlisted s g p.serial may))
+
 moves_set_order_by : (s : State) (g : GroupNo) (p : Proc) → In g s.config.groups → holder_at s.here (s.group g) ≡ Some p → Moves s (set_order_by s g p.serial)
 moves_set_order_by s g p at holder =
     let m : Message = order_message s g p.serial in
@@ -212,10 +219,10 @@ moves_set_order_by s g p at holder =
     let a : Alike (receiving s m) (let_go t) = alike_then (receiving s m) t (let_go t) (alike_sending s g p.serial m.body) (alike_let_go t) in
     subst (Moves s) (sym (set_order_is s g p.serial))
     (moves_if s (let_go t) s (may_set_order s g p.serial)
-    (λ may. record { config = a.config; used = a.used; way = inr (falls_by s (receiving s m) (let_go t) a refl (to_do_orders s g p at holder (not_frozen s g p.serial may) (has_unlisted s g p.serial may))) })
+    (λ may. record { config = a.config; used = a.used; way = inr (falls_order s g p at holder may) })
     (moves_self s))
 
-moves_set_order : (s : State) (g : GroupNo) → In g s.config.groups → Moves s (set_order s g)
+pub moves_set_order : (s : State) (g : GroupNo) → In g s.config.groups → Moves s (set_order s g)
 moves_set_order s g at =
     elim (holder_at s.here (s.group g)) as (λ o. holder_at s.here (s.group g) ≡ o → Moves s (elim o [ Some p ↦ set_order_by s g p.serial | None ↦ s ])) [
       | None ↦ λ _. moves_self s
@@ -261,7 +268,7 @@ started_rank Idle false false idle some = omega arith
 started_rank (Gathering awaited reports bodies) calm none idle some = absurd (true≢false (sym idle))
 started_rank (Installing waiting decision bodies) calm none idle some = absurd (true≢false (sym idle))
 
-started_less : (h : Home) → may_start h ≡ true → rank (moved Started h) < rank h
+pub started_less : (h : Home) → may_start h ≡ true → rank (moved Started h) < rank h
 started_less h may =
     let a = and_parts (is_idle h.phase) _ may in
     let b = and_parts (nat_lt h.number MAX_NUMBER) _ a.1 in
@@ -281,7 +288,7 @@ none_suspected (s ∷ suspected) joins e = absurd (true≢false (sym e))
 none_suspected [] [] e = refl
 none_suspected [] (p ∷ joins) e = none_suspected [] joins e
 
-decided_less : (g : GroupNo) (h : Home) → may_decide g h ≡ true → rank (decided h) < rank h
+pub decided_less : (g : GroupNo) (h : Home) → may_decide g h ≡ true → rank (decided h) < rank h
 decided_less g h may = of_phase h.phase may
   where
     calm : Bool
@@ -297,21 +304,28 @@ decided_less g h may = of_phase h.phase may
     of_phase (Installing waiting decision bodies) e = absurd (true≢false (sym e))
 
 -- the home moves on, and owes frames
+pub falls_led : (s : State) (g : GroupNo) (move : HomeMove) (kind : OwedKind) (sites : List SiteNo) → In g s.config.groups → rank (moved move (s.home g)) < rank (s.home g) → Falls s (fold (owe_of_home history kind g) (set_home s g (moved move (s.home g))) sites)
+falls_led s g move kind sites at less =
+    let t : State = set_home s g (moved move (s.home g)) in
+    let u : State = fold (owe_of_home history kind g) t sites in
+    let a : Alike t u = alike_fold (owe_of_home history kind g) (λ x to. alike_owe x (home_key kind g to)) sites t in
+    falls_by s t u a refl (home_less s g (moved move (s.home g)) at less)
+
 moves_led : (s : State) (g : GroupNo) (move : HomeMove) (kind : OwedKind) (sites : List SiteNo) → In g s.config.groups → rank (moved move (s.home g)) < rank (s.home g) → Moves s (fold (owe_of_home history kind g) (set_home s g (moved move (s.home g))) sites)
 moves_led s g move kind sites at less =
     let t : State = set_home s g (moved move (s.home g)) in
     let u : State = fold (owe_of_home history kind g) t sites in
     let a : Alike t u = alike_fold (owe_of_home history kind g) (λ x to. alike_owe x (home_key kind g to)) sites t in
-    record { config = a.config; used = a.used; way = inr (falls_by s t u a refl (home_less s g (moved move (s.home g)) at less)) }
+    record { config = a.config; used = a.used; way = inr (falls_led s g move kind sites at less) }
 
-moves_start : (s : State) (g : GroupNo) → In g s.config.groups → Moves s (start history s g)
+pub moves_start : (s : State) (g : GroupNo) → In g s.config.groups → Moves s (start history s g)
 moves_start s g at =
     let h : Home = moved Started (s.home g) in
     moves_if s (fold (owe_of_home history Prepare g) (set_home s g h) (awaited_of ((set_home s g h).home g).phase)) s (may_start (s.home g))
     (λ e. moves_led s g Started Prepare (awaited_of ((set_home s g h).home g).phase) at (started_less (s.home g) e))
     (moves_self s)
 
-moves_decide : (s : State) (g : GroupNo) → In g s.config.groups → Moves s (decide history s g)
+pub moves_decide : (s : State) (g : GroupNo) → In g s.config.groups → Moves s (decide history s g)
 moves_decide s g at =
     let h : Home = moved Decided (s.home g) in
     moves_if s (fold (owe_of_home history Install g) (set_home s g h) (waiting_of ((set_home s g h).home g).phase)) s (may_decide g (s.home g))
@@ -412,14 +426,14 @@ less_by_home a b c d less le = omega arith
 less_by_site : (a b c d : ℕ) → a ≤ b → c < d → a + c < b + d
 less_by_site a b c d le less = omega arith
 
-moves_want : (s : State) (g : GroupNo) (w : SiteNo × Entry) → In g s.config.groups → In w (wants history s g) → Moves s (want history g s w)
+pub moves_want : (s : State) (g : GroupNo) (w : SiteNo × Entry) → In g s.config.groups → In w (wants history s g) → Moves s (want history g s w)
 moves_want s g w at there =
     let key : OwedKey = want_key g w in
     let now : State = owing_these s (with_owed s.owed key (next_due s)) in
     moves_owe s g key at
     (λ out. less_by_home (home_unowed now g) (home_unowed s g) (site_unowed now g) (site_unowed s g) (home_lt s g w (next_due s) there out) (site_le s key (next_due s) g))
 
-moves_want_own : (s : State) (g : GroupNo) (p : Pending) (e : Entry) → In g s.config.groups → (s.group g).pending ≡ Some p → In e (covered p.cut) → Moves s (want_own history g s e)
+pub moves_want_own : (s : State) (g : GroupNo) (p : Pending) (e : Entry) → In g s.config.groups → (s.group g).pending ≡ Some p → In e (covered p.cut) → Moves s (want_own history g s e)
 moves_want_own s g p e at waits there =
     let key : OwedKey = own_want_key history s g e in
     let now : State = owing_these s (with_owed s.owed key (next_due s)) in
@@ -427,7 +441,7 @@ moves_want_own s g p e at waits there =
     (λ out. less_by_site (home_unowed now g) (home_unowed s g) (site_unowed now g) (site_unowed s g) (home_le s key (next_due s) g) (site_lt s g p e (next_due s) waits there out))
 
 -- Wants leave the homes and the configuration as they are
-moves_wanted : (s : State) (g : GroupNo) (ws : List (SiteNo × Entry)) → In g s.config.groups → ((w : SiteNo × Entry) → In w ws → In w (wants history s g)) → Moves s (fold (want history g) s ws)
+pub moves_wanted : (s : State) (g : GroupNo) (ws : List (SiteNo × Entry)) → In g s.config.groups → ((w : SiteNo × Entry) → In w ws → In w (wants history s g)) → Moves s (fold (want history g) s ws)
 moves_wanted s g [] at among = moves_self s
 moves_wanted s g (w ∷ ws) at among =
     let t : State = want history g s w in
@@ -436,10 +450,10 @@ moves_wanted s g (w ∷ ws) at among =
     (moves_wanted t g ws (subst (λ c. In g c.groups) (sym a.config) at)
     (λ v there. subst (λ h. In v (wants_in g (h g) (h g).phase)) (sym a.home) (among v (inr there))))
 
-moves_want_bodies : (s : State) (g : GroupNo) → In g s.config.groups → Moves s (want_bodies history s g)
+pub moves_want_bodies : (s : State) (g : GroupNo) → In g s.config.groups → Moves s (want_bodies history s g)
 moves_want_bodies s g at = moves_wanted s g (wants history s g) at (λ w there. there)
 
-moves_lead_group : (s : State) (g : GroupNo) → In g s.config.groups → Moves s (lead_group history s g)
+pub moves_lead_group : (s : State) (g : GroupNo) → In g s.config.groups → Moves s (lead_group history s g)
 moves_lead_group s g at =
     let t : State = start history s g in
     let u : State = want_bodies history t g in
@@ -488,8 +502,25 @@ moves_complete s g p at waits =
     let b : Alike (with_next_view s g false n p.members) (complete history s g p) = alike_installing s g false s.config.home n p.members p.request p.cut in
     record { config = b.config ∙ a.config; used = b.used ∙ a.used; way = inr (inl (completed_less s g p at waits)) }
 
+-- and what is free then is let go
+pub let_go_less : (s : State) (g : GroupNo) (p : Pending) → In g s.config.groups → is_pending (s.group g) ≡ true → pendings (let_go (complete history s g p)) < pendings s
+let_go_less s g p at waits =
+    let c : State = complete history s g p in
+    subst (λ n. n < pendings s) (sym (pendings_alike c (let_go c) (alike_let_go c))) (completed_less s g p at waits)
+
+pub moves_completed : (s : State) (g : GroupNo) (p : Pending) → In g s.config.groups → is_pending (s.group g) ≡ true → Moves s (let_go (complete history s g p))
+moves_completed s g p at waits =
+    let c : State = complete history s g p in
+    let a : Alike c (let_go c) = alike_let_go c in
+    let m : Moves s c = moves_complete s g p at waits in
+    record {
+      config = a.config ∙ m.config;
+      used = a.used ∙ m.used;
+      way = inr (inl (let_go_less s g p at waits));
+    }
+
 -- Wants leave the groups and the configuration as they are
-moves_wanted_own : (s : State) (g : GroupNo) (p : Pending) (es : List Entry) → In g s.config.groups → (s.group g).pending ≡ Some p → ((e : Entry) → In e es → In e (covered p.cut)) → Moves s (fold (want_own history g) s es)
+pub moves_wanted_own : (s : State) (g : GroupNo) (p : Pending) (es : List Entry) → In g s.config.groups → (s.group g).pending ≡ Some p → ((e : Entry) → In e es → In e (covered p.cut)) → Moves s (fold (want_own history g) s es)
 moves_wanted_own s g p [] at waits among = moves_self s
 moves_wanted_own s g p (e ∷ es) at waits among =
     let t : State = want_own history g s e in
@@ -499,24 +530,24 @@ moves_wanted_own s g p (e ∷ es) at waits among =
     (subst (λ x. (x g).pending ≡ Some p) (sym a.group) waits)
     (λ v there. among v (inr there)))
 
-missing_covered : (s : State) (g : GroupNo) (cut : CountList) (e : Entry) → In e (missing_in s g cut) → In e (covered cut)
+pub missing_covered : (s : State) (g : GroupNo) (cut : CountList) (e : Entry) → In e (missing_in s g cut) → In e (covered cut)
 missing_covered s g cut e there =
     (in_kept (is_missing s g) (covered cut) e (in_take MAX_PLACED (filter (is_missing s g) (covered cut)) e there)).1
 
 moves_waiting : (s : State) (g : GroupNo) (p : Pending) → In g s.config.groups → (s.group g).pending ≡ Some p → Moves s (complete_or_want history resting s g p)
 moves_waiting s g p at waits =
-    moves_if s (complete history s g p) (fold (want_own history g) s (missing_in s g p.cut)) (has_delivered_cut s g p.cut)
-    (λ _. moves_complete s g p at (ap (λ (o : Option Pending). elim o as (λ _. Bool) [ Some p ↦ true | None ↦ false ]) waits))
+    moves_if s (let_go (complete history s g p)) (fold (want_own history g) s (missing_in s g p.cut)) (has_delivered_cut s g p.cut)
+    (λ _. moves_completed s g p at (ap (λ (o : Option Pending). elim o as (λ _. Bool) [ Some p ↦ true | None ↦ false ]) waits))
     (moves_wanted_own s g p (missing_in s g p.cut) at waits (missing_covered s g p.cut))
 
-moves_go_on : (s : State) (g : GroupNo) → In g s.config.groups → Moves s (go_on history resting s g)
+pub moves_go_on : (s : State) (g : GroupNo) → In g s.config.groups → Moves s (go_on history resting s g)
 moves_go_on s g at =
     elim (s.group g).pending as (λ o. (s.group g).pending ≡ o → Moves s (elim o [ Some p ↦ complete_or_want history resting s g p | None ↦ s ])) [
       | None ↦ λ _. moves_self s
       | Some p ↦ λ waits. moves_waiting s g p at waits
     ] refl
 
-moves_go_on_all : (s : State) → Moves s (go_on_all history resting s)
+pub moves_go_on_all : (s : State) → Moves s (go_on_all history resting s)
 moves_go_on_all s = moves_fold s (go_on history resting) s.config.groups (λ g at t u c. moves_go_on t g (subst (λ x. In g x.groups) (sym c) at)) s refl refl
 
 pub moves_pass : PassMoves

@@ -14,6 +14,7 @@ pub mod Step
 pub mod Run
 pub mod Lawful
 pub mod Endings
+pub mod AtRest
 pub mod Raising
 pub mod Noted
 pub mod Refusing

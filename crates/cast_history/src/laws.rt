@@ -1,4 +1,5 @@
 ghost use Rattle.cast_history.specs.Agreeing.{RunIsOne};
+ghost use Rattle.cast_history.specs.AtRest.{QuietStays, RestIsComputed, RestIsQuiet};
 ghost use Rattle.cast_history.specs.Endings.{EachComesToRest, PassMoves, RestIsOne, SettlesOne, TurnsAreEnough};
 ghost use Rattle.cast_history.specs.Noted.{ActsAreNoted};
 ghost use Rattle.cast_history.specs.Raising.{CountsCanBeRaised, CountsCanBeRaisedWithin, MembersAreCounted, RunsArePassed};
@@ -10,6 +11,16 @@ pub fn rest_ends()
     ensures passes { PassMoves }
     ensures ends { EachComesToRest }
     ensures one { RestIsOne }
+{}
+
+/// Once an event has come to rest nothing is left to be done: no message that is kept is free, and none is ready for a process of
+/// the site; no holder has anything to list that it may list; an Install waits only for what some member has not delivered, and what
+/// the site lacks of that is wanted; and no home has a view to start or to decide, and what its sites lack is wanted. A state of
+/// which all that holds stays as it is, and whether it holds can be computed.
+pub fn rest_is_quiet()
+    ensures quiet { RestIsQuiet }
+    ensures stays { QuietStays }
+    ensures computed { RestIsComputed }
 {}
 
 /// A process that has taken as many turns as messages were received has nothing ready, and however many turns it took:

@@ -5,7 +5,7 @@
 //! Nothing here runs but in the mind: records and code stand for a history, and say so in their own crates.
 //!
 //! Promised: from each state an event leads to rest, in one state alone, and a process delivers all that it can
-//! (`laws::rest_ends`, `laws::deliveries_end`); and a member's count can be raised unless it is the last one
+//! (`laws::rest_ends`, `laws::deliveries_end`); at rest nothing is left to be done (`laws::rest_is_quiet`); and a member's count can be raised unless it is the last one
 //! (`laws::counts_can_be_raised`). What a history notes that a process did it did (`laws::acts_are_noted`). What is
 //! refused leaves the state as it was but for its reply (`laws::refused_leaves`), and events lead to one outcome alone
 //! (`laws::runs_are_one`).
@@ -17,7 +17,7 @@
 //! sides of flushes, set-order messages, and what a domain does of itself; `History`, `Step` and `Resting` are the history as they
 //! see it, of which `Owing` and `Entering` are parts. `Effects` and `Rest` name what some of them come to, and `Run`
 //! says what a domain that is served alone answers, pushes and sends. `Lawful` is what holds of each history that
-//! events lead to, `Endings` what its rest promises, and `Raising` that a member counts members alone. The values that
+//! events lead to, `Endings` what its rest promises, `AtRest` what is left when it has ended, and `Raising` that a member counts members alone. The values that
 //! they speak of are those of `cast_model`, and of the parts only the definitions are named. Worked examples are
 //! computed in `proofs/`: `FirstCast`, `Waiting`, `Overlapping`, `Ignored`, `Keeping`, `Placing`, `Delivering`, `Leading`,
 //! `Leaving`, `Parting` and `Flushing`.

@@ -1,3 +1,3 @@
-pub mod Finds
 pub mod Entries
-pub mod Rows
+pub mod Names
+pub mod Kept

@@ -16,7 +16,6 @@
 
 mod outbox;
 mod outboxes;
-mod sessions;
 
 pub use outbox::Pushed;
 pub use outboxes::Outboxes;

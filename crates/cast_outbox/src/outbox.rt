@@ -1,10 +1,10 @@
-ghost use Rattle.std.specs.Prelude.{◌≡◌, ◌≤◌, ◌++◌, [], IfOk, OnOk, OnErr, length, slice_get, take, drop};
+ghost use Rattle.std.specs.Prelude.{◌≡◌, ◌≤◌, ◌==◌, ◌++◌, [], IfOk, OnOk, OnErr, length, slice_get, take, drop};
 ghost use Rattle.std.specs.Option.{option_copied};
 ghost use Rattle.std.specs.VecDeque.{deque_len, deque_capacity};
 ghost use Rattle.cast_outbox.specs.Pending.{with_entry, told_at};
 
 use cast_message::Push;
-use cast_types::{Listed, NoMemory, Refusal};
+use cast_types::{DomainNo, Listed, NoMemory, Refusal};
 use std::alloc::Global;
 use std::collections::VecDeque;
 use std::marker::Model;
@@ -18,9 +18,10 @@ pub enum Pushed {
     Slow,
 }
 
-/// What one session was pushed and has not taken, in order.
+/// What the session of a serial in a domain was pushed and has not taken, in order.
 #[derive(Drop)]
 pub(crate) struct Outbox {
+    domain: u8,
     serial: u32,
     entries: VecDeque<Push>,
 }
@@ -30,15 +31,26 @@ impl Model for Outbox {
 
     ghost Value = { Pending };
 
-    ghost view = { λ o. record { serial = o.serial; entries = o.entries.items } };
+    ghost view = { λ o. record { domain = o.domain; serial = o.serial; entries = o.entries.items } };
+}
+
+impl Clone for Outbox {
+    ghost use Rattle.std.specs.Prelude.{◌≡◌};
+
+    ghost is_clone = { λ x y. y ≡ x };
+
+    fn clone(&self) -> Result<Self, NoMemory> {
+        self.copy()
+    }
 }
 
 impl Outbox {
     /// No entries.
-    pub(crate) fn new(alloc: Global, serial: u32) -> Self
-        ensures { result ≡ record { serial = serial; entries = [] } }
+    pub(crate) fn new(alloc: Global, domain: DomainNo, serial: u32) -> Self
+        ensures { result ≡ record { domain = domain.0; serial = serial; entries = [] } }
     {
         Outbox {
+            domain: domain.0,
             serial,
             entries: VecDeque::new(alloc),
         }
@@ -49,16 +61,17 @@ impl Outbox {
         ensures { IfOk result (λ outbox. outbox ≡ self.now) }
     {
         Ok(Outbox {
+            domain: self.domain,
             serial: self.serial,
             entries: copy_entries(&self.entries)?,
         })
     }
 
-    /// Whose entries these are.
-    pub(crate) fn serial(&self) -> u32
-        ensures { result ≡ self.now.serial }
+    /// Whether it is one of a domain's.
+    pub(crate) fn is_in(&self, domain: DomainNo) -> bool
+        ensures { result ≡ (self.now.domain == domain.0) }
     {
-        self.serial
+        self.domain == domain.0
     }
 
     /// Lets go of all entries.

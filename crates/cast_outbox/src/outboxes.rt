@@ -1,50 +1,51 @@
-ghost use Rattle.std.specs.Prelude.{◌≡◌, ◌≢◌, ◌<◌, ◌∷◌, ◌++◌, [], IfOk, IfSome, OnOk, OnErr, drop, filter, get_or, length, not, slice_get, take, vec_len};
-ghost use Rattle.std.specs.List.{position};
+ghost use Rattle.std.specs.Prelude.{◌≡◌, ◌≢◌, [], None, Some, IfOk, OnOk, OnErr, ◌==◌, drop, filter, length, map, not, slice_get, take};
 ghost use Rattle.std.specs.Option.{option_copied};
 ghost use Rattle.cast_types.specs.declared.names.DomainNo.{DomainNo};
-ghost use Rattle.cast_types.specs.Places.{update};
-ghost use Rattle.cast_outbox.specs.Pending.{entries_of, with_entry, changed_there, changed_for, but_for, told_at};
-ghost use Rattle.cast_outbox.specs.Outboxes.{is_of, row_of, outboxes_in, changed_at, with_sessions, first_row};
-ghost use Rattle.cast_outbox.specs.declared.outboxes.Row.{Row};
+ghost use Rattle.cast_outbox.specs.Pending.{Pending, with_entry, told_at};
+ghost use Rattle.cast_outbox.specs.Outboxes.{outboxes_in, changed_at, key_in, only, pending, slot_named, with_entries, Added};
+ghost use Rattle.slab.specs.Slab.{get as slot_at, Updates};
 
-use crate::outbox::Pushed;
-use crate::sessions::Sessions;
+use crate::outbox::{Outbox, Pushed};
 use cast_message::Push;
 use cast_types::{DomainNo, Listed, NoMemory};
+use indexmap::IndexMap;
+use slab::Slab;
 use std::alloc::Global;
 use std::marker::Model;
-
-/// What the sessions of one domain have not taken.
-#[derive(Drop)]
-pub(crate) struct Row {
-    pub(crate) domain: DomainNo,
-    pub(crate) sessions: Sessions,
-}
 
 /// What the sessions of all domains were pushed and have not taken. Contracts say `outboxes_in` of it, a domain and the
 /// serial of a session: the list of the entries that the session has not taken, in the order in which it was pushed
 /// them.
 #[derive(Drop)]
 pub struct Outboxes {
-    rows: Vec<Row>,
+    // The key of each outbox, by its domain and its serial.
+    names: IndexMap<(u8, u32), usize>,
+    // The outboxes of all domains.
+    slots: Slab<Outbox>,
 }
 
 impl Model for Outboxes {
-    ghost use Rattle.std.specs.Prelude.{List};
-    ghost use Rattle.cast_outbox.specs.declared.outboxes.Row.{Row};
+    ghost use Rattle.std.specs.Prelude.{List, Option};
+    ghost use Rattle.cast_outbox.specs.Pending.{Pending};
 
-    ghost Value = { List Row };
+    ghost Value = { List (Option Pending) };
 
-    ghost view = { λ o. o.rows.items };
+    ghost use Rattle.cast_outbox.specs.Outboxes.{IsNamed};
+
+    ghost view = { λ o. o.slots.slots };
+
+    ghost invariant = { λ o. IsNamed o.names o.slots };
 }
 
 impl Outboxes {
     /// Each outbox is empty.
+    #[tactic(auto, unfolding(crate::specs::Outboxes::outboxes_in))]
     pub fn new(alloc: Global) -> Self
         ensures { (d : DomainNo) → outboxes_in result d ≡ (λ k. []) }
     {
         Outboxes {
-            rows: Vec::new(alloc),
+            names: IndexMap::new(alloc),
+            slots: Slab::new(alloc),
         }
     }
 
@@ -53,7 +54,8 @@ impl Outboxes {
         ensures { IfOk result (λ outboxes. outboxes ≡ self.now) }
     {
         Ok(Outboxes {
-            rows: copy_rows(*self.rows.allocator(), &self.rows)?,
+            names: copy_names(&self.names)?,
+            slots: copy_slots(&self.slots)?,
         })
     }
 
@@ -64,9 +66,12 @@ impl Outboxes {
         ensures err { OnErr result (self.new ≡ self.old) }
         ensures others { (e : DomainNo) → e ≢ domain → outboxes_in self.new e ≡ outboxes_in self.old e }
     {
-        match place_among(&self.rows, domain) {
-            Some(place) => open_at(&mut self.rows, place, serial),
-            None => open_first(&mut self.rows, domain, serial),
+        match key_of(&self.names, domain, serial) {
+            Some(key) => {
+                clear_at(&mut self.slots, key);
+                Ok(())
+            }
+            None => open_first(&mut self.names, &mut self.slots, domain, serial),
         }
     }
 
@@ -85,9 +90,16 @@ impl Outboxes {
         ensures err { OnErr result (self.new ≡ self.old) }
         ensures others { (e : DomainNo) → e ≢ domain → outboxes_in self.new e ≡ outboxes_in self.old e }
     {
-        match place_among(&self.rows, domain) {
-            Some(place) => push_at(&mut self.rows, place, serial, limit, entry),
-            None => push_first(&mut self.rows, domain, serial, limit, entry),
+        match key_of(&self.names, domain, serial) {
+            Some(key) => push_at(&mut self.slots, key, limit, entry),
+            None => push_first(
+                &mut self.names,
+                &mut self.slots,
+                domain,
+                serial,
+                limit,
+                entry,
+            ),
         }
     }
 
@@ -104,9 +116,9 @@ impl Outboxes {
         ensures err { OnErr result (self.new ≡ self.old) }
         ensures others { (e : DomainNo) → e ≢ domain → outboxes_in self.new e ≡ outboxes_in self.old e }
     {
-        match place_among(&self.rows, domain) {
-            Some(place) => take_at(&mut self.rows, place, serial, most),
-            None => Ok(Listed::new(*self.rows.allocator())),
+        match key_of(&self.names, domain, serial) {
+            Some(key) => take_at(&mut self.slots, key, most),
+            None => Ok(Listed::new(*self.names.allocator())),
         }
     }
 
@@ -114,8 +126,8 @@ impl Outboxes {
     pub fn len(&self, domain: DomainNo, serial: u32) -> usize
         ensures { result ≡ length (outboxes_in self.now domain serial) }
     {
-        match row_among(&self.rows, domain) {
-            Some(row) => row.sessions.len(serial),
+        match outbox_of(&self.names, &self.slots, domain, serial) {
+            Some(outbox) => outbox.len(),
             None => 0,
         }
     }
@@ -125,8 +137,8 @@ impl Outboxes {
     pub fn at(&self, domain: DomainNo, serial: u32, place: usize) -> Option<&Push>
         ensures { option_copied result ≡ slice_get (outboxes_in self.now domain serial) place }
     {
-        match row_among(&self.rows, domain) {
-            Some(row) => row.sessions.at(serial, place),
+        match outbox_of(&self.names, &self.slots, domain, serial) {
+            Some(outbox) => outbox.at(place),
             None => None,
         }
     }
@@ -136,8 +148,8 @@ impl Outboxes {
         ensures own { outboxes_in self.new domain ≡ changed_at serial (λ _. []) (outboxes_in self.old domain) }
         ensures others { (e : DomainNo) → e ≢ domain → outboxes_in self.new e ≡ outboxes_in self.old e }
     {
-        if let Some(place) = place_among(&self.rows, domain) {
-            close_at(&mut self.rows, place, serial);
+        if let Some(key) = self.names.swap_remove(&(domain.0, serial)) {
+            drop_at(&mut self.slots, key);
         }
     }
 
@@ -146,127 +158,157 @@ impl Outboxes {
         ensures own { outboxes_in self.new domain ≡ (λ k. []) }
         ensures others { (e : DomainNo) → e ≢ domain → outboxes_in self.new e ≡ outboxes_in self.old e }
     {
-        drop_rows(&mut self.rows, domain);
+        drop_names(&mut self.names, domain);
+        drop_slots(&mut self.slots, domain);
     }
 }
 
-// What is kept of a domain.
-fn row_among(rows: &[Row], domain: DomainNo) -> Option<&Row>
-    ensures { option_copied result ≡ row_of rows.now domain }
+// The key of an outbox.
+fn key_of(names: &IndexMap<(u8, u32), usize>, domain: DomainNo, serial: u32) -> Option<usize>
+    ensures { result ≡ key_in names.now (domain.0, serial) }
 {
-    rows.iter().find(|row| row.domain == domain)
+    names.get(&(domain.0, serial)).copied()
 }
 
-// Where it is kept.
-fn place_among(rows: &[Row], domain: DomainNo) -> Option<usize>
-    ensures place { result ≡ position (is_of domain) rows.now }
-    ensures within { IfSome result (λ i. i < length rows.now) }
-{
-    rows.iter().position(|row| row.domain == domain)
-}
-
-// Opens an outbox in the domain of a place. `NoMemory` changes nothing.
-#[tactic(auto, using(cast_types::proofs::Updates::set_update))]
-fn open_at(rows: &mut Vec<Row>, place: usize, serial: u32) -> Result<(), NoMemory>
-    requires { place < vec_len rows.old }
-    ensures ok { OnOk result (rows.new.items ≡ update rows.old.items place (with_sessions (changed_for serial (λ _. [])))) }
-    ensures err { OnErr result (rows.new.items ≡ rows.old.items) }
-{
-    let row = &mut rows[place];
-    row.sessions.open(serial)
-}
-
-// Opens the first outbox of a domain. `NoMemory` changes nothing.
-fn open_first(rows: &mut Vec<Row>, domain: DomainNo, serial: u32) -> Result<(), NoMemory>
-    ensures ok { OnOk result (rows.new.items ≡ rows.old.items ++ first_row domain serial [] ∷ []) }
-    ensures err { OnErr result (rows.new.items ≡ rows.old.items) }
-{
-    let mut sessions = Sessions::new(*rows.allocator());
-    sessions.open(serial)?;
-    rows.push(Row { domain, sessions })?;
-    Ok(())
-}
-
-// Adds an entry to an outbox in the domain of a place. `NoMemory` changes nothing.
-#[tactic(auto, using(cast_types::proofs::Updates::set_update))]
-fn push_at(
-    rows: &mut Vec<Row>,
-    place: usize,
+// An outbox, by its key.
+fn outbox_of<'a>(
+    names: &IndexMap<(u8, u32), usize>,
+    slots: &'a Slab<Outbox>,
+    domain: DomainNo,
     serial: u32,
-    limit: u32,
-    entry: Push,
-) -> Result<Pushed, NoMemory>
-    requires { place < vec_len rows.old }
-    ensures value { IfOk result (λ p. (r : Row) → p ≡ told_at limit (entries_of (get_or rows.old.items place r).sessions serial)) }
-    ensures ok { OnOk result (rows.new.items ≡ update rows.old.items place (with_sessions (changed_for serial (with_entry limit entry)))) }
-    ensures err { OnErr result (rows.new.items ≡ rows.old.items) }
+) -> Option<&'a Outbox>
+    ensures { option_copied result ≡ slot_named names.now slots.now (domain.0, serial) }
 {
-    let row = &mut rows[place];
-    row.sessions.push(serial, limit, entry)
+    match key_of(names, domain, serial) {
+        Some(key) => slots.get(key),
+        None => None,
+    }
 }
 
-// Adds the first entry of a domain. `NoMemory` changes nothing.
+// Opens an outbox under a name that has none. `NoMemory` changes nothing.
+fn open_first(
+    names: &mut IndexMap<(u8, u32), usize>,
+    slots: &mut Slab<Outbox>,
+    domain: DomainNo,
+    serial: u32,
+) -> Result<(), NoMemory>
+    ensures ok { OnOk result (Added (pending domain serial []) names.old names.new slots.old slots.new) }
+    ensures names_stay { OnErr result (names.new.entries ≡ names.old.entries) }
+    ensures slots_stay { OnErr result (slots.new.slots ≡ slots.old.slots) }
+{
+    let outbox = Outbox::new(*names.allocator(), domain, serial);
+    add(names, slots, domain, serial, outbox)
+}
+
+// Adds the first entry under a name that has no outbox. `NoMemory` changes nothing.
 fn push_first(
-    rows: &mut Vec<Row>,
+    names: &mut IndexMap<(u8, u32), usize>,
+    slots: &mut Slab<Outbox>,
     domain: DomainNo,
     serial: u32,
     limit: u32,
     entry: Push,
 ) -> Result<Pushed, NoMemory>
     ensures value { IfOk result (λ p. p ≡ told_at limit []) }
-    ensures ok { OnOk result (rows.new.items ≡ rows.old.items ++ first_row domain serial (with_entry limit entry []) ∷ []) }
-    ensures err { OnErr result (rows.new.items ≡ rows.old.items) }
+    ensures ok { OnOk result (Added (pending domain serial (with_entry limit entry [])) names.old names.new slots.old slots.new) }
+    ensures names_stay { OnErr result (names.new.entries ≡ names.old.entries) }
+    ensures slots_stay { OnErr result (slots.new.slots ≡ slots.old.slots) }
 {
-    let mut sessions = Sessions::new(*rows.allocator());
-    let pushed = sessions.push(serial, limit, entry)?;
-    rows.push(Row { domain, sessions })?;
+    let mut outbox = Outbox::new(*names.allocator(), domain, serial);
+    let pushed = outbox.push(limit, entry)?;
+    add(names, slots, domain, serial, outbox)?;
     Ok(pushed)
 }
 
-// Takes the first entries out of an outbox in the domain of a place. `NoMemory` changes nothing.
-#[tactic(auto, using(cast_types::proofs::Updates::set_update))]
-fn take_at(
-    rows: &mut Vec<Row>,
-    place: usize,
+// Adds an outbox under a name that has none. `NoMemory` changes nothing.
+fn add(
+    names: &mut IndexMap<(u8, u32), usize>,
+    slots: &mut Slab<Outbox>,
+    domain: DomainNo,
     serial: u32,
-    most: u32,
-) -> Result<Listed<Push>, NoMemory>
-    requires { place < vec_len rows.old }
-    ensures value { IfOk result (λ taken. (r : Row) → taken ≡ take most (entries_of (get_or rows.old.items place r).sessions serial)) }
-    ensures ok { OnOk result (rows.new.items ≡ update rows.old.items place (with_sessions (changed_there serial (drop most)))) }
-    ensures err { OnErr result (rows.new.items ≡ rows.old.items) }
+    outbox: Outbox,
+) -> Result<(), NoMemory>
+    requires its { outbox.domain ≡ domain.0 }
+    requires own { outbox.serial ≡ serial }
+    ensures ok { OnOk result (Added outbox names.old names.new slots.old slots.new) }
+    ensures names_stay { OnErr result (names.new.entries ≡ names.old.entries) }
+    ensures slots_stay { OnErr result (slots.new.slots ≡ slots.old.slots) }
 {
-    let row = &mut rows[place];
-    row.sessions.take(serial, most)
+    slots.reserve(1)?;
+    names.insert((domain.0, serial), slots.vacant_key())?;
+    slots.insert_reserved(outbox);
+    Ok(())
 }
 
-// Drops an outbox in the domain of a place.
-#[tactic(auto, using(cast_types::proofs::Updates::set_update))]
-fn close_at(rows: &mut Vec<Row>, place: usize, serial: u32)
-    requires { place < vec_len rows.old }
-    ensures { rows.new.items ≡ update rows.old.items place (with_sessions (but_for serial)) }
+// Empties the outbox of a key.
+fn clear_at(slots: &mut Slab<Outbox>, key: usize)
+    ensures { (x : Pending) → slot_at slots.old key ≡ Some x → Updates slots.old slots.new key (Some (with_entries (λ _. []) x)) }
 {
-    let row = &mut rows[place];
-    row.sessions.close(serial);
-}
-
-// Keeps the rows of other domains.
-fn drop_rows(rows: &mut Vec<Row>, domain: DomainNo)
-    ensures { rows.new.items ≡ filter (λ r. not (is_of domain r)) rows.old.items }
-{
-    rows.retain(|row| row.domain != domain);
-}
-
-// Rows, copied.
-fn copy_rows(alloc: Global, rows: &[Row]) -> Result<Vec<Row>, NoMemory>
-    ensures { IfOk result (λ copy. copy.items ≡ rows.now) }
-{
-    let mut copied = Vec::with_capacity(alloc, rows.len())?;
-    for row in rows {
-        copied.push(Row {
-            domain: row.domain,
-            sessions: row.sessions.copy()?,
-        })?;
+    if let Some(outbox) = slots.get_mut(key) {
+        outbox.clear();
     }
-    Ok(copied)
+}
+
+// Adds an entry to the outbox of a key. `NoMemory` changes nothing.
+fn push_at(
+    slots: &mut Slab<Outbox>,
+    key: usize,
+    limit: u32,
+    entry: Push,
+) -> Result<Pushed, NoMemory>
+    ensures value { IfOk result (λ p. (x : Pending) → slot_at slots.old key ≡ Some x → p ≡ told_at limit x.entries) }
+    ensures ok { OnOk result ((x : Pending) → slot_at slots.old key ≡ Some x → Updates slots.old slots.new key (Some (with_entries (with_entry limit entry) x))) }
+    ensures err { OnErr result (slots.new.slots ≡ slots.old.slots) }
+{
+    match slots.get_mut(key) {
+        Some(outbox) => outbox.push(limit, entry),
+        None => Ok(Pushed::Kept),
+    }
+}
+
+// Takes the first entries out of the outbox of a key. `NoMemory` changes nothing.
+fn take_at(slots: &mut Slab<Outbox>, key: usize, most: u32) -> Result<Listed<Push>, NoMemory>
+    ensures value { IfOk result (λ taken. (x : Pending) → slot_at slots.old key ≡ Some x → taken ≡ take most x.entries) }
+    ensures ok { OnOk result ((x : Pending) → slot_at slots.old key ≡ Some x → Updates slots.old slots.new key (Some (with_entries (drop most) x))) }
+    ensures err { OnErr result (slots.new.slots ≡ slots.old.slots) }
+{
+    match slots.get_mut(key) {
+        Some(outbox) => outbox.take(most),
+        None => Err(std::alloc::AllocError),
+    }
+}
+
+// Drops the outbox of a key.
+fn drop_at(slots: &mut Slab<Outbox>, key: usize)
+    ensures { Updates slots.old slots.new key None }
+{
+    slots.try_remove(key);
+}
+
+// Keeps the names of other domains.
+fn drop_names(names: &mut IndexMap<(u8, u32), usize>, domain: DomainNo)
+    ensures { names.new.entries ≡ filter (λ e. not (e.0.0 == domain.0)) names.old.entries }
+{
+    names.retain(|name, _| name.0 != domain.0);
+}
+
+// Keeps the outboxes of other domains.
+fn drop_slots(slots: &mut Slab<Outbox>, domain: DomainNo)
+    ensures { slots.new.slots ≡ map (only (λ x. not (x.domain == domain.0))) slots.old.slots }
+{
+    slots.retain(|_, outbox| !outbox.is_in(domain));
+}
+
+// The keys of the outboxes, copied.
+fn copy_names(names: &IndexMap<(u8, u32), usize>) -> Result<IndexMap<(u8, u32), usize>, NoMemory>
+    ensures { IfOk result (λ copy. copy.entries ≡ names.now.entries) }
+{
+    names.clone()
+}
+
+// The outboxes, copied: each has the key that it had.
+fn copy_slots(slots: &Slab<Outbox>) -> Result<Slab<Outbox>, NoMemory>
+    ensures { IfOk result (λ copy. copy.slots ≡ slots.now.slots) }
+{
+    slots.clone()
 }

@@ -1,7 +1,8 @@
 -- Several domains of one daemon, by worked scripts.
-use Rattle.std.specs.Prelude.{◌≡◌, ℕ, List, [], ◌∷◌, codes, Ok, refl}
+use Rattle.std.specs.Prelude.{◌≡◌, ℕ, List, [], ◌∷◌, codes, Ok, true, refl}
+use Rattle.std.specs.List.{list_all}
 use Rattle.cast_rows.proofs.Everything.{everything}
-use Rattle.cast_rows.specs.Printed.{lines, printed}
+use Rattle.cast_rows.specs.Printed.{lines, printed, rests}
 
 -- two domains of one daemon, in no order of number: what one keeps leaves the other its room, and each counts from 1
 domains_hold_apart : List ℕ
@@ -125,3 +126,9 @@ sixteen_domains_prints : printed sixteen_domains ≡ Ok (
     )
 unfolding everything sixteen_domains
 sixteen_domains_prints = refl
+
+-- nothing is left to be done behind any event of these
+domains_rest : list_all rests (
+    domains_hold_apart ∷ ticks_are_for_all_domains ∷ sixteen_domains ∷ []) ≡ true
+unfolding everything domains_hold_apart ticks_are_for_all_domains sixteen_domains
+domains_rest = refl

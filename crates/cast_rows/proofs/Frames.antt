@@ -1,7 +1,8 @@
 -- Which frames are used, by worked scripts.
-use Rattle.std.specs.Prelude.{◌≡◌, ℕ, List, [], ◌∷◌, codes, Ok, refl}
+use Rattle.std.specs.Prelude.{◌≡◌, ℕ, List, [], ◌∷◌, codes, Ok, true, refl}
+use Rattle.std.specs.List.{list_all}
 use Rattle.cast_rows.proofs.Everything.{everything}
-use Rattle.cast_rows.specs.Printed.{lines, printed}
+use Rattle.cast_rows.specs.Printed.{lines, printed, rests}
 
 -- Data and Acks that no rule uses: from other sites than their process's, for other views, with groups that are not configured, with a time that does not count them
 frames_not_used : List ℕ
@@ -71,3 +72,9 @@ frame_of_the_last_site_prints : printed frame_of_the_last_site ≡ Ok (
     )
 unfolding everything frame_of_the_last_site
 frame_of_the_last_site_prints = refl
+
+-- nothing is left to be done behind any event of these
+frames_rest : list_all rests (
+    frames_not_used ∷ frame_of_the_last_site ∷ []) ≡ true
+unfolding everything frames_not_used frame_of_the_last_site
+frames_rest = refl

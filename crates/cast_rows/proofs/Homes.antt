@@ -1,7 +1,8 @@
 -- What a home makes of requests, by worked scripts.
-use Rattle.std.specs.Prelude.{◌≡◌, ℕ, List, [], ◌∷◌, codes, Ok, refl}
+use Rattle.std.specs.Prelude.{◌≡◌, ℕ, List, [], ◌∷◌, codes, Ok, true, refl}
+use Rattle.std.specs.List.{list_all}
 use Rattle.cast_rows.proofs.Everything.{everything}
-use Rattle.cast_rows.specs.Printed.{lines, printed}
+use Rattle.cast_rows.specs.Printed.{lines, printed, rests}
 
 -- requests at the home: next, repeated, lower, higher, of a process that is not at the asking site; a first view
 requests_at_the_home : List ℕ
@@ -74,3 +75,9 @@ frames_where_no_home_is_prints : printed frames_where_no_home_is ≡ Ok (
     )
 unfolding everything frames_where_no_home_is
 frames_where_no_home_is_prints = refl
+
+-- nothing is left to be done behind any event of these
+homes_rest : list_all rests (
+    requests_at_the_home ∷ frames_where_no_home_is ∷ []) ≡ true
+unfolding everything requests_at_the_home frames_where_no_home_is
+homes_rest = refl

@@ -1,4 +1,5 @@
 pub mod Everything
+pub mod Resting
 pub mod Refusals
 pub mod Frames
 pub mod Room

@@ -1,7 +1,8 @@
 -- How a holder sets the order of ABCASTs, by worked scripts.
-use Rattle.std.specs.Prelude.{◌≡◌, ℕ, List, [], ◌∷◌, codes, Ok, refl}
+use Rattle.std.specs.Prelude.{◌≡◌, ℕ, List, [], ◌∷◌, codes, Ok, true, refl}
+use Rattle.std.specs.List.{list_all}
 use Rattle.cast_rows.proofs.Everything.{everything}
-use Rattle.cast_rows.specs.Printed.{lines, printed}
+use Rattle.cast_rows.specs.Printed.{lines, printed, rests}
 
 -- an own ABCAST of another group does not hold back a set-order message
 holder_orders_with_own_elsewhere : List ℕ
@@ -111,3 +112,9 @@ first_place_counts_prints : printed first_place_counts ≡ Ok (
     )
 unfolding everything first_place_counts
 first_place_counts_prints = refl
+
+-- nothing is left to be done behind any event of these
+ordering_rest : list_all rests (
+    holder_orders_with_own_elsewhere ∷ order_of_delivery ∷ first_place_counts ∷ []) ≡ true
+unfolding everything holder_orders_with_own_elsewhere order_of_delivery first_place_counts
+ordering_rest = refl

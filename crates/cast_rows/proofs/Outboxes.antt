@@ -1,7 +1,8 @@
 -- What programs take of what they are pushed, and quotas that change, by worked scripts.
-use Rattle.std.specs.Prelude.{◌≡◌, ℕ, List, [], ◌∷◌, codes, Ok, refl}
+use Rattle.std.specs.Prelude.{◌≡◌, ℕ, List, [], ◌∷◌, codes, Ok, true, refl}
+use Rattle.std.specs.List.{list_all}
 use Rattle.cast_rows.proofs.Everything.{everything}
-use Rattle.cast_rows.specs.Printed.{lines, printed}
+use Rattle.cast_rows.specs.Printed.{lines, printed, rests}
 
 -- an outbox of two entries holds the view off: the session is closed instead, and its process, which has entered the view, leaves it before the home is told. What was pushed may still be taken
 no_room_for_the_view : List ℕ
@@ -317,3 +318,147 @@ another_resend_counts_from_the_next_time_prints : printed another_resend_counts_
     )
 unfolding everything another_resend_counts_from_the_next_time
 another_resend_counts_from_the_next_time_prints = refl
+
+-- a message that is free because its last member was closed in the rest is let go at once: the cast finds room
+released_by_closing : List ℕ
+released_by_closing =
+    lines
+    (codes "site 1"
+    ∷ codes "domain 1 home 2 sites 1,2 groups 1,2,3 quotas 16 1 5 200"
+    ∷ codes "open 1"
+    ∷ codes "open 1"
+    ∷ codes "join 1 1 1 1"
+    ∷ codes "join 1 1 2 2"
+    ∷ codes "join 1 2 3 3"
+    ∷ codes "frame 4344010a01000200010000000102000100000001000200000001010000000100000000000000"
+    ∷ codes "frame 4344010a01000200020000000102000100000001000200000001010000000100000000000000"
+    ∷ codes "frame 4344010a01000200030000000101000100000002000000000100000000000000"
+    ∷ codes "frame 43440101010002000100000001000200000001000000010102000100000001010002000000010000000100020000000101000200000001000000010000"
+    ∷ codes "frame 4344010301000200010000000100020000000100000001"
+    ∷ codes "frame 4344010a01000200020000000202000100000001000200000001010000000100000000000000"
+    ∷ codes "cast 1 2 9 3 -" ∷ [])
+
+released_by_closing_prints : printed released_by_closing ≡ Ok (
+    lines
+    (codes "push 1 1 opened 1.1"
+    ∷ codes "push 1 1 reply 1 0"
+    ∷ codes "push 1 1 reply 2 0"
+    ∷ codes "push 1 1 view 1 1 holder 2.1 members 1.1 2.1"
+    ∷ codes "push 1 1 view 2 1 holder 2.1 members 1.1 2.1"
+    ∷ codes "push 1 1 closed 12"
+    ∷ codes "push 1 2 opened 1.2"
+    ∷ codes "push 1 2 reply 3 0"
+    ∷ codes "push 1 2 view 3 1 holder 1.2 members 1.2"
+    ∷ codes "push 1 2 reply 9 0"
+    ∷ codes "push 1 2 deliver 3/1/1.2/1 causal -"
+    ∷ codes "send 1 2 4344010401000100010000000101000100000001"
+    ∷ codes "send 1 2 4344010401000100020000000101000100000001"
+    ∷ codes "send 1 2 4344010401000100030000000101000100000002"
+    ∷ codes "send 1 2 4344010b010001000100000001"
+    ∷ codes "send 1 2 4344010b010001000200000001"
+    ∷ codes "send 1 2 4344010b010001000300000001"
+    ∷ codes "send 1 2 4344010201000100010000000100020000000100000001"
+    ∷ codes "send 1 2 4344010b010001000200000002" ∷ [])
+    )
+unfolding everything released_by_closing
+released_by_closing_prints = refl
+
+-- a message that no member is left for, since a program that was put out of another group was too slow to be told so, is let go at once. The process leaves the group that it is a member of, and not the one that put it out
+released_by_ejecting : List ℕ
+released_by_ejecting =
+    lines
+    (codes "site 1"
+    ∷ codes "domain 1 home 2 sites 1,2 groups 1,2,3 quotas 16 1 5 200"
+    ∷ codes "open 1"
+    ∷ codes "open 1"
+    ∷ codes "join 1 1 1 1"
+    ∷ codes "join 1 1 2 2"
+    ∷ codes "join 1 2 3 3"
+    ∷ codes "frame 4344010501000200010000000100"
+    ∷ codes "frame 4344010501000200020000000100"
+    ∷ codes "frame 4344010501000200030000000100"
+    ∷ codes "frame 4344010a01000200010000000102000100000001000200000001010000000100000000000000"
+    ∷ codes "frame 4344010a01000200020000000102000100000001000200000001010000000100000000000000"
+    ∷ codes "frame 4344010a01000200030000000101000100000002000000000100000000000000"
+    ∷ codes "frame 43440101010002000100000001000200000001000000010102000100000001010002000000010000000100020000000101000200000001000000010000"
+    ∷ codes "frame 4344010301000200010000000100020000000100000001"
+    ∷ codes "frame 4344010a01000200020000000201000200000001000000000100000000000000"
+    ∷ codes "cast 1 2 9 3 -" ∷ [])
+
+released_by_ejecting_prints : printed released_by_ejecting ≡ Ok (
+    lines
+    (codes "push 1 1 opened 1.1"
+    ∷ codes "push 1 1 reply 1 0"
+    ∷ codes "push 1 1 reply 2 0"
+    ∷ codes "push 1 1 view 1 1 holder 2.1 members 1.1 2.1"
+    ∷ codes "push 1 1 view 2 1 holder 2.1 members 1.1 2.1"
+    ∷ codes "push 1 1 closed 12"
+    ∷ codes "push 1 2 opened 1.2"
+    ∷ codes "push 1 2 reply 3 0"
+    ∷ codes "push 1 2 view 3 1 holder 1.2 members 1.2"
+    ∷ codes "push 1 2 reply 9 0"
+    ∷ codes "push 1 2 deliver 3/1/1.2/1 causal -"
+    ∷ codes "send 1 2 4344010401000100010000000101000100000001"
+    ∷ codes "send 1 2 4344010401000100020000000101000100000001"
+    ∷ codes "send 1 2 4344010401000100030000000101000100000002"
+    ∷ codes "send 1 2 4344010b010001000100000001"
+    ∷ codes "send 1 2 4344010b010001000200000001"
+    ∷ codes "send 1 2 4344010b010001000300000001"
+    ∷ codes "send 1 2 4344010201000100010000000100020000000100000001"
+    ∷ codes "send 1 2 4344010401000100010000000202000100000001"
+    ∷ codes "send 1 2 4344010b010001000200000002" ∷ [])
+    )
+unfolding everything released_by_ejecting
+released_by_ejecting_prints = refl
+
+-- a message that waits for a view that its process is about to enter is let go at once where the group is full and the program was too slow to be told so: the cast that found no room finds some then
+released_by_denying : List ℕ
+released_by_denying =
+    lines
+    (codes "site 1"
+    ∷ codes "domain 1 home 2 sites 1,2 groups 1,2,3 quotas 16 1 4 200"
+    ∷ codes "open 1"
+    ∷ codes "open 1"
+    ∷ codes "join 1 1 1 1"
+    ∷ codes "join 1 2 2 3"
+    ∷ codes "frame 4344010501000200010000000100"
+    ∷ codes "frame 4344010501000200030000000100"
+    ∷ codes "frame 4344010a01000200010000000102000100000001000200000001010000000100000000000000"
+    ∷ codes "frame 4344010a01000200030000000101000100000002000000000100000000000000"
+    ∷ codes "join 1 1 3 2"
+    ∷ codes "frame 434401010100020001000000010002000000010000000101020001000000010100020000000100000001000200000001000000"
+    ∷ codes "frame 4344010301000200010000000100020000000100000001"
+    ∷ codes "cast 1 2 4 3 -"
+    ∷ codes "take 1 2 4"
+    ∷ codes "frame 434401050100020002000000010e"
+    ∷ codes "cast 1 2 5 3 -" ∷ [])
+
+released_by_denying_prints : printed released_by_denying ≡ Ok (
+    lines
+    (codes "push 1 1 opened 1.1"
+    ∷ codes "push 1 1 reply 1 0"
+    ∷ codes "push 1 1 view 1 1 holder 2.1 members 1.1 2.1"
+    ∷ codes "push 1 1 reply 3 0"
+    ∷ codes "push 1 1 closed 12"
+    ∷ codes "push 1 2 opened 1.2"
+    ∷ codes "push 1 2 reply 2 0"
+    ∷ codes "push 1 2 view 3 1 holder 1.2 members 1.2"
+    ∷ codes "push 1 2 reply 4 9"
+    ∷ codes "push 1 2 reply 5 0"
+    ∷ codes "push 1 2 deliver 3/1/1.2/1 causal -"
+    ∷ codes "send 1 2 4344010401000100010000000101000100000001"
+    ∷ codes "send 1 2 4344010401000100030000000101000100000002"
+    ∷ codes "send 1 2 4344010b010001000100000001"
+    ∷ codes "send 1 2 4344010b010001000300000001"
+    ∷ codes "send 1 2 4344010401000100020000000101000100000001"
+    ∷ codes "send 1 2 4344010201000100010000000100020000000100000001"
+    ∷ codes "send 1 2 4344010401000100010000000202000100000001" ∷ [])
+    )
+unfolding everything released_by_denying
+released_by_denying_prints = refl
+
+-- nothing is left to be done behind any event of these
+outboxes_rest : list_all rests (
+    no_room_for_the_view ∷ taken_in_time ∷ no_room_for_a_reply ∷ no_room_for_a_delivery ∷ bad_with_a_full_outbox ∷ takes_out_of_range ∷ one_session_at_a_time ∷ quotas_in_their_ranges ∷ lower_quotas_close_nobody ∷ another_resend_counts_from_the_next_time ∷ released_by_closing ∷ released_by_ejecting ∷ released_by_denying ∷ []) ≡ true
+unfolding everything no_room_for_the_view taken_in_time no_room_for_a_reply no_room_for_a_delivery bad_with_a_full_outbox takes_out_of_range one_session_at_a_time quotas_in_their_ranges lower_quotas_close_nobody another_resend_counts_from_the_next_time released_by_closing released_by_ejecting released_by_denying
+outboxes_rest = refl

@@ -1,7 +1,8 @@
 -- What is refused, and in which order the tests are made, by worked scripts.
-use Rattle.std.specs.Prelude.{◌≡◌, ℕ, List, [], ◌∷◌, codes, Ok, refl}
+use Rattle.std.specs.Prelude.{◌≡◌, ℕ, List, [], ◌∷◌, codes, Ok, true, refl}
+use Rattle.std.specs.List.{list_all}
 use Rattle.cast_rows.proofs.Everything.{everything}
-use Rattle.cast_rows.specs.Printed.{lines, printed}
+use Rattle.cast_rows.specs.Printed.{lines, printed, rests}
 
 -- order of the tests of join and cast: 4, 6; 4, 10, 5; each refusal changes nothing but its reply
 refusals_in_order : List ℕ
@@ -79,3 +80,9 @@ own_abcast_elsewhere_prints : printed own_abcast_elsewhere ≡ Ok (
     )
 unfolding everything own_abcast_elsewhere
 own_abcast_elsewhere_prints = refl
+
+-- nothing is left to be done behind any event of these
+refusals_rest : list_all rests (
+    refusals_in_order ∷ own_abcast_elsewhere ∷ []) ≡ true
+unfolding everything refusals_in_order own_abcast_elsewhere
+refusals_rest = refl

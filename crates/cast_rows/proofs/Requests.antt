@@ -1,7 +1,8 @@
 -- How processes ask to be let in, and whom a view takes in, by worked scripts.
-use Rattle.std.specs.Prelude.{◌≡◌, ℕ, List, [], ◌∷◌, codes, Ok, refl}
+use Rattle.std.specs.Prelude.{◌≡◌, ℕ, List, [], ◌∷◌, codes, Ok, true, refl}
+use Rattle.std.specs.List.{list_all}
 use Rattle.cast_rows.proofs.Everything.{everything}
-use Rattle.cast_rows.specs.Printed.{lines, printed}
+use Rattle.cast_rows.specs.Printed.{lines, printed, rests}
 
 -- two programs at one site: requests one after the other, Asked from the home alone and for the first request alone, who an Install takes in
 two_programs_join : List ℕ
@@ -158,3 +159,9 @@ joining_stops_at_its_view_prints : printed joining_stops_at_its_view ≡ Ok (
     )
 unfolding everything joining_stops_at_its_view
 joining_stops_at_its_view_prints = refl
+
+-- nothing is left to be done behind any event of these
+requests_rest : list_all rests (
+    two_programs_join ∷ two_programs_in_a_view ∷ joining_stops_at_its_view ∷ []) ≡ true
+unfolding everything two_programs_join two_programs_in_a_view joining_stops_at_its_view
+requests_rest = refl

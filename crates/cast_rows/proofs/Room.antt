@@ -1,7 +1,8 @@
 -- Where there is room for messages, by worked scripts.
-use Rattle.std.specs.Prelude.{◌≡◌, ℕ, List, [], ◌∷◌, codes, Ok, refl}
+use Rattle.std.specs.Prelude.{◌≡◌, ℕ, List, [], ◌∷◌, codes, Ok, true, refl}
+use Rattle.std.specs.List.{list_all}
 use Rattle.cast_rows.proofs.Everything.{everything}
-use Rattle.cast_rows.specs.Printed.{lines, printed}
+use Rattle.cast_rows.specs.Printed.{lines, printed, rests}
 
 -- set-order messages are received up to twice held, where Data is not
 room_of_orders : List ℕ
@@ -259,3 +260,9 @@ held_over_groups_prints : printed held_over_groups ≡ Ok (
     )
 unfolding everything held_over_groups
 held_over_groups_prints = refl
+
+-- nothing is left to be done behind any event of these
+room_rest : list_all rests (
+    room_of_orders ∷ holder_without_room ∷ delivers_only_with_room ∷ holder_waits_at_twice_held ∷ set_order_waits_at_twice_held ∷ held_over_groups ∷ []) ≡ true
+unfolding everything room_of_orders holder_without_room delivers_only_with_room holder_waits_at_twice_held set_order_waits_at_twice_held held_over_groups
+room_rest = refl

@@ -1,8 +1,9 @@
 -- What is a script, and what is wrong with one that is none, by worked scripts.
-use Rattle.std.specs.Prelude.{◌≡◌, ℕ, List, [], ◌∷◌, codes, Ok, Err, refl}
+use Rattle.std.specs.Prelude.{◌≡◌, ℕ, List, [], ◌∷◌, codes, Ok, Err, true, refl}
+use Rattle.std.specs.List.{list_all}
 use Rattle.cast_words.specs.declared.words.Reason.TheVariants.{UnknownWord, WrongCount, BadNumber, Order}
 use Rattle.cast_rows.proofs.Everything.{everything}
-use Rattle.cast_rows.specs.Printed.{lines, printed}
+use Rattle.cast_rows.specs.Printed.{lines, printed, rests}
 
 -- the greatest numbers and counts of a configuration are accepted
 greatest_configuration : List ℕ
@@ -205,3 +206,9 @@ take_with_a_sign =
 take_with_a_sign_refused : printed take_with_a_sign ≡ Err (4, BadNumber)
 unfolding everything take_with_a_sign
 take_with_a_sign_refused = refl
+
+-- nothing is left to be done behind any event of these
+scripts_rest : list_all rests (
+    greatest_configuration ∷ []) ≡ true
+unfolding everything greatest_configuration
+scripts_rest = refl

@@ -1,7 +1,8 @@
 -- What is told of stability, and what is sent again, by worked scripts.
-use Rattle.std.specs.Prelude.{◌≡◌, ℕ, List, [], ◌∷◌, codes, Ok, refl}
+use Rattle.std.specs.Prelude.{◌≡◌, ℕ, List, [], ◌∷◌, codes, Ok, true, refl}
+use Rattle.std.specs.List.{list_all}
 use Rattle.cast_rows.proofs.Everything.{everything}
-use Rattle.cast_rows.specs.Printed.{lines, printed}
+use Rattle.cast_rows.specs.Printed.{lines, printed, rests}
 
 -- a Stable of count n pays the Acks of all counts to n, and counts from the process's own site alone
 stable_pays_lower : List ℕ
@@ -233,3 +234,9 @@ two_members_at_a_site_prints : printed two_members_at_a_site ≡ Ok (
     )
 unfolding everything two_members_at_a_site
 two_members_at_a_site_prints = refl
+
+-- nothing is left to be done behind any event of these
+stability_rest : list_all rests (
+    stable_pays_lower ∷ stable_before_data ∷ last_stable ∷ acknowledged_before_it_is_sent ∷ released_at_once ∷ two_members_at_a_site ∷ []) ≡ true
+unfolding everything stable_pays_lower stable_before_data last_stable acknowledged_before_it_is_sent released_at_once two_members_at_a_site
+stability_rest = refl

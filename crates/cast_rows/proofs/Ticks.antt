@@ -1,7 +1,8 @@
 -- What time does, by worked scripts.
-use Rattle.std.specs.Prelude.{◌≡◌, ℕ, List, [], ◌∷◌, codes, Ok, refl}
+use Rattle.std.specs.Prelude.{◌≡◌, ℕ, List, [], ◌∷◌, codes, Ok, true, refl}
+use Rattle.std.specs.List.{list_all}
 use Rattle.cast_rows.proofs.Everything.{everything}
-use Rattle.cast_rows.specs.Printed.{lines, printed}
+use Rattle.cast_rows.specs.Printed.{lines, printed, rests}
 
 -- the moment is the greatest tick, at most 2^62
 moments_rise : List ℕ
@@ -124,3 +125,9 @@ equal_dues_prints : printed equal_dues ≡ Ok (
     )
 unfolding everything equal_dues
 equal_dues_prints = refl
+
+-- nothing is left to be done behind any event of these
+ticks_rest : list_all rests (
+    moments_rise ∷ repeat_moves_nothing ∷ equal_dues ∷ []) ≡ true
+unfolding everything moments_rise repeat_moves_nothing equal_dues
+ticks_rest = refl

@@ -1,6 +1,6 @@
 -- What a script prints, computed from its text: it is read, each domain runs by the definitions, and the log is written.
 use Rattle.std.specs.Prelude.{ℕ, ◌==◌, Bool, true, false, if◌then◌else◌, List, [], ◌∷◌, ◌++◌, map, Option, Some, None, Result, Ok, Err}
-use Rattle.std.specs.List.{find}
+use Rattle.std.specs.List.{find, list_all}
 use Rattle.cast_types.specs.declared.names.DomainNo.{DomainNo}
 use Rattle.cast_types.specs.declared.names.SiteNo.{SiteNo}
 use Rattle.cast_model.specs.declared.config.DomainConfig.{DomainConfig}
@@ -12,7 +12,8 @@ use Rattle.cast_model.specs.declared.log.Fault.TheVariants.{NoDomain}
 use Rattle.cast_model.specs.declared.log.Given.{Given}
 use Rattle.cast_model.specs.declared.log.Log.{Log}
 use Rattle.cast_model.specs.Events.{domain_of}
-use Rattle.cast_history.specs.State.{opening, serials}
+use Rattle.cast_history.specs.State.{State, opening, serials}
+use Rattle.cast_history.specs.AtRest.{is_at_rest}
 use Rattle.cast_history.specs.Run.{Ran, before_event, entries_for, ran_on}
 use Rattle.cast_history.specs.Step.{answered}
 use Rattle.cast_words.specs.declared.words.Reason.{Reason}
@@ -84,3 +85,18 @@ text_by (Err fault) = Err fault
 
 abbrev pub printed : List ℕ → Result (List ℕ) (ℕ × Reason)
 printed text = text_by (script_of text)
+
+-- the states of all domains behind each event
+abbrev pub states_behind : List Tenant → List Event → List State
+states_behind tenants [] = []
+states_behind tenants (event ∷ events) =
+    let now : List Tenant = map (served event) tenants in
+    map (λ tenant. tenant.1.state) now ++ states_behind now events
+
+abbrev pub states_by : Result Script (ℕ × Reason) → List State
+states_by (Ok script) = states_behind (map (begun script.config.site) script.config.domains) script.events
+states_by (Err fault) = []
+
+-- whether nothing is left to be done in any of them
+abbrev pub rests : List ℕ → Bool
+rests text = list_all is_at_rest (states_by (script_of text))

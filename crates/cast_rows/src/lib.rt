@@ -5,7 +5,8 @@
 //! events of each domain run through its history, and the log is written, all by computing. So a definition that says another
 //! thing than the rules is noticed, also where code and definition agree.
 //!
-//! `specs/Printed` says what a text prints by the definitions of `cast_script`, `cast_history` and `cast_print`; the theorems are in
+//! `specs/Printed` says what a text prints by the definitions of `cast_script`, `cast_history` and `cast_print`, each event followed by two passes, and
+//! whether nothing is left to be done behind them (`proofs/Resting` says what that comes to); the theorems are in
 //! `proofs/`: `Refusals`, `Frames`, `Room`, `Ordering`, `Stability`, `Ticks`, `Requests`, `Homes`, `Outboxes`, `Domains` and
 //! `Scripts`. The same scripts are trials of the program in `cast_trials`.
 #![tactic(auto)]

@@ -1,9 +1,8 @@
 //! A program that is served: its reader, and its writer.
-use crate::desk::{BATCH, Client, Desk, Opening, Purpose, Session};
+use crate::desk::{BATCH, Client, Desk, Opening, Purpose, Seat, Session};
 use crate::report::Report;
 use cast_device::Watched;
 use cast_message::{Command, Push};
-use cast_model::Event;
 use cast_pool::Asked;
 use cast_session::{InEnd, Sink, pump_in, pump_out};
 use cast_types::{DomainNo, Listed, NoMemory, Refusal};
@@ -34,13 +33,6 @@ impl Shared<'_> {
         self.desk.lock(rt).submit(rt, purpose, asked)
     }
 
-    /// Hands in that a session is to end.
-    pub fn submit_gone<R: Wait>(&self, rt: &R, session: Session) {
-        let Session { domain, serial } = session;
-        let asked = Asked::Event(Event::Gone { domain, serial });
-        self.submit(rt, Purpose::Gone(session), asked);
-    }
-
     /// Says something to the operator.
     pub fn report<R: Wait>(&self, rt: &R, what: Report) {
         self.desk.lock(rt).report(rt, what);
@@ -53,26 +45,20 @@ struct Handing<'a, R: Wait> {
     rt: &'a R,
     shared: &'a Shared<'a>,
     session: Session,
-    turn: &'a Receiver<bool>,
+    turn: &'a Receiver<()>,
 }
 
 impl<R: Wait> Sink for Handing<'_, R> {
     fn take(&mut self, command: Command) -> Result<(), NoMemory> {
-        let Session { domain, serial } = self.session;
-        let asked = Asked::Event(Event::Command {
-            domain,
-            serial,
-            command,
-        });
-        if !self
+        let is_asked = self
             .shared
-            .submit(self.rt, Purpose::Command(self.session), asked)
-        {
-            return Err(AllocError);
-        }
-        match self.turn.recv(self.rt) {
-            Ok(true) => Ok(()),
-            _ => Err(AllocError),
+            .desk
+            .lock(self.rt)
+            .command(self.rt, self.session, command);
+        if is_asked && self.turn.recv(self.rt).is_ok() {
+            Ok(())
+        } else {
+            Err(AllocError)
         }
     }
 }
@@ -95,7 +81,7 @@ fn run_reader<R: Wait>(
     shared: &Shared<'_>,
     stream: &UnixStream,
     session: Session,
-    turn: &Receiver<bool>,
+    turn: &Receiver<()>,
 ) -> io::Result<()> {
     let mut reader = Watched::new(BufReader::new(shared.alloc, stream)?);
     let mut sink = Handing {
@@ -125,7 +111,7 @@ fn write_entries<W: Write + Drop>(
     is_out && !ends(entries)
 }
 
-// Writes what was taken for a program, until nothing can come any more or the stream is of no use, and closes it then.
+// Writes what was taken for a program, until nothing can come any more or the stream is of no use.
 fn run_writer<R: Wait>(
     rt: &R,
     shared: &Shared<'_>,
@@ -144,7 +130,7 @@ fn run_writer<R: Wait>(
     Ok(())
 }
 
-// The whole of a writer's thread: the stream is closed at its end.
+// The whole of a writer's thread: at its end the stream is closed, and the program's reader ends.
 fn write_and_close<R: Wait>(
     rt: &R,
     shared: &Shared<'_>,
@@ -153,7 +139,7 @@ fn write_and_close<R: Wait>(
     batches: Receiver<Listed<Push>>,
 ) {
     let _ = run_writer(rt, shared, &stream, session, &batches);
-    let _ = stream.shutdown(Shutdown::Both);
+    shared.desk.lock(rt).end(session);
 }
 
 // Tells a program that it has no session.
@@ -164,9 +150,8 @@ fn refuse(alloc: Global, stream: &UnixStream, refusal: Refusal) {
 
 // Asks for a session, and waits for it.
 fn open<R: Wait>(rt: &R, shared: &Shared<'_>, domain: DomainNo) -> Result<Opening, NoMemory> {
-    let (to, opened) = crossbeam_channel::unbounded::<Opening, Global>(shared.alloc)?;
-    let asked = Asked::Event(Event::Open(domain));
-    if !shared.submit(rt, Purpose::Open(to), asked) {
+    let (to, opened) = crossbeam_channel::bounded::<Opening, Global>(shared.alloc, 1)?;
+    if !shared.desk.lock(rt).open(rt, domain, to) {
         return Ok(Opening::Lost);
     }
     match opened.recv(rt) {
@@ -178,7 +163,7 @@ fn open<R: Wait>(rt: &R, shared: &Shared<'_>, domain: DomainNo) -> Result<Openin
 // What the reader of a session keeps: its stream, and its turns.
 #[derive(Drop)]
 struct Admitted {
-    turn: Receiver<bool>,
+    turn: Receiver<()>,
     batches: Receiver<Listed<Push>>,
     writing: UnixStream,
 }
@@ -190,8 +175,8 @@ fn admit<R: Wait>(
     stream: &UnixStream,
     session: Session,
 ) -> io::Result<Option<Admitted>> {
-    let (to_turn, turn) = crossbeam_channel::unbounded::<bool, Global>(shared.alloc)?;
-    let (to_writer, batches) = crossbeam_channel::unbounded::<Listed<Push>, Global>(shared.alloc)?;
+    let (to_turn, turn) = crossbeam_channel::bounded::<(), Global>(shared.alloc, 1)?;
+    let (to_writer, batches) = crossbeam_channel::bounded::<Listed<Push>, Global>(shared.alloc, 1)?;
     stream.set_write_timeout(Some(Duration::from_secs(PATIENCE)))?;
     let writing = stream.try_clone()?;
     let client = Client::new(to_turn, to_writer, stream.try_clone()?);
@@ -242,13 +227,11 @@ pub fn run_client<'s, 'e, R: Threads + Wait + Clock + Sync>(
     domain: DomainNo,
 ) {
     match open(rt, shared, domain) {
-        Ok(Opening::Opened(serial)) => {
-            let session = Session { domain, serial };
-            if serve_session(scope, rt, shared, &stream, session).is_err() {
+        Ok(Opening::Opened(seat)) => {
+            if serve_session(scope, rt, shared, &stream, seat.session).is_err() {
                 shared.report(rt, Report::NotServed(domain));
             }
-            shared.submit_gone(rt, session);
-            shared.desk.lock(rt).forget(session);
+            shared.desk.lock(rt).leave(rt, seat);
         }
         Ok(Opening::Refused(refusal)) => refuse(shared.alloc, &stream, refusal),
         Ok(Opening::Lost) | Err(_) => {

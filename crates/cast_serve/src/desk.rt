@@ -1,6 +1,6 @@
-//! Who waits for which answer, and which sessions have a Take on the way.
+//! Who waits for which answer, which sessions have a Take on the way, and which are still to end.
 use crate::report::Report;
-use cast_message::Push;
+use cast_message::{Command, Push};
 use cast_model::Event;
 use cast_pool::{Asked, Raw};
 use cast_types::{DomainNo, Listed, NoMemory, Refusal};
@@ -24,11 +24,18 @@ pub struct Session {
     pub serial: u32,
 }
 
+/// A session that was opened, and the number under which it was asked for. Its end is handed in under the same number.
+#[derive(Clone, Copy, Debug, PartialEq, Eq)]
+pub struct Seat {
+    pub session: Session,
+    pub number: u64,
+}
+
 /// What became of a program that wants a session.
 #[derive(Clone, Copy, Debug, PartialEq, Eq)]
 pub enum Opening {
-    /// It has one, with this serial.
-    Opened(u32),
+    /// It has one.
+    Opened(Seat),
     Refused(Refusal),
     /// Memory ran out.
     Lost,
@@ -37,14 +44,14 @@ pub enum Opening {
 /// Why something was asked of the workers.
 #[derive(Drop)]
 pub enum Purpose {
-    /// The thread of a new program waits for its session.
-    Open(Sender<Opening>),
+    /// The thread of a new program of a domain waits for its session.
+    Open(DomainNo, Sender<Opening>),
     /// The reader of a session waits for its command's answer.
     Command(Session),
     /// The outbox of a session is to be taken.
     Take(Session),
     /// A session is to end.
-    Gone(Session),
+    Gone,
     /// Nobody waits.
     Other,
 }
@@ -58,32 +65,102 @@ pub enum Stage {
     Writing,
 }
 
+// How far a session is from its end.
+#[derive(Clone, Copy, Debug, PartialEq, Eq)]
+enum End {
+    // Its program is served, or it is not opened yet.
+    Ahead,
+    // Its Gone is to be handed in.
+    Due(Session),
+    // Its Gone is on the way.
+    Asked(Session),
+}
+
 /// A program that is served.
 #[derive(Drop)]
 pub struct Client {
-    /// Tells its reader to go on, or that its program is served no more.
-    pub turn: Sender<bool>,
-    /// Hands its writer what was taken.
-    pub writer: Sender<Listed<Push>>,
-    /// A second handle of its stream.
-    pub stream: UnixStream,
+    // Tells its reader to go on. Without it the reader ends.
+    turn: Option<Sender<()>>,
+    // Hands its writer what was taken.
+    writer: Sender<Listed<Push>>,
+    // A second handle of its stream.
+    stream: UnixStream,
     stage: Stage,
     is_wanted: bool,
     untaken: u32,
+    // Its reader waits, though its command has its answer.
     is_held: bool,
+    // Its stream is of no more use.
+    is_ended: bool,
 }
 
 impl Client {
-    /// A program of which nothing was taken.
-    pub fn new(turn: Sender<bool>, writer: Sender<Listed<Push>>, stream: UnixStream) -> Self {
+    /// A program of which nothing was taken. Each channel has room for one message, which is the most that lies in it.
+    pub fn new(turn: Sender<()>, writer: Sender<Listed<Push>>, stream: UnixStream) -> Self {
         Client {
-            turn,
+            turn: Some(turn),
             writer,
             stream,
             stage: Stage::Idle,
             is_wanted: false,
             untaken: 0,
             is_held: false,
+            is_ended: false,
+        }
+    }
+
+    // Whether a Take may be handed in.
+    fn is_free(&self) -> bool {
+        self.stage == Stage::Idle && !self.is_ended
+    }
+
+    // Lets its reader go on, which waits for that. One that cannot be told ends.
+    fn go_on<R: Wait>(&mut self, rt: &R) {
+        let is_told = match &self.turn {
+            Some(turn) => turn.send(rt, ()).is_ok(),
+            None => false,
+        };
+        if !is_told {
+            self.end();
+        }
+    }
+
+    // Its stream is closed. A reader that is held ends at once, one that waits for its command's answer at that answer, and
+    // any other at the end of the stream.
+    fn end(&mut self) {
+        self.is_ended = true;
+        let _ = self.stream.shutdown(Shutdown::Both);
+        if self.is_held {
+            drop(self.turn.take());
+        }
+    }
+
+    // A command has its answer: its reader may go on, unless too many answers lie untaken.
+    fn answered<R: Wait>(&mut self, rt: &R) {
+        self.untaken = self.untaken.saturating_add(1);
+        if self.is_ended {
+            drop(self.turn.take());
+        } else if self.untaken >= UNTAKEN {
+            self.is_held = true;
+        } else {
+            self.go_on(rt);
+        }
+    }
+
+    // Nothing lies untaken: a reader that is held may go on.
+    fn emptied<R: Wait>(&mut self, rt: &R) {
+        self.untaken = 0;
+        if self.is_held {
+            self.is_held = false;
+            self.go_on(rt);
+        }
+    }
+
+    // Its writer gets what was taken. One that cannot get it ends.
+    fn write<R: Wait>(&mut self, rt: &R, entries: Listed<Push>) {
+        self.stage = Stage::Writing;
+        if self.writer.send(rt, entries).is_err() {
+            self.end();
         }
     }
 }
@@ -94,6 +171,8 @@ pub struct Desk {
     jobs: Option<Sender<Raw>>,
     last: u64,
     waiting: BTreeMap<u64, Purpose>,
+    // The sessions that are not gone, by the numbers under which they were asked for.
+    ends: BTreeMap<u64, End>,
     clients: BTreeMap<Session, Client>,
     reports: Option<Sender<Report>>,
     is_stopping: bool,
@@ -108,6 +187,7 @@ impl Desk {
             reports: Some(reports),
             last: 0,
             waiting: BTreeMap::new(alloc),
+            ends: BTreeMap::new(alloc),
             clients: BTreeMap::new(alloc),
             is_stopping: false,
             undecoded: 0,
@@ -120,33 +200,81 @@ impl Desk {
         let Ok(number) = self.register(purpose) else {
             return false;
         };
-        let is_sent = match &self.jobs {
-            Some(jobs) => jobs.send(rt, Raw { number, asked }).is_ok(),
-            None => false,
-        };
+        let is_sent = self.send(rt, number, asked);
         if !is_sent {
             drop(self.waiting.remove(&number));
         }
         is_sent
     }
 
+    // Asks something under a number.
+    fn send<R: Wait>(&self, rt: &R, number: u64, asked: Asked) -> bool {
+        match &self.jobs {
+            Some(jobs) => jobs.send(rt, Raw { number, asked }).is_ok(),
+            None => false,
+        }
+    }
+
     // A number, from 1 on, whose answer finds this purpose.
     fn register(&mut self, purpose: Purpose) -> Result<u64, NoMemory> {
         let number = self.last.checked_add(1).ok_or(AllocError)?;
+        self.last = number;
         if let Purpose::Other = purpose {
-            self.last = number;
             return Ok(number);
         }
         self.waiting.insert(number, purpose)?;
-        self.last = number;
         Ok(number)
+    }
+
+    /// Asks for a session in a domain. False where that was refused. Room for what its end needs is made here, so that the end
+    /// takes no memory but that of its job.
+    pub fn open<R: Wait>(&mut self, rt: &R, domain: DomainNo, to: Sender<Opening>) -> bool {
+        let Ok(number) = self.register(Purpose::Open(domain, to)) else {
+            return false;
+        };
+        let is_asked = self.ends.insert(number, End::Ahead).is_ok()
+            && self.send(rt, number, Asked::Event(Event::Open(domain)));
+        if !is_asked {
+            drop(self.waiting.remove(&number));
+            drop(self.ends.remove(&number));
+        }
+        is_asked
+    }
+
+    /// Hands in a command of a session. False where it was refused, or the session's stream is of no more use.
+    pub fn command<R: Wait>(&mut self, rt: &R, session: Session, command: Command) -> bool {
+        let is_served = match self.clients.get(&session) {
+            Some(client) => !client.is_ended,
+            None => false,
+        };
+        let Session { domain, serial } = session;
+        let asked = Asked::Event(Event::Command {
+            domain,
+            serial,
+            command,
+        });
+        is_served && self.submit(rt, Purpose::Command(session), asked)
     }
 
     /// The purpose of what was asked under a number.
     pub fn purpose(&mut self, number: u64) -> Purpose {
         match self.waiting.remove(&number) {
             Some(purpose) => purpose,
+            None if self.ends.get(&number).is_some() => Purpose::Gone,
             None => Purpose::Other,
+        }
+    }
+
+    /// Tells a program what became of the session that it asked for under a number.
+    pub fn opened<R: Wait>(&mut self, rt: &R, number: u64, to: &Sender<Opening>, opening: Opening) {
+        let is_told = to.send(rt, opening).is_ok();
+        match opening {
+            Opening::Opened(seat) => {
+                if !is_told {
+                    self.leave(rt, seat);
+                }
+            }
+            Opening::Refused(_) | Opening::Lost => drop(self.ends.remove(&number)),
         }
     }
 
@@ -159,29 +287,62 @@ impl Desk {
         Ok(true)
     }
 
-    /// Forgets a program, so that its writer ends.
-    pub fn forget(&mut self, session: Session) {
-        drop(self.clients.remove(&session));
+    /// Forgets a program, so that its writer ends, and hands in that its session ends.
+    pub fn leave<R: Wait>(&mut self, rt: &R, seat: Seat) {
+        drop(self.clients.remove(&seat.session));
+        if let Some(end) = self.ends.get_mut(&seat.number) {
+            *end = End::Due(seat.session);
+        }
+        self.hand_in_ends(rt);
     }
 
-    /// Closes the stream of a program, and ends its reader.
-    pub fn close<R: Wait>(&mut self, rt: &R, session: Session) {
-        if let Some(client) = self.clients.get(&session) {
-            let _ = client.stream.shutdown(Shutdown::Both);
-            let _ = client.turn.send(rt, false);
+    /// Hands in each Gone that is due. What is refused stays due.
+    pub fn hand_in_ends<R: Wait>(&mut self, rt: &R) {
+        let Some(jobs) = &self.jobs else {
+            return;
+        };
+        for (number, end) in self.ends.iter_mut() {
+            if let End::Due(session) = *end {
+                let asked = Asked::Event(Event::Gone {
+                    domain: session.domain,
+                    serial: session.serial,
+                });
+                let number = *number;
+                if jobs.send(rt, Raw { number, asked }).is_ok() {
+                    *end = End::Asked(session);
+                }
+            }
+        }
+    }
+
+    /// The Gone under a number has its answer. One that found no memory is due again.
+    pub fn gone(&mut self, number: u64, is_done: bool) {
+        if is_done {
+            drop(self.ends.remove(&number));
+        } else if let Some(end) = self.ends.get_mut(&number) {
+            if let End::Asked(session) = *end {
+                *end = End::Due(session);
+            }
+        }
+    }
+
+    /// The stream of a program is of no more use: it is closed, and its reader ends.
+    pub fn end(&mut self, session: Session) {
+        if let Some(client) = self.clients.get_mut(&session) {
+            client.end();
         }
     }
 
     /// There is something in the outbox of a session. A Take is handed in, or will be once what was taken is written.
     pub fn want<R: Wait>(&mut self, rt: &R, session: Session) {
-        let is_idle = match self.clients.get_mut(&session) {
+        let is_free = match self.clients.get_mut(&session) {
             Some(client) => {
                 client.is_wanted = true;
-                client.stage == Stage::Idle
+                client.is_free()
             }
             None => false,
         };
-        if is_idle {
+        if is_free {
             self.take(rt, session);
         }
     }
@@ -201,15 +362,11 @@ impl Desk {
         }
     }
 
-    /// A command of a session has its answer: its reader may go on, unless too many answers lie untaken.
+    /// A command of a session has its answer: its reader may go on, unless too many answers lie untaken or its stream is of no
+    /// more use.
     pub fn answered<R: Wait>(&mut self, rt: &R, session: Session) {
         if let Some(client) = self.clients.get_mut(&session) {
-            client.untaken = client.untaken.saturating_add(1);
-            if client.untaken >= UNTAKEN {
-                client.is_held = true;
-            } else {
-                let _ = client.turn.send(rt, true);
-            }
+            client.answered(rt);
         }
     }
 
@@ -217,14 +374,9 @@ impl Desk {
     pub fn taken<R: Wait>(&mut self, rt: &R, session: Session, entries: Listed<Push>) {
         let is_empty = entries.is_empty();
         if let Some(client) = self.clients.get_mut(&session) {
-            client.untaken = 0;
-            if client.is_held {
-                client.is_held = false;
-                let _ = client.turn.send(rt, true);
-            }
+            client.emptied(rt);
             if !is_empty {
-                client.stage = Stage::Writing;
-                let _ = client.writer.send(rt, entries);
+                client.write(rt, entries);
             }
         }
         if is_empty {
@@ -237,7 +389,8 @@ impl Desk {
         let is_wanted = match self.clients.get_mut(&session) {
             Some(client) => {
                 client.stage = Stage::Idle;
-                client.is_wanted || is_more
+                client.is_wanted = client.is_wanted || is_more;
+                client.is_wanted && client.is_free()
             }
             None => false,
         };
@@ -258,7 +411,7 @@ impl Desk {
     /// memory.
     pub fn next_missed(&self, after: Option<Session>) -> Option<Session> {
         for (session, client) in self.clients.iter() {
-            if is_behind(*session, after) && client.is_wanted && client.stage == Stage::Idle {
+            if is_behind(*session, after) && client.is_wanted && client.is_free() {
                 return Some(*session);
             }
         }
@@ -293,13 +446,12 @@ impl Desk {
     }
 
     /// Ends every reader, and lets no program in. What was asked is still served.
-    pub fn stop<R: Wait>(&mut self, rt: &R) {
+    pub fn stop(&mut self) {
         self.is_stopping = true;
         drop(self.jobs.take());
         drop(self.reports.take());
-        for client in self.clients.values() {
-            let _ = client.stream.shutdown(Shutdown::Both);
-            let _ = client.turn.send(rt, false);
+        for client in self.clients.values_mut() {
+            client.end();
         }
     }
 }

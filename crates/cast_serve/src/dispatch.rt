@@ -1,60 +1,53 @@
 //! What becomes of what the workers did.
 use crate::client::Shared;
-use crate::desk::{Opening, Purpose, Session};
+use crate::desk::{Desk, Opening, Purpose, Seat, Session};
 use crate::report::Report;
 use cast_link::{Wire, send_all};
 use cast_model::{Fault, Outs, Taken};
 use cast_pool::{Done, Outcome};
-use cast_types::{Refusal, SiteNo};
+use cast_types::{DomainNo, Refusal, SiteNo};
 use crossbeam_channel::Receiver;
 use std::sync::Wait;
 
-// What a program that wants a session is told.
-fn opening_of(answer: &Result<Taken, Fault>) -> Opening {
+// What a program is told that wants a session of a domain, which was asked for under a number.
+fn opening_of(domain: DomainNo, number: u64, answer: &Result<Taken, Fault>) -> Opening {
     match answer {
-        Ok(Taken::Opened(serial)) => Opening::Opened(*serial),
+        Ok(Taken::Opened(serial)) => {
+            let serial = *serial;
+            let session = Session { domain, serial };
+            Opening::Opened(Seat { session, number })
+        }
         Ok(Taken::Refused(refusal)) => Opening::Refused(*refusal),
         _ => Opening::Lost,
     }
 }
 
-// A command has its answer.
-fn end_command<R: Wait>(
-    rt: &R,
-    shared: &Shared<'_>,
-    session: Session,
-    answer: &Result<Taken, Fault>,
-) {
-    let mut desk = shared.desk.lock(rt);
-    match answer {
-        Ok(Taken::Refused(Refusal::Halted)) | Err(_) => desk.close(rt, session),
-        Ok(_) => desk.answered(rt, session),
+// A command has its answer. Where that is no reply, its stream is closed.
+fn end_command<R: Wait>(rt: &R, desk: &mut Desk, session: Session, answer: &Result<Taken, Fault>) {
+    if let Ok(Taken::Refused(Refusal::Halted)) | Err(_) = answer {
+        desk.end(session);
     }
+    desk.answered(rt, session);
 }
 
 // A Take has its answer.
-fn end_take<R: Wait>(rt: &R, shared: &Shared<'_>, session: Session, answer: Result<Taken, Fault>) {
-    let mut desk = shared.desk.lock(rt);
+fn end_take<R: Wait>(rt: &R, desk: &mut Desk, session: Session, answer: Result<Taken, Fault>) {
     match answer {
         Ok(Taken::Entries(entries)) => desk.taken(rt, session, entries),
-        Ok(Taken::Refused(Refusal::Halted)) => desk.close(rt, session),
+        Ok(Taken::Refused(Refusal::Halted)) => desk.end(session),
         _ => desk.untaken(session),
     }
 }
 
-// Tells who waits for an answer.
-fn tell<R: Wait>(rt: &R, shared: &Shared<'_>, purpose: Purpose, answer: Result<Taken, Fault>) {
-    match purpose {
-        Purpose::Open(to) => {
-            let _ = to.send(rt, opening_of(&answer));
+// Tells who waits for the answer that bears a number.
+fn tell<R: Wait>(rt: &R, desk: &mut Desk, number: u64, answer: Result<Taken, Fault>) {
+    match desk.purpose(number) {
+        Purpose::Open(domain, to) => {
+            desk.opened(rt, number, &to, opening_of(domain, number, &answer));
         }
-        Purpose::Command(session) => end_command(rt, shared, session, &answer),
-        Purpose::Take(session) => end_take(rt, shared, session, answer),
-        Purpose::Gone(session) => {
-            if let Err(Fault::NoMemory) = answer {
-                shared.submit_gone(rt, session);
-            }
-        }
+        Purpose::Command(session) => end_command(rt, desk, session, &answer),
+        Purpose::Take(session) => end_take(rt, desk, session, answer),
+        Purpose::Gone => desk.gone(number, !matches!(answer, Err(Fault::NoMemory))),
         Purpose::Other => {}
     }
 }
@@ -95,10 +88,9 @@ fn send_frames<R: Wait, W: Wire>(
 // What becomes of one answer.
 fn dispatch<R: Wait, W: Wire>(rt: &R, shared: &Shared<'_>, wire: &mut W, own: SiteNo, done: Done) {
     let (number, outcome) = done.parts();
-    let purpose = shared.desk.lock(rt).purpose(number);
     match outcome {
         Outcome::Answered(answer, outs) => {
-            tell(rt, shared, purpose, answer);
+            tell(rt, &mut shared.desk.lock(rt), number, answer);
             want_pushed(rt, shared, &outs);
             send_frames(rt, shared, wire, own, &outs);
             for domain in outs.halted.as_slice() {

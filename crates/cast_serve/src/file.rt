@@ -3,7 +3,7 @@ use crate::threads::serve;
 use cast_config::{Cause, Setup, read};
 use cast_types::SiteNo;
 use std::alloc::Global;
-use std::io::{BufRead, Lines, Write};
+use std::io::{BufRead, Write};
 use std::net::Net;
 use std::rt::{Clock, Files};
 use std::sync::Wait;
@@ -57,7 +57,7 @@ pub fn serve_file<R, B, W, E, G>(
     name: &str,
     site: SiteNo,
     workers: u8,
-    lines: Lines<B>,
+    console: B,
     out: &mut W,
     err: &mut E,
     log: G,
@@ -71,7 +71,7 @@ where
 {
     let alloc = rt.alloc();
     match setup_of(rt, alloc, name, site, err) {
-        Ok(setup) => serve(rt, alloc, &setup, workers, lines, out, err, log),
+        Ok(setup) => serve(rt, alloc, &setup, workers, console, out, err, log),
         Err(status) => status,
     }
 }

@@ -15,7 +15,7 @@ use cast_pool::{Asked, Done, Kept, Open, Raw, Worked, can_keep, work};
 use cast_types::{DomainNo, SiteNo};
 use crossbeam_channel::{Receiver, Sender};
 use std::alloc::Global;
-use std::io::{BufRead, Lines, Write};
+use std::io::{BufRead, Write};
 use std::marker::Brand;
 use std::net::{Net, Shutdown, UdpSocket};
 use std::os::fd::OwnedFd;
@@ -35,6 +35,10 @@ const TICKS_TO_ALL: u32 = 49;
 
 // How many milliseconds a thread waits after a call of the system failed, so that it does not turn in place.
 const PAUSE: u64 = 10;
+
+// So many answers may wait for the dispatcher. Room for them is made at the start, so that none is lost for want of memory; where it
+// is used up, the workers wait.
+const ANSWERS: usize = 1024;
 
 /// The socket of a domain.
 #[derive(Drop)]
@@ -128,7 +132,7 @@ fn want_those<R: Wait>(rt: &R, shared: &Shared<'_>, all: bool) {
     }
 }
 
-// Tells the domains the time.
+// Tells the domains the time, and asks once more for what was refused for want of memory.
 fn run_ticker<R: Wait + Clock>(rt: &R, shared: &Shared<'_>) -> io::Result<()> {
     let start = Instant::now(rt)?;
     let mut until_all = 0;
@@ -138,6 +142,7 @@ fn run_ticker<R: Wait + Clock>(rt: &R, shared: &Shared<'_>) -> io::Result<()> {
         }
         let millis = u64::try_from(start.elapsed(rt)?.as_millis()).unwrap_or(u64::MAX);
         shared.submit(rt, Purpose::Other, Asked::Event(Event::Tick(millis)));
+        shared.desk.lock(rt).hand_in_ends(rt);
         want_those(rt, shared, until_all == 0);
         until_all = if until_all == 0 {
             TICKS_TO_ALL
@@ -260,7 +265,7 @@ fn start_all<
 
 // Ends the daemon: what was asked is still served, and nothing more is taken in. The threads that wait for a socket wake up.
 fn stop<R: Wait + Files>(rt: &R, shared: &Shared<'_>, sockets: &Sockets, paths: &[DomainSocket]) {
-    shared.desk.lock(rt).stop(rt);
+    shared.desk.lock(rt).stop();
     for listening in sockets.listening.as_slice() {
         let _ = listening.stopper.shutdown(Shutdown::Both);
     }
@@ -286,7 +291,7 @@ fn run_threads<'e, L, R, B, W, E>(
     workers: u8,
     ends: Ends,
     paths: &'e [DomainSocket],
-    lines: Lines<B>,
+    console: B,
     out: &mut W,
     log: E,
 ) -> io::Result<()>
@@ -309,7 +314,7 @@ where
             let started = start_all(scope, rt, ground, &mut mine, workers, ends, log);
             let ended = match started {
                 Ok(dones) => {
-                    run_console(rt, alloc, ground.kept, mine, lines, dones, out);
+                    run_console(rt, alloc, ground.kept, mine, console, dones, out);
                     Ok(())
                 }
                 Err(error) => Err(error),
@@ -328,8 +333,8 @@ fn address_of(addresses: &[SiteAddress], site: SiteNo) -> &str {
     }
 }
 
-// Binds the socket of a domain.
-fn bind_one<R: Net + Files>(rt: &R, socket: &DomainSocket) -> io::Result<Listening> {
+// Makes the socket of a domain.
+fn listen<R: Net + Files>(rt: &R, socket: &DomainSocket) -> io::Result<Listening> {
     let listener = UnixListener::bind(rt, socket.path.as_str())?;
     let stopper = UnixStream::from(OwnedFd::from(listener.try_clone()?));
     Ok(Listening {
@@ -337,6 +342,33 @@ fn bind_one<R: Net + Files>(rt: &R, socket: &DomainSocket) -> io::Result<Listeni
         listener,
         stopper,
     })
+}
+
+// Whether nothing is at a path.
+fn is_vacant<R: Files>(rt: &R, path: &str) -> bool {
+    match fs::symlink_metadata(rt, path) {
+        Ok(_) => false,
+        Err(error) => error.kind() == io::ErrorKind::NotFound,
+    }
+}
+
+// Binds the socket of a domain. False where it cannot be bound: then a file that was made for it is removed, and one that was
+// there stays.
+fn bind_one<R: Net + Files>(rt: &R, socket: &DomainSocket, listening: &mut Vec<Listening>) -> bool {
+    let path = socket.path.as_str();
+    if !is_vacant(rt, path) {
+        return false;
+    }
+    let is_bound = match listen(rt, socket) {
+        Ok(one) => listening.push(one).is_ok(),
+        // Another program was faster, and the file is its own.
+        Err(error) if error.kind() == io::ErrorKind::AddrInUse => return false,
+        Err(_) => false,
+    };
+    if !is_bound {
+        let _ = fs::remove_file(rt, path);
+    }
+    is_bound
 }
 
 // Binds the sockets of the domains. At the first that cannot be bound, those before it are given up, and its path is answered.
@@ -347,11 +379,7 @@ fn bind_all<'a, R: Net + Files>(
 ) -> Result<Vec<Listening>, &'a str> {
     let mut listening = Vec::new(alloc);
     for (index, socket) in paths.iter().enumerate() {
-        let is_bound = match bind_one(rt, socket) {
-            Ok(one) => listening.push(one).is_ok(),
-            Err(_) => false,
-        };
-        if !is_bound {
+        if !bind_one(rt, socket, &mut listening) {
             remove_files(rt, &paths[..index]);
             return Err(socket.path.as_str());
         }
@@ -377,7 +405,7 @@ fn run<L, R, B, W, E>(
     blank: Blank,
     workers: u8,
     sockets: &Sockets,
-    lines: Lines<B>,
+    console: B,
     out: &mut W,
     log: E,
 ) -> io::Result<()>
@@ -395,7 +423,7 @@ where
     let (kept, mine) = Kept::<L>::new(alloc, &setup.config, blank, workers as u64 + 1)?;
     let kept = Mutex::new(kept);
     let (jobs, queue) = crossbeam_channel::unbounded::<Raw, Global>(alloc)?;
-    let (answers, answered) = crossbeam_channel::unbounded::<Done, Global>(alloc)?;
+    let (answers, answered) = crossbeam_channel::bounded::<Done, Global>(alloc, ANSWERS)?;
     let (reporting, reports) = crossbeam_channel::unbounded::<Report, Global>(alloc)?;
     let desk = Mutex::new(Desk::new(alloc, jobs, reporting));
     let gate = Open;
@@ -420,7 +448,7 @@ where
         workers,
         ends,
         setup.sockets.as_slice(),
-        lines,
+        console,
         out,
         log,
     )
@@ -446,7 +474,7 @@ pub fn serve<R, B, W, E, G>(
     alloc: Global,
     setup: &Setup,
     workers: u8,
-    lines: Lines<B>,
+    console: B,
     out: &mut W,
     err: &mut E,
     log: G,
@@ -470,7 +498,9 @@ where
         }
     };
     let blank = Blank::new(workers as u64 + 1);
-    match run::<Brand, R, B, W, G>(rt, alloc, setup, blank, workers, &sockets, lines, out, log) {
+    match run::<Brand, R, B, W, G>(
+        rt, alloc, setup, blank, workers, &sockets, console, out, log,
+    ) {
         Ok(()) => 0,
         Err(_) => {
             remove_files(rt, setup.sockets.as_slice());

@@ -168,3 +168,35 @@ fn entries_wait_until_they_are_taken(rt: HostRuntime) -> Result<(), Fail> {
         ],
     )
 }
+
+// Once a session of one domain is over, one of another begins in the memory that it had, and neither domain sees the other's.
+#[test]
+fn what_one_domain_gives_up_another_takes(rt: HostRuntime) -> Result<(), Fail> {
+    goes(
+        rt.alloc(),
+        &[
+            Step::Opens(MINE, 3),
+            Step::Replies(MINE, 3, 9, 7, Pushed::Kept),
+            Step::Opens(MINE, 4),
+            Step::Replies(MINE, 4, 9, 8, Pushed::Kept),
+            Step::Closes(MINE, 3),
+            Step::Opens(THEIRS, 3),
+            Step::Has(THEIRS, 3, &[]),
+            Step::Replies(THEIRS, 3, 9, 1, Pushed::Kept),
+            Step::Has(MINE, 3, &[]),
+            Step::Closes(MINE, 3),
+            Step::Has(THEIRS, 3, &[Entry::Reply(1)]),
+            Step::Opens(MINE, 3),
+            Step::Replies(MINE, 3, 9, 9, Pushed::Kept),
+            Step::Closes(THEIRS, 3),
+            Step::Replies(THEIRS, 4, 9, 2, Pushed::Kept),
+            Step::Drops(MINE),
+            Step::Has(MINE, 4, &[]),
+            Step::Has(THEIRS, 4, &[Entry::Reply(2)]),
+            Step::Opens(MINE, 0),
+            Step::Opens(MINE, 1),
+            Step::Takes(THEIRS, 4, 1, &[Entry::Reply(2)]),
+            Step::Has(THEIRS, 4, &[]),
+        ],
+    )
+}

@@ -137,8 +137,9 @@ module _ (I : State → Type 0) (Between : GroupNo → State → Type 0) (Came :
     where
       go : (o : Option Pending) → (s.group g).pending ≡ o → I (elim o [ Some p ↦ complete_or_want history resting s g p | None ↦ s ])
       go None e = i
-      go (Some p) e = keeps_if I (has_delivered_cut s g p.cut) (complete history s g p) (fold (want_own history g) s (missing_in s g p.cut))
-          (λ all. install_keeps I Between Came home_here k s g false s.config.home ((s.group g).number + 1) p.members p.request p.cut i (completes p e all refl refl refl refl refl))
+      go (Some p) e = keeps_if I (has_delivered_cut s g p.cut) (let_go (complete history s g p)) (fold (want_own history g) s (missing_in s g p.cut))
+          (λ all. let_go_keeps (complete history s g p)
+          (install_keeps I Between Came home_here k s g false s.config.home ((s.group g).number + 1) p.members p.request p.cut i (completes p e all refl refl refl refl refl)))
           (λ _. keeps_fold I (want_own history g) (λ r x j. owe_keeps I t r (own_want_key history r g x) j tt) (missing_in s g p.cut) s i)
 
   pub pass_keeps : (s : State) → I s → I (pass s)

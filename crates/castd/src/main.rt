@@ -29,7 +29,7 @@ fn main(rt: HostRuntime) -> ExitCode {
             &config,
             site,
             workers,
-            rt.lines(rt.alloc()),
+            rt.reader(),
             &mut out.device,
             &mut err.device,
             rt.stderr(),

@@ -22,6 +22,7 @@ use Rattle.cast_history.specs.Rules.Owing.{owe}
 use Rattle.cast_history.specs.Rules.Asking.{is_from_home}
 use Rattle.cast_history.specs.Rules.Data.{counts_itself, is_well_formed}
 use Rattle.cast_history.specs.Rules.Views.{install}
+use Rattle.cast_history.specs.Rules.Release.{let_go}
 use Rattle.cast_history.specs.Rules.Flushes.{flushed_frame, on_prepare, own_want_key, is_wanted_here, on_wanted, complete, want_own, complete_or_want, go_on}
 use Rattle.cast_history.proofs.Rules.Follows.{FollowsAll, choose, IsInvariantOfAll, AlsoHolds, SamePlace, follows_itself_in_all}
 use Rattle.cast_history.proofs.Rules.Owing.{owe_follows}
@@ -137,13 +138,13 @@ module _ {S H : Type 0} (d : Site S H) (q : Resting S H) (holds : S → Type 0) 
   complete_keeps s l h g there p typed = (complete_follows d d (AlsoHolds holds) SamePlace (follows_itself_in_all d holds keeps) s s (refl, l) h h refl g there p typed).1
 
   -- of the group g, which stands at h; what waits there has the members of a view
-  pub go_on_keeps : (s : S) → holds s → (h : H) (g : GroupNo) → d.place s g ≡ Some h → ((p : Pending) → (d.group s h).pending ≡ Some p → is_members p.members ≡ true) → holds (go_on d q s h)
-  go_on_keeps s l h g there typed = waits (d.group s h).pending typed
+  pub go_on_keeps : ((s : S) → holds s → holds (let_go d q s)) → (s : S) → holds s → (h : H) (g : GroupNo) → d.place s g ≡ Some h → ((p : Pending) → (d.group s h).pending ≡ Some p → is_members p.members ≡ true) → holds (go_on d q s h)
+  go_on_keeps lets s l h g there typed = waits (d.group s h).pending typed
     where
       either : (c : Bool) (x y : S) → holds x → holds y → holds (if c then x else y)
       either true x y m n = m
       either false x y m n = n
 
       waits : (o : Option Pending) → ((p : Pending) → o ≡ Some p → is_members p.members ≡ true) → holds (elim o [ Some p ↦ complete_or_want d q s h p | None ↦ s ])
-      waits (Some p) known = either (q.has_cut s h p.cut) (complete d s h p) _ (complete_keeps s l h g there p (known p refl)) (wants_keep h (q.missing s h p.cut) s l)
+      waits (Some p) known = either (q.has_cut s h p.cut) (let_go d q (complete d s h p)) _ (lets (complete d s h p) (complete_keeps s l h g there p (known p refl))) (wants_keep h (q.missing s h p.cut) s l)
       waits None known = l

@@ -19,6 +19,7 @@ use Rattle.cast_history.specs.Rules.Owing.{owe}
 use Rattle.cast_history.specs.Rules.Asking.{is_from_home}
 use Rattle.cast_history.specs.Rules.Data.{is_well_formed, want_no_more}
 use Rattle.cast_history.specs.Rules.Views.{install}
+use Rattle.cast_history.specs.Rules.Release.{let_go}
 
 abbrev pub flushed_frame : GroupNo → ℕ → Report → SiteFrame
 flushed_frame g view report = frame.Flushed g view report.counts report.tail report.kept
@@ -56,10 +57,11 @@ module _ {S H : Type 0} (d : Site S H) where
   want_own h s e = owe d s (own_want_key s h e)
 
 module _ {S H : Type 0} (d : Site S H) (q : Resting S H) where
-  -- once each member here has delivered its cut; until then the site wants what is missing
+  -- once each member here has delivered its cut, and what is free then is let go: a program that is told of it may be too slow, and its
+  -- process leaves other groups too. Until then the site wants what is missing
   abbrev pub complete_or_want : S → H → Pending → S
   complete_or_want s h p =
-      if q.has_cut s h p.cut then complete d s h p else fold (want_own d h) s (q.missing s h p.cut)
+      if q.has_cut s h p.cut then let_go d q (complete d s h p) else fold (want_own d h) s (q.missing s h p.cut)
 
   abbrev pub go_on : S → H → S
   go_on s h = elim (d.group s h).pending [ Some p ↦ complete_or_want s h p | None ↦ s ]

@@ -1,4 +1,5 @@
 use Rattle.std.proofs.Common.{◌≡◌, ◌∙◌, sym, ap, Option, Some, None}
+use Rattle.std.specs.Prelude.{is_some}
 use Rattle.std.specs.Option.{option_copied, option_map_or}
 use Rattle.cast_types.specs.declared.names.Key.{Key}
 use Rattle.cast_message.specs.declared.message.Message.{Message}
@@ -43,3 +44,27 @@ returns-clause-made c =
     ∙ sym (ap (λ (o : Option Key). tell_if records (option_map_or (λ x. note_delivered_under r (local_in r k) x m) o r) k (told_of m.id m.body)) some)
     )
     ∙ sym (ap (λ (o : Option Message). elim o [ Some x ↦ release.let_go records resting_records (deliver records resting_records r k x) | None ↦ r ]) next)
+
+-- it tells whether one was ready
+pub returns-in_default-clause-told : goal.returns-in_default-clause-told
+returns-in_default-clause-told c =
+    let r = records_in c.args.self.now c.args.lent.now in
+    let k = c.args.serial in
+    let none : ready_key_in r (local_in r k) ≡ None = ap (ready_key_in r) (sym c.process-process.ensures) ∙ sym c.in_ok-key.ensures ∙ c.in_default.is in
+    sym (ap (λ (o : Option Key). is_some (option_map_or (message_under r.part.kept) o None)) none)
+
+pub returns-in_default-get-clause-told : goal.returns-in_default-get-clause-told
+returns-in_default-get-clause-told c =
+    let r = records_in c.args.self.now c.args.lent.now in
+    let k = c.args.serial in
+    let some : ready_key_in r (local_in r k) ≡ Some c.in-Some.key = ap (ready_key_in r) (sym c.process-process.ensures) ∙ sym c.in_ok-key.ensures ∙ c.in-Some.is in
+    let none : message_under r.part.kept c.in-Some.key ≡ None = sym c.get.ensures ∙ ap option_copied c.in_default-get.is in
+    sym (ap (λ (o : Option Key). is_some (option_map_or (message_under r.part.kept) o None)) some ∙ ap is_some none)
+
+pub returns-clause-told : goal.returns-clause-told
+returns-clause-told c =
+    let r = records_in c.args.self.now c.args.lent.now in
+    let k = c.args.serial in
+    let some : ready_key_in r (local_in r k) ≡ Some c.in-Some.key = ap (ready_key_in r) (sym c.process-process.ensures) ∙ sym c.in_ok-key.ensures ∙ c.in-Some.is in
+    let found : message_under r.part.kept c.in-Some.key ≡ Some c.in-Some-get.message.now = sym c.get.ensures ∙ ap option_copied c.in-Some-get.is in
+    sym (ap (λ (o : Option Key). is_some (option_map_or (message_under r.part.kept) o None)) some ∙ ap is_some found)

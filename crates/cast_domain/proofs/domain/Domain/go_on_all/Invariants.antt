@@ -1,4 +1,6 @@
 use Rattle.std.proofs.Common.{◌≡◌, ◌-◌, false, length}
+use Rattle.std.specs.Prelude.{◌||◌}
+use Rattle.cast_domain.specs.Flags.{changes_over, goes_on, goes_on_some}
 use Rattle.std.specs.List.{fold, range_with_len}
 use Rattle.cast_history.specs.Rules.Flushes.{go_on, go_on_all}
 use Rattle.cast_domain.specs.Calls.{records, resting_records}
@@ -10,5 +12,6 @@ abbrev pub invariant-loop-place : goal.invariant-loop-place
 invariant-loop-place l = record {
   stays : KeepsBeside l.fn.self l.fn.lent l.self l.lent;
   left : fold (go_on records resting_records) (records_in l.self l.lent) (range_with_len l.place (length l.fn.self.groups.items - l.place)) ≡ go_on_all records resting_records (records_in l.fn.self l.fn.lent);
+  told : (l.changed || changes_over goes_on (go_on records resting_records) (records_in l.self l.lent) (range_with_len l.place (length l.fn.self.groups.items - l.place))) ≡ goes_on_some (records_in l.fn.self l.fn.lent);
   still : l.changed ≡ false → records_in l.self l.lent ≡ records_in l.fn.self l.fn.lent;
 }

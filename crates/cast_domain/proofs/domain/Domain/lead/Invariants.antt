@@ -1,4 +1,6 @@
 use Rattle.std.proofs.Common.{◌≡◌, ◌-◌, false, vec_len, length}
+use Rattle.std.specs.Prelude.{◌||◌}
+use Rattle.cast_domain.specs.Flags.{changes_over, leads_in}
 use Rattle.std.specs.List.{fold, range_with_len}
 use Rattle.cast_history.specs.Rules.Home.{lead_group}
 use Rattle.cast_domain.specs.Calls.{records}
@@ -11,5 +13,6 @@ invariant-loop-place l = record {
   stays : KeepsBeside l.fn.self l.fn.lent l.self l.lent;
   len : vec_len l.self.groups ≡ vec_len l.fn.self.groups;
   left : fold (lead_group records) (records_in l.self l.lent) (range_with_len l.place (vec_len l.fn.self.groups - l.place)) ≡ fold (lead_group records) (records_in l.fn.self l.fn.lent) (range_with_len 0 (length l.fn.self.groups.items));
+  told : (l.changed || changes_over leads_in (lead_group records) (records_in l.self l.lent) (range_with_len l.place (vec_len l.fn.self.groups - l.place))) ≡ changes_over leads_in (lead_group records) (records_in l.fn.self l.fn.lent) (range_with_len 0 (length l.fn.self.groups.items));
   still : l.changed ≡ false → records_in l.self l.lent ≡ records_in l.fn.self l.fn.lent;
 }

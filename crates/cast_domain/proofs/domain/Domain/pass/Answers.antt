@@ -3,6 +3,8 @@ use Rattle.std.proofs.lemmas.Bool.{or_parts}
 use Rattle.cast_history.specs.Rules.Flushes.{go_on_all}
 use Rattle.cast_history.specs.Rules.Home.{lead}
 use Rattle.cast_history.specs.Rules.Order.{set_orders}
+use Rattle.std.specs.Prelude.{◌||◌}
+use Rattle.cast_domain.specs.Flags.{goes_on_some, leads_some, orders_some}
 use Rattle.cast_domain.specs.Calls.{records, resting_records}
 use Rattle.cast_domain.proofs.domain.Domain.pass.Goals as goal
 
@@ -22,3 +24,14 @@ returns-clause-still c e =
     ∙ c.in_ok-gone_on.ensures.still middle.1
     ∙ c.in_ok-ordered.ensures.still inner.1
     ∙ c.in_ok-settled.ensures.still inner.0
+
+-- each part tells what it changed of what the parts before it left
+pub returns-clause-told : goal.returns-clause-told
+returns-clause-told c =
+    let settled = c.in_ok-settled.ensures.made in
+    let ordered = c.in_ok-ordered.ensures.made ∙ ap (set_orders records resting_records) settled in
+    let gone_on = c.in_ok-gone_on.ensures.made ∙ ap (go_on_all records resting_records) ordered in
+    (λ j.
+    ((c.in_ok-settled.ensures.told j || (c.in_ok-ordered.ensures.told ∙ ap orders_some settled) j)
+    || (c.in_ok-gone_on.ensures.told ∙ ap goes_on_some ordered) j)
+    || (c.in_ok-led.ensures.told ∙ ap leads_some gone_on) j)

@@ -4,6 +4,8 @@ use Rattle.std.proofs.lemmas.Bool.{or_parts}
 use Rattle.cast_domain.specs.Records.{records_in}
 use Rattle.cast_history.specs.Rules.Order.{set_order}
 use Rattle.cast_domain.specs.Calls.{records, resting_records}
+use Rattle.cast_domain.specs.Flags.{orders_at}
+use Rattle.cast_domain.proofs.Flagged.{more_changes}
 use Rattle.cast_domain.proofs.Loops.{beside_then, fold_more}
 use Rattle.cast_domain.proofs.domain.Domain.set_orders.Goals as goal
 
@@ -18,6 +20,9 @@ loop-place-preserved c =
       left =
           ap (λ x. fold (set_order records resting_records) x (range_with_len (i + 1) (n - (i + 1)))) c.in_ok-set.ensures.made
           ∙ fold_more (set_order records resting_records) r i n within ∙ c.loop-place.invariant.left;
+      told =
+          more_changes orders_at (set_order records resting_records) r _ c.loop-place.changed c.in_ok-set.set i n within c.in_ok-set.ensures.told c.in_ok-set.ensures.made
+          ∙ c.loop-place.invariant.told;
       still = λ e.
           let parts = or_parts c.loop-place.changed c.in_ok-set.set e in
           c.in_ok-set.ensures.still parts.1 ∙ c.loop-place.invariant.still parts.0;

@@ -4,10 +4,12 @@ use Rattle.std.proofs.lemmas.Bool.{or_parts}
 use Rattle.cast_history.specs.Rules.Rest.{deliver_all}
 use Rattle.cast_domain.specs.Records.{records_in}
 use Rattle.cast_domain.specs.Calls.{records, resting_records, serials_in}
+use Rattle.std.specs.Prelude.{◌||◌}
+use Rattle.cast_domain.specs.Flags.{changes_over, has_ready}
 use Rattle.cast_domain.proofs.Loops.{beside_then}
 use Rattle.cast_domain.proofs.Rows.{names_of}
 use Rattle.cast_domain.proofs.Remaining.{RemainAs, gone_of}
-use Rattle.cast_domain.proofs.Rounds.{remain_deliver_all, round_next, round_past}
+use Rattle.cast_domain.proofs.Rounds.{remain_deliver_all, round_changes, round_next, round_over, round_past}
 use Rattle.cast_domain.proofs.domain.Domain.settle.Goals as goal
 use Rattle.cast_domain.proofs.domain.Domain.settle.Goals.{in-Some+in_ok-delivered, in_default}
 
@@ -28,6 +30,9 @@ loop-place-preserved c =
                 ap (λ x. fold (deliver_all records resting_records) x left) made
                 ∙ round_next (deliver_all records resting_records) first r c.loop-place.invariant.remain i p (sym w.in-Some.ensures)
                 ∙ c.loop-place.invariant.left;
+            told =
+                round_changes has_ready (deliver_all records resting_records) first r _ c.loop-place.invariant.remain c.loop-place.changed w.in_ok-delivered.delivered i p (sym w.in-Some.ensures) w.in_ok-delivered.ensures.told made
+                ∙ c.loop-place.invariant.told;
             still = λ e.
                 let parts = or_parts c.loop-place.changed w.in_ok-delivered.delivered e in
                 w.in_ok-delivered.ensures.still parts.1 ∙ c.loop-place.invariant.still parts.0;
@@ -37,6 +42,9 @@ loop-place-preserved c =
             stays = c.loop-place.invariant.stays;
             remain = c.loop-place.invariant.remain;
             left = round_past (deliver_all records resting_records) first r c.loop-place.invariant.remain i (sym w.in_default.ensures) ∙ c.loop-place.invariant.left;
+            told =
+                ap (λ ks. c.loop-place.changed || changes_over has_ready (deliver_all records resting_records) r ks) (round_over first r c.loop-place.invariant.remain i (sym w.in_default.ensures))
+                ∙ c.loop-place.invariant.told;
             still = c.loop-place.invariant.still;
           })
     ]
