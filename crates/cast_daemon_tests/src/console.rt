@@ -40,7 +40,9 @@ fn started<L: Ledger>(alloc: Global, blank: Blank, text: &str) -> Option<(Kept<L
     if !can_keep(&config) {
         return None;
     }
-    let (mut kept, mut mine) = Kept::<L>::new(alloc, &config, blank, 1).ok()?;
+    let Ok((mut kept, mut mine)) = Kept::<L>::new(alloc, &config, blank, 1) else {
+        return None;
+    };
     for event in events.into_vec() {
         take(alloc, &mut kept, &mut mine, event);
     }
