@@ -175,7 +175,7 @@ fn cast_until_view(alloc: Global, program: &mut Program, all: &mut Vec<u8>) -> i
     Ok(())
 }
 
-/// So many programs, one after another, join, cast two hundred times, and are gone without having read anything.
+/// So many programs, one after another, are let in, join, cast two hundred times, and are gone without having read anything more.
 pub fn crash<R: Net + Clock>(rt: &R, alloc: Global, path: &str, programs: u32) -> io::Result<()> {
     let mut bytes = Vec::new(alloc);
     bytes.extend_from_slice(&JOIN)?;
@@ -183,9 +183,11 @@ pub fn crash<R: Net + Clock>(rt: &R, alloc: Global, path: &str, programs: u32) -
         bytes.extend_from_slice(&CAST)?;
     }
     for _ in 0..programs {
-        let stream = connected(rt, path)?;
-        // The daemon may refuse it, or close it before all is written.
-        let _ = (&stream).write_all(&bytes);
+        let mut program = Program::new(rt, alloc, path)?;
+        // It is let in or refused, so all before it have been.
+        let _ = program.read();
+        // The daemon may close it before all is written.
+        let _ = program.say(&bytes);
     }
     Ok(())
 }
