@@ -14,6 +14,8 @@
 //!   cast, and its message is said to be stable;
 //! - `groups-N`: so in N groups of four members, with stamps that name all groups;
 //! - `opened-N`: N programs connected and are gone again; in each round 1.1 and 2.1 cast, and both messages become stable;
+//! - `tokens-N`: N rounds before the others; in each 1.1 casts an ABCAST, gives it its place, hands the token over to 2.1 and gets it back,
+//!   and all four messages become stable, all in one view;
 //! - `partition-N`: 1.1 casts N times in a view with a member at each of 14 other sites, none of which answers; in each round all that
 //!   is owed falls due.
 
@@ -294,6 +296,25 @@ fn opened(programs: usize, rounds: usize) -> Vec<String> {
     events
 }
 
+/// 2.1 hands the token back to 1.1, after so many rounds.
+fn handed_back(number: usize) -> String {
+    let body = format!("{:08x}00{}", number + 1, process(1));
+    // A frame whose message names a new holder is of version 2.
+    message(1, 2, number, 3 * number, ORDER, &body).replacen("434401", "434402", 1)
+}
+
+fn token(number: usize) -> Vec<String> {
+    vec![
+        format!("abcast 1 1 {number} 1 {PAYLOAD}"),
+        ack(1, 2, 3 * number - 2),
+        ack(1, 2, 3 * number - 1),
+        format!("pass 1 1 {number} 1 2.1"),
+        ack(1, 2, 3 * number),
+        handed_back(number),
+        stable(2, number),
+    ]
+}
+
 /// Casts that no site answers, and the moments at which they fall due.
 fn partition(casts: usize, rounds: usize) -> Vec<String> {
     let mut events = vec![
@@ -335,6 +356,12 @@ fn events(case: &str, rounds: usize) -> Option<Vec<String>> {
         }
         Some(("members", many)) => Some(spread(1, &members(many.parse::<usize>().ok()? - 1, 2), rounds)),
         Some(("groups", many)) => Some(spread(many.parse().ok()?, &members(3, 1), rounds)),
+        Some(("tokens", before)) => {
+            let before = before.parse::<usize>().ok()?;
+            let mut events = joined(1, 1);
+            events.extend((1..=before + rounds).flat_map(token));
+            Some(events)
+        }
         Some(("opened", many)) => Some(opened(many.parse().ok()?, rounds)),
         Some(("passes", groups)) => Some(passes(groups.parse().ok()?, rounds)),
         Some(("partition", casts)) => Some(partition(casts.parse().ok()?, rounds)),
@@ -369,7 +396,7 @@ fn main() {
     };
     let Some(text) = text else {
         eprintln!(
-            "replay kept-N|views|holder|follower|sessions|waiting-N|members-N|groups-N|opened-N|passes-N|partition-N ROUNDS FILE"
+            "replay kept-N|views|holder|follower|sessions|waiting-N|members-N|groups-N|opened-N|tokens-N|passes-N|partition-N ROUNDS FILE"
         );
         process::exit(2);
     };

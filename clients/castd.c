@@ -1,5 +1,5 @@
 /* A client of castd: see castd.h. With -DCASTD_TOOL it is a line tool: castd-client SOCKET reads commands, one a line (`join G`,
- * `leave G`, `cast G TEXT`, `abcast G TEXT`, `wait SECONDS`), and prints each push as one line. */
+ * `leave G`, `cast G TEXT`, `abcast G TEXT`, `pass G PROCESS`, `wait SECONDS`), and prints each push as one line. */
 #include "castd.h"
 
 #include <errno.h>
@@ -10,7 +10,7 @@
 #include <time.h>
 #include <unistd.h>
 
-enum { JOIN = 1, LEAVE = 2, CAST = 3, HEAD = 5, COMMAND = HEAD + 6 };
+enum { JOIN = 1, LEAVE = 2, CAST = 3, PASS = 4, HEAD = 5, COMMAND = HEAD + 6 };
 
 static uint16_t short_at(const uint8_t *bytes) { return (uint16_t)(bytes[0] << 8 | bytes[1]); }
 
@@ -84,6 +84,13 @@ int castd_cast(struct castd *session, uint16_t group, enum castd_kind kind, cons
     body[0] = (uint8_t)kind;
     if (length > 0) memcpy(body + 1, payload, length);
     return send_command(session, CAST, group, body, 1 + length);
+}
+
+int castd_pass(struct castd *session, uint16_t group, struct castd_process to) {
+    uint8_t body[6];
+    put_short(body, to.site);
+    put_word(body + 2, to.serial);
+    return send_command(session, PASS, group, body, sizeof body);
 }
 
 /* A view, behind its group and number. */
@@ -222,10 +229,18 @@ static int show(struct castd *session, int milliseconds, long *waiting) {
     }
 }
 
+/* The process that a text such as `2.1` names. What is wanting is 0, which no process has. */
+static struct castd_process process_of(const char *text) {
+    const char *dot = strchr(text, '.');
+    struct castd_process process = {(uint16_t)atoi(text), dot == NULL ? 0 : (uint32_t)strtoul(dot + 1, NULL, 10)};
+    return process;
+}
+
 /* Sends the command of a line. Whether it was sent. */
 static int send_line(struct castd *session, const char *word, uint16_t group, const char *text) {
     if (strcmp(word, "join") == 0) return castd_join(session, group) == 0;
     if (strcmp(word, "leave") == 0) return castd_leave(session, group) == 0;
+    if (strcmp(word, "pass") == 0) return castd_pass(session, group, process_of(text)) == 0;
     enum castd_kind kind = strcmp(word, "abcast") == 0 ? CASTD_ATOMIC : CASTD_CAUSAL;
     return castd_cast(session, group, kind, text, strlen(text)) == 0;
 }

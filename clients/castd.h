@@ -52,6 +52,7 @@ void castd_close(struct castd *session);
 int castd_join(struct castd *session, uint16_t group);
 int castd_leave(struct castd *session, uint16_t group);
 int castd_cast(struct castd *session, uint16_t group, enum castd_kind kind, const void *payload, size_t length);
+int castd_pass(struct castd *session, uint16_t group, struct castd_process to);
 
 /* Waits for the next push, for so many milliseconds, or for ever where they are negative. CASTD_NONE where none came in time, and
  * CASTD_ENDED at the end of the stream. */

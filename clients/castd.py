@@ -1,15 +1,15 @@
 #!/usr/bin/env python3
 """A client of castd, the group communication daemon, for Python programs.
 
-As a module: `Session(path)` connects to the Unix socket of a domain; `join`, `leave`, `cast` and `abcast` send commands, and
-`read` gives what the daemon pushes. As a program it is a line tool:
+As a module: `Session(path)` connects to the Unix socket of a domain; `join`, `leave`, `cast`, `abcast` and `pass_to` send
+commands, and `read` gives what the daemon pushes. As a program it is a line tool:
 
     castd.py SOCKET
 
 reads commands from standard input, one a line, and prints each push as one line. It ends at the end of the input once every
 command has its reply, or when the session is closed.
 
-    join G            leave G            cast G TEXT            abcast G TEXT            wait SECONDS
+    join G      leave G      cast G TEXT      abcast G TEXT      pass G PROCESS      wait SECONDS
 """
 import collections
 import select
@@ -18,7 +18,7 @@ import struct
 import sys
 import time
 
-JOIN, LEAVE, CAST = 1, 2, 3
+JOIN, LEAVE, CAST, PASS = 1, 2, 3, 4
 OPENED, REPLY, VIEW, DELIVER, EJECTED, DENIED, CLOSED = range(65, 72)
 CAUSAL, ATOMIC = 1, 2
 MOST_FRAME = 20_000
@@ -105,6 +105,9 @@ class Session:
     def abcast(self, group, payload):
         return self.cast(group, payload, ATOMIC)
 
+    def pass_to(self, group, process):
+        return self.send(PASS, group, struct.pack(">HI", *process))
+
     def take(self):
         """The next push among the bytes that have come; None where it is not whole."""
         if len(self.bytes) < 4:
@@ -135,6 +138,12 @@ class Session:
 
     def close(self):
         self.socket.close()
+
+
+def process_of(text):
+    """The process that a text such as `2.1` names."""
+    site, _, serial = text.partition(".")
+    return Process(int(site), int(serial))
 
 
 def text_of(push):
@@ -192,6 +201,7 @@ class Tool:
             "leave": lambda: self.session.leave(int(group)),
             "cast": lambda: self.session.cast(int(group), text.encode()),
             "abcast": lambda: self.session.abcast(int(group), text.encode()),
+            "pass": lambda: self.session.pass_to(int(group), process_of(text)),
         }
         if word not in sends:
             print(f"unknown: {line}", file=sys.stderr)

@@ -11,7 +11,7 @@ use Rattle.cast_field.specs.declared.fault.FrameFault.{FrameFault}
 use Rattle.cast_field.specs.declared.fault.FrameFault.TheVariants.{WrongType, Range}
 use Rattle.cast_message.specs.declared.client.CastKind.{CastKind}
 use Rattle.cast_message.specs.declared.client.CastKind.TheVariants.{Causal, Atomic}
-use Rattle.cast_message.specs.declared.client.Request.TheVariants.{Join, Leave, Cast}
+use Rattle.cast_message.specs.declared.client.Request.TheVariants.{Join, Leave, Cast, Pass}
 use Rattle.cast_message.specs.declared.client.Push.TheVariants.{Opened, Reply, View, Deliver, Ejected, Denied, Closed}
 use Rattle.cast_message.specs.declared.client.ClientFrame.{ClientFrame}
 use Rattle.cast_message.specs.declared.client.ClientFrame.TheVariants as client
@@ -20,7 +20,7 @@ use Rattle.cast_field.specs.Spelling.{byte, short, word, spelled_proc, spelled_u
 use Rattle.cast_message.specs.Replies.{reply_code}
 use Rattle.cast_client.specs.Spelling.{cast_code, client_code, spelled_request, spelled_push, spelled_parts}
 use Rattle.cast_field.specs.Reading.{Reader, byte_at, group_at, count_at, proc_at, uid_at, members_at}
-use Rattle.cast_client.specs.Reading.{tag_at, cast_numbered, cast_kind_at, reply_at, named_refusal, refusal_at, end_at, short_end_at, join_at, leave_at, cast_at, opened_at, replied_at, view_at, deliver_at, ejected_at, denied_at, closed_at, parts_at}
+use Rattle.cast_client.specs.Reading.{tag_at, cast_numbered, cast_kind_at, reply_at, named_refusal, refusal_at, end_at, short_end_at, join_at, leave_at, cast_at, pass_at, opened_at, replied_at, view_at, deliver_at, ejected_at, denied_at, closed_at, parts_at}
 use Rattle.cast_field.specs.Spelled.{IsFrom, IsName, IsCount, IsProc, IsUid, AreMembers}
 use Rattle.cast_client.specs.Spelled.{IsTag, IsClient}
 use Rattle.cast_field.proofs.Fields.{bind_ok, guard_ok, done, ok_is, Took, joined, Takes, Again, byte_takes, byte_again, word_takes, word_again}
@@ -147,6 +147,18 @@ cast_takes bytes x fits e =
     made_is 3 bytes (client.Request request) [] x a3.2
     (record { parts = whole ∙ sym (append-nil _); rest_fits = λ i. omega arith; holds = (λ few. (t1.holds, t2.holds, few_bytes few), refl) })
 
+pass_takes : Takes pass_at spelled_parts (IsOf 4)
+unfolding pass_at spelled_request
+pass_takes bytes x fits e =
+    let a1 = bind_ok (tag_at bytes) _ x e in
+    let a2 = bind_ok (group_at a1.0.1) _ x a1.2 in
+    let a3 = bind_ok (proc_at a2.0.1) _ x a2.2 in
+    let t1 = tag_takes bytes a1.0 fits a1.1 in
+    let t2 = group_takes a1.0.1 a2.0 t1.rest_fits a2.1 in
+    let t3 = proc_takes a2.0.1 a3.0 t2.rest_fits a3.1 in
+    made_is 4 bytes (client.Request (Pass a1.0.0 a2.0.0 a3.0.0)) a3.0.1 x a3.2
+    (record { parts = joined _ _ _ _ _ t1.parts (joined _ _ _ _ _ t2.parts t3.parts); rest_fits = t3.rest_fits; holds = (λ few. (t1.holds, t2.holds, t3.holds), refl) })
+
 opened_takes : Takes opened_at spelled_parts (IsOf 65)
 unfolding opened_at spelled_push
 opened_takes bytes x fits e =
@@ -237,6 +249,7 @@ parts_take n bytes x fits =
     one_of n 1 bytes _ _ x (join_takes bytes x fits)
     (one_of n 2 bytes _ _ x (leave_takes bytes x fits)
     (one_of n 3 bytes _ _ x (cast_takes bytes x fits)
+    (one_of n 4 bytes _ _ x (pass_takes bytes x fits)
     (one_of n 65 bytes _ _ x (opened_takes bytes x fits)
     (one_of n 66 bytes _ _ x (replied_takes bytes x fits)
     (one_of n 67 bytes _ _ x (view_takes bytes x fits)
@@ -244,7 +257,7 @@ parts_take n bytes x fits =
     (one_of n 69 bytes _ _ x (ejected_takes bytes x fits)
     (one_of n 70 bytes _ _ x (denied_takes bytes x fits)
     (one_of n 71 bytes _ _ x (closed_takes bytes x fits)
-    (none_of n bytes x))))))))))
+    (none_of n bytes x)))))))))))
 
 -- ---- what is spelled so is read
 
@@ -266,6 +279,11 @@ cast_again : (tag : ℕ) (g : GroupNo) (kind : CastKind) (payload : List ℕ) �
 unfolding cast_at end_at spelled_request
 cast_again tag g kind payload is_tag is_group =
     rw (tag_again tag (short g.0 ++ (byte (cast_code kind) ++ payload)) is_tag, group_again g (byte (cast_code kind) ++ payload) is_group, cast_kind_again kind payload) refl
+
+pass_again : (tag : ℕ) (g : GroupNo) (to : Proc) → IsTag tag → IsName g.0 → IsProc to → pass_at (spelled_parts (client.Request (Pass tag g to))) ≡ Ok (client.Request (Pass tag g to), [])
+unfolding pass_at spelled_request
+pass_again tag g to is_tag is_group is =
+    rw (tag_again tag (short g.0 ++ spelled_proc to) is_tag, group_again g (spelled_proc to) is_group, last proc_at (spelled_proc to) to (proc_again to [] is)) refl
 
 opened_again : (p : Proc) → IsProc p → opened_at (spelled_parts (client.Push (Opened p))) ≡ Ok (client.Push (Opened p), [])
 unfolding opened_at spelled_push
@@ -305,6 +323,7 @@ unfolding parts_at
 parts_again (client.Request (Join tag g)) is = join_again tag g is.0 is.1
 parts_again (client.Request (Leave tag g)) is = leave_again tag g is.0 is.1
 parts_again (client.Request (Cast tag g kind payload)) is = cast_again tag g kind payload is.0 is.1
+parts_again (client.Request (Pass tag g to)) is = pass_again tag g to is.0 is.1 is.2
 parts_again (client.Push (Opened p)) is = opened_again p is
 parts_again (client.Push (Reply tag refusal)) is = replied_again tag refusal is
 parts_again (client.Push (View g view members)) is = view_again g view members is.0 is.1 is.2

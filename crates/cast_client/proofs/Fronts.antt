@@ -8,7 +8,7 @@ use Rattle.std.proofs.lemmas.Bool.{cases_lt, eqb-true, lt-ltb, le-ltb, le-leb, l
 use Rattle.std.proofs.lemmas.List.{append-nil, nil_from_length, length-append, length-take, take_at, drop_at, take-append-drop}
 use Rattle.cast_field.specs.declared.fault.FrameFault.{FrameFault}
 use Rattle.cast_field.specs.declared.fault.FrameFault.TheVariants.{Length}
-use Rattle.cast_message.specs.declared.client.Request.TheVariants.{Join, Leave, Cast}
+use Rattle.cast_message.specs.declared.client.Request.TheVariants.{Join, Leave, Cast, Pass}
 use Rattle.cast_message.specs.declared.client.Push.TheVariants.{Opened, Reply, View, Deliver, Ejected, Denied, Closed}
 use Rattle.cast_message.specs.declared.client.ClientFrame.{ClientFrame}
 use Rattle.cast_message.specs.declared.client.ClientFrame.TheVariants as client
@@ -34,6 +34,7 @@ code_within : (f : ClientFrame) → IsFrom 0 255 (client_code f)
 code_within (client.Request (Join tag g)) = record { above = lit≤ tt; below = lit≤ tt }
 code_within (client.Request (Leave tag g)) = record { above = lit≤ tt; below = lit≤ tt }
 code_within (client.Request (Cast tag g kind payload)) = record { above = lit≤ tt; below = lit≤ tt }
+code_within (client.Request (Pass tag g to)) = record { above = lit≤ tt; below = lit≤ tt }
 code_within (client.Push (Opened p)) = record { above = lit≤ tt; below = lit≤ tt }
 code_within (client.Push (Reply tag refusal)) = record { above = lit≤ tt; below = lit≤ tt }
 code_within (client.Push (View g view members)) = record { above = lit≤ tt; below = lit≤ tt }
@@ -229,6 +230,7 @@ fits : (f : ClientFrame) → IsClient f → IsTrue (client_fits f)
 fits (client.Request (Join tag g)) is = refl
 fits (client.Request (Leave tag g)) is = refl
 fits (client.Request (Cast tag g kind payload)) is = le-leb _ _ is.2
+fits (client.Request (Pass tag g to)) is = refl
 fits (client.Push p) is = refl
 
 pub client_spelled_fits : ClientFits

@@ -6,7 +6,7 @@ use Rattle.std.proofs.lemmas.List.{length-append}
 use Rattle.cast_types.specs.declared.names.Proc.{Proc}
 use Rattle.cast_types.specs.Refusals.{refusal_code}
 use Rattle.cast_message.specs.declared.client.Request.{Request}
-use Rattle.cast_message.specs.declared.client.Request.TheVariants.{Join, Leave, Cast}
+use Rattle.cast_message.specs.declared.client.Request.TheVariants.{Join, Leave, Cast, Pass}
 use Rattle.cast_message.specs.declared.client.Push.{Push}
 use Rattle.cast_message.specs.declared.client.Push.TheVariants.{Opened, Reply, View, Deliver, Ejected, Denied, Closed}
 use Rattle.cast_message.specs.declared.client.ClientFrame.{ClientFrame}
@@ -32,12 +32,14 @@ abbrev pub request_len : Request → ℕ
 request_len (Join tag g) = 6
 request_len (Leave tag g) = 6
 request_len (Cast tag g kind payload) = 7 + length payload
+request_len (Pass tag g to) = 12
 
 pub request_size : (r : Request) → length (spelled_request r) ≡ request_len r
 unfolding spelled_request
 request_size (Join tag g) = simp length-append (omega (arith, word_size tag, short_size g.0))
 request_size (Leave tag g) = simp length-append (omega (arith, word_size tag, short_size g.0))
 request_size (Cast tag g kind payload) = simp length-append (omega (arith, word_size tag, short_size g.0, byte_size (cast_code kind)))
+request_size (Pass tag g to) = simp length-append (omega (arith, word_size tag, short_size g.0, proc_size to))
 
 -- how many bytes the parts of each push have
 abbrev pub push_len : Push → ℕ
@@ -75,6 +77,7 @@ pub parts_fit : (f : ClientFrame) → IsClient f → length (spelled_parts f) �
 parts_fit (client.Request (Join tag g)) is = omega (arith, request_size (Join tag g))
 parts_fit (client.Request (Leave tag g)) is = omega (arith, request_size (Leave tag g))
 parts_fit (client.Request (Cast tag g kind payload)) is = omega (arith, request_size (Cast tag g kind payload), is.2)
+parts_fit (client.Request (Pass tag g to)) is = omega (arith, request_size (Pass tag g to))
 parts_fit (client.Push (Opened p)) is = omega (arith, push_size (Opened p))
 parts_fit (client.Push (Reply tag refusal)) is = omega (arith, push_size (Reply tag refusal))
 parts_fit (client.Push (View g view members)) is = omega (arith, push_size (View g view members), members_size members is.2)

@@ -8,7 +8,7 @@ use Rattle.cast_field.specs.declared.fault.FrameFault.{FrameFault}
 use Rattle.cast_field.specs.declared.fault.FrameFault.TheVariants.{WrongType, Length, Range}
 use Rattle.cast_message.specs.declared.client.CastKind.{CastKind}
 use Rattle.cast_message.specs.declared.client.CastKind.TheVariants.{Causal, Atomic}
-use Rattle.cast_message.specs.declared.client.Request.TheVariants.{Join, Leave, Cast}
+use Rattle.cast_message.specs.declared.client.Request.TheVariants.{Join, Leave, Cast, Pass}
 use Rattle.cast_message.specs.declared.client.Push.TheVariants.{Opened, Reply, View, Deliver, Ejected, Denied, Closed}
 use Rattle.cast_message.specs.declared.client.ClientFrame.{ClientFrame}
 use Rattle.cast_message.specs.declared.client.ClientFrame.TheVariants as client
@@ -72,6 +72,13 @@ cast_at bytes = do
   payload ← end_at kind.1
   Ok (client.Request (Cast tag.0 group.0 kind.0 payload.0), payload.1)
 
+unfoldable pub pass_at : Reader ClientFrame
+pass_at bytes = do
+  tag ← tag_at bytes
+  group ← group_at tag.1
+  to ← proc_at group.1
+  Ok (client.Request (Pass tag.0 group.0 to.0), to.1)
+
 unfoldable pub opened_at : Reader ClientFrame
 opened_at bytes = do
   proc ← proc_at bytes
@@ -118,6 +125,7 @@ closed_at bytes = do
 unfoldable pub parts_at : ℕ → Reader ClientFrame
 parts_at n bytes =
     if n == 1 then join_at bytes else if n == 2 then leave_at bytes else if n == 3 then cast_at bytes
+    else if n == 4 then pass_at bytes
     else if n == 65 then opened_at bytes else if n == 66 then replied_at bytes else if n == 67 then view_at bytes
     else if n == 68 then deliver_at bytes else if n == 69 then ejected_at bytes else if n == 70 then denied_at bytes
     else if n == 71 then closed_at bytes else Err WrongType

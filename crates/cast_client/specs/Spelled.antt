@@ -2,7 +2,7 @@
 -- not too long.
 use Rattle.std.specs.Prelude.{ℕ, ◌≡◌, ◌≤◌, ◌+◌, ◌-◌, ◌⊎◌, nat_lt, if◌then◌else◌, List, ◌++◌, length, Ok}
 use Rattle.cast_message.specs.declared.client.Request.{Request}
-use Rattle.cast_message.specs.declared.client.Request.TheVariants.{Join, Leave, Cast}
+use Rattle.cast_message.specs.declared.client.Request.TheVariants.{Join, Leave, Cast, Pass}
 use Rattle.cast_message.specs.declared.client.Push.{Push}
 use Rattle.cast_message.specs.declared.client.Push.TheVariants.{Opened, Reply, View, Deliver, Ejected, Denied, Closed}
 use Rattle.cast_message.specs.declared.client.ClientFrame.{ClientFrame}
@@ -21,6 +21,7 @@ abbrev pub IsRequest : Request → Type 0
 IsRequest (Join tag g) = IsTag tag × IsName g.0
 IsRequest (Leave tag g) = IsTag tag × IsName g.0
 IsRequest (Cast tag g kind payload) = IsTag tag × IsName g.0 × (length payload ≤ 19988)
+IsRequest (Pass tag g to) = IsTag tag × IsName g.0 × IsProc to
 
 abbrev pub IsPush : Push → Type 0
 IsPush (Opened p) = IsProc p

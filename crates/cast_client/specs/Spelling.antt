@@ -4,7 +4,7 @@ use Rattle.cast_types.specs.Refusals.{refusal_code}
 use Rattle.cast_message.specs.declared.client.CastKind.{CastKind}
 use Rattle.cast_message.specs.declared.client.CastKind.TheVariants.{Causal, Atomic}
 use Rattle.cast_message.specs.declared.client.Request.{Request}
-use Rattle.cast_message.specs.declared.client.Request.TheVariants.{Join, Leave, Cast}
+use Rattle.cast_message.specs.declared.client.Request.TheVariants.{Join, Leave, Cast, Pass}
 use Rattle.cast_message.specs.declared.client.Push.{Push}
 use Rattle.cast_message.specs.declared.client.Push.TheVariants.{Opened, Reply, View, Deliver, Ejected, Denied, Closed}
 use Rattle.cast_message.specs.declared.client.ClientFrame.{ClientFrame}
@@ -20,6 +20,7 @@ abbrev pub request_code : Request → ℕ
 request_code (Join tag g) = 1
 request_code (Leave tag g) = 2
 request_code (Cast tag g kind payload) = 3
+request_code (Pass tag g to) = 4
 
 abbrev pub push_code : Push → ℕ
 push_code (Opened p) = 65
@@ -39,6 +40,7 @@ unfoldable pub spelled_request : Request → List ℕ
 spelled_request (Join tag g) = word tag ++ short g.0
 spelled_request (Leave tag g) = word tag ++ short g.0
 spelled_request (Cast tag g kind payload) = word tag ++ (short g.0 ++ (byte (cast_code kind) ++ payload))
+spelled_request (Pass tag g to) = word tag ++ (short g.0 ++ spelled_proc to)
 
 unfoldable pub spelled_push : Push → List ℕ
 spelled_push (Opened p) = spelled_proc p

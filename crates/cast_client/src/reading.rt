@@ -2,7 +2,7 @@ ghost use Rattle.std.specs.Prelude.{◌≡◌, ◌++◌, ◌≤◌, ◌<◌, ◌
 ghost use Rattle.cast_client.specs.declared.front.ClientRead.TheVariants.{Frame, More};
 ghost use Rattle.cast_message.specs.declared.client.ClientFrame.{ClientFrame};
 ghost use Rattle.cast_field.specs.Reading.{Gives, GivesField};
-ghost use Rattle.cast_client.specs.Reading.{cast_at, cast_kind_at, client_frame_of, client_of, closed_at, deliver_at, denied_at, ejected_at, end_at, frame_of_length, join_at, leave_at, length_at, length_of, opened_at, parts_at, refusal_at, replied_at, reply_at, short_end_at, tag_at, view_at};
+ghost use Rattle.cast_client.specs.Reading.{cast_at, cast_kind_at, client_frame_of, client_of, closed_at, deliver_at, denied_at, ejected_at, end_at, frame_of_length, join_at, leave_at, length_at, length_of, opened_at, parts_at, pass_at, refusal_at, replied_at, reply_at, short_end_at, tag_at, view_at};
 ghost use Rattle.cast_client.specs.Spelled.{IsClient, IsFront, wanting};
 ghost use Rattle.cast_client.specs.Spelling.{spelled_client};
 
@@ -112,6 +112,16 @@ fn read_cast(alloc: Global, bytes: &[u8]) -> Result<(ClientFrame, &[u8]), FrameF
     Ok((ClientFrame::Request(request), rest))
 }
 
+#[tactic(auto, unfolding(crate::specs::Reading::pass_at))]
+fn read_pass(bytes: &[u8]) -> Result<(ClientFrame, &[u8]), FrameFault>
+    ensures { GivesField result (pass_at bytes.now) }
+{
+    let (tag, rest) = read_tag(bytes)?;
+    let (group, rest) = read_group(rest)?;
+    let (to, rest) = read_proc(rest)?;
+    Ok((ClientFrame::Request(Request::Pass { tag, group, to }), rest))
+}
+
 #[tactic(auto, unfolding(crate::specs::Reading::opened_at))]
 fn read_opened(bytes: &[u8]) -> Result<(ClientFrame, &[u8]), FrameFault>
     ensures { GivesField result (opened_at bytes.now) }
@@ -189,6 +199,7 @@ fn read_parts(alloc: Global, number: u8, bytes: &[u8]) -> Result<(ClientFrame, &
         1 => read_join(bytes),
         2 => read_leave(bytes),
         3 => read_cast(alloc, bytes),
+        4 => read_pass(bytes),
         65 => read_opened(bytes),
         66 => read_replied(bytes),
         67 => read_view(alloc, bytes),

@@ -37,6 +37,7 @@ fn code_of_request(request: &Request) -> u8
         Request::Join { .. } => 1,
         Request::Leave { .. } => 2,
         Request::Cast { .. } => 3,
+        Request::Pass { .. } => 4,
     }
 }
 
@@ -74,6 +75,7 @@ fn len_of_request(request: &Request) -> usize
     match request {
         Request::Join { .. } | Request::Leave { .. } => 6,
         Request::Cast { payload, .. } => 7 + payload.len(),
+        Request::Pass { .. } => 12,
     }
 }
 
@@ -139,6 +141,12 @@ fn put_request(out: &mut BytesMut, request: &Request) -> Result<(), NoMemory>
             kind,
             payload,
         } => put_cast(out, *tag, *group, *kind, payload),
+        Request::Pass { tag, group, to } => {
+            out.put_u32(*tag)?;
+            out.put_u16(group.0)?;
+            put_proc(out, *to)?;
+            Ok(())
+        }
     }
 }
 

@@ -1,12 +1,12 @@
-//! The console of a daemon: one line in, and what is answered.
+//! The console: one line in, one answer out.
 //!
-//! Promised: a line is read as the one that its words spell, or its first fault (`parse`). The text of an answer is exactly that
-//! of what the table shows, of the count and the trace, of what came of the line's event, or of the fault. An event is served as
-//! any other, under the number 0, and what came of it is handed on; any other line, and a text that is none, changes nothing
-//! (`answer`). Not promised: that there is memory for the text.
+//! Promised: `parse` reads a line as the command that its words spell, or reports its first
+//! fault. The text of an answer says exactly what the table shows, the count, the trace, the
+//! outcome of the event, or the fault. A line that is an event is served like any other, and
+//! every other line changes nothing (`answer`). Not promised: that there is memory for the text.
 //!
-//! The definitions are in `specs/`: `Lines` has what a line is, `Texts` the texts of what is shown and of what came of an event,
-//! and `Answers` which of them answers which line, and what becomes of its event.
+//! The definitions are in `specs/`: `Lines` has what a line is, `Texts` the texts, and `Answers`
+//! which text answers which line.
 #![tactic(auto)]
 
 mod answers;

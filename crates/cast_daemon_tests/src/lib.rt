@@ -1,9 +1,9 @@
-//! Tests of what no clause says of a daemon around its table.
+//! Tests of the running daemon, for what no contract says.
 //!
-//! `configs` and `console`: the rows of the configuration and of the console have their answers. `gates`, `rows`, `trims` and `workers`:
-//! two workers answer each event and count exactly, neither decodes nor sends under the lock, and when a trace is trimmed. `daemon`,
-//! `programs`, `operator`, `faulty` and `sockets`: programs are served over the socket of a running daemon, one of them at fault is closed alone, those
-//! that crash give their sessions back, no line ends the console but `stop`, which ends the daemon, and no file stays of a socket that cannot be used.
+//! `configs` and `console` test the texts of configuration and console. `gates`, `rows`, `trims`
+//! and `workers` test the shared table: exact counts, no decoding or sending under the lock, and
+//! trims. `daemon`, `programs`, `operator`, `faulty` and `sockets` test programs at a running
+//! daemon, including ones that misbehave or crash.
 #![tactic(auto)]
 
 #[cfg(test)]

@@ -6,7 +6,7 @@ use Rattle.cast_types.specs.declared.names.GroupNo.{GroupNo}
 use Rattle.cast_types.specs.declared.names.Standing.TheVariants.{Joining}
 use Rattle.cast_types.specs.declared.limits.TheConstants.{MAX_NUMBER, MAX_PAYLOAD}
 use Rattle.cast_types.specs.declared.refusal.Refusal.TheVariants.{NotMember, AlreadyMember, Flushing, OwnAbcast, HeldFull, TooLong}
-use Rattle.cast_clock.specs.Times.{view_of, bumped}
+use Rattle.cast_clock.specs.Times.{view_of}
 use Rattle.cast_message.specs.declared.client.CastKind.{CastKind}
 use Rattle.cast_message.specs.declared.site.Change.TheVariants as change
 use Rattle.cast_message.specs.Sequence.{Sequence}
@@ -20,7 +20,7 @@ use Rattle.cast_history.specs.Rules.Commands.{join_at, message_sent, cast_at}
 use Rattle.cast_domain.specs.Records.{Records}
 use Rattle.cast_history.specs.Rules.Commands.{body_of}
 use Rattle.cast_history.specs.Rules.Release as release
-use Rattle.cast_domain.specs.Calls.{awaits_own_in, records, record_at, standing_of, time_of, local_in, tell_in, count_cast_in, resting_records}
+use Rattle.cast_domain.specs.Calls.{awaits_own_in, records, record_at, standing_of, time_of, local_in, tell_in, count_cast_in, note_sent_in, resting_records}
 use Rattle.cast_history.specs.Rules.Order.{may_list, send_places, list_places, set_order_by}
 
 -- what a join does that is not refused
@@ -39,7 +39,7 @@ join_made r k g i outside below =
 abbrev pub sent : Records → ℕ → GroupNo → CastKind → List ℕ → ℕ → Records
 sent r k g cast payload i =
     send_message records
-    (tell_in r (local_in r k) (fact.Time (bumped (time_of r.delay (local_in r k)) g (local_in r k))))
+    (note_sent_in r k (message_sent records r k g i (body_of cast payload)))
     (message_sent records r k g i (body_of cast payload))
 
 -- what is left of a cast past the tests of payload and membership

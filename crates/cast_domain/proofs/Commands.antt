@@ -1,17 +1,20 @@
 -- What a session asks for changes a domain's records as it changes their history.
 use Rattle.std.proofs.Common.{◌≡◌, ℕ, ◌<◌, ◌≤◌, Bool, true, false, not, ◌&&◌, ◌||◌, List, [], ◌∷◌, Some, refl, sym, ap, subst, ◌∙◌, inl, inr, arith}
-use Rattle.std.specs.Prelude.{◌==◌, slice_get}
+use Rattle.std.specs.Prelude.{◌==◌, nat_lt, if◌then◌else◌, slice_get, take}
 use Rattle.std.specs.List.{fold, list_any}
-use Rattle.std.proofs.lemmas.Bool.{cases_Bool, false≢true, false_from_ne_true, and_parts, eqb-true, eq-eqb}
+use Rattle.std.proofs.lemmas.Bool.{cases_Bool, false≢true, false_from_ne_true, and_parts, and_from, eqb-true, eq-eqb, ltb-true}
 use Rattle.cast_types.specs.declared.names.GroupNo.{GroupNo}
 use Rattle.cast_types.specs.declared.names.Proc.{Proc}
 use Rattle.cast_types.specs.declared.names.Uid.{Uid}
-use Rattle.cast_types.specs.Names.{is_atomic, is_order, group_eq, proc_eq, uid_eq, named}
+use Rattle.cast_types.specs.Names.{is_atomic, group_eq, proc_eq, uid_eq, entry_eq, named}
+use Rattle.cast_types.specs.declared.limits.TheConstants.{MAX_NUMBER}
+use Rattle.cast_types.specs.Sets.{is_among}
 use Rattle.cast_types.specs.Stamps.{ClockList}
-use Rattle.cast_types.proofs.Orders.{same_group, same_uid, group_itself}
+use Rattle.cast_types.proofs.Orders.{same_group, same_uid, group_itself, site_itself}
 use Rattle.cast_clock.specs.Times.{count_in, bumped}
 use Rattle.cast_clock.proofs.Raised.{bump_raises, bump_leaves_counts, bump_leaves_views}
 use Rattle.cast_message.specs.declared.message.Body.{Body}
+use Rattle.cast_message.specs.declared.message.Body.TheVariants as body
 use Rattle.cast_message.specs.declared.message.Message.{Message}
 use Rattle.cast_message.specs.declared.message.Received.{Received}
 use Rattle.cast_message.specs.Bodies.{kind_of}
@@ -24,19 +27,22 @@ use Rattle.cast_delay.specs.declared.row.Fact.TheVariants as fact
 use Rattle.cast_delay.specs.Fits.{IsSound}
 use Rattle.cast_delay.proofs.Queues.{delivered_rules}
 use Rattle.cast_delay.proofs.Turns.{and_agree}
-use Rattle.cast_order.specs.Log.{Log, log_of}
-use Rattle.cast_history.specs.Rules.Sending.{send_data}
+use Rattle.cast_order.specs.Log.{Log, log_of, with_hand}
+use Rattle.cast_order.proofs.Logs.{log_of_change}
+use Rattle.cast_history.specs.Rules.Sending.{may_raise, send_data}
 use Rattle.cast_history.proofs.Rules.Follows.{sent_here}
-use Rattle.cast_view.specs.MemberSide.{has_view}
+use Rattle.cast_view.specs.MemberSide.{has_view, is_pending}
+use Rattle.cast_history.specs.Order.{is_of_view, order_told}
 use Rattle.cast_history.specs.State.{State, local, others_of, gate_of, was_given, receiving, awaits_own, noting_sent}
 use Rattle.cast_history.specs.History.{history}
 use Rattle.cast_history.specs.Effects.{next_message}
 use Rattle.cast_domain.specs.Records.{Records}
-use Rattle.cast_domain.specs.Calls.{standing_of, tell_in, records, receive_in, is_current_in, is_own_in, awaits_own_in}
+use Rattle.cast_domain.specs.Calls.{standing_of, settled_in, sent_hand, orders_sent, note_sent_by, records, receive_in, is_current_in, is_own_in, awaits_own_in}
 use Rattle.cast_history.specs.Lawful.{IsSpent, AreKept, IsLawful}
 use Rattle.cast_domain.specs.Fits.{process_named, TellsOrder, LogFits, Fits}
 use Rattle.cast_domain.proofs.Logs.{IsNew}
 use Rattle.cast_domain.proofs.Following.{asked_of, fits_sends}
+use Rattle.cast_domain.proofs.Ordering.{settled_there}
 use Rattle.cast_domain.proofs.Standing.{record_there, member_row, standing_there, time_there, fits_sent, process_here, fits_receive, fits_receive_with}
 use Rattle.cast_domain.proofs.Rows.{row_given}
 use Rattle.cast_domain.proofs.Releases.{current_same, current_stands}
@@ -158,9 +164,47 @@ next_new s g k content l member tells e among =
     let most = (tells.gone e among).counted k member (sym (ap (λ (v : Uid). v.proc) same)) in
     omega (arith, count, raised, most))
 
+-- that a process here sends a message leaves what is forgotten of an order
+base_sent : (orders : List Log) (u : Uid) (stable : ℕ) (b : Body) (g : GroupNo) → (log_of (orders_sent orders u stable b) g).base ≡ (log_of orders g).base
+base_sent orders u stable (body.Causal payload) g = refl
+base_sent orders u stable (body.Atomic payload) g = refl
+base_sent orders u stable (body.Order q) g =
+    let change : Log → Log = with_hand u.proc (sent_hand u.count stable q) in
+    ap (λ (l : Log). l.base) (log_of_change orders u.group g change (λ l. refl))
+    ∙ elim (cases_Bool (group_eq u.group g)) [
+      | inl same ↦
+          ap (λ b. (if b then change (log_of orders u.group) else log_of orders g).base) same
+          ∙ ap (λ h. (log_of orders h).base) (same_group u.group g same)
+      | inr apart ↦ ap (λ b. (if b then change (log_of orders u.group) else log_of orders g).base) apart
+    ]
+
+-- the next message of a member is noted, and is none that is forgotten of its order still
+module _ (r : Records) (s : State) (f : Fits r s) (l : IsLawful s) (k : ℕ) (g : GroupNo) (content : Body) (member : is_member ((s.process k).standing g) ≡ true) (raises : may_raise (s.process k).time g (local s k) ≡ true) where
+  abbrev next : Message
+  next = next_message s g k content
+
+  pub next_current : is_of_view s g next.id ≡ true
+  next_current = and_from (group_eq g g) ((s.group g).number == (s.group g).number) (group_itself g) (eq-eqb (s.group g).number (s.group g).number refl)
+
+  most : next.id.count ≤ MAX_NUMBER
+  most =
+      let p : Proc = local s k in
+      let below = ltb-true (count_in (s.process k).time g p) MAX_NUMBER (and_parts (nat_lt (count_in (s.process k).time g p) MAX_NUMBER) _ raises).0 in
+      subst (λ n. n ≤ MAX_NUMBER) (sym (bump_raises (s.process k).time g p)) (omega (arith, below))
+
+  pub fits_noted : Fits (note_sent_by r (local s k) next) (noting_sent s k next)
+  fits_noted =
+      fits_sent r s f k (member_row r s f k g member) next (λ h _. raised_counts (s.process k).time g h (local s k)) refl next_current most
+      (settled_in r g (s.group g).number (local s k)) (settled_there r s f g (local s k) (site_itself s.here))
+
+  pub noted_new : is_pending (s.group g) ≡ false → IsNew (noting_sent s k next) g (log_of (note_sent_by r (local s k) next).orders g) next
+  noted_new none e among =
+      next_new s g k content (log_of r.orders g) member ((f.orders g).tells none) e
+      (subst (λ n. is_among entry_eq e (take n (order_told s g)) ≡ true) (base_sent r.orders next.id (settled_in r g (s.group g).number (local s k)) content g) among)
+
 -- what a member sends is stamped and received, on both sides
-pub fits_sent_here : (r : Records) (s : State) → Fits r s → IsLawful s → (k : ℕ) (i : ℕ) (g : GroupNo) → slice_get s.config.groups i ≡ Some g → (content : Body) → is_order (kind_of content) ≡ false → is_member ((s.process k).standing g) ≡ true → Fits (sent_here records r i k g content) (receiving (noting_sent s k (next_message s g k content)) (next_message s g k content))
-fits_sent_here r s f l k i g at content plain member =
+pub fits_sent_here : (r : Records) (s : State) → Fits r s → IsLawful s → (k : ℕ) (i : ℕ) (g : GroupNo) → slice_get s.config.groups i ≡ Some g → (content : Body) → is_member ((s.process k).standing g) ≡ true → may_raise (s.process k).time g (local s k) ≡ true → Fits (sent_here records r i k g content) (receiving (noting_sent s k (next_message s g k content)) (next_message s g k content))
+fits_sent_here r s f l k i g at content member raises =
     as_written (λ x. Fits (sent_here records x i k g content) (receiving (noting_sent s k (next_message s g k content)) (next_message s g k content))) r s f written_fits
   where
     written_fits : Fits (written r s) s → Fits (sent_here records (written r s) i k g content) (receiving (noting_sent s k (next_message s g k content)) (next_message s g k content))
@@ -170,15 +214,17 @@ fits_sent_here r s f l k i g at content plain member =
         let there = record_there x s w i g at in
         let m : Message = next_message s g k content in
         let row = member_row x s w k g member in
-        let now : State = noting_sent s k m in
-        let same : sent_here records x i k g content ≡ receive_in (tell_in x p (fact.Time m.times)) m = (λ j.
-        receive_in (tell_in x p (fact.Time (bumped (time_there x s w k row j) g p))) (record {
+        let same : sent_here records x i k g content ≡ receive_in (note_sent_by x p m) m = (λ j.
+        receive_in (note_sent_by x p (record {
+          id = record { group = g; view = (there j).here.number; proc = p; count = count_in (bumped (time_there x s w k row j) g p) g p };
+          times = bumped (time_there x s w k row j) g p;
+          body = content;
+        })) (record {
           id = record { group = g; view = (there j).here.number; proc = p; count = count_in (bumped (time_there x s w k row j) g p) g p };
           times = bumped (time_there x s w k row j) g p;
           body = content;
         })) in
-        subst (λ y. Fits y (receiving now m)) (sym same)
-        (fits_receive (tell_in x p (fact.Time m.times)) now (fits_sent x s w k row m (λ h _. raised_counts (s.process k).time g h p)) m (next_sound s g k content l member)
+        subst (λ y. Fits y (receiving (noting_sent s k m) m)) (sym same)
+        (fits_receive (note_sent_by x p m) (noting_sent s k m) (fits_noted x s w l k g content member raises) m (next_sound s g k content l member)
         (eq-eqb (s.group g).number (s.group g).number refl)
-        (λ _ j. ap (λ b. b && proc_eq p (local s j)) plain)
-        (λ none. next_new s g k content (log_of x.orders g) member ((w.orders g).tells none)))
+        (noted_new x s w l k g content member raises))

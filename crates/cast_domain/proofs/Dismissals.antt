@@ -38,7 +38,7 @@ module _ (site : SiteNo) (names : List Proc) (gone : ℕ → Bool) where
   abbrev Same : Records → Type 0
   Same = Remain site names gone
 
-  -- a holder lists what it has to list
+  -- a process lists what it has to list
   remain_listed : (r : Records) → Same r → (i k : ℕ) (places : Sequence) → Same (list_places records resting_records r i k places)
   remain_listed r h i k places = elim (may_raise (time_of r.delay (local_in r k)) (record_at r.groups i).name (local_in r k)) as (λ b. Same (if b then let_go records resting_records (send_places records resting_records r i k places) else r)) [
     | true ↦ remain_let_go site names gone (send_places records resting_records r i k places) sent
@@ -49,12 +49,12 @@ module _ (site : SiteNo) (names : List Proc) (gone : ℕ → Bool) where
       m = message_sent records r k (record_at r.groups i).name i (body.Order places)
 
       taken : Records
-      taken = records.receive (records.note_sent (resting_records.note_listed r i k) k m) m
+      taken = records.receive (records.note_sent r k m) m
 
       sent : Same (send_places records resting_records r i k places)
       sent =
           remain_fold site names gone (send_data records m.id) (λ x same to. send_data_keeps records Same (moves_remain site names gone) m.id x same to) (records.others taken m.id.group) taken
-          (remain_tell site names gone (resting_records.note_listed r i k) h (local_in r k) (fact.Time m.times))
+          (remain_tell site names gone r h (local_in r k) (fact.Time m.times))
 
   remain_set_order : (r : Records) → Same r → (i k : ℕ) → Same (set_order_by records resting_records r i k)
   remain_set_order r h i k = elim (may_list records resting_records r i k) as (λ b. Same (if b then option_map_or (list_places records resting_records r i k) (resting_records.next_places r i k) r else r)) [
@@ -92,7 +92,8 @@ remain_to_rest site names gone = record {
   serials = λ r s f. ap serials_in f.0;
   same_serials = λ s k. same_serials s (deliver_all records resting_records s k) (remain_deliver_all s.site (names_of s.delay.rows) (gone_of s) s (remain_as s) k);
   delivers = λ r s f k at. (λ i. deliver_all records resting_records (f.0 i) k, remain_deliver_all site names gone s f.1 k);
-  orders = λ r s f h l at p holder. (λ i. set_order_by records resting_records (f.0 i) (at i) p.serial, remain_set_order site names gone s f.1 l p.serial);
+  holders = λ r s f h l at. λ i. resting_records.holders (f.0 i) (at i);
+  orders = λ r s f h l at k. (λ i. set_order_by records resting_records (f.0 i) (at i) k, remain_set_order site names gone s f.1 l k);
   goes_on = λ r s f h l at. (λ i. go_on records resting_records (f.0 i) (at i), remain_go_on site names gone s f.1 l);
 }
 

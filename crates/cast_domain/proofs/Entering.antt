@@ -1,5 +1,5 @@
 -- Processes enter a view one by one, and in the history at once.
-use Rattle.std.proofs.Common.{◌≡◌, ℕ, ◌<◌, Bool, true, false, ◌&&◌, ◌||◌, List, [], ◌∷◌, Option, Some, None, ◌⊎◌, refl, sym, ap, subst, ◌∙◌, inl, inr, arith}
+use Rattle.std.proofs.Common.{◌≡◌, ℕ, ◌<◌, ◌++◌, Bool, true, false, ◌&&◌, ◌||◌, List, [], ◌∷◌, Option, Some, None, ◌⊎◌, refl, sym, ap, subst, ◌∙◌, inl, inr, arith}
 use Rattle.std.specs.Prelude.{◌==◌, if◌then◌else◌, slice_get}
 use Rattle.std.specs.List.{fold, list_all}
 use Rattle.std.specs.Option.{IsSome, option_map_or}
@@ -26,16 +26,18 @@ use Rattle.cast_delay.specs.Ready.{Process, is_outside}
 use Rattle.cast_delay.specs.Rows.{standing_in, told_row}
 use Rattle.cast_delay.specs.Queue.{row_of}
 use Rattle.cast_domain.specs.declared.record.GroupRecord.{GroupRecord}
-use Rattle.cast_order.specs.Log.{Log, new_log, log_of, but_log}
-use Rattle.cast_order.proofs.Logs.{log_of_forget}
-use Rattle.cast_view.specs.MemberSide.{is_pending, with_view, is_taken_in}
+use Rattle.cast_order.specs.Log.{Log, log_of, but_log}
+use Rattle.cast_view.specs.MemberSide.{is_pending, with_view, is_taken_in, holder_at}
 use Rattle.cast_history.specs.Acts.{Act}
 use Rattle.cast_history.specs.State.{State, local, is_group, set_process, set_group, set_standing}
-use Rattle.cast_history.specs.Entering.{in_view, completing, all_in_view}
+use Rattle.cast_history.specs.Acts.Act.{Entered}
+use Rattle.cast_history.specs.Entering.{enters, in_view, completing, all_in_view}
 use Rattle.cast_domain.specs.Records.{Records}
-use Rattle.cast_domain.specs.Calls.{record_at, standing_of, tell_in, enter_in, take_in, view_in, complete_in}
+use Rattle.cast_domain.specs.Calls.{holding_from, record_at, standing_of, tell_in, enter_in, take_in, view_in, complete_in}
 use Rattle.cast_history.specs.Lawful.{IsLawful}
 use Rattle.cast_domain.specs.Fits.{Fits}
+use Rattle.cast_domain.proofs.Logs.{IsFresh, held_log, held_fresh, log_of_held}
+use Rattle.cast_domain.proofs.Acting.{quiet_if, quiet_entered, logs_quiet}
 use Rattle.cast_domain.proofs.Standing.{CountsStill, fits_told, fits_member, fits_if, record_there, standing_there, time_there, fits_view, still_in, fits_acts}
 use Rattle.cast_types.proofs.Bools.{and_none}
 
@@ -137,13 +139,13 @@ module _ (g : GroupNo) (n : ℕ) (members : Membership) (request : ℕ) (t : Sta
 
   -- nothing is kept of the group's order yet, and no Install waits
   abbrev IsNew : Records → Type 0
-  IsNew r = (log_of r.orders g ≡ new_log g) × (is_pending (t.group g) ≡ false)
+  IsNew r = IsFresh (log_of r.orders g) × (is_pending (t.group g) ≡ false)
 
   -- a process that enters counts as before in the other groups
-  entering_counts : (orders : List Log) (time : ClockList) (p : Proc) → log_of orders g ≡ new_log g → CountsStill orders p time (entering time g n)
+  entering_counts : (orders : List Log) (time : ClockList) (p : Proc) → IsFresh (log_of orders g) → CountsStill orders p time (entering time g n)
   entering_counts orders time p none h some = elim (cases_Bool (group_eq h g)) [
     | inl here ↦
-        let empty : (log_of orders h).base ≡ 0 = ap (λ x. (log_of orders x).base) (same_group h g here) ∙ ap (λ l. l.base) none in
+        let empty : (log_of orders h).base ≡ 0 = ap (λ x. (log_of orders x).base) (same_group h g here) ∙ none.0 in
         absurd (omega (arith, some, empty))
     | inr other ↦
         let same : count_in (entering time g n) h p ≡ count_in time h p = ap (λ (c : Clock). count_of c.counts p) (enter_leaves time g h n (λ e. false≢true (sym other ∙ subst (λ x. group_eq h x ≡ true) e (group_itself h)))) in
@@ -162,7 +164,7 @@ module _ (g : GroupNo) (n : ℕ) (members : Membership) (request : ℕ) (t : Sta
       let f1 : Fits r1 u1 = fits_told r u f k row (fact.Time time) tt tt (entering_counts r.orders (u.process k).time p new.0) in
       let r2 : Records = tell_in r1 p (fact.Standing g Member) in
       let u2 : State = set_standing u1 k g Member in
-      let f2 : Fits r2 u2 = fits_member r1 u1 f1 k (still_in p (told_row (fact.Time time)) (λ _. refl) p r.delay.rows row) g listed new.1 new.0 in
+      let f2 : Fits r2 u2 = fits_member r1 u1 f1 k (still_in p (told_row (fact.Time time)) (λ _. refl) p r.delay.rows row) g listed new.1 new.0.1 in
       subst (λ x. Fits (tell_in (tell_in r p (fact.Time (entering x g n))) p (fact.Standing g Member)) (entered (λ j. e j || (k == j)))) (sym (time_there r u f k row))
       (subst (Fits r2) (enter_one e k fresh) f2)
 
@@ -220,7 +222,7 @@ module _ (g : GroupNo) (n : ℕ) (members : Membership) (request : ℕ) (t : Sta
       let apart : (k : ℕ) → is_among proc_eq (local t k) ps ≡ true → proc_eq (local t k) p ≡ false =
       (λ k later. false_from_ne_true (proc_eq (local t k) p) (λ own. below_none p ps parts.0 (subst (λ x. is_among proc_eq x ps ≡ true) (same_proc (local t k) p own) later))) in
       subst (λ x. Fits (fold take (take r p) ps) (entered x)) (λ i k. either_of (e k) (taken k) (proc_eq (local t k) p) (is_among proc_eq (local t k) ps) i)
-      (fits_take_all ps (take r p) next step (ap (λ orders. log_of orders g) (take_orders r p) ∙ new.0, new.1) listed parts.1
+      (fits_take_all ps (take r p) next step (subst (λ os. IsFresh (log_of os g)) (sym (take_orders r p)) new.0, new.1) listed parts.1
       (λ k later. or_from (e k) (taken k && proc_eq (local t k) p) (fresh k (or_right (proc_eq (local t k) p) (is_among proc_eq (local t k) ps) later)) (ap (λ b. taken k && b) (apart k later) ∙ and_none (taken k))))
 
 -- a view is complete
@@ -230,11 +232,15 @@ fits_complete r s f l i g at listed n members request cut typed newer =
     let acts : ℕ → List Act = (all_in_view viewed g n members request cut).acts in
     let now : State = record viewed { acts = acts } in
     let first : Records = view_in r i n members in
-    let f0 : Fits first now = fits_acts first viewed (fits_view r s f l i g at n members newer) acts in
+    let seen : Fits first viewed = fits_view r s f l i g at n members newer in
+    let f0 : Fits first now = fits_acts first viewed seen acts first.orders
+    (logs_quiet viewed acts first.orders (λ k. quiet_if (enters viewed g members request k) (s.acts k) (s.acts k ++ Entered g n cut ∷ []) (quiet_entered g n cut (s.acts k))) seen.orders) in
     let rising = (and_parts (is_rising proc_cmp members.list) _ typed).0 in
     let name : (record_at r.groups i).name ≡ g = ap (λ (x : GroupRecord). x.name) (record_there r s f i g at) in
-    let new : log_of first.orders g ≡ new_log g =
-    ap (λ h. log_of (but_log h r.orders) g) name ∙ log_of_forget r.orders g g ∙ ap (λ b. if b then new_log g else log_of r.orders g) (group_itself g) in
+    let o : Option Proc = holder_at r.site (with_view r.site n members (record_at r.groups i).here) in
+    let new : IsFresh (log_of first.orders g) =
+    subst (λ h. IsFresh (log_of (holding_from h o (but_log h r.orders)) g)) (sym name)
+    (subst IsFresh (sym (log_of_held r.orders g g o ∙ ap (λ b. if b then held_log g o else log_of r.orders g) (group_itself g))) (held_fresh g o)) in
     let unclosed : is_pending (now.group g) ≡ false = ap (λ b. is_pending (if b then with_view s.here n members (s.group g) else s.group g)) (group_itself g) in
     let all = fits_take_all g n members request now members.list first (λ k. false) f0 (new, unclosed) listed rising (λ k _. refl) in
     subst (λ h. Fits (fold (take_in h n request) first members.list) (completing s g n members request cut)) (sym name) all

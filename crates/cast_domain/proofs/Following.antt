@@ -71,7 +71,7 @@ fits_note_stable : (r : Records) (s : State) → Fits r s → (u : Uid) → Fits
 fits_note_stable r s f u =
     fits_noted r s f s.acks (noting_stable s u).told (learnt_ledger r.acks u)
     (learn_fits (past_of s) r.acks f.acks u)
-    (orders_same s (noting_stable s u) r.orders refl refl refl refl refl refl refl (λ v is. is) f.orders)
+    (orders_same s (noting_stable s u) r.orders refl refl refl refl refl refl refl refl (λ v is. is) f.orders)
 
 -- a rule asks of messages of live sources by which sites they are acknowledged
 abbrev pub asked_of : State → Uid → Type 0

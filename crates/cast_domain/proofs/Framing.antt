@@ -1,6 +1,6 @@
 -- What a rule changes of a domain's records it changes of their history.
 use Rattle.std.proofs.Common.{◌≡◌, ◌<◌, true, false, ◌&&◌, ◌||◌, List, [], ◌∷◌, length, map, ℕ, zero, suc, ◌+◌, Some, refl, sym, ap, subst, ◌∙◌, Option, None, arith}
-use Rattle.std.specs.Prelude.{◌==◌, ◌+◌, nat_lt, nat_le, min, slice_get}
+use Rattle.std.specs.Prelude.{◌==◌, ◌+◌, not, nat_lt, nat_le, min, slice_get, is_some}
 use Rattle.cast_model.specs.declared.limits.TheConstants.{MAX_CASTS}
 use Rattle.std.specs.List.{list_all, list_any, range_with_len}
 use Rattle.std.proofs.lemmas.Bool.{and_parts, eqb-true, eq-eqb, ltb-true, or_right}
@@ -9,26 +9,25 @@ use Rattle.cast_types.specs.declared.names.SiteNo.{SiteNo}
 use Rattle.cast_types.specs.declared.names.GroupNo.{GroupNo}
 use Rattle.cast_types.specs.declared.names.Uid.{Uid}
 use Rattle.cast_types.specs.declared.names.Standing.TheVariants.{Outside, Joining}
-use Rattle.cast_types.specs.Names.{site_eq, proc_eq, uid_eq, is_order}
+use Rattle.cast_types.specs.Names.{site_eq, proc_eq, uid_eq}
 use Rattle.cast_types.specs.Sets.{is_among}
-use Rattle.cast_types.proofs.Bools.{same_bools, and_none}
+use Rattle.cast_types.proofs.Bools.{same_bools}
 use Rattle.cast_types.proofs.Orders.{same_uid, uid_itself}
 use Rattle.cast_clock.specs.Times.{clock_of, count_in}
 use Rattle.cast_types.specs.Counts.{is_within}
 use Rattle.cast_types.specs.Names.{group_eq}
 use Rattle.cast_types.specs.Sources.{source_of}
 use Rattle.cast_message.specs.Stretch.{Stretch}
-use Rattle.cast_order.specs.Log.{log_of, change_log, closed_by}
+use Rattle.cast_order.specs.Log.{log_of, change_log, closed_by, hand_here}
 use Rattle.cast_message.specs.declared.message.Message.{Message}
 use Rattle.cast_message.specs.declared.message.Received.{Received}
 use Rattle.cast_message.specs.declared.site.SiteFrame.{SiteFrame}
 use Rattle.cast_message.specs.declared.client.Command.{Command}
-use Rattle.cast_message.specs.Bodies.{kind_of}
 use Rattle.cast_stable.specs.Ledger.{is_received_in}
 use Rattle.cast_stable.proofs.Meanings.{stable_meant}
 use Rattle.std.specs.Prelude.{IsSome}
 use Rattle.std.proofs.lemmas.Bool.{false≢true}
-use Rattle.cast_delay.specs.Ready.{Process, frozen_gate, pending_gate, is_outside}
+use Rattle.cast_delay.specs.Ready.{Process, frozen_gate, pending_gate, is_member, is_outside}
 use Rattle.cast_delay.proofs.Queues.{freeze_fits, pend_fits}
 use Rattle.cast_delay.specs.declared.row.Row.{Row}
 use Rattle.cast_delay.specs.Queue.{row_of}
@@ -46,7 +45,7 @@ use Rattle.cast_history.specs.Entering.{freezing, pending_install}
 use Rattle.cast_history.specs.History.{history}
 use Rattle.cast_history.specs.Lawful.{IsLawful, IsTypedFrame}
 use Rattle.cast_history.specs.Rules.Keys.{message_key}
-use Rattle.cast_history.specs.Rules.Data.{counts_itself, is_well_formed}
+use Rattle.cast_history.specs.Rules.Data.{counts_itself, names_member, is_well_formed}
 use Rattle.cast_history.specs.Rules.Leaving.{leave_all}
 use Rattle.cast_history.specs.Rules.Commands.{message_sent, commanded}
 use Rattle.cast_history.specs.Rules.Home.{suspect}
@@ -58,13 +57,15 @@ use Rattle.cast_history.proofs.Rules.Commands.{commanded_follows}
 use Rattle.cast_history.proofs.Rules.Home.{suspect_follows}
 use Rattle.cast_history.proofs.Rules.Frames.{framed_follows}
 use Rattle.cast_history.proofs.Lawful.{same_pushing, same_closing, local_speaks}
-use Rattle.cast_history.proofs.LawfulSteps.{placed_at, taken_current, entered, all_lawful, lawful_going, taken_foreign, taken_speaks}
+use Rattle.cast_history.proofs.LawfulSteps.{placed_at, taken_current, entered, all_lawful, lawful_going, taken_speaks}
 use Rattle.cast_domain.specs.declared.record.GroupRecord.{GroupRecord}
 use Rattle.cast_domain.specs.Records.{Records}
-use Rattle.cast_domain.specs.Calls.{record_at, standing_of, time_of, tell_in, go_in, receive_in, freeze_in, pend_in, awaits_own_in, records}
+use Rattle.cast_domain.specs.Calls.{record_at, standing_of, time_of, tell_in, go_in, receive_in, freeze_in, pend_in, awaits_own_in, place_to_pass_of, records}
 use Rattle.cast_domain.specs.Fits.{process_named, record_for, LogFits, Fits, past_of}
+use Rattle.cast_domain.proofs.Acting.{quiet_outside, logs_quiet}
 use Rattle.cast_domain.proofs.Standing.{process_here, record_there, standing_there, time_there, open_row, status_there, box_there, fits_push, fits_counted, fits_close, fits_go, fits_standing, fits_told, fits_acts, fits_here, fits_gated, orders_group, fits_home, fits_receive}
 use Rattle.cast_domain.proofs.Logs.{logs_close, new_unreceived}
+use Rattle.cast_domain.proofs.Ordering.{place_to_pass_there, unfrozen_waits}
 use Rattle.cast_domain.proofs.Reports.{report_there}
 use Rattle.cast_domain.proofs.Following.{records_ask, FitsIn, IsAt, records_follow, asked_of}
 use Rattle.cast_domain.proofs.Passing.{fits_pass, members_there, gone_there}
@@ -85,10 +86,6 @@ sound_counts m h =
       view = eqb-true (clock_of m.times m.id.group).view m.id.view a.0;
       count = eqb-true (count_in m.times m.id.group m.id.proc) m.id.count b.1;
     }
-
--- it is no set-order message of a process here
-none_ours : (s : State) (m : Message) → site_eq m.id.proc.site s.here ≡ false → (k : ℕ) → (is_order (kind_of m.body) && proc_eq m.id.proc (local s k)) ≡ false
-none_ours s m foreign k = ap (λ b. is_order (kind_of m.body) && (b && (m.id.proc.serial == k))) foreign ∙ and_none (is_order (kind_of m.body))
 
 uid_turned : (u v : Uid) → uid_eq u v ≡ uid_eq v u
 uid_turned u v = same_bools (uid_eq u v) (uid_eq v u) (λ e. ap (uid_eq v) (same_uid u v e) ∙ uid_itself v) (λ e. ap (uid_eq u) (same_uid v u e) ∙ uid_itself u)
@@ -122,7 +119,6 @@ fits_taken : (r : Records) (s : State) → Fits r s → (g : GroupNo) (from : Si
 fits_taken r s f g from m taken new =
     fits_receive r s f m (sound_counts m (used_counts history s g from m taken.used))
     (eq-eqb m.id.view (s.group m.id.group).number (taken_current s g from m taken))
-    (λ _. none_ours s m (taken_foreign s g from m taken))
     (new_unreceived s m.id.group m (log_of r.orders m.id.group) new (f.orders m.id.group))
 
 -- a message that the home forwards is of the view of its group, in which an Install waits, and well formed in it
@@ -139,9 +135,9 @@ fits_brought r s f g m brought =
     let b = and_parts (is_owed s.owed (message_key Want m.id s.config.home)) _ a.1 in
     let c = and_parts (m.id.view == (s.group g).number) (is_well_formed history s (members_of (s.group g)) m) b.1 in
     let d = and_parts (list_all (λ x. is_among group_eq x.0 s.config.groups) m.times) _ c.1 in
-    fits_receive r s f m (sound_counts m (and_parts (is_among proc_eq m.id.proc (members_of (s.group g))) (counts_itself m) d.1).1)
+    let e = and_parts (is_among proc_eq m.id.proc (members_of (s.group g))) _ d.1 in
+    fits_receive r s f m (sound_counts m (and_parts (names_member (members_of (s.group g)) m.body) (counts_itself m) e.1).1)
     (ap (λ h. m.id.view == (s.group h).number) there.1 ∙ c.0)
-    (λ none. absurd (false≢true (sym none ∙ brought_waits s g m brought)))
     (λ none. absurd (false≢true (sym none ∙ brought_waits s g m brought)))
 
 -- A flush at a site
@@ -213,6 +209,13 @@ module _ (groups : List GroupNo) where
     standing = λ r s f k g. ap (λ t. standing_of r.delay (record { site = t; serial = k }) g) (ap (λ c. c.site) f.0.0.core) ∙ standing_there r s f.0.0 k g;
     time = λ r s f k given. ap (λ t. time_of r.delay (record { site = t; serial = k })) (ap (λ c. c.site) f.0.0.core) ∙ time_there r s f.0.0 k (open_row r s f.0.0 k given);
     awaits_own = λ r s f k given. ap (λ t. awaits_own_in r (record { site = t; serial = k })) (ap (λ c. c.site) f.0.0.core) ∙ awaits_own_there r s f.0.0 f.1 k (open_row r s f.0.0 k given);
+    holds = λ r s f i g at k.
+        (λ j. is_some (hand_here (log_of r.orders (record_there r s f.0.0 i g (there r s f i g at) j).name) (record { site = (f.0.0.core j).site; serial = k })).first)
+        ∙ ap is_some ((f.0.0.orders g).tokens k);
+    place_to_pass = λ r s f i g at k named is member unfrozen.
+        let here = placed_at s named g is in
+        (λ j. place_to_pass_of r (record { site = (f.0.0.core j).site; serial = k }) (record_there r s f.0.0 i g (there r s f i g at) j))
+        ∙ place_to_pass_there r s f.0.0 f.1 g k (unfrozen_waits s f.1 g (ap not unfrozen)) (ap (λ h. is_member ((s.process k).standing h)) (sym here.1) ∙ member);
     push = λ r s f k given room p. ((fits_push r s f.0.0 k given p, ap (λ c. c.groups) (same_pushing s k p).config ∙ f.0.1), all_lawful.push s f.1 k given room p);
     note_cast = λ r s f. ((fits_counted r s f.0.0 (λ q. q) (λ n. min MAX_CASTS (n + 1)), f.0.1), all_lawful.note_cast s f.1);
     note_joining = λ r s f k given g h at number heard. (
@@ -228,7 +231,9 @@ module _ (groups : List GroupNo) where
         subst (λ t. Fits (tell_in r (record { site = t; serial = k }) (fact.Standing g Outside)) (outside s k g)) (sym (ap (λ c. c.site) f.0.0.core))
             (fits_acts (tell_in r (local s k) (fact.Standing g Outside)) (set_standing s k g Outside)
             (fits_told r s f.0.0 k (placed_row r s f.0.0 k g is) (fact.Standing g Outside) (λ inside. absurd (false≢true (sym inside))) refl (λ h _. omega arith))
-            (acts_outside s k g)),
+            (acts_outside s k g) r.orders
+            (logs_quiet (set_standing s k g Outside) (acts_outside s k g) r.orders (quiet_outside s k g)
+            (fits_told r s f.0.0 k (placed_row r s f.0.0 k g is) (fact.Standing g Outside) (λ inside. absurd (false≢true (sym inside))) refl (λ h _. omega arith)).orders)),
         f.0.1,
       ),
       all_lawful.note_outside s f.1 k g is,
@@ -237,7 +242,7 @@ module _ (groups : List GroupNo) where
         let same : message_sent history s k g h content ≡ next_message s g k content = ap (λ x. message_sent history s k g x content) (sym placed.1) in (
           (
             subst (λ m. Fits (sent_here records r i k g content) (receiving (noting_sent s k m) m)) (sym same)
-                (fits_sent_here r s f.0.0 f.1 k i g (there r s f i g (at ∙ ap Some (sym placed.1))) content sent.plain sent.member),
+                (fits_sent_here r s f.0.0 f.1 k i g (there r s f i g (at ∙ ap Some (sym placed.1))) content sent.member sent.raises),
             f.0.1,
           ),
           all_lawful.sends s f.1 h k g content sent,

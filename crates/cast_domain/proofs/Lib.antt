@@ -5,7 +5,10 @@ pub mod Loops
 pub mod Flagged
 pub mod Staying
 pub mod Over
+pub mod Handing
+pub mod Hands
 pub mod Logs
+pub mod Acting
 pub mod LogSteps
 pub mod Shares
 pub mod Boxes
@@ -14,6 +17,9 @@ pub mod Rows
 pub mod Statuses
 pub mod Remaining
 pub mod Standing
+pub mod Holders
+pub mod Idle
+pub mod Gathering
 pub mod Ordering
 pub mod Owings
 pub mod Following

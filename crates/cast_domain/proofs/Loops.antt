@@ -6,14 +6,16 @@ use Rattle.cast_types.specs.Places.{update}
 use Rattle.cast_types.specs.Repeat.{iterate}
 use Rattle.cast_domain.specs.declared.domain.Domain.{Domain}
 use Rattle.cast_domain.specs.declared.record.GroupRecord.{GroupRecord}
-use Rattle.cast_domain.specs.Calls.{record_at}
+use Rattle.cast_types.specs.declared.names.Key.{Key}
+use Rattle.cast_history.specs.Rules.Release.{is_free, let_go}
+use Rattle.cast_domain.specs.Calls.{record_at, keys_passing, release_in, records, resting_records}
 use Rattle.cast_model.specs.declared.config.DomainConfig.{DomainConfig}
 use Rattle.cast_types.specs.declared.names.DomainNo.{DomainNo}
 use Rattle.cast_domain.specs.declared.lent.Lent.{Lent}
 use Rattle.cast_domain.specs.declared.shared.Shared.{Shared}
 use Rattle.cast_domain.specs.Shared.{part_of}
 use Rattle.cast_model.specs.declared.event.Outs.{Outs}
-use Rattle.cast_domain.specs.Records.{Keeps, GivesBack, KeepsBeside, records_of}
+use Rattle.cast_domain.specs.Records.{Records, Keeps, GivesBack, KeepsBeside, records_of}
 
 pub keeps_then : (a b c : Domain) → Keeps a b → Keeps b c → Keeps a c
 keeps_then a b c first then = record {
@@ -79,3 +81,11 @@ pub update_still : (f : GroupRecord → GroupRecord) (xs : List GroupRecord) (i 
 update_still f [] i same = refl
 update_still f (x ∷ xs) zero same = ap (λ y. y ∷ xs) same
 update_still f (x ∷ xs) (suc i) same = ap (λ ys. x ∷ ys) (update_still f xs i same)
+
+-- what is released is of no group's record
+groups_after : (keys : List Key) (r : Records) → (fold release_in r keys).groups ≡ r.groups
+groups_after [] r = refl
+groups_after (key ∷ keys) r = groups_after keys (release_in r key)
+
+pub groups_let_go : (r : Records) → (let_go records resting_records r).groups ≡ r.groups
+groups_let_go r = groups_after (keys_passing (is_free records resting_records r) r.part.kept) r

@@ -30,7 +30,7 @@ fits_owed r s fits o p same = record {
   messages = fits.messages;
   processes = fits.processes;
   acks = fits.acks;
-  orders = orders_same s (record s { owed = p }) r.orders refl refl refl refl refl refl refl (λ u is. is) fits.orders;
+  orders = orders_same s (record s { owed = p }) r.orders refl refl refl refl refl refl refl refl (λ u is. is) fits.orders;
   frames = fits.frames;
   delivered = fits.delivered;
   pushed = fits.pushed;
@@ -80,7 +80,7 @@ fits_moment r s fits t = record {
   messages = fits.messages;
   processes = fits.processes;
   acks = fits.acks;
-  orders = orders_same s (at_moment s t) r.orders refl refl refl refl refl refl refl (λ u is. is) fits.orders;
+  orders = orders_same s (at_moment s t) r.orders refl refl refl refl refl refl refl refl (λ u is. is) fits.orders;
   frames = fits.frames;
   delivered = fits.delivered;
   pushed = fits.pushed;

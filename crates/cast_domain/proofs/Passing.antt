@@ -24,6 +24,7 @@ use Rattle.cast_history.proofs.Lawful.{lawful_all_parted}
 use Rattle.cast_domain.specs.Records.{Records}
 use Rattle.cast_domain.specs.Calls.{local_in, serials_in, record_at, standing_of, tell_in, put_out_in, is_put_out_in, put_out_if_in, put_out_all_in, complete_in, pass_in, gone_in, members_in}
 use Rattle.cast_domain.specs.Fits.{Fits}
+use Rattle.cast_domain.proofs.Acting.{quiet_if, quiet_left, logs_quiet}
 use Rattle.cast_domain.proofs.Standing.{member_of_none, fits_told, fits_if, record_there, standing_there, fits_acts}
 use Rattle.cast_domain.proofs.Statuses.{within, not_given}
 use Rattle.cast_domain.proofs.Entering.{or_none, and_true, changed, changed_one, has_row, fits_complete}
@@ -118,7 +119,7 @@ fits_put_out_all : (g : GroupNo) (skips : Bool) (members : Membership) (r : Reco
 fits_put_out_all g skips members r s f =
     let goes : ℕ → Bool = is_put_out s g skips members in
     let t : State = record s { acts = λ k. if goes k then s.acts k ++ Left g ∷ [] else s.acts k } in
-    let f0 : Fits r t = fits_acts r s f t.acts in
+    let f0 : Fits r t = fits_acts r s f t.acts r.orders (logs_quiet s t.acts r.orders (λ k. quiet_if (goes k) (s.acts k) (s.acts k ++ Left g ∷ []) (quiet_left g (s.acts k))) f.orders) in
     let all : Fits (fold (put_out_if_in g skips members) r (range_with_len 1 t.used)) (changed (parted g) t (λ j. goes j && within 1 t.used j)) =
     fits_put_out_from g skips members t t.used 1 r (λ j. false) f0 (λ k _. refl) in
     subst (λ x. Fits x (putting_out s g skips members)) (sym (round_put_out g skips members r s f))

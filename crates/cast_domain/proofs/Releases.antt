@@ -289,7 +289,7 @@ fits_release r s fits p q same =
         idle = fits.processes.idle;
       };
       acks = fits.acks;
-      orders = orders_same s (releasing s q) r.orders refl refl refl refl refl refl refl (keeps_fewer (λ m. not (q m.id)) s.kept) fits.orders;
+      orders = orders_same s (releasing s q) r.orders refl refl refl refl refl refl refl refl (keeps_fewer (λ m. not (q m.id)) s.kept) fits.orders;
       frames = fits.frames;
       delivered = fits.delivered;
       pushed = fits.pushed;

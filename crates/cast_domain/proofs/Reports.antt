@@ -1,9 +1,9 @@
 -- What a site reports where a group's view is flushed, and what it lacks of the view that ends: by its records the same as by
 -- the history that they stand for.
-use Rattle.std.proofs.Common.{◌≡◌, ℕ, zero, suc, ◌+◌, ◌<◌, ◌≤◌, ◌⊎◌, Bool, true, false, cond, not, ◌&&◌, ◌||◌, List, [], ◌∷◌, ◌++◌, map, Contains, Some, None, refl, sym, ap, subst, ◌∙◌, inl, inr, arith}
+use Rattle.std.proofs.Common.{◌≡◌, ℕ, zero, suc, ◌+◌, ◌<◌, ◌≤◌, ◌⊎◌, Bool, true, false, cond, not, ◌&&◌, ◌||◌, List, [], ◌∷◌, ◌++◌, map, Contains, Option, Some, None, refl, sym, ap, subst, ◌∙◌, inl, inr, arith}
 use Rattle.std.specs.Prelude.{◌==◌, max, min, nat_lt, nat_le, if◌then◌else◌, filter, take, drop, slice_get}
 use Rattle.std.specs.List.{fold, list_any, list_all, flat_map, range_with_len}
-use Rattle.std.specs.Option.{option_map_or}
+use Rattle.std.specs.Option.{option_map, option_map_or}
 use Rattle.std.proofs.Math.Nat.{le-max_left, le-max_right}
 use Rattle.std.proofs.lemmas.Bool.{cases_Bool, cases_lt, false≢true, and_parts, and_from, or_cases, or_left, or_right, eqb-true, eq-eqb, ltb-true, lt-ltb, leb-true, false_from_ne_true}
 use Rattle.std.proofs.lemmas.List.Folds.{list_all-append, list_any-append}
@@ -21,7 +21,7 @@ use Rattle.cast_types.proofs.Bools.{same_bools, neither}
 use Rattle.cast_types.proofs.Contains.{contains_here, contains_later}
 use Rattle.cast_types.proofs.Orders.{same_group, same_proc, same_uid, same_entry, group_itself, proc_itself, entry_itself, uid_itself}
 use Rattle.cast_message.specs.declared.message.Message.{Message}
-use Rattle.cast_view.specs.MemberSide.{greatest_of, counts_by, members_of, holder_at, is_pending}
+use Rattle.cast_view.specs.MemberSide.{greatest_of, counts_by, members_of, is_pending}
 use Rattle.cast_delay.specs.declared.row.Row.{Row}
 use Rattle.cast_delay.specs.Ready.{first_of, covered, is_member, has_delivered}
 use Rattle.cast_delay.specs.Rows.{standing_in, done_in, awaits_row}
@@ -33,17 +33,18 @@ use Rattle.cast_message.specs.Bodies.{kind_of}
 use Rattle.cast_stable.specs.Ledger.{is_received_in, last_received_in}
 use Rattle.cast_stable.proofs.Lists.{contains_none, contains_cases}
 use Rattle.cast_stable.proofs.Last.{last_most, last_each}
-use Rattle.cast_order.specs.Order.{listed_ids, still_to_list}
-use Rattle.cast_order.specs.Log.{log_of, whole_kept}
+use Rattle.cast_order.specs.Log.{log_of, waiting_of, whole_kept}
 use Rattle.cast_order.proofs.Meanings.{whole_rules, tail_rules}
 use Rattle.cast_view.specs.Sites.{is_at}
 use Rattle.cast_history.specs.State.{State, no_process, local, serials, gate_of, is_received, may_speak, was_given}
 use Rattle.cast_history.specs.Lawful.{IsLawful}
-use Rattle.cast_history.specs.Order.{is_of_view, facts_in, order_told, abcasts_delivered, lists_of, unlisted}
+use Rattle.cast_history.specs.Order.{is_of_view, facts_in, order_told, holder_here, unlisted}
 use Rattle.cast_history.specs.Reports.{had_here, had_in, unlisted_here, whole_order, tail_of, is_unplaced, kept_list, kept_in, report_in, is_delivered_here, has_delivered_cut, is_missing, missing_in}
 use Rattle.cast_domain.specs.Records.{Records}
-use Rattle.cast_domain.specs.Fits.{Fits, record_for, process_named, is_live, past_of, told_here, lists_here, goes_on, has_passed}
-use Rattle.cast_domain.specs.Calls.{record_at, had_of, tail_in, is_kept_of, report_at, is_awaited_of, is_received_of, has_cut_of, missing_of}
+use Rattle.cast_domain.specs.Fits.{Fits, record_for, process_named, TellsOrder, is_live, past_of, goes_on, has_passed}
+use Rattle.cast_domain.specs.Calls.{record_at, holder_in, had_of, tail_in, is_kept_of, report_at, is_awaited_of, is_received_of, has_cut_of, missing_of}
+use Rattle.cast_domain.proofs.Holders.{holder_there}
+use Rattle.cast_domain.proofs.Ordering.{waiting_there}
 use Rattle.cast_domain.proofs.Receipts.{live_now}
 use Rattle.cast_domain.proofs.Standing.{record_there, process_here}
 use Rattle.cast_domain.proofs.Releases.{awaited_same}
@@ -512,20 +513,23 @@ module _ (r : Records) (s : State) (fits : Fits r s) (g : GroupNo) where
       counts_same (greatest_of (had_of r (record_for s g))) (greatest_of (had_in s g)) (members_of (s.group g))
       (λ p member. greatest_same p (had_of r (record_for s g)) (had_in s g) (counts_had p member) (had_counted p member))
 
-  -- what is still to list
-  still_here : still_to_list (told_here s g) (listed_ids (lists_here s g)) ≡ unlisted_here s g
-  still_here =
-      elim (holder_at s.here (s.group g)) as (λ o. still_to_list (option_map_or (λ p. abcasts_delivered s g p.serial) o []) (listed_ids (option_map_or (λ p. lists_of s g p.serial) o [])) ≡ option_map_or (λ p. unlisted s g p.serial) o []) [ Some p ↦ refl | None ↦ refl ]
+  -- what who holds the token has still to list
+  still_here : (t : TellsOrder s g (log_of r.orders g)) → waiting_of (log_of r.orders g) (holder_in r g) ≡ unlisted_here s g
+  still_here t = ap (waiting_of (log_of r.orders g)) (holder_there r s fits g) ∙ of_holder (holder_here s g)
+    where
+      of_holder : (o : Option ℕ) → waiting_of (log_of r.orders g) (option_map (local s) o) ≡ option_map_or (unlisted s g) o []
+      of_holder None = refl
+      of_holder (Some k) = waiting_there s g k (log_of r.orders g) t
 
   -- how many of its first ids are forgotten
   abbrev base : ℕ
   base = (log_of r.orders g).base
 
-  whole_there : is_pending (s.group g) ≡ false → whole_kept (log_of r.orders g) ≡ drop base (whole_order s g)
+  whole_there : is_pending (s.group g) ≡ false → whole_kept (log_of r.orders g) (holder_in r g) ≡ drop base (whole_order s g)
   whole_there off =
       let t = (fits.orders g).tells off in
-      whole_rules (facts_in s g) (told_here s g) (lists_here s g) (goes_on s g) (has_passed s g) t.stable (log_of r.orders g) t.fits
-      ∙ ap (λ ids. drop base (order_told s g ++ ids)) still_here
+      whole_rules (facts_in s g) (goes_on s g) (has_passed s g) (log_of r.orders g) t.fits (holder_in r g)
+      ∙ ap (λ ids. drop base (order_told s g ++ ids)) (still_here t)
 
   -- an ABCAST that is kept of the view is none that is forgotten
   kept_named : (e : Entry) (kept : List Message) → list_any (is_cast e) (filter (λ m. is_of_view s g m.id) kept) ≡ true → list_any (λ m. uid_eq m.id (of_group s g e)) kept ≡ true
@@ -564,14 +568,14 @@ module _ (r : Records) (s : State) (fits : Fits r s) (g : GroupNo) where
     | inr none ↦ ap (λ b. b && not (is_among entry_eq e (drop base (whole_order s g)))) none ∙ sym (ap (λ b. b && not (is_among entry_eq e (whole_order s g))) none)
   ]
 
-  tail_there : is_pending (s.group g) ≡ false → tail_in (log_of r.orders g) ≡ tail_of (whole_order s g)
+  tail_there : is_pending (s.group g) ≡ false → tail_in (log_of r.orders g) (holder_in r g) ≡ tail_of (whole_order s g)
   tail_there off =
       let t = (fits.orders g).tells off in
-      let (start, ids) = tail_rules (facts_in s g) (told_here s g) (lists_here s g) (goes_on s g) (has_passed s g) t.stable (log_of r.orders g) t.fits in
+      let (start, ids) = tail_rules (facts_in s g) (goes_on s g) (has_passed s g) (log_of r.orders g) t.fits (holder_in r g) in
       (λ i. record { start = min MAX_POSITION (start i); ids = ids i })
-      ∙ ap (λ rest. tail_of (order_told s g ++ rest)) still_here
+      ∙ ap (λ rest. tail_of (order_told s g ++ rest)) (still_here t)
 
-  kept_there : is_pending (s.group g) ≡ false → kept_list (filter (is_kept_of (record_for s g)) (messages r.part.kept)) (whole_kept (log_of r.orders g)) ≡ kept_list (kept_in s g) (whole_order s g)
+  kept_there : is_pending (s.group g) ≡ false → kept_list (filter (is_kept_of (record_for s g)) (messages r.part.kept)) (whole_kept (log_of r.orders g) (holder_in r g)) ≡ kept_list (kept_in s g) (whole_order s g)
   kept_there off =
       (λ i. kept_list (filter (λ m. is_of_view s g m.id) (fits.messages.kept_in i)) (whole_there off i))
       ∙ (λ i. take MAX_KEPT (map (λ e. (e, unplaced_still off e i)) (set_of entry_cmp (map (λ m. entry_of m.id) (kept_in s g)))))

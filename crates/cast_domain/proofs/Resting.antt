@@ -39,10 +39,11 @@ use Rattle.cast_history.specs.Lawful.{Waits}
 use Rattle.cast_history.proofs.Rules.Follows.{choose, each}
 use Rattle.cast_history.proofs.Rules.Flushes.{want_own_follows, complete_follows}
 use Rattle.cast_domain.specs.declared.record.GroupRecord.{GroupRecord}
-use Rattle.cast_domain.specs.Calls.{record_at, has_cut_of}
+use Rattle.cast_domain.specs.Calls.{record_at, has_cut_of, holders_in}
 use Rattle.cast_domain.proofs.Standing.{record_there}
 use Rattle.cast_domain.proofs.Reports.{cut_there, missing_there}
-use Rattle.cast_domain.proofs.SetOrders.{holder_local, fits_set_order_by, kept_set_order_by}
+use Rattle.cast_domain.proofs.SetOrders.{fits_set_order_by, kept_set_order_by}
+use Rattle.cast_domain.proofs.Holders.{holders_there}
 
 -- a group that stands at a place is one of these
 at_listed : (gs : List GroupNo) (i : ℕ) (g : GroupNo) → slice_get gs i ≡ Some g → is_among group_eq g gs ≡ true
@@ -88,12 +89,10 @@ records_follow_to_rest groups = record {
     (fits_deliver_all r s f.0.0 f.1 k (was_given_in s.used k at), ap (λ c. c.groups) (kept_all s k).config ∙ f.0.1),
     lawful_deliver_all s k f.1,
   );
-  orders = λ r s f i g at p holder. (
-    (
-      fits_set_order_by r s f.0.0 f.1 i g (there groups r s f i g at) p.serial (holder_local s g p holder).1,
-      ap (λ c. c.groups) (kept_set_order_by s g p.serial).config ∙ f.0.1,
-    ),
-    lawful_set_order_by s g p.serial f.1,
+  holders = λ r s f i g at. ap (λ (x : GroupRecord). holders_in r x.name) (record_there r s f.0.0 i g (there groups r s f i g at)) ∙ holders_there r s f.0.0 g;
+  orders = λ r s f i g at k. (
+    (fits_set_order_by r s f.0.0 f.1 i g (there groups r s f i g at) k, ap (λ c. c.groups) (kept_set_order_by s g k).config ∙ f.0.1),
+    lawful_set_order_by s g k f.1,
   );
   goes_on = stands_go_on groups;
 }

@@ -10,12 +10,11 @@ use Rattle.cast_types.specs.declared.names.GroupNo.{GroupNo}
 use Rattle.cast_types.specs.declared.names.Proc.{Proc}
 use Rattle.cast_types.specs.declared.names.Key.{Key}
 use Rattle.cast_types.specs.declared.names.Standing.TheVariants.{Outside}
-use Rattle.cast_types.specs.Names.{proc_eq, is_atomic}
+use Rattle.cast_types.specs.Names.{proc_eq}
 use Rattle.cast_types.specs.Sets.{is_among}
 use Rattle.cast_types.specs.Repeat.{iterate}
 use Rattle.cast_types.proofs.Iterates.{iterate_still}
 use Rattle.cast_message.specs.declared.message.Message.{Message}
-use Rattle.cast_message.specs.Bodies.{kind_of}
 use Rattle.cast_message.specs.Membership.{Membership}
 use Rattle.cast_message.specs.Receipts.{message_under}
 use Rattle.cast_delay.specs.declared.row.Row.{Row}
@@ -26,7 +25,8 @@ use Rattle.cast_history.specs.State.{State, serials}
 use Rattle.cast_history.specs.Rules.Release.{let_go}
 use Rattle.cast_history.specs.Rules.Rest.{tell_if, told_of, deliver_first, deliver_all, settle}
 use Rattle.cast_domain.specs.Records.{Records}
-use Rattle.cast_domain.specs.Calls.{local_in, serials_in, put_out_in, put_out_if_in, put_out_all_in, take_delivery_in, note_if_in, note_delivered_under, ready_key_in, next_ready_in, turns_in, records, resting_records}
+use Rattle.cast_domain.specs.Calls.{local_in, serials_in, put_out_in, put_out_if_in, put_out_all_in, take_delivery_in, weight_of, note_weight_in, note_delivered_under, ready_key_in, next_ready_in, turns_in, records, resting_records}
+use Rattle.cast_domain.specs.declared.rest.Weight.TheVariants.{Nothing, Placed, Hands}
 use Rattle.cast_domain.specs.Fits.{Fits}
 use Rattle.cast_domain.specs.Flags.{changes_over}
 use Rattle.cast_domain.proofs.Flagged.{either_of}
@@ -43,9 +43,10 @@ module _ (site : SiteNo) (names : List Proc) (gone : ℕ → Bool) where
   remain_delivered : (r : Records) → Same r → (p : Proc) (key : Key) (m : Message) → Same (note_delivered_under r p key m)
   remain_delivered r h p key m =
       let taken : Same (take_delivery_in r p key m.id) = (h.0, names_after r.delay.offered p key r.delay.rows ∙ h.1, h.2) in
-      elim (is_atomic (kind_of m.body)) as (λ b. Same (note_if_in b (take_delivery_in r p key m.id) p m.id)) [
-        | true ↦ taken
-        | false ↦ taken
+      elim (weight_of m.body) as (λ w. Same (note_weight_in w (take_delivery_in r p key m.id) p m.id)) [
+        | Nothing ↦ taken
+        | Placed ↦ taken
+        | Hands q first ↦ taken
       ]
 
   remain_first : (k : ℕ) (r : Records) → Same r → Same (deliver_first records resting_records k r)

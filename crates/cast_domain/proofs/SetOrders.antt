@@ -1,77 +1,66 @@
 -- Set-order messages of the records are those of the history that they stand for.
-use Rattle.std.proofs.Common.{◌≡◌, ℕ, ◌≤◌, Bool, true, false, not, List, Option, Some, None, refl, sym, ap, subst, ◌∙◌, inl, inr, arith}
-use Rattle.std.specs.Prelude.{◌&&◌, ◌==◌, nat_lt, if◌then◌else◌, slice_get}
+use Rattle.std.proofs.Common.{◌≡◌, ℕ, Bool, true, false, not, Some, None, refl, sym, ap, subst, ◌∙◌, inl, inr}
+use Rattle.std.specs.Prelude.{◌&&◌, if◌then◌else◌, slice_get}
 use Rattle.std.specs.Option.{IsSome, option_map_or}
-use Rattle.std.proofs.lemmas.Bool.{cases_Bool, and_parts, and_from, ltb-true, eq-eqb}
-use Rattle.std.proofs.lemmas.Option.{none-some, same_Some}
+use Rattle.std.proofs.lemmas.Bool.{cases_Bool, and_from, eq-eqb}
 use Rattle.cast_types.specs.declared.names.GroupNo.{GroupNo}
 use Rattle.cast_types.specs.declared.names.Proc.{Proc}
-use Rattle.cast_types.specs.declared.limits.TheConstants.{MAX_NUMBER}
-use Rattle.cast_types.specs.Names.{site_eq, group_eq, proc_eq}
 use Rattle.cast_types.specs.Stamps.{ClockList}
 use Rattle.cast_types.specs.Sources.{source_of}
-use Rattle.cast_types.proofs.Orders.{same_site, group_itself, proc_itself, site_itself}
 use Rattle.cast_clock.specs.Times.{count_in, bumped}
-use Rattle.cast_clock.proofs.Raised.{bump_raises}
 use Rattle.cast_message.specs.declared.message.Body.TheVariants as body
 use Rattle.cast_message.specs.declared.message.Message.{Message}
 use Rattle.cast_message.specs.Sequence.{Sequence}
-use Rattle.cast_delay.specs.declared.row.Fact.TheVariants as fact
 use Rattle.cast_delay.specs.Ready.{is_member}
 use Rattle.cast_delay.specs.Queue.{row_of}
-use Rattle.cast_order.specs.Log.{Log, log_of, change_log, assigned, next_places}
+use Rattle.cast_order.specs.Log.{next_places}
 use Rattle.cast_history.specs.Rules.Room.{may_order}
 use Rattle.cast_history.specs.History.{history}
 use Rattle.cast_history.specs.Rules.Sending.{send_message, may_raise}
 use Rattle.cast_domain.specs.declared.record.GroupRecord.{GroupRecord}
-use Rattle.cast_view.specs.MemberSide.{holder_of, is_process, is_pending, holder_at}
 use Rattle.cast_view.specs.Home.{is_empty}
 use Rattle.cast_history.specs.State.{State, local, noting_sent}
-use Rattle.cast_history.specs.Order.{order_of, holds, unlisted, has_place, is_of_view}
+use Rattle.cast_history.specs.Order.{order_told, unlisted, has_place}
 use Rattle.cast_history.specs.Effects.{next_message, sending}
 use Rattle.cast_history.specs.Rest.{set_order_by, let_go}
 use Rattle.cast_history.proofs.Setting.{may_set_order, set_order_is}
 use Rattle.cast_domain.specs.Records.{Records}
 use Rattle.cast_history.specs.Rules.Release as release
-use Rattle.cast_domain.specs.Calls.{standing_of, time_of, records, resting_records, record_at, log_in, learn_in, settled_in, tell_in}
+use Rattle.cast_domain.specs.Calls.{standing_of, time_of, records, resting_records, record_at, log_in, learn_in, note_sent_by}
 use Rattle.cast_history.specs.Resting.{places_of}
 use Rattle.cast_history.specs.Rules.Order as order
 use Rattle.cast_history.specs.Lawful.{IsLawful}
 use Rattle.cast_domain.specs.Fits.{record_for, Fits}
 use Rattle.cast_history.proofs.Alikes.{alike_sending}
 use Rattle.cast_history.proofs.LawfulSteps.{lawful_order_sent}
-use Rattle.cast_domain.proofs.LogSteps.{logs_place}
-use Rattle.cast_domain.proofs.Ordering.{order_room_there, settled_there, settled_of_holder, unfrozen_waits, places_there}
+use Rattle.cast_domain.proofs.Logs.{logs_receive}
+use Rattle.cast_domain.proofs.Ordering.{order_room_there, unfrozen_waits, places_there}
 use Rattle.cast_types.proofs.Bools.{and_none}
-use Rattle.cast_domain.proofs.Standing.{record_there, member_row, standing_there, time_there, fits_sent}
+use Rattle.cast_domain.proofs.Standing.{record_there, member_row, standing_there, time_there}
 use Rattle.cast_domain.proofs.Releases.{fits_let_go}
-use Rattle.cast_domain.proofs.Commands.{next_sound, next_new, raised_counts, fits_send_message_with}
+use Rattle.cast_domain.proofs.Commands.{fits_noted, noted_new, next_sound, fits_send_message_with}
 use Rattle.cast_domain.proofs.Turns.{Kept, kept_self, kept_if}
 use Rattle.cast_domain.proofs.Receipts.{live_now}
 use Rattle.cast_history.proofs.Lawful.{local_speaks}
 
 -- The message
 
--- the holder lists these ids, over a record of the group that is at hand
+-- a process lists these ids, over a record of the group that is at hand
 abbrev sent_at : Records → Proc → GroupRecord → Sequence → Records
 sent_at r p x places =
-    let time : ClockList = bumped (time_of r.delay p) x.name p in
-    send_message records
-    (tell_in
-    (record r { orders = change_log x.name (assigned (count_in time x.name p) (settled_in r x.name x.here.number p)) r.orders })
-    p (fact.Time time))
-    (record {
-      id = record { group = x.name; view = x.here.number; proc = p; count = count_in time x.name p };
-      times = time;
+    let times : ClockList = bumped (time_of r.delay p) x.name p in
+    let m : Message = record {
+      id = record { group = x.name; view = x.here.number; proc = p; count = count_in times x.name p };
+      times = times;
       body = body.Order places;
-    })
+    } in
+    send_message records (note_sent_by r p m) m
 
-fits_places : (r : Records) (s : State) → Fits r s → IsLawful s → (k : ℕ) (g : GroupNo) → is_pending (s.group g) ≡ false → holds s g k ≡ true → is_member ((s.process k).standing g) ≡ true → may_raise (s.process k).time g (local s k) ≡ true → (q : Sequence) → Some q ≡ next_places (log_of r.orders g) → Fits (sent_at r (local s k) (record_for s g) q) (sending s g k (body.Order q))
-fits_places r s f l k g unclosed here member raised q next =
+fits_places : (r : Records) (s : State) → Fits r s → IsLawful s → (k : ℕ) (g : GroupNo) → is_member ((s.process k).standing g) ≡ true → may_raise (s.process k).time g (local s k) ≡ true → (q : Sequence) → Fits (sent_at r (local s k) (record_for s g) q) (sending s g k (body.Order q))
+fits_places r s f l k g member raises q =
     subst (λ x. Fits x (sending s g k (body.Order q))) (sym same)
-    (fits_send_message_with (tell_in r p (fact.Time m.times)) s1 (fits_sent r s f k (member_row r s f k g member) m (λ h _. raised_counts (s.process k).time g h p)) m (next_sound s g k (body.Order q) l member) (live_now s1 (source_of m.id) refl (local_speaks s1 g k)) (learn_in noted g (body.Order q))
-    (logs_place s1 k m q settled r.orders (fits_sent r s f k (member_row r s f k g member) m (λ h _. raised_counts (s.process k).time g h p)).orders unclosed here current refl refl next (settled_there r s f g p (site_itself s.here) ∙ sym (settled_of_holder s g k here)) most
-    (next_new s g k (body.Order q) (log_of r.orders g) member ((f.orders g).tells unclosed))))
+    (fits_send_message_with (note_sent_by r p m) s1 noted m (next_sound s g k (body.Order q) l member) (live_now s1 (source_of m.id) refl (local_speaks s1 g k)) (learn_in (note_sent_by r p m).orders g (body.Order q))
+    (logs_receive s1 m (note_sent_by r p m).orders noted.orders (eq-eqb (s.group g).number (s.group g).number refl) (noted_new r s f l k g (body.Order q) member raises)))
   where
     p : Proc
     p = local s k
@@ -82,32 +71,23 @@ fits_places r s f l k g unclosed here member raised q next =
     s1 : State
     s1 = noting_sent s k m
 
-    settled : ℕ
-    settled = settled_in r g (s.group g).number p
-
-    noted : List Log
-    noted = change_log g (assigned m.id.count settled) r.orders
-
-    current : is_of_view s g m.id ≡ true
-    current = and_from (group_eq g g) ((s.group g).number == (s.group g).number) (group_itself g) (eq-eqb (s.group g).number (s.group g).number refl)
-
-    most : m.id.count ≤ MAX_NUMBER
-    most =
-        let below = ltb-true (count_in (s.process k).time g p) MAX_NUMBER (and_parts (nat_lt (count_in (s.process k).time g p) MAX_NUMBER) _ raised).0 in
-        subst (λ n. n ≤ MAX_NUMBER) (sym (bump_raises (s.process k).time g p)) (omega (arith, below))
+    noted : Fits (note_sent_by r p m) s1
+    noted = fits_noted r s f l k g (body.Order q) member raises
 
     row : IsSome (row_of r.delay.rows p)
     row = member_row r s f k g member
 
-    same : sent_at r p (record_for s g) q ≡ send_message records (tell_in (record r { orders = noted }) p (fact.Time m.times)) m
-    same = λ j.
-        send_message records
-        (tell_in (record r { orders = change_log g (assigned (count_in (bumped (time_there r s f k row j) g p) g p) settled) r.orders }) p (fact.Time (bumped (time_there r s f k row j) g p)))
-        (record {
-          id = record { group = g; view = (s.group g).number; proc = p; count = count_in (bumped (time_there r s f k row j) g p) g p };
-          times = bumped (time_there r s f k row j) g p;
-          body = body.Order q;
-        })
+    same : sent_at r p (record_for s g) q ≡ send_message records (note_sent_by r p m) m
+    same = λ j. sent_with (bumped (time_there r s f k row j) g p)
+      where
+        sent_with : ClockList → Records
+        sent_with times =
+            let x : Message = record {
+              id = record { group = g; view = (s.group g).number; proc = p; count = count_in times g p };
+              times = times;
+              body = body.Order q;
+            } in
+            send_message records (note_sent_by r p x) x
 
 -- six tests, one after another
 choose : (m w o e h y : Bool) (x : Sequence → Records) (z : Sequence → State) (q : Sequence) (r : Records) (s : State) → Fits r s → (m ≡ true → w ≡ true → o ≡ true → e ≡ true → h ≡ true → y ≡ true → Fits (x q) (z q)) → Fits (if m && (w && o) then option_map_or (λ p. if y then x p else r) (if e && h then Some q else None) r else r) (if m && (w && o) then option_map_or (λ p. if y then z p else s) (if e && h then Some q else None) s else s)
@@ -119,15 +99,15 @@ choose true true true true false y x z q r s f go = f
 choose true true true true true false x z q r s f go = f
 choose true true true true true true x z q r s f go = go refl refl refl refl refl refl
 
--- over the name of the holder, and a record of the group that is at hand
+-- over the name of the process, and a record of the group that is at hand
 abbrev set_at_hand : Records → Proc → GroupRecord → Records
 set_at_hand r p x =
     if is_member (standing_of r.delay p x.name) && (not x.here.frozen && may_order records r)
-    then option_map_or (λ places. if may_raise (time_of r.delay p) x.name p then release.let_go records resting_records (sent_at r p x places) else r) (next_places (log_in r x.name)) r
+    then option_map_or (λ places. if may_raise (time_of r.delay p) x.name p then release.let_go records resting_records (sent_at r p x places) else r) (next_places (log_in r x.name) p) r
     else r
 
-pub fits_set_order_by : (r : Records) (s : State) → Fits r s → IsLawful s → (i : ℕ) (g : GroupNo) → slice_get s.config.groups i ≡ Some g → (k : ℕ) → holds s g k ≡ true → Fits (order.set_order_by records resting_records r i k) (set_order_by s g k)
-fits_set_order_by r s f l i g at k here =
+pub fits_set_order_by : (r : Records) (s : State) → Fits r s → IsLawful s → (i : ℕ) (g : GroupNo) → slice_get s.config.groups i ≡ Some g → (k : ℕ) → Fits (order.set_order_by records resting_records r i k) (set_order_by s g k)
+fits_set_order_by r s f l i g at k =
     subst (λ t. Fits (set_at_hand r (record { site = t; serial = k }) (record_at r.groups i)) (set_order_by s g k)) (sym (ap (λ c. c.site) f.core))
     (subst (λ x. Fits (set_at_hand r p x) (set_order_by s g k)) (sym (record_there r s f i g at))
     (subst (λ x. Fits x (set_order_by s g k)) (sym tested)
@@ -149,14 +129,14 @@ fits_set_order_by r s f l i g at k here =
     some = not (is_empty (unlisted s g k))
 
     place : Bool
-    place = has_place (order_of s g)
+    place = has_place (order_told s g)
 
     raised : Bool
     raised = may_raise (s.process k).time g p
 
-    -- where the holder may list
+    -- where it may list
     at_hand : Records
-    at_hand = option_map_or (λ q. if may_raise (time_of r.delay p) g p then release.let_go records resting_records (sent_at r p (record_for s g) q) else r) (next_places (log_in r g)) r
+    at_hand = option_map_or (λ q. if may_raise (time_of r.delay p) g p then release.let_go records resting_records (sent_at r p (record_for s g) q) else r) (next_places (log_in r g) p) r
 
     listing : Records
     listing = option_map_or (λ q. if raised then release.let_go records resting_records (sent_at r p (record_for s g) q) else r) (if some && place then Some (places_of s g k) else None) r
@@ -168,7 +148,7 @@ fits_set_order_by r s f l i g at k here =
             let row = member_row r s f k g is in
             (λ j.
             if is_member (standing_there r s f k g j) && (unfrozen && order_room_there r s f j)
-            then option_map_or (λ q. if may_raise (time_there r s f k row j) g p then release.let_go records resting_records (sent_at r p (record_for s g) q) else r) (places_there r s f g k (unfrozen_waits s l g goes) here j) r
+            then option_map_or (λ q. if may_raise (time_there r s f k row j) g p then release.let_go records resting_records (sent_at r p (record_for s g) q) else r) (places_there r s f g k (unfrozen_waits s l g goes) j) r
             else r)
         | inr frozen ↦
             ap (λ b. if is_member (standing_of r.delay p g) && (b && may_order records r) then at_hand else r) frozen
@@ -183,28 +163,10 @@ fits_set_order_by r s f l i g at k here =
     sets : member ≡ true → unfrozen ≡ true → room ≡ true → some ≡ true → place ≡ true → raised ≡ true → Fits (release.let_go records resting_records (sent_at r p (record_for s g) (places_of s g k))) (let_go (sending s g k (body.Order (places_of s g k))))
     sets a w b c d e =
         let q : Sequence = places_of s g k in
-        let unclosed = unfrozen_waits s l g w in
         let may : may_set_order s g k ≡ true = and_from member _ a (and_from unfrozen _ w (and_from room _ b (and_from some _ c (and_from place raised d e)))) in
         fits_let_go (sent_at r p (record_for s g) q) (sending s g k (body.Order q))
-        (fits_places r s f l k g unclosed here a e q (sym (places_there r s f g k unclosed here ∙ ap (λ x. if x then Some q else None) (and_from some place c d))))
+        (fits_places r s f l k g a e q)
         (lawful_order_sent s g k (body.Order q) l may)
-
--- the holder here is a process of this site
-pub holder_local : (s : State) (g : GroupNo) (p : Proc) → holder_at s.here (s.group g) ≡ Some p → (local s p.serial ≡ p) × (holds s g p.serial ≡ true)
-holder_local s g p = at (holder_of (s.group g))
-  where
-    at : (o : Option Proc) → elim o [ Some q ↦ if site_eq q.site s.here then Some q else None | None ↦ None ] ≡ Some p → (local s p.serial ≡ p) × (is_process (local s p.serial) o ≡ true)
-    at None is = absurd (none-some p is)
-    at (Some q) is = elim (cases_Bool (site_eq q.site s.here)) [
-      | inl here ↦
-          let same : q ≡ p = same_Some q p (sym (ap (λ b. if b then Some q else None) here) ∙ is) in
-          let site : p.site ≡ s.here = ap (λ (x : Proc). x.site) (sym same) ∙ same_site q.site s.here here in
-          let own : local s p.serial ≡ p = λ j. record { site = sym site j; serial = p.serial } in (
-            own,
-            ap (λ x. proc_eq x (local s p.serial)) same ∙ ap (λ x. proc_eq p x) own ∙ proc_itself p,
-          )
-      | inr away ↦ absurd (none-some p (sym (ap (λ b. if b then Some q else None) away) ∙ is))
-    ]
 
 pub kept_set_order_by : (s : State) (g : GroupNo) (k : ℕ) → Kept s (set_order_by s g k)
 kept_set_order_by s g k =

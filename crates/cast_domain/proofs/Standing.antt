@@ -14,7 +14,7 @@ use Rattle.cast_types.specs.declared.names.Proc.{Proc}
 use Rattle.cast_types.specs.declared.names.Standing.{Standing}
 use Rattle.cast_types.specs.declared.names.Standing.TheVariants.{Member}
 use Rattle.cast_types.specs.declared.names.Uid.{Uid}
-use Rattle.cast_types.specs.Names.{Entry, site_eq, group_eq, group_cmp, proc_eq, uid_eq, is_order}
+use Rattle.cast_types.specs.Names.{Entry, site_eq, group_eq, group_cmp, proc_eq, uid_eq}
 use Rattle.cast_types.specs.Places.{update}
 use Rattle.cast_types.specs.Sets.{is_among, set_at}
 use Rattle.cast_types.specs.Stamps.{ClockList}
@@ -24,7 +24,6 @@ use Rattle.cast_clock.proofs.Entries.{option_cases}
 use Rattle.cast_message.specs.declared.message.Message.{Message}
 use Rattle.cast_message.specs.declared.site.SiteFrame.{SiteFrame}
 use Rattle.cast_message.specs.declared.client.Push.{Push}
-use Rattle.cast_message.specs.Bodies.{kind_of}
 use Rattle.cast_message.specs.Membership.{Membership}
 use Rattle.cast_delay.specs.declared.row.Row.{Row}
 use Rattle.cast_delay.specs.declared.row.Fact.{Fact}
@@ -43,7 +42,7 @@ use Rattle.cast_delay.specs.Fits.{IsSound, HasNotBegun, FactFits, Fits as QueueF
 use Rattle.cast_delay.proofs.Queues.{new_fits, admit_fits, tell_fits, view_fits, offer_fits, standing_is, time_is, no_row_is}
 use Rattle.cast_delay.proofs.Rows.{some_row, row_of_some, names_ended}
 use Rattle.cast_delay.proofs.Finds.{find-append_some, find-append_none}
-use Rattle.cast_order.specs.Log.{Log, new_log, log_of, but_log, place_of}
+use Rattle.cast_order.specs.Log.{Log, log_of, but_log, place_of}
 use Rattle.cast_order.proofs.Meanings.{new_fits as order_new_fits}
 use Rattle.cast_model.specs.declared.config.DomainConfig.{DomainConfig}
 use Rattle.cast_domain.specs.declared.record.GroupRecord.{GroupRecord}
@@ -56,7 +55,10 @@ use Rattle.cast_message.specs.declared.client.Push.TheVariants as push
 use Rattle.cast_model.specs.declared.session.Status.TheVariants.{Open, Closed}
 use Rattle.cast_model.specs.Session.{Session, no_session, first_session, is_open, is_gone, pushed_to, closed, taken_from}
 use Rattle.cast_types.specs.declared.refusal.Refusal.{Refusal}
-use Rattle.cast_view.specs.MemberSide.{members_of, with_view}
+use Rattle.cast_types.specs.declared.limits.TheConstants.{MAX_NUMBER}
+use Rattle.cast_view.specs.MemberSide.{holder_at, members_of, with_view}
+use Rattle.cast_history.specs.Order.{is_of_view, order_told}
+use Rattle.cast_order.proofs.Hands.{new_hand_fits}
 use Rattle.cast_view.specs.Sites.{other_sites}
 use Rattle.cast_history.specs.State.{State, opening, no_process, local, is_group, gate_for, gate_of, others_of, set_session, set_process, set_group, set_home, set_standing, emitted, was_given, serials, sessions, with_push, pushing, closing, going, taking, receiving, noting_act, noting_sent}
 use Rattle.cast_history.specs.Acts.{Act}
@@ -65,13 +67,14 @@ use Rattle.cast_history.specs.Step.{opening_next}
 use Rattle.cast_history.specs.Run.{before_event}
 use Rattle.cast_domain.specs.Shared.{no_part, part_boxing, part_pushing}
 use Rattle.cast_domain.specs.Records.{Records}
-use Rattle.cast_domain.specs.Calls.{place_among, local_in, place_in, no_record, record_at, standing_of, time_of, send_in, push_in, with_status, close_in, go_in, take_entries_in, tell_in, open_in, learn_in, receive_in, view_in}
+use Rattle.cast_domain.specs.Calls.{place_among, local_in, place_in, no_record, record_at, standing_of, time_of, send_in, push_in, with_status, close_in, go_in, take_entries_in, tell_in, open_in, learn_in, receive_in, view_in, holding_from, orders_sent}
 use Rattle.cast_history.specs.Lawful.{IsLawful}
-use Rattle.cast_domain.specs.Fits.{process_named, record_for, tagged, status_in, session_for, is_there, is_live, past_of, LogFits, Fits, goes_on, has_passed}
+use Rattle.cast_domain.specs.Fits.{settled_of, process_named, record_for, tagged, status_in, session_for, is_there, is_live, past_of, LogFits, Fits, goes_on, has_passed}
 use Rattle.cast_domain.proofs.Statuses.{open_remains, status_given, roster, same_roster, set_one, same_status, roster_closed, roster_gone, boxes_set, unused_set, roster_first}
 use Rattle.cast_domain.proofs.Receipts.{group_same, others_told, past_same, live_and_stands}
 use Rattle.cast_domain.proofs.Rows.{row_given}
-use Rattle.cast_domain.proofs.Logs.{log_alike, settled_same, IsNew, logs_receive, logs_view, log_starts}
+use Rattle.cast_domain.proofs.Logs.{IsAlike, log_alike, same_alike, IsNew, logs_receive, logs_view, log_starts}
+use Rattle.cast_domain.proofs.Acting.{logs_sent}
 use Rattle.cast_domain.proofs.Over.{KeepsNoMore, all_stay, over_alike, one_counts_on}
 use Rattle.cast_history.proofs.Rules.Follows.{choose}
 use Rattle.cast_history.proofs.Spots.{update_mapped}
@@ -86,13 +89,13 @@ fits_if a b x y u v same then_fits else_fits = choose Fits a b x y u v same (λ 
 -- The order of views
 
 -- each log tells still of a history that has the same of groups, processes, messages and acknowledgements, and keeps no more
-pub orders_same : (s t : State) (orders : List Log) → t.here ≡ s.here → t.group ≡ s.group → t.closed ≡ s.closed → t.process ≡ s.process → t.got ≡ s.got → t.abcasts ≡ s.abcasts → t.acks ≡ s.acks → KeepsNoMore s t → ((g : GroupNo) → LogFits s g (log_of orders g)) → (g : GroupNo) → LogFits t g (log_of orders g)
-orders_same s t orders here group closed process got abcasts acks kept fits g =
-    let settled = settled_same s t g here (λ i. (group i g).view) (λ i. (group i g).number) acks in
-    log_alike s t g (log_of orders g) here (λ i. (group i g).view) (λ i. (group i g).number) (λ i. is_pending (group i g)) (λ i. closed i g) got (λ k i. abcasts i k)
-    (omega (arith, settled))
+pub orders_same : (s t : State) (orders : List Log) → t.here ≡ s.here → t.group ≡ s.group → t.closed ≡ s.closed → t.process ≡ s.process → t.got ≡ s.got → t.abcasts ≡ s.abcasts → t.acts ≡ s.acts → t.acks ≡ s.acks → KeepsNoMore s t → ((g : GroupNo) → LogFits s g (log_of orders g)) → (g : GroupNo) → LogFits t g (log_of orders g)
+orders_same s t orders here group closed process got abcasts acts acks kept fits g =
+    log_alike s t g (log_of orders g)
+    (same_alike s t g (log_of orders g) here (λ i. (group i g).view) (λ i. (group i g).number) got (λ k i. abcasts i k) (λ k i. acts i k) acks
+    (λ p u is. (λ i. has_delivered (if site_eq p.site (here i) then process i p.serial else no_process) u) ∙ is))
+    (λ i. is_pending (group i g)) (λ i. closed i g)
     (λ p is. (λ i. is_member ((if site_eq p.site (sym here i) then sym process i p.serial else no_process).standing g)) ∙ is)
-    (λ p u is. (λ i. has_delivered (if site_eq p.site (here i) then process i p.serial else no_process) u) ∙ is)
     (λ _. over_alike s t g here (λ i. (group i g).number) got kept (λ k member. record {
       member = (λ i. is_member ((sym process i k).standing g)) ∙ member;
       counts = let same : count_in (t.process k).time g (local s k) ≡ count_in (s.process k).time g (local s k) = ap (λ (ps : ℕ → Process). count_in (ps k).time g (local s k)) process in omega (arith, same);
@@ -106,9 +109,11 @@ CountsStill orders p before now = (g : GroupNo) → 0 < (log_of orders g).base �
 -- or where a process changed that has delivered the same, is a member of no group of which it was none, and counts no fewer
 pub orders_process : (s : State) (k : ℕ) (v : Process) (orders : List Log) → v.delivered ≡ (s.process k).delivered → ((g : GroupNo) → is_member (v.standing g) ≡ true → is_member ((s.process k).standing g) ≡ true) → CountsStill orders (local s k) (s.process k).time v.time → ((g : GroupNo) → LogFits s g (log_of orders g)) → (g : GroupNo) → LogFits (set_process s k v) g (log_of orders g)
 orders_process s k v orders same were counts fits g =
-    log_alike s (set_process s k v) g (log_of orders g) refl refl refl refl refl refl (λ j. refl) (omega arith)
+    log_alike s (set_process s k v) g (log_of orders g)
+    (same_alike s (set_process s k v) g (log_of orders g) refl refl refl refl (λ j. refl) (λ j. refl) refl
+    (λ p u is. ap (is_among uid_eq u) (at p (site_eq p.site s.here) (k == p.serial) (eqb-true k p.serial)) ∙ is))
+    refl refl
     (λ p is. was p (site_eq p.site s.here) (k == p.serial) (eqb-true k p.serial) is)
-    (λ p u is. ap (is_among uid_eq u) (at p (site_eq p.site s.here) (k == p.serial) (eqb-true k p.serial)) ∙ is)
     (λ some. over_alike s (set_process s k v) g refl refl refl (λ u is. is) (one_counts_on s k v g (λ member. record { member = were g member; counts = counts g some })))
     (fits g)
   where
@@ -127,8 +132,8 @@ pub orders_group : (s : State) (g : GroupNo) (v : MemberSide) (orders : List Log
 orders_group s g v orders number view waits fits h =
     let views = group_same (λ x. x.view) s g v view h in
     let numbers = group_same (λ x. x.number) s g v number h in
-    let settled = settled_same s (set_group s g v) h refl views numbers refl in
-    log_alike s (set_group s g v) h (log_of orders h) refl views numbers (group_same (λ x. is_pending x) s g v waits h) refl refl (λ k. refl) (omega (arith, settled)) (λ p is. is) (λ p u is. is)
+    log_alike s (set_group s g v) h (log_of orders h) (same_alike s (set_group s g v) h (log_of orders h) refl views numbers refl (λ k. refl) (λ k. refl) refl (λ p u is. is))
+    (group_same (λ x. is_pending x) s g v waits h) refl (λ p is. is)
     (λ _. over_alike s (set_group s g v) h refl numbers refl (λ u is. is) (all_stay s h)) (fits h)
 
 -- Groups
@@ -253,7 +258,7 @@ fits_send r s fits to f = record {
   messages = fits.messages;
   processes = fits.processes;
   acks = fits.acks;
-  orders = orders_same s (emitted s to f) r.orders refl refl refl refl refl refl refl (λ u is. is) fits.orders;
+  orders = orders_same s (emitted s to f) r.orders refl refl refl refl refl refl refl refl (λ u is. is) fits.orders;
   frames = (λ i. fits.frames i ++ ((fits.core i).config.domain, to, f) ∷ []) ∙ sym (map-append (λ (x : SiteNo × SiteFrame). (s.config.domain, x.0, x.1)) s.frames ((to, f) ∷ []));
   delivered = fits.delivered;
   pushed = fits.pushed;
@@ -311,7 +316,7 @@ fits_session r s fits k v given remains rows listed entries boxed = record {
     idle = fits.processes.idle;
   };
   acks = fits.acks;
-  orders = orders_same s (set_session s k v) r.orders refl refl refl refl refl refl refl (λ u is. is) fits.orders;
+  orders = orders_same s (set_session s k v) r.orders refl refl refl refl refl refl refl refl (λ u is. is) fits.orders;
   frames = fits.frames;
   delivered = fits.delivered;
   pushed = fits.pushed;
@@ -326,7 +331,7 @@ fits_noted_push r s fits pushed pushes same = record {
   messages = fits.messages;
   processes = record { delay = fits.processes.delay; admitted = fits.processes.admitted; has_row = fits.processes.has_row; rows = fits.processes.rows; idle = fits.processes.idle };
   acks = fits.acks;
-  orders = orders_same s (record s { pushes = pushes }) r.orders refl refl refl refl refl refl refl (λ u is. is) fits.orders;
+  orders = orders_same s (record s { pushes = pushes }) r.orders refl refl refl refl refl refl refl refl (λ u is. is) fits.orders;
   frames = fits.frames;
   delivered = fits.delivered;
   pushed = same;
@@ -391,7 +396,7 @@ fits_go r s fits k = record {
     idle = fits.processes.idle;
   };
   acks = fits.acks;
-  orders = orders_same s (going s k) r.orders refl refl refl refl refl refl refl (λ u is. is) fits.orders;
+  orders = orders_same s (going s k) r.orders refl refl refl refl refl refl refl refl (λ u is. is) fits.orders;
   frames = fits.frames;
   delivered = fits.delivered;
   pushed = fits.pushed;
@@ -406,7 +411,7 @@ fits_counted r s fits quotas casts = record {
   messages = fits.messages;
   processes = record { delay = fits.processes.delay; admitted = fits.processes.admitted; has_row = fits.processes.has_row; rows = fits.processes.rows; idle = fits.processes.idle };
   acks = fits.acks;
-  orders = orders_same s (record s { quotas = quotas s.quotas; casts = casts s.casts }) r.orders refl refl refl refl refl refl refl (λ u is. is) fits.orders;
+  orders = orders_same s (record s { quotas = quotas s.quotas; casts = casts s.casts }) r.orders refl refl refl refl refl refl refl refl (λ u is. is) fits.orders;
   frames = fits.frames;
   delivered = fits.delivered;
   pushed = fits.pushed;
@@ -511,8 +516,8 @@ fits_view r s fits lawful i g at n members newer = record {
       (λ j. told_ledger r.acks (sym (record_there r s fits i g at) j).name n (other_sites ((sym fits.core j).site) (members_of (with_view ((sym fits.core j).site) n members (sym (record_there r s fits i g at) j).here))))
       (acks_tell_fits (past_of s) r.acks fits.acks g n (other_sites s.here (members_of (with_view s.here n members (s.group g))))
       (is_live (set_group s g (with_view s.here n members (s.group g)))) (live_and_stands s g (with_view s.here n members (s.group g)) newer)));
-  orders = subst (λ h. (x : GroupNo) → LogFits (set_group s g (with_view s.here n members (s.group g))) x (log_of (but_log h r.orders) x))
-      (sym (ap (λ (x : GroupRecord). x.name) (record_there r s fits i g at)))
+  orders = subst (λ os. (x : GroupNo) → LogFits (set_group s g (with_view s.here n members (s.group g))) x (log_of os x))
+      (λ j. holding_from (sym (record_there r s fits i g at) j).name (holder_at ((sym fits.core j).site) (with_view ((sym fits.core j).site) n members (sym (record_there r s fits i g at) j).here)) (but_log (sym (record_there r s fits i g at) j).name r.orders))
       (logs_view s g n members r.orders lawful.traced newer fits.orders);
   frames = fits.frames;
   delivered = fits.delivered;
@@ -528,7 +533,7 @@ fits_home r s fits lawful i g at change = record {
   messages = fits.messages;
   processes = fits.processes;
   acks = fits.acks;
-  orders = orders_same s (set_home s g (change (s.home g))) r.orders refl refl refl refl refl refl refl (λ u is. is) fits.orders;
+  orders = orders_same s (set_home s g (change (s.home g))) r.orders refl refl refl refl refl refl refl refl (λ u is. is) fits.orders;
   frames = fits.frames;
   delivered = fits.delivered;
   pushed = fits.pushed;
@@ -618,7 +623,7 @@ fits_told r s fits k row f ok none counts =
     (orders_process s k (told_of f (s.process k)) r.orders (told_delivered f (s.process k)) (told_members f (s.process k) none) counts fits.orders)
 
 -- a process enters the view of a group of whose order nothing is kept yet
-pub fits_member : (r : Records) (s : State) → Fits r s → (k : ℕ) → IsSome (row_of r.delay.rows (local s k)) → (g : GroupNo) → is_group s g ≡ true → is_pending (s.group g) ≡ false → log_of r.orders g ≡ new_log g → Fits (tell_in r (local s k) (fact.Standing g Member)) (set_standing s k g Member)
+pub fits_member : (r : Records) (s : State) → Fits r s → (k : ℕ) → IsSome (row_of r.delay.rows (local s k)) → (g : GroupNo) → is_group s g ≡ true → is_pending (s.group g) ≡ false → ((p : Proc) → place_of (log_of r.orders g) p ≡ 0) → Fits (tell_in r (local s k) (fact.Standing g Member)) (set_standing s k g Member)
 fits_member r s fits k row g listed unclosed new = fits_told_with r s fits k row (fact.Standing g Member) (λ _. listed) logs
   where
     t : State
@@ -636,22 +641,22 @@ fits_member r s fits k row g listed unclosed new = fits_told_with r s fits k row
     same p h apart true false is member = member
     same p h apart false b is member = member
 
+    alike : (h : GroupNo) → IsAlike s t h (log_of r.orders h)
+    alike h = same_alike s t h (log_of r.orders h) refl refl refl refl (λ j. refl) (λ j. refl) refl (λ p u is. delivered p u (site_eq p.site s.here) (k == p.serial) (eqb-true k p.serial) is)
+
     logs : (h : GroupNo) → LogFits t h (log_of r.orders h)
     logs h = elim (cases_Bool (group_eq g h)) [
       | inl here ↦ subst (λ x. LogFits t x (log_of r.orders x)) (same_group g h here) own
       | inr apart ↦
-          log_alike s t h (log_of r.orders h) refl refl refl refl refl refl (λ j. refl) (omega arith)
+          log_alike s t h (log_of r.orders h) (alike h) refl refl
           (λ p is. same p h apart (site_eq p.site s.here) (k == p.serial) (eqb-true k p.serial) is)
-          (λ p u is. delivered p u (site_eq p.site s.here) (k == p.serial) (eqb-true k p.serial) is)
           (λ _. over_alike s t h refl refl refl (λ u is. is)
           (one_counts_on s k (told_of (fact.Standing g Member) (s.process k)) h (λ member. record { member = sym (ap (λ b. is_member (if b then Member else (s.process k).standing h)) apart) ∙ member; counts = omega arith })))
           (fits.orders h)
     ]
       where
         own : LogFits t g (log_of r.orders g)
-        own = log_starts s t g (log_of r.orders g) refl refl refl unclosed unclosed refl (λ j. refl) (omega arith) (λ p. ap (λ l. place_of l p) new)
-            (λ p u is. delivered p u (site_eq p.site s.here) (k == p.serial) (eqb-true k p.serial) is)
-            (fits.orders g)
+        own = log_starts s t g (log_of r.orders g) (alike g) unclosed unclosed new (fits.orders g)
 
 pub fits_standing : (r : Records) (s : State) → Fits r s → (k : ℕ) → IsSome (row_of r.delay.rows (local s k)) → (g : GroupNo) (v : Standing) → (is_outside v ≡ false → is_group s g ≡ true) → is_member v ≡ false → Fits (tell_in r (local s k) (fact.Standing g v)) (set_standing s k g v)
 fits_standing r s fits k row g v ok none = fits_told r s fits k row (fact.Standing g v) ok none (λ h _. omega arith)
@@ -659,25 +664,27 @@ fits_standing r s fits k row g v ok none = fits_told r s fits k row (fact.Standi
 pub fits_time : (r : Records) (s : State) → Fits r s → (k : ℕ) → IsSome (row_of r.delay.rows (local s k)) → (t : ClockList) → CountsStill r.orders (local s k) (s.process k).time t → Fits (tell_in r (local s k) (fact.Time t)) (set_process s k (record (s.process k) { time = t }))
 fits_time r s fits k row t counts = fits_told r s fits k row (fact.Time t) tt tt counts
 
--- what processes did is the history's alone
-pub fits_acts : (r : Records) (s : State) → Fits r s → (acts : ℕ → List Act) → Fits r (record s { acts = acts })
-fits_acts r s fits acts = record {
+-- what processes did is the history's alone, but for what the logs tell of it
+pub fits_acts : (r : Records) (s : State) → Fits r s → (acts : ℕ → List Act) → (orders : List Log) → ((g : GroupNo) → LogFits (record s { acts = acts }) g (log_of orders g)) → Fits (record r { orders = orders }) (record s { acts = acts })
+fits_acts r s fits acts orders logs = record {
   core = fits.core;
   opened = fits.opened;
   groups = fits.groups;
   messages = fits.messages;
   processes = fits.processes;
   acks = fits.acks;
-  orders = orders_same s (record s { acts = acts }) r.orders refl refl refl refl refl refl refl (λ u is. is) fits.orders;
+  orders = logs;
   frames = fits.frames;
   delivered = fits.delivered;
   pushed = fits.pushed;
 }
 
-pub fits_sent : (r : Records) (s : State) → Fits r s → (k : ℕ) → IsSome (row_of r.delay.rows (local s k)) → (m : Message) → CountsStill r.orders (local s k) (s.process k).time m.times → Fits (tell_in r (local s k) (fact.Time m.times)) (noting_sent s k m)
-fits_sent r s fits k row m counts =
+pub fits_sent : (r : Records) (s : State) → Fits r s → (k : ℕ) → IsSome (row_of r.delay.rows (local s k)) → (m : Message) → CountsStill r.orders (local s k) (s.process k).time m.times → m.id.proc ≡ local s k → is_of_view s m.id.group m.id ≡ true → m.id.count ≤ MAX_NUMBER → (stable : ℕ) → stable ≡ settled_of s m.id.group (local s k) → Fits (record (tell_in r (local s k) (fact.Time m.times)) { orders = orders_sent r.orders m.id stable m.body }) (noting_sent s k m)
+fits_sent r s fits k row m counts own current most stable settled =
     let now : State = set_process s k (record (s.process k) { time = m.times }) in
-    fits_acts (tell_in r (local s k) (fact.Time m.times)) now (fits_time r s fits k row m.times counts) (noting_act now k (Sent m)).acts
+    let timed = fits_time r s fits k row m.times counts in
+    fits_acts (tell_in r (local s k) (fact.Time m.times)) now timed (noting_act now k (Sent m)).acts (orders_sent r.orders m.id stable m.body)
+    (logs_sent now k m stable r.orders timed.orders own current most settled)
 
 -- Messages and sessions that come
 
@@ -715,10 +722,9 @@ fits_receive_with r s fits m sound orders logs = record {
   pushed = fits.pushed;
 }
 
--- a message of the current view of its group is received, which is none that is forgotten of the order of the view, and no set-order message
--- of a process here, unless an Install waits
-pub fits_receive : (r : Records) (s : State) → Fits r s → (m : Message) → IsSound m → (m.id.view == (s.group m.id.group).number) ≡ true → (is_pending (s.group m.id.group) ≡ false → (k : ℕ) → (is_order (kind_of m.body) && proc_eq m.id.proc (local s k)) ≡ false) → (is_pending (s.group m.id.group) ≡ false → IsNew s m.id.group (log_of r.orders m.id.group) m) → Fits (receive_in r m) (receiving s m)
-fits_receive r s fits m sound current foreign new = fits_receive_with r s fits m sound (learn_in r.orders m.id.group m.body) (logs_receive s m r.orders fits.orders current foreign new)
+-- a message of the current view of its group is received, which is none that is forgotten of the order of the view, unless an Install waits
+pub fits_receive : (r : Records) (s : State) → Fits r s → (m : Message) → IsSound m → (m.id.view == (s.group m.id.group).number) ≡ true → (is_pending (s.group m.id.group) ≡ false → IsNew s m.id.group (log_of r.orders m.id.group) m) → Fits (receive_in r m) (receiving s m)
+fits_receive r s fits m sound current new = fits_receive_with r s fits m sound (learn_in r.orders m.id.group m.body) (logs_receive s m r.orders fits.orders current new)
 
 -- a serial that is not given after one more was not before, and the next one was not
 given_before : (used k : ℕ) → was_given (used + 1) k ≡ false → was_given used k ≡ false
@@ -797,7 +803,7 @@ fits_open r s fits = record {
     idle = λ k none. fits.processes.idle k (given_before s.used k none);
   };
   acks = fits.acks;
-  orders = orders_same s (opening_next s) r.orders refl refl refl refl refl refl refl (λ u is. is) fits.orders;
+  orders = orders_same s (opening_next s) r.orders refl refl refl refl refl refl refl refl (λ u is. is) fits.orders;
   frames = fits.frames;
   delivered = fits.delivered;
   pushed = (λ i. r.pushed ++ (r.config.domain, (fits.core i).used + 1, push.Opened (record { site = (fits.core i).site; serial = (fits.core i).used + 1 })) ∷ [])
@@ -870,7 +876,18 @@ fits_before here config = record {
   };
   acks = acks_new_fits here (is_live (before_event (opening here config)));
   orders = λ g. record {
-    tells = λ _. record { gone = λ e among. absurd (false≢true among); stable = 0; reached = omega arith; fits = order_new_fits g (goes_on (before_event (opening here config)) g) (has_passed (before_event (opening here config)) g); counted = λ x in_it. absurd (omega (arith, in_it.1)) };
+    tokens = λ k. refl;
+    own = (refl, refl);
+    tells = λ _. record {
+      fits = order_new_fits g (goes_on (before_event (opening here config)) g) (has_passed (before_event (opening here config)) g);
+      hands = λ k. record {
+        stable = 0;
+        reached = omega arith;
+        fits = new_hand_fits (record { site = here; serial = k }) (order_told (before_event (opening here config)) g);
+        counted = λ x in_it. let inside = in_it.1 in absurd (omega arith);
+      };
+      gone = λ e among. absurd (false≢true among);
+    };
     closed = λ waits. absurd (false≢true waits);
   };
   frames = refl;

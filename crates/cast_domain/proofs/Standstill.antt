@@ -1,15 +1,15 @@
 -- Records that a pass leaves as they are stand for a history at rest.
 use Rattle.std.proofs.Common.{◌≡◌, ℕ, zero, suc, ◌+◌, ◌*◌, ◌<◌, Bool, true, false, not, List, [], ◌∷◌, ◌++◌, length, map, Option, Some, None, refl, sym, ap, subst, ◌∙◌, inl, inr, arith}
 use Rattle.std.specs.Prelude.{◌&&◌, ◌||◌, ◌==◌, if◌then◌else◌, filter}
-use Rattle.std.specs.List.{fold, find, range_with_len}
-use Rattle.std.proofs.lemmas.Bool.{cases_lt, and_parts, eqb-true, false≢true, false_from_ne_true}
+use Rattle.std.specs.List.{fold, find, flat_map, range_with_len}
+use Rattle.std.proofs.lemmas.Bool.{cases_lt, and_parts, or_left, or_right, eqb-true, false≢true, false_from_ne_true}
 use Rattle.std.proofs.lemmas.List.{append_assoc, append-nil, length-append}
 use Rattle.cast_types.specs.declared.names.GroupNo.{GroupNo}
-use Rattle.cast_types.specs.declared.names.Proc.{Proc}
 use Rattle.cast_types.specs.declared.names.Uid.{Uid}
-use Rattle.cast_types.specs.Names.{group_eq, uid_eq, is_atomic}
-use Rattle.cast_types.specs.Sets.{is_among}
-use Rattle.cast_types.proofs.Orders.{same_uid}
+use Rattle.cast_types.specs.Names.{group_eq, uid_eq, is_atomic, entry_of}
+use Rattle.cast_types.specs.Sets.{is_among, set_at}
+use Rattle.cast_types.proofs.Bools.{same_bools}
+use Rattle.cast_types.proofs.Orders.{same_uid, uid_itself}
 use Rattle.cast_types.specs.Repeat.{iterate}
 use Rattle.cast_message.specs.declared.message.Body.{Body}
 use Rattle.cast_message.specs.declared.message.Body.TheVariants as body
@@ -22,15 +22,15 @@ use Rattle.cast_delay.proofs.Queues.{delivered_by}
 use Rattle.cast_clock.specs.Times.{join}
 use Rattle.cast_clock.proofs.Entries.{option_cases}
 use Rattle.cast_history.specs.Rules.Rest.{told_of}
-use Rattle.cast_order.specs.Log.{log_of}
+use Rattle.cast_order.specs.Order.{known_order, still_to_list}
 use Rattle.cast_history.specs.History.{history}
 use Rattle.cast_domain.specs.declared.record.GroupRecord.{GroupRecord}
 use Rattle.cast_types.specs.Names.{named}
 use Rattle.cast_timer.specs.declared.key.OwedKind.TheVariants.{Want}
 use Rattle.cast_delay.specs.Ready.{covered}
-use Rattle.cast_view.specs.MemberSide.{MemberSide, holder_at, is_pending}
-use Rattle.cast_history.specs.State.{State, local, serials, gate_of, with_delivery}
-use Rattle.cast_history.specs.Order.{unlisted}
+use Rattle.cast_view.specs.MemberSide.{is_pending}
+use Rattle.cast_history.specs.State.{State, local, serials, gate_of, with_delivery, abcasts_with}
+use Rattle.cast_history.specs.Order.{holders, told_by}
 use Rattle.cast_history.specs.Turns.{is_ready_for}
 use Rattle.cast_history.specs.Effects.{sending, next_message}
 use Rattle.cast_history.specs.Rest.{deliver_first, deliver_all, settle, set_order_by, set_order, set_orders, pass, let_go}
@@ -42,20 +42,18 @@ use Rattle.cast_view.specs.Home.{wants_in}
 use Rattle.cast_history.specs.Rules.Keys.{want_key, message_key}
 use Rattle.cast_history.specs.Rules.Flushes.{go_on_all}
 use Rattle.cast_history.specs.Rules.Home.{lead}
-use Rattle.cast_history.specs.Endings.{total, one_if, left, rank, ranks, undelivered, is_to_come, to_list_by, to_list_here, to_list_in, to_list, to_do, site_unowed, unowed_in, unowed, pendings}
+use Rattle.cast_history.specs.Endings.{total, one_if, left, rank, ranks, undelivered, is_to_come, to_list_by, to_list_in, to_list, to_do, site_unowed, unowed_in, unowed, pendings}
 use Rattle.cast_domain.specs.Records.{Records}
 use Rattle.cast_domain.specs.Fits.{record_for, process_named, Fits}
 use Rattle.cast_history.proofs.Alikes.{Alike, alike_sending}
 use Rattle.cast_history.proofs.Going.{goes_on}
 use Rattle.cast_history.proofs.Telling.{tells_told_if}
-use Rattle.cast_history.proofs.Settles.{alike_delivering, Delivers, delivering_one, delivers, ready_causally}
+use Rattle.cast_history.proofs.Settles.{alike_delivering, Delivers, delivering_one, delivers, ready_causally, ready_new}
 use Rattle.cast_history.proofs.Spots.{found_passes}
 use Rattle.cast_history.proofs.Rests.{moves_settle, moves_set_orders, moves_lead, moves_pass, never_more}
 use Rattle.cast_history.proofs.Totals.{total_same}
-use Rattle.cast_history.proofs.LawfulSteps.{same_lead, lawful_pass}
+use Rattle.cast_history.proofs.LawfulSteps.{same_lead}
 use Rattle.cast_domain.proofs.Standing.{process_here, member_of_none}
-use Rattle.cast_domain.proofs.Ordering.{waiting_there, unfrozen_waits}
-use Rattle.cast_domain.proofs.SetOrders.{holder_local}
 
 -- What a pass receives comes last
 
@@ -69,21 +67,31 @@ same_on before after same = ([], same ∙ sym (append-nil before))
 on_then : (a b c : List Message) → GoesOn a b → GoesOn b c → GoesOn a c
 on_then a b c (x, first) (y, second) = (x ++ y, second ∙ ap (λ ms. ms ++ y) first ∙ append_assoc a x y)
 
+-- two states in which a process has delivered the same
+abbrev pub HasSame : State → State → ℕ → Type 0
+HasSame s t k = (u : Uid) → has_delivered (t.process k) u ≡ has_delivered (s.process k) u
+
 -- what a pass leaves where no Install is completed: the messages received go on, groups stay in their views, and so does what was
--- delivered of views that ended
+-- delivered, and all that was of views that ended; a process that delivered nothing more noted no ABCAST more
 pub record Goes (s t : State) : Type 0 where
   pub got : GoesOn s.got t.got
   pub number : (g : GroupNo) → (t.group g).number ≡ (s.group g).number
   pub ended : (k : ℕ) (u : Uid) → u.view < (s.group u.group).number → has_delivered (t.process k) u ≡ has_delivered (s.process k) u
+  pub more : (k : ℕ) (u : Uid) → has_delivered (s.process k) u ≡ true → has_delivered (t.process k) u ≡ true
+  pub noted : (k : ℕ) → HasSame s t k → t.abcasts k ≡ s.abcasts k
 
 goes_self : (s : State) → Goes s s
-goes_self s = record { got = same_on s.got s.got refl; number = λ g. refl; ended = λ k u old. refl }
+goes_self s = record { got = same_on s.got s.got refl; number = λ g. refl; ended = λ k u old. refl; more = λ k u is. is; noted = λ k same. refl }
 
 goes_then : (s t x : State) → Goes s t → Goes t x → Goes s x
 goes_then s t x a b = record {
   got = on_then s.got t.got x.got a.got b.got;
   number = λ g. b.number g ∙ a.number g;
   ended = λ k u old. b.ended k u (subst (λ n. u.view < n) (sym (a.number u.group)) old) ∙ a.ended k u old;
+  more = λ k u is. b.more k u (a.more k u is);
+  noted = λ k same.
+      let first : HasSame s t k = λ u. same_bools (has_delivered (t.process k) u) (has_delivered (s.process k) u) (λ is. sym (same u) ∙ b.more k u is) (a.more k u) in
+      b.noted k (λ u. same u ∙ sym (first u)) ∙ a.noted k first;
 }
 
 goes_fold : {X : Type 0} (f : State → X → State) → ((s : State) (x : X) → Goes s (f s x)) → (xs : List X) (s : State) → Goes s (fold f s xs)
@@ -100,10 +108,34 @@ goes_delivery s k m ready = record {
   got = same_on s.got (delivering_one s k m).got d.got;
   number = λ g i. (d.group i g).number;
   ended = λ j u old. ap (is_among uid_eq u) (d.delivered j) ∙ still j u old (k == j) refl;
+  more = λ j u is. ap (is_among uid_eq u) (d.delivered j) ∙ has_more j u is (k == j) refl;
+  noted = λ j same. ap (λ f. f j) d.abcasts ∙ not_noted j same (k == j) refl;
 }
   where
     d : Delivers k m s (delivering_one s k m)
     d = delivers s k m
+
+    has_more : (j : ℕ) (u : Uid) → has_delivered (s.process j) u ≡ true → (b : Bool) → (k == j) ≡ b → is_among uid_eq u (if b then (s.process k).delivered ++ m.id ∷ [] else (s.process j).delivered) ≡ true
+    has_more j u is true same =
+        list_any-append (uid_eq u) (s.process k).delivered (m.id ∷ [])
+        ∙ or_left (has_delivered (s.process k) u) (is_among uid_eq u (m.id ∷ [])) (ap (λ i. has_delivered (s.process i) u) (eqb-true k j same) ∙ is)
+    has_more j u is false other = is
+
+    -- who delivered it has delivered more
+    now_delivered : (j : ℕ) → (k == j) ≡ true → has_delivered ((delivering_one s k m).process j) m.id ≡ true
+    now_delivered j same =
+        ap (is_among uid_eq m.id) (d.delivered j)
+        ∙ ap (λ b. is_among uid_eq m.id (if b then (s.process k).delivered ++ m.id ∷ [] else (s.process j).delivered)) same
+        ∙ list_any-append (uid_eq m.id) (s.process k).delivered (m.id ∷ [])
+        ∙ or_right (has_delivered (s.process k) m.id) (is_among uid_eq m.id (m.id ∷ [])) (or_left (uid_eq m.id m.id) false (uid_itself m.id))
+
+    not_noted : (j : ℕ) → HasSame s (delivering_one s k m) j → (b : Bool) → (k == j) ≡ b → abcasts_with s k m j ≡ s.abcasts j
+    not_noted j same true this =
+        absurd (false≢true (sym (ap (λ i. has_delivered (s.process i) m.id) (sym (eqb-true k j this)) ∙ ready_new s k m ready) ∙ sym (same m.id) ∙ now_delivered j this))
+    not_noted j same false other = elim (is_atomic (kind_of m.body)) as (λ b. (if b then set_at (λ x y. x == y) s.abcasts k (s.abcasts k ++ m.id ∷ []) else s.abcasts) j ≡ s.abcasts j) [
+      | true ↦ ap (λ b. if b then s.abcasts k ++ m.id ∷ [] else s.abcasts j) other
+      | false ↦ refl
+    ]
 
     current : m.id.view ≡ (s.group m.id.group).number
     current =
@@ -135,31 +167,36 @@ goes_iterate : (n k : ℕ) (s : State) → Goes s (iterate n (deliver_first k) s
 goes_iterate zero k s = goes_self s
 goes_iterate (suc n) k s = goes_then s (deliver_first k s) (iterate n (deliver_first k) (deliver_first k s)) (goes_first k s) (goes_iterate n k (deliver_first k s))
 
-goes_order : (s : State) (g : GroupNo) → Goes s (set_order s g)
-goes_order s g = held (holder_at s.here (s.group g))
+goes_order_by : (g : GroupNo) (s : State) (k : ℕ) → Goes s (set_order_by s g k)
+goes_order_by g s k =
+    subst (Goes s) (sym (set_order_is s g k))
+    (elim (may_set_order s g k) as (λ b. Goes s (if b then let_go (sending s g k content) else s)) [
+      | true ↦ sent
+      | false ↦ goes_self s
+    ])
   where
-    sent : (k : ℕ) (content : Body) → Goes s (let_go (sending s g k content))
-    sent k content = let a = alike_sending s g k content in record {
+    content : Body
+    content = body.Order (places_of s g k)
+
+    sent : Goes s (let_go (sending s g k content))
+    sent = let a = alike_sending s g k content in record {
       got = (next_message s g k content ∷ [], a.got);
       number = λ h i. (a.group i h).number;
       ended = λ j u old. ap (is_among uid_eq u) (a.delivered j);
+      more = λ j u is. ap (is_among uid_eq u) (a.delivered j) ∙ is;
+      noted = λ j same. ap (λ f. f j) a.abcasts;
     }
 
-    held : (o : Option Proc) → Goes s (elim o as (λ _. State) [ Some p ↦ set_order_by s g p.serial | None ↦ s ])
-    held None = goes_self s
-    held (Some p) =
-        let content : Body = body.Order (places_of s g p.serial) in
-        subst (Goes s) (sym (set_order_is s g p.serial))
-        (elim (may_set_order s g p.serial) as (λ b. Goes s (if b then let_go (sending s g p.serial content) else s)) [
-          | true ↦ sent p.serial content
-          | false ↦ goes_self s
-        ])
+goes_order : (s : State) (g : GroupNo) → Goes s (set_order s g)
+goes_order s g = goes_fold (λ t k. set_order_by t g k) (goes_order_by g) (holders s g) s
 
 goes_lead : (s : State) → Goes s (lead history s)
 goes_lead s = let a = same_lead s in record {
   got = same_on s.got (lead history s).got a.got;
   number = a.number;
   ended = λ k u old. ap (λ p. has_delivered p u) (a.process k);
+  more = λ k u is. ap (λ p. has_delivered p u) (a.process k) ∙ is;
+  noted = λ k same. a.abcasts k;
 }
 
 goes_alike : (s t : State) → Alike s t → Goes s t
@@ -167,6 +204,8 @@ goes_alike s t a = record {
   got = same_on s.got t.got a.got;
   number = λ g. ap (λ groups. (groups g).number) a.group;
   ended = λ k u old. ap (is_among uid_eq u) (a.delivered k);
+  more = λ k u is. ap (is_among uid_eq u) (a.delivered k) ∙ is;
+  noted = λ k same. ap (λ f. f k) a.abcasts;
 }
 
 goes_pass : (s : State) → pendings (pass s) ≡ pendings s → Goes s (pass s)
@@ -232,18 +271,21 @@ idle_settle (j ∷ ks) s k out =
     stays_then s (deliver_all s j) (fold deliver_all (deliver_all s j) ks) k all (idle_settle ks (deliver_all s j) k (all.outside out))
 
 -- set-order messages are sent, and nobody delivers
+idle_order_by : (s : State) (g : GroupNo) (j k : ℕ) → ((set_order_by s g j).process k).delivered ≡ (s.process k).delivered
+idle_order_by s g j k =
+    let content : Body = body.Order (places_of s g j) in
+    subst (λ (t : State). (t.process k).delivered ≡ (s.process k).delivered) (sym (set_order_is s g j))
+    (elim (may_set_order s g j) as (λ b. ((if b then let_go (sending s g j content) else s).process k).delivered ≡ (s.process k).delivered) [
+      | true ↦ (alike_sending s g j content).delivered k
+      | false ↦ refl
+    ])
+
+idle_holders : (g : GroupNo) (js : List ℕ) (s : State) (k : ℕ) → ((fold (λ t j. set_order_by t g j) s js).process k).delivered ≡ (s.process k).delivered
+idle_holders g [] s k = refl
+idle_holders g (j ∷ js) s k = idle_holders g js (set_order_by s g j) k ∙ idle_order_by s g j k
+
 idle_order : (s : State) (g : GroupNo) (k : ℕ) → ((set_order s g).process k).delivered ≡ (s.process k).delivered
-idle_order s g k = held (holder_at s.here (s.group g))
-  where
-    held : (o : Option Proc) → ((elim o as (λ _. State) [ Some p ↦ set_order_by s g p.serial | None ↦ s ]).process k).delivered ≡ (s.process k).delivered
-    held None = refl
-    held (Some p) =
-        let content : Body = body.Order (places_of s g p.serial) in
-        subst (λ (t : State). (t.process k).delivered ≡ (s.process k).delivered) (sym (set_order_is s g p.serial))
-        (elim (may_set_order s g p.serial) as (λ b. ((if b then let_go (sending s g p.serial content) else s).process k).delivered ≡ (s.process k).delivered) [
-          | true ↦ (alike_sending s g p.serial content).delivered k
-          | false ↦ refl
-        ])
+idle_order s g k = idle_holders g (holders s g) s k
 
 idle_orders : (gs : List GroupNo) (s : State) (k : ℕ) → ((fold set_order s gs).process k).delivered ≡ (s.process k).delivered
 idle_orders [] s k = refl
@@ -277,8 +319,8 @@ no_more before after (more, is) same = is ∙ at more (let long = ap length is �
 -- Histories of the same messages and records
 
 -- they have the same to do, where one goes on from the other
-pub same_to_do : (r : Records) (s t : State) → Fits r s → Fits r t → IsLawful s → IsLawful t → Goes s t → ((k : ℕ) → IsNoMember s k → (t.process k).delivered ≡ (s.process k).delivered) → t.got ≡ s.got → to_do t ≡ to_do s
-same_to_do r s t a b l m goes idle got = λ i. undelivered_same i + ranks_same i + (used_same i + 1) * lists_same i
+pub same_to_do : (r : Records) (s t : State) → Fits r s → Fits r t → Goes s t → ((k : ℕ) → IsNoMember s k → (t.process k).delivered ≡ (s.process k).delivered) → t.got ≡ s.got → to_do t ≡ to_do s
+same_to_do r s t a b goes idle got = λ i. undelivered_same i + ranks_same i + (used_same i + 1) * lists_same i
   where
     here_same : t.here ≡ s.here
     here_same = sym (ap (λ c. c.site) b.core) ∙ (ap (λ c. c.site) a.core)
@@ -337,31 +379,20 @@ same_to_do r s t a b l m goes idle got = λ i. undelivered_same i + ranks_same i
         filter_step : Bool → Message → List Message → List Message
         filter_step x y ys = if x then y ∷ ys else ys
 
-    -- what holders here have to list is the same, unless the group is frozen
-    here_listed : (g : GroupNo) → t.group g ≡ s.group g → not (s.group g).frozen ≡ true → to_list_here t g ≡ to_list_here s g
-    here_listed g same unfrozen =
-        (λ i. elim (holder_at (here_same i) (same i)) [ Some p ↦ to_list_by t g p.serial | None ↦ 0 ])
-        ∙ at (holder_at s.here (s.group g)) refl
-      where
-        unclosed : is_pending (s.group g) ≡ false
-        unclosed = unfrozen_waits s l g unfrozen
-
-        at : (o : Option Proc) → holder_at s.here (s.group g) ≡ o → ◌≡◌ {A = ℕ} (elim o [ Some p ↦ to_list_by t g p.serial | None ↦ 0 ]) (elim o [ Some p ↦ to_list_by s g p.serial | None ↦ 0 ])
-        at None is = refl
-        at (Some p) is =
-            let mine = holder_local s g p is in
-            let theirs = holder_local t g p ((λ i. holder_at (here_same i) (same i)) ∙ is) in
-            let waiting : unlisted t g p.serial ≡ unlisted s g p.serial =
-            sym (waiting_there t g p.serial (log_of r.orders g) ((b.orders g).tells (ap is_pending same ∙ unclosed)) theirs.1)
-            ∙ waiting_there s g p.serial (log_of r.orders g) ((a.orders g).tells unclosed) mine.1 in
-            λ i. length (waiting i) + length (((λ j. filter (is_to_come t g p.serial) (got j)) ∙ come_same g same p.serial s.got) i)
+    -- what processes here have to list is the same
+    noted_same : (k : ℕ) → t.abcasts k ≡ s.abcasts k
+    noted_same k = goes.noted k (has_same k)
 
     list_same : (g : GroupNo) → t.group g ≡ s.group g → to_list_in t g ≡ to_list_in s g
-    list_same g same = ap (λ (v : MemberSide). if v.frozen then 0 else to_list_here t g) same ∙ by_frozen (s.group g).frozen refl
+    list_same g same =
+        (λ i. total (to_list_by t g) (range_with_len 1 (used_same i)))
+        ∙ total_same (to_list_by t g) (to_list_by s g) (serials s)
+        (λ k i. listing (same i).number (noted_same k i) (got i) + length (((λ j. filter (is_to_come t g k) (got j)) ∙ come_same g same k s.got) i))
       where
-        by_frozen : (frozen : Bool) → (s.group g).frozen ≡ frozen → ◌≡◌ {A = ℕ} (if frozen then 0 else to_list_here t g) (if frozen then 0 else to_list_here s g)
-        by_frozen true is = refl
-        by_frozen false is = here_listed g same (ap not is)
+        listing : ℕ → List Uid → List Message → ℕ
+        listing n abcasts ms =
+            length (still_to_list (map entry_of (filter (λ u. group_eq u.group g && (u.view == n)) abcasts))
+            (known_order (flat_map (λ m. told_by m.body) (filter (λ m. group_eq m.id.group g && (m.id.view == n)) ms))))
 
     lists_in : (gs : List GroupNo) → map (record_for t) gs ≡ map (record_for s) gs → total (to_list_in t) gs ≡ total (to_list_in s) gs
     lists_in [] same = refl
@@ -424,6 +455,6 @@ still_pass r s before lawful after = elim (moves_pass s).way [
   | inr (inr (as_many, inl less)) ↦
       let goes : Goes s (pass s) = goes_pass s as_many in
       let got : (pass s).got ≡ s.got = no_more s.got (pass s).got goes.got (sym after.messages.counted ∙ before.messages.counted) in
-      let same = same_to_do r s (pass s) before after lawful (lawful_pass s lawful) goes (idle_pass s as_many) got in absurd (omega (arith, less, same))
+      let same = same_to_do r s (pass s) before after goes (idle_pass s as_many) got in absurd (omega (arith, less, same))
   | inr (inr (as_many, inr fewer)) ↦ let less = fewer.1 in let same = same_unowed r s (pass s) before after in absurd (omega (arith, less, same))
 ]

@@ -31,7 +31,7 @@ use Rattle.cast_history.proofs.Lawful.{range_all}
 use Rattle.cast_domain.specs.Records.{Records}
 use Rattle.cast_domain.specs.Calls.{standing_of, time_of, log_in, is_awaited_of, is_received_of}
 use Rattle.cast_domain.specs.Trims.{is_counted_of, is_past_of, is_kept_among, is_over_of, count_first, trim_in, trim_all_in}
-use Rattle.cast_domain.specs.Fits.{Fits, LogFits, TellsOrder, IsOver, is_still_kept, record_for, process_named, goes_on, has_passed, told_here, lists_here}
+use Rattle.cast_domain.specs.Fits.{Fits, LogFits, TellsOrder, IsOver, is_still_kept, record_for, process_named, goes_on, has_passed}
 use Rattle.cast_domain.proofs.Standing.{record_there, standing_there, time_there, process_here, member_row}
 use Rattle.cast_domain.proofs.LogSteps.{none_left}
 use Rattle.cast_domain.proofs.Commands.{any_message}
@@ -169,12 +169,10 @@ module _ (r : Records) (s : State) (fits : Fits r s) (lawful : IsLawful s) (g : 
       let few = first_within over_test (oldest_in log) in
       let most = oldest.few in
       record {
-        stable = f.stable;
-        reached = f.reached;
-        fits = forget_fits (facts_in s g) (told_here s g) (lists_here s g) (goes_on s g) (has_passed s g) f.stable log f.fits over
+        fits = forget_fits (facts_in s g) (goes_on s g) (has_passed s g) log f.fits over
             (λ p on. all_then over_test (has_passed s g p) (passed_there p on) (take over log.window) all_over)
             (omega (arith, few, most));
-        counted = f.counted;
+        hands = f.hands;
         gone = λ e among. elim (or_cases (is_among entry_eq e (take log.base (order_told s g))) (is_among entry_eq e (take more log.window)) (sym (parted f e) ∙ among)) [
           | inl before ↦ f.gone e before
           | inr now ↦ over_there e (one_of_all over_test (take more log.window) (all_first over_test more over log.window (omega arith) all_over) e now)
@@ -198,6 +196,8 @@ module _ (r : Records) (s : State) (fits : Fits r s) (lawful : IsLawful s) (g : 
 
   log_trimmed : LogFits s g (forgot over log)
   log_trimmed = record {
+    tokens = (fits.orders g).tokens;
+    own = (fits.orders g).own;
     tells = λ none. tells_trimmed ((fits.orders g).tells none);
     closed = λ waits. closed_stays ((fits.orders g).closed waits);
   }

@@ -1,23 +1,26 @@
 -- The turns of the records' rest are those of the history that they stand for.
 use Rattle.std.proofs.Common.{◌≡◌, ℕ, zero, suc, ◌<◌, ◌≤◌, Bool, true, false, cond, not, List, [], ◌∷◌, ◌++◌, length, Contains, Option, Some, None, refl, sym, ap, subst, ◌∙◌, inl, inr, arith}
-use Rattle.std.specs.Prelude.{◌&&◌, ◌==◌, if◌then◌else◌, filter, take}
-use Rattle.std.specs.List.{find}
+use Rattle.std.specs.Prelude.{◌&&◌, ◌||◌, ◌==◌, if◌then◌else◌, filter, take}
+use Rattle.std.specs.List.{find, list_any}
 use Rattle.std.specs.Option.{IsSome, option_map_or}
-use Rattle.std.proofs.lemmas.Bool.{false≢true, false_from_ne_true, and_parts, eqb-true, eq-eqb}
+use Rattle.std.proofs.lemmas.Bool.{cases_Bool, false≢true, false_from_ne_true, and_parts, or_left, or_right, eqb-true, eq-eqb}
+use Rattle.std.proofs.lemmas.Option.{none-some, same_Some}
 use Rattle.std.proofs.lemmas.List.{map-append, length-map}
 use Rattle.cast_types.specs.declared.names.GroupNo.{GroupNo}
 use Rattle.cast_types.specs.declared.names.Proc.{Proc}
 use Rattle.cast_types.specs.declared.names.Key.{Key}
 use Rattle.cast_types.specs.declared.names.Uid.{Uid}
-use Rattle.cast_types.specs.Names.{Entry, group_eq, is_atomic, named, entry_of}
-use Rattle.cast_types.proofs.Orders.{group_itself}
+use Rattle.cast_types.specs.Names.{Entry, group_eq, entry_eq, uid_eq, is_atomic, named, entry_of}
+use Rattle.cast_types.specs.Sets.{is_among}
+use Rattle.cast_types.proofs.Orders.{group_itself, uid_itself}
 use Rattle.cast_types.specs.Repeat.{iterate}
 use Rattle.cast_message.specs.declared.message.Message.{Message}
 use Rattle.cast_message.specs.Bodies.{kind_of}
 use Rattle.cast_message.specs.declared.client.Push.{Push}
 use Rattle.cast_delay.specs.declared.row.Row.{Row}
 use Rattle.cast_delay.specs.declared.offered.Offered.{Offered}
-use Rattle.cast_delay.specs.Ready.{is_open_to, is_member, is_outside, has_delivered, is_causally_ready, is_ready, first_ready}
+use Rattle.cast_delay.specs.Ready.{is_open_to, is_member, is_outside, has_delivered, is_causally_ready, is_ready, first_ready, has_turn}
+use Rattle.cast_delay.specs.declared.turn.Turn.TheVariants.{Holding, Following}
 use Rattle.cast_delay.specs.Rows.{delivered_row}
 use Rattle.cast_delay.specs.Queue.{row_of, change_row, offered_under, after_delivery, queue_delivering, passed_in}
 use Rattle.cast_message.specs.declared.message.Received.{Received}
@@ -25,11 +28,13 @@ use Rattle.cast_message.specs.Receipts.{messages, message_under}
 use Rattle.cast_delay.specs.Fits.{FirstReady, HasTurns, Fits as QueueFits, delivering as delivering_to}
 use Rattle.cast_delay.proofs.Delivers.{only_member}
 use Rattle.cast_delay.proofs.Queues.{delivery_fits, next_rules, passed_delivered}
-use Rattle.cast_order.specs.Log.{Log, log_of, change_log, next_in, told, passed}
+use Rattle.cast_order.specs.Order.{next_of}
+use Rattle.cast_order.specs.Log.{Log, log_of, change_log, next_in, passed}
+use Rattle.cast_view.specs.MemberSide.{is_pending}
 use Rattle.cast_history.specs.History.{history}
 use Rattle.cast_history.specs.State.{State, local, is_group, gate_of, was_given, with_delivery}
-use Rattle.cast_history.specs.Order.{is_of_view, sets_order}
-use Rattle.cast_history.specs.Turns.{turn_of, is_ready_for}
+use Rattle.cast_history.specs.Order.{is_of_view, holds, order_of, order_told, sets_order}
+use Rattle.cast_history.specs.Turns.{has_room_for_order, turn_of, is_ready_for}
 use Rattle.cast_history.specs.Effects.{delivering}
 use Rattle.cast_history.specs.Rules.Rest.{told_of, tell_if}
 use Rattle.cast_history.proofs.Rules.Leaving.{tell_follows}
@@ -39,13 +44,15 @@ use Rattle.cast_history.specs.Rest.{deliver_first, deliver_all, is_free}
 use Rattle.cast_history.specs.Endings.{left}
 use Rattle.cast_domain.specs.Records.{Records}
 use Rattle.cast_history.specs.Rules.Release as release
-use Rattle.cast_domain.specs.Calls.{records, resting_records, sets_order_in, turns_in, note_delivery_in, note_delivered_under, ready_key_in}
+use Rattle.cast_domain.specs.Calls.{records, resting_records, sets_order_in, turns_in, told_in, weight_of, note_weight_in, note_delivered_under, ready_key_in}
+use Rattle.cast_domain.specs.declared.rest.Weight.{Weight}
+use Rattle.cast_domain.specs.declared.rest.Weight.TheVariants.{Nothing, Placed, Hands}
 use Rattle.cast_history.specs.Rules.Rest as rest
 use Rattle.cast_history.specs.Lawful.{IsSpent, AreKept, IsLawful}
-use Rattle.cast_domain.specs.Fits.{process_named, Fits}
+use Rattle.cast_domain.specs.Fits.{process_named, is_still_kept, Fits}
 use Rattle.cast_history.proofs.Settles.{delivering_one, delivers, ready_causally, ready_new, delivered_first, delivered_none, turns_are_enough}
 use Rattle.cast_domain.proofs.LogSteps.{noting, logs_deliver}
-use Rattle.cast_domain.proofs.Ordering.{sets_order_there, turns_there}
+use Rattle.cast_domain.proofs.Ordering.{order_unclosed, sets_order_there, turns_there}
 use Rattle.cast_history.proofs.Totals.{left_found, left_le}
 use Rattle.cast_history.proofs.Spots.{found_passes}
 use Rattle.cast_history.proofs.Lawful.{delivered_view, lawful_delivery}
@@ -137,9 +144,49 @@ ready_listed s k m l ready =
     let a = and_parts (is_member ((s.process k).standing m.id.group)) _ (ready_causally s k m ready) in
     l.known k m.id.group (ap is_outside (only_member ((s.process k).standing m.id.group) a.0))
 
+-- an ABCAST that is ready for a process without the token is the next of the order
+ready_placed : (s : State) (k : ℕ) (m : Message) → is_ready_for s k m ≡ true → is_atomic (kind_of m.body) ≡ true → holds s m.id.group k ≡ false → is_pending (s.group m.id.group) ≡ false → is_among entry_eq (entry_of m.id) (order_told s m.id.group) ≡ true
+ready_placed s k m ready atomic away none =
+    next_among (order_told s g) (
+    ap (λ order. has_turn (Following (next_of has order)) (entry_of m.id)) (sym (order_unclosed s g none))
+    ∙ sym (ap (λ b. has_turn (if b && not (s.group g).frozen then Holding (has_room_for_order s g k) else Following (next_of has (order_of s g))) (entry_of m.id)) away)
+    ∙ in_turn)
+  where
+    g : GroupNo
+    g = m.id.group
+
+    has : Entry → Bool
+    has e = has_delivered (s.process k) (named g (s.group g).number e)
+
+    in_turn : has_turn (turn_of s k g) (entry_of m.id) ≡ true
+    in_turn =
+        sym (ap (λ b. not b || has_turn (turn_of s k g) (entry_of m.id)) atomic)
+        ∙ (and_parts (is_causally_ready s.config.groups (gate_of s) (s.process k) m) (not (is_atomic (kind_of m.body)) || has_turn (turn_of s k g) (entry_of m.id)) ready).1
+
+    next_among : (order : List Entry) → has_turn (Following (next_of has order)) (entry_of m.id) ≡ true → is_among entry_eq (entry_of m.id) order ≡ true
+    next_among [] is = absurd (false≢true is)
+    next_among (e ∷ order) is = elim (cases_Bool (has e)) [
+      | inl done ↦
+          or_right (entry_eq (entry_of m.id) e) (is_among entry_eq (entry_of m.id) order)
+          (next_among order (sym (ap (λ b. has_turn (Following (cond (not b) (Some e) (next_of has order))) (entry_of m.id)) done) ∙ is))
+      | inr undone ↦
+          or_left (entry_eq (entry_of m.id) e) (is_among entry_eq (entry_of m.id) order)
+          (sym (ap (λ b. has_turn (Following (cond (not b) (Some e) (next_of has order))) (entry_of m.id)) undone) ∙ is)
+    ]
+
+-- what is found is still kept
+found_still : (t : Message → Bool) (kept : List Message) (m : Message) → find t kept ≡ Some m → list_any (λ x. uid_eq x.id m.id) kept ≡ true
+found_still t [] m found = absurd (none-some m found)
+found_still t (x ∷ kept) m found = elim (cases_Bool (t x)) [
+  | inl here ↦
+      let same : x ≡ m = same_Some x m (sym (ap (λ b. cond b (Some x) (find t kept)) here) ∙ found) in
+      or_left (uid_eq x.id m.id) (list_any (λ y. uid_eq y.id m.id) kept) (ap (λ (y : Message). uid_eq y.id m.id) same ∙ uid_itself m.id)
+  | inr other ↦ or_right (uid_eq x.id m.id) (list_any (λ y. uid_eq y.id m.id) kept) (found_still t kept m (sym (ap (λ b. cond b (Some x) (find t kept)) other) ∙ found))
+]
+
 -- before the process is told
-fits_turn : (r : Records) (s : State) → Fits r s → IsLawful s → (k : ℕ) → was_given s.used k ≡ true → (key : Key) (m : Message) → message_under r.part.kept key ≡ Some m → Contains s.got m → is_ready_for s k m ≡ true → Fits (record (turned r s k key m) { orders = noting s k m (passing r s k key m) r.orders }) (with_delivery s k m)
-fits_turn r s fits l k given key m under at ready = record {
+fits_turn : (r : Records) (s : State) → Fits r s → IsLawful s → (k : ℕ) → was_given s.used k ≡ true → (key : Key) (m : Message) → message_under r.part.kept key ≡ Some m → Contains s.got m → is_still_kept s m.id ≡ true → is_ready_for s k m ≡ true → Fits (record (turned r s k key m) { orders = noting (weight_of m.body) s k m (passing r s k key m) r.orders }) (with_delivery s k m)
+fits_turn r s fits l k given key m under at kept ready = record {
   core = fits.core;
   opened = fits.opened;
   groups = fits.groups;
@@ -152,7 +199,7 @@ fits_turn r s fits l k given key m under at ready = record {
     idle = still_idle s k (delivering_to m (s.process k)) given fits.processes.idle;
   };
   acks = fits.acks;
-  orders = logs_deliver s k m (passing r s k key m) r.orders l.traced fits.orders (ready_new s k m ready) (ready_current s k m ready) (ready_opens s k m ready)
+  orders = logs_deliver s k m (passing r s k key m) r.orders fits.orders kept (ready_current s k m ready) (ready_opens s k m ready) (ready_placed s k m ready)
       (subst (λ v. find (λ e. not (has_delivered (process_named (with_delivery s k m) (local s k)) (named m.id.group v e))) (take (passing r s k key m) ids) ≡ None) view
       (passed_delivered s.config.groups (gate_of s) (process_named (with_delivery s k m)) r.part.kept (turned r s k key m).delay delay_now (local s k) m.id.group m.id.view ids
       (still_after r.delay.offered (local s k) key (local s k) r.delay.rows (member_row r s fits k m.id.group (ready_member s k m ready))) (omega (arith, view))))
@@ -174,15 +221,12 @@ fits_turn r s fits l k given key m under at ready = record {
         (delivery_fits s.config.groups (gate_of s) (process_named s) r.part.kept r.delay fits.processes.delay (local s k) key m under
         (ap (λ p. is_causally_ready s.config.groups (gate_of s) p m) (process_here s k) ∙ ready_causally s k m ready))
 
--- what is noted of the delivery of an ABCAST is what the history notes
-noted_as : (r : Records) (s : State) → Fits r s → IsLawful s → (k : ℕ) (key : Key) (m : Message) → is_ready_for s k m ≡ true → (if is_atomic (kind_of m.body) then note_delivery_in (turned r s k key m) (local s k) m.id else turned r s k key m) ≡ record (turned r s k key m) { orders = noting s k m (passing r s k key m) r.orders }
-noted_as r s fits l k key m ready = at (is_atomic (kind_of m.body))
+-- what is noted of a delivery is what the history notes
+noted_as : (r : Records) (s : State) → Fits r s → IsLawful s → (k : ℕ) (key : Key) (m : Message) → is_ready_for s k m ≡ true → note_weight_in (weight_of m.body) (turned r s k key m) (local s k) m.id ≡ record (turned r s k key m) { orders = noting (weight_of m.body) s k m (passing r s k key m) r.orders }
+noted_as r s fits l k key m ready = at (weight_of m.body)
   where
     g : GroupNo
     g = m.id.group
-
-    tells : List Log
-    tells = change_log g (told (entry_of m.id)) r.orders
 
     passes : List Log
     passes = change_log g (passed (local s k) (passing r s k key m)) r.orders
@@ -190,9 +234,10 @@ noted_as r s fits l k key m ready = at (is_atomic (kind_of m.body))
     same : sets_order_in (turned r s k key m) g (local s k) ≡ sets_order s g k
     same = sets_order_there r s fits g (ready_listed s k m l ready) k
 
-    at : (b : Bool) → (if b then note_delivery_in (turned r s k key m) (local s k) m.id else turned r s k key m) ≡ record (turned r s k key m) { orders = if b then (if sets_order s g k then tells else passes) else r.orders }
-    at true = λ i. record (turned r s k key m) { orders = if same i then tells else passes }
-    at false = refl
+    at : (w : Weight) → note_weight_in w (turned r s k key m) (local s k) m.id ≡ record (turned r s k key m) { orders = noting w s k m (passing r s k key m) r.orders }
+    at Nothing = refl
+    at Placed = λ i. record (turned r s k key m) { orders = if same i then told_in g (local s k) (entry_of m.id) r.orders else passes }
+    at (Hands q first) = refl
 
 -- the program is told on both sides, or nothing is told
 fits_tell : (r : Records) (s : State) → Fits r s → IsLawful s → (k : ℕ) (o : Option Push) → Fits (tell_if records r k o) (tell_if history s k o)
@@ -200,12 +245,12 @@ fits_tell r s fits l k (Some p) = (tell_follows records history (StandsIn s.conf
 fits_tell r s fits l k None = fits
 
 -- a process delivers a message that is ready, and is told; what is free then is let go
-pub fits_delivering : (r : Records) (s : State) → Fits r s → IsLawful s → (k : ℕ) → was_given s.used k ≡ true → (key : Key) (m : Message) → message_under r.part.kept key ≡ Some m → Contains s.got m → is_ready_for s k m ≡ true → IsLawful (delivering s k m) → Fits (release.let_go records resting_records (tell_if records (note_delivered_under r (local s k) key m) k (told_of m.id m.body))) (delivering_one s k m)
-fits_delivering r s fits l k given key m under at ready lawful =
-    let next : Records = record (turned r s k key m) { orders = noting s k m (passing r s k key m) r.orders } in
+pub fits_delivering : (r : Records) (s : State) → Fits r s → IsLawful s → (k : ℕ) → was_given s.used k ≡ true → (key : Key) (m : Message) → message_under r.part.kept key ≡ Some m → Contains s.got m → is_still_kept s m.id ≡ true → is_ready_for s k m ≡ true → IsLawful (delivering s k m) → Fits (release.let_go records resting_records (tell_if records (note_delivered_under r (local s k) key m) k (told_of m.id m.body))) (delivering_one s k m)
+fits_delivering r s fits l k given key m under at kept ready lawful =
+    let next : Records = record (turned r s k key m) { orders = noting (weight_of m.body) s k m (passing r s k key m) r.orders } in
     fits_let_go (tell_if records (note_delivered_under r (local s k) key m) k (told_of m.id m.body)) (delivering s k m)
     (subst (λ x. Fits (tell_if records x k (told_of m.id m.body)) (delivering s k m)) (sym (noted_as r s fits l k key m ready))
-    (fits_tell next (with_delivery s k m) (fits_turn r s fits l k given key m under at ready) (lawful_delivery s k m l at ready) k (told_of m.id m.body)))
+    (fits_tell next (with_delivery s k m) (fits_turn r s fits l k given key m under at kept ready) (lawful_delivery s k m l at ready) k (told_of m.id m.body)))
     lawful
 
 -- a spent message is ready for nobody
@@ -261,7 +306,7 @@ fits_first r s fits l k given =
         let at : Contains s.got m = found_in (is_ready_for s k) s.got m found in
         subst (λ x. Fits (named_key (Some key) x) (deliver_first k s)) (sym under)
         (subst (Fits (release.let_go records resting_records (tell_if records (note_delivered_under r (local s k) key m) k (told_of m.id m.body)))) (sym (delivered_first s k m found))
-        (fits_delivering r s fits l k given key m under at ready (told_if_keeps history IsLawful all_lawful (with_delivery s k m) (lawful_delivery s k m l at ready) k (told_of m.id m.body))))
+        (fits_delivering r s fits l k given key m under at (found_still (is_ready_for s k) s.kept m (sym (ready_kept s k given l) ∙ found)) ready (told_if_keeps history IsLawful all_lawful (with_delivery s k m) (lawful_delivery s k m l at ready) k (told_of m.id m.body))))
 
 -- so many turns of one process
 fits_turns : (n : ℕ) (r : Records) (s : State) → Fits r s → IsLawful s → (k : ℕ) → was_given s.used k ≡ true → Fits (iterate n (rest.deliver_first records resting_records k) r) (iterate n (deliver_first k) s)

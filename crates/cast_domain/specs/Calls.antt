@@ -1,5 +1,5 @@
 -- What the calls of a domain do to its records, exactly.
-use Rattle.std.specs.Prelude.{ℕ, ◌+◌, min, max, Bool, false, not, ◌&&◌, ◌||◌, ◌==◌, nat_lt, nat_le, if◌then◌else◌, List, [], ◌∷◌, ◌++◌, length, take, map, filter, get_or, slice_get, Option, Some, None}
+use Rattle.std.specs.Prelude.{ℕ, ◌+◌, ◌-◌, min, max, Bool, false, not, ◌&&◌, ◌||◌, ◌==◌, nat_lt, nat_le, if◌then◌else◌, List, [], ◌∷◌, ◌++◌, length, take, map, filter, get_or, slice_get, Option, Some, None, is_some}
 use Rattle.std.specs.List.{fold, find, list_all, list_any, range_with_len}
 use Rattle.std.specs.Option.{option_map, option_map_or}
 use Rattle.cast_types.specs.declared.names.SiteNo.{SiteNo}
@@ -11,14 +11,14 @@ use Rattle.cast_types.specs.declared.names.Standing.{Standing}
 use Rattle.cast_types.specs.declared.names.Standing.TheVariants.{Outside, Joining, Member}
 use Rattle.cast_types.specs.declared.refusal.Refusal.{Refusal}
 use Rattle.cast_types.specs.declared.refusal.Refusal.TheVariants.{Slow}
-use Rattle.cast_types.specs.declared.limits.TheConstants.{MAX_NUMBER, MAX_MOMENT, MAX_PLACED, MAX_POSITION}
+use Rattle.cast_types.specs.declared.limits.TheConstants.{MAX_NUMBER, MAX_MOMENT, MAX_PLACED, MAX_POSITION, MAX_UNSETTLED}
 use Rattle.cast_types.specs.Names.{Entry, site_eq, group_eq, proc_eq, uid_eq, entry_eq, entry_cmp, is_atomic, named, entry_of}
 use Rattle.cast_types.specs.Sets.{is_among, with_item}
 use Rattle.cast_types.specs.Places.{update}
 use Rattle.cast_types.specs.Counts.{CountList, is_within}
 use Rattle.cast_types.specs.Sources.{source}
 use Rattle.cast_types.specs.Stamps.{ClockList}
-use Rattle.cast_clock.specs.Times.{no_time, count_in, bumped, entering}
+use Rattle.cast_clock.specs.Times.{no_time, bumped, entering}
 use Rattle.cast_message.specs.declared.message.Body.{Body}
 use Rattle.cast_message.specs.declared.message.Body.TheVariants as body
 use Rattle.cast_message.specs.declared.message.Message.{Message}
@@ -30,6 +30,7 @@ use Rattle.cast_message.specs.declared.client.Push.TheVariants as push
 use Rattle.cast_message.specs.Bodies.{kind_of}
 use Rattle.cast_message.specs.Membership.{Membership}
 use Rattle.cast_message.specs.Stretch.{Stretch}
+use Rattle.cast_message.specs.Sequence.{Sequence}
 use Rattle.cast_message.specs.Keeping.{KeptList}
 use Rattle.cast_flush.specs.declared.report.Report.{Report}
 use Rattle.cast_delay.specs.Ready.{frozen_gate, pending_gate, is_member, first_of, covered}
@@ -41,7 +42,8 @@ use Rattle.cast_delay.specs.Rows.{standing_in, told_row}
 use Rattle.cast_delay.specs.declared.row.Fact.{Fact}
 use Rattle.cast_delay.specs.declared.row.Fact.TheVariants as fact
 use Rattle.cast_delay.specs.Queue.{Queue, new_row, row_of, but_row, change_row, next_key, queue_gating, queue_viewing, queue_delivering, is_awaited, delivered_in, passed_in}
-use Rattle.cast_order.specs.Log.{Log, log_of, change_log, but_log, learnt, next_in, passed, told, next_places, assigned, closed_by, whole_kept, tail_start_in, tail_ids_in, has_room_in as has_room_in_log}
+use Rattle.cast_order.specs.Hand.{Hand, held, handed, told, noted, settled_by}
+use Rattle.cast_order.specs.Log.{Log, log_of, change_log, but_log, learnt, next_in, passed, hand_here, with_hand, next_places, places_by, known_past, length_of, closed_by, whole_kept, tail_start_in, tail_ids_in}
 use Rattle.cast_stable.specs.Ledger.{others_in, last_received_in, is_received_in, has_acked_in, upto_in, is_stable_in, told_ledger, received_ledger, acked_ledger, learnt_ledger}
 use Rattle.cast_timer.specs.declared.key.OwedKey.{OwedKey}
 use Rattle.cast_timer.specs.Owed.{is_owed, due_at}
@@ -55,10 +57,11 @@ use Rattle.cast_model.specs.declared.session.Status.TheVariants.{Open, Closed}
 use Rattle.cast_model.specs.Session.{is_open_status, is_gone_status}
 use Rattle.cast_domain.specs.declared.record.SessionRecord.{SessionRecord}
 use Rattle.cast_view.specs.declared.member.Pending.{Pending}
-use Rattle.cast_view.specs.MemberSide.{MemberSide, no_group, members_of, holder_of, is_process, is_current, is_open_to, with_request, with_answer, frozen_side, report_of, with_pending, with_view, is_taken_in}
+use Rattle.cast_view.specs.MemberSide.{MemberSide, no_group, members_of, holder_at, is_current, is_open_to, with_request, with_answer, frozen_side, report_of, with_pending, with_view, is_taken_in}
 use Rattle.cast_view.specs.Sites.{is_at, other_sites}
 use Rattle.cast_view.specs.Home.{HomeMove, first_home, is_empty, moved}
 use Rattle.cast_domain.specs.Shared.{part_boxing, part_pushing, part_taking, part_with, part_without, part_owing, part_renewing, part_paying, part_paying_upto, part_paying_view}
+use Rattle.cast_history.specs.State.{was_given}
 use Rattle.cast_history.specs.Rules.Interface.{Site, Sessions, Resting}
 use Rattle.cast_history.specs.Rules.Rest.{tell_if, told_of}
 use Rattle.cast_history.specs.Rules.Room.{may_order}
@@ -73,6 +76,8 @@ use Rattle.cast_model.specs.declared.event.Taken.{Taken}
 use Rattle.cast_history.specs.Rules.Sending.{may_raise}
 use Rattle.cast_history.specs.Reports.{is_unplaced, kept_list}
 use Rattle.cast_domain.specs.declared.rest.Delivery.{Delivery}
+use Rattle.cast_domain.specs.declared.rest.Weight.{Weight}
+use Rattle.cast_domain.specs.declared.rest.Weight.TheVariants.{Nothing, Placed, Hands}
 use Rattle.cast_domain.specs.Records.{Records}
 use Rattle.cast_domain.specs.Fits.{status_in}
 
@@ -230,8 +235,29 @@ note_joining_in r k g number heard = tell_in r (local_in r k) (fact.Standing g (
 abbrev pub note_outside_in : Records → ℕ → GroupNo → Records
 note_outside_in r k g = tell_in r (local_in r k) (fact.Standing g Outside)
 
+-- how many messages of a process of this site are stable in a view: all in a view of this site alone
+abbrev pub settled_in : Records → GroupNo → ℕ → Proc → ℕ
+settled_in r g view p = if is_empty (others_in r.acks g) then MAX_NUMBER else upto_in r.acks (named g view (p, 0))
+
+-- what is kept of a process that sent a set-order message: that it did so, and that the token is handed over, if it is
+abbrev pub sent_hand : ℕ → ℕ → Sequence → Hand → Hand
+sent_hand count stable s h =
+    let now : Hand = noted count (s.first + length s.ids - 1) stable h in if is_some s.holder then handed now else now
+
+-- the logs once a process here has sent a message, where its messages up to a count are stable
+abbrev pub orders_sent : List Log → Uid → ℕ → Body → List Log
+orders_sent orders u stable (body.Causal payload) = orders
+orders_sent orders u stable (body.Atomic payload) = orders
+orders_sent orders u stable (body.Order s) = change_log u.group (with_hand u.proc (sent_hand u.count stable s)) orders
+
+abbrev pub note_sent_by : Records → Proc → Message → Records
+note_sent_by r p m =
+    record (tell_in r p (fact.Time m.times)) {
+      orders = orders_sent r.orders m.id (settled_in r m.id.group m.id.view m.id.proc) m.body;
+    }
+
 abbrev pub note_sent_in : Records → ℕ → Message → Records
-note_sent_in r k m = tell_in r (local_in r k) (fact.Time m.times)
+note_sent_in r k m = note_sent_by r (local_in r k) m
 
 abbrev pub is_current_in : Records → Uid → Bool
 is_current_in r u = option_map_or (λ i. is_current (record_at r.groups i).here u.view) (place_in r u.group) false
@@ -257,13 +283,18 @@ abbrev pub take_in : GroupNo → ℕ → ℕ → Records → Proc → Records
 take_in g n request r p =
     if site_eq p.site r.site && is_taken_in request (standing_of r.delay p g) then enter_in g n r p else r
 
+-- a group's view has a holder, which is a process here, or none is
+abbrev pub holding_from : GroupNo → Option Proc → List Log → List Log
+holding_from g None orders = orders
+holding_from g (Some p) orders = change_log g (with_hand p (held 1)) orders
+
 abbrev pub view_in : Records → ℕ → ℕ → Membership → Records
 view_in r i n members =
     record r {
       groups = update r.groups i (λ x. record x { here = with_view r.site n members x.here });
       delay = queue_viewing (record_at r.groups i).name n r.delay;
       acks = told_ledger r.acks (record_at r.groups i).name n (other_sites r.site (members_of (with_view r.site n members (record_at r.groups i).here)));
-      orders = but_log (record_at r.groups i).name r.orders;
+      orders = holding_from (record_at r.groups i).name (holder_at r.site (with_view r.site n members (record_at r.groups i).here)) (but_log (record_at r.groups i).name r.orders);
     }
 
 abbrev pub complete_in : Records → ℕ → ℕ → Membership → ℕ → Records
@@ -360,18 +391,37 @@ with_name_of x m names = if is_kept_of x m then with_item entry_cmp (entry_of m.
 abbrev pub is_abcast_named : Entry → Message → Bool
 is_abcast_named e m = is_atomic (kind_of m.body) && entry_eq (entry_of m.id) e
 
+-- a process here holds the token of a group's view; the serials of those that do, and the first of them
+abbrev pub first_in : Records → GroupNo → ℕ → Option ℕ
+first_in r g k = (hand_here (log_of r.orders g) (local_in r k)).first
+
+-- what is kept of a process is of one that was let in here, and that holds the token
+abbrev pub holds_here : Records → Hand → Bool
+holds_here r h = is_some h.first && was_given r.used h.process.serial
+
+-- the processes here that hold the token of a group's view, in the order in which they are kept
+abbrev pub holders_among : Records → List Hand → List ℕ
+holders_among r hands = map (λ h. h.process.serial) (filter (holds_here r) hands)
+
+abbrev pub holders_in : Records → GroupNo → List ℕ
+holders_in r g = holders_among r (log_of r.orders g).hands
+
+-- the first of them
+abbrev pub holder_in : Records → GroupNo → Option Proc
+holder_in r g = option_map (λ h. local_in r h.process.serial) (find (holds_here r) (log_of r.orders g).hands)
+
 -- a kept message of the group's view is an ABCAST of this name, for which the view's order has no place
-abbrev pub is_unplaced_of : Records → GroupRecord → List Received → Entry → Bool
-is_unplaced_of r x kept e = is_unplaced (kept_of_view x kept) (whole_kept (log_of r.orders x.name)) e
+abbrev pub is_unplaced_of : Records → GroupRecord → Option Proc → List Received → Entry → Bool
+is_unplaced_of r x holder kept e = is_unplaced (kept_of_view x kept) (whole_kept (log_of r.orders x.name) holder) e
 
 -- the end of the order that a log has
-abbrev pub tail_in : Log → Stretch
-tail_in l = record { start = min MAX_POSITION (tail_start_in l); ids = tail_ids_in l }
+abbrev pub tail_in : Log → Option Proc → Stretch
+tail_in l o = record { start = min MAX_POSITION (tail_start_in l o); ids = tail_ids_in l o }
 
 abbrev pub report_at : Records → GroupRecord → Report
 report_at r x =
-    report_of x.here (had_of r x) (tail_in (log_of r.orders x.name))
-    (kept_list (kept_of_view x r.part.kept) (whole_kept (log_of r.orders x.name)))
+    report_of x.here (had_of r x) (tail_in (log_of r.orders x.name) (holder_in r x.name))
+    (kept_list (kept_of_view x r.part.kept) (whole_kept (log_of r.orders x.name) (holder_in r x.name)))
 
 -- some member here has not delivered a message of the view of a group
 abbrev pub is_awaited_of : Records → GroupRecord → Entry → Bool
@@ -438,6 +488,29 @@ is_ended_in r i u = group_eq u.group (record_at r.groups i).name && nat_lt u.vie
 abbrev pub pay_view_in : Records → GroupNo → Records
 pay_view_in r g = record r { part = part_paying_view r.part g }
 
+abbrev pub log_in : Records → GroupNo → Log
+log_in r g = log_of r.orders g
+
+-- how many ids that a process has to list will stand past so many places
+abbrev pub waiting_past : Log → Proc → ℕ → ℕ
+waiting_past l p places = length (hand_here l p).waiting - (places - length_of l)
+
+-- how many ids past those places that it has settled a process has delivered, where its messages up to a count are stable: of those that are
+-- forgotten all, of the order known as many as it has, and what it has to list behind that
+abbrev pub settled_at : Records → Proc → GroupRecord → ℕ
+settled_at r p x = settled_by (settled_in r x.name x.here.number p) (hand_here (log_in r x.name) p)
+
+abbrev pub unsettled_at : Records → Proc → GroupRecord → ℕ
+unsettled_at r p x =
+    ((log_in r x.name).base - settled_at r p x)
+    + length (filter (λ e. delivered_in r.delay p (named x.name x.here.number e)) (known_past (settled_at r p x) (log_in r x.name)))
+    + waiting_past (log_in r x.name) p (settled_at r p x)
+
+-- the place from which another process would order
+abbrev pub place_to_pass_of : Records → Proc → GroupRecord → Option ℕ
+place_to_pass_of r p x =
+    if (unsettled_at r p x == 0) && nat_lt (places_by (log_in r x.name) p) MAX_POSITION then Some (places_by (log_in r x.name) p + 1) else None
+
 -- The records as the rules see them: a group stands at a place
 
 abbrev pub records : Site Records ℕ
@@ -464,6 +537,8 @@ records = record {
   standing = λ r k g. standing_of r.delay (local_in r k) g;
   time = λ r k. time_of r.delay (local_in r k);
   awaits_own = λ r k. awaits_own_in r (local_in r k);
+  holds = λ r i k. is_some (first_in r (record_at r.groups i).name k);
+  place_to_pass = λ r i k. place_to_pass_of r (local_in r k) (record_at r.groups i);
   is_owed = λ r key. is_owed r.part.owed key;
   due = λ r. due_at r.moment r.part.owed;
   is_gone = λ r k. is_gone_status (status_in r.sessions k);
@@ -547,37 +622,36 @@ complete_pending_in r i members request cut = complete records r i (pending_of m
 
 -- The order of a view
 
-abbrev pub log_in : Records → GroupNo → Log
-log_in r g = log_of r.orders g
-
--- how many messages of a process of this site are stable in a view: all in a view of this site alone
-abbrev pub settled_in : Records → GroupNo → ℕ → Proc → ℕ
-settled_in r g view p = if is_empty (others_in r.acks g) then MAX_NUMBER else upto_in r.acks (named g view (p, 0))
-
--- a process is the holder of a group's view, and sets its order, while no flush has frozen it
-abbrev pub sets_order_at : Proc → MemberSide → Bool
-sets_order_at p here = is_process p (holder_of here) && not here.frozen
+-- a process holds the token of a group's view, and sets its order, while no flush has frozen it
+abbrev pub sets_order_at : Log → Proc → MemberSide → Bool
+sets_order_at l p here = is_some (hand_here l p).first && not here.frozen
 
 abbrev pub sets_order_in : Records → GroupNo → Proc → Bool
-sets_order_in r g p = option_map_or (λ i. sets_order_at p (record_at r.groups i).here) (place_in r g) false
+sets_order_in r g p = option_map_or (λ i. sets_order_at (log_in r (record_at r.groups i).name) p (record_at r.groups i).here) (place_in r g) false
+
+abbrev pub has_room_at : Records → Proc → GroupRecord → Bool
+has_room_at r p x =
+    may_order records r && (nat_lt (unsettled_at r p x) MAX_UNSETTLED && nat_lt (places_by (log_in r x.name) p) MAX_POSITION)
 
 -- the turn of a process in a group
 abbrev pub turn_at : Records → Proc → GroupRecord → Turn
 turn_at r p x =
-    if sets_order_at p x.here
-    then Holding (may_order records r && has_room_in_log (settled_in r x.name x.here.number p) (log_in r x.name))
+    if sets_order_at (log_in r x.name) p x.here then Holding (has_room_at r p x)
     else Following (slice_get (next_in (log_in r x.name) p) (passed_in r.delay p x.name x.here.number (next_in (log_in r x.name) p)))
 
 abbrev pub turns_in : Records → Proc → List (GroupNo × Turn)
 turns_in r p = map (λ x. (x.name, turn_at r p x)) r.groups
 
--- the order's log notes that a process delivered an ABCAST: the holder has one more to list, another process may have
--- passed places
+-- the order's log notes that a process delivered an ABCAST: who holds the token has one more to list, if it is not in the order known, another
+-- process may have passed places
+abbrev pub told_in : GroupNo → Proc → Entry → List Log → List Log
+told_in g p e orders = if is_among entry_eq e (log_of orders g).window then orders else change_log g (with_hand p (told e)) orders
+
 abbrev pub note_delivery_in : Records → Proc → Uid → Records
 note_delivery_in r p u =
     record r {
       orders =
-          if sets_order_in r u.group p then change_log u.group (told (entry_of u)) r.orders
+          if sets_order_in r u.group p then told_in u.group p (entry_of u) r.orders
           else change_log u.group (passed p (passed_in r.delay p u.group u.view (next_in (log_in r u.group) p))) r.orders;
     }
 
@@ -591,20 +665,29 @@ take_delivery_in r p key u =
       delivered = r.delivered ++ (r.config.domain, p, u) ∷ [];
     }
 
-abbrev pub note_if_in : Bool → Records → Proc → Uid → Records
-note_if_in atomic r p u = if atomic then note_delivery_in r p u else r
+-- what a delivery is to the order of its view: an ABCAST was delivered, or the token may be handed over, from a place on
+abbrev pub weight_of : Body → Weight
+weight_of (body.Causal payload) = Nothing
+weight_of (body.Atomic payload) = Placed
+weight_of (body.Order s) = elim s.holder [ Some p ↦ Hands p s.first | None ↦ Nothing ]
+
+abbrev pub note_weight_in : Weight → Records → Proc → Uid → Records
+note_weight_in Nothing r p u = r
+note_weight_in Placed r p u = note_delivery_in r p u
+note_weight_in (Hands q first) r p u =
+    record r { orders = if proc_eq q p then change_log u.group (with_hand p (held first)) r.orders else r.orders }
 
 -- and that is noted for the order of its view
 abbrev pub note_delivered_under : Records → Proc → Key → Message → Records
-note_delivered_under r p key m = note_if_in (is_atomic (kind_of m.body)) (take_delivery_in r p key m.id) p m.id
+note_delivered_under r p key m = note_weight_in (weight_of m.body) (take_delivery_in r p key m.id) p m.id
 
 -- what the delivery of a message is to a domain
 abbrev pub delivery_of : Message → Delivery
-delivery_of m = record { id = m.id; atomic = is_atomic (kind_of m.body); push = told_of m.id m.body }
+delivery_of m = record { id = m.id; weight = weight_of m.body; push = told_of m.id m.body }
 
 -- and its program is told
 abbrev pub deliver_as : Records → Proc → Key → Delivery → Records
-deliver_as r p key d = tell_if records (note_if_in d.atomic (take_delivery_in r p key d.id) p d.id) p.serial d.push
+deliver_as r p key d = tell_if records (note_weight_in d.weight (take_delivery_in r p key d.id) p d.id) p.serial d.push
 
 abbrev pub deliver_under : Records → Proc → Key → Message → Records
 deliver_under r p key m = deliver_as r p key (delivery_of m)
@@ -627,13 +710,6 @@ raised_at r i k = bumped (time_of r.delay (local_in r k)) (record_at r.groups i)
 abbrev pub may_list_of : Records → GroupRecord → Proc → Bool
 may_list_of r x p = is_member (standing_of r.delay p x.name) && (not x.here.frozen && may_order records r)
 
--- the holder of the group at a place lists what it has to list in its next message
-abbrev pub note_listed_in : Records → ℕ → ℕ → Records
-note_listed_in r i k =
-    let g : GroupNo = (record_at r.groups i).name in
-    let p : Proc = local_in r k in
-    record r { orders = change_log g (assigned (count_in (raised_at r i k) g p) (settled_in r g (record_at r.groups i).here.number p)) r.orders }
-
 abbrev pub resting_records : Resting Records ℕ
 resting_records = record {
   serials = serials_in;
@@ -643,8 +719,8 @@ resting_records = record {
   is_delivered = λ r u. not (is_awaited r.delay.rows u);
   has_cut = has_cut_in;
   missing = missing_in;
-  next_places = λ r i k. next_places (log_in r (record_at r.groups i).name);
+  holders = λ r i. holders_in r (record_at r.groups i).name;
+  next_places = λ r i k. next_places (log_in r (record_at r.groups i).name) (local_in r k);
   note_delivered = note_delivered_in;
-  note_listed = note_listed_in;
   release = release_all_in;
 }

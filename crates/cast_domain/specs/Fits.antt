@@ -1,7 +1,7 @@
 -- When a domain's records stand for a history.
 use Rattle.std.specs.Prelude.{◌≡◌, ℕ, ◌≤◌, Bool, not, ◌&&◌, ◌||◌, ◌==◌, true, nat_lt, if◌then◌else◌, List, [], length, map, filter, take, Contains, None, false}
 use Rattle.std.specs.Option.{IsSome, option_map_or}
-use Rattle.std.specs.List.{find, range_with_len, list_any}
+use Rattle.std.specs.List.{find, list_all, list_any, range_with_len}
 use Rattle.cast_types.specs.declared.names.DomainNo.{DomainNo}
 use Rattle.cast_types.specs.declared.names.SiteNo.{SiteNo}
 use Rattle.cast_types.specs.declared.names.GroupNo.{GroupNo}
@@ -20,8 +20,8 @@ use Rattle.cast_message.specs.declared.message.Message.{Message}
 use Rattle.cast_message.specs.declared.message.Received.{Received}
 use Rattle.cast_types.specs.declared.source.Source.{Source}
 use Rattle.cast_stable.specs.Fits.{Past, Fits as AcksFits}
-use Rattle.cast_order.specs.Order.{Listing}
-use Rattle.cast_order.specs.Log.{Log, log_of}
+use Rattle.cast_order.specs.Hand.{Hand, FitsHand, hands_rise}
+use Rattle.cast_order.specs.Log.{Log, log_of, hand_here}
 use Rattle.cast_order.specs.Fits.{Fits as OrderFits, FitsClosed}
 use Rattle.cast_domain.specs.declared.domain.Domain.{Domain}
 use Rattle.cast_domain.specs.declared.record.GroupRecord.{GroupRecord}
@@ -33,11 +33,11 @@ use Rattle.cast_quota.specs.declared.quotas.Quotas.{Quotas}
 use Rattle.cast_model.specs.declared.session.Status.{Status}
 use Rattle.cast_model.specs.declared.session.Status.TheVariants.{Gone}
 use Rattle.cast_model.specs.Session.{Session, no_session, is_gone, is_gone_status}
-use Rattle.cast_view.specs.MemberSide.{holder_at, is_pending}
+use Rattle.cast_view.specs.MemberSide.{is_pending}
 use Rattle.cast_view.specs.Home.{is_empty}
 use Rattle.cast_history.specs.Lawful.{IsLawful}
 use Rattle.cast_history.specs.State.{State, local, no_process, gate_of, others_of, may_speak, upto, was_given, is_received}
-use Rattle.cast_history.specs.Order.{facts_in, order_told, abcasts_delivered, lists_of}
+use Rattle.cast_history.specs.Order.{facts_in, order_told, token_of, abcasts_delivered, lists_of}
 use Rattle.cast_history.specs.Run.{before_event}
 use Rattle.cast_domain.specs.Shared.{Part}
 use Rattle.cast_model.specs.Outs.{no_outs}
@@ -83,20 +83,9 @@ past_of s =
       told = s.told;
     }
 
--- What the holder of a group's view did, where it is a process of this site: the ABCASTs that it delivered, its
--- set-order messages, and how many of its messages are stable
-
-abbrev pub told_here : State → GroupNo → List Entry
-told_here s g = option_map_or (λ p. abcasts_delivered s g p.serial) (holder_at s.here (s.group g)) []
-
-abbrev pub lists_here : State → GroupNo → Listing
-lists_here s g = option_map_or (λ p. lists_of s g p.serial) (holder_at s.here (s.group g)) []
-
+-- how many messages of a process of this site are stable
 abbrev pub settled_of : State → GroupNo → Proc → ℕ
 settled_of s g p = if is_empty (others_of s g) then MAX_NUMBER else upto s (named g (s.group g).number (p, 0))
-
-abbrev pub settled_here : State → GroupNo → ℕ
-settled_here s g = option_map_or (settled_of s g) (holder_at s.here (s.group g)) 0
 
 -- a member of the group here goes on through the order of its view
 abbrev pub goes_on : State → GroupNo → Proc → Bool
@@ -117,17 +106,29 @@ pub record IsOver (s : State) (g : GroupNo) (e : Entry) : Type 0 where
   pub let_go : is_still_kept s (named g (s.group g).number e) ≡ false
   pub counted : (k : ℕ) → is_member ((s.process k).standing g) ≡ true → e.0 ≡ local s k → e.1 ≤ count_in (s.process k).time g (local s k)
 
--- a log tells of the order of a group's view, as it was told, delivered and listed here; what is forgotten of it is over
-pub record TellsOrder (s : State) (g : GroupNo) (l : Log) : Type 0 where
-  -- so many messages of the holder were stable when it listed last
+-- what is kept of a process of this site tells of what it did in the view
+pub record TellsHand (s : State) (g : GroupNo) (k : ℕ) (h : Hand) : Type 0 where
+  -- so many of its messages were stable when it sent its last set-order message
   pub stable : ℕ
-  pub reached : stable ≤ settled_here s g
-  pub fits : OrderFits (facts_in s g) (told_here s g) (lists_here s g) (goes_on s g) (has_passed s g) stable l
-  pub counted : (x : ℕ × List Entry) → Contains (lists_here s g) x → x.0 ≤ MAX_NUMBER
+  pub reached : stable ≤ settled_of s g (local s k)
+  pub fits : FitsHand (order_told s g) (token_of s g k) (abcasts_delivered s g k) (lists_of s g k) stable h
+  pub counted : (x : ℕ × ℕ) → Contains (lists_of s g k) x → x.0 ≤ MAX_NUMBER
+
+-- a log tells of the order of a group's view, as it was told and delivered here; what is forgotten of it is over
+pub record TellsOrder (s : State) (g : GroupNo) (l : Log) : Type 0 where
+  pub fits : OrderFits (facts_in s g) (goes_on s g) (has_passed s g) l
+  pub hands : (k : ℕ) → TellsHand s g k (hand_here l (local s k))
   pub gone : (e : Entry) → is_among entry_eq e (take l.base (order_told s g)) ≡ true → IsOver s g e
 
--- a group's log does so until the Install of its next view waits, and then it has the order that the view ends with
+-- what is kept of processes is of those of a site alone, in their order
+abbrev pub AreOwn : SiteNo → List Hand → Type 0
+AreOwn here hands = (hands_rise hands ≡ true) × (list_all (λ h. site_eq h.process.site here) hands ≡ true)
+
+-- a group's log does so until the Install of its next view waits, and then it has the order that the view ends with. At all times it tells
+-- which processes of this site hold the token; what it has of processes is of this site's alone, in their order
 pub record LogFits (s : State) (g : GroupNo) (l : Log) : Type 0 where
+  pub tokens : (k : ℕ) → (hand_here l (local s k)).first ≡ token_of s g k
+  pub own : AreOwn s.here l.hands
   pub tells : is_pending (s.group g) ≡ false → TellsOrder s g l
   pub closed : is_pending (s.group g) ≡ true → FitsClosed (s.closed g) (goes_on s g) (has_passed s g) l
 

@@ -5,12 +5,11 @@ use Rattle.cast_types.specs.declared.names.SiteNo.{SiteNo}
 use Rattle.cast_types.specs.Names.{Entry}
 use Rattle.cast_timer.specs.Owed.{is_owed}
 use Rattle.cast_view.specs.Home.{may_start, may_decide}
-use Rattle.cast_view.specs.MemberSide.{holder_at}
 use Rattle.cast_history.specs.Rules.Asking.{is_home}
 use Rattle.cast_history.specs.Rules.Home.{start, want_bodies, wants, lead_group}
 use Rattle.cast_history.specs.Rules.Keys.{want_key}
 use Rattle.cast_history.specs.Rules.Flushes.{own_want_key, go_on, go_on_all}
-use Rattle.cast_history.specs.Rules.Order.{may_list, set_order, set_orders}
+use Rattle.cast_history.specs.Rules.Order.{may_list, set_order_by, set_order, set_orders}
 use Rattle.cast_history.specs.Rules.Rest.{deliver_all, settle}
 use Rattle.cast_history.specs.Rules.Sending.{may_raise}
 use Rattle.cast_domain.specs.Records.{Records}
@@ -33,10 +32,6 @@ lists_some r i k =
     may_list records resting_records r i k
     && (is_some (resting_records.next_places r i k) && may_raise (time_of r.delay (local_in r k)) (record_at r.groups i).name (local_in r k))
 
--- the holder of the group at a place lists ABCASTs, where it is a process of this site
-abbrev pub orders_at : Records → ℕ → Bool
-orders_at r i = elim (holder_at r.site (record_at r.groups i).here) [ Some p ↦ lists_some r i p.serial | None ↦ false ]
-
 -- an Install that waits is completed, or one of the messages that the site lacks is wanted from now on
 abbrev pub goes_on : Records → ℕ → Bool
 goes_on r i =
@@ -49,6 +44,14 @@ goes_on r i =
 abbrev pub changes_over : {X : Type 0} → (Records → X → Bool) → (Records → X → Records) → Records → List X → Bool
 changes_over flag step r [] = false
 changes_over flag step r (x ∷ xs) = flag r x || changes_over flag step (step r x) xs
+
+-- one of these processes lists ABCASTs of the group at a place
+abbrev pub orders_each : Records → ℕ → List ℕ → Bool
+orders_each r i ks = changes_over (λ t k. lists_some t i k) (λ t k. set_order_by records resting_records t i k) r ks
+
+-- a process of this site that holds the token of the group at a place does so
+abbrev pub orders_at : Records → ℕ → Bool
+orders_at r i = orders_each r i (resting_records.holders r i)
 
 -- the home of the group at a place starts a flush, wants a message from now on, or decides a view
 abbrev pub leads_in : Records → ℕ → Bool

@@ -112,9 +112,10 @@ impl Domain {
     {
         let record = self.record(place);
         let had = self.had(record)?;
-        let (start, ids) = self.orders.tail(record.name)?;
+        let holder = self.holder_here(record.name);
+        let (start, ids) = self.orders.tail(record.name, holder)?;
         let tail = tail_from(start, ids);
-        let kept = self.kept_of(record, lent.shared.store.kept(self.config.domain))?;
+        let kept = self.kept_of(record, holder, lent.shared.store.kept(self.config.domain))?;
         record.here.flushed(had.as_slice(), tail, kept)
     }
 
@@ -149,12 +150,17 @@ impl Domain {
     }
 
     // The names of kept messages of the view of a group, in order, each marked where it is an ABCAST for which its order has no place.
-    fn kept_of(&self, group: &GroupRecord, kept: &[Received]) -> Result<Kept, NoMemory>
-        ensures { IfOk result (λ list. list ≡ kept_list (kept_of_view group.now kept.now) (whole_kept (log_of self.now.orders group.now.name))) }
+    fn kept_of(
+        &self,
+        group: &GroupRecord,
+        holder: Option<Proc>,
+        kept: &[Received],
+    ) -> Result<Kept, NoMemory>
+        ensures { IfOk result (λ list. list ≡ kept_list (kept_of_view group.now kept.now) (whole_kept (log_of self.now.orders group.now.name) holder)) }
     {
         let mut names = self.names_of(group, kept)?;
         names.truncate(MAX_KEPT);
-        let marked = self.marked(group, kept, names.as_slice())?;
+        let marked = self.marked(group, holder, kept, names.as_slice())?;
         Ok(Kept::from_entries(marked))
     }
 
@@ -173,23 +179,30 @@ impl Domain {
     fn marked(
         &self,
         group: &GroupRecord,
+        holder: Option<Proc>,
         kept: &[Received],
         names: &[(Proc, u32)],
     ) -> Result<Vec<((Proc, u32), bool)>, NoMemory>
-        ensures { IfOk result (λ marked. marked.items ≡ map (λ e. (e, is_unplaced_of (own_records self.now) group.now kept.now e)) names.now) }
+        ensures { IfOk result (λ marked. marked.items ≡ map (λ e. (e, is_unplaced_of (own_records self.now) group.now holder kept.now e)) names.now) }
     {
         let mut marked = Vec::new(*self.groups.allocator());
         for name in names {
-            marked.push((*name, self.is_unplaced(group, kept, *name)))?;
+            marked.push((*name, self.is_unplaced(group, holder, kept, *name)))?;
         }
         Ok(marked)
     }
 
     // Whether a kept message of the view of a group is an ABCAST for which its order has no place.
-    fn is_unplaced(&self, group: &GroupRecord, kept: &[Received], name: (Proc, u32)) -> bool
-        ensures { result ≡ is_unplaced_of (own_records self.now) group.now kept.now name }
+    fn is_unplaced(
+        &self,
+        group: &GroupRecord,
+        holder: Option<Proc>,
+        kept: &[Received],
+        name: (Proc, u32),
+    ) -> bool
+        ensures { result ≡ is_unplaced_of (own_records self.now) group.now holder kept.now name }
     {
-        is_abcast_among(group, kept, name) && !self.orders.knows(group.name, name)
+        is_abcast_among(group, kept, name) && !self.orders.knows(group.name, holder, name)
     }
 
     // Forward: a message that the site wants is received, for which no room is needed.

@@ -4,7 +4,7 @@ ghost use Rattle.cast_types.specs.Names.{group_eq, proc_eq};
 ghost use Rattle.cast_types.specs.Counts.{is_counts};
 ghost use Rattle.cast_types.specs.Sets.{is_among};
 ghost use Rattle.cast_history.specs.Lawful.{IsTypedFrame};
-ghost use Rattle.cast_history.specs.Rules.Data.{counts_itself, is_used, is_well_formed, on_data, use_data};
+ghost use Rattle.cast_history.specs.Rules.Data.{counts_itself, is_used, is_well_formed, names_member, on_data, use_data};
 ghost use Rattle.cast_history.specs.Rules.Frames.{framed, group_of, on_frame};
 ghost use Rattle.cast_history.specs.Rules.Requests.{deny, deny_if, is_joining_by, on_asked, take_answer};
 
@@ -14,7 +14,7 @@ use crate::owing::ask_key;
 use crate::record::{answer_at, view_at};
 use cast_clock::Times;
 use cast_delay::Fact;
-use cast_message::{Members, Message, Push, SiteFrame};
+use cast_message::{Body, Members, Message, Push, SiteFrame};
 use cast_model::Outs;
 use cast_types::{Clock, GroupNo, NoMemory, Proc, Refusal, SiteNo, Standing, Uid};
 use cast_view::{Asking, is_among, is_taken_in, other_sites};
@@ -69,9 +69,9 @@ fn group_of(frame: &SiteFrame) -> GroupNo
 }
 
 impl Domain {
-    ghost use Rattle.cast_view.specs.MemberSide.{is_taken_in};
+    ghost use Rattle.cast_view.specs.MemberSide.{holder_at, is_taken_in};
     ghost use Rattle.cast_domain.specs.Records.{Keeps, KeepsBeside, Makes, MakesAlone, TellsAlone};
-    ghost use Rattle.cast_domain.specs.Calls.{records, complete_in, enter_in, send_in, standing_of, take_in, time_of, view_in};
+    ghost use Rattle.cast_domain.specs.Calls.{records, complete_in, enter_in, send_in, standing_of, take_in, time_of, view_in, holding_from, record_at};
     ghost use Rattle.cast_clock.specs.Times.{entering};
 
     // A frame comes from a site. One from a site or for a group that is not configured is ignored.
@@ -208,11 +208,15 @@ impl Domain {
         Ok(())
     }
 
-    // Whether all groups of the message's time are configured, its process is one of these members, and its own time counts it.
+    // Whether all groups of the message's time are configured, its process is one of these members, and so is the one to
+    // which it hands the token over, and its own time counts it.
     pub(crate) fn is_well_formed(&self, members: &[Proc], message: &Message) -> bool
         ensures { TellsAlone (λ r. is_well_formed records r members.now message.now) self.now result }
     {
-        self.knows_groups(message) && is_named(message.id.proc, members) && counts_itself(message)
+        self.knows_groups(message)
+            && is_named(message.id.proc, members)
+            && names_member(members, &message.body)
+            && counts_itself(message)
     }
 
     // Whether all groups of the message's time are configured.
@@ -329,7 +333,19 @@ impl Domain {
         let others = other_sites(alloc, self.site, self.record(place).here.members())?;
         self.acks.tell(group, view, others)?;
         self.orders.forget(group);
-        Ok(())
+        self.hold_from(place, group)
+    }
+
+    // Takes in that the view of the group at a place has a holder, where that is a process here.
+    fn hold_from(&mut self, place: usize, group: GroupNo) -> Result<(), NoMemory>
+        requires { place < vec_len self.old.groups }
+        ensures same { Keeps self.old self.new }
+        ensures made { OnOk result (MakesAlone (λ r. record r { orders = holding_from group (holder_at r.site (record_at r.groups place).here) r.orders }) self.old self.new) }
+    {
+        match self.record(place).here.holder_at(self.site) {
+            Some(holder) => self.orders.hold(group, holder, 1),
+            None => Ok(()),
+        }
     }
 
     // Each process here that a view takes in enters it.
@@ -413,6 +429,16 @@ pub(crate) fn is_named(process: Proc, members: &[Proc]) -> bool
     ensures { result ≡ is_among proc_eq process members.now }
 {
     members.iter().any(|member| process == *member)
+}
+
+// Whether the process to which a message hands the token over, if it does, is one of these.
+fn names_member(members: &[Proc], body: &Body) -> bool
+    ensures { result ≡ names_member members.now body.now }
+{
+    match body.new_holder() {
+        Some(holder) => is_named(holder, members),
+        None => true,
+    }
 }
 
 // Whether a group is one of these.

@@ -1,8 +1,12 @@
-ghost use Rattle.std.specs.Prelude.{◌≡◌, ◌<◌, IfOk, OnOk, vec_len};
-ghost use Rattle.std.specs.List.{list_any};
+ghost use Rattle.std.specs.Prelude.{◌≡◌, ◌<◌, min, nat_lt, filter, length, IfOk, OnOk, vec_len};
+ghost use Rattle.std.specs.List.{find, fold, list_any};
+ghost use Rattle.std.specs.Option.{option_copied};
 ghost use Rattle.cast_delay.specs.Ready.{is_member};
-ghost use Rattle.cast_domain.specs.Flags.{lists_some, orders_at, orders_some};
-ghost use Rattle.cast_domain.specs.Calls.{learn_in, record_at, sets_order_at};
+ghost use Rattle.cast_types.specs.Names.{named, entry_of};
+ghost use Rattle.cast_message.specs.declared.message.Body.TheVariants as body;
+ghost use Rattle.cast_domain.specs.Flags.{lists_some, orders_at, orders_each, orders_some};
+ghost use Rattle.cast_domain.specs.Calls.{learn_in, record_at};
+ghost use Rattle.cast_delay.specs.Queue.{delivered_in};
 ghost use Rattle.cast_history.specs.Rules.Room.{may_order, may_take};
 ghost use Rattle.cast_history.specs.Rules.Order.{may_list, send_places, set_order_by, set_order, set_orders};
 
@@ -13,18 +17,18 @@ use cast_clock::Times;
 use cast_delay::{Fact, Turn};
 use cast_message::{Body, Message, Placement, Received};
 use cast_model::Outs;
-use cast_order::Orders;
-use cast_types::limits::MAX_NUMBER;
+use cast_order::{OrderHand, Orders};
+use cast_types::limits::{MAX_NUMBER, MAX_POSITION, MAX_UNSETTLED};
 use cast_types::{GroupNo, Key, Kind, NoMemory, Proc, Stamp, Standing, Uid};
-use cast_view::MemberSide;
 
 impl Domain {
     ghost use Rattle.cast_domain.specs.Records.{Keeps, KeepsBeside, records_in, own_records, Makes, MakesAlone, StaysUnless, TellsAlone};
-    ghost use Rattle.cast_domain.specs.Calls.{awaits_own_in, records, resting_records, sets_order_in, is_own_in, note_delivery_in, ready_key_in, settled_in, raised_at, turn_at, turns_in, may_list_of};
+    ghost use Rattle.cast_domain.specs.Calls.{awaits_own_in, records, resting_records, sets_order_in, is_own_in, note_delivery_in, ready_key_in, settled_in, raised_at, turn_at, turns_in, may_list_of, sets_order_at, waiting_past, has_room_at, settled_at, unsettled_at, holds_here, holder_in, holders_in, added_if, note_sent_by, orders_sent, told_in};
+    ghost use Rattle.cast_order.specs.Log.{log_of, places_by};
 
     // Whether a set-order message may be sent or received beside the messages that are kept, and a holder may deliver
     // an ABCAST.
-    fn has_order_room(&self, lent: &Lent<'_>) -> bool
+    pub(crate) fn has_order_room(&self, lent: &Lent<'_>) -> bool
         ensures { result ≡ may_order records (records_in self.now lent.now) }
     {
         self.quotas.check_order(self.held(lent))
@@ -92,17 +96,150 @@ impl Domain {
     fn turn(&self, process: Proc, kept: &GroupRecord, lent: &Lent<'_>) -> Turn
         ensures { result ≡ turn_at (records_in self.now lent.now) process kept.now }
     {
-        if sets_order(&kept.here, process) {
-            let settled = self.settled(kept.name, kept.here.number(), process);
-            return Turn::Holding(
-                self.has_order_room(lent) && self.orders.has_room(kept.name, settled),
-            );
+        if self.is_held_by(kept, process) {
+            return Turn::Holding(self.may_place(process, kept, lent));
         }
         let ids = self.orders.next(kept.name, process);
         let passed = self
             .delay
             .passed(process, kept.name, kept.here.number(), ids);
         Turn::Following(ids.get(passed).copied())
+    }
+
+    // Whether a process holds the token of a group's view and sets its order, which it does while no flush has frozen the group.
+    fn is_held_by(&self, kept: &GroupRecord, process: Proc) -> bool
+        ensures { result ≡ sets_order_at (log_of self.now.orders kept.now.name) process kept.now.here }
+    {
+        self.orders.first(kept.name, process).is_some() && !kept.here.is_frozen()
+    }
+
+    // Whether a process that holds the token may deliver one more ABCAST.
+    fn may_place(&self, process: Proc, kept: &GroupRecord, lent: &Lent<'_>) -> bool
+        ensures { result ≡ has_room_at (records_in self.now lent.now) process kept.now }
+    {
+        self.has_order_room(lent)
+            && self.is_unsettled_below_most(process, kept)
+            && self.places_by(kept.name, process) < MAX_POSITION as usize
+    }
+
+    // Whether a process has delivered fewer ids past those places that it has settled than it may. They are counted only where
+    // there are so many places at all.
+    fn is_unsettled_below_most(&self, process: Proc, kept: &GroupRecord) -> bool
+        ensures { result ≡ nat_lt (unsettled_at (own_records self.now) process kept.now) MAX_UNSETTLED }
+    {
+        let settled = self.settled_to(process, kept);
+        let known = self.orders.length(kept.name).saturating_sub(settled);
+        known.saturating_add(self.waiting_past(process, kept.name, settled)) < MAX_UNSETTLED
+            || self.unsettled(process, kept) < MAX_UNSETTLED
+    }
+
+    // How many places a process has settled.
+    fn settled_to(&self, process: Proc, kept: &GroupRecord) -> usize
+        ensures { result ≡ settled_at (own_records self.now) process kept.now }
+    {
+        let stable = self.settled(kept.name, kept.here.number(), process);
+        self.orders.settled(kept.name, process, stable)
+    }
+
+    // How many places there are up to the last id that a process has to list.
+    pub(crate) fn places_by(&self, group: GroupNo, process: Proc) -> usize
+        ensures { result ≡ min 18446744073709551615 (places_by (log_of self.now.orders group) process) }
+    {
+        self.orders
+            .length(group)
+            .saturating_add(self.orders.waiting(group, process).len())
+    }
+
+    // How many ids past those places that it has settled a process has delivered.
+    pub(crate) fn unsettled(&self, process: Proc, kept: &GroupRecord) -> usize
+        ensures { result ≡ min 18446744073709551615 (unsettled_at (own_records self.now) process kept.now) }
+    {
+        let settled = self.settled_to(process, kept);
+        let forgotten = self.orders.forgotten(kept.name).saturating_sub(settled);
+        let delivered = self.delivered_of(process, kept, self.orders.past(kept.name, settled));
+        forgotten
+            .saturating_add(delivered)
+            .saturating_add(self.waiting_past(process, kept.name, settled))
+    }
+
+    // How many ids that a process has to list will stand past so many places.
+    fn waiting_past(&self, process: Proc, group: GroupNo, places: usize) -> usize
+        ensures { result ≡ waiting_past (log_of self.now.orders group) process places }
+    {
+        let ahead = places.saturating_sub(self.orders.length(group));
+        self.orders
+            .waiting(group, process)
+            .len()
+            .saturating_sub(ahead)
+    }
+
+    // How many of these ids of the view of a group a process has delivered.
+    fn delivered_of(&self, process: Proc, kept: &GroupRecord, ids: &[(Proc, u32)]) -> usize
+        ensures { result ≡ length (filter (λ e. delivered_in self.now.delay process (named kept.now.name kept.now.here.number e)) ids.now) }
+    {
+        ids.iter()
+            .filter(|id| self.has_delivered_of(process, kept, **id))
+            .count()
+    }
+
+    // Whether a process has delivered an id of the view of a group.
+    fn has_delivered_of(&self, process: Proc, kept: &GroupRecord, id: (Proc, u32)) -> bool
+        ensures { result ≡ delivered_in self.now.delay process (named kept.now.name kept.now.here.number id) }
+    {
+        self.delay.has_delivered(
+            process,
+            Uid {
+                group: kept.name,
+                view: kept.here.number(),
+                proc: id.0,
+                count: id.1,
+            },
+        )
+    }
+
+    // The first process here that holds the token of a group's view.
+    pub(crate) fn holder_here(&self, group: GroupNo) -> Option<Proc>
+        ensures { TellsAlone (λ r. holder_in r group) self.now result }
+    {
+        match self.first_holding(self.orders.hands(group)) {
+            Some(hand) => Some(self.process(hand.process.serial)),
+            None => None,
+        }
+    }
+
+    // The first of what is kept of processes that is of one that holds the token.
+    fn first_holding<'a>(&self, hands: &'a [OrderHand]) -> Option<&'a OrderHand>
+        ensures { option_copied result ≡ find (holds_here (own_records self.now)) hands.now }
+    {
+        hands.iter().find(|hand| self.holds_here(hand))
+    }
+
+    // The processes here that hold the token of a group's view, by serial.
+    fn holders(&self, group: GroupNo) -> Result<Vec<u32>, NoMemory>
+        ensures { IfOk result (λ holders. holders.items ≡ holders_in (own_records self.now) group) }
+    {
+        let mut holders = Vec::new(*self.groups.allocator());
+        for hand in self.orders.hands(group) {
+            self.add_holder(hand, &mut holders)?;
+        }
+        Ok(holders)
+    }
+
+    // Adds the serial of a process, if it holds the token.
+    fn add_holder(&self, hand: &OrderHand, holders: &mut Vec<u32>) -> Result<(), NoMemory>
+        ensures { OnOk result (holders.new.items ≡ added_if (holds_here (own_records self.now) hand.now) hand.now.process.serial holders.old.items) }
+    {
+        if self.holds_here(hand) {
+            holders.push(hand.process.serial)?;
+        }
+        Ok(())
+    }
+
+    // Whether what is kept of a process is of one that was let in here, and that holds the token.
+    fn holds_here(&self, hand: &OrderHand) -> bool
+        ensures { result ≡ holds_here (own_records self.now) hand.now }
+    {
+        hand.first().is_some() && 0 < hand.process.serial && hand.process.serial <= self.used
     }
 
     // How many messages of a process of this site are stable in a view: all in a view of this site alone.
@@ -127,19 +264,30 @@ impl Domain {
         ensures made { OnOk result (MakesAlone (λ r. note_delivery_in r process id) self.old self.new) }
     {
         if self.sets_order(id.group, process) {
-            return self.orders.tell(id.group, (id.proc, id.count));
+            return self.tell_delivery(process, id);
         }
         let ids = self.orders.next(id.group, process);
         let passed = self.delay.passed(process, id.group, id.view, ids);
         self.orders.pass(id.group, process, passed)
     }
 
-    // Whether a process is the holder of a group's view and sets its order, which it does while no flush has frozen the group.
+    // Notes that a process that holds the token delivered an ABCAST: it has one more to list, if that is not in the order known.
+    fn tell_delivery(&mut self, process: Proc, id: Uid) -> Result<(), NoMemory>
+        ensures same { Keeps self.old self.new }
+        ensures made { OnOk result (MakesAlone (λ r. record r { orders = told_in id.group process (entry_of id) r.orders }) self.old self.new) }
+    {
+        if self.orders.knows(id.group, None, (id.proc, id.count)) {
+            return Ok(());
+        }
+        self.orders.tell(id.group, process, (id.proc, id.count))
+    }
+
+    // Whether a process holds the token of a group's view and sets its order, which it does while no flush has frozen the group.
     fn sets_order(&self, group: GroupNo, process: Proc) -> bool
         ensures { TellsAlone (λ r. sets_order_in r group process) self.now result }
     {
         match self.place_of(group) {
-            Some(place) => sets_order(&self.record(place).here, process),
+            Some(place) => self.is_held_by(self.record(place), process),
             None => false,
         }
     }
@@ -159,20 +307,43 @@ impl Domain {
         Ok(changed)
     }
 
-    // The holder of the group at a place sets its order, where it is a process of this site.
+    // Each process here that holds the token of the group at a place sets its order.
     fn set_order(&mut self, place: usize, lent: &mut Lent<'_>) -> Result<bool, NoMemory>
+        requires { place < vec_len self.old.groups }
         ensures stays { KeepsBeside self.old lent.old self.new lent.new }
         ensures made { OnOk result (Makes (λ r. set_order records resting_records r place) self.old lent.old self.new lent.new) }
         ensures still { IfOk result (StaysUnless self.old lent.old self.new lent.new) }
         ensures told { IfOk result (λ changed. changed ≡ orders_at (records_in self.old lent.old) place) }
+        ensures len { vec_len self.new.groups ≡ vec_len self.old.groups }
     {
-        if place >= self.groups.len() {
+        let group = self.record(place).name;
+        if !self.orders.waits(group) {
             return Ok(false);
         }
-        match self.record(place).here.holder_at(self.site) {
-            Some(holder) => self.set_order_by(place, holder.serial, lent),
-            None => Ok(false),
+        let holders = self.holders(group)?;
+        self.set_order_by_each(place, holders.as_slice(), lent)
+    }
+
+    // Processes here set the order of the group at a place, one after another.
+    fn set_order_by_each(
+        &mut self,
+        place: usize,
+        holders: &[u32],
+        lent: &mut Lent<'_>,
+    ) -> Result<bool, NoMemory>
+        requires { place < vec_len self.old.groups }
+        ensures stays { KeepsBeside self.old lent.old self.new lent.new }
+        ensures made { OnOk result (Makes (λ r. fold (λ t k. set_order_by records resting_records t place k) r holders.now) self.old lent.old self.new lent.new) }
+        ensures still { IfOk result (StaysUnless self.old lent.old self.new lent.new) }
+        ensures told { IfOk result (λ changed. changed ≡ orders_each (records_in self.old lent.old) place holders.now) }
+        ensures len { vec_len self.new.groups ≡ vec_len self.old.groups }
+    {
+        let mut changed = false;
+        for serial in holders {
+            let set = self.set_order_by(place, *serial, lent)?;
+            changed = changed | set;
         }
+        Ok(changed)
     }
 
     // The holder lists ABCASTs, where it has some to list and there is room.
@@ -187,10 +358,11 @@ impl Domain {
         ensures made { OnOk result (Makes (λ r. set_order_by records resting_records r place serial) self.old lent.old self.new lent.new) }
         ensures still { IfOk result (StaysUnless self.old lent.old self.new lent.new) }
         ensures told { IfOk result (λ changed. changed ≡ lists_some (records_in self.old lent.old) place serial) }
+        ensures len { vec_len self.new.groups ≡ vec_len self.old.groups }
     {
         let holder = self.process(serial);
         let group = self.record(place).name;
-        let Some(places) = self.orders.assign(group)? else {
+        let Some(places) = self.orders.assign(group, holder)? else {
             return Ok(false);
         };
         if !self.may_list(place, holder, lent) {
@@ -231,6 +403,7 @@ impl Domain {
         requires stamped { stamp ≡ time }
         ensures stays { KeepsBeside self.old lent.old self.new lent.new }
         ensures made { OnOk result (Makes (λ r. send_places records resting_records r place serial places) self.old lent.old self.new lent.new) }
+        ensures len { vec_len self.new.groups ≡ vec_len self.old.groups }
     {
         let holder = self.process(serial);
         let group = self.record(place).name;
@@ -246,19 +419,54 @@ impl Domain {
             times: stamp,
             body: Body::Order(places),
         };
-        let settled = self.settled(group, view, holder);
-        self.orders.note(group, count, settled)?;
-        self.tell(holder, Fact::Time(time))?;
+        self.note_sent(holder, time, &message)?;
         self.send_message(message, lent)?;
         Ok(())
     }
-}
 
-// Whether a process is the holder of a view at a site and sets its order, which it does while no flush has frozen the group.
-fn sets_order(here: &MemberSide, process: Proc) -> bool
-    ensures { result ≡ sets_order_at process here.now }
-{
-    here.is_held_by(process) && !here.is_frozen()
+    // Takes in that a process here has sent a message, and has its time.
+    pub(crate) fn note_sent(
+        &mut self,
+        process: Proc,
+        time: Times,
+        message: &Message,
+    ) -> Result<(), NoMemory>
+        requires { message.now.times ≡ time }
+        ensures same { Keeps self.old self.new }
+        ensures made { OnOk result (MakesAlone (λ r. note_sent_by r process message.now) self.old self.new) }
+        ensures groups { self.new.groups ≡ self.old.groups }
+    {
+        self.note_order(message)?;
+        self.tell(process, Fact::Time(time))
+    }
+
+    // Takes in what a message that a process here has sent says of the order.
+    fn note_order(&mut self, message: &Message) -> Result<(), NoMemory>
+        ensures same { Keeps self.old self.new }
+        ensures made { OnOk result (MakesAlone (λ r. record r { orders = orders_sent r.orders message.now.id (settled_in r message.now.id.group message.now.id.view message.now.id.proc) message.now.body }) self.old self.new) }
+        ensures groups { self.new.groups ≡ self.old.groups }
+    {
+        match &message.body {
+            Body::Order(places) => self.note_places(message.id, places),
+            Body::Causal(_) | Body::Atomic(_) => Ok(()),
+        }
+    }
+
+    // Takes in that a process here has sent a set-order message of these places, and whether it handed over the token.
+    fn note_places(&mut self, id: Uid, places: &Placement) -> Result<(), NoMemory>
+        ensures same { Keeps self.old self.new }
+        ensures made { OnOk result (MakesAlone (λ r. record r { orders = orders_sent r.orders id (settled_in r id.group id.view id.proc) (body.Order places.now) }) self.old self.new) }
+        ensures groups { self.new.groups ≡ self.old.groups }
+    {
+        let settled = self.settled(id.group, id.view, id.proc);
+        let last = (places.first() as usize + places.ids().len()).saturating_sub(1);
+        self.orders
+            .note(id.group, id.proc, id.count, last, settled)?;
+        if places.holder().is_some() {
+            self.orders.hand_over(id.group, id.proc)?;
+        }
+        Ok(())
+    }
 }
 
 // Takes in what a received message tells of the order of its view.

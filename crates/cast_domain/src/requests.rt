@@ -1,32 +1,33 @@
 ghost use Rattle.std.specs.Prelude.{◌≡◌, ◌<◌, ◌≤◌, ◌+◌, ◌==◌, IfOk, OnOk, Some, None, length, vec_len};
 ghost use Rattle.std.specs.List.{fold};
-ghost use Rattle.cast_history.specs.Rules.Commands.{body_of, cast, cast_at, commanded, join, join_at, requested};
+ghost use Rattle.cast_history.specs.Rules.Commands.{body_of, cast, cast_at, commanded, join, join_at, pass_at, pass_token, requested};
 ghost use Rattle.cast_model.specs.declared.event.Event.TheVariants as event;
 ghost use Rattle.cast_domain.specs.Calls.{record_at};
 ghost use Rattle.cast_history.specs.Rules.Sending.{send_data, send_message};
 ghost use Rattle.cast_history.specs.Rules.Asking.{ask_home, request};
 
 use crate::domain::Domain;
+use crate::frames::is_named;
 use crate::lent::Lent;
 use crate::order::learn;
 use crate::owing::{ask_key, message_key};
-use crate::record::ask_at;
+use crate::record::{GroupRecord, ask_at};
 use bytes::Bytes;
 use cast_clock::{ClockFault, Times};
 use cast_delay::Fact;
-use cast_message::{Body, CastKind, Change, Command, Message, Payload, Request};
+use cast_message::{Body, CastKind, Change, Command, Message, Payload, Placement, Request};
 use cast_model::{Outs, Taken};
 use cast_timer::OwedKind;
-use cast_types::limits::{MAX_NUMBER, MAX_PAYLOAD};
+use cast_types::limits::{MAX_NUMBER, MAX_PAYLOAD, MAX_POSITION};
 use cast_types::{GroupNo, NoMemory, Proc, Refusal, SiteNo, Stamp, Standing, Uid};
 use std::alloc::AllocError;
 
 impl Domain {
     ghost use Rattle.cast_clock.specs.Times.{view_of};
     ghost use Rattle.cast_model.specs.declared.event.Outs.{Outs};
-    ghost use Rattle.cast_domain.specs.Records.{GivesBack, KeepsBeside, records_in, records_of, Makes, Attempts, number_of};
+    ghost use Rattle.cast_domain.specs.Records.{GivesBack, KeepsBeside, own_records, records_in, records_of, Makes, Attempts, number_of};
     ghost use Rattle.cast_domain.specs.Shared.{Part};
-    ghost use Rattle.cast_domain.specs.Calls.{raised_in, records, receive_in, time_of, answered_in};
+    ghost use Rattle.cast_domain.specs.Calls.{raised_in, records, receive_in, time_of, answered_in, place_to_pass_of};
 
     // A program does something.
     pub(crate) fn command(
@@ -75,6 +76,10 @@ impl Domain {
                 ..
             } => {
                 let refusal = self.cast(serial, *group, *kind, payload, lent)?;
+                self.push(serial, request.reply(refusal), lent)
+            }
+            Request::Pass { group, to, .. } => {
+                let refusal = self.pass_token(serial, *group, *to, lent)?;
                 self.push(serial, request.reply(refusal), lent)
             }
         }
@@ -238,10 +243,102 @@ impl Domain {
             times: stamp,
             body: body_of(kind, content),
         };
-        self.tell(process, Fact::Time(time))?;
+        self.note_sent(process, time, &message)?;
         self.send_message(message, lent)?;
         self.casts = self.casts.saturating_add(1);
         Ok(None)
+    }
+
+    // Hands the token of a group over for a process, or says why not.
+    fn pass_token(
+        &mut self,
+        serial: u32,
+        group: GroupNo,
+        to: Proc,
+        lent: &mut Lent<'_>,
+    ) -> Result<Option<Refusal>, NoMemory>
+        ensures stays { KeepsBeside self.old lent.old self.new lent.new }
+        ensures made { IfOk result (Attempts (λ r. pass_token records r serial group «to») self.old lent.old self.new lent.new) }
+    {
+        match self.place_of(group) {
+            Some(place) => self.pass_at(place, serial, group, to, lent),
+            None => Ok(Some(Refusal::NoGroup)),
+        }
+    }
+
+    // Hands the token of the group at this place over.
+    fn pass_at(
+        &mut self,
+        at: usize,
+        serial: u32,
+        group: GroupNo,
+        to: Proc,
+        lent: &mut Lent<'_>,
+    ) -> Result<Option<Refusal>, NoMemory>
+        requires { at < vec_len self.old.groups }
+        ensures stays { KeepsBeside self.old lent.old self.new lent.new }
+        ensures made { IfOk result (Attempts (λ r. pass_at records r serial group «to» at) self.old lent.old self.new lent.new) }
+    {
+        let process = self.process(serial);
+        match self.delay.standing(process, group) {
+            Standing::Member => {}
+            Standing::Outside | Standing::Joining { .. } => {
+                return Ok(Some(Refusal::NotMember));
+            }
+        }
+        let kept = self.record(at);
+        if !is_named(to, kept.here.members()) {
+            return Ok(Some(Refusal::NotMember));
+        }
+        if kept.here.is_frozen() {
+            return Ok(Some(Refusal::Flushing));
+        }
+        if self.awaits_own(process, lent) {
+            return Ok(Some(Refusal::OwnAbcast));
+        }
+        if self.orders.first(kept.name, process).is_none() {
+            return Ok(Some(Refusal::NotHolder));
+        }
+        if !self.has_order_room(lent) {
+            return Ok(Some(Refusal::HeldFull));
+        }
+        let Some((time, stamp)) = self.raised(process, group)? else {
+            return Ok(Some(Refusal::HeldFull));
+        };
+        let Some(place) = self.place_to_pass(process, kept) else {
+            return Ok(Some(Refusal::HeldFull));
+        };
+        if to == process {
+            return Ok(None);
+        }
+        let message = Message {
+            id: Uid {
+                group,
+                view: kept.here.number(),
+                proc: process,
+                count: time.count(group, process),
+            },
+            times: stamp,
+            body: Body::Order(Placement::from_parts(
+                place,
+                Vec::new(*self.groups.allocator()),
+                Some(to),
+            )),
+        };
+        self.note_sent(process, time, &message)?;
+        self.send_message(message, lent)?;
+        Ok(None)
+    }
+
+    // The place from which another process would order.
+    fn place_to_pass(&self, process: Proc, kept: &GroupRecord) -> Option<u32>
+        ensures { result ≡ place_to_pass_of (own_records self.now) process kept.now }
+    {
+        let places = self.places_by(kept.name, process);
+        if self.unsettled(process, kept) > 0 || places >= MAX_POSITION as usize {
+            return None;
+        }
+        Some(places as u32 + 1)
     }
 
     // The time of a process with one more message of its own, and the stamp that this message bears. None where the
@@ -279,6 +376,7 @@ impl Domain {
     ) -> Result<(), NoMemory>
         ensures stays { KeepsBeside self.old lent.old self.new lent.new }
         ensures made { OnOk result (Makes (λ r. send_message records r message) self.old lent.old self.new lent.new) }
+        ensures len { vec_len self.new.groups ≡ vec_len self.old.groups }
     {
         let id = message.id;
         self.receive(message, lent)?;
@@ -313,6 +411,7 @@ impl Domain {
     pub(crate) fn receive(&mut self, message: Message, lent: &mut Lent<'_>) -> Result<(), NoMemory>
         ensures stays { KeepsBeside self.old lent.old self.new lent.new }
         ensures made { OnOk result (Makes (λ r. receive_in r message) self.old lent.old self.new lent.new) }
+        ensures len { vec_len self.new.groups ≡ vec_len self.old.groups }
     {
         let key = lent.shared.store.next_key(self.config.domain);
         self.delay.offer(key, &message)?;

@@ -1,7 +1,8 @@
 ghost use Rattle.std.specs.Prelude.{◌≡◌, ◌<◌, IfOk, OnOk, vec_len};
 ghost use Rattle.std.specs.List.{fold};
-ghost use Rattle.cast_domain.specs.Calls.{delivery_of};
+ghost use Rattle.cast_domain.specs.Calls.{delivery_of, weight_of};
 ghost use Rattle.cast_domain.specs.Flags.{delivers_some, has_ready, passes_some};
+ghost use Rattle.cast_domain.specs.declared.rest.Weight.TheVariants.{Hands};
 ghost use Rattle.cast_history.specs.Rules.Rest.{told_of, tell_if, deliver_first, deliver_all, settle, pass};
 
 use crate::domain::Domain;
@@ -11,11 +12,21 @@ use cast_model::Outs;
 use cast_types::{Key, NoMemory, Proc, Uid};
 use std::alloc::AllocError;
 
-/// What the delivery of a message is to a domain: its id, whether it is an ABCAST, and what the program is told of it.
+/// What a delivery is to the order of its view.
+#[derive(Clone, Copy, Debug, PartialEq, Eq)]
+pub(crate) enum Weight {
+    Nothing,
+    /// An ABCAST was delivered.
+    Placed,
+    /// The token is handed over to this process, which orders from this place on.
+    Hands(Proc, u32),
+}
+
+/// What the delivery of a message is to a domain: its id, what it is to the order of its view, and what the program is told of it.
 #[derive(Drop)]
 pub(crate) struct Delivery {
     id: Uid,
-    atomic: bool,
+    weight: Weight,
     push: Option<Push>,
 }
 
@@ -23,7 +34,7 @@ impl Domain {
     ghost use Rattle.cast_domain.specs.Records.{Keeps, KeepsBeside, records_in, Makes, MakesAlone, MakesWithOuts, StaysUnless};
     ghost use Rattle.cast_domain.specs.Fits.{AreDismissed};
     ghost use Rattle.cast_domain.specs.Stepped.{IsRested};
-    ghost use Rattle.cast_domain.specs.Calls.{deliver_as, note_if_in, records, resting_records, take_delivery_in};
+    ghost use Rattle.cast_domain.specs.Calls.{deliver_as, note_weight_in, records, resting_records, take_delivery_in};
 
     // What follows from an event, until nothing changes. No run makes 2^64 passes.
     pub(crate) fn rest(&mut self, lent: &mut Lent<'_>) -> Result<(), NoMemory>
@@ -120,7 +131,7 @@ impl Domain {
         ensures made { OnOk result (Makes (λ r. deliver_as r process key delivery) self.old lent.old self.new lent.new) }
     {
         self.take_delivery(process, key, delivery.id, lent.outs)?;
-        self.note_if(delivery.atomic, process, delivery.id)?;
+        self.note_weight(delivery.weight, process, delivery.id)?;
         self.push_delivery(process, delivery.push, lent)?;
         Ok(())
     }
@@ -141,13 +152,31 @@ impl Domain {
         Ok(())
     }
 
-    // Notes for the order of its view that a process delivered a message, if it is an ABCAST.
-    fn note_if(&mut self, atomic: bool, process: Proc, id: Uid) -> Result<(), NoMemory>
+    // Notes for the order of its view that a process delivered a message.
+    fn note_weight(&mut self, weight: Weight, process: Proc, id: Uid) -> Result<(), NoMemory>
         ensures same { Keeps self.old self.new }
-        ensures made { OnOk result (MakesAlone (λ r. note_if_in atomic r process id) self.old self.new) }
+        ensures made { OnOk result (MakesAlone (λ r. note_weight_in weight r process id) self.old self.new) }
     {
-        if atomic {
-            self.note_delivery(process, id)?;
+        match weight {
+            Weight::Nothing => Ok(()),
+            Weight::Placed => self.note_delivery(process, id),
+            Weight::Hands(holder, first) => self.take_token(holder, first, process, id),
+        }
+    }
+
+    // Takes in that the token is handed over to a process, if that is this one.
+    fn take_token(
+        &mut self,
+        holder: Proc,
+        first: u32,
+        process: Proc,
+        id: Uid,
+    ) -> Result<(), NoMemory>
+        ensures same { Keeps self.old self.new }
+        ensures made { OnOk result (MakesAlone (λ r. note_weight_in (Hands holder first) r process id) self.old self.new) }
+    {
+        if holder == process {
+            self.orders.hold(id.group, process, first)?;
         }
         Ok(())
     }
@@ -175,9 +204,23 @@ fn delivery_of(message: &Message) -> Result<Delivery, NoMemory>
 {
     Ok(Delivery {
         id: message.id,
-        atomic: message.kind().is_atomic(),
+        weight: weight_of(&message.body),
         push: push_of(message)?,
     })
+}
+
+// What a delivery is to the order of its view.
+fn weight_of(body: &Body) -> Weight
+    ensures { result ≡ weight_of body.now }
+{
+    match body {
+        Body::Causal(_) => Weight::Nothing,
+        Body::Atomic(_) => Weight::Placed,
+        Body::Order(places) => match places.holder() {
+            Some(holder) => Weight::Hands(holder, places.first()),
+            None => Weight::Nothing,
+        },
+    }
 }
 
 // What a program is told of a message that its process delivers: of a set-order message nothing.

@@ -1,21 +1,22 @@
 -- The ids of tails, of placements and of kept messages are read as they were spelled.
-use Rattle.std.proofs.Common.{◌≡◌, ℕ, ◌≤◌, ◌<◌, ◌^◌, Bool, true, false, ◌&&◌, eqb, List, [], ◌∷◌, ◌++◌, length, Option, None, Ok, refl, sym, ap, subst, ◌∙◌, append_assoc, arith, lit≤, lit<, inl, inr}
-use Rattle.std.specs.Prelude.{nat_le}
+use Rattle.std.proofs.Common.{◌≡◌, ℕ, ◌≤◌, ◌<◌, ◌^◌, Bool, true, false, ◌&&◌, eqb, List, [], ◌∷◌, ◌++◌, length, Option, Some, None, Ok, refl, sym, ap, subst, ◌∙◌, append_assoc, arith, lit≤, lit<, inl, inr}
+use Rattle.std.specs.Prelude.{nat_le, ◌||◌, is_some}
 use Rattle.std.specs.List.{flat_map, AllByRecursion}
 use Rattle.std.specs.Int.{w16, w32}
 use Rattle.std.specs.FinMap.Entries.{is_sorted}
 use Rattle.std.proofs.lemmas.Bool.{and_parts, and_from, cases_Bool, false≢true, le-leb, leb-true, eqb-true, eq-eqb}
+use Rattle.cast_types.specs.declared.names.Proc.{Proc}
 use Rattle.cast_types.specs.Names.{Entry, entry_cmp}
 use Rattle.cast_types.proofs.Orders.{entry_total}
 use Rattle.cast_message.specs.Stretch.{Stretch, is_stretch}
 use Rattle.cast_message.specs.Sequence.{Sequence, is_sequence}
 use Rattle.cast_message.specs.Keeping.{Marked, KeptList, is_kept}
-use Rattle.cast_field.specs.Spelling.{byte, short, word, spelled_entry, spelled_sequence, spelled_tail, mark_code, spelled_marked, spelled_kept}
-use Rattle.cast_field.specs.Reading.{◌>>=◌, byte_at, number_at, many, above, entry_at, id_at, nothing_of, sequence_at, tail_at, id_above, mark_at, marked_above, id_of, kept_at}
-use Rattle.cast_field.specs.Spelled.{IsFrom, IsEntry, ArePlaced, IsTail, IsMarked, AreKept}
+use Rattle.cast_field.specs.Spelling.{byte, short, word, spelled_entry, spelled_new_holder, spelled_sequence, spelled_tail, mark_code, spelled_marked, spelled_kept}
+use Rattle.cast_field.specs.Reading.{◌>>=◌, byte_at, number_at, many, above, proc_at, entry_at, id_at, nothing_of, least_ids, new_holder_at, sequence_at, tail_at, id_above, mark_at, marked_above, id_of, kept_at}
+use Rattle.cast_field.specs.Spelled.{IsFrom, IsEntry, IsNewHolder, ArePlaced, IsTail, IsMarked, AreKept}
 use Rattle.cast_field.proofs.Fields.{bind_ok, ok_is, Took, joined, Takes, Again, byte_takes, byte_again, short_takes, short_again, word_takes, word_again}
 use Rattle.cast_field.proofs.Lists.{AllFrom, many_takes, many_again, above_is, above_again, Keyed, Placed, sorted_from, keyed_from}
-use Rattle.cast_field.proofs.Parts.{entry_takes, entry_again}
+use Rattle.cast_field.proofs.Parts.{proc_takes, proc_again, entry_takes, entry_again}
 
 -- ---- ids in any order
 
@@ -89,40 +90,81 @@ between_parts low high n h =
     let parts = and_parts (nat_le low n) (nat_le n high) h in
     record { above = leb-true low n parts.0; below = leb-true n high parts.1 }
 
-sequence_from : (s : Sequence) → IsFrom 1 4000000000 s.first → IsFrom 1 64 (length s.ids) → is_sequence s ≡ true
-sequence_from s first few =
-    and_from (nat_le 1 s.first && nat_le s.first 4000000000) (nat_le 1 (length s.ids) && nat_le (length s.ids) 64)
-    (between 1 4000000000 s.first first) (between 1 64 (length s.ids) few)
+-- places of a message that hands over the token, or of one that does not
+abbrev pub ArePlacedBy : Bool → Sequence → Type 0
+ArePlacedBy handing s = ArePlaced s × (is_some s.holder ≡ handing)
 
-pub sequence_parts : (s : Sequence) → is_sequence s ≡ true → IsFrom 1 4000000000 s.first × IsFrom 1 64 (length s.ids)
+few_ids : (handing : Bool) (n : ℕ) → IsFrom (least_ids handing) 64 n → ((handing || nat_le 1 n) && nat_le n 64) ≡ true
+few_ids true n h = le-leb n 64 h.below
+few_ids false n h = between 1 64 n h
+
+few_ids_back : (handing : Bool) (n : ℕ) → ((handing || nat_le 1 n) && nat_le n 64) ≡ true → IsFrom (least_ids handing) 64 n
+few_ids_back true n h = record { above = omega arith; below = leb-true n 64 h }
+few_ids_back false n h = between_parts 1 64 n h
+
+sequence_from : (handing : Bool) (s : Sequence) → IsFrom 1 4000000000 s.first → IsFrom (least_ids handing) 64 (length s.ids) → is_some s.holder ≡ handing → is_sequence s ≡ true
+sequence_from handing s first few is =
+    and_from (nat_le 1 s.first && nat_le s.first 4000000000) ((is_some s.holder || nat_le 1 (length s.ids)) && nat_le (length s.ids) 64)
+    (between 1 4000000000 s.first first) (ap (λ b. (b || nat_le 1 (length s.ids)) && nat_le (length s.ids) 64) is ∙ few_ids handing (length s.ids) few)
+
+pub sequence_parts : (s : Sequence) → is_sequence s ≡ true → IsFrom 1 4000000000 s.first × IsFrom (least_ids (is_some s.holder)) 64 (length s.ids)
 sequence_parts s h =
-    let parts = and_parts (nat_le 1 s.first && nat_le s.first 4000000000) (nat_le 1 (length s.ids) && nat_le (length s.ids) 64) h in
-    (between_parts 1 4000000000 s.first parts.0, between_parts 1 64 (length s.ids) parts.1)
+    let parts = and_parts (nat_le 1 s.first && nat_le s.first 4000000000) ((is_some s.holder || nat_le 1 (length s.ids)) && nat_le (length s.ids) 64) h in
+    (between_parts 1 4000000000 s.first parts.0, few_ids_back (is_some s.holder) (length s.ids) parts.1)
 
-pub sequence_takes : Takes sequence_at spelled_sequence ArePlaced
+-- the new holder
+abbrev IsNewHolderBy : Bool → Option Proc → Type 0
+IsNewHolderBy handing o = IsNewHolder o × (is_some o ≡ handing)
+
+new_holder_takes : (handing : Bool) → Takes (new_holder_at handing) spelled_new_holder (IsNewHolderBy handing)
+unfolding new_holder_at spelled_new_holder
+new_holder_takes true bytes x fits e =
+    let a1 = bind_ok (proc_at bytes) (λ proc. Ok (Some proc.0, proc.1)) x e in
+    let t1 = proc_takes bytes a1.0 fits a1.1 in
+    let made : Option Proc × List ℕ = (Some a1.0.0, a1.0.1) in
+    subst (λ (y : Option Proc × List ℕ). Took bytes (spelled_new_holder y.0) y.1 (IsNewHolderBy true y.0)) (ok_is made x a1.2)
+    (record { parts = t1.parts; rest_fits = t1.rest_fits; holds = (t1.holds, refl) })
+new_holder_takes false bytes x fits e =
+    let made : Option Proc × List ℕ = (None, bytes) in
+    subst (λ (y : Option Proc × List ℕ). Took bytes (spelled_new_holder y.0) y.1 (IsNewHolderBy false y.0)) (ok_is made x e)
+    (record { parts = refl; rest_fits = fits; holds = (tt, refl) })
+
+new_holder_again : (o : Option Proc) (rest : List ℕ) → IsNewHolder o → new_holder_at (is_some o) (spelled_new_holder o ++ rest) ≡ Ok (o, rest)
+unfolding new_holder_at spelled_new_holder
+new_holder_again None rest fits = refl
+new_holder_again (Some p) rest fits = rw (proc_again p rest fits) refl
+
+pub sequence_takes : (handing : Bool) → Takes (sequence_at handing) spelled_sequence (ArePlacedBy handing)
 unfolding sequence_at spelled_sequence
-sequence_takes bytes x fits e =
-    let a1 = bind_ok (number_at w32 1 4000000000 bytes) (λ first. byte_at 1 64 first.1 >>= λ n. many id_at nothing_of n.0 tt n.1 >>= λ ids. Ok (record { first = first.0; ids = ids.0 }, ids.1)) x e in
-    let a2 = bind_ok (byte_at 1 64 a1.0.1) (λ n. many id_at nothing_of n.0 tt n.1 >>= λ ids. Ok (record { first = a1.0.0; ids = ids.0 }, ids.1)) x a1.2 in
-    let a3 = bind_ok (many id_at nothing_of a2.0.0 tt a2.0.1) (λ ids. Ok (record { first = a1.0.0; ids = ids.0 }, ids.1)) x a2.2 in
+sequence_takes handing bytes x fits e =
+    let a1 = bind_ok (number_at w32 1 4000000000 bytes) (λ first. byte_at (least_ids handing) 64 first.1 >>= λ n. many id_at nothing_of n.0 tt n.1 >>= λ ids. new_holder_at handing ids.1 >>= λ holder. Ok (record { first = first.0; ids = ids.0; holder = holder.0 }, holder.1)) x e in
+    let a2 = bind_ok (byte_at (least_ids handing) 64 a1.0.1) (λ n. many id_at nothing_of n.0 tt n.1 >>= λ ids. new_holder_at handing ids.1 >>= λ holder. Ok (record { first = a1.0.0; ids = ids.0; holder = holder.0 }, holder.1)) x a1.2 in
+    let a3 = bind_ok (many id_at nothing_of a2.0.0 tt a2.0.1) (λ ids. new_holder_at handing ids.1 >>= λ holder. Ok (record { first = a1.0.0; ids = ids.0; holder = holder.0 }, holder.1)) x a2.2 in
+    let a4 = bind_ok (new_holder_at handing a3.0.1) (λ holder. Ok (record { first = a1.0.0; ids = a3.0.0; holder = holder.0 }, holder.1)) x a3.2 in
     let t1 = word_takes 1 4000000000 bytes a1.0 fits a1.1 in
-    let t2 = byte_takes 1 64 a1.0.1 a2.0 t1.rest_fits a2.1 in
+    let t2 = byte_takes (least_ids handing) 64 a1.0.1 a2.0 t1.rest_fits a2.1 in
     let t3 = many_takes id_at nothing_of spelled_entry Known id_takes a2.0.0 tt a2.0.1 a3.0 t2.rest_fits a3.1 in
-    let j2 = joined a1.0.1 (byte a2.0.0) a2.0.1 (flat_map spelled_entry a3.0.0) a3.0.1 t2.parts t3.parts in
-    let j1 = joined bytes (word a1.0.0) a1.0.1 (byte a2.0.0 ++ flat_map spelled_entry a3.0.0) a3.0.1 t1.parts j2 in
-    let whole = j1 ∙ ap (λ (n : ℕ). (word a1.0.0 ++ (byte n ++ flat_map spelled_entry a3.0.0)) ++ a3.0.1) (sym t3.holds.0) in
-    let size : IsFrom 1 64 (length a3.0.0) = subst (IsFrom 1 64) (sym t3.holds.0) t2.holds in
-    let made : Sequence × List ℕ = (record { first = a1.0.0; ids = a3.0.0 }, a3.0.1) in
-    subst (λ (y : Sequence × List ℕ). Took bytes (spelled_sequence y.0) y.1 (ArePlaced y.0)) (ok_is made x a3.2)
-    (record { parts = whole; rest_fits = t3.rest_fits; holds = record { short = sequence_from (record { first = a1.0.0; ids = a3.0.0 }) t1.holds size; ids = ids_known a3.0.0 t3.holds.1 } })
+    let t4 = new_holder_takes handing a3.0.1 a4.0 t3.rest_fits a4.1 in
+    let behind : List ℕ = flat_map spelled_entry a3.0.0 ++ spelled_new_holder a4.0.0 in
+    let j3 = joined a2.0.1 (flat_map spelled_entry a3.0.0) a3.0.1 (spelled_new_holder a4.0.0) a4.0.1 t3.parts t4.parts in
+    let j2 = joined a1.0.1 (byte a2.0.0) a2.0.1 behind a4.0.1 t2.parts j3 in
+    let j1 = joined bytes (word a1.0.0) a1.0.1 (byte a2.0.0 ++ behind) a4.0.1 t1.parts j2 in
+    let whole = j1 ∙ ap (λ (n : ℕ). (word a1.0.0 ++ (byte n ++ behind)) ++ a4.0.1) (sym t3.holds.0) in
+    let size : IsFrom (least_ids handing) 64 (length a3.0.0) = subst (IsFrom (least_ids handing) 64) (sym t3.holds.0) t2.holds in
+    let made : Sequence × List ℕ = (record { first = a1.0.0; ids = a3.0.0; holder = a4.0.0 }, a4.0.1) in
+    subst (λ (y : Sequence × List ℕ). Took bytes (spelled_sequence y.0) y.1 (ArePlacedBy handing y.0)) (ok_is made x a4.2)
+    (record { parts = whole; rest_fits = t4.rest_fits; holds = (record { short = sequence_from handing made.0 t1.holds size t4.holds.1; ids = ids_known a3.0.0 t3.holds.1; holder = t4.holds.0 }, t4.holds.1) })
 
-pub sequence_again : Again sequence_at spelled_sequence ArePlaced
+pub sequence_again : (v : Sequence) (rest : List ℕ) → ArePlaced v → sequence_at (is_some v.holder) (spelled_sequence v ++ rest) ≡ Ok (v, rest)
 unfolding sequence_at spelled_sequence
 sequence_again v rest fits =
     let known = sequence_parts v fits.short in
-    let regrouped : (word v.first ++ (byte (length v.ids) ++ flat_map spelled_entry v.ids)) ++ rest ≡ word v.first ++ (byte (length v.ids) ++ (flat_map spelled_entry v.ids ++ rest)) = append_assoc (word v.first) (byte (length v.ids) ++ flat_map spelled_entry v.ids) rest ∙ ap (λ (t : List ℕ). word v.first ++ t) (append_assoc (byte (length v.ids)) (flat_map spelled_entry v.ids) rest) in
-    let ids = many_again id_at nothing_of spelled_entry Known id_again v.ids tt rest (known_ids v.ids fits.ids) in
-    ap sequence_at regrouped ∙ rw (word_again 1 4000000000 (lit< tt) v.first (byte (length v.ids) ++ (flat_map spelled_entry v.ids ++ rest)) known.0, byte_again 1 64 (length v.ids) (flat_map spelled_entry v.ids ++ rest) known.1, ids) refl
+    let r3 : List ℕ = spelled_new_holder v.holder ++ rest in
+    let r2 : List ℕ = flat_map spelled_entry v.ids ++ r3 in
+    let r1 : List ℕ = byte (length v.ids) ++ r2 in
+    let regrouped : (word v.first ++ (byte (length v.ids) ++ (flat_map spelled_entry v.ids ++ spelled_new_holder v.holder))) ++ rest ≡ word v.first ++ r1 = append_assoc (word v.first) (byte (length v.ids) ++ (flat_map spelled_entry v.ids ++ spelled_new_holder v.holder)) rest ∙ ap (λ (t : List ℕ). word v.first ++ t) (append_assoc (byte (length v.ids)) (flat_map spelled_entry v.ids ++ spelled_new_holder v.holder) rest ∙ ap (λ (t : List ℕ). byte (length v.ids) ++ t) (append_assoc (flat_map spelled_entry v.ids) (spelled_new_holder v.holder) rest)) in
+    let ids = many_again id_at nothing_of spelled_entry Known id_again v.ids tt r3 (known_ids v.ids fits.ids) in
+    ap (sequence_at (is_some v.holder)) regrouped ∙ rw (word_again 1 4000000000 (lit< tt) v.first r1 known.0, byte_again (least_ids (is_some v.holder)) 64 (length v.ids) r2 known.1, ids, new_holder_again v.holder rest fits.holder) refl
 
 -- ---- kept ids, with their marks
 

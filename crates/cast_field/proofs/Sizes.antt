@@ -17,7 +17,7 @@ use Rattle.cast_message.specs.Stretch.{Stretch}
 use Rattle.cast_message.specs.Sequence.{Sequence}
 use Rattle.cast_message.specs.Keeping.{Marked, KeptList}
 use Rattle.cast_message.specs.Bodies.{kind_of}
-use Rattle.cast_field.specs.Spelling.{byte, short, word, spelled_proc, spelled_entry, spelled_uid, spelled_counts, spelled_clock, spelled_times, spelled_payload, spelled_sequence, kind_code, spelled_body, spelled_message, spelled_holder, spelled_members, spelled_tail, mark_code, spelled_marked, spelled_kept}
+use Rattle.cast_field.specs.Spelling.{byte, short, word, spelled_proc, spelled_entry, spelled_uid, spelled_counts, spelled_clock, spelled_times, spelled_payload, spelled_sequence, kind_code, spelled_body, spelled_message, spelled_new_holder, spelled_holder, spelled_members, spelled_tail, mark_code, spelled_marked, spelled_kept}
 use Rattle.cast_field.specs.Spelled.{AreCounts, IsClock, AreTimes, ArePlaced, IsBody, IsMessage, AreMembers, IsTail, AreKept}
 use Rattle.cast_field.proofs.Parts.{stamp_parts}
 use Rattle.cast_field.proofs.Holders.{members_parts}
@@ -84,11 +84,17 @@ payload_size : (p : List ℕ) → length p ≤ 16384 → length (spelled_payload
 unfolding spelled_payload
 payload_size p few = omega (arith, length-append (short (length p)) p, short_size (length p), few)
 
-sequence_size : (s : Sequence) → ArePlaced s → length (spelled_sequence s) ≤ 645
+new_holder_size : (o : Option Proc) → length (spelled_new_holder o) ≤ 6
+unfolding spelled_new_holder
+new_holder_size None = omega arith
+new_holder_size (Some p) = omega (arith, proc_size p)
+
+sequence_size : (s : Sequence) → ArePlaced s → length (spelled_sequence s) ≤ 651
 unfolding spelled_sequence
 sequence_size s are =
     let few = (sequence_parts s are.short).1.below in
-    omega (arith, length-append (word s.first) (byte (length s.ids) ++ flat_map spelled_entry s.ids), length-append (byte (length s.ids)) (flat_map spelled_entry s.ids), word_size s.first, byte_size (length s.ids), entries_size s.ids, few)
+    let behind : List ℕ = flat_map spelled_entry s.ids ++ spelled_new_holder s.holder in
+    omega (arith, length-append (word s.first) (byte (length s.ids) ++ behind), length-append (byte (length s.ids)) behind, length-append (flat_map spelled_entry s.ids) (spelled_new_holder s.holder), word_size s.first, byte_size (length s.ids), entries_size s.ids, new_holder_size s.holder, few)
 
 body_size : (b : Body) → IsBody b → length (spelled_body b) ≤ 16386
 unfolding spelled_body

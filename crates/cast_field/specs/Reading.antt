@@ -1,5 +1,5 @@
 -- Reading the fields of a frame from left to right: a value and the bytes after it, or the first fault.
-use Rattle.std.specs.Prelude.{◌≡◌, ◌≢◌, ℕ, zero, suc, ◌-◌, Bool, ◌&&◌, ◌==◌, nat_lt, nat_le, if◌then◌else◌, List, [], ◌∷◌, length, take, drop, slice_get, Option, Some, None, Result, Ok, Err}
+use Rattle.std.specs.Prelude.{◌≡◌, ◌≢◌, ℕ, zero, suc, ◌-◌, Bool, true, false, ◌&&◌, ◌==◌, nat_lt, nat_le, if◌then◌else◌, List, [], ◌∷◌, length, take, drop, slice_get, Option, Some, None, Result, Ok, Err}
 use Rattle.std.specs.Int.{Width, w16, w32, byte_len, from_be_bytes}
 use Rattle.std.specs.Borrow.{Bor}
 use Rattle.std.specs.declared.cmp.Ordering.{Ordering}
@@ -169,20 +169,37 @@ id_at last bytes = entry_at bytes
 abbrev pub nothing_of : Entry → Unit {0}
 nothing_of e = tt
 
--- the first place, and the ids from it on
-unfoldable pub sequence_at : Reader Sequence
-sequence_at bytes = do
+-- The bytes of a message do not say whether it hands over the token: who reads it knows that before. One that does is of
+-- the third kind, and need not have ids
+
+abbrev pub least_kind : Bool → ℕ
+least_kind handing = if handing then 3 else 1
+
+abbrev pub least_ids : Bool → ℕ
+least_ids handing = if handing then 0 else 1
+
+-- only a message that hands over the token has a new holder
+unfoldable pub new_holder_at : Bool → Reader (Option Proc)
+new_holder_at true bytes = do
+  proc ← proc_at bytes
+  Ok (Some proc.0, proc.1)
+new_holder_at false bytes = Ok (None, bytes)
+
+-- the first place, the ids from it on, and the new holder
+unfoldable pub sequence_at : Bool → Reader Sequence
+sequence_at handing bytes = do
   first ← number_at w32 1 4000000000 bytes
-  n ← byte_at 1 64 first.1
+  n ← byte_at (least_ids handing) 64 first.1
   ids ← many id_at nothing_of n.0 tt n.1
-  Ok (record { first = first.0; ids = ids.0 }, ids.1)
+  holder ← new_holder_at handing ids.1
+  Ok (record { first = first.0; ids = ids.0; holder = holder.0 }, holder.1)
 
 abbrev pub kind_numbered : ℕ → Kind
 kind_numbered n = if n == 1 then kind.Causal else if n == 2 then kind.Atomic else kind.Order
 
-unfoldable pub kind_at : Reader Kind
-kind_at bytes = do
-  n ← byte_at 1 3 bytes
+unfoldable pub kind_at : Bool → Reader Kind
+kind_at handing bytes = do
+  n ← byte_at (least_kind handing) 3 bytes
   Ok (kind_numbered n.0, n.1)
 
 unfoldable pub causal_at : Reader Body
@@ -195,23 +212,23 @@ atomic_at bytes = do
   payload ← payload_at bytes
   Ok (body.Atomic payload.0, payload.1)
 
-unfoldable pub order_at : Reader Body
-order_at bytes = do
-  sequence ← sequence_at bytes
+unfoldable pub order_at : Bool → Reader Body
+order_at handing bytes = do
+  sequence ← sequence_at handing bytes
   Ok (body.Order sequence.0, sequence.1)
 
 -- the kind of a message says what it holds
-unfoldable pub body_at : Kind → Reader Body
-body_at kind.Causal bytes = causal_at bytes
-body_at kind.Atomic bytes = atomic_at bytes
-body_at kind.Order bytes = order_at bytes
+unfoldable pub body_at : Bool → Kind → Reader Body
+body_at handing kind.Causal bytes = causal_at bytes
+body_at handing kind.Atomic bytes = atomic_at bytes
+body_at handing kind.Order bytes = order_at handing bytes
 
-unfoldable pub message_at : Reader Message
-message_at bytes = do
+unfoldable pub message_at : Bool → Reader Message
+message_at handing bytes = do
   id ← uid_at bytes
-  kind ← kind_at id.1
+  kind ← kind_at handing id.1
   times ← times_at kind.1
-  body ← body_at kind.0 times.1
+  body ← body_at handing kind.0 times.1
   Ok (record { id = id.0; times = times.0; body = body.0 }, body.1)
 
 abbrev pub some_proc : Proc → Option Proc

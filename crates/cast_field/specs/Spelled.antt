@@ -1,5 +1,5 @@
 -- The fields that have a spelling: every number is in its range, and every list is sorted and no longer than it may be.
-use Rattle.std.specs.Prelude.{ℕ, ◌≤◌, List, length, IsTrue}
+use Rattle.std.specs.Prelude.{ℕ, ◌≤◌, List, length, Option, Some, None, IsTrue}
 use Rattle.std.specs.List.{AllByRecursion}
 use Rattle.cast_types.specs.declared.names.GroupNo.{GroupNo}
 use Rattle.cast_types.specs.declared.names.Proc.{Proc}
@@ -56,9 +56,14 @@ pub record AreTimes (t : List (GroupNo × Clock)) : Type 0 where
   pub sorted : IsTrue (is_stamp t)
   pub clocks : AllByRecursion IsClock t
 
+abbrev pub IsNewHolder : Option Proc → Type 0
+IsNewHolder None = Unit {0}
+IsNewHolder (Some p) = IsProc p
+
 pub record ArePlaced (s : Sequence) : Type 0 where
   pub short : IsTrue (is_sequence s)
   pub ids : AllByRecursion IsEntry s.ids
+  pub holder : IsNewHolder s.holder
 
 abbrev pub IsBody : Body → Type 0
 IsBody (body.Causal payload) = length payload ≤ 16384

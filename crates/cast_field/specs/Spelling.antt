@@ -55,9 +55,14 @@ spelled_times t = byte (length t) ++ flat_map spelled_clock t
 unfoldable pub spelled_payload : List ℕ → List ℕ
 spelled_payload bytes = short (length bytes) ++ bytes
 
--- the first place, how many, and the ids
+-- the new holder, if there is one
+unfoldable pub spelled_new_holder : Option Proc → List ℕ
+spelled_new_holder None = []
+spelled_new_holder (Some p) = spelled_proc p
+
+-- the first place, how many, the ids, and the new holder
 unfoldable pub spelled_sequence : Sequence → List ℕ
-spelled_sequence s = word s.first ++ (byte (length s.ids) ++ flat_map spelled_entry s.ids)
+spelled_sequence s = word s.first ++ (byte (length s.ids) ++ (flat_map spelled_entry s.ids ++ spelled_new_holder s.holder))
 
 abbrev pub kind_code : Kind → ℕ
 kind_code kind.Causal = 1

@@ -14,10 +14,10 @@ pub enum FrameFault {
     /// 2: the first two bytes are not those of a frame.
     #[error("wrong magic")]
     Magic,
-    /// 3: the frame is of another version.
+    /// 3: no frame is of this version.
     #[error("wrong version")]
     Version,
-    /// 4: no frame has this type.
+    /// 4: no frame has this type, or none of this version has it.
     #[error("wrong type")]
     WrongType,
     /// 5: bytes stand after the frame, or there are more than 60,000.

@@ -1,6 +1,6 @@
-ghost use Rattle.std.specs.Prelude.{◌≤◌, None, Ok, length};
+ghost use Rattle.std.specs.Prelude.{◌≡◌, ◌≤◌, None, Ok, length};
 ghost use Rattle.std.specs.Int.{w16, w32};
-ghost use Rattle.cast_field.specs.Reading.{GivesAs, GivesField, above, atomic_at, body_at, byte_at, bytes_at, causal_at, clock_above, count_at, counts_at, domain_at, entry_above, entry_at, group_above, group_at, group_of, holder_at, id_above, id_at, id_of, kept_at, kind_at, many, mark_at, marked_above, members_at, message_at, nothing_of, number_at, order_at, payload_at, proc_above, proc_at, process_of, sequence_at, site_at, some_proc, tail_at, times_at, uid_at};
+ghost use Rattle.cast_field.specs.Reading.{GivesAs, GivesField, above, atomic_at, body_at, byte_at, bytes_at, causal_at, clock_above, count_at, counts_at, domain_at, entry_above, entry_at, group_above, group_at, group_of, holder_at, id_above, id_at, id_of, kept_at, kind_at, many, least_ids, least_kind, mark_at, marked_above, members_at, message_at, new_holder_at, nothing_of, number_at, order_at, payload_at, proc_above, proc_at, process_of, sequence_at, site_at, some_proc, tail_at, times_at, uid_at};
 
 use crate::fault::FrameFault;
 use byteorder::{BigEndian, ByteOrder};
@@ -273,21 +273,49 @@ fn read_ids(
     Ok((ids, rest))
 }
 
+#[tactic(auto, unfolding(crate::specs::Reading::new_holder_at))]
+fn read_new_holder(handing: bool, bytes: &[u8]) -> Result<(Option<Proc>, &[u8]), FrameFault>
+    ensures { GivesField result (new_holder_at handing bytes.now) }
+{
+    if !handing {
+        return Ok((None, bytes));
+    }
+    let (proc, rest) = read_proc(bytes)?;
+    Ok((Some(proc), rest))
+}
+
+fn least_ids(handing: bool) -> u8
+    ensures { result ≡ least_ids handing }
+{
+    if handing { 0 } else { 1 }
+}
+
+fn least_kind(handing: bool) -> u8
+    ensures { result ≡ least_kind handing }
+{
+    if handing { 3 } else { 1 }
+}
+
 #[tactic(auto, unfolding(crate::specs::Reading::sequence_at))]
-fn read_placement(alloc: Global, bytes: &[u8]) -> Result<(Placement, &[u8]), FrameFault>
-    ensures { GivesField result (sequence_at bytes.now) }
+fn read_placement(
+    alloc: Global,
+    handing: bool,
+    bytes: &[u8],
+) -> Result<(Placement, &[u8]), FrameFault>
+    ensures { GivesField result (sequence_at handing bytes.now) }
 {
     let (first, rest) = read_word(1, MAX_POSITION, bytes)?;
-    let (count, rest) = read_byte(1, MAX_PLACED as u8, rest)?;
+    let (count, rest) = read_byte(least_ids(handing), MAX_PLACED as u8, rest)?;
     let (ids, rest) = read_ids(alloc, count as u16, rest)?;
-    Ok((Placement::from_parts(first, ids), rest))
+    let (holder, rest) = read_new_holder(handing, rest)?;
+    Ok((Placement::from_parts(first, ids, holder), rest))
 }
 
 #[tactic(auto, unfolding(crate::specs::Reading::kind_at))]
-fn read_kind(bytes: &[u8]) -> Result<(Kind, &[u8]), FrameFault>
-    ensures { GivesField result (kind_at bytes.now) }
+fn read_kind(handing: bool, bytes: &[u8]) -> Result<(Kind, &[u8]), FrameFault>
+    ensures { GivesField result (kind_at handing bytes.now) }
 {
-    let (number, rest) = read_byte(1, 3, bytes)?;
+    let (number, rest) = read_byte(least_kind(handing), 3, bytes)?;
     let kind = match number {
         1 => Kind::Causal,
         2 => Kind::Atomic,
@@ -313,33 +341,46 @@ fn read_atomic(alloc: Global, bytes: &[u8]) -> Result<(Body, &[u8]), FrameFault>
 }
 
 #[tactic(auto, unfolding(crate::specs::Reading::order_at))]
-fn read_order(alloc: Global, bytes: &[u8]) -> Result<(Body, &[u8]), FrameFault>
-    ensures { GivesField result (order_at bytes.now) }
+fn read_order(alloc: Global, handing: bool, bytes: &[u8]) -> Result<(Body, &[u8]), FrameFault>
+    ensures { GivesField result (order_at handing bytes.now) }
 {
-    let (placement, rest) = read_placement(alloc, bytes)?;
+    let (placement, rest) = read_placement(alloc, handing, bytes)?;
     Ok((Body::Order(placement), rest))
 }
 
 #[tactic(auto, unfolding(crate::specs::Reading::body_at))]
-fn read_body(alloc: Global, kind: Kind, bytes: &[u8]) -> Result<(Body, &[u8]), FrameFault>
-    ensures { GivesField result (body_at kind bytes.now) }
+fn read_body(
+    alloc: Global,
+    handing: bool,
+    kind: Kind,
+    bytes: &[u8],
+) -> Result<(Body, &[u8]), FrameFault>
+    ensures { GivesField result (body_at handing kind bytes.now) }
 {
     match kind {
         Kind::Causal => read_causal(alloc, bytes),
         Kind::Atomic => read_atomic(alloc, bytes),
-        Kind::Order => read_order(alloc, bytes),
+        Kind::Order => read_order(alloc, handing, bytes),
     }
 }
 
 /// A message: its name, its kind, its times and what it holds.
+///
+/// Its bytes do not say whether it hands over the token of its view; `handing` does. Where it does not, its kind is 1 to
+/// 3, and a set-order message has 1 to 64 ids. Where it does, its kind is 3, it has 0 to 64 ids, and the 6 bytes of the
+/// new holder stand behind them. Another kind, or another number of ids, is `Range`.
 #[tactic(auto, unfolding(crate::specs::Reading::message_at))]
-pub fn read_message(alloc: Global, bytes: &[u8]) -> Result<(Message, &[u8]), FrameFault>
-    ensures { GivesField result (message_at bytes.now) }
+pub fn read_message(
+    alloc: Global,
+    handing: bool,
+    bytes: &[u8],
+) -> Result<(Message, &[u8]), FrameFault>
+    ensures { GivesField result (message_at handing bytes.now) }
 {
     let (id, rest) = read_uid(bytes)?;
-    let (kind, rest) = read_kind(rest)?;
+    let (kind, rest) = read_kind(handing, rest)?;
     let (times, rest) = read_times(alloc, rest)?;
-    let (body, rest) = read_body(alloc, kind, rest)?;
+    let (body, rest) = read_body(alloc, handing, kind, rest)?;
     Ok((Message { id, times, body }, rest))
 }
 

@@ -1,7 +1,7 @@
 ghost use Rattle.std.specs.Prelude.{◌≡◌, ◌++◌, ◌≤◌, length, OnOk};
 ghost use Rattle.std.specs.List.{flat_map, position, position_or_len};
 ghost use Rattle.cast_types.specs.Names.{proc_eq};
-ghost use Rattle.cast_field.specs.Spelling.{kind_code, short, spelled_body, spelled_clock, spelled_counts, spelled_entry, spelled_holder, spelled_kept, spelled_marked, spelled_members, spelled_message, spelled_payload, spelled_proc, spelled_sequence, spelled_tail, spelled_times, spelled_uid, word};
+ghost use Rattle.cast_field.specs.Spelling.{kind_code, short, spelled_body, spelled_clock, spelled_counts, spelled_entry, spelled_holder, spelled_kept, spelled_marked, spelled_members, spelled_message, spelled_new_holder, spelled_payload, spelled_proc, spelled_sequence, spelled_tail, spelled_times, spelled_uid, word};
 
 use bytes::{BufMut, BytesMut};
 use cast_message::{Body, Kept, Members, Message, Payload, Placement, Tail};
@@ -95,6 +95,16 @@ fn put_payload(out: &mut BytesMut, payload: &Payload) -> Result<(), NoMemory>
     Ok(())
 }
 
+#[tactic(auto, unfolding(crate::specs::Spelling::spelled_new_holder))]
+fn put_new_holder(out: &mut BytesMut, holder: Option<Proc>) -> Result<(), NoMemory>
+    ensures { OnOk result (out.new.items ≡ out.old.items ++ spelled_new_holder holder) }
+{
+    match holder {
+        None => Ok(()),
+        Some(holder) => put_proc(out, holder),
+    }
+}
+
 #[tactic(auto, unfolding(crate::specs::Spelling::spelled_sequence, crate::specs::Spelling::byte, crate::specs::Spelling::word))]
 fn put_placement(out: &mut BytesMut, placement: &Placement) -> Result<(), NoMemory>
     ensures { OnOk result (out.new.items ≡ out.old.items ++ spelled_sequence placement.now) }
@@ -103,6 +113,7 @@ fn put_placement(out: &mut BytesMut, placement: &Placement) -> Result<(), NoMemo
     out.put_u32(placement.first())?;
     out.put_u8(ids.len() as u8)?;
     put_entries(out, ids)?;
+    put_new_holder(out, placement.holder())?;
     Ok(())
 }
 
@@ -127,7 +138,8 @@ fn code_of_kind(kind: Kind) -> u8
     }
 }
 
-/// A message: its name, its kind, its times and what it holds.
+/// A message: its name, its kind, its times and what it holds. In a set-order message that hands over the token of its
+/// view the new holder stands behind the ids.
 #[tactic(auto, unfolding(crate::specs::Spelling::spelled_message, crate::specs::Spelling::byte))]
 pub fn put_message(out: &mut BytesMut, message: &Message) -> Result<(), NoMemory>
     ensures { OnOk result (out.new.items ≡ out.old.items ++ spelled_message message.now) }

@@ -1,5 +1,6 @@
 -- Frames are read as they were spelled: what is read is spelled so, and what is spelled so is read.
-use Rattle.std.proofs.Common.{◌≡◌, ℕ, ◌≤◌, Bool, true, false, cond, eqb, ltb, List, [], ◌++◌, length, Result, Ok, Err, refl, sym, ap, subst, ◌∙◌, append_assoc, arith, lit<, lit≤, inl, inr}
+use Rattle.std.proofs.Common.{◌≡◌, ℕ, ◌≤◌, Bool, true, false, not, cond, eqb, ltb, List, [], ◌++◌, length, Result, Ok, Err, refl, sym, ap, subst, ◌∙◌, append_assoc, arith, lit<, lit≤, inl, inr}
+use Rattle.std.specs.Prelude.{◌||◌}
 use Rattle.std.specs.Int.{w16, w32}
 use Rattle.std.proofs.lemmas.Bool.{cases_Bool, false≢true, eqb-true, eq-eqb, le-ltb}
 use Rattle.std.proofs.lemmas.List.{append-nil, nil_from_length}
@@ -21,10 +22,11 @@ use Rattle.cast_frame.specs.declared.reading.FrameType.TheVariants as types
 use Rattle.cast_message.specs.Membership.{Membership}
 use Rattle.cast_message.specs.Stretch.{Stretch}
 use Rattle.cast_message.specs.Keeping.{KeptList}
+use Rattle.cast_message.specs.Bodies.{hands_over}
 use Rattle.cast_field.specs.Spelling.{byte, short, word, spelled_proc, spelled_counts, spelled_members, spelled_tail, spelled_kept}
-use Rattle.cast_frame.specs.Spelling.{change_code, full_code, frame_code, spelled_fields, spelled_site}
+use Rattle.cast_frame.specs.Spelling.{change_code, full_code, frame_code, is_handing, version_code, spelled_fields, spelled_site}
 use Rattle.cast_field.specs.Reading.{◌>>=◌, byte_at, number_at, domain_at, site_at, group_at, count_at, proc_at, uid_at, counts_at, message_at, members_at, tail_at, kept_at}
-use Rattle.cast_frame.specs.Reading.{change_of, full_of, data_at, ack_at, stable_at, ask_at, asked_at, prepare_at, flushed_at, want_at, forward_at, install_at, installed_at, out_at, type_of, type_at, fields_at, magic_at, version_at, frame_at, site_frame_of}
+use Rattle.cast_frame.specs.Reading.{change_of, full_of, data_at, ack_at, stable_at, ask_at, asked_at, prepare_at, flushed_at, want_at, forward_at, install_at, installed_at, out_at, type_of, may_stand, type_at, fields_at, magic_at, version_of, version_at, frame_at, site_frame_of}
 use Rattle.cast_field.specs.Spelled.{IsFrom, IsName, IsCount, IsProc, IsUid, IsMessage}
 use Rattle.cast_frame.specs.Spelled.{IsFlushed, IsInstall, IsFrame, IsSpelled}
 use Rattle.cast_field.proofs.Fields.{IsBytes, bind_ok, guard_ok, pass_ok, ok_is, Took, joined, Takes, byte_takes, byte_again, short_takes, short_again, word_takes, word_again}
@@ -71,38 +73,38 @@ full_within : (full : Bool) → IsFrom 0 255 (full_code full)
 full_within true = record { above = lit≤ tt; below = lit≤ tt }
 full_within false = record { above = lit≤ tt; below = lit≤ tt }
 
--- a frame of a type
-abbrev pub IsOf : ℕ → SiteFrame → Type 0
-IsOf code f = IsFrame f × (frame_code f ≡ code)
+-- a frame of a type, whose message hands over the token or does not
+abbrev pub IsOf : Bool → ℕ → SiteFrame → Type 0
+IsOf handing code f = IsFrame f × (frame_code f ≡ code) × (is_handing f ≡ handing)
 
-pub data_takes : Takes data_at (spelled_fields) (IsOf 1)
+pub data_takes : (handing : Bool) → Takes (data_at handing) (spelled_fields) (IsOf handing 1)
 unfolding data_at spelled_fields
-data_takes bytes x fits e =
-    let a1 = bind_ok (message_at bytes) (λ message. Ok (Data message.0, message.1)) x e in
-    let t1 = message_takes bytes a1.0 fits a1.1 in
+data_takes handing bytes x fits e =
+    let a1 = bind_ok (message_at handing bytes) (λ message. Ok (Data message.0, message.1)) x e in
+    let t1 = message_takes handing bytes a1.0 fits a1.1 in
     let made : SiteFrame × List ℕ = (Data a1.0.0, a1.0.1) in
-    subst (λ (y : SiteFrame × List ℕ). Took bytes ((spelled_fields) y.0) y.1 ((IsOf 1) y.0)) (ok_is made x a1.2)
-    (record { parts = t1.parts; rest_fits = t1.rest_fits; holds = (t1.holds, refl) })
+    subst (λ (y : SiteFrame × List ℕ). Took bytes ((spelled_fields) y.0) y.1 ((IsOf handing 1) y.0)) (ok_is made x a1.2)
+    (record { parts = t1.parts; rest_fits = t1.rest_fits; holds = (t1.holds.0, refl, t1.holds.1) })
 
-pub ack_takes : Takes ack_at (spelled_fields) (IsOf 2)
+pub ack_takes : Takes ack_at (spelled_fields) (IsOf false 2)
 unfolding ack_at spelled_fields
 ack_takes bytes x fits e =
     let a1 = bind_ok (uid_at bytes) (λ id. Ok (Ack id.0, id.1)) x e in
     let t1 = uid_takes bytes a1.0 fits a1.1 in
     let made : SiteFrame × List ℕ = (Ack a1.0.0, a1.0.1) in
-    subst (λ (y : SiteFrame × List ℕ). Took bytes ((spelled_fields) y.0) y.1 ((IsOf 2) y.0)) (ok_is made x a1.2)
-    (record { parts = t1.parts; rest_fits = t1.rest_fits; holds = (t1.holds, refl) })
+    subst (λ (y : SiteFrame × List ℕ). Took bytes ((spelled_fields) y.0) y.1 ((IsOf false 2) y.0)) (ok_is made x a1.2)
+    (record { parts = t1.parts; rest_fits = t1.rest_fits; holds = (t1.holds, refl, refl) })
 
-pub stable_takes : Takes stable_at spelled_fields (IsOf 3)
+pub stable_takes : Takes stable_at spelled_fields (IsOf false 3)
 unfolding stable_at spelled_fields
 stable_takes bytes x fits e =
     let a1 = bind_ok (uid_at bytes) (λ id. Ok (Stable id.0, id.1)) x e in
     let t1 = uid_takes bytes a1.0 fits a1.1 in
     let made : SiteFrame × List ℕ = (Stable a1.0.0, a1.0.1) in
-    subst (λ (y : SiteFrame × List ℕ). Took bytes (spelled_fields y.0) y.1 (IsOf 3 y.0)) (ok_is made x a1.2)
-    (record { parts = t1.parts; rest_fits = t1.rest_fits; holds = (t1.holds, refl) })
+    subst (λ (y : SiteFrame × List ℕ). Took bytes (spelled_fields y.0) y.1 (IsOf false 3 y.0)) (ok_is made x a1.2)
+    (record { parts = t1.parts; rest_fits = t1.rest_fits; holds = (t1.holds, refl, refl) })
 
-pub ask_takes : Takes ask_at spelled_fields (IsOf 4)
+pub ask_takes : Takes ask_at spelled_fields (IsOf false 4)
 unfolding ask_at spelled_fields
 ask_takes bytes x fits e =
     let a1 = bind_ok (group_at bytes) (λ group. count_at group.1 >>= λ number. byte_at 1 2 number.1 >>= λ change. proc_at change.1 >>= λ proc. Ok (Ask group.0 number.0 (change_of change.0) proc.0, proc.1)) x e in
@@ -119,10 +121,10 @@ ask_takes bytes x fits e =
     let j2 = joined a1.0.1 (word a2.0.0) a2.0.1 (byte code ++ spelled_proc a4.0.0) a4.0.1 t2.parts j3 in
     let j1 = joined bytes (short a1.0.0.0) a1.0.1 (word a2.0.0 ++ (byte code ++ spelled_proc a4.0.0)) a4.0.1 t1.parts j2 in
     let made : SiteFrame × List ℕ = (Ask a1.0.0 a2.0.0 (change_of a3.0.0) a4.0.0, a4.0.1) in
-    subst (λ (y : SiteFrame × List ℕ). Took bytes (spelled_fields y.0) y.1 (IsOf 4 y.0)) (ok_is made x a4.2)
-    (record { parts = j1; rest_fits = t4.rest_fits; holds = ((t1.holds, t2.holds, t4.holds), refl) })
+    subst (λ (y : SiteFrame × List ℕ). Took bytes (spelled_fields y.0) y.1 (IsOf false 4 y.0)) (ok_is made x a4.2)
+    (record { parts = j1; rest_fits = t4.rest_fits; holds = ((t1.holds, t2.holds, t4.holds), refl, refl) })
 
-pub asked_takes : Takes asked_at spelled_fields (IsOf 5)
+pub asked_takes : Takes asked_at spelled_fields (IsOf false 5)
 unfolding asked_at spelled_fields
 asked_takes bytes x fits e =
     let a1 = bind_ok (group_at bytes) (λ group. count_at group.1 >>= λ number. byte_at 0 255 number.1 >>= λ code. full_of code.0 >>= λ full. Ok (Asked group.0 number.0 full, code.1)) x e in
@@ -136,10 +138,10 @@ asked_takes bytes x fits e =
     let j2 = joined a1.0.1 (word a2.0.0) a2.0.1 (byte (full_code a4.0)) a3.0.1 t2.parts p3 in
     let j1 = joined bytes (short a1.0.0.0) a1.0.1 (word a2.0.0 ++ byte (full_code a4.0)) a3.0.1 t1.parts j2 in
     let made : SiteFrame × List ℕ = (Asked a1.0.0 a2.0.0 a4.0, a3.0.1) in
-    subst (λ (y : SiteFrame × List ℕ). Took bytes (spelled_fields y.0) y.1 (IsOf 5 y.0)) (ok_is made x a4.2)
-    (record { parts = j1; rest_fits = t3.rest_fits; holds = ((t1.holds, t2.holds), refl) })
+    subst (λ (y : SiteFrame × List ℕ). Took bytes (spelled_fields y.0) y.1 (IsOf false 5 y.0)) (ok_is made x a4.2)
+    (record { parts = j1; rest_fits = t3.rest_fits; holds = ((t1.holds, t2.holds), refl, refl) })
 
-pub prepare_takes : Takes prepare_at spelled_fields (IsOf 6)
+pub prepare_takes : Takes prepare_at spelled_fields (IsOf false 6)
 unfolding prepare_at spelled_fields
 prepare_takes bytes x fits e =
     let a1 = bind_ok (group_at bytes) (λ group. count_at group.1 >>= λ view. Ok (Prepare group.0 view.0, view.1)) x e in
@@ -148,10 +150,10 @@ prepare_takes bytes x fits e =
     let t2 = count_takes a1.0.1 a2.0 t1.rest_fits a2.1 in
     let j1 = joined bytes (short a1.0.0.0) a1.0.1 (word a2.0.0) a2.0.1 t1.parts t2.parts in
     let made : SiteFrame × List ℕ = (Prepare a1.0.0 a2.0.0, a2.0.1) in
-    subst (λ (y : SiteFrame × List ℕ). Took bytes (spelled_fields y.0) y.1 (IsOf 6 y.0)) (ok_is made x a2.2)
-    (record { parts = j1; rest_fits = t2.rest_fits; holds = ((t1.holds, t2.holds), refl) })
+    subst (λ (y : SiteFrame × List ℕ). Took bytes (spelled_fields y.0) y.1 (IsOf false 6 y.0)) (ok_is made x a2.2)
+    (record { parts = j1; rest_fits = t2.rest_fits; holds = ((t1.holds, t2.holds), refl, refl) })
 
-pub flushed_takes : Takes flushed_at spelled_fields (IsOf 7)
+pub flushed_takes : Takes flushed_at spelled_fields (IsOf false 7)
 unfolding flushed_at spelled_fields
 flushed_takes bytes x fits e =
     let a1 = bind_ok (group_at bytes) (λ group. count_at group.1 >>= λ view. counts_at view.1 >>= λ counts. tail_at 512 counts.1 >>= λ tail. kept_at tail.1 >>= λ kept. Ok (Flushed group.0 view.0 counts.0 tail.0 kept.0, kept.1)) x e in
@@ -169,28 +171,28 @@ flushed_takes bytes x fits e =
     let j2 = joined a1.0.1 (word a2.0.0) a2.0.1 (spelled_counts a3.0.0 ++ (spelled_tail a4.0.0 ++ spelled_kept a5.0.0)) a5.0.1 t2.parts j3 in
     let j1 = joined bytes (short a1.0.0.0) a1.0.1 (word a2.0.0 ++ (spelled_counts a3.0.0 ++ (spelled_tail a4.0.0 ++ spelled_kept a5.0.0))) a5.0.1 t1.parts j2 in
     let made : SiteFrame × List ℕ = (Flushed a1.0.0 a2.0.0 a3.0.0 a4.0.0 a5.0.0, a5.0.1) in
-    subst (λ (y : SiteFrame × List ℕ). Took bytes (spelled_fields y.0) y.1 (IsOf 7 y.0)) (ok_is made x a5.2)
-    (record { parts = j1; rest_fits = t5.rest_fits; holds = (record { group = t1.holds; view = t2.holds; counts = t3.holds; tail = t4.holds.0; few = t4.holds.1; kept = t5.holds }, refl) })
+    subst (λ (y : SiteFrame × List ℕ). Took bytes (spelled_fields y.0) y.1 (IsOf false 7 y.0)) (ok_is made x a5.2)
+    (record { parts = j1; rest_fits = t5.rest_fits; holds = (record { group = t1.holds; view = t2.holds; counts = t3.holds; tail = t4.holds.0; few = t4.holds.1; kept = t5.holds }, refl, refl) })
 
-pub want_takes : Takes want_at spelled_fields (IsOf 8)
+pub want_takes : Takes want_at spelled_fields (IsOf false 8)
 unfolding want_at spelled_fields
 want_takes bytes x fits e =
     let a1 = bind_ok (uid_at bytes) (λ id. Ok (Want id.0, id.1)) x e in
     let t1 = uid_takes bytes a1.0 fits a1.1 in
     let made : SiteFrame × List ℕ = (Want a1.0.0, a1.0.1) in
-    subst (λ (y : SiteFrame × List ℕ). Took bytes (spelled_fields y.0) y.1 (IsOf 8 y.0)) (ok_is made x a1.2)
-    (record { parts = t1.parts; rest_fits = t1.rest_fits; holds = (t1.holds, refl) })
+    subst (λ (y : SiteFrame × List ℕ). Took bytes (spelled_fields y.0) y.1 (IsOf false 8 y.0)) (ok_is made x a1.2)
+    (record { parts = t1.parts; rest_fits = t1.rest_fits; holds = (t1.holds, refl, refl) })
 
-pub forward_takes : Takes forward_at spelled_fields (IsOf 9)
+pub forward_takes : (handing : Bool) → Takes (forward_at handing) spelled_fields (IsOf handing 9)
 unfolding forward_at spelled_fields
-forward_takes bytes x fits e =
-    let a1 = bind_ok (message_at bytes) (λ message. Ok (Forward message.0, message.1)) x e in
-    let t1 = message_takes bytes a1.0 fits a1.1 in
+forward_takes handing bytes x fits e =
+    let a1 = bind_ok (message_at handing bytes) (λ message. Ok (Forward message.0, message.1)) x e in
+    let t1 = message_takes handing bytes a1.0 fits a1.1 in
     let made : SiteFrame × List ℕ = (Forward a1.0.0, a1.0.1) in
-    subst (λ (y : SiteFrame × List ℕ). Took bytes (spelled_fields y.0) y.1 (IsOf 9 y.0)) (ok_is made x a1.2)
-    (record { parts = t1.parts; rest_fits = t1.rest_fits; holds = (t1.holds, refl) })
+    subst (λ (y : SiteFrame × List ℕ). Took bytes (spelled_fields y.0) y.1 (IsOf handing 9 y.0)) (ok_is made x a1.2)
+    (record { parts = t1.parts; rest_fits = t1.rest_fits; holds = (t1.holds.0, refl, t1.holds.1) })
 
-pub install_takes : Takes install_at (spelled_fields) (IsOf 10)
+pub install_takes : Takes install_at (spelled_fields) (IsOf false 10)
 unfolding install_at spelled_fields
 install_takes bytes x fits e =
     let a1 = bind_ok (group_at bytes) (λ group. count_at group.1 >>= λ view. members_at view.1 >>= λ members. number_at w32 0 4294967295 members.1 >>= λ request. counts_at request.1 >>= λ cut. tail_at 576 cut.1 >>= λ tail. Ok (Install group.0 view.0 members.0 request.0 cut.0 tail.0, tail.1)) x e in
@@ -211,10 +213,10 @@ install_takes bytes x fits e =
     let j2 = joined a1.0.1 (word (a2.0.0)) a2.0.1 (spelled_members (a3.0.0) ++ (word (a4.0.0) ++ (spelled_counts (a5.0.0) ++ spelled_tail (a6.0.0)))) a6.0.1 t2.parts j3 in
     let j1 = joined bytes (short (a1.0.0).0) a1.0.1 (word (a2.0.0) ++ (spelled_members (a3.0.0) ++ (word (a4.0.0) ++ (spelled_counts (a5.0.0) ++ spelled_tail (a6.0.0))))) a6.0.1 t1.parts j2 in
     let made : SiteFrame × List ℕ = (Install a1.0.0 a2.0.0 a3.0.0 a4.0.0 a5.0.0 a6.0.0, a6.0.1) in
-    subst (λ (y : SiteFrame × List ℕ). Took bytes ((spelled_fields) y.0) y.1 ((IsOf 10) y.0)) (ok_is made x a6.2)
-    (record { parts = j1; rest_fits = t6.rest_fits; holds = (record { group = t1.holds; view = t2.holds; members = t3.holds; request = t4.holds; cut = t5.holds; tail = t6.holds.0 }, refl) })
+    subst (λ (y : SiteFrame × List ℕ). Took bytes ((spelled_fields) y.0) y.1 ((IsOf false 10) y.0)) (ok_is made x a6.2)
+    (record { parts = j1; rest_fits = t6.rest_fits; holds = (record { group = t1.holds; view = t2.holds; members = t3.holds; request = t4.holds; cut = t5.holds; tail = t6.holds.0 }, refl, refl) })
 
-pub installed_takes : Takes installed_at (spelled_fields) (IsOf 11)
+pub installed_takes : Takes installed_at (spelled_fields) (IsOf false 11)
 unfolding installed_at spelled_fields
 installed_takes bytes x fits e =
     let a1 = bind_ok (group_at bytes) (λ group. count_at group.1 >>= λ view. Ok (Installed group.0 view.0, view.1)) x e in
@@ -223,10 +225,10 @@ installed_takes bytes x fits e =
     let t2 = count_takes a1.0.1 a2.0 t1.rest_fits a2.1 in
     let j1 = joined bytes (short (a1.0.0).0) a1.0.1 (word (a2.0.0)) a2.0.1 t1.parts t2.parts in
     let made : SiteFrame × List ℕ = (Installed a1.0.0 a2.0.0, a2.0.1) in
-    subst (λ (y : SiteFrame × List ℕ). Took bytes ((spelled_fields) y.0) y.1 ((IsOf 11) y.0)) (ok_is made x a2.2)
-    (record { parts = j1; rest_fits = t2.rest_fits; holds = ((t1.holds, t2.holds), refl) })
+    subst (λ (y : SiteFrame × List ℕ). Took bytes ((spelled_fields) y.0) y.1 ((IsOf false 11) y.0)) (ok_is made x a2.2)
+    (record { parts = j1; rest_fits = t2.rest_fits; holds = ((t1.holds, t2.holds), refl, refl) })
 
-pub out_takes : Takes out_at spelled_fields (IsOf 12)
+pub out_takes : Takes out_at spelled_fields (IsOf false 12)
 unfolding out_at spelled_fields
 out_takes bytes x fits e =
     let a1 = bind_ok (group_at bytes) (λ group. count_at group.1 >>= λ view. Ok (Out group.0 view.0, view.1)) x e in
@@ -235,10 +237,10 @@ out_takes bytes x fits e =
     let t2 = count_takes a1.0.1 a2.0 t1.rest_fits a2.1 in
     let j1 = joined bytes (short a1.0.0.0) a1.0.1 (word a2.0.0) a2.0.1 t1.parts t2.parts in
     let made : SiteFrame × List ℕ = (Out a1.0.0 a2.0.0, a2.0.1) in
-    subst (λ (y : SiteFrame × List ℕ). Took bytes (spelled_fields y.0) y.1 (IsOf 12 y.0)) (ok_is made x a2.2)
-    (record { parts = j1; rest_fits = t2.rest_fits; holds = ((t1.holds, t2.holds), refl) })
+    subst (λ (y : SiteFrame × List ℕ). Took bytes (spelled_fields y.0) y.1 (IsOf false 12 y.0)) (ok_is made x a2.2)
+    (record { parts = j1; rest_fits = t2.rest_fits; holds = ((t1.holds, t2.holds), refl, refl) })
 
-data_again : (m : Message) (rest : List ℕ) → IsMessage m → data_at (spelled_fields (Data m) ++ rest) ≡ Ok (Data m, rest)
+data_again : (m : Message) (rest : List ℕ) → IsMessage m → data_at (hands_over m.body) (spelled_fields (Data m) ++ rest) ≡ Ok (Data m, rest)
 unfolding data_at spelled_fields
 data_again m rest is_message =
     rw (message_again (m) (rest) is_message) refl
@@ -283,7 +285,7 @@ want_again : (u : Uid) (rest : List ℕ) → IsUid u → want_at (spelled_fields
 unfolding want_at spelled_fields
 want_again u rest is_id = rw (uid_again u rest is_id) refl
 
-forward_again : (m : Message) (rest : List ℕ) → IsMessage m → forward_at (spelled_fields (Forward m) ++ rest) ≡ Ok (Forward m, rest)
+forward_again : (m : Message) (rest : List ℕ) → IsMessage m → forward_at (hands_over m.body) (spelled_fields (Forward m) ++ rest) ≡ Ok (Forward m, rest)
 unfolding forward_at spelled_fields
 forward_again m rest is_message = rw (message_again m rest is_message) refl
 
@@ -305,6 +307,10 @@ out_again g view rest is_group is_view =
     ap out_at (append_assoc (short g.0) (word view) rest) ∙ rw (group_again g (word view ++ rest) is_group, count_again view rest is_view) refl
 
 -- ---- the header
+
+either : (b : Bool) → (b || true) ≡ true
+either true = refl
+either false = refl
 
 abbrev pub type_code : FrameType → ℕ
 type_code types.Data = 1
@@ -348,22 +354,27 @@ frame_code_is (Install g view m request cut tail) = refl
 frame_code_is (Installed g view) = refl
 frame_code_is (Out g view) = refl
 
-fields_take : (t : FrameType) → Takes (fields_at t) spelled_fields (IsOf (type_code t))
-unfolding fields_at
-fields_take types.Data bytes x fits e = data_takes bytes x fits e
-fields_take types.Ack bytes x fits e = ack_takes bytes x fits e
-fields_take types.Stable bytes x fits e = stable_takes bytes x fits e
-fields_take types.Ask bytes x fits e = ask_takes bytes x fits e
-fields_take types.Asked bytes x fits e = asked_takes bytes x fits e
-fields_take types.Prepare bytes x fits e = prepare_takes bytes x fits e
-fields_take types.Flushed bytes x fits e = flushed_takes bytes x fits e
-fields_take types.Want bytes x fits e = want_takes bytes x fits e
-fields_take types.Forward bytes x fits e = forward_takes bytes x fits e
-fields_take types.Install bytes x fits e = install_takes bytes x fits e
-fields_take types.Installed bytes x fits e = installed_takes bytes x fits e
-fields_take types.Out bytes x fits e = out_takes bytes x fits e
+-- a frame that has no message is of the first version
+plain : (handing : Bool) → (not handing || false) ≡ true → false ≡ handing
+plain true may = may
+plain false may = refl
 
-fields_again : (f : SiteFrame) (rest : List ℕ) → IsFrame f → fields_at (type_of_frame f) (spelled_fields f ++ rest) ≡ Ok (f, rest)
+fields_take : (handing : Bool) (t : FrameType) → may_stand handing t ≡ true → Takes (fields_at handing t) spelled_fields (IsOf handing (type_code t))
+unfolding fields_at
+fields_take handing types.Data may bytes x fits e = data_takes handing bytes x fits e
+fields_take handing types.Ack may bytes x fits e = subst (λ h. Took bytes (spelled_fields x.0) x.1 (IsOf h 2 x.0)) (plain handing may) (ack_takes bytes x fits e)
+fields_take handing types.Stable may bytes x fits e = subst (λ h. Took bytes (spelled_fields x.0) x.1 (IsOf h 3 x.0)) (plain handing may) (stable_takes bytes x fits e)
+fields_take handing types.Ask may bytes x fits e = subst (λ h. Took bytes (spelled_fields x.0) x.1 (IsOf h 4 x.0)) (plain handing may) (ask_takes bytes x fits e)
+fields_take handing types.Asked may bytes x fits e = subst (λ h. Took bytes (spelled_fields x.0) x.1 (IsOf h 5 x.0)) (plain handing may) (asked_takes bytes x fits e)
+fields_take handing types.Prepare may bytes x fits e = subst (λ h. Took bytes (spelled_fields x.0) x.1 (IsOf h 6 x.0)) (plain handing may) (prepare_takes bytes x fits e)
+fields_take handing types.Flushed may bytes x fits e = subst (λ h. Took bytes (spelled_fields x.0) x.1 (IsOf h 7 x.0)) (plain handing may) (flushed_takes bytes x fits e)
+fields_take handing types.Want may bytes x fits e = subst (λ h. Took bytes (spelled_fields x.0) x.1 (IsOf h 8 x.0)) (plain handing may) (want_takes bytes x fits e)
+fields_take handing types.Forward may bytes x fits e = forward_takes handing bytes x fits e
+fields_take handing types.Install may bytes x fits e = subst (λ h. Took bytes (spelled_fields x.0) x.1 (IsOf h 10 x.0)) (plain handing may) (install_takes bytes x fits e)
+fields_take handing types.Installed may bytes x fits e = subst (λ h. Took bytes (spelled_fields x.0) x.1 (IsOf h 11 x.0)) (plain handing may) (installed_takes bytes x fits e)
+fields_take handing types.Out may bytes x fits e = subst (λ h. Took bytes (spelled_fields x.0) x.1 (IsOf h 12 x.0)) (plain handing may) (out_takes bytes x fits e)
+
+fields_again : (f : SiteFrame) (rest : List ℕ) → IsFrame f → fields_at (is_handing f) (type_of_frame f) (spelled_fields f ++ rest) ≡ Ok (f, rest)
 unfolding fields_at
 fields_again (Data m) rest fits = data_again m rest fits
 fields_again (Ack u) rest fits = ack_again u rest fits
@@ -435,19 +446,35 @@ type_within types.Install = record { above = lit≤ tt; below = lit≤ tt }
 type_within types.Installed = record { above = lit≤ tt; below = lit≤ tt }
 type_within types.Out = record { above = lit≤ tt; below = lit≤ tt }
 
-type_takes : (bytes : List ℕ) (x : FrameType × List ℕ) → IsBytes bytes → type_at bytes ≡ Ok x → Took bytes (byte (type_code x.0)) x.1 (Unit {0})
+type_takes : (handing : Bool) (bytes : List ℕ) (x : FrameType × List ℕ) → IsBytes bytes → type_at handing bytes ≡ Ok x → Took bytes (byte (type_code x.0)) x.1 (may_stand handing x.0 ≡ true)
 unfolding type_at
-type_takes bytes x fits e =
-    let a1 = bind_ok (byte_at 0 255 bytes) (λ n. type_of n.0 >>= λ type. Ok (type, n.1)) x e in
-    let a2 = bind_ok (type_of a1.0.0) (λ type. Ok (type, a1.0.1)) x a1.2 in
+type_takes handing bytes x fits e =
+    let a1 = bind_ok (byte_at 0 255 bytes) (λ n. type_of n.0 >>= λ type. cond (may_stand handing type) (Ok (type, n.1)) (Err WrongType)) x e in
+    let a2 = bind_ok (type_of a1.0.0) (λ type. cond (may_stand handing type) (Ok (type, a1.0.1)) (Err WrongType)) x a1.2 in
+    let g = pass_ok (may_stand handing a2.0) WrongType (Ok (a2.0, a1.0.1)) x a2.2 in
     let t1 = byte_takes 0 255 bytes a1.0 fits a1.1 in
     let made : FrameType × List ℕ = (a2.0, a1.0.1) in
-    subst (λ (y : FrameType × List ℕ). Took bytes (byte (type_code y.0)) y.1 (Unit {0})) (ok_is made x a2.2)
-    (record { parts = t1.parts ∙ ap (λ (n : ℕ). byte n ++ a1.0.1) (type_of_is a1.0.0 a2.0 a2.1); rest_fits = t1.rest_fits; holds = tt })
+    subst (λ (y : FrameType × List ℕ). Took bytes (byte (type_code y.0)) y.1 (may_stand handing y.0 ≡ true)) (ok_is made x g.1)
+    (record { parts = t1.parts ∙ ap (λ (n : ℕ). byte n ++ a1.0.1) (type_of_is a1.0.0 a2.0 a2.1); rest_fits = t1.rest_fits; holds = g.0 })
 
-type_again : (t : FrameType) (rest : List ℕ) → type_at (byte (type_code t) ++ rest) ≡ Ok (t, rest)
+type_again : (handing : Bool) (t : FrameType) (rest : List ℕ) → may_stand handing t ≡ true → type_at handing (byte (type_code t) ++ rest) ≡ Ok (t, rest)
 unfolding type_at
-type_again t rest = rw (byte_again 0 255 (type_code t) rest (type_within t), type_of_again t) refl
+type_again handing t rest may = rw (byte_again 0 255 (type_code t) rest (type_within t), type_of_again t, may) refl
+
+-- the version of a frame fits its type
+stands : (f : SiteFrame) → may_stand (is_handing f) (type_of_frame f) ≡ true
+stands (Data m) = either (not (hands_over m.body))
+stands (Ack u) = refl
+stands (Stable u) = refl
+stands (Ask g n c p) = refl
+stands (Asked g n full) = refl
+stands (Prepare g view) = refl
+stands (Flushed g view counts tail kept) = refl
+stands (Want u) = refl
+stands (Forward m) = either (not (hands_over m.body))
+stands (Install g view m request cut tail) = refl
+stands (Installed g view) = refl
+stands (Out g view) = refl
 
 magic_takes : (bytes rest : List ℕ) → IsBytes bytes → magic_at bytes ≡ Ok rest → Took bytes (short 0x4344) rest (Unit {0})
 unfolding magic_at
@@ -462,18 +489,38 @@ magic_again : (rest : List ℕ) → magic_at (short 0x4344 ++ rest) ≡ Ok rest
 unfolding magic_at
 magic_again rest = rw (short_again 0 65535 (lit< tt) 0x4344 rest (record { above = lit≤ tt; below = lit≤ tt })) refl
 
-version_takes : (bytes rest : List ℕ) → IsBytes bytes → version_at bytes ≡ Ok rest → Took bytes (byte 1) rest (Unit {0})
-unfolding version_at
-version_takes bytes rest fits e =
-    let a = bind_ok (byte_at 0 255 bytes) (λ n. cond (eqb n.0 1) (Ok n.1) (Err Version)) rest e in
-    let g = pass_ok (eqb a.0.0 1) Version (Ok a.0.1) rest a.2 in
-    let t = byte_takes 0 255 bytes a.0 fits a.1 in
-    subst (λ (y : List ℕ). Took bytes (byte 1) y (Unit {0})) (ok_is a.0.1 rest g.1)
-    (record { parts = t.parts ∙ ap (λ (n : ℕ). byte n ++ a.0.1) (eqb-true a.0.0 1 g.0); rest_fits = t.rest_fits; holds = tt })
+version_back : (n : ℕ) (handing : Bool) → version_of n ≡ Ok handing → n ≡ version_code handing
+unfolding version_of
+version_back n handing e =
+    elim (chosen (eqb n 1) (Ok false) (cond (eqb n 2) (Ok true) (Err Version)) (Ok handing) e) [
+      | inl first ↦ eqb-true n 1 first.0 ∙ ap version_code (ok_is false handing first.1)
+      | inr other ↦
+          let g = pass_ok (eqb n 2) Version (Ok true) handing other.1 in
+          eqb-true n 2 g.0 ∙ ap version_code (ok_is true handing g.1)
+    ]
 
-version_again : (rest : List ℕ) → version_at (byte 1 ++ rest) ≡ Ok rest
+version_of_again : (handing : Bool) → version_of (version_code handing) ≡ Ok handing
+unfolding version_of
+version_of_again true = refl
+version_of_again false = refl
+
+version_within : (handing : Bool) → IsFrom 0 255 (version_code handing)
+version_within true = record { above = lit≤ tt; below = lit≤ tt }
+version_within false = record { above = lit≤ tt; below = lit≤ tt }
+
+version_takes : Takes version_at (λ (handing : Bool). byte (version_code handing)) (λ (handing : Bool). Unit {0})
 unfolding version_at
-version_again rest = rw (byte_again 0 255 1 rest (record { above = lit≤ tt; below = lit≤ tt })) refl
+version_takes bytes x fits e =
+    let a1 = bind_ok (byte_at 0 255 bytes) (λ n. version_of n.0 >>= λ handing. Ok (handing, n.1)) x e in
+    let a2 = bind_ok (version_of a1.0.0) (λ handing. Ok (handing, a1.0.1)) x a1.2 in
+    let t1 = byte_takes 0 255 bytes a1.0 fits a1.1 in
+    let made : Bool × List ℕ = (a2.0, a1.0.1) in
+    subst (λ (y : Bool × List ℕ). Took bytes (byte (version_code y.0)) y.1 (Unit {0})) (ok_is made x a2.2)
+    (record { parts = t1.parts ∙ ap (λ (n : ℕ). byte n ++ a1.0.1) (version_back a1.0.0 a2.0 a2.1); rest_fits = t1.rest_fits; holds = tt })
+
+version_again : (handing : Bool) (rest : List ℕ) → version_at (byte (version_code handing) ++ rest) ≡ Ok (handing, rest)
+unfolding version_at
+version_again handing rest = rw (byte_again 0 255 (version_code handing) rest (version_within handing), version_of_again handing) refl
 
 -- ---- all of the bytes
 
@@ -483,27 +530,29 @@ ended x rest = cond (eqb (length rest) 0) (Ok x) (Err Length)
 frame_takes : (bytes : List ℕ) (x : DomainNo × SiteNo × SiteFrame) → IsBytes bytes → frame_at bytes ≡ Ok x → IsSpelled x.0 x.1 x.2 × (bytes ≡ spelled_site x.0 x.1 x.2)
 unfolding frame_at spelled_site
 frame_takes bytes x fits e =
-    let a1 = bind_ok (magic_at bytes) (λ magic. version_at magic >>= λ version. type_at version >>= λ type. domain_at type.1 >>= λ domain. site_at domain.1 >>= λ site. fields_at type.0 site.1 >>= λ frame. ended (domain.0, site.0, frame.0) frame.1) x e in
-    let a2 = bind_ok (version_at a1.0) (λ version. type_at version >>= λ type. domain_at type.1 >>= λ domain. site_at domain.1 >>= λ site. fields_at type.0 site.1 >>= λ frame. ended (domain.0, site.0, frame.0) frame.1) x a1.2 in
-    let a3 = bind_ok (type_at a2.0) (λ type. domain_at type.1 >>= λ domain. site_at domain.1 >>= λ site. fields_at type.0 site.1 >>= λ frame. ended (domain.0, site.0, frame.0) frame.1) x a2.2 in
-    let a4 = bind_ok (domain_at a3.0.1) (λ domain. site_at domain.1 >>= λ site. fields_at a3.0.0 site.1 >>= λ frame. ended (domain.0, site.0, frame.0) frame.1) x a3.2 in
-    let a5 = bind_ok (site_at a4.0.1) (λ site. fields_at a3.0.0 site.1 >>= λ frame. ended (a4.0.0, site.0, frame.0) frame.1) x a4.2 in
-    let a6 = bind_ok (fields_at a3.0.0 a5.0.1) (λ frame. ended (a4.0.0, a5.0.0, frame.0) frame.1) x a5.2 in
+    let a1 = bind_ok (magic_at bytes) (λ magic. version_at magic >>= λ version. type_at version.0 version.1 >>= λ type. domain_at type.1 >>= λ domain. site_at domain.1 >>= λ site. fields_at version.0 type.0 site.1 >>= λ frame. ended (domain.0, site.0, frame.0) frame.1) x e in
+    let a2 = bind_ok (version_at a1.0) (λ version. type_at version.0 version.1 >>= λ type. domain_at type.1 >>= λ domain. site_at domain.1 >>= λ site. fields_at version.0 type.0 site.1 >>= λ frame. ended (domain.0, site.0, frame.0) frame.1) x a1.2 in
+    let a3 = bind_ok (type_at a2.0.0 a2.0.1) (λ type. domain_at type.1 >>= λ domain. site_at domain.1 >>= λ site. fields_at a2.0.0 type.0 site.1 >>= λ frame. ended (domain.0, site.0, frame.0) frame.1) x a2.2 in
+    let a4 = bind_ok (domain_at a3.0.1) (λ domain. site_at domain.1 >>= λ site. fields_at a2.0.0 a3.0.0 site.1 >>= λ frame. ended (domain.0, site.0, frame.0) frame.1) x a3.2 in
+    let a5 = bind_ok (site_at a4.0.1) (λ site. fields_at a2.0.0 a3.0.0 site.1 >>= λ frame. ended (a4.0.0, site.0, frame.0) frame.1) x a4.2 in
+    let a6 = bind_ok (fields_at a2.0.0 a3.0.0 a5.0.1) (λ frame. ended (a4.0.0, a5.0.0, frame.0) frame.1) x a5.2 in
     let g = pass_ok (eqb (length a6.0.1) 0) Length (Ok (a4.0.0, a5.0.0, a6.0.0)) x a6.2 in
     let nothing : a6.0.1 ≡ [] = nil_from_length a6.0.1 (eqb-true (length a6.0.1) 0 g.0) in
     let t1 = magic_takes bytes a1.0 fits a1.1 in
     let t2 = version_takes a1.0 a2.0 t1.rest_fits a2.1 in
-    let t3 = type_takes a2.0 a3.0 t2.rest_fits a3.1 in
+    let t3 = type_takes a2.0.0 a2.0.1 a3.0 t2.rest_fits a3.1 in
     let t4 = domain_takes a3.0.1 a4.0 t3.rest_fits a4.1 in
     let t5 = site_takes a4.0.1 a5.0 t4.rest_fits a5.1 in
-    let t6 = fields_take a3.0.0 a5.0.1 a6.0 t5.rest_fits a6.1 in
+    let t6 = fields_take a2.0.0 a3.0.0 t3.holds a5.0.1 a6.0 t5.rest_fits a6.1 in
     let f = a6.0.0 in
+    let version : List ℕ = byte (version_code (is_handing f)) in
+    let p2 : a1.0 ≡ version ++ a2.0.1 = t2.parts ∙ ap (λ (h : Bool). byte (version_code h) ++ a2.0.1) (sym t6.holds.2) in
     let p3 = t3.parts ∙ ap (λ (n : ℕ). byte n ++ a3.0.1) (sym t6.holds.1) in
     let p6 : a5.0.1 ≡ spelled_fields f = t6.parts ∙ ap (λ (r : List ℕ). spelled_fields f ++ r) nothing ∙ append-nil (spelled_fields f) in
     let p5 : a4.0.1 ≡ short a5.0.0.0 ++ spelled_fields f = t5.parts ∙ ap (λ (r : List ℕ). short a5.0.0.0 ++ r) p6 in
     let p4 : a3.0.1 ≡ byte a4.0.0.0 ++ (short a5.0.0.0 ++ spelled_fields f) = t4.parts ∙ ap (λ (r : List ℕ). byte a4.0.0.0 ++ r) p5 in
-    let q3 : a2.0 ≡ byte (frame_code f) ++ (byte a4.0.0.0 ++ (short a5.0.0.0 ++ spelled_fields f)) = p3 ∙ ap (λ (r : List ℕ). byte (frame_code f) ++ r) p4 in
-    let q2 : a1.0 ≡ byte 1 ++ (byte (frame_code f) ++ (byte a4.0.0.0 ++ (short a5.0.0.0 ++ spelled_fields f))) = t2.parts ∙ ap (λ (r : List ℕ). byte 1 ++ r) q3 in
+    let q3 : a2.0.1 ≡ byte (frame_code f) ++ (byte a4.0.0.0 ++ (short a5.0.0.0 ++ spelled_fields f)) = p3 ∙ ap (λ (r : List ℕ). byte (frame_code f) ++ r) p4 in
+    let q2 : a1.0 ≡ version ++ (byte (frame_code f) ++ (byte a4.0.0.0 ++ (short a5.0.0.0 ++ spelled_fields f))) = p2 ∙ ap (λ (r : List ℕ). version ++ r) q3 in
     let q1 : bytes ≡ spelled_site a4.0.0 a5.0.0 f = t1.parts ∙ ap (λ (r : List ℕ). short 0x4344 ++ r) q2 in
     subst (λ (y : DomainNo × SiteNo × SiteFrame). IsSpelled y.0 y.1 y.2 × (bytes ≡ spelled_site y.0 y.1 y.2)) (ok_is (a4.0.0, a5.0.0, f) x g.1)
     (record { domain = t4.holds; site = t5.holds; frame = t6.holds.0 }, q1)
@@ -516,9 +565,9 @@ frame_again d s f fits =
     let r4 : List ℕ = short s.0 ++ spelled_fields f in
     let r3 : List ℕ = byte d.0 ++ (short s.0 ++ spelled_fields f) in
     let code : byte (frame_code f) ++ r3 ≡ byte (type_code t) ++ r3 = ap (λ (n : ℕ). byte n ++ r3) (frame_code_is f) in
-    let type : type_at (byte (frame_code f) ++ r3) ≡ Ok (t, r3) = ap type_at code ∙ type_again t r3 in
-    let fields : fields_at t (spelled_fields f) ≡ Ok (f, []) = ap (fields_at t) (sym (append-nil (spelled_fields f))) ∙ fields_again f [] fits.frame in
-    rw (magic_again (byte 1 ++ (byte (frame_code f) ++ r3)), version_again (byte (frame_code f) ++ r3), type, domain_again d r4 fits.domain, site_again s r5 fits.site, fields) refl
+    let type : type_at (is_handing f) (byte (frame_code f) ++ r3) ≡ Ok (t, r3) = ap (type_at (is_handing f)) code ∙ type_again (is_handing f) t r3 (stands f) in
+    let fields : fields_at (is_handing f) t (spelled_fields f) ≡ Ok (f, []) = ap (fields_at (is_handing f) t) (sym (append-nil (spelled_fields f))) ∙ fields_again f [] fits.frame in
+    rw (magic_again (byte (version_code (is_handing f)) ++ (byte (frame_code f) ++ r3)), version_again (is_handing f) (byte (frame_code f) ++ r3), type, domain_again d r4 fits.domain, site_again s r5 fits.site, fields) refl
 
 pub found : (bytes : List ℕ) (x : DomainNo × SiteNo × SiteFrame) → IsBytes bytes → site_frame_of bytes ≡ Ok x → IsSpelled x.0 x.1 x.2 × (bytes ≡ spelled_site x.0 x.1 x.2)
 unfolding site_frame_of

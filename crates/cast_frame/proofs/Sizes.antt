@@ -7,7 +7,7 @@ use Rattle.cast_types.specs.declared.names.SiteNo.{SiteNo}
 use Rattle.cast_field.specs.declared.fault.FrameFault.{FrameFault}
 use Rattle.cast_message.specs.declared.site.SiteFrame.{SiteFrame}
 use Rattle.cast_message.specs.declared.site.SiteFrame.TheVariants.{Data, Ack, Stable, Ask, Asked, Prepare, Flushed, Want, Forward, Install, Installed, Out}
-use Rattle.cast_frame.specs.Spelling.{change_code, full_code, frame_code, spelled_fields, spelled_site}
+use Rattle.cast_frame.specs.Spelling.{change_code, full_code, frame_code, is_handing, version_code, spelled_fields, spelled_site}
 use Rattle.cast_frame.specs.Spelled.{IsFrame, IsSpelled}
 use Rattle.cast_field.specs.Reading.{Gives}
 use Rattle.cast_frame.specs.Reading.{site_frame_of}
@@ -37,7 +37,7 @@ fields_size (Out g view) is = simp length-append (omega (arith, short_size g.0, 
 pub spelled_fits : SpelledFits
 unfolding spelled_site
 spelled_fits d s f is =
-    simp length-append (omega (arith, short_size 0x4344, byte_size 1, byte_size (frame_code f), byte_size d.0, short_size s.0, fields_size f is.frame))
+    simp length-append (omega (arith, short_size 0x4344, byte_size (version_code (is_handing f)), byte_size (frame_code f), byte_size d.0, short_size s.0, fields_size f is.frame))
 
 pub spelled_is_read : SpelledIsRead
 spelled_is_read d s f is = read_again d s f is (spelled_fits d s f is)

@@ -1,5 +1,5 @@
 -- Reading a frame between sites from left to right: its header and the fields of its type, or the first fault.
-use Rattle.std.specs.Prelude.{ℕ, Bool, true, false, ◌==◌, nat_lt, if◌then◌else◌, List, length, Result, Ok, Err}
+use Rattle.std.specs.Prelude.{ℕ, Bool, true, false, not, ◌||◌, ◌==◌, nat_lt, if◌then◌else◌, List, length, Result, Ok, Err}
 use Rattle.std.specs.Int.{w16, w32}
 use Rattle.cast_types.specs.declared.names.DomainNo.{DomainNo}
 use Rattle.cast_types.specs.declared.names.SiteNo.{SiteNo}
@@ -20,9 +20,9 @@ change_of n = if n == 1 then Join else Leave
 unfoldable pub full_of : ℕ → Result Bool FrameFault
 full_of n = if n == 0 then Ok false else if n == 14 then Ok true else Err Range
 
-unfoldable pub data_at : Reader SiteFrame
-data_at bytes = do
-  message ← message_at bytes
+unfoldable pub data_at : Bool → Reader SiteFrame
+data_at handing bytes = do
+  message ← message_at handing bytes
   Ok (Data message.0, message.1)
 
 unfoldable pub ack_at : Reader SiteFrame
@@ -71,9 +71,9 @@ want_at bytes = do
   id ← uid_at bytes
   Ok (Want id.0, id.1)
 
-unfoldable pub forward_at : Reader SiteFrame
-forward_at bytes = do
-  message ← message_at bytes
+unfoldable pub forward_at : Bool → Reader SiteFrame
+forward_at handing bytes = do
+  message ← message_at handing bytes
   Ok (Forward message.0, message.1)
 
 unfoldable pub install_at : Reader SiteFrame
@@ -106,26 +106,45 @@ type_of n =
     else if n == 10 then Ok types.Install else if n == 11 then Ok types.Installed else if n == 12 then Ok types.Out
     else Err WrongType
 
-unfoldable pub type_at : Reader FrameType
-type_at bytes = do
+-- a frame of the type holds a message
+abbrev pub has_message : FrameType → Bool
+has_message types.Data = true
+has_message types.Ack = false
+has_message types.Stable = false
+has_message types.Ask = false
+has_message types.Asked = false
+has_message types.Prepare = false
+has_message types.Flushed = false
+has_message types.Want = false
+has_message types.Forward = true
+has_message types.Install = false
+has_message types.Installed = false
+has_message types.Out = false
+
+-- a frame of the version whose messages hand over the token has a message; of the other version each frame may be
+abbrev pub may_stand : Bool → FrameType → Bool
+may_stand handing type = not handing || has_message type
+
+unfoldable pub type_at : Bool → Reader FrameType
+type_at handing bytes = do
   n ← byte_at 0 255 bytes
   type ← type_of n.0
-  Ok (type, n.1)
+  if may_stand handing type then Ok (type, n.1) else Err WrongType
 
 -- the type of a frame says what stands behind the header
-unfoldable pub fields_at : FrameType → Reader SiteFrame
-fields_at types.Data bytes = data_at bytes
-fields_at types.Ack bytes = ack_at bytes
-fields_at types.Stable bytes = stable_at bytes
-fields_at types.Ask bytes = ask_at bytes
-fields_at types.Asked bytes = asked_at bytes
-fields_at types.Prepare bytes = prepare_at bytes
-fields_at types.Flushed bytes = flushed_at bytes
-fields_at types.Want bytes = want_at bytes
-fields_at types.Forward bytes = forward_at bytes
-fields_at types.Install bytes = install_at bytes
-fields_at types.Installed bytes = installed_at bytes
-fields_at types.Out bytes = out_at bytes
+unfoldable pub fields_at : Bool → FrameType → Reader SiteFrame
+fields_at handing types.Data bytes = data_at handing bytes
+fields_at handing types.Ack bytes = ack_at bytes
+fields_at handing types.Stable bytes = stable_at bytes
+fields_at handing types.Ask bytes = ask_at bytes
+fields_at handing types.Asked bytes = asked_at bytes
+fields_at handing types.Prepare bytes = prepare_at bytes
+fields_at handing types.Flushed bytes = flushed_at bytes
+fields_at handing types.Want bytes = want_at bytes
+fields_at handing types.Forward bytes = forward_at handing bytes
+fields_at handing types.Install bytes = install_at bytes
+fields_at handing types.Installed bytes = installed_at bytes
+fields_at handing types.Out bytes = out_at bytes
 
 -- the two bytes of the magic are one field
 unfoldable pub magic_at : List ℕ → Result (List ℕ) FrameFault
@@ -133,20 +152,25 @@ magic_at bytes = do
   n ← number_at w16 0 65535 bytes
   if n.0 == 0x4344 then Ok n.1 else Err Magic
 
-unfoldable pub version_at : List ℕ → Result (List ℕ) FrameFault
+-- the version says whether the frame's message hands over the token
+unfoldable pub version_of : ℕ → Result Bool FrameFault
+version_of n = if n == 1 then Ok false else if n == 2 then Ok true else Err Version
+
+unfoldable pub version_at : Reader Bool
 version_at bytes = do
   n ← byte_at 0 255 bytes
-  if n.0 == 1 then Ok n.1 else Err Version
+  handing ← version_of n.0
+  Ok (handing, n.1)
 
 -- all of the bytes: no bytes may be left
 unfoldable pub frame_at : List ℕ → Result (DomainNo × SiteNo × SiteFrame) FrameFault
 frame_at bytes = do
   magic ← magic_at bytes
   version ← version_at magic
-  type ← type_at version
+  type ← type_at version.0 version.1
   domain ← domain_at type.1
   site ← site_at domain.1
-  frame ← fields_at type.0 site.1
+  frame ← fields_at version.0 type.0 site.1
   if length frame.1 == 0 then Ok (domain.0, site.0, frame.0) else Err Length
 
 -- the frame that the bytes are, with its domain and its sender

@@ -1,11 +1,12 @@
 -- The one spelling of each frame between sites.
-use Rattle.std.specs.Prelude.{ℕ, Bool, if◌then◌else◌, List, ◌++◌}
+use Rattle.std.specs.Prelude.{ℕ, Bool, false, if◌then◌else◌, List, ◌++◌}
 use Rattle.cast_types.specs.declared.names.DomainNo.{DomainNo}
 use Rattle.cast_types.specs.declared.names.SiteNo.{SiteNo}
 use Rattle.cast_message.specs.declared.site.Change.{Change}
 use Rattle.cast_message.specs.declared.site.Change.TheVariants.{Join, Leave}
 use Rattle.cast_message.specs.declared.site.SiteFrame.{SiteFrame}
 use Rattle.cast_message.specs.declared.site.SiteFrame.TheVariants.{Data, Ack, Stable, Ask, Asked, Prepare, Flushed, Want, Forward, Install, Installed, Out}
+use Rattle.cast_message.specs.Bodies.{hands_over}
 use Rattle.cast_field.specs.Spelling.{byte, short, word, spelled_proc, spelled_uid, spelled_counts, spelled_message, spelled_members, spelled_tail, spelled_kept}
 
 abbrev pub change_code : Change → ℕ
@@ -30,6 +31,24 @@ frame_code (Install g view members request cut tail) = 10
 frame_code (Installed g view) = 11
 frame_code (Out g view) = 12
 
+-- the frame has a message, and this hands over the token
+abbrev pub is_handing : SiteFrame → Bool
+is_handing (Data m) = hands_over m.body
+is_handing (Ack u) = false
+is_handing (Stable u) = false
+is_handing (Ask g number change p) = false
+is_handing (Asked g number full) = false
+is_handing (Prepare g view) = false
+is_handing (Flushed g view counts tail kept) = false
+is_handing (Want u) = false
+is_handing (Forward m) = hands_over m.body
+is_handing (Install g view members request cut tail) = false
+is_handing (Installed g view) = false
+is_handing (Out g view) = false
+
+abbrev pub version_code : Bool → ℕ
+version_code handing = if handing then 2 else 1
+
 unfoldable pub spelled_fields : SiteFrame → List ℕ
 spelled_fields (Data m) = spelled_message m
 spelled_fields (Ack u) = spelled_uid u
@@ -49,4 +68,4 @@ spelled_fields (Out g view) = short g.0 ++ word view
 -- a frame of a domain from a site: the magic, the version, the type, the domain, the sender and the fields
 unfoldable pub spelled_site : DomainNo → SiteNo → SiteFrame → List ℕ
 spelled_site d s f =
-    short 0x4344 ++ (byte 1 ++ (byte (frame_code f) ++ (byte d.0 ++ (short s.0 ++ spelled_fields f))))
+    short 0x4344 ++ (byte (version_code (is_handing f)) ++ (byte (frame_code f) ++ (byte d.0 ++ (short s.0 ++ spelled_fields f))))

@@ -2,7 +2,8 @@
 //!
 //! Promised: `encode_site` writes the one spelling of a frame. `decode_site` reads a frame or says which fault comes
 //! first from the left; what it reads is spelled so, and what is spelled so it reads, unless memory runs out. Different
-//! frames have different spellings, of at most 60,000 bytes (`laws`).
+//! frames have different spellings, of at most 60,000 bytes (`laws`). Frames whose message hands over the token are of
+//! version 2, all others of version 1.
 //!
 //! The definitions are in `specs/`: `Spelling` has the one spelling of each frame, `Reading` says what bytes are, `Spelled`
 //! which frames have a spelling, and `Laws` what holds of all of them. They say it field by field, in the words of

@@ -1,10 +1,10 @@
 ghost use Rattle.std.specs.Prelude.{◌≡◌, Ok, IfOk};
 ghost use Rattle.cast_field.specs.Reading.{Gives, GivesAs, GivesField};
-ghost use Rattle.cast_frame.specs.Reading.{ack_at, ask_at, asked_at, change_of, data_at, fields_at, flushed_at, forward_at, frame_at, full_of, install_at, installed_at, magic_at, out_at, prepare_at, site_frame_of, stable_at, type_at, type_of, version_at, want_at};
+ghost use Rattle.cast_frame.specs.Reading.{ack_at, ask_at, asked_at, change_of, data_at, fields_at, flushed_at, forward_at, frame_at, full_of, install_at, installed_at, magic_at, may_stand, out_at, prepare_at, site_frame_of, stable_at, type_at, type_of, version_at, version_of, want_at};
 ghost use Rattle.cast_frame.specs.Spelled.{IsSpelled};
 ghost use Rattle.cast_frame.specs.Spelling.{spelled_site};
 
-use crate::header::{MAGIC, VERSION};
+use crate::header::{HANDING_VERSION, MAGIC, VERSION};
 use cast_field::FrameFault;
 use cast_field::reading::{
     read_byte, read_count, read_counts, read_domain, read_group, read_kept, read_members,
@@ -53,20 +53,33 @@ fn type_of_number(number: u8) -> Result<FrameType, FrameFault>
     }
 }
 
+// Whether a frame of this type may be of the version whose messages hand over the token, or of the other one.
+fn may_stand(handing: bool, frame_type: FrameType) -> bool
+    ensures { result ≡ may_stand handing frame_type }
+{
+    match frame_type {
+        FrameType::Data | FrameType::Forward => true,
+        _ => !handing,
+    }
+}
+
 #[tactic(auto, unfolding(crate::specs::Reading::type_at))]
-fn read_type(bytes: &[u8]) -> Result<(FrameType, &[u8]), FrameFault>
-    ensures { GivesField result (type_at bytes.now) }
+fn read_type(handing: bool, bytes: &[u8]) -> Result<(FrameType, &[u8]), FrameFault>
+    ensures { GivesField result (type_at handing bytes.now) }
 {
     let (number, rest) = read_byte(0, 255, bytes)?;
     let frame_type = type_of_number(number)?;
+    if !may_stand(handing, frame_type) {
+        return Err(FrameFault::WrongType);
+    }
     Ok((frame_type, rest))
 }
 
 #[tactic(auto, unfolding(crate::specs::Reading::data_at))]
-fn read_data(alloc: Global, bytes: &[u8]) -> Result<(SiteFrame, &[u8]), FrameFault>
-    ensures { GivesField result (data_at bytes.now) }
+fn read_data(alloc: Global, handing: bool, bytes: &[u8]) -> Result<(SiteFrame, &[u8]), FrameFault>
+    ensures { GivesField result (data_at handing bytes.now) }
 {
-    let (message, rest) = read_message(alloc, bytes)?;
+    let (message, rest) = read_message(alloc, handing, bytes)?;
     Ok((SiteFrame::Data(message), rest))
 }
 
@@ -178,10 +191,14 @@ fn read_want(bytes: &[u8]) -> Result<(SiteFrame, &[u8]), FrameFault>
 }
 
 #[tactic(auto, unfolding(crate::specs::Reading::forward_at))]
-fn read_forward(alloc: Global, bytes: &[u8]) -> Result<(SiteFrame, &[u8]), FrameFault>
-    ensures { GivesField result (forward_at bytes.now) }
+fn read_forward(
+    alloc: Global,
+    handing: bool,
+    bytes: &[u8],
+) -> Result<(SiteFrame, &[u8]), FrameFault>
+    ensures { GivesField result (forward_at handing bytes.now) }
 {
-    let (message, rest) = read_message(alloc, bytes)?;
+    let (message, rest) = read_message(alloc, handing, bytes)?;
     Ok((SiteFrame::Forward(message), rest))
 }
 
@@ -227,13 +244,14 @@ fn read_out(bytes: &[u8]) -> Result<(SiteFrame, &[u8]), FrameFault>
 #[tactic(auto, unfolding(crate::specs::Reading::fields_at))]
 fn read_fields(
     alloc: Global,
+    handing: bool,
     frame_type: FrameType,
     bytes: &[u8],
 ) -> Result<(SiteFrame, &[u8]), FrameFault>
-    ensures { GivesField result (fields_at frame_type bytes.now) }
+    ensures { GivesField result (fields_at handing frame_type bytes.now) }
 {
     match frame_type {
-        FrameType::Data => read_data(alloc, bytes),
+        FrameType::Data => read_data(alloc, handing, bytes),
         FrameType::Ack => read_ack(bytes),
         FrameType::Stable => read_stable(bytes),
         FrameType::Ask => read_ask(bytes),
@@ -241,7 +259,7 @@ fn read_fields(
         FrameType::Prepare => read_prepare(bytes),
         FrameType::Flushed => read_flushed(alloc, bytes),
         FrameType::Want => read_want(bytes),
-        FrameType::Forward => read_forward(alloc, bytes),
+        FrameType::Forward => read_forward(alloc, handing, bytes),
         FrameType::Install => read_install(alloc, bytes),
         FrameType::Installed => read_installed(bytes),
         FrameType::Out => read_out(bytes),
@@ -259,15 +277,25 @@ fn read_magic(bytes: &[u8]) -> Result<&[u8], FrameFault>
     Ok(rest)
 }
 
-#[tactic(auto, unfolding(crate::specs::Reading::version_at))]
-fn read_version(bytes: &[u8]) -> Result<&[u8], FrameFault>
-    ensures { GivesAs (λ x. x.now) result (version_at bytes.now) }
+// Whether the message of a frame of this version hands over the token.
+#[tactic(auto, unfolding(crate::specs::Reading::version_of))]
+fn version_of_number(number: u8) -> Result<bool, FrameFault>
+    ensures { Gives result (version_of number) }
 {
-    let (version, rest) = read_byte(0, 255, bytes)?;
-    if version != VERSION {
-        return Err(FrameFault::Version);
+    match number {
+        VERSION => Ok(false),
+        HANDING_VERSION => Ok(true),
+        _ => Err(FrameFault::Version),
     }
-    Ok(rest)
+}
+
+#[tactic(auto, unfolding(crate::specs::Reading::version_at))]
+fn read_version(bytes: &[u8]) -> Result<(bool, &[u8]), FrameFault>
+    ensures { GivesField result (version_at bytes.now) }
+{
+    let (number, rest) = read_byte(0, 255, bytes)?;
+    let handing = version_of_number(number)?;
+    Ok((handing, rest))
 }
 
 #[tactic(auto, unfolding(crate::specs::Reading::frame_at))]
@@ -275,11 +303,11 @@ fn read_frame(alloc: Global, bytes: &[u8]) -> Result<(DomainNo, SiteNo, SiteFram
     ensures { Gives result (frame_at bytes.now) }
 {
     let rest = read_magic(bytes)?;
-    let rest = read_version(rest)?;
-    let (frame_type, rest) = read_type(rest)?;
+    let (handing, rest) = read_version(rest)?;
+    let (frame_type, rest) = read_type(handing, rest)?;
     let (domain, rest) = read_domain(rest)?;
     let (site, rest) = read_site(rest)?;
-    let (frame, rest) = read_fields(alloc, frame_type, rest)?;
+    let (frame, rest) = read_fields(alloc, handing, frame_type, rest)?;
     if !rest.is_empty() {
         return Err(FrameFault::Length);
     }
@@ -297,6 +325,11 @@ fn read_all(alloc: Global, bytes: &[u8]) -> Result<(DomainNo, SiteNo, SiteFrame)
 }
 
 /// Reads a frame between sites: its domain, the site that sends it, and the frame. The bytes are the frame, all of them.
+///
+/// A frame is of version 2 if it is `Data` or `Forward` and its message hands over the token, and of version 1 if not.
+/// Another version is `Version` (3). In version 2 another type is `WrongType` (4), and a message of another kind than 3
+/// is `Range` (7); the message has 0 to 64 ids, and the 6 bytes of its new holder stand last. In version 1 a set-order
+/// message has 1 to 64 ids.
 ///
 /// The fault is the first one from left to right; more than 60,000 bytes are `Length` before anything else. `NoMemory`
 /// comes where an allocation was refused, and says nothing of the bytes.

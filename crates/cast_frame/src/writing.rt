@@ -1,9 +1,9 @@
 ghost use Rattle.std.specs.Prelude.{◌≡◌, ◌++◌, IfOk, OnOk};
 ghost use Rattle.cast_message.specs.declared.site.SiteFrame.TheVariants.{Ask, Asked, Flushed, Install};
 ghost use Rattle.cast_field.specs.Spelling.{short, word};
-ghost use Rattle.cast_frame.specs.Spelling.{change_code, frame_code, full_code, spelled_fields, spelled_site};
+ghost use Rattle.cast_frame.specs.Spelling.{change_code, frame_code, full_code, is_handing, spelled_fields, spelled_site, version_code};
 
-use crate::header::{MAGIC, VERSION};
+use crate::header::{HANDING_VERSION, MAGIC, VERSION};
 use bytes::{BufMut, Bytes, BytesMut};
 use cast_field::writing::{
     put_counts, put_kept, put_members, put_message, put_proc, put_tail, put_uid, put_view,
@@ -28,6 +28,26 @@ fn code_of_full(full: bool) -> u8
     ensures { result ≡ full_code full }
 {
     if full { 14 } else { 0 }
+}
+
+// Whether the frame has a message, and this hands over the token.
+fn is_handing(frame: &SiteFrame) -> bool
+    ensures { result ≡ is_handing frame.now }
+{
+    match frame {
+        SiteFrame::Data(message) | SiteFrame::Forward(message) => message.body.hands_over(),
+        _ => false,
+    }
+}
+
+fn code_of_version(frame: &SiteFrame) -> u8
+    ensures { result ≡ version_code (is_handing frame.now) }
+{
+    if is_handing(frame) {
+        HANDING_VERSION
+    } else {
+        VERSION
+    }
 }
 
 fn code_of_frame(frame: &SiteFrame) -> u8
@@ -155,8 +175,9 @@ fn put_fields(out: &mut BytesMut, frame: &SiteFrame) -> Result<(), NoMemory>
     }
 }
 
-/// The one spelling of a frame of a domain from a site, at most 60,000 bytes where its numbers are in their ranges.
-/// The frame is only read; `NoMemory` comes where an allocation was refused.
+/// The one spelling of a frame of a domain from a site, at most 60,000 bytes where its numbers are in their ranges. Its
+/// version is 2 for `Data` and `Forward` of a message that hands over the token, and 1 for every other frame. The frame is
+/// only read; `NoMemory` comes where an allocation was refused.
 #[tactic(auto, unfolding(crate::specs::Spelling::spelled_site, cast_field::specs::Spelling::byte, cast_field::specs::Spelling::short))]
 pub fn encode_site(
     alloc: Global,
@@ -168,7 +189,7 @@ pub fn encode_site(
 {
     let mut out = BytesMut::with_capacity(alloc, USUAL_LEN)?;
     out.put_u16(MAGIC)?;
-    out.put_u8(VERSION)?;
+    out.put_u8(code_of_version(frame))?;
     out.put_u8(code_of_frame(frame))?;
     out.put_u8(domain.0)?;
     out.put_u16(site.0)?;

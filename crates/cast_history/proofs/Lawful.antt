@@ -51,7 +51,7 @@ use Rattle.cast_model.specs.declared.config.DomainConfig.{DomainConfig}
 use Rattle.cast_history.specs.State.{State, opening, local, is_group, may_speak, set_session, with_push, set_process, set_group, set_home, set_standing, emitted, others_of, noting_ack, noting_stable, gate_of, local_members, is_stable, was_given, pushing, receiving, releasing, is_ended, releasing_ended, with_delivery, noting_act, noting_sent, outside, acts_outside, closing, going, taking, setting_quota, counting_cast}
 use Rattle.cast_types.specs.declared.refusal.Refusal.{Refusal}
 use Rattle.cast_history.specs.Acts.{Act}
-use Rattle.cast_history.specs.Acts.Act.{Sent}
+use Rattle.cast_history.specs.Acts.Act.{Sent, Delivered, Entered, Left}
 use Rattle.cast_types.specs.Counts.{CountList}
 use Rattle.cast_history.specs.Rest.{is_free, let_go}
 use Rattle.cast_history.specs.Turns.{is_ready_for}
@@ -67,7 +67,7 @@ use Rattle.cast_history.proofs.Rules.Sending.{send_data_keeps}
 use Rattle.cast_history.specs.Effects.{next_message, sending_message, sending}
 use Rattle.cast_history.specs.Entering.{freezing, pending_install, parted, is_put_out, all_parted, putting_out, enters, in_view, all_in_view, passing}
 use Rattle.cast_history.specs.Run.{before_event}
-use Rattle.cast_history.specs.Lawful.{IsSpent, AreKept, IsTraced, Waits, IsLawful}
+use Rattle.cast_history.specs.Lawful.{IsSpent, AreKept, IsOfReached, IsTraced, Waits, IsLawful}
 
 -- One process in one group
 
@@ -103,15 +103,57 @@ lawful_from s t l config placed stamped spent listed traced waiting = record {
 abbrev pub SpeaksStill : State → State → Type 0
 SpeaksStill s t = (g : GroupNo) (p : Proc) → (s.group g).number ≡ (t.group g).number → may_speak s g p ≡ true → may_speak t g p ≡ true
 
+-- a view that is reached is reached still
+pub reached_on : (s t : State) → ((g : GroupNo) → (s.group g).number ≤ (t.group g).number) → (a : Act) → IsOfReached s a → IsOfReached t a
+reached_on s t number (Sent m) before = let up = number m.id.group in omega (arith, before, up)
+reached_on s t number (Delivered m) before = let up = number m.id.group in omega (arith, before, up)
+reached_on s t number (Entered g view cut) before = tt
+reached_on s t number (Left g) before = tt
+
+-- what processes did they did before, or it is of a view that is reached
+abbrev pub ActsOn : State → (ℕ → List Act) → Type 0
+ActsOn s acts = (k : ℕ) (a : Act) → Contains (acts k) a → Contains (s.acts k) a ⊎ IsOfReached s a
+
+-- one did one thing more
+pub one_act_on : (s : State) (k : ℕ) (a : Act) → IsOfReached s a → ActsOn s (noting_act s k a).acts
+one_act_on s k a reached j x = elim (k == j) as (λ b. k == j ≡ b → Contains (if b then s.acts k ++ a ∷ [] else s.acts j) x → Contains (s.acts j) x ⊎ IsOfReached s x) [
+  | true ↦ λ same at. elim (Contains-push_cases (s.acts k) a x at) [
+    | inl before ↦ inl (subst (λ i. Contains (s.acts i) x) (eqb-true k j same) before)
+    | inr last ↦ inr (subst (IsOfReached s) last reached)
+  ]
+  | false ↦ λ _ at. inl at
+] refl
+
+-- or each of some
+each_act_on : (s : State) (does : ℕ → Bool) (a : Act) → IsOfReached s a → ActsOn s (λ k. if does k then s.acts k ++ a ∷ [] else s.acts k)
+each_act_on s does a reached k x = elim (does k) as (λ b. Contains (if b then s.acts k ++ a ∷ [] else s.acts k) x → Contains (s.acts k) x ⊎ IsOfReached s x) [
+  | true ↦ λ at. elim (Contains-push_cases (s.acts k) a x at) [ inl before ↦ inl before | inr last ↦ inr (subst (IsOfReached s) last reached) ]
+  | false ↦ λ at. inl at
+]
+
+pub outside_on : (s : State) (k : ℕ) (g : GroupNo) → ActsOn s (acts_outside s k g)
+outside_on s k g j x = elim (is_member ((s.process k).standing g)) as (λ b. Contains ((if b then (noting_act s k (Left g)).acts else s.acts) j) x → Contains (s.acts j) x ⊎ IsOfReached s x) [
+  | true ↦ one_act_on s k (Left g) tt j x
+  | false ↦ λ at. inl at
+]
+
+-- so what they did is of views that are reached
+acted_on : (s t : State) → ((g : GroupNo) → (s.group g).number ≤ (t.group g).number) → ActsOn s t.acts → IsTraced s → (k : ℕ) (a : Act) → Contains (t.acts k) a → IsOfReached t a
+acted_on s t number acts l k a at = elim (acts k a at) [ inl before ↦ reached_on s t number a (l.acted k a before) | inr now ↦ reached_on s t number a now ]
+
+pub same_acted : (s t : State) → t.group ≡ s.group → IsTraced s → (k : ℕ) (a : Act) → Contains (s.acts k) a → IsOfReached t a
+same_acted s t same l k a at = reached_on s t (λ g. let is : (t.group g).number ≡ (s.group g).number = λ i. (same i g).number in omega (arith, is)) a (l.acted k a at)
+
 -- what was received and noted is of views that are reached still, where the same was noted and delivered lists grow
-pub traced_on : (s t : State) → t.got ≡ s.got → ((k : ℕ) → t.abcasts k ≡ s.abcasts k) → ((g : GroupNo) → (s.group g).number ≤ (t.group g).number) → SpeaksStill s t → ((k : ℕ) (u : Uid) → has_delivered (s.process k) u ≡ true → has_delivered (t.process k) u ≡ true) → IsTraced s → IsTraced t
-traced_on s t got noted number speaks more l = record {
+pub traced_on : (s t : State) → t.got ≡ s.got → ((k : ℕ) → t.abcasts k ≡ s.abcasts k) → ((g : GroupNo) → (s.group g).number ≤ (t.group g).number) → SpeaksStill s t → ((k : ℕ) (u : Uid) → has_delivered (s.process k) u ≡ true → has_delivered (t.process k) u ≡ true) → ActsOn s t.acts → IsTraced s → IsTraced t
+traced_on s t got noted number speaks more acts l = record {
   reached = λ m at. let before = l.reached m (subst (λ ms. Contains ms m) got at) in let up = number m.id.group in omega (arith, before, up);
   spoken = λ m at same.
       let inside = subst (λ ms. Contains ms m) got at in
       let before = l.reached m inside in
       let up = number m.id.group in
       speaks m.id.group m.id.proc (omega (arith, before, up, same)) (l.spoken m inside (omega (arith, before, up, same)));
+  acted = acted_on s t number acts l;
   delivered = λ k u is. more k u (l.delivered k u (sym (ap (λ ids. is_among uid_eq u ids) (noted k)) ∙ is));
   seen = λ k u is. let before = l.seen k u (sym (ap (λ ids. is_among uid_eq u ids) (noted k)) ∙ is) in let up = number u.group in omega (arith, before, up);
 }
@@ -201,6 +243,7 @@ pub record SameLaw (s : State) (t : State) : Type 0 where
   pub got : t.got ≡ s.got
   pub kept : t.kept ≡ s.kept
   pub abcasts : (k : ℕ) → t.abcasts k ≡ s.abcasts k
+  pub acts : ActsOn s t.acts
   pub number : (g : GroupNo) → (t.group g).number ≡ (s.group g).number
   pub view : (g : GroupNo) → (t.group g).view ≡ (s.group g).view
   -- what waits in a frozen group, with the members of a view, waits so still, or other such things do
@@ -227,11 +270,11 @@ lawful_same s t a l = lawful_from s t l a.config
     (λ g seen. ap (λ c. is_among group_eq g c.groups) a.config ∙ l.listed g (sym (seen_view (t.group g) (s.group g) (a.view g)) ∙ seen))
     (traced_on s t a.got a.abcasts (λ g. let same = a.number g in omega (arith, same))
     (λ g p _ is. (λ i. is_among proc_eq p (members_of (record no_group { view = a.view g i })) || site_eq p.site (a.here i)) ∙ is)
-    (λ k u is. ap (λ p. has_delivered p u) (a.process k) ∙ is) l.traced)
+    (λ k u is. ap (λ p. has_delivered p u) (a.process k) ∙ is) a.acts l.traced)
     (λ g. a.waiting g (l.waiting g))
 
 pub same_self : (s : State) → SameLaw s s
-same_self s = record { here = refl; config = refl; used = refl; process = λ k. refl; got = refl; kept = refl; abcasts = λ k. refl; number = λ g. refl; view = λ g. refl; waiting = λ g w. w; opens = λ k is. is }
+same_self s = record { here = refl; config = refl; used = refl; process = λ k. refl; got = refl; kept = refl; abcasts = λ k. refl; acts = λ k a at. inl at; number = λ g. refl; view = λ g. refl; waiting = λ g w. w; opens = λ k is. is }
 
 pub same_then : (s t u : State) → SameLaw s t → SameLaw t u → SameLaw s u
 same_then s t u a b = record {
@@ -242,6 +285,10 @@ same_then s t u a b = record {
   got = b.got ∙ a.got;
   kept = b.kept ∙ a.kept;
   abcasts = λ k. b.abcasts k ∙ a.abcasts k;
+  acts = λ k x at. elim (b.acts k x at) [
+    | inl mid ↦ a.acts k x mid
+    | inr now ↦ inr (reached_on t s (λ g. let same = a.number g in omega (arith, same)) x now)
+  ];
   number = λ g. b.number g ∙ a.number g;
   view = λ g. b.view g ∙ a.view g;
   waiting = λ g w. b.waiting g (a.waiting g w);
@@ -265,6 +312,7 @@ same_session s k v opens = record {
   got = refl;
   kept = refl;
   abcasts = λ j. refl;
+  acts = λ j a at. inl at;
   number = λ g. refl;
   view = λ g. refl;
   waiting = λ g w. w;
@@ -275,16 +323,16 @@ same_session s k v opens = record {
 }
 
 pub same_home : (s : State) (g : GroupNo) (v : Home) → SameLaw s (set_home s g v)
-same_home s g v = record { here = refl; config = refl; used = refl; process = λ k. refl; got = refl; kept = refl; abcasts = λ k. refl; number = λ g. refl; view = λ g. refl; waiting = λ g w. w; opens = λ k is. is }
+same_home s g v = record { here = refl; config = refl; used = refl; process = λ k. refl; got = refl; kept = refl; abcasts = λ k. refl; acts = λ k a at. inl at; number = λ g. refl; view = λ g. refl; waiting = λ g w. w; opens = λ k is. is }
 
 pub same_emitted : (s : State) (to : SiteNo) (f : SiteFrame) → SameLaw s (emitted s to f)
-same_emitted s to f = record { here = refl; config = refl; used = refl; process = λ k. refl; got = refl; kept = refl; abcasts = λ k. refl; number = λ g. refl; view = λ g. refl; waiting = λ g w. w; opens = λ k is. is }
+same_emitted s to f = record { here = refl; config = refl; used = refl; process = λ k. refl; got = refl; kept = refl; abcasts = λ k. refl; acts = λ k a at. inl at; number = λ g. refl; view = λ g. refl; waiting = λ g w. w; opens = λ k is. is }
 
 -- a session is pushed an entry, and is no more open than it was
 pub same_push : (s : State) (k : ℕ) (v : Session) (p : Push) → (is_open v ≡ true → is_open (s.session k) ≡ true) → SameLaw s (with_push s k v p)
 same_push s k v p opens =
     let a = same_session s k v opens in
-    record { here = a.here; config = a.config; used = a.used; process = a.process; got = a.got; kept = a.kept; abcasts = a.abcasts; number = a.number; view = a.view; waiting = a.waiting; opens = a.opens }
+    record { here = a.here; config = a.config; used = a.used; process = a.process; got = a.got; kept = a.kept; acts = a.acts; abcasts = a.abcasts; number = a.number; view = a.view; waiting = a.waiting; opens = a.opens }
 
 pub same_pushing : (s : State) (k : ℕ) (p : Push) → SameLaw s (pushing s k p)
 same_pushing s k p = same_if s (with_push s k (pushed_to (s.session k) p) p) s (is_open (s.session k)) (same_push s k (pushed_to (s.session k) p) p (λ is. is)) (same_self s)
@@ -304,7 +352,7 @@ same_taking s k most = same_session s k (taken_from most (s.session k)) (λ is. 
 
 -- what the domain may use, and how many casts were accepted, is no matter
 same_counted : (s : State) (quotas : Quotas) (casts : ℕ) → SameLaw s (record s { quotas = quotas; casts = casts })
-same_counted s quotas casts = record { here = refl; config = refl; used = refl; process = λ k. refl; got = refl; kept = refl; abcasts = λ k. refl; number = λ g. refl; view = λ g. refl; waiting = λ g w. w; opens = λ k is. is }
+same_counted s quotas casts = record { here = refl; config = refl; used = refl; process = λ k. refl; got = refl; kept = refl; abcasts = λ k. refl; acts = λ k a at. inl at; number = λ g. refl; view = λ g. refl; waiting = λ g w. w; opens = λ k is. is }
 
 pub same_setting : (s : State) (name : QuotaName) (value : ℕ) → SameLaw s (setting_quota s name value)
 same_setting s name value = same_counted s (with_quota name value s.quotas) s.casts
@@ -313,8 +361,8 @@ pub same_counting : (s : State) → SameLaw s (counting_cast s)
 same_counting s = same_counted s s.quotas (counting_cast s).casts
 
 -- what processes did is no matter
-pub same_acts : (s : State) (acts : ℕ → List Act) → SameLaw s (record s { acts = acts })
-same_acts s acts = record { here = refl; config = refl; used = refl; process = λ k. refl; got = refl; kept = refl; abcasts = λ k. refl; number = λ g. refl; view = λ g. refl; waiting = λ g w. w; opens = λ k is. is }
+pub same_acts : (s : State) (acts : ℕ → List Act) → ActsOn s acts → SameLaw s (record s { acts = acts })
+same_acts s acts on = record { here = refl; config = refl; used = refl; process = λ k. refl; got = refl; kept = refl; abcasts = λ k. refl; acts = on; number = λ g. refl; view = λ g. refl; waiting = λ g w. w; opens = λ k is. is }
 
 -- a group that keeps its number and its view, and in which what waits may wait
 pub same_group_but : (s : State) (g : GroupNo) (v : MemberSide) → v.number ≡ (s.group g).number → v.view ≡ (s.group g).view → (Waits (s.group g).frozen (s.group g).pending → Waits v.frozen v.pending) → SameLaw s (set_group s g v)
@@ -326,6 +374,7 @@ same_group_but s g v number view waits = record {
   got = refl;
   kept = refl;
   abcasts = λ k. refl;
+  acts = λ k a at. inl at;
   opens = λ k is. is;
   number = λ h. elim (group_eq g h) as (λ b. group_eq g h ≡ b → (if b then v else s.group h).number ≡ (s.group h).number) [
     | true ↦ λ is. subst (λ x. v.number ≡ (s.group x).number) (same_group g h is) number
@@ -355,7 +404,7 @@ same_freezing s g = same_group_but s g (frozen_side (s.group g)) refl refl (stil
 
 -- the order that a view ends with is no matter
 same_closed : (s : State) (closed : GroupNo → List Entry) → SameLaw s (record s { closed = closed })
-same_closed s closed = record { here = refl; config = refl; used = refl; process = λ k. refl; got = refl; kept = refl; abcasts = λ k. refl; number = λ g. refl; view = λ g. refl; waiting = λ g w. w; opens = λ k is. is }
+same_closed s closed = record { here = refl; config = refl; used = refl; process = λ k. refl; got = refl; kept = refl; abcasts = λ k. refl; acts = λ k a at. inl at; number = λ g. refl; view = λ g. refl; waiting = λ g w. w; opens = λ k is. is }
 
 -- an Install waits that has the members of a view
 pub same_pending : (s : State) (g : GroupNo) (p : Pending) (tail : Stretch) → is_members p.members ≡ true → SameLaw s (pending_install s g p tail)
@@ -364,14 +413,14 @@ same_pending s g p tail typed =
     same_then s now (pending_install s g p tail) (same_group_but s g (with_pending (s.group g) p) refl refl (λ _. (refl, typed))) (same_closed now (pending_install s g p tail).closed)
 
 pub same_owed : (s : State) (owed : List Owed) → SameLaw s (record s { owed = owed })
-same_owed s owed = record { here = refl; config = refl; used = refl; process = λ k. refl; got = refl; kept = refl; abcasts = λ k. refl; number = λ g. refl; view = λ g. refl; waiting = λ g w. w; opens = λ k is. is }
+same_owed s owed = record { here = refl; config = refl; used = refl; process = λ k. refl; got = refl; kept = refl; abcasts = λ k. refl; acts = λ k a at. inl at; number = λ g. refl; view = λ g. refl; waiting = λ g w. w; opens = λ k is. is }
 
 -- what is acknowledged and told is no matter
 same_known : (s : State) (acks : List Acked) (told : List Uid) → SameLaw s (record s { acks = acks; told = told })
-same_known s acks told = record { here = refl; config = refl; used = refl; process = λ k. refl; got = refl; kept = refl; abcasts = λ k. refl; number = λ g. refl; view = λ g. refl; waiting = λ g w. w; opens = λ k is. is }
+same_known s acks told = record { here = refl; config = refl; used = refl; process = λ k. refl; got = refl; kept = refl; abcasts = λ k. refl; acts = λ k a at. inl at; number = λ g. refl; view = λ g. refl; waiting = λ g w. w; opens = λ k is. is }
 
 same_moment : (s : State) (moment : ℕ) → SameLaw s (record s { moment = moment })
-same_moment s moment = record { here = refl; config = refl; used = refl; process = λ k. refl; got = refl; kept = refl; abcasts = λ k. refl; number = λ g. refl; view = λ g. refl; waiting = λ g w. w; opens = λ k is. is }
+same_moment s moment = record { here = refl; config = refl; used = refl; process = λ k. refl; got = refl; kept = refl; abcasts = λ k. refl; acts = λ k a at. inl at; number = λ g. refl; view = λ g. refl; waiting = λ g w. w; opens = λ k is. is }
 
 -- the moves of the rules change nothing that a lawful history is about
 pub moves_same : (s : State) → IsInvariant history (SameLaw s)
@@ -441,7 +490,7 @@ lawful_opening here config rising = record {
   spent = refl;
   listed = λ g seen. absurd (false≢true seen);
   waiting = λ g. tt;
-  traced = record { reached = λ m at. let inside = at.1 in absurd (omega arith); spoken = λ m at same. let inside = at.1 in absurd (omega arith); delivered = λ k u is. absurd (false≢true is); seen = λ k u is. absurd (false≢true is) };
+  traced = record { reached = λ m at. let inside = at.1 in absurd (omega arith); spoken = λ m at same. let inside = at.1 in absurd (omega arith); acted = λ k a at. let inside = at.1 in absurd (omega arith); delivered = λ k u is. absurd (false≢true is); seen = λ k u is. absurd (false≢true is) };
 }
 
 pub lawful_before : (s : State) → IsLawful s → IsLawful (before_event s)
@@ -454,7 +503,7 @@ lawful_before s l = record {
   spent = kept_map (IsSpent s) (IsSpent (before_event s)) (λ m h. record { reached = h.reached; delivered = h.delivered }) s.got s.kept l.spent;
   listed = l.listed;
   waiting = l.waiting;
-  traced = record { reached = l.traced.reached; spoken = l.traced.spoken; delivered = l.traced.delivered; seen = l.traced.seen };
+  traced = record { reached = l.traced.reached; spoken = l.traced.spoken; acted = same_acted s (before_event s) refl l.traced; delivered = l.traced.delivered; seen = l.traced.seen };
 }
 
 pub lawful_after : (s : State) → IsLawful (before_event s) → IsLawful s
@@ -467,7 +516,7 @@ lawful_after s l = record {
   spent = kept_map (IsSpent (before_event s)) (IsSpent s) (λ m h. record { reached = h.reached; delivered = h.delivered }) s.got s.kept l.spent;
   listed = l.listed;
   waiting = l.waiting;
-  traced = record { reached = l.traced.reached; spoken = l.traced.spoken; delivered = l.traced.delivered; seen = l.traced.seen };
+  traced = record { reached = l.traced.reached; spoken = l.traced.spoken; acted = same_acted (before_event s) s refl l.traced; delivered = l.traced.delivered; seen = l.traced.seen };
 }
 
 -- One process
@@ -479,7 +528,7 @@ lawful_process s k v l placed member more = lawful_from s (set_process s k v) l 
     l.stamped
     (kept_map (IsSpent s) (IsSpent (set_process s k v)) (spent_on s (set_process s k v) refl (λ g. refl) members grown) s.got s.kept l.spent)
     l.listed
-    (traced_on s (set_process s k v) refl (λ j. refl) (λ g. omega arith) (λ g p _ is. is) grown l.traced)
+    (traced_on s (set_process s k v) refl (λ j. refl) (λ g. omega arith) (λ g p _ is. is) grown (λ j a at. inl at) l.traced)
     l.waiting
   where
     members : (j : ℕ) (g : GroupNo) → is_member ((if k == j then v else s.process j).standing g) ≡ true → is_member ((s.process j).standing g) ≡ true
@@ -511,10 +560,16 @@ lawful_standing s k g v none l listed = lawful_process s k (record (s.process k)
     ])
     (λ u is. is)
 
+pub left_on : (s : State) (k : ℕ) (g : GroupNo) → ActsOn (set_standing s k g Outside) (acts_outside s k g)
+left_on s k g j x at = elim (outside_on s k g j x at) [
+  | inl before ↦ inl before
+  | inr now ↦ inr (reached_on s (set_standing s k g Outside) (λ h. omega arith) x now)
+]
+
 -- a process is outside a group from then on
 pub lawful_outside : (s : State) (k : ℕ) (g : GroupNo) → IsLawful s → IsLawful (outside s k g)
 lawful_outside s k g l =
-    lawful_same (set_standing s k g Outside) (outside s k g) (same_acts (set_standing s k g Outside) (acts_outside s k g))
+    lawful_same (set_standing s k g Outside) (outside s k g) (same_acts (set_standing s k g Outside) (acts_outside s k g) (left_on s k g))
     (lawful_standing s k g Outside refl l (λ inside. absurd (false≢true (sym inside))))
 
 -- Messages
@@ -536,6 +591,7 @@ lawful_receiving s m l sorted reached speaks = lawful_from s (receiving s m) l r
         | inl before ↦ l.traced.spoken x before same
         | inr last ↦ subst (λ y. may_speak s y.id.group y.id.proc ≡ true) last speaks
       ];
+      acted = same_acted s (receiving s m) refl l.traced;
       delivered = l.traced.delivered;
       seen = l.traced.seen;
     })
@@ -548,7 +604,7 @@ lawful_releasing s passes l spent = lawful_from s (releasing s passes) l refl (p
     (kept_map (IsSpent s) (IsSpent (releasing s passes)) (λ x h. record { reached = h.reached; delivered = h.delivered }) s.got (releasing s passes).kept
     (kept_filter (IsSpent s) (λ m. not (passes m.id)) (λ m fails. spent m (not-false (passes m.id) fails)) s.got s.kept l.spent))
     l.listed
-    (record { reached = l.traced.reached; spoken = l.traced.spoken; delivered = l.traced.delivered; seen = l.traced.seen })
+    (record { reached = l.traced.reached; spoken = l.traced.spoken; acted = same_acted s (releasing s passes) refl l.traced; delivered = l.traced.delivered; seen = l.traced.seen })
     l.waiting
 
 pub lawful_let_go : (s : State) → IsLawful s → IsLawful (let_go s)
@@ -561,14 +617,14 @@ pub same_send_data : (u : Uid) (s : State) (to : SiteNo) → SameLaw s (send_dat
 same_send_data u s to = send_data_keeps history (SameLaw s) (moves_same s) u s (same_self s) to
 
 -- what a process did is noted
-pub same_noting : (s : State) (k : ℕ) (a : Act) → SameLaw s (noting_act s k a)
-same_noting s k a = record { here = refl; config = refl; used = refl; process = λ k. refl; got = refl; kept = refl; abcasts = λ k. refl; number = λ g. refl; view = λ g. refl; waiting = λ g w. w; opens = λ k is. is }
+pub same_noting : (s : State) (k : ℕ) (a : Act) → IsOfReached s a → SameLaw s (noting_act s k a)
+same_noting s k a reached = record { here = refl; config = refl; used = refl; process = λ k. refl; got = refl; kept = refl; abcasts = λ k. refl; acts = one_act_on s k a reached; number = λ g. refl; view = λ g. refl; waiting = λ g w. w; opens = λ k is. is }
 
 -- a process sends a message whose time has the views of its own
 pub lawful_sent_here : (s : State) (k : ℕ) (m : Message) → IsLawful s → ((g : GroupNo) → view_of m.times g ≡ view_of (s.process k).time g) → is_sorted group_cmp m.times ≡ true → m.id.view ≤ (s.group m.id.group).number → may_speak s m.id.group m.id.proc ≡ true → IsLawful (receiving (noting_sent s k m) m)
 lawful_sent_here s k m l views sorted reached speaks =
     lawful_receiving (noting_sent s k m) m
-    (lawful_same (set_process s k (record (s.process k) { time = m.times })) (noting_sent s k m) (same_noting (set_process s k (record (s.process k) { time = m.times })) k (Sent m))
+    (lawful_same (set_process s k (record (s.process k) { time = m.times })) (noting_sent s k m) (same_noting (set_process s k (record (s.process k) { time = m.times })) k (Sent m) reached)
     (lawful_process s k (record (s.process k) { time = m.times }) l
     (λ g. record { known = l.known k g; current = λ h. views g ∙ l.current k g h; viewed = l.viewed k g }) (λ g is. is) (λ u is. is)))
     sorted reached speaks
@@ -632,6 +688,7 @@ traced_delivery : (s : State) (k : ℕ) (m : Message) → IsLawful s → IsLawfu
 traced_delivery s k m l taken at = record {
   reached = l.traced.reached;
   spoken = l.traced.spoken;
+  acted = acted_on s (with_delivery s k m) (λ g. omega arith) (one_act_on s k (Delivered m) (l.traced.reached m at)) l.traced;
   delivered = λ j u is. elim (noted (is_atomic (kind_of m.body)) j u is) [ inl before ↦ taken.traced.delivered j u before | inr last ↦ now_delivered j u last.0 last.1 ];
   seen = λ j u is. elim (noted (is_atomic (kind_of m.body)) j u is) [ inl before ↦ l.traced.seen j u before | inr last ↦ subst (λ x. x.view ≤ (s.group x.group).number) (sym last.1) (l.traced.reached m at) ];
 }
@@ -746,7 +803,7 @@ lawful_all_in_view s g n members request cut l listed stays later =
     ] refl)
     (traced_on s (all_in_view now g n members request cut) refl (λ k. refl) risen speaking
     (λ k u is. elim (enters now g members request k) as (λ b. has_delivered (if b then in_view g n (s.process k) else s.process k) u ≡ true) [ true ↦ is | false ↦ is ])
-    l.traced)
+    (each_act_on s (enters now g members request) (Entered g n cut) tt) l.traced)
     (λ h. elim (group_eq g h) as (λ b. Waits (if b then with_view s.here n members (s.group g) else s.group h).frozen (if b then with_view s.here n members (s.group g) else s.group h).pending) [
       | true ↦ tt
       | false ↦ l.waiting h
@@ -799,7 +856,7 @@ lawful_all_parted s g goes l =
     lawful_from s (all_parted s g goes) l refl placed l.stamped
     (kept_map (IsSpent s) (IsSpent (all_parted s g goes)) (spent_on s (all_parted s g goes) refl (λ h. refl) members same) s.got s.kept l.spent)
     l.listed
-    (traced_on s (all_parted s g goes) refl (λ k. refl) (λ h. omega arith) (λ h p _ may. may) same l.traced)
+    (traced_on s (all_parted s g goes) refl (λ k. refl) (λ h. omega arith) (λ h p _ may. may) same (each_act_on s goes (Left g) tt) l.traced)
     l.waiting
   where
     same : (k : ℕ) (u : Uid) → has_delivered (s.process k) u ≡ true → has_delivered ((all_parted s g goes).process k) u ≡ true

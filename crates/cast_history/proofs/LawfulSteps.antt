@@ -24,7 +24,7 @@ use Rattle.cast_delay.specs.Ready.{is_member}
 use Rattle.cast_delay.proofs.Finds.{found_in}
 use Rattle.cast_model.specs.declared.config.DomainConfig.{DomainConfig}
 use Rattle.cast_view.specs.declared.member.Pending.{Pending}
-use Rattle.cast_view.specs.MemberSide.{members_of, with_request, holder_at, with_answer}
+use Rattle.cast_view.specs.MemberSide.{members_of, with_request, with_answer}
 use Rattle.cast_view.specs.Home.{HomeMove, is_empty, moved}
 use Rattle.cast_model.specs.Session.{is_gone}
 use Rattle.cast_model.specs.declared.event.Event.{Event}
@@ -33,7 +33,7 @@ use Rattle.cast_clock.proofs.Raised.{bump_leaves_views}
 use Rattle.cast_history.specs.Rules.Commands.{message_sent}
 use Rattle.cast_history.specs.State.{State, receiving, noting_sent, local, serials, is_group, may_speak, set_home, was_given, going, taking, setting_quota, with_delivery}
 use Rattle.cast_history.specs.Rules.Room.{may_order}
-use Rattle.cast_history.specs.Order.{order_of, unlisted, has_place}
+use Rattle.cast_history.specs.Order.{order_told, unlisted, has_place, holders}
 use Rattle.cast_history.specs.Turns.{is_ready_for}
 use Rattle.cast_history.specs.Rules.Owing.{tick}
 use Rattle.cast_history.proofs.Rules.Owing.{tick_keeps}
@@ -62,7 +62,7 @@ use Rattle.cast_history.proofs.Rules.Home.{start_keeps, want_bodies_keeps, decid
 use Rattle.cast_history.proofs.Rules.Frames.{framed_keeps}
 use Rattle.cast_history.proofs.Rules.Flushes.{wanted_current, wanted_of_member, go_on_keeps}
 use Rattle.cast_history.proofs.Alikes.{alike_installing}
-use Rattle.cast_history.proofs.Lawful.{SameLaw, same_self, same_then, same_fold, same_owe, same_home, same_group_set, same_freezing, same_pending, moves_same, invariant_by_same, kept_map, lawful_same, lawful_sent_here, local_speaks, lawful_if, lawful_fold, lawful_standing, lawful_receiving, lawful_let_go, lawful_sending, lawful_delivery, lawful_passing, lawful_releasing_ended, lawful_outside, same_pushing, same_closing, same_going, same_taking, same_setting, same_counting}
+use Rattle.cast_history.proofs.Lawful.{same_acted, SameLaw, same_self, same_then, same_fold, same_owe, same_home, same_group_set, same_freezing, same_pending, moves_same, invariant_by_same, kept_map, lawful_same, lawful_sent_here, local_speaks, lawful_if, lawful_fold, lawful_standing, lawful_receiving, lawful_let_go, lawful_sending, lawful_delivery, lawful_passing, lawful_releasing_ended, lawful_outside, same_pushing, same_closing, same_going, same_taking, same_setting, same_counting}
 
 -- a stamp is in order
 stamp_sorted : (t : ClockList) → is_stamp t ≡ true → is_sorted group_cmp t ≡ true
@@ -176,7 +176,7 @@ lawful_opened s l unborn = record {
   }) s.got s.kept l.spent;
   listed = l.listed;
   waiting = l.waiting;
-  traced = record { reached = l.traced.reached; spoken = l.traced.spoken; delivered = l.traced.delivered; seen = l.traced.seen };
+  traced = record { reached = l.traced.reached; spoken = l.traced.spoken; acted = same_acted s (opening_next s) refl l.traced; delivered = l.traced.delivered; seen = l.traced.seen };
 }
   where
     given_less : (used k : ℕ) → (used + 1 ≡ k → ⊥) → was_given (used + 1) k ≡ true → was_given used k ≡ true
@@ -231,7 +231,7 @@ lawful_settle s l = lawful_fold deliver_all lawful_deliver_all (serials s) s l
 pub lawful_order_sent : (s : State) (g : GroupNo) (k : ℕ) (content : Body) → IsLawful s → may_set_order s g k ≡ true → IsLawful (sending s g k content)
 lawful_order_sent s g k content l may =
     let raises = may_raise (s.process k).time g (local s k) in
-    let place = has_place (order_of s g) in
+    let place = has_place (order_told s g) in
     let some = not (is_empty (unlisted s g k)) in
     let a = and_parts (is_member ((s.process k).standing g)) (not (s.group g).frozen && (may_order history s && (some && (place && raises)))) may in
     let o = and_parts (not (s.group g).frozen) (may_order history s && (some && (place && raises))) a.1 in
@@ -249,10 +249,7 @@ lawful_set_order_by s g k l =
 
 pub lawful_set_order : (s : State) (g : GroupNo) → IsLawful s → IsLawful (set_order s g)
 lawful_set_order s g l =
-    elim (holder_at s.here (s.group g)) as (λ o. IsLawful (elim o [ Some p ↦ set_order_by s g p.serial | None ↦ s ])) [
-      | Some p ↦ lawful_set_order_by s g p.serial l
-      | None ↦ l
-    ]
+    lawful_fold (λ t k. set_order_by t g k) (λ t k m. lawful_set_order_by t g k m) (holders s g) s l
 
 pub lawful_set_orders : (s : State) → IsLawful s → IsLawful (set_orders s)
 lawful_set_orders s l = lawful_fold set_order lawful_set_order s.config.groups s l

@@ -10,8 +10,10 @@ pub mod Overlapping
 pub mod Ignored
 pub mod Keeping
 pub mod Placing
+pub mod Handing
 pub mod Delivering
 pub mod Totals
+pub mod Growing
 pub mod Listings
 pub mod Rules
 pub mod Setting

@@ -1,30 +1,30 @@
--- What a holder has still to list: a delivery leaves no more of it, and a set-order message less.
-use Rattle.std.proofs.Common.{◌≡◌, ℕ, ◌+◌, ◌<◌, ◌≤◌, Bool, true, false, not, cond, List, [], ◌∷◌, ◌++◌, length, map, Option, Some, None, refl, sym, ap, subst, ◌∙◌, inl, inr, arith}
+-- What processes have still to list: a delivery leaves no more of it, and a set-order message less.
+use Rattle.std.proofs.Common.{◌≡◌, ℕ, ◌+◌, ◌-◌, ◌<◌, ◌≤◌, Bool, true, false, not, cond, List, [], ◌∷◌, ◌++◌, length, map, take, Some, None, refl, sym, ap, subst, ◌∙◌, inl, inr, arith}
 use Rattle.std.specs.Prelude.{◌&&◌, ◌==◌, filter, if◌then◌else◌}
-use Rattle.std.specs.List.{list_any, find}
-use Rattle.std.proofs.lemmas.Bool.{true≢false, and_parts, and_from, and_left, and_right, or_left, or_right, not_from_true, not_from_false, eqb-true, eq-eqb}
-use Rattle.std.proofs.lemmas.List.{length-append, map-append}
+use Rattle.std.specs.List.{find, flat_map}
+use Rattle.std.proofs.lemmas.Bool.{true≢false, and_parts, and_from, and_left, and_right, not_from_true, not_from_false, eqb-true, eq-eqb, ltb-true}
+use Rattle.std.proofs.lemmas.List.{append-nil, length-append, map-append}
 use Rattle.std.proofs.lemmas.List.Elements.{filter-append}
-use Rattle.std.proofs.lemmas.List.Folds.{list_any-append}
 use Rattle.std.proofs.lemmas.Grind.{flat_map-append}
 use Rattle.cast_types.specs.declared.names.GroupNo.{GroupNo}
-use Rattle.cast_types.specs.declared.names.Proc.{Proc}
 use Rattle.cast_types.specs.declared.names.Uid.{Uid}
-use Rattle.cast_types.specs.Names.{Entry, entry_eq, uid_eq, proc_eq, group_eq, is_atomic, is_order, entry_of}
+use Rattle.cast_types.specs.Names.{Entry, entry_eq, uid_eq, group_eq, is_atomic, entry_of}
 use Rattle.cast_types.specs.Sets.{is_among, set_at}
-use Rattle.cast_types.proofs.Orders.{group_itself, proc_itself, entry_itself}
+use Rattle.cast_types.specs.declared.limits.TheConstants.{MAX_PLACED, MAX_POSITION}
+use Rattle.cast_types.proofs.Orders.{group_itself}
 use Rattle.cast_message.specs.declared.message.Body.TheVariants as body
 use Rattle.cast_message.specs.declared.message.Message.{Message}
 use Rattle.cast_message.specs.Bodies.{kind_of}
-use Rattle.cast_order.specs.Order.{listed_ids, still_to_list, ids_to_list, place_after}
+use Rattle.cast_order.specs.Order.{Facts, facts_of, known_order, still_to_list, ids_to_list}
+use Rattle.cast_history.proofs.Growing.{known_stays, first_enters}
 use Rattle.cast_view.specs.Home.{is_empty}
-use Rattle.cast_view.specs.MemberSide.{holder_at}
-use Rattle.cast_history.specs.State.{State, local, receiving, with_delivery}
-use Rattle.cast_history.specs.Order.{ids_told, is_of_view, lists_of, abcasts_delivered, order_of, unlisted}
+use Rattle.cast_history.specs.State.{State, serials, receiving, with_delivery}
+use Rattle.cast_history.specs.Order.{told_by, is_of_view, facts_in, order_told, abcasts_delivered, unlisted, has_place}
+use Rattle.cast_history.specs.Resting.{places_of}
 use Rattle.cast_history.specs.Turns.{is_ready_for}
 use Rattle.cast_history.specs.Effects.{next_message}
-use Rattle.cast_history.specs.Endings.{one_if, is_to_come, to_list_by, to_list_here, to_list_in}
-use Rattle.cast_history.proofs.Totals.{In, one_le, one_mono, not_mono, among_push, among_last}
+use Rattle.cast_history.specs.Endings.{one_if, is_to_come, to_list_by, to_list_in}
+use Rattle.cast_history.proofs.Totals.{In, total_le, total_lt, one_le, one_mono, not_mono, among_push, among_last}
 use Rattle.cast_history.proofs.Settles.{delivered_at, ready_new}
 
 -- Items that a test keeps
@@ -94,17 +94,17 @@ more_mapped p f q xs y =
 -- A delivery
 
 -- what is still to list, and to come, after these deliveries
-abbrev unlisted_of : State → GroupNo → ℕ → List Uid → List Entry
-unlisted_of s g k abcasts = still_to_list (map entry_of (filter (is_of_view s g) abcasts)) (listed_ids (lists_of s g k))
+abbrev unlisted_of : State → GroupNo → List Uid → List Entry
+unlisted_of s g abcasts = still_to_list (map entry_of (filter (is_of_view s g) abcasts)) (order_told s g)
 
 abbrev to_come_of : State → GroupNo → List Uid → Message → Bool
 to_come_of s g ids m = is_of_view s g m.id && (is_atomic (kind_of m.body) && not (is_among uid_eq m.id ids))
 
-abbrev to_list_of : State → GroupNo → ℕ → List Uid → List Uid → ℕ
-to_list_of s g k abcasts ids = length (unlisted_of s g k abcasts) + length (filter (to_come_of s g ids) s.got)
+abbrev to_list_of : State → GroupNo → List Uid → List Uid → ℕ
+to_list_of s g abcasts ids = length (unlisted_of s g abcasts) + length (filter (to_come_of s g ids) s.got)
 
-one_more_unlisted : (s : State) (g : GroupNo) (k : ℕ) (u : Uid) (ids : List Uid) → length (unlisted_of s g k (ids ++ u ∷ [])) ≤ length (unlisted_of s g k ids) + one_if (is_of_view s g u)
-one_more_unlisted s g k u ids = more_mapped (λ e. not (is_among entry_eq e (listed_ids (lists_of s g k)))) entry_of (is_of_view s g) ids u
+one_more_unlisted : (s : State) (g : GroupNo) (u : Uid) (ids : List Uid) → length (unlisted_of s g (ids ++ u ∷ [])) ≤ length (unlisted_of s g ids) + one_if (is_of_view s g u)
+one_more_unlisted s g u ids = more_mapped (λ e. not (is_among entry_eq e (order_told s g))) entry_of (is_of_view s g) ids u
 
 come_before : (s : State) (g : GroupNo) (u : Uid) (ids : List Uid) (m : Message) → to_come_of s g (ids ++ u ∷ []) m ≡ true → to_come_of s g ids m ≡ true
 come_before s g u ids m e =
@@ -135,65 +135,50 @@ delivered_to_list : (s : State) (k : ℕ) (m : Message) (g : GroupNo) (j : ℕ) 
 delivered_to_list s k m g j at new = by_kind (is_atomic (kind_of m.body)) refl
   where
     -- at the process itself, and at another one
-    atomic_at : (b : Bool) → k == j ≡ b → is_atomic (kind_of m.body) ≡ true → to_list_of s g j (if b then s.abcasts k ++ m.id ∷ [] else s.abcasts j) (if b then (s.process k).delivered ++ m.id ∷ [] else (s.process j).delivered) ≤ to_list_by s g j
+    atomic_at : (b : Bool) → k == j ≡ b → is_atomic (kind_of m.body) ≡ true → to_list_of s g (if b then s.abcasts k ++ m.id ∷ [] else s.abcasts j) (if b then (s.process k).delivered ++ m.id ∷ [] else (s.process j).delivered) ≤ to_list_by s g j
     atomic_at true is atomic =
-        let more = one_more_unlisted s g j m.id (s.abcasts k) in
+        let more = one_more_unlisted s g m.id (s.abcasts k) in
         let less = less_to_come s g m (s.process k).delivered at atomic new in
-        subst (λ i. to_list_of s g j (s.abcasts k ++ m.id ∷ []) ((s.process k).delivered ++ m.id ∷ []) ≤ to_list_of s g j (s.abcasts i) (s.process i).delivered) (eqb-true k j is) (omega (arith, more, less))
+        subst (λ i. to_list_of s g (s.abcasts k ++ m.id ∷ []) ((s.process k).delivered ++ m.id ∷ []) ≤ to_list_of s g (s.abcasts i) (s.process i).delivered) (eqb-true k j is) (omega (arith, more, less))
     atomic_at false is atomic = omega arith
 
-    other_at : (b : Bool) → k == j ≡ b → to_list_of s g j (s.abcasts j) (if b then (s.process k).delivered ++ m.id ∷ [] else (s.process j).delivered) ≤ to_list_by s g j
+    other_at : (b : Bool) → k == j ≡ b → to_list_of s g (s.abcasts j) (if b then (s.process k).delivered ++ m.id ∷ [] else (s.process j).delivered) ≤ to_list_by s g j
     other_at true is =
         let fewer = fewer_to_come s g m.id (s.process k).delivered in
-        subst (λ i. to_list_of s g j (s.abcasts j) ((s.process k).delivered ++ m.id ∷ []) ≤ to_list_of s g j (s.abcasts j) (s.process i).delivered) (eqb-true k j is) (omega (arith, fewer))
+        subst (λ i. to_list_of s g (s.abcasts j) ((s.process k).delivered ++ m.id ∷ []) ≤ to_list_of s g (s.abcasts j) (s.process i).delivered) (eqb-true k j is) (omega (arith, fewer))
     other_at false is = omega arith
 
-    by_kind : (a : Bool) → is_atomic (kind_of m.body) ≡ a → to_list_of s g j ((if a then set_at (λ a b. a == b) s.abcasts k (s.abcasts k ++ m.id ∷ []) else s.abcasts) j) ((with_delivery s k m).process j).delivered ≤ to_list_by s g j
-    by_kind true atomic = subst (λ ids. to_list_of s g j (if k == j then s.abcasts k ++ m.id ∷ [] else s.abcasts j) ids ≤ to_list_by s g j) (sym (delivered_at s k m j)) (atomic_at (k == j) refl atomic)
-    by_kind false atomic = subst (λ ids. to_list_of s g j (s.abcasts j) ids ≤ to_list_by s g j) (sym (delivered_at s k m j)) (other_at (k == j) refl)
+    by_kind : (a : Bool) → is_atomic (kind_of m.body) ≡ a → to_list_of s g ((if a then set_at (λ a b. a == b) s.abcasts k (s.abcasts k ++ m.id ∷ []) else s.abcasts) j) ((with_delivery s k m).process j).delivered ≤ to_list_by s g j
+    by_kind true atomic = subst (λ ids. to_list_of s g (if k == j then s.abcasts k ++ m.id ∷ [] else s.abcasts j) ids ≤ to_list_by s g j) (sym (delivered_at s k m j)) (atomic_at (k == j) refl atomic)
+    by_kind false atomic = subst (λ ids. to_list_of s g (s.abcasts j) ids ≤ to_list_by s g j) (sym (delivered_at s k m j)) (other_at (k == j) refl)
 
--- a delivery leaves the holders no more to list
+-- a delivery leaves processes no more to list
 pub to_list_delivered : (s : State) (k : ℕ) (m : Message) → find (is_ready_for s k) s.got ≡ Some m → (g : GroupNo) → to_list_in (with_delivery s k m) g ≤ to_list_in s g
-to_list_delivered s k m found g = of_frozen (s.group g).frozen
-  where
-    of_holder : (o : Option Proc) → elim o as (λ _. ℕ) [ Some p ↦ to_list_by (with_delivery s k m) g p.serial | None ↦ 0 ] ≤ elim o as (λ _. ℕ) [ Some p ↦ to_list_by s g p.serial | None ↦ 0 ]
-    of_holder (Some p) = let is = in_found (is_ready_for s k) s.got m found in delivered_to_list s k m g p.serial is.1 (ready_new s k m is.0)
-    of_holder None = omega arith
-
-    of_frozen : (b : Bool) → ◌≤◌ (if b then 0 else to_list_here (with_delivery s k m) g) (if b then 0 else to_list_here s g)
-    of_frozen true = omega arith
-    of_frozen false = of_holder (holder_at s.here (s.group g))
+to_list_delivered s k m found g =
+    let is = in_found (is_ready_for s k) s.got m found in
+    total_le (to_list_by (with_delivery s k m) g) (to_list_by s g) (serials s) (λ j. delivered_to_list s k m g j is.1 (ready_new s k m is.0))
 
 -- A set-order message
 
-abbrev sets_order : State → GroupNo → ℕ → Message → Bool
-sets_order s g k m = is_of_view s g m.id && (is_order (kind_of m.body) && proc_eq m.id.proc (local s k))
+-- what a message adds to the facts told of a group's order
+abbrev told_in : State → GroupNo → Message → Facts
+told_in s g m = if is_of_view s g m.id then told_by m.body else []
 
-abbrev listed_by : (Message → Bool) → List Message → List Entry
-listed_by test got = listed_ids (map (λ m. (m.id.count, ids_told m.body)) (filter test got))
+facts_more : (s : State) (g : GroupNo) (m : Message) → facts_in (receiving s m) g ≡ facts_in s g ++ told_in s g m
+facts_more s g m =
+    ap (flat_map (λ m. told_by m.body)) (filter-append (λ m. is_of_view s g m.id) s.got (m ∷ []))
+    ∙ flat_map-append (λ m. told_by m.body) (filter (λ m. is_of_view s g m.id) s.got) (filter (λ m. is_of_view s g m.id) (m ∷ []))
+    ∙ ap (λ facts. facts_in s g ++ facts) (last (is_of_view s g m.id))
+  where
+    last : (b : Bool) → flat_map (λ (m : Message). told_by m.body) (cond b (m ∷ []) []) ≡ (if b then told_by m.body else [])
+    last true = append-nil (told_by m.body)
+    last false = refl
 
-listed_append : (test : Message → Bool) (got : List Message) (m : Message) → listed_by test (got ++ m ∷ []) ≡ listed_by test got ++ listed_by test (m ∷ [])
-listed_append test got m =
-    let f : Message → ℕ × List Entry = λ m. (m.id.count, ids_told m.body) in
-    ap (λ xs. listed_ids (map f xs)) (filter-append test got (m ∷ []))
-    ∙ ap listed_ids (map-append f (filter test got) (filter test (m ∷ [])))
-    ∙ flat_map-append (λ x. x.1) (map f (filter test got)) (map f (filter test (m ∷ [])))
-
--- what is listed stays listed
-among_more : (test : Message → Bool) (got : List Message) (m : Message) (e : Entry) → is_among entry_eq e (listed_by test got) ≡ true → is_among entry_eq e (listed_by test (got ++ m ∷ [])) ≡ true
-among_more test got m e h =
-    ap (list_any (entry_eq e)) (listed_append test got m)
-    ∙ list_any-append (entry_eq e) (listed_by test got) (listed_by test (m ∷ []))
-    ∙ or_left (list_any (entry_eq e) (listed_by test got)) _ h
-
--- and the last message lists what it tells
-among_told : (test : Message → Bool) (got : List Message) (m : Message) (e : Entry) → test m ≡ true → is_among entry_eq e (ids_told m.body) ≡ true → is_among entry_eq e (listed_by test (got ++ m ∷ [])) ≡ true
-among_told test got m e is h =
-    ap (list_any (entry_eq e)) (listed_append test got m)
-    ∙ list_any-append (entry_eq e) (listed_by test got) (listed_by test (m ∷ []))
-    ∙ or_right (list_any (entry_eq e) (listed_by test got)) _
-    (ap (λ b. list_any (entry_eq e) (listed_ids (map (λ m. (m.id.count, ids_told m.body)) (cond b (m ∷ []) [])))) is
-    ∙ list_any-append (entry_eq e) (ids_told m.body) [] ∙ or_left (list_any (entry_eq e) (ids_told m.body)) _ h)
+-- what is in the order stays in it
+among_more : (s : State) (g : GroupNo) (m : Message) (e : Entry) → is_among entry_eq e (order_told s g) ≡ true → is_among entry_eq e (order_told (receiving s m) g) ≡ true
+among_more s g m e is =
+    ap (λ facts. is_among entry_eq e (known_order facts)) (facts_more s g m)
+    ∙ known_stays (facts_in s g) (told_in s g m) e is
 
 -- what is received as no ABCAST is none to come
 to_come_same : (s : State) (m : Message) (g : GroupNo) (k : ℕ) → is_atomic (kind_of m.body) ≡ false → length (filter (is_to_come s g k) (s.got ++ m ∷ [])) ≡ length (filter (is_to_come s g k) s.got)
@@ -201,63 +186,52 @@ to_come_same s m g k other =
     let none : ◌≡◌ {A = ℕ} (one_if (is_to_come s g k m)) 0 = ap one_if (and_right (is_of_view s g m.id) _ (and_left (is_atomic (kind_of m.body)) _ other)) in
     omega (arith, none, length_more (is_to_come s g k) s.got m)
 
--- those that a message does not list were not listed before
-unlisted_before : (s : State) (m : Message) (g : GroupNo) (k : ℕ) (e : Entry) → not (is_among entry_eq e (listed_ids (lists_of (receiving s m) g k))) ≡ true → not (is_among entry_eq e (listed_ids (lists_of s g k))) ≡ true
-unlisted_before s m g k e = not_mono _ _ (among_more (sets_order s g k) s.got m e)
+-- those that are not in the order then were not in it before
+unlisted_before : (s : State) (m : Message) (g : GroupNo) (e : Entry) → not (is_among entry_eq e (order_told (receiving s m) g)) ≡ true → not (is_among entry_eq e (order_told s g)) ≡ true
+unlisted_before s m g e = not_mono _ _ (among_more s g m e)
 
 fewer_unlisted : (s : State) (m : Message) (g : GroupNo) (k : ℕ) → length (unlisted (receiving s m) g k) ≤ length (unlisted s g k)
 fewer_unlisted s m g k =
-    fewer_kept (λ e. not (is_among entry_eq e (listed_ids (lists_of (receiving s m) g k)))) (λ e. not (is_among entry_eq e (listed_ids (lists_of s g k))))
-    (abcasts_delivered s g k) (unlisted_before s m g k)
+    fewer_kept (λ e. not (is_among entry_eq e (order_told (receiving s m) g))) (λ e. not (is_among entry_eq e (order_told s g)))
+    (abcasts_delivered s g k) (unlisted_before s m g)
 
--- the holder's next set-order message
+-- a holder's next set-order message
 abbrev pub order_message : State → GroupNo → ℕ → Message
-order_message s g k =
-    next_message s g k (body.Order (record { first = place_after (order_of s g); ids = ids_to_list (unlisted s g k) }))
+order_message s g k = next_message s g k (body.Order (places_of s g k))
 
-order_message_itself : (s : State) (g : GroupNo) (k : ℕ) → sets_order s g k (order_message s g k) ≡ true
-order_message_itself s g k =
-    and_from (is_of_view s g (order_message s g k).id) _
+order_message_told : (s : State) (g : GroupNo) (k : ℕ) → told_in s g (order_message s g k) ≡ facts_of (places_of s g k)
+order_message_told s g k =
+    ap (λ b. if b then facts_of (places_of s g k) else [])
     (and_from (group_eq g g) _ (group_itself g) (eq-eqb (s.group g).number (s.group g).number refl))
-    (proc_itself (local s k))
 
-first_placed : (e : Entry) (es : List Entry) → is_among entry_eq e (ids_to_list (e ∷ es)) ≡ true
-first_placed e es = or_left (entry_eq e e) _ (entry_itself e)
-
--- it lists the first of those that are not listed
-less_unlisted : (s : State) (g : GroupNo) (k : ℕ) → not (is_empty (unlisted s g k)) ≡ true → length (unlisted (receiving s (order_message s g k)) g k) < length (unlisted s g k)
-less_unlisted s g k some = by_first (unlisted s g k) refl some
+-- it lists the first of those that are not in the order
+less_unlisted : (s : State) (g : GroupNo) (k : ℕ) → has_place (order_told s g) ≡ true → not (is_empty (unlisted s g k)) ≡ true → length (unlisted (receiving s (order_message s g k)) g k) < length (unlisted s g k)
+less_unlisted s g k place some = by_first (unlisted s g k) refl some
   where
     by_first : (es : List Entry) → unlisted s g k ≡ es → not (is_empty es) ≡ true → length (unlisted (receiving s (order_message s g k)) g k) < length (unlisted s g k)
     by_first [] is some = absurd (true≢false (sym some))
     by_first (e ∷ es) is some =
+        let m : Message = order_message s g k in
         let was : In e (unlisted s g k) = subst (λ es. In e es) (sym is) (inl refl) in
-        let new = in_kept (λ e. not (is_among entry_eq e (listed_ids (lists_of s g k)))) (abcasts_delivered s g k) e was in
-        let told : is_among entry_eq e (ids_to_list (unlisted s g k)) ≡ true = ap (λ es. is_among entry_eq e (ids_to_list es)) is ∙ first_placed e es in
-        let listed : is_among entry_eq e (listed_ids (lists_of (receiving s (order_message s g k)) g k)) ≡ true =
-        among_told (sets_order s g k) s.got (order_message s g k) e (order_message_itself s g k) told in
-        less_kept (λ e. not (is_among entry_eq e (listed_ids (lists_of (receiving s (order_message s g k)) g k)))) (λ e. not (is_among entry_eq e (listed_ids (lists_of s g k))))
-        (abcasts_delivered s g k) e (unlisted_before s (order_message s g k) g k) new.1 new.0
-        (not_from_true (is_among entry_eq e (listed_ids (lists_of (receiving s (order_message s g k)) g k))) listed)
+        let new = in_kept (λ e. not (is_among entry_eq e (order_told s g))) (abcasts_delivered s g k) e was in
+        let told : is_among entry_eq e (order_told (receiving s m) g) ≡ true =
+        ap (λ facts. is_among entry_eq e (known_order facts)) (facts_more s g m ∙ ap (λ facts. facts_in s g ++ facts) (order_message_told s g k))
+        ∙ first_enters (facts_in s g) (places_of s g k) e (take (MAX_PLACED - 1) es) (ltb-true (length (order_told s g)) MAX_POSITION place) refl (ap ids_to_list is) in
+        less_kept (λ e. not (is_among entry_eq e (order_told (receiving s m) g))) (λ e. not (is_among entry_eq e (order_told s g)))
+        (abcasts_delivered s g k) e (unlisted_before s m g) new.1 new.0
+        (not_from_true (is_among entry_eq e (order_told (receiving s m) g)) told)
 
--- what is received as no ABCAST leaves the holders no more to list
+received_to_list : (s : State) (m : Message) (g : GroupNo) (k : ℕ) → is_atomic (kind_of m.body) ≡ false → to_list_by (receiving s m) g k ≤ to_list_by s g k
+received_to_list s m g k other = let fewer = fewer_unlisted s m g k in let same = to_come_same s m g k other in omega (arith, fewer, same)
+
+-- what is received as no ABCAST leaves processes no more to list
 pub to_list_received : (s : State) (m : Message) → is_atomic (kind_of m.body) ≡ false → (g : GroupNo) → to_list_in (receiving s m) g ≤ to_list_in s g
-to_list_received s m other g = of_frozen (s.group g).frozen
-  where
-    of_holder : (o : Option Proc) → elim o as (λ _. ℕ) [ Some p ↦ to_list_by (receiving s m) g p.serial | None ↦ 0 ] ≤ elim o as (λ _. ℕ) [ Some p ↦ to_list_by s g p.serial | None ↦ 0 ]
-    of_holder (Some p) = let fewer = fewer_unlisted s m g p.serial in let same = to_come_same s m g p.serial other in omega (arith, fewer, same)
-    of_holder None = omega arith
+to_list_received s m other g = total_le (to_list_by (receiving s m) g) (to_list_by s g) (serials s) (λ k. received_to_list s m g k other)
 
-    of_frozen : (b : Bool) → ◌≤◌ (if b then 0 else to_list_here (receiving s m) g) (if b then 0 else to_list_here s g)
-    of_frozen true = omega arith
-    of_frozen false = of_holder (holder_at s.here (s.group g))
-
--- and a set-order message less, which is sent in no frozen group
-pub to_list_ordered : (s : State) (g : GroupNo) (p : Proc) → holder_at s.here (s.group g) ≡ Some p → (s.group g).frozen ≡ false → not (is_empty (unlisted s g p.serial)) ≡ true → to_list_in (receiving s (order_message s g p.serial)) g < to_list_in s g
-to_list_ordered s g p holder unfrozen some =
-    let m : Message = order_message s g p.serial in
-    let less = less_unlisted s g p.serial some in
-    let same = to_come_same s m g p.serial refl in
-    let here : to_list_here (receiving s m) g < to_list_here s g =
-    subst (λ o. elim o as (λ _. ℕ) [ Some p ↦ to_list_by (receiving s m) g p.serial | None ↦ 0 ] < elim o as (λ _. ℕ) [ Some p ↦ to_list_by s g p.serial | None ↦ 0 ]) (sym holder) (omega (arith, less, same)) in
-    subst (λ b. ◌<◌ (if b then 0 else to_list_here (receiving s m) g) (if b then 0 else to_list_here s g)) (sym unfrozen) here
+-- and a set-order message less
+pub to_list_ordered : (s : State) (g : GroupNo) (k : ℕ) → In k (serials s) → has_place (order_told s g) ≡ true → not (is_empty (unlisted s g k)) ≡ true → to_list_in (receiving s (order_message s g k)) g < to_list_in s g
+to_list_ordered s g k at place some =
+    let m : Message = order_message s g k in
+    let less = less_unlisted s g k place some in
+    let same = to_come_same s m g k refl in
+    total_lt (to_list_by (receiving s m) g) (to_list_by s g) (serials s) k (λ j. received_to_list s m g j refl) at (omega (arith, less, same))

@@ -23,7 +23,8 @@ use Rattle.cast_delay.specs.Ready.{Process, is_member}
 use Rattle.cast_types.specs.declared.refusal.Refusal.{Refusal}
 use Rattle.cast_model.specs.Session.{is_open, is_gone, pushed_to, closed}
 use Rattle.cast_view.specs.declared.member.Pending.{Pending}
-use Rattle.cast_view.specs.MemberSide.{holder_at, with_view}
+use Rattle.cast_view.specs.MemberSide.{with_view}
+use Rattle.cast_history.specs.Order.{holders}
 use Rattle.cast_model.specs.declared.event.Event.{Event}
 use Rattle.cast_model.specs.declared.event.Event.TheVariants as event
 use Rattle.cast_history.specs.Acts.{Act}
@@ -350,10 +351,7 @@ noted_set_order_by s g k n =
     ])
 
 noted_set_order : (s : State) (g : GroupNo) → IsNoted s → IsNoted (set_order s g)
-noted_set_order s g n = elim (holder_at s.here (s.group g)) as (λ o. IsNoted (elim o [ Some p ↦ set_order_by s g p.serial | None ↦ s ])) [
-  | Some p ↦ noted_set_order_by s g p.serial n
-  | None ↦ n
-]
+noted_set_order s g n = noted_fold (λ t k. set_order_by t g k) (λ t k m. noted_set_order_by t g k m) (holders s g) s n
 
 -- the Install that waits is completed
 noted_complete : (s : State) (g : GroupNo) (p : Pending) → IsNoted s → IsNoted (complete history s g p)

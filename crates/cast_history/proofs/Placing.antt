@@ -46,7 +46,7 @@ places =
     record {
       id = uid 1 3 p11 1;
       times = at 1 3 ((p11, 1) ∷ (p21, 2) ∷ (p31, 1) ∷ []) ∷ [];
-      body = body.Order (record { first = 1; ids = (p21, 2) ∷ (p31, 1) ∷ [] });
+      body = body.Order (record { first = 1; ids = (p21, 2) ∷ (p31, 1) ∷ []; holder = None });
     }
 
 -- the holder receives the ABCASTs before c; it delivers them after c, in order of receipt, and tells that order
@@ -96,7 +96,7 @@ place =
     record {
       id = uid 1 3 p11 1;
       times = at 1 3 ((p11, 1) ∷ (p21, 1) ∷ []) ∷ at 2 2 ((p11, 1) ∷ []) ∷ [];
-      body = body.Order (record { first = 1; ids = (p21, 1) ∷ [] });
+      body = body.Order (record { first = 1; ids = (p21, 1) ∷ []; holder = None });
     }
 
 after_own : Message

@@ -7,7 +7,6 @@ use Rattle.std.proofs.lemmas.Bool.{and_from, or_cases, false_from_ne_true, false
 use Rattle.std.proofs.lemmas.Option.{none-some}
 use Rattle.cast_types.specs.declared.names.SiteNo.{SiteNo}
 use Rattle.cast_types.specs.declared.names.GroupNo.{GroupNo}
-use Rattle.cast_types.specs.declared.names.Proc.{Proc}
 use Rattle.cast_types.specs.Names.{Entry, group_eq}
 use Rattle.cast_types.specs.Sets.{is_among}
 use Rattle.cast_types.specs.Repeat.{iterate}
@@ -18,13 +17,13 @@ use Rattle.cast_timer.specs.declared.key.OwedKind.{OwedKind}
 use Rattle.cast_timer.specs.declared.key.OwedKind.TheVariants.{Prepare, Install}
 use Rattle.cast_delay.specs.Ready.{covered, is_member}
 use Rattle.cast_message.specs.Sequence.{Sequence}
-use Rattle.cast_history.specs.Order.{order_of, unlisted, has_place}
+use Rattle.cast_history.specs.Order.{order_told, unlisted, has_place, holds, holders}
 use Rattle.cast_history.specs.Rules.Room.{may_order}
 use Rattle.cast_history.specs.Rules.Sending.{may_raise}
 use Rattle.cast_timer.specs.Owed.{is_owed}
 use Rattle.cast_timer.proofs.Owing.{owing_owes}
 use Rattle.cast_view.specs.declared.member.Pending.{Pending}
-use Rattle.cast_view.specs.MemberSide.{holder_at, is_pending}
+use Rattle.cast_view.specs.MemberSide.{is_pending}
 use Rattle.cast_view.specs.Home.{is_empty, wants_in, may_start, may_decide, awaited_of, waiting_of, moved}
 use Rattle.cast_view.specs.Home.HomeMove.{Started, Decided}
 use Rattle.cast_history.specs.State.{State, local, serials, emitted, set_home}
@@ -45,10 +44,11 @@ use Rattle.cast_history.specs.Step.{acted}
 use Rattle.cast_history.specs.Endings.{Falls, Moves}
 use Rattle.cast_history.specs.AtRest.{NoneIsFree, lists_some, IsGroupAtRest, RestIsQuiet}
 use Rattle.cast_history.proofs.Totals.{In}
+use Rattle.cast_history.proofs.Listings.{in_kept}
 use Rattle.cast_history.proofs.Settles.{settles_one}
 use Rattle.cast_history.proofs.Setting.{may_set_order, set_order_is}
 use Rattle.cast_history.proofs.Alikes.{Alike, alike_owe}
-use Rattle.cast_history.proofs.Rests.{falls_then, falls_order, falls_led, started_less, decided_less, moves_then, moves_fold, moves_iterate, moves_settle, moves_set_order, moves_set_orders, moves_go_on, moves_go_on_all, moves_start, moves_want_bodies, moves_decide, moves_lead_group, moves_lead, let_go_less, moves_want, moves_wanted, moves_want_own, moves_wanted_own, missing_covered}
+use Rattle.cast_history.proofs.Rests.{falls_then, falls_order, falls_led, started_less, decided_less, moves_then, moves_fold, moves_iterate, moves_settle, moves_set_order_by, moves_set_order, moves_set_orders, moves_go_on, moves_go_on_all, moves_start, moves_want_bodies, moves_decide, moves_lead_group, moves_lead, let_go_less, moves_want, moves_wanted, moves_want_own, moves_wanted_own, missing_covered}
 
 -- Lists
 
@@ -89,7 +89,7 @@ all_tests true true true true true y q = refl
 
 pub may_set_is : (s : State) (g : GroupNo) (k : ℕ) → lists_some s g k ≡ may_set_order s g k
 may_set_is s g k =
-    all_tests (is_member ((s.process k).standing g)) (not (s.group g).frozen) (may_order history s) (not (is_empty (unlisted s g k))) (has_place (order_of s g)) (may_raise (s.process k).time g (local s k)) (places_of s g k)
+    all_tests (is_member ((s.process k).standing g)) (not (s.group g).frozen) (may_order history s) (not (is_empty (unlisted s g k))) (has_place (order_told s g)) (may_raise (s.process k).time g (local s k)) (places_of s g k)
 
 -- What falls is another state
 
@@ -168,15 +168,23 @@ module _ (s : State) (same : pass s ≡ s) where
   ] refl
 
   module _ (g : GroupNo) (at : In g s.config.groups) where
-    -- the holder of its view lists nothing more
-    nothing_listed : (p : Proc) → holder_at s.here (s.group g) ≡ Some p → lists_some s g p.serial ≡ false
-    nothing_listed p holder = false_from_ne_true (lists_some s g p.serial) (λ lists.
-        let may : may_set_order s g p.serial ≡ true = sym (may_set_is s g p.serial) ∙ lists in
-        let still : set_order s g ≡ s = still_fold s set_order s.config.groups (λ h there t u c. moves_set_order t h (subst (λ x. In h x.groups) (sym c) there)) s refl refl ordered g at in
-        let by : set_order_by s g p.serial ≡ s = subst (λ o. elim o as (λ _. State) [ Some q ↦ set_order_by s g q.serial | None ↦ s ] ≡ s) holder still in
-        let t : State = let_go (sending s g p.serial (body.Order (places_of s g p.serial))) in
-        falls_never s t (falls_order s g p at holder may)
-        (sym (ap (λ b. if b then t else s) may) ∙ sym (set_order_is s g p.serial) ∙ by))
+    -- who holds the token of its view lists nothing more
+    still_set : set_order s g ≡ s
+    still_set = still_fold s set_order s.config.groups (λ h there t u c. moves_set_order t h (subst (λ x. In h x.groups) (sym c) there)) s refl refl ordered g at
+
+    lists_none : (k : ℕ) → In k (holders s g) → lists_some s g k ≡ false
+    lists_none k there = false_from_ne_true (lists_some s g k) (λ lists.
+        let may : may_set_order s g k ≡ true = sym (may_set_is s g k) ∙ lists in
+        let given : (j : ℕ) → In j (holders s g) → In j (serials s) = λ j among. (in_kept (holds s g) (serials s) j among).1 in
+        let by : set_order_by s g k ≡ s =
+        still_fold s (λ t j. set_order_by t g j) (holders s g)
+        (λ j among t u c. moves_set_order_by t g j (subst (λ x. In g x.groups) (sym c) at) (subst (λ n. In j (range_with_len 1 n)) (sym u) (given j among))) s refl refl still_set k there in
+        let t : State = let_go (sending s g k (body.Order (places_of s g k))) in
+        falls_never s t (falls_order s g k at (given k there) may)
+        (sym (ap (λ b. if b then t else s) may) ∙ sym (set_order_is s g k) ∙ by))
+
+    nothing_listed : list_all (λ k. not (lists_some s g k)) (holders s g) ≡ true
+    nothing_listed = all_in (λ k. not (lists_some s g k)) (holders s g) (λ k there. ap not (lists_none k there))
 
     group_goes_on : go_on history resting s g ≡ s
     group_goes_on = still_fold s (go_on history resting) s.config.groups (λ h there t u c. moves_go_on t h (subst (λ x. In h x.groups) (sym c) there)) s refl refl gone_on g at
@@ -303,15 +311,15 @@ none_free_first k s n = elim (find (is_ready_for s k) s.got) as (λ o. NoneIsFre
   | None ↦ n
 ]
 
+none_free_set_order_by : (g : GroupNo) (s : State) (k : ℕ) → NoneIsFree s → NoneIsFree (set_order_by s g k)
+none_free_set_order_by g s k n = subst NoneIsFree (sym (set_order_is s g k))
+    (elim (may_set_order s g k) as (λ b. NoneIsFree (if b then let_go (sending s g k (body.Order (places_of s g k))) else s)) [
+      | true ↦ none_free_let_go (sending s g k (body.Order (places_of s g k)))
+      | false ↦ n
+    ])
+
 none_free_set_order : (s : State) (g : GroupNo) → NoneIsFree s → NoneIsFree (set_order s g)
-none_free_set_order s g n = elim (holder_at s.here (s.group g)) as (λ o. NoneIsFree (elim o [ Some p ↦ set_order_by s g p.serial | None ↦ s ])) [
-  | Some p ↦ subst NoneIsFree (sym (set_order_is s g p.serial))
-      (elim (may_set_order s g p.serial) as (λ b. NoneIsFree (if b then let_go (sending s g p.serial (body.Order (places_of s g p.serial))) else s)) [
-        | true ↦ none_free_let_go (sending s g p.serial (body.Order (places_of s g p.serial)))
-        | false ↦ n
-      ])
-  | None ↦ n
-]
+none_free_set_order s g n = none_free_fold (λ t k. set_order_by t g k) (none_free_set_order_by g) (holders s g) s n
 
 none_free_go_on : (s : State) (g : GroupNo) → NoneIsFree s → NoneIsFree (go_on history resting s g)
 none_free_go_on s g n = elim (s.group g).pending as (λ o. NoneIsFree (elim o [ Some p ↦ complete_or_want history resting s g p | None ↦ s ])) [

@@ -222,7 +222,7 @@ counts_sent_here s g k content l c member =
           (c.members k h is).counted;
     })
     (c.placed k) in
-    counts_receiving (noting_sent s k m) m (counts_same now (noting_sent s k m) (same_noting now k (Sent m)) set) stamp (record { reached = omega arith; member = λ _. sender.itself })
+    counts_receiving (noting_sent s k m) m (counts_same now (noting_sent s k m) (same_noting now k (Sent m) (omega arith)) set) stamp (record { reached = omega arith; member = λ _. sender.itself })
 
 pub counts_sending : (s : State) (g : GroupNo) (k : ℕ) (content : Body) → IsLawful s → CountsMembers s → is_member ((s.process k).standing g) ≡ true → CountsMembers (sending s g k content)
 counts_sending s g k content l c member =

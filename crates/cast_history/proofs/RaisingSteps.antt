@@ -21,7 +21,7 @@ use Rattle.cast_types.specs.Rising.{is_rising}
 use Rattle.cast_delay.specs.Ready.{is_member}
 use Rattle.cast_delay.proofs.Finds.{found_in}
 use Rattle.cast_model.specs.declared.config.DomainConfig.{DomainConfig}
-use Rattle.cast_view.specs.MemberSide.{holder_at, members_of, with_request, with_answer}
+use Rattle.cast_view.specs.MemberSide.{members_of, with_request, with_answer}
 use Rattle.cast_types.specs.declared.names.Standing.TheVariants.{Outside, Joining}
 use Rattle.cast_view.specs.Home.{moved}
 use Rattle.cast_model.specs.Session.{is_gone}
@@ -56,8 +56,9 @@ use Rattle.cast_history.proofs.Rules.Leaving.{ended_keeps}
 use Rattle.cast_history.proofs.Rules.Rest.{told_if_keeps}
 use Rattle.cast_history.proofs.Rules.Home.{suspect_keeps}
 use Rattle.cast_history.proofs.Rules.Frames.{framed_keeps}
-use Rattle.cast_history.proofs.Lawful.{same_home, same_group_set, same_freezing, same_pending, same_acts, same_closing, same_going, same_taking, same_setting, same_counting, invariant_by_same, lawful_same, same_pushing, lawful_opening, lawful_before, lawful_let_go, lawful_delivery}
-use Rattle.cast_history.proofs.LawfulSteps.{same_tick, same_start, same_want_bodies, same_decide, placed_at, taken_current, brought_current, brought_of_member, entered, all_lawful, lawful_going, lawful_acted, lawful_first, lawful_set_order, waits_typed, lawful_go_on, go_on_each}
+use Rattle.cast_history.proofs.Lawful.{same_home, same_group_set, same_freezing, same_pending, same_acts, left_on, same_closing, same_going, same_taking, same_setting, same_counting, invariant_by_same, lawful_same, same_pushing, lawful_opening, lawful_before, lawful_let_go, lawful_delivery}
+use Rattle.cast_history.proofs.LawfulSteps.{same_tick, same_start, same_want_bodies, same_decide, placed_at, taken_current, brought_current, brought_of_member, entered, all_lawful, lawful_going, lawful_acted, lawful_first, lawful_set_order_by, lawful_set_order, waits_typed, lawful_go_on, go_on_each}
+use Rattle.cast_history.specs.Order.{holders}
 use Rattle.cast_history.proofs.Counting.{is_clock_of, all_both}
 use Rattle.cast_history.proofs.Raising.{counts_same, counts_let_go, counts_before, counts_opening, counts_standing, counts_receiving, counts_sent_here, counts_sending, counts_delivery, counts_passing, counts_releasing, counts_opened, next_unborn, can_raise}
 
@@ -111,7 +112,7 @@ all_counted = record {
   push = λ s c k given room p. (all_lawful.push s c.0 k given room p, counts_same s _ (same_pushing s k p) c.1);
   note_cast = λ s c. (all_lawful.note_cast s c.0, counts_same s _ (same_counting s) c.1);
   note_joining = λ s c k given g h at number heard. (all_lawful.note_joining s c.0 k given g h at number heard, counts_standing s k g (Joining number heard) refl c.1 (c.1.opened k given));
-  note_outside = λ s c k g is. (all_lawful.note_outside s c.0 k g is, counts_same (set_standing s k g Outside) (outside s k g) (same_acts (set_standing s k g Outside) (acts_outside s k g)) (counts_standing s k g Outside refl c.1 (c.1.placed k g is)));
+  note_outside = λ s c k g is. (all_lawful.note_outside s c.0 k g is, counts_same (set_standing s k g Outside) (outside s k g) (same_acts (set_standing s k g Outside) (acts_outside s k g) (left_on s k g)) (counts_standing s k g Outside refl c.1 (c.1.placed k g is)));
   sends = λ s c h k g content sent. let there = placed_at s g h sent.at in
       let same : message_sent history s k g h content ≡ next_message s g k content = ap (λ x. message_sent history s k g x content) (sym there.1) in (
         all_lawful.sends s c.0 h k g content sent,
@@ -171,10 +172,11 @@ counts_set_order_by s g k l c =
 
 pub counts_set_order : (s : State) (g : GroupNo) → IsLawful s → CountsMembers s → CountsMembers (set_order s g)
 counts_set_order s g l c =
-    elim (holder_at s.here (s.group g)) as (λ o. CountsMembers (elim o [ Some p ↦ set_order_by s g p.serial | None ↦ s ])) [
-      | Some p ↦ counts_set_order_by s g p.serial l c
-      | None ↦ c
-    ]
+    each (holders s g) s l c
+  where
+    each : (ks : List ℕ) (t : State) → IsLawful t → CountsMembers t → CountsMembers (fold (λ u k. set_order_by u g k) t ks)
+    each [] t m d = d
+    each (k ∷ ks) t m d = each ks (set_order_by t g k) (lawful_set_order_by t g k m) (counts_set_order_by t g k m d)
 
 -- the Install that waits is completed, or what it lacks is wanted
 pub counts_go_on : (s : State) (g : GroupNo) → is_group s g ≡ true → IsLawful s → CountsMembers s → CountsMembers (go_on history resting s g)

@@ -3,16 +3,20 @@ use Rattle.std.proofs.Common.{◌≡◌, ℕ, Bool, true, false, not, ◌&&◌, 
 use Rattle.std.specs.Prelude.{◌+◌, ◌==◌, nat_lt, if◌then◌else◌}
 use Rattle.std.specs.Option.{option_map_or}
 use Rattle.cast_types.specs.declared.names.GroupNo.{GroupNo}
+use Rattle.cast_types.specs.declared.names.Proc.{Proc}
+use Rattle.cast_types.specs.Names.{proc_eq}
+use Rattle.cast_types.specs.Sets.{is_among}
 use Rattle.cast_types.specs.declared.refusal.Refusal.{Refusal}
-use Rattle.cast_types.specs.declared.refusal.Refusal.TheVariants.{NoGroup, BadFrame, NotOpen, NotMember, AlreadyMember, Flushing, OwnAbcast, HeldFull, TooLong, TooManySessions, OutOfRange}
+use Rattle.cast_types.specs.declared.refusal.Refusal.TheVariants.{NoGroup, BadFrame, NotOpen, NotMember, AlreadyMember, Flushing, OwnAbcast, HeldFull, TooLong, NotHolder, TooManySessions, OutOfRange}
 use Rattle.cast_types.specs.declared.limits.TheConstants.{MAX_NUMBER, MAX_PAYLOAD}
 use Rattle.cast_clock.specs.Times.{view_of}
 use Rattle.cast_message.specs.declared.client.CastKind.{CastKind}
-use Rattle.cast_message.specs.declared.client.Request.TheVariants.{Join, Leave, Cast}
+use Rattle.cast_message.specs.declared.client.Request.TheVariants.{Join, Leave, Cast, Pass}
 use Rattle.cast_message.specs.declared.client.Push.TheVariants as push
 use Rattle.cast_message.specs.declared.client.Command.TheVariants as command
 use Rattle.cast_message.specs.declared.site.Change.TheVariants as change
 use Rattle.cast_delay.specs.Ready.{is_member, is_outside}
+use Rattle.cast_view.specs.MemberSide.{members_of}
 use Rattle.cast_quota.specs.Quotas as quota
 use Rattle.cast_model.specs.declared.event.Event.TheVariants as event
 use Rattle.cast_model.specs.declared.event.Taken.{Taken}
@@ -22,11 +26,11 @@ use Rattle.cast_history.specs.State.{State, taking, setting_quota}
 use Rattle.cast_history.specs.History.{history}
 use Rattle.cast_history.specs.Step.{sessions_given, opening_next}
 use Rattle.cast_history.specs.Rules.Interface.{Site}
-use Rattle.cast_history.specs.Rules.Room.{may_receive}
+use Rattle.cast_history.specs.Rules.Room.{may_receive, may_order}
 use Rattle.cast_history.specs.Rules.Sending.{may_raise}
 use Rattle.cast_history.specs.Rules.Asking.{request}
 use Rattle.cast_history.specs.Rules.Leaving.{Attempt, leave_at, leave_group, leave_all, close_session, named_here, tell}
-use Rattle.cast_history.specs.Rules.Commands.{join_at, join, leave, cast_at, cast, body_of, message_sent, send_own, reply, requested}
+use Rattle.cast_history.specs.Rules.Commands.{join_at, join, leave, cast_at, cast, body_of, body_handing, hand_over, pass_at, pass_token, message_sent, send_own, reply, requested}
 use Rattle.cast_history.specs.Rules.Events.{is_taken, may_open}
 use Rattle.cast_history.specs.Refusing.{RefusedLeaves, RefusedReplies}
 
@@ -77,6 +81,31 @@ module _ {S H : Type 0} (d : Site S H) (s : S) (k : ℕ) where
       (kept_if s (not (may_receive d s)) (s, Some HeldFull) raised (kept_refused s HeldFull)
       (kept_if s (not (may_raise (d.time s k) g (named_here d s k))) (s, Some HeldFull) made (kept_refused s HeldFull) (kept_done s made.0))))))) (d.place s g)
 
+  pass_kept : (g : GroupNo) (to : Proc) → IsKept s (pass_token d s k g to)
+  pass_kept g to = kept_placed s (pass_at d s k g to) (λ h.
+      let made : Attempt S = option_map_or (hand_over d s k g to h) (d.place_to_pass s h k) (s, Some HeldFull) in
+      let raised : Attempt S = if not (may_raise (d.time s k) g (named_here d s k)) then (s, Some HeldFull) else made in
+      let room : Attempt S = if not (may_order d s) then (s, Some HeldFull) else raised in
+      let held : Attempt S = if not (d.holds s h k) then (s, Some NotHolder) else room in
+      let own : Attempt S = if d.awaits_own s k then (s, Some OwnAbcast) else held in
+      let going : Attempt S = if (d.group s h).frozen then (s, Some Flushing) else own in
+      let named : Attempt S = if not (is_among proc_eq to (members_of (d.group s h))) then (s, Some NotMember) else going in
+      kept_if s (not (is_member (d.standing s k g))) (s, Some NotMember) named (kept_refused s NotMember)
+      (kept_if s (not (is_among proc_eq to (members_of (d.group s h)))) (s, Some NotMember) going (kept_refused s NotMember)
+      (kept_if s ((d.group s h).frozen) (s, Some Flushing) own (kept_refused s Flushing)
+      (kept_if s (d.awaits_own s k) (s, Some OwnAbcast) held (kept_refused s OwnAbcast)
+      (kept_if s (not (d.holds s h k)) (s, Some NotHolder) room (kept_refused s NotHolder)
+      (kept_if s (not (may_order d s)) (s, Some HeldFull) raised (kept_refused s HeldFull)
+      (kept_if s (not (may_raise (d.time s k) g (named_here d s k))) (s, Some HeldFull) made (kept_refused s HeldFull)
+      (handed h (d.place_to_pass s h k))))))))) (d.place s g)
+    where
+      -- to itself it hands nothing over
+      handed : (h : H) (o : Option ℕ) → IsKept s (option_map_or (hand_over d s k g to h) o (s, Some HeldFull))
+      handed h None = kept_refused s HeldFull
+      handed h (Some place) =
+          let sent : S = send_own d s k (message_sent d s k g h (body_handing place to)) in
+          kept_if s (proc_eq to (named_here d s k)) (s, None) (sent, None) (kept_done s s) (kept_done s sent)
+
   replied : (a : Attempt S) (tag : ℕ) (refusal : Refusal) → IsKept s a → a.1 ≡ Some refusal → reply d a k tag ≡ tell d s k (push.Reply tag (Some refusal))
   replied a tag refusal kept is = λ i. tell d (kept refusal is i) k (push.Reply tag (is i))
 
@@ -87,6 +116,8 @@ replies_alone s e k (Leave tag g) refusal opened is =
     ap (λ b. if b then requested history s k (Leave tag g) else s) opened ∙ replied history s k (leave history s k g) tag refusal (leave_kept history s k g) is
 replies_alone s e k (Cast tag g kind payload) refusal opened is =
     ap (λ b. if b then requested history s k (Cast tag g kind payload) else s) opened ∙ replied history s k (cast history s k g kind payload) tag refusal (cast_kept history s k g kind payload) is
+replies_alone s e k (Pass tag g to) refusal opened is =
+    ap (λ b. if b then requested history s k (Pass tag g to) else s) opened ∙ replied history s k (pass_token history s k g to) tag refusal (pass_kept history s k g to) is
 
 -- what an answer is that is no refusal
 abbrev IsDone : Taken → Type 0

@@ -3,7 +3,7 @@ use Rattle.std.proofs.Common.{◌≡◌, ℕ, ◌+◌, ◌*◌, ◌<◌, ◌≤�
 use Rattle.std.specs.Prelude.{◌&&◌, ◌==◌, nat_lt, if◌then◌else◌, filter}
 use Rattle.std.specs.List.{fold, find, list_any, range_with_len}
 use Rattle.std.proofs.Math.Nat.{mul-le-mul_left, mul-suc}
-use Rattle.std.proofs.lemmas.Bool.{and_parts, not-true, eqb-true, eq-eqb, true≢false}
+use Rattle.std.proofs.lemmas.Bool.{and_parts, eqb-true, eq-eqb, true≢false}
 use Rattle.std.proofs.lemmas.List.FromFn.{length-range_with_len}
 use Rattle.cast_types.specs.declared.names.GroupNo.{GroupNo}
 use Rattle.cast_types.specs.declared.names.Proc.{Proc}
@@ -40,15 +40,16 @@ use Rattle.cast_history.specs.Owing.{next_due, noting_owed}
 use Rattle.cast_history.specs.Rules.Owing.{frame_for, send_for, owe}
 use Rattle.cast_history.specs.Rules.Keys.{home_key, want_key}
 use Rattle.cast_view.specs.declared.member.Pending.{Pending}
-use Rattle.cast_view.specs.MemberSide.{MemberSide, holder_at, is_pending, with_view}
-use Rattle.cast_history.specs.State.{State, serials, emitted, set_group, set_home, receiving, with_delivery}
+use Rattle.cast_view.specs.MemberSide.{MemberSide, is_pending, with_view}
+use Rattle.cast_history.specs.State.{State, local, serials, emitted, set_group, set_home, receiving, with_delivery}
 use Rattle.cast_history.specs.Entering.{putting_out}
 use Rattle.cast_history.specs.Reports.{has_delivered_cut, is_missing, missing_in}
 use Rattle.cast_history.specs.Resting.{resting}
 use Rattle.cast_history.specs.Rules.Asking.{is_home}
 use Rattle.cast_history.specs.History.{history}
 use Rattle.cast_history.specs.Rules.Room.{may_order}
-use Rattle.cast_history.specs.Order.{unlisted}
+use Rattle.cast_history.specs.Order.{order_told, unlisted, has_place, holds, holders}
+use Rattle.cast_history.specs.Rules.Sending.{may_raise}
 use Rattle.cast_history.specs.Turns.{is_ready_for}
 use Rattle.cast_history.specs.Effects.{sending_message}
 use Rattle.cast_history.specs.Rules.Home.{owe_of_home, start, wants, want, want_bodies, decide, lead_group, lead}
@@ -185,49 +186,47 @@ less_by_last a b c u x y le less =
     let times : (u + 1) * suc x ≤ (u + 1) * y = mul-le-mul_left (u + 1) (omega arith) in
     omega (arith, times, mul-suc (u + 1) x)
 
-to_do_orders : (s : State) (g : GroupNo) (p : Proc) → In g s.config.groups → holder_at s.here (s.group g) ≡ Some p → (s.group g).frozen ≡ false → not (is_empty (unlisted s g p.serial)) ≡ true → to_do (receiving s (order_message s g p.serial)) < to_do s
-to_do_orders s g p at holder unfrozen some =
-    let m : Message = order_message s g p.serial in
+to_do_orders : (s : State) (g : GroupNo) (k : ℕ) → In g s.config.groups → In k (serials s) → has_place (order_told s g) ≡ true → not (is_empty (unlisted s g k)) ≡ true → to_do (receiving s (order_message s g k)) < to_do s
+to_do_orders s g k at given place some =
+    let m : Message = order_message s g k in
     less_by_last (undelivered (receiving s m)) (undelivered s) (ranks s) s.used (to_list (receiving s m)) (to_list s)
     (undelivered_more s m)
-    (total_lt (to_list_in (receiving s m)) (to_list_in s) s.config.groups g (to_list_received s m refl) at (to_list_ordered s g p holder unfrozen some))
+    (total_lt (to_list_in (receiving s m)) (to_list_in s) s.config.groups g (to_list_received s m refl) at (to_list_ordered s g k given place some))
 
--- there is something to list where a set-order message may be sent, and no flush has frozen the group
-has_unlisted : (s : State) (g : GroupNo) (k : ℕ) → may_set_order s g k ≡ true → not (is_empty (unlisted s g k)) ≡ true
-has_unlisted s g k may =
+-- there is something to list where a set-order message may be sent, and a place for it
+listing : (s : State) (g : GroupNo) (k : ℕ) → may_set_order s g k ≡ true → (not (is_empty (unlisted s g k)) && (has_place (order_told s g) && may_raise (s.process k).time g (local s k))) ≡ true
+listing s g k may =
     let a = and_parts (is_member ((s.process k).standing g)) _ may in
     let b = and_parts (not (s.group g).frozen) _ a.1 in
-    let c = and_parts (may_order history s) _ b.1 in
-    (and_parts (not (is_empty (unlisted s g k))) _ c.1).0
+    (and_parts (may_order history s) _ b.1).1
 
-not_frozen : (s : State) (g : GroupNo) (k : ℕ) → may_set_order s g k ≡ true → (s.group g).frozen ≡ false
-not_frozen s g k may =
-    let a = and_parts (is_member ((s.process k).standing g)) _ may in
-    not-true (s.group g).frozen (and_parts (not (s.group g).frozen) _ a.1).0
+has_unlisted : (s : State) (g : GroupNo) (k : ℕ) → may_set_order s g k ≡ true → not (is_empty (unlisted s g k)) ≡ true
+has_unlisted s g k may = (and_parts (not (is_empty (unlisted s g k))) _ (listing s g k may)).0
 
-pub falls_order : (s : State) (g : GroupNo) (p : Proc) → In g s.config.groups → holder_at s.here (s.group g) ≡ Some p → may_set_order s g p.serial ≡ true → Falls s (let_go (sending_message s p.serial (order_message s g p.serial)))
-falls_order s g p at holder may =
-    let m : Message = order_message s g p.serial in
-    let t : State = sending_message s p.serial m in
-    let a : Alike (receiving s m) (let_go t) = alike_then (receiving s m) t (let_go t) (alike_sending s g p.serial m.body) (alike_let_go t) in
-    falls_by s (receiving s m) (let_go t) a refl (to_do_orders s g p at holder (not_frozen s g p.serial may) (has_unlisted s g p.serial may))
+has_next : (s : State) (g : GroupNo) (k : ℕ) → may_set_order s g k ≡ true → has_place (order_told s g) ≡ true
+has_next s g k may = (and_parts (has_place (order_told s g)) _ (and_parts (not (is_empty (unlisted s g k))) _ (listing s g k may)).1).0
 
-moves_set_order_by : (s : State) (g : GroupNo) (p : Proc) → In g s.config.groups → holder_at s.here (s.group g) ≡ Some p → Moves s (set_order_by s g p.serial)
-moves_set_order_by s g p at holder =
-    let m : Message = order_message s g p.serial in
-    let t : State = sending_message s p.serial m in
-    let a : Alike (receiving s m) (let_go t) = alike_then (receiving s m) t (let_go t) (alike_sending s g p.serial m.body) (alike_let_go t) in
-    subst (Moves s) (sym (set_order_is s g p.serial))
-    (moves_if s (let_go t) s (may_set_order s g p.serial)
-    (λ may. record { config = a.config; used = a.used; way = inr (falls_order s g p at holder may) })
+pub falls_order : (s : State) (g : GroupNo) (k : ℕ) → In g s.config.groups → In k (serials s) → may_set_order s g k ≡ true → Falls s (let_go (sending_message s k (order_message s g k)))
+falls_order s g k at given may =
+    let m : Message = order_message s g k in
+    let t : State = sending_message s k m in
+    let a : Alike (receiving s m) (let_go t) = alike_then (receiving s m) t (let_go t) (alike_sending s g k m.body) (alike_let_go t) in
+    falls_by s (receiving s m) (let_go t) a refl (to_do_orders s g k at given (has_next s g k may) (has_unlisted s g k may))
+
+pub moves_set_order_by : (s : State) (g : GroupNo) (k : ℕ) → In g s.config.groups → In k (serials s) → Moves s (set_order_by s g k)
+moves_set_order_by s g k at given =
+    let m : Message = order_message s g k in
+    let t : State = sending_message s k m in
+    let a : Alike (receiving s m) (let_go t) = alike_then (receiving s m) t (let_go t) (alike_sending s g k m.body) (alike_let_go t) in
+    subst (Moves s) (sym (set_order_is s g k))
+    (moves_if s (let_go t) s (may_set_order s g k)
+    (λ may. record { config = a.config; used = a.used; way = inr (falls_order s g k at given may) })
     (moves_self s))
 
 pub moves_set_order : (s : State) (g : GroupNo) → In g s.config.groups → Moves s (set_order s g)
 moves_set_order s g at =
-    elim (holder_at s.here (s.group g)) as (λ o. holder_at s.here (s.group g) ≡ o → Moves s (elim o [ Some p ↦ set_order_by s g p.serial | None ↦ s ])) [
-      | None ↦ λ _. moves_self s
-      | Some p ↦ λ holder. moves_set_order_by s g p at holder
-    ] refl
+    moves_fold s (λ t k. set_order_by t g k) (holders s g)
+    (λ k there t u c. moves_set_order_by t g k (subst (λ x. In g x.groups) (sym c) at) (subst (λ n. In k (range_with_len 1 n)) (sym u) (in_kept (holds s g) (serials s) k there).1)) s refl refl
 
 pub moves_set_orders : (s : State) → Moves s (set_orders s)
 moves_set_orders s = moves_fold s set_order s.config.groups (λ g at t u c. moves_set_order t g (subst (λ x. In g x.groups) (sym c) at)) s refl refl

@@ -1,4 +1,4 @@
--- When the holder of a view's order sends a set-order message, and what it sends.
+-- When who holds the token of a view sends a set-order message, and what it sends.
 use Rattle.std.proofs.Common.{◌≡◌, ℕ, Bool, true, false, not, Some, None, refl}
 use Rattle.std.specs.Prelude.{◌&&◌, if◌then◌else◌}
 use Rattle.std.specs.Option.{option_map_or}
@@ -9,14 +9,14 @@ use Rattle.cast_delay.specs.Ready.{is_member}
 use Rattle.cast_view.specs.Home.{is_empty}
 use Rattle.cast_history.specs.State.{State, local}
 use Rattle.cast_history.specs.History.{history}
-use Rattle.cast_history.specs.Order.{order_of, unlisted, has_place}
+use Rattle.cast_history.specs.Order.{order_told, unlisted, has_place}
 use Rattle.cast_history.specs.Resting.{places_of}
 use Rattle.cast_history.specs.Effects.{sending}
 use Rattle.cast_history.specs.Rest.{set_order_by, let_go}
 use Rattle.cast_history.specs.Rules.Room.{may_order}
 use Rattle.cast_history.specs.Rules.Sending.{may_raise}
 
--- the holder is a member here and has ABCASTs to list, no flush has frozen the group, there is room for one more message and a place for
+-- it is a member here and has ABCASTs to list, no flush has frozen the group, there is room for one more message and a place for
 -- them, and its count may be raised
 abbrev pub may_set_order : State → GroupNo → ℕ → Bool
 may_set_order s g k =
@@ -24,7 +24,7 @@ may_set_order s g k =
     && (not (s.group g).frozen
     && (may_order history s
     && (not (is_empty (unlisted s g k))
-    && (has_place (order_of s g)
+    && (has_place (order_told s g)
     && may_raise (s.process k).time g (local s k)))))
 
 -- six tests, one after another
@@ -39,5 +39,5 @@ six_tests true true true true true false f q s = refl
 
 pub set_order_is : (s : State) (g : GroupNo) (k : ℕ) → set_order_by s g k ≡ (if may_set_order s g k then let_go (sending s g k (body.Order (places_of s g k))) else s)
 set_order_is s g k =
-    six_tests (is_member ((s.process k).standing g)) (not (s.group g).frozen) (may_order history s) (not (is_empty (unlisted s g k))) (has_place (order_of s g)) (may_raise (s.process k).time g (local s k))
+    six_tests (is_member ((s.process k).standing g)) (not (s.group g).frozen) (may_order history s) (not (is_empty (unlisted s g k))) (has_place (order_told s g)) (may_raise (s.process k).time g (local s k))
     (λ q. let_go (sending s g k (body.Order q))) (places_of s g k) s

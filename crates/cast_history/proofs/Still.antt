@@ -4,7 +4,6 @@ use Rattle.std.specs.Prelude.{◌&&◌, ◌||◌, if◌then◌else◌}
 use Rattle.std.specs.List.{fold, find, list_all, list_any}
 use Rattle.std.proofs.lemmas.Bool.{and_parts, or_left, or_right, not-true, false≢true}
 use Rattle.cast_types.specs.declared.names.GroupNo.{GroupNo}
-use Rattle.cast_types.specs.declared.names.Proc.{Proc}
 use Rattle.cast_types.specs.Names.{group_eq}
 use Rattle.cast_types.specs.Sets.{is_among}
 use Rattle.cast_types.specs.Repeat.{iterate}
@@ -14,10 +13,10 @@ use Rattle.cast_timer.specs.declared.key.OwedKey.{OwedKey}
 use Rattle.cast_timer.specs.declared.key.OwedKind.TheVariants.{Prepare, Install}
 use Rattle.cast_timer.specs.Owed.{is_owed}
 use Rattle.cast_view.specs.declared.member.Pending.{Pending}
-use Rattle.cast_view.specs.MemberSide.{holder_at}
 use Rattle.cast_view.specs.Home.{HomeMove, may_start, may_decide, awaited_of, waiting_of, moved}
 use Rattle.cast_view.specs.Home.HomeMove.{Started, Decided}
 use Rattle.cast_history.specs.State.{State, serials, set_home}
+use Rattle.cast_history.specs.Order.{holders}
 use Rattle.cast_history.specs.Turns.{is_ready_for}
 use Rattle.cast_history.specs.Reports.{has_delivered_cut, missing_in}
 use Rattle.cast_history.specs.History.{history}
@@ -79,12 +78,9 @@ none_delivered s k none =
 
 module _ (s : State) (g : GroupNo) (rests : IsGroupAtRest s g) where
   none_listed : set_order s g ≡ s
-  none_listed = elim (holder_at s.here (s.group g)) as (λ o. holder_at s.here (s.group g) ≡ o → elim o as (λ _. State) [ Some p ↦ set_order_by s g p.serial | None ↦ s ] ≡ s) [
-    | Some p ↦ λ is.
-        let t : State = let_go (sending s g p.serial (body.Order (places_of s g p.serial))) in
-        set_order_is s g p.serial ∙ ap (λ b. if b then t else s) (sym (may_set_is s g p.serial) ∙ rests.listed p is)
-    | None ↦ λ _. refl
-  ] refl
+  none_listed = still_over (λ t k. set_order_by t g k) (holders s g) s (λ k there.
+      let t : State = let_go (sending s g k (body.Order (places_of s g k))) in
+      set_order_is s g k ∙ ap (λ b. if b then t else s) (sym (may_set_is s g k) ∙ not-true (lists_some s g k) (in_all (λ j. not (lists_some s g j)) (holders s g) rests.listed k there)))
 
   none_completed : go_on history resting s g ≡ s
   none_completed = elim (s.group g).pending as (λ o. (s.group g).pending ≡ o → elim o as (λ _. State) [ Some p ↦ complete_or_want history resting s g p | None ↦ s ] ≡ s) [
@@ -135,13 +131,12 @@ of_home true false false lacked all home = (refl, refl, all)
 
 group_computed : (s : State) (g : GroupNo) → is_group_at_rest s g ≡ true → IsGroupAtRest s g
 group_computed s g is =
-    let lists : Option Proc → Bool = λ o. elim o [ Some p ↦ not (lists_some s g p.serial) | None ↦ true ] in
     let waiting : Option Pending → Bool =
     λ o. elim o [
       | Some p ↦ not (has_delivered_cut s g p.cut) && list_all (λ e. is_owed s.owed (own_want_key history s g e)) (missing_in s g p.cut)
       | None ↦ true
     ] in
-    let a = and_parts (lists (holder_at s.here (s.group g))) _ is in
+    let a = and_parts (list_all (λ k. not (lists_some s g k)) (holders s g)) _ is in
     let b = and_parts (waiting (s.group g).pending) _ a.1 in
     let pending : (p : Pending) → (s.group g).pending ≡ Some p → waiting (Some p) ≡ true = λ p at. sym (ap waiting at) ∙ b.0 in
     let parts : (p : Pending) → (s.group g).pending ≡ Some p → (not (has_delivered_cut s g p.cut) ≡ true) × (list_all (λ e. is_owed s.owed (own_want_key history s g e)) (missing_in s g p.cut) ≡ true) =
@@ -149,7 +144,7 @@ group_computed s g is =
     let led : is_home history s ≡ true → (may_start (s.home g) ≡ false) × (may_decide g (s.home g) ≡ false) × (list_all (λ w. is_owed s.owed (want_key g w)) (wants history s g) ≡ true) =
     of_home (is_home history s) (may_start (s.home g)) (may_decide g (s.home g)) (list_all (λ w. is_owed s.owed (want_key g w)) (wants history s g)) b.1 in
     record {
-      listed = λ p at. not-true (lists_some s g p.serial) (sym (ap lists at) ∙ a.0);
+      listed = a.0;
       waits = λ p at. not-true (has_delivered_cut s g p.cut) (parts p at).0;
       wanted = λ p at. (parts p at).1;
       started = λ home. (led home).0;

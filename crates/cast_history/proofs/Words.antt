@@ -1,5 +1,5 @@
 -- Short words for worked examples.
-use Rattle.std.specs.Prelude.{ℕ, List, [], ◌∷◌, Some, false, drop}
+use Rattle.std.specs.Prelude.{ℕ, List, [], ◌∷◌, Some, None, false, drop}
 use Rattle.cast_types.specs.declared.names.DomainNo.{DomainNo}
 use Rattle.cast_types.specs.declared.names.SiteNo.{SiteNo}
 use Rattle.cast_types.specs.declared.names.GroupNo.{GroupNo}
@@ -14,7 +14,7 @@ use Rattle.cast_message.specs.declared.site.SiteFrame.TheVariants as frame
 use Rattle.cast_message.specs.declared.client.Push.{Push}
 use Rattle.cast_message.specs.declared.client.CastKind.{CastKind}
 use Rattle.cast_message.specs.declared.client.CastKind.TheVariants as kind
-use Rattle.cast_message.specs.declared.client.Request.TheVariants.{Join, Leave, Cast}
+use Rattle.cast_message.specs.declared.client.Request.TheVariants.{Join, Leave, Cast, Pass}
 use Rattle.cast_message.specs.Membership.{Membership}
 use Rattle.cast_model.specs.declared.config.DomainConfig.{DomainConfig}
 use Rattle.cast_message.specs.declared.client.Command.TheVariants as command
@@ -52,6 +52,13 @@ config home sites groups = record { domain = domain; home = site home; sites = s
 abbrev pub alone : ℕ → ℕ → Proc → ℕ → Message
 alone g v p n = record { id = uid g v p n; times = at g v ((p, n) ∷ []) ∷ []; body = body.Causal [] }
 
+-- a set-order message that lists these from a place on, and one that hands the token over
+abbrev pub lists : Uid → List (GroupNo × Clock) → ℕ → List Entry → Message
+lists id times first ids = record { id = id; times = times; body = body.Order (record { first = first; ids = ids; holder = None }) }
+
+abbrev pub hands_over : Uid → List (GroupNo × Clock) → ℕ → Proc → Message
+hands_over id times first to = record { id = id; times = times; body = body.Order (record { first = first; ids = []; holder = Some to }) }
+
 abbrev pub opens : Event
 opens = event.Open domain
 
@@ -66,6 +73,9 @@ casts_as how k tag g payload = event.Command domain k (command.Request (Cast tag
 
 abbrev pub casts : ℕ → ℕ → ℕ → List ℕ → Event
 casts k tag g payload = casts_as kind.Causal k tag g payload
+
+abbrev pub passes : ℕ → ℕ → ℕ → Proc → Event
+passes k tag g to = event.Command domain k (command.Request (Pass tag (group g) to))
 
 abbrev pub sends_bad : ℕ → Event
 sends_bad k = event.Command domain k command.Bad

@@ -2,14 +2,13 @@
 use Rattle.std.specs.Prelude.{◌≡◌, ℕ, Bool, true, false, not, ◌&&◌, ◌||◌, is_some, Some, None}
 use Rattle.std.specs.List.{list_all, list_any}
 use Rattle.cast_types.specs.declared.names.GroupNo.{GroupNo}
-use Rattle.cast_types.specs.declared.names.Proc.{Proc}
 use Rattle.cast_timer.specs.Owed.{is_owed}
 use Rattle.cast_model.specs.declared.event.Event.{Event}
 use Rattle.cast_model.specs.declared.event.Taken.{Taken}
 use Rattle.cast_view.specs.declared.member.Pending.{Pending}
 use Rattle.cast_view.specs.Home.{may_start, may_decide}
-use Rattle.cast_view.specs.MemberSide.{holder_at}
 use Rattle.cast_history.specs.State.{State, is_group, local, serials}
+use Rattle.cast_history.specs.Order.{holders}
 use Rattle.cast_history.specs.Turns.{is_ready_for}
 use Rattle.cast_history.specs.Reports.{has_delivered_cut, missing_in}
 use Rattle.cast_history.specs.History.{history}
@@ -34,8 +33,8 @@ lists_some s g k =
 
 -- nothing is left to be done for a group of the configuration
 pub record IsGroupAtRest (s : State) (g : GroupNo) : Type 0 where
-  -- its holder has nothing to list that it may list, where it is a process of this site
-  pub listed : (p : Proc) → holder_at s.here (s.group g) ≡ Some p → lists_some s g p.serial ≡ false
+  -- no process of this site that holds the token of its view has anything to list that it may list
+  pub listed : list_all (λ k. not (lists_some s g k)) (holders s g) ≡ true
   -- an Install waits only for what some member here has not delivered, and what the site lacks of that is wanted
   pub waits : (p : Pending) → (s.group g).pending ≡ Some p → has_delivered_cut s g p.cut ≡ false
   pub wanted : (p : Pending) → (s.group g).pending ≡ Some p → list_all (λ e. is_owed s.owed (own_want_key history s g e)) (missing_in s g p.cut) ≡ true
@@ -62,7 +61,7 @@ QuietStays = (s : State) → IsAtRest s → pass s ≡ s
 
 abbrev pub is_group_at_rest : State → GroupNo → Bool
 is_group_at_rest s g =
-    elim (holder_at s.here (s.group g)) [ Some p ↦ not (lists_some s g p.serial) | None ↦ true ]
+    list_all (λ k. not (lists_some s g k)) (holders s g)
     && (elim (s.group g).pending [
       | Some p ↦ not (has_delivered_cut s g p.cut) && list_all (λ e. is_owed s.owed (own_want_key history s g e)) (missing_in s g p.cut)
       | None ↦ true

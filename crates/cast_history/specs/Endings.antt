@@ -11,7 +11,7 @@ use Rattle.cast_delay.specs.Ready.{has_delivered, covered}
 use Rattle.cast_view.specs.declared.phase.Phase.{Phase}
 use Rattle.cast_view.specs.declared.phase.Phase.TheVariants.{Idle, Gathering, Installing}
 use Rattle.cast_view.specs.Home.{Home, is_empty}
-use Rattle.cast_view.specs.MemberSide.{holder_at, is_pending}
+use Rattle.cast_view.specs.MemberSide.{is_pending}
 use Rattle.cast_timer.specs.Owed.{is_owed}
 use Rattle.cast_history.specs.Rules.Keys.{want_key}
 use Rattle.cast_history.specs.Rules.Home.{wants}
@@ -60,13 +60,9 @@ is_to_come s g k m = is_of_view s g m.id && (is_atomic (kind_of m.body) && not (
 abbrev pub to_list_by : State → GroupNo → ℕ → ℕ
 to_list_by s g k = length (unlisted s g k) + length (filter (is_to_come s g k) s.got)
 
--- how many the holder has, where it is a process of this site
-abbrev pub to_list_here : State → GroupNo → ℕ
-to_list_here s g = elim (holder_at s.here (s.group g)) [ Some p ↦ to_list_by s g p.serial | None ↦ 0 ]
-
--- of a frozen group it lists none
+-- how many all of them have: any may come to hold the token
 abbrev pub to_list_in : State → GroupNo → ℕ
-to_list_in s g = if (s.group g).frozen then 0 else to_list_here s g
+to_list_in s g = total (to_list_by s g) (serials s)
 
 abbrev pub to_list : State → ℕ
 to_list s = total (to_list_in s) s.config.groups

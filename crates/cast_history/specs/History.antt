@@ -8,6 +8,7 @@ use Rattle.cast_timer.specs.Owed.{is_owed, due_at}
 use Rattle.cast_view.specs.MemberSide.{with_request, with_answer}
 use Rattle.cast_view.specs.Home.{moved}
 use Rattle.cast_history.specs.State.{State, serials, is_group, set_group, set_home, set_standing, emitted, is_filled, pushing, local_members, receiving, noting_sent, awaits_own, is_received, held, message_of, others_of, is_stable, upto, noting_ack, noting_stable, releasing_ended, outside, closing, going, counting_cast}
+use Rattle.cast_history.specs.Order.{holds, place_to_pass}
 use Rattle.cast_history.specs.Owing.{noting_owed, noting_resent, paying, paying_upto, paying_view, at_moment}
 use Rattle.cast_history.specs.Entering.{freezing, pending_install, is_put_out, passing}
 use Rattle.cast_history.specs.Reports.{report_in}
@@ -38,6 +39,8 @@ history = record {
   standing = λ s k g. (s.process k).standing g;
   time = λ s k. (s.process k).time;
   awaits_own = awaits_own;
+  holds = holds;
+  place_to_pass = place_to_pass;
   is_owed = λ s key. is_owed s.owed key;
   due = λ s. due_at s.moment s.owed;
   is_gone = λ s k. is_gone (s.session k);

@@ -19,6 +19,8 @@ use Rattle.cast_model.specs.declared.event.Event.{Event}
 use Rattle.cast_model.specs.declared.event.Event.TheVariants as event
 use Rattle.cast_view.specs.declared.member.Pending.{Pending}
 use Rattle.cast_view.specs.MemberSide.{has_view}
+use Rattle.cast_history.specs.Acts.{Act}
+use Rattle.cast_history.specs.Acts.Act.{Sent, Delivered, Entered, Left}
 use Rattle.cast_history.specs.State.{State, was_given, is_group, may_speak}
 
 -- a message of a view that its group has reached; while that is the group's view, each local member has delivered it
@@ -33,12 +35,20 @@ AreKept spent [] kept = kept ≡ []
 AreKept spent (m ∷ got) kept =
     ((rest : List Message) × (kept ≡ m ∷ rest) × AreKept spent got rest) ⊎ (spent m × AreKept spent got kept)
 
+-- what a process did, it did with a message of a view that its group has reached
+abbrev pub IsOfReached : State → Act → Type 0
+IsOfReached s (Sent m) = m.id.view ≤ (s.group m.id.group).number
+IsOfReached s (Delivered m) = m.id.view ≤ (s.group m.id.group).number
+IsOfReached s (Entered g view cut) = Unit {0}
+IsOfReached s (Left g) = Unit {0}
+
 -- messages are of views that their groups have reached, and while that is the group's view, of processes that may speak in it;
--- the ABCASTs that processes noted are of such views too, and they delivered them
+-- what processes did, and the ABCASTs that they noted, are of such views too, and they delivered those
 pub record IsTraced (s : State) : Type 0 where
   pub reached : (m : Message) → Contains s.got m → m.id.view ≤ (s.group m.id.group).number
   pub spoken : (m : Message) → Contains s.got m → m.id.view ≡ (s.group m.id.group).number → may_speak s m.id.group m.id.proc ≡ true
   pub delivered : (k : ℕ) (u : Uid) → is_among uid_eq u (s.abcasts k) ≡ true → has_delivered (s.process k) u ≡ true
+  pub acted : (k : ℕ) (a : Act) → Contains (s.acts k) a → IsOfReached s a
   pub seen : (k : ℕ) (u : Uid) → is_among uid_eq u (s.abcasts k) ≡ true → u.view ≤ (s.group u.group).number
 
 -- an Install that waits has the members of a view, and waits in a group that a flush has frozen

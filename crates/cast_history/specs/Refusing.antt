@@ -2,7 +2,7 @@
 use Rattle.std.specs.Prelude.{◌≡◌, ℕ, true, Some}
 use Rattle.cast_types.specs.declared.refusal.Refusal.{Refusal}
 use Rattle.cast_message.specs.declared.client.Request.{Request}
-use Rattle.cast_message.specs.declared.client.Request.TheVariants.{Join, Leave, Cast}
+use Rattle.cast_message.specs.declared.client.Request.TheVariants.{Join, Leave, Cast, Pass}
 use Rattle.cast_message.specs.Replies.{reply_to}
 use Rattle.cast_model.specs.declared.event.Event.{Event}
 use Rattle.cast_model.specs.declared.event.Event.TheVariants as event
@@ -13,7 +13,7 @@ use Rattle.cast_types.specs.declared.names.DomainNo.{DomainNo}
 use Rattle.cast_history.specs.State.{State}
 use Rattle.cast_history.specs.History.{history}
 use Rattle.cast_history.specs.Step.{acted, answered}
-use Rattle.cast_history.specs.Rules.Commands.{join, leave, cast}
+use Rattle.cast_history.specs.Rules.Commands.{join, leave, cast, pass_token}
 use Rattle.cast_history.specs.Rules.Leaving.{Attempt, tell}
 
 -- what a request leads to before its program is told, and why it is refused, if it is
@@ -21,6 +21,7 @@ abbrev pub attempt : State → ℕ → Request → Attempt State
 attempt s k (Join tag g) = join history s k g
 attempt s k (Leave tag g) = leave history s k g
 attempt s k (Cast tag g kind payload) = cast history s k g kind payload
+attempt s k (Pass tag g to) = pass_token history s k g to
 
 -- an event that is refused leaves the state as it was
 abbrev pub RefusedLeaves : Type 0

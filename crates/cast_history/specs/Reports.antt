@@ -15,9 +15,9 @@ use Rattle.cast_message.specs.Keeping.{KeptList}
 use Rattle.cast_delay.specs.Ready.{has_delivered, covered}
 use Rattle.cast_order.specs.Order.{tail_start, tail_ids}
 use Rattle.cast_flush.specs.declared.report.Report.{Report}
-use Rattle.cast_view.specs.MemberSide.{holder_at, report_of}
+use Rattle.cast_view.specs.MemberSide.{report_of}
 use Rattle.cast_history.specs.State.{State, serials, is_received, local_members}
-use Rattle.cast_history.specs.Order.{is_of_view, order_told, unlisted}
+use Rattle.cast_history.specs.Order.{is_of_view, order_told, holder_here, unlisted}
 
 -- Reports
 
@@ -29,9 +29,9 @@ had_here s =
 abbrev pub had_in : State → GroupNo → List Entry
 had_in s g = map entry_of (filter (is_of_view s g) (had_here s))
 
--- the ABCASTs that the holder of the view has still to list, where it is a process of this site, also one that left
+-- the ABCASTs that who holds the token has still to list, where it is a process of this site, also one that left
 abbrev pub unlisted_here : State → GroupNo → List Entry
-unlisted_here s g = option_map_or (λ p. unlisted s g p.serial) (holder_at s.here (s.group g)) []
+unlisted_here s g = option_map_or (unlisted s g) (holder_here s g) []
 
 -- the order of the view, and behind it those
 abbrev pub whole_order : State → GroupNo → List Entry

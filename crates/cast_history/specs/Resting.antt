@@ -7,20 +7,20 @@ use Rattle.cast_order.specs.Order.{ids_to_list, place_after}
 use Rattle.cast_view.specs.Home.{is_empty}
 use Rattle.cast_view.specs.MemberSide.{is_open_to}
 use Rattle.cast_history.specs.State.{State, serials, is_delivered, with_delivery, releasing}
-use Rattle.cast_history.specs.Order.{order_of, unlisted, has_place}
+use Rattle.cast_history.specs.Order.{order_told, unlisted, has_place, holders}
 use Rattle.cast_history.specs.Turns.{is_ready_for}
 use Rattle.cast_history.specs.Reports.{has_delivered_cut, missing_in}
 use Rattle.cast_history.specs.Rules.Interface.{Resting}
 
--- a process of this site lists the first of the ABCASTs that it has to list, at the places after the known order
+-- a process of this site lists the first of the ABCASTs that it has to list, at the places after the order told
 abbrev pub places_of : State → GroupNo → ℕ → Sequence
-places_of s g k = record { first = place_after (order_of s g); ids = ids_to_list (unlisted s g k) }
+places_of s g k = record { first = place_after (order_told s g); ids = ids_to_list (unlisted s g k); holder = None }
 
 -- where there are some, and a place for them
 abbrev pub next_places : State → GroupNo → ℕ → Option Sequence
-next_places s g k = if not (is_empty (unlisted s g k)) && has_place (order_of s g) then Some (places_of s g k) else None
+next_places s g k = if not (is_empty (unlisted s g k)) && has_place (order_told s g) then Some (places_of s g k) else None
 
--- what a process listed is read from the messages that it sent; it delivers no message twice
+-- it delivers no message twice
 abbrev pub resting : Resting State GroupNo
 resting = record {
   serials = serials;
@@ -30,8 +30,8 @@ resting = record {
   is_delivered = is_delivered;
   has_cut = has_delivered_cut;
   missing = missing_in;
+  holders = holders;
   next_places = next_places;
   note_delivered = with_delivery;
-  note_listed = λ s g k. s;
   release = releasing;
 }

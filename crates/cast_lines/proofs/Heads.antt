@@ -2,7 +2,7 @@
 use Rattle.std.proofs.Common.{◌≡◌, ◌≢◌, ℕ, List, Ok, Err, refl}
 use Rattle.cast_words.specs.declared.words.Reason.TheVariants.{UnknownWord}
 use Rattle.cast_lines.specs.declared.lines.Head.{Head}
-use Rattle.cast_lines.specs.declared.lines.Head.TheVariants.{Site, Domain, Open, Join, Leave, Cast, Abcast, Bad, Gone, Frame, Suspect, Quota, Take, Tick}
+use Rattle.cast_lines.specs.declared.lines.Head.TheVariants.{Site, Domain, Open, Join, Leave, Cast, Abcast, Pass, Bad, Gone, Frame, Suspect, Quota, Take, Tick}
 use Rattle.cast_lines.specs.Lines.{head_text}
 use Rattle.cast_lines.specs.Readings.{head_of, heads}
 use Rattle.cast_words.proofs.Named.{among_is, none_among}
@@ -20,6 +20,7 @@ head_again Join = refl
 head_again Leave = refl
 head_again Cast = refl
 head_again Abcast = refl
+head_again Pass = refl
 head_again Bad = refl
 head_again Gone = refl
 head_again Frame = refl

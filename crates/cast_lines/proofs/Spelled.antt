@@ -25,17 +25,18 @@ use Rattle.cast_model.specs.declared.event.Event.TheVariants as event
 use Rattle.cast_words.specs.declared.words.Reason.{Reason}
 use Rattle.cast_words.specs.declared.words.Reason.TheVariants.{Order, WrongCount}
 use Rattle.cast_lines.specs.declared.lines.Head.{Head}
-use Rattle.cast_lines.specs.declared.lines.Head.TheVariants.{Site, Domain, Open, Join, Leave, Cast, Abcast, Bad, Gone, Frame, Suspect, Quota, Take, Tick}
+use Rattle.cast_lines.specs.declared.lines.Head.TheVariants.{Site, Domain, Open, Join, Leave, Cast, Abcast, Pass, Bad, Gone, Frame, Suspect, Quota, Take, Tick}
 use Rattle.cast_lines.specs.declared.lines.DomainOrEvent.{DomainOrEvent}
 use Rattle.cast_lines.specs.declared.lines.DomainOrEvent.TheVariants as said
 use Rattle.cast_lines.specs.Lines.{IsDomainAt, SpellsDomain, SpellsEvent, SpellsSite, cast_text, head_text, AreNumbers}
 use Rattle.cast_words.specs.Words.{IsSite, SpellsBytes, is_configured, parted, place_texts, quota_texts}
-use Rattle.cast_lines.specs.Readings.{bad_words, behind_first, cast_words, domain_or_event_behind, domain_parts, domain_words, event_behind, first_event, frame_words, framed, gone_words, head_of, join_words, leave_words, next_domain, open_words, quota_event_words, request_parts, requested, site_behind, site_words, suspect_words, take_words, tick_words}
-use Rattle.cast_words.specs.Readings.{◌>>=◌, bytes_of, domain_of, list_words, number_of, number_within, place_words, quota_name_of, quota_words, group_of, site_of}
+use Rattle.cast_lines.specs.Readings.{bad_words, behind_first, cast_words, domain_or_event_behind, domain_parts, domain_words, event_behind, first_event, frame_words, framed, gone_words, head_of, join_words, leave_words, next_domain, open_words, pass_words, quota_event_words, request_parts, requested, site_behind, site_words, suspect_words, take_words, tick_words}
+use Rattle.cast_words.specs.Readings.{◌>>=◌, bytes_of, domain_of, list_words, number_of, number_within, place_words, proc_of, quota_name_of, quota_words, group_of, site_of}
 use Rattle.cast_words.proofs.Results.{bind_ok, made_ok, ok_is, pass_ok}
 use Rattle.cast_words.proofs.Numbers.{limited_is, limited_again, number_is, number_again}
 use Rattle.cast_lines.proofs.Heads.{head_is, head_again}
 use Rattle.cast_words.proofs.Parts.{bytes_is, bytes_again, domain_is, domain_again, lists_is, lists_again, place_is, place_again, quota_name_is, quota_name_again, quotas_is, quotas_again, site_is, site_again, group_is, group_again}
+use Rattle.cast_words.proofs.Processes.{proc_is, proc_again}
 use Rattle.cast_types.specs.declared.names.GroupNo.{GroupNo}
 use Rattle.cast_lines.specs.declared.events.RequestParts.{RequestParts}
 
@@ -201,6 +202,16 @@ cast_is how (d ∷ k ∷ t ∷ g ∷ x ∷ []) e h =
     (x, cc (are.domain, are.serial, are.tag, are.group), are.numbers, bytes_is x bytes read))
 cast_is how ws e h = absurd cc
 
+pass_is : (ws : List (List ℕ)) (e : Event) → pass_words ws ≡ Ok e → SpellsEvent (codes "pass" ∷ ws) e
+unfolding pass_words
+pass_is (d ∷ k ∷ t ∷ g ∷ x ∷ []) e h =
+    let p = bind_ok (request_parts d k t g) _ e h in
+    let are = parts_is d k t g p.0 p.1 in
+    made_ok (proc_of x) (λ to. requested p.0 (request.Pass p.0.tag p.0.group to)) (SpellsEvent (codes "pass" ∷ d ∷ k ∷ t ∷ g ∷ x ∷ [])) e p.2 (λ to read.
+    let is = proc_is x to read in
+    (cc (are.domain, are.serial, are.tag, are.group, is.0), are.numbers, is.1))
+pass_is ws e h = absurd cc
+
 bad_is : (ws : List (List ℕ)) (e : Event) → bad_words ws ≡ Ok e → SpellsEvent (codes "bad" ∷ ws) e
 unfolding bad_words
 bad_is (w ∷ k ∷ []) e h =
@@ -290,6 +301,7 @@ event_behind_is Join ws e h = join_is ws e h
 event_behind_is Leave ws e h = leave_is ws e h
 event_behind_is Cast ws e h = cast_is kind.Causal ws e h
 event_behind_is Abcast ws e h = cast_is kind.Atomic ws e h
+event_behind_is Pass ws e h = pass_is ws e h
 event_behind_is Bad ws e h = bad_is ws e h
 event_behind_is Gone ws e h = gone_is ws e h
 event_behind_is Frame ws e h = frame_is ws e h
@@ -306,13 +318,15 @@ event_line_is (first ∷ ws) e h =
     subst (λ w. SpellsEvent (w ∷ ws) e) (sym (head_is first head.0 head.1)) (event_behind_is head.0 ws e head.2)
 
 request_again : (d : DomainNo) (k : ℕ) (ws : List (List ℕ)) (r : Request) → SpellsEvent ws (event.Command d k (command.Request r)) → behind_first event_behind ws ≡ Ok (event.Command d k (command.Request r))
-unfolding behind_first event_behind join_words leave_words cast_words
+unfolding behind_first event_behind join_words leave_words cast_words pass_words
 request_again d k ws (request.Join t g) (words, are) = rw (words, head_again Join, parts_again d k t g are) refl
 request_again d k ws (request.Leave t g) (words, are) = rw (words, head_again Leave, parts_again d k t g are) refl
 request_again d k ws (request.Cast t g kind.Causal bytes) (hex, words, are, spells) =
     rw (words, head_again Cast, parts_again d k t g are, bytes_again hex bytes spells) refl
 request_again d k ws (request.Cast t g kind.Atomic bytes) (hex, words, are, spells) =
     rw (words, head_again Abcast, parts_again d k t g are, bytes_again hex bytes spells) refl
+request_again d k ws (request.Pass t g to) (words, are, is) =
+    rw (words, head_again Pass, parts_again d k t g are, proc_again to is) refl
 
 pub event_line_again : (ws : List (List ℕ)) (e : Event) → SpellsEvent ws e → behind_first event_behind ws ≡ Ok e
 unfolding behind_first event_behind open_words bad_words gone_words frame_words suspect_words quota_event_words take_words tick_words

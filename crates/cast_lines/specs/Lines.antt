@@ -15,9 +15,9 @@ use Rattle.cast_model.specs.declared.event.Event.TheVariants as event
 use Rattle.cast_types.specs.declared.names.SiteNo.{SiteNo}
 use Rattle.cast_types.specs.declared.names.GroupNo.{GroupNo}
 use Rattle.cast_lines.specs.declared.lines.Head.{Head}
-use Rattle.cast_lines.specs.declared.lines.Head.TheVariants.{Site, Domain, Open, Join, Leave, Cast, Abcast, Bad, Gone, Frame, Suspect, Quota, Take, Tick}
+use Rattle.cast_lines.specs.declared.lines.Head.TheVariants.{Site, Domain, Open, Join, Leave, Cast, Abcast, Pass, Bad, Gone, Frame, Suspect, Quota, Take, Tick}
 use Rattle.cast_model.specs.declared.config.DomainConfig.{DomainConfig}
-use Rattle.cast_words.specs.Words.{sites_rise, groups_rise, IsBetween, IsDomain, IsSite, IsGroup, IsNumber, AreWithinLimits, parted, SpellsBytes, place_texts, SpellsLists, quota_name_text, quota_texts}
+use Rattle.cast_words.specs.Words.{sites_rise, groups_rise, IsBetween, IsDomain, IsSite, IsGroup, IsNumber, IsProc, AreWithinLimits, parted, proc_text, SpellsBytes, place_texts, SpellsLists, quota_name_text, quota_texts}
 
 -- a domain within its limits, at this site
 pub record IsDomainAt (own : SiteNo) (d : DomainConfig) : Type 0 where
@@ -45,6 +45,7 @@ head_text Join = codes "join"
 head_text Leave = codes "leave"
 head_text Cast = codes "cast"
 head_text Abcast = codes "abcast"
+head_text Pass = codes "pass"
 head_text Bad = codes "bad"
 head_text Gone = codes "gone"
 head_text Frame = codes "frame"
@@ -92,6 +93,8 @@ SpellsRequest d serial ws (request.Cast tag group how payload) =
     × (ws ≡ cast_text how ∷ (request_texts d serial tag group ++ hex ∷ []))
     × AreNumbers d serial tag group
     × SpellsBytes hex payload
+SpellsRequest d serial ws (request.Pass tag group to) =
+    (ws ≡ codes "pass" ∷ (request_texts d serial tag group ++ proc_text to ∷ [])) × AreNumbers d serial tag group × IsProc to
 
 -- the words of a line spell an event
 abbrev pub SpellsEvent : List (List ℕ) → Event → Type 0

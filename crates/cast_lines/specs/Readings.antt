@@ -16,15 +16,15 @@ use Rattle.cast_model.specs.declared.event.Event.TheVariants as event
 use Rattle.cast_words.specs.declared.words.Reason.{Reason}
 use Rattle.cast_words.specs.declared.words.Reason.TheVariants.{UnknownWord, WrongCount, BadFrame, Order}
 use Rattle.cast_lines.specs.declared.lines.Head.{Head}
-use Rattle.cast_lines.specs.declared.lines.Head.TheVariants.{Site, Domain, Open, Join, Leave, Cast, Abcast, Bad, Gone, Frame, Suspect, Quota, Take, Tick}
+use Rattle.cast_lines.specs.declared.lines.Head.TheVariants.{Site, Domain, Open, Join, Leave, Cast, Abcast, Pass, Bad, Gone, Frame, Suspect, Quota, Take, Tick}
 use Rattle.cast_lines.specs.declared.lines.DomainOrEvent.{DomainOrEvent}
 use Rattle.cast_lines.specs.declared.lines.DomainOrEvent.TheVariants as said
 use Rattle.cast_lines.specs.declared.events.RequestParts.{RequestParts}
 use Rattle.cast_lines.specs.Lines.{head_text, words_of}
-use Rattle.cast_words.specs.Readings.{◌>>=◌, named_among, number_of, number_within, domain_of, site_of, group_of, quota_name_of, bytes_of, place_words, list_words, quota_words}
+use Rattle.cast_words.specs.Readings.{◌>>=◌, named_among, number_of, number_within, domain_of, site_of, group_of, proc_of, quota_name_of, bytes_of, place_words, list_words, quota_words}
 
 abbrev pub heads : List Head
-heads = Site ∷ Domain ∷ Open ∷ Join ∷ Leave ∷ Cast ∷ Abcast ∷ Bad ∷ Gone ∷ Frame ∷ Suspect ∷ Quota ∷ Take ∷ Tick ∷ []
+heads = Site ∷ Domain ∷ Open ∷ Join ∷ Leave ∷ Cast ∷ Abcast ∷ Pass ∷ Bad ∷ Gone ∷ Frame ∷ Suspect ∷ Quota ∷ Take ∷ Tick ∷ []
 
 -- what the first word of a line says that the line is about
 unfoldable pub head_of : List ℕ → Result Head Reason
@@ -106,6 +106,14 @@ cast_words how (domain ∷ serial ∷ tag ∷ group ∷ hex ∷ []) = do
   Ok (requested parts (request.Cast parts.tag parts.group how payload))
 cast_words how words = Err WrongCount
 
+-- `pass D K TAG G P`
+unfoldable pub pass_words : List (List ℕ) → Result Event Reason
+pass_words (domain ∷ serial ∷ tag ∷ group ∷ to ∷ []) = do
+  parts ← request_parts domain serial tag group
+  p ← proc_of to
+  Ok (requested parts (request.Pass parts.tag parts.group p))
+pass_words words = Err WrongCount
+
 -- `bad D K`
 unfoldable pub bad_words : List (List ℕ) → Result Event Reason
 bad_words (domain ∷ serial ∷ []) = do
@@ -174,6 +182,7 @@ event_behind Join words = join_words words
 event_behind Leave words = leave_words words
 event_behind Cast words = cast_words kind.Causal words
 event_behind Abcast words = cast_words kind.Atomic words
+event_behind Pass words = pass_words words
 event_behind Bad words = bad_words words
 event_behind Gone words = gone_words words
 event_behind Frame words = frame_words words

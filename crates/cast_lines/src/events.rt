@@ -1,7 +1,7 @@
 ghost use Rattle.std.specs.Prelude.{◌≡◌};
 ghost use Rattle.cast_words.specs.Words.{texts};
 ghost use Rattle.cast_words.specs.Readings.{Gives};
-ghost use Rattle.cast_lines.specs.Readings.{bad_words, cast_words, frame_words, gone_words, join_words, leave_words, open_words, quota_event_words, request_parts, requested, suspect_words, take_words, tick_words};
+ghost use Rattle.cast_lines.specs.Readings.{bad_words, cast_words, frame_words, gone_words, join_words, leave_words, open_words, pass_words, quota_event_words, request_parts, requested, suspect_words, take_words, tick_words};
 
 use bytes::Bytes;
 use cast_frame::{FrameFault, decode_site};
@@ -9,8 +9,8 @@ use cast_message::{CastKind, Command, Request};
 use cast_model::Event;
 use cast_types::{DomainNo, GroupNo};
 use cast_words::{
-    LineFault, Reason, bytes_word, domain_word, group_word, long_number, number, quota_name_word,
-    site_word,
+    LineFault, Reason, bytes_word, domain_word, group_word, long_number, number, proc_word,
+    quota_name_word, site_word,
 };
 use std::alloc::Global;
 
@@ -91,6 +91,22 @@ pub fn cast(alloc: Global, words: &[&str], kind: CastKind) -> Result<Event, Line
         group: parts.group,
         kind,
         payload: Bytes::from_vec(bytes_word(alloc, payload)?)?,
+    }))
+}
+
+/// `pass D K TAG G P`, from the second word on
+#[tactic(auto, unfolding(crate::specs::Readings::pass_words))]
+pub fn pass(words: &[&str]) -> Result<Event, Reason>
+    ensures { result ≡ pass_words (texts words.now) }
+{
+    let [domain, serial, tag, group, to] = words else {
+        return Err(Reason::WrongCount);
+    };
+    let parts = request_parts(domain, serial, tag, group)?;
+    Ok(parts.event(Request::Pass {
+        tag: parts.tag,
+        group: parts.group,
+        to: proc_word(to)?,
     }))
 }
 

@@ -4,7 +4,9 @@ ghost use Rattle.cast_words.specs.Readings.{Gives};
 ghost use Rattle.cast_lines.specs.Lines.{words_of};
 ghost use Rattle.cast_lines.specs.Readings.{domain_or_event, domain_words, event_behind, event_line, first_event, head_of, next_domain, site_line, site_words};
 
-use crate::events::{bad, cast, frame_event, gone, join, leave, open, quota, suspect, take, tick};
+use crate::events::{
+    bad, cast, frame_event, gone, join, leave, open, pass, quota, suspect, take, tick,
+};
 use cast_message::CastKind;
 use cast_model::{DomainConfig, Event};
 use cast_types::limits::MAX_DOMAINS;
@@ -22,6 +24,7 @@ enum Head {
     Leave,
     Cast,
     Abcast,
+    Pass,
     Bad,
     Gone,
     Frame,
@@ -57,6 +60,7 @@ fn head_of(word: &str) -> Result<Head, Reason>
         "leave" => Ok(Head::Leave),
         "cast" => Ok(Head::Cast),
         "abcast" => Ok(Head::Abcast),
+        "pass" => Ok(Head::Pass),
         "bad" => Ok(Head::Bad),
         "gone" => Ok(Head::Gone),
         "frame" => Ok(Head::Frame),
@@ -194,6 +198,7 @@ fn event_words(alloc: Global, words: &[&str], head: Head) -> Result<Event, LineF
         Head::Leave => Ok(leave(words)?),
         Head::Cast => cast(alloc, words, CastKind::Causal),
         Head::Abcast => cast(alloc, words, CastKind::Atomic),
+        Head::Pass => Ok(pass(words)?),
         Head::Bad => Ok(bad(words)?),
         Head::Gone => Ok(gone(words)?),
         Head::Frame => frame_event(alloc, words),

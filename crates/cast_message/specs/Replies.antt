@@ -3,7 +3,7 @@ use Rattle.std.specs.Prelude.{ℕ, Option, Some, None}
 use Rattle.cast_types.specs.declared.refusal.Refusal.{Refusal}
 use Rattle.cast_types.specs.Refusals.{refusal_code}
 use Rattle.cast_message.specs.declared.client.Request.{Request}
-use Rattle.cast_message.specs.declared.client.Request.TheVariants.{Join, Leave, Cast}
+use Rattle.cast_message.specs.declared.client.Request.TheVariants.{Join, Leave, Cast, Pass}
 use Rattle.cast_message.specs.declared.client.Push.{Push}
 use Rattle.cast_message.specs.declared.client.Push.TheVariants.{Reply}
 
@@ -16,6 +16,7 @@ abbrev pub tag_of : Request → ℕ
 tag_of (Join tag group) = tag
 tag_of (Leave tag group) = tag
 tag_of (Cast tag group kind payload) = tag
+tag_of (Pass tag group to) = tag
 
 -- it bears the request's tag, and why the request is refused, if it is
 abbrev pub reply_to : Request → Option Refusal → Push

@@ -45,6 +45,15 @@ pub enum Request {
         /// What is sent.
         payload: Bytes,
     },
+    /// Hand over the token of the group's view.
+    Pass {
+        /// Any number.
+        tag: u32,
+        /// The group of the view.
+        group: GroupNo,
+        /// The process that is to hold the token.
+        to: Proc,
+    },
 }
 
 impl Request {
@@ -56,7 +65,7 @@ impl Request {
         ensures { result ≡ request_fits self.now }
     {
         match self {
-            Request::Join { .. } | Request::Leave { .. } => true,
+            Request::Join { .. } | Request::Leave { .. } | Request::Pass { .. } => true,
             Request::Cast { payload, .. } => payload.len() <= MAX_CAST,
         }
     }
@@ -66,9 +75,10 @@ impl Request {
         ensures { result ≡ tag_of self.now }
     {
         match self {
-            Request::Join { tag, .. } | Request::Leave { tag, .. } | Request::Cast { tag, .. } => {
-                *tag
-            }
+            Request::Join { tag, .. }
+            | Request::Leave { tag, .. }
+            | Request::Cast { tag, .. }
+            | Request::Pass { tag, .. } => *tag,
         }
     }
 

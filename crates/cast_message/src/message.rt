@@ -2,7 +2,7 @@ ghost use Rattle.std.specs.Prelude.{◌≡◌, IfOk};
 
 use crate::payload::Payload;
 use crate::placement::Placement;
-use cast_types::{Key, Kind, NoMemory, Stamp, Uid};
+use cast_types::{Key, Kind, NoMemory, Proc, Stamp, Uid};
 
 /// What a message holds, by its kind.
 #[derive(Drop)]
@@ -11,12 +11,12 @@ pub enum Body {
     Causal(Payload),
     /// The payload of an atomic message.
     Atomic(Payload),
-    /// The places that a message sets in the order of its view.
+    /// The places that a message sets in the order of its view. It may hand over the token of the view too.
     Order(Placement),
 }
 
 impl Body {
-    ghost use Rattle.cast_message.specs.Bodies.{kind_of};
+    ghost use Rattle.cast_message.specs.Bodies.{hands_over, kind_of, new_holder};
 
     /// The kind of the message.
     pub fn kind(&self) -> Kind
@@ -27,6 +27,23 @@ impl Body {
             Body::Atomic(_) => Kind::Atomic,
             Body::Order(_) => Kind::Order,
         }
+    }
+
+    /// The process to which the message hands over the token of its view, if it does.
+    pub fn new_holder(&self) -> Option<Proc>
+        ensures { result ≡ new_holder self.now }
+    {
+        match self {
+            Body::Causal(_) | Body::Atomic(_) => None,
+            Body::Order(placement) => placement.holder(),
+        }
+    }
+
+    /// Whether the message hands over the token of its view.
+    pub fn hands_over(&self) -> bool
+        ensures { result ≡ hands_over self.now }
+    {
+        self.new_holder().is_some()
     }
 
     /// An equal value.

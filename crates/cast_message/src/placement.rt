@@ -5,11 +5,13 @@ use cast_types::{NoMemory, Proc};
 use std::marker::Model;
 
 /// Places of a view's order: the first of them, 1 to 4,000,000,000, and the ids that stand at it and at those after it,
-/// 1 to 64, each a process and a count. Contracts see a `Sequence`.
+/// 1 to 64, each a process and a count. They may hand over the token of the view: then they name the process that holds
+/// it from the first place on, and there may be no ids. Contracts see a `Sequence`.
 #[derive(Drop)]
 pub struct Placement {
     first: u32,
     ids: Vec<(Proc, u32)>,
+    holder: Option<Proc>,
 }
 
 impl Model for Placement {
@@ -18,18 +20,18 @@ impl Model for Placement {
 
     ghost Value = { Sequence };
 
-    ghost view = { λ p. record { first = p.first; ids = p.ids.items } };
+    ghost view = { λ p. record { first = p.first; ids = p.ids.items; holder = p.holder } };
 
-    ghost invariant = { λ p. IsTrue (is_sequence (record { first = p.first; ids = p.ids.items })) };
+    ghost invariant = { λ p. IsTrue (is_sequence (record { first = p.first; ids = p.ids.items; holder = p.holder })) };
 }
 
 impl Placement {
-    /// These ids, from this place on.
-    pub fn from_parts(first: u32, ids: Vec<(Proc, u32)>) -> Self
-        requires { IsTrue (is_sequence (record { first = first; ids = ids.items })) }
-        ensures { result ≡ record { first = first; ids = ids.items } }
+    /// These ids, from this place on, and the process to which the token is handed over, if it is.
+    pub fn from_parts(first: u32, ids: Vec<(Proc, u32)>, holder: Option<Proc>) -> Self
+        requires { IsTrue (is_sequence (record { first = first; ids = ids.items; holder = holder })) }
+        ensures { result ≡ record { first = first; ids = ids.items; holder = holder } }
     {
-        Placement { first, ids }
+        Placement { first, ids, holder }
     }
 
     /// The place of the first id, 1 to 4,000,000,000.
@@ -40,12 +42,20 @@ impl Placement {
         self.first
     }
 
-    /// The ids in their order, 1 to 64.
+    /// The ids in their order, at most 64; where the token is not handed over, at least one.
     pub fn ids(&self) -> &[(Proc, u32)]
         ensures value { result.now ≡ self.now.ids }
         ensures valid { IsTrue (is_sequence self.now) }
     {
         &self.ids
+    }
+
+    /// The process to which the token is handed over, if it is: it holds the token from the first place on.
+    pub fn holder(&self) -> Option<Proc>
+        ensures value { result ≡ self.now.holder }
+        ensures valid { IsTrue (is_sequence self.now) }
+    {
+        self.holder
     }
 
     /// An equal value.
@@ -55,6 +65,7 @@ impl Placement {
         Ok(Placement {
             first: self.first,
             ids: Vec::from_slice(*self.ids.allocator(), &self.ids)?,
+            holder: self.holder,
         })
     }
 }

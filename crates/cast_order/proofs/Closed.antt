@@ -13,7 +13,7 @@ use Rattle.cast_types.specs.Names.{Entry, proc_cmp}
 use Rattle.cast_types.proofs.Orders.{proc_exact, tie_same}
 use Rattle.cast_order.specs.Order.{known_order, closed_order}
 use Rattle.cast_order.specs.Log.{Log, place_of, next_in, passed, closed_by}
-use Rattle.cast_order.specs.Laws.{CloseEndsTheOrder, ClosedLearnsNothing, PassKeepsClosed, MoreKeepsClosed, TellKeepsClosed, NextIsOfTheClosed}
+use Rattle.cast_order.specs.Laws.{CloseEndsTheOrder, ClosedLearnsNothing, PassKeepsClosed, MoreKeepsClosed, HandKeepsClosed, NextIsOfTheClosed}
 use Rattle.cast_order.proofs.Lists.{none_fails, none_fails_more, none_kept, take_on, none_first}
 use Rattle.cast_order.proofs.Meanings.{taken_in, at_place}
 
@@ -37,7 +37,7 @@ closed_parts w order ids base start =
     ]
 
 pub close_fits : CloseEndsTheOrder
-close_fits facts delivered listed goes_on has_passed stable l fits w start ids =
+close_fits facts goes_on has_passed l fits w start ids =
     let known : List Entry = known_order facts in
     let base : ℕ = min l.base start in
     let front : List Entry = filter w (take base known) in
@@ -100,8 +100,8 @@ closed_more order goes_on has_passed l fits goes_now has_now fewer more = record
   passed = λ p on. none_fails_more (has_passed p) (has_now p) (more p) (fits.front ++ take (place_of l p - l.base) l.window) (fits.passed p (fewer p on));
 }
 
-pub closed_tell : TellKeepsClosed
-closed_tell order goes_on has_passed l fits e = record {
+pub closed_hand : HandKeepsClosed
+closed_hand order goes_on has_passed l fits p f = record {
   front = fits.front;
   whole = fits.whole;
   closed = fits.closed;

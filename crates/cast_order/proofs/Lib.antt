@@ -1,7 +1,7 @@
 pub mod Lists
 pub mod Told
-pub mod Once
 pub mod Meanings
 pub mod Closed
 pub mod Logs
+pub mod Hands
 pub mod Steps

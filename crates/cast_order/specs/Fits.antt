@@ -1,27 +1,18 @@
--- What is kept of a group's order means: what was told of it, what the holder here delivered and listed, and what local
--- processes delivered.
+-- What is kept of a group's order means: what was told of it, and what local processes delivered.
 use Rattle.std.specs.Prelude.{◌≡◌, ℕ, ◌-◌, ◌<◌, ◌≤◌, Bool, true, false, not, List, ◌++◌, length, take, drop, None}
 use Rattle.std.specs.List.{find}
 use Rattle.cast_types.specs.declared.limits.TheConstants.{MAX_TAIL, MAX_POSITION}
 use Rattle.cast_types.specs.declared.names.Proc.{Proc}
-use Rattle.cast_types.specs.Names.{Entry, entry_eq}
-use Rattle.cast_types.specs.Sets.{is_among}
-use Rattle.cast_order.specs.Order.{Facts, id_at, known_order, Listing, listed_ids, listed_beyond, still_to_list, is_distinct}
-use Rattle.cast_order.specs.Log.{Log, length_of, place_of, ids_above}
+use Rattle.cast_types.specs.Names.{Entry}
+use Rattle.cast_order.specs.Order.{Facts, id_at, known_order}
+use Rattle.cast_order.specs.Log.{Log, length_of, place_of}
 
--- the log tells of these facts; of these ABCASTs that the holder here delivered in the view, in its order; of these
--- set-order messages of its, of which those up to a count were stable when the last one was made; and of what each
--- local process that goes on through the order delivered. The last ids, as many as a tail has, are never forgotten
-pub record Fits (facts : Facts) (delivered : List Entry) (listed : Listing) (goes_on : Proc → Bool) (has_passed : Proc → Entry → Bool)
-    (stable : ℕ) (l : Log) : Type 0 where
+-- the log tells of these facts, and of what each local process that goes on through the order delivered. The last ids, as many as a tail has,
+-- are never forgotten. What it tells of a process that orders the view's ABCASTs stands apart (`FitsHand`)
+pub record Fits (facts : Facts) (goes_on : Proc → Bool) (has_passed : Proc → Entry → Bool) (l : Log) : Type 0 where
   pub window : l.window ≡ drop l.base (known_order facts)
   pub forgotten : l.base ≤ length (known_order facts) - MAX_TAIL
   pub later : (place : ℕ) → length_of l < place → place ≤ MAX_POSITION → id_at l.later place ≡ id_at facts place
-  pub waiting : l.waiting ≡ still_to_list delivered (listed_ids listed)
-  pub lists : (n : ℕ) → stable ≤ n → ids_above n l.lists ≡ length (listed_beyond n listed)
-  pub delivered_once : is_distinct delivered ≡ true
-  pub listed_once : is_distinct (listed_ids listed) ≡ true
-  pub listed_delivered : (e : Entry) → is_among entry_eq e (listed_ids listed) ≡ true → is_among entry_eq e delivered ≡ true
   pub passed : (p : Proc) → goes_on p ≡ true → find (λ e. not (has_passed p e)) (take (place_of l p) (known_order facts)) ≡ None
   pub within : (p : Proc) → place_of l p ≤ length (known_order facts)
   pub still_open : l.closed ≡ false

@@ -1,4 +1,5 @@
 pub mod Order
+pub mod Hand
 pub mod Log
 pub mod Fits
 pub mod Laws

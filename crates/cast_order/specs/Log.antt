@@ -1,32 +1,31 @@
 -- What a site keeps of a group's order, as contracts see it, and what each call does to it.
 use Rattle.std.specs.Prelude.{ℕ, ◌+◌, ◌-◌, ◌*◌, Bool, true, false, not, ◌&&◌, nat_lt, nat_le, min, max, if◌then◌else◌, List, [], ◌∷◌, ◌++◌, length, take, drop, map, filter, Option, Some, None, unwrap_or}
-use Rattle.std.specs.List.{find, list_any, sum_by}
+use Rattle.std.specs.List.{find, list_any}
 use Rattle.std.specs.Option.{is_none}
 use Rattle.std.specs.FinMap.Entries.{find as find_key, put}
-use Rattle.cast_types.specs.declared.limits.TheConstants.{MAX_PLACED, MAX_TAIL, MAX_UNSETTLED, MAX_POSITION}
+use Rattle.cast_types.specs.declared.limits.TheConstants.{MAX_TAIL, MAX_POSITION}
 use Rattle.cast_types.specs.declared.names.GroupNo.{GroupNo}
 use Rattle.cast_types.specs.declared.names.Proc.{Proc}
 use Rattle.cast_types.specs.Names.{Entry, proc_cmp, group_eq}
 use Rattle.cast_message.specs.Sequence.{Sequence}
 use Rattle.cast_order.specs.Order.{Facts, facts_of, id_at, order_from, ids_to_list}
+use Rattle.cast_order.specs.Hand.{Hand, hand_of, change_hand, placed}
 
 -- base: how many of the first ids known are forgotten; window: the ids known behind them; later: facts of places past a
 -- gap, in order of receipt; places: how many of the first ids known local processes have passed, each at least those that
--- are forgotten; waiting: ABCASTs that the holder here delivered and has not listed, in its order; lists: its set-order
--- messages that were not stable when the last one was made, each by its count and how many ids; closed: whether the order
--- is closed, so that nothing more is learnt
+-- are forgotten; hands: what is kept of local processes that order the view's ABCASTs, or did; closed: whether the order is
+-- closed, so that nothing more is learnt
 pub record Log : Type 0 where
   pub group : GroupNo
   pub base : ℕ
   pub window : List Entry
   pub later : Facts
   pub places : List (Proc × ℕ)
-  pub waiting : List Entry
-  pub lists : List (ℕ × ℕ)
+  pub hands : List Hand
   pub closed : Bool
 
 abbrev pub new_log : GroupNo → Log
-new_log g = record { group = g; base = 0; window = []; later = []; places = []; waiting = []; lists = []; closed = false }
+new_log g = record { group = g; base = 0; window = []; later = []; places = []; hands = []; closed = false }
 
 -- how many ids are known, with those that are forgotten
 abbrev pub length_of : Log → ℕ
@@ -77,8 +76,14 @@ longer l = with_next l.base l.window l.later
 abbrev pub past : ℕ → Facts → Facts
 past known facts = filter (λ f. nat_lt known f.0) facts
 
+-- what they add stands in the order then, and waits no more
 abbrev pub settled : Log → Log
-settled l = record l { window = longer l; later = past (l.base + length (longer l)) l.later }
+settled l =
+    record l {
+      window = longer l;
+      later = past (l.base + length (longer l)) l.later;
+      hands = map (placed (drop (length l.window) (longer l))) l.hands;
+    }
 
 -- a set-order message is taken in, unless the order is closed
 abbrev pub learnt : Sequence → Log → Log
@@ -86,7 +91,7 @@ learnt s l =
     if l.closed then l else settled (record l { later = with_facts (length_of l) l.later (facts_of s) })
 
 -- the end of the order is told, from a place on: the order known becomes the first ids up to there, and behind them those
--- that are told, all that are kept without ids beyond the cut; what is forgotten stays so up to there; nothing else is kept
+-- that are told, all that are kept without ids beyond the cut; what is forgotten stays so up to there, and so does what is kept of processes
 abbrev pub closed_by : (Entry → Bool) → ℕ → List Entry → Log → Log
 closed_by is_within start ids l = record {
   group = l.group;
@@ -94,8 +99,7 @@ closed_by is_within start ids l = record {
   window = filter is_within (take (start - l.base) l.window ++ ids);
   later = [];
   places = [];
-  waiting = [];
-  lists = [];
+  hands = l.hands;
   closed = true;
 }
 
@@ -124,48 +128,43 @@ next_in l p = drop (place_of l p - l.base) l.window
 abbrev pub passed : Proc → ℕ → Log → Log
 passed p n l = record l { places = put proc_cmp p (place_of l p + min n (length (next_in l p))) l.places }
 
--- What the holder lists
+-- What processes do that order the view's ABCASTs
 
-abbrev pub told : Entry → Log → Log
-told e l = record l { waiting = l.waiting ++ e ∷ [] }
+abbrev pub hand_here : Log → Proc → Hand
+hand_here l p = hand_of l.hands p
+
+abbrev pub with_hand : Proc → (Hand → Hand) → Log → Log
+with_hand p f l = record l { hands = change_hand p f l.hands }
 
 abbrev pub waits_in : Log → Bool
-waits_in l = nat_lt 0 (length l.waiting)
+waits_in l = list_any (λ h. nat_lt 0 (length h.waiting)) l.hands
 
--- the places that the next set-order message sets, none where nothing waits or no place is left
-abbrev pub next_places : Log → Option Sequence
-next_places l =
-    if waits_in l && nat_lt (length_of l) MAX_POSITION
-    then Some (record { first = length_of l + 1; ids = ids_to_list l.waiting }) else None
+-- the places that the next set-order message of a process sets, none where nothing waits or no place is left
+abbrev pub next_places : Log → Proc → Option Sequence
+next_places l p =
+    if nat_lt 0 (length (hand_here l p).waiting) && nat_lt (length_of l) MAX_POSITION
+    then Some (record { first = length_of l + 1; ids = ids_to_list (hand_here l p).waiting; holder = None }) else None
 
--- a set-order message of this count lists what is next, and the holder's messages up to a count are stable
-abbrev pub assigned : ℕ → ℕ → Log → Log
-assigned count stable l =
-    record l {
-      waiting = drop MAX_PLACED l.waiting;
-      lists = filter (λ x. nat_lt stable x.0) l.lists ++ (count, length (ids_to_list l.waiting)) ∷ [];
-    }
+-- how many places there are up to the last id that a process has to list
+abbrev pub places_by : Log → Proc → ℕ
+places_by l p = length_of l + length (hand_here l p).waiting
 
--- how many ids messages of counts above this one list
-abbrev pub ids_above : ℕ → List (ℕ × ℕ) → ℕ
-ids_above stable lists = sum_by (λ x. x.1) (filter (λ x. nat_lt stable x.0) lists)
+-- the ids kept of the order known past so many places
+abbrev pub known_past : ℕ → Log → List Entry
+known_past place l = drop (place - l.base) l.window
 
--- how many ABCASTs the holder delivered beyond those that its stable set-order messages list
-abbrev pub unsettled_in : ℕ → Log → ℕ
-unsettled_in stable l = length l.waiting + ids_above stable l.lists
+-- what a process has to list, if there is a process
+abbrev pub waiting_of : Log → Option Proc → List Entry
+waiting_of l None = []
+waiting_of l (Some p) = (hand_here l p).waiting
 
--- whether the holder may deliver one more: by their number, and by the places left
-abbrev pub has_room_in : ℕ → Log → Bool
-has_room_in stable l =
-    nat_lt (unsettled_in stable l) MAX_UNSETTLED && nat_lt (length_of l + length l.waiting) MAX_POSITION
-
--- what is kept of the order known, and behind it what waits to be listed
-abbrev pub whole_kept : Log → List Entry
-whole_kept l = l.window ++ l.waiting
+-- what is kept of the order known, and behind it that
+abbrev pub whole_kept : Log → Option Proc → List Entry
+whole_kept l o = l.window ++ waiting_of l o
 
 -- how many ids stand before the tail of the order known and what waits, and its ids, as far as they are kept
-abbrev pub tail_start_in : Log → ℕ
-tail_start_in l = max l.base (length_of l + length l.waiting - MAX_TAIL)
+abbrev pub tail_start_in : Log → Option Proc → ℕ
+tail_start_in l o = max l.base (length_of l + length (waiting_of l o) - MAX_TAIL)
 
-abbrev pub tail_ids_in : Log → List Entry
-tail_ids_in l = drop (tail_start_in l - l.base) (whole_kept l)
+abbrev pub tail_ids_in : Log → Option Proc → List Entry
+tail_ids_in l o = drop (tail_start_in l o - l.base) (whole_kept l o)

@@ -1,10 +1,10 @@
--- The total order of a view's ABCASTs, by all that set-order messages told of it, and how the view's holder lists it.
-use Rattle.std.specs.Prelude.{◌≡◌, ℕ, zero, suc, ◌+◌, ◌-◌, ◌<◌, ◌≤◌, Bool, true, not, ◌&&◌, ◌==◌, nat_lt, nat_le, List, [], ◌∷◌, ◌++◌, length, take, drop, filter, slice_get, Option, Some, None}
-use Rattle.std.specs.List.{find, flat_map, enumerate_from}
+-- The total order of a view's ABCASTs, by all that set-order messages told of it, and how it is listed.
+use Rattle.std.specs.Prelude.{◌≡◌, ℕ, zero, suc, ◌+◌, ◌-◌, ◌<◌, ◌≤◌, max, Bool, not, ◌==◌, nat_le, List, [], ◌∷◌, ◌++◌, length, take, drop, filter, slice_get, Option, Some, None, unwrap_or}
+use Rattle.std.specs.List.{find, enumerate_from}
 use Rattle.std.specs.Option.{option_map}
 use Rattle.cast_types.specs.declared.limits.TheConstants.{MAX_PLACED, MAX_TAIL, MAX_POSITION}
 use Rattle.cast_types.specs.Names.{Entry, entry_eq}
-use Rattle.cast_types.specs.Sets.{is_among, apart_from}
+use Rattle.cast_types.specs.Sets.{apart_from}
 use Rattle.cast_message.specs.Sequence.{Sequence}
 
 -- what was told, in order of receipt: an id at a place. Places count from 1
@@ -43,24 +43,29 @@ KnownOrderInWords = (facts : Facts) → IsKnownOrder facts (known_order facts)
 abbrev pub next_of : (Entry → Bool) → List Entry → Option Entry
 next_of has_delivered order = find (λ e. not (has_delivered e)) order
 
--- What the holder lists. Its set-order messages are told by their counts and ids
+-- What who holds the token lists
 
-abbrev pub Listing : Type 0
-Listing = List (ℕ × List Entry)
-
--- the ids that messages list: of all of them, of those up to a count, and of those beyond it
-abbrev pub listed_ids : Listing → List Entry
-listed_ids listed = flat_map (λ x. x.1) listed
-
-abbrev pub listed_upto : ℕ → Listing → List Entry
-listed_upto n listed = listed_ids (filter (λ x. nat_le x.0 n) listed)
-
-abbrev pub listed_beyond : ℕ → Listing → List Entry
-listed_beyond n listed = listed_ids (filter (λ x. nat_lt n x.0) listed)
-
--- what was delivered and is not listed
+-- what was delivered and is not in an order
 abbrev pub still_to_list : List Entry → List Entry → List Entry
-still_to_list delivered listed = apart_from entry_eq delivered listed
+still_to_list delivered order = apart_from entry_eq delivered order
+
+-- set-order messages are told by their counts and the last places that they set
+abbrev pub Listing : Type 0
+Listing = List (ℕ × ℕ)
+
+-- the last place that one of them sets, 0 where there is none
+abbrev pub last_listed : Listing → ℕ
+last_listed [] = 0
+last_listed (x ∷ listed) = max x.1 (last_listed listed)
+
+-- of those up to a count
+abbrev pub last_upto : ℕ → Listing → ℕ
+last_upto n listed = last_listed (filter (λ x. nat_le x.0 n) listed)
+
+-- how many places are settled: those before the first place that is to be ordered, where there is one, and those up to the last one that
+-- these messages set
+abbrev pub settled_places : Option ℕ → ℕ → ℕ
+settled_places first last = max (unwrap_or first 1 - 1) last
 
 -- the ids of the next set-order message, and their first place behind an order
 abbrev pub ids_to_list : List Entry → List Entry
@@ -81,8 +86,3 @@ tail_ids order = drop (tail_start order) order
 -- leaves out
 abbrev pub closed_order : (Entry → Bool) → ℕ → List Entry → List Entry → List Entry
 closed_order is_within start ids own = filter is_within (take start own ++ ids)
-
--- no id stands in the list twice
-abbrev pub is_distinct : List Entry → Bool
-is_distinct [] = true
-is_distinct (x ∷ xs) = not (is_among entry_eq x xs) && is_distinct xs

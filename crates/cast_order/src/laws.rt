@@ -1,5 +1,5 @@
 ghost use Rattle.cast_order.specs.Order.{KnownOrderInWords};
-ghost use Rattle.cast_order.specs.Laws.{NewFits, LearnKeepsMeaning, TellKeepsMeaning, AssignKeepsMeaning, PassKeepsMeaning, MoreKeepsMeaning, ForgetKeepsMeaning, OldestMayBeForgotten, NextIsTheRule, LengthIsTheRule, UnsettledIsTheRule, AssignIsTheRule, WholeIsTheRule, TailIsTheRule, CloseEndsTheOrder, ClosedLearnsNothing, PassKeepsClosed, MoreKeepsClosed, TellKeepsClosed, NextIsOfTheClosed, ChangeIsOfOneGroup, ForgetFirstIsOfOneGroup, ForgetIsOfOneGroup};
+ghost use Rattle.cast_order.specs.Laws.{NewFits, LearnKeepsMeaning, HandKeepsMeaning, PassKeepsMeaning, MoreKeepsMeaning, ForgetKeepsMeaning, OldestMayBeForgotten, NextIsTheRule, LengthIsTheRule, PastIsTheRule, AssignIsTheRule, WholeIsTheRule, TailIsTheRule, NewHandFits, HoldKeepsHand, HandOverKeepsHand, TellKeepsHand, FollowKeepsHand, PlaceKeepsHand, NoteKeepsHand, SettledIsTheRule, HandChangeIsOfOne, LearntIsOfAll, ChangeKeepsOrder, PlaceKeepsOrder, CloseEndsTheOrder, ClosedLearnsNothing, PassKeepsClosed, MoreKeepsClosed, HandKeepsClosed, NextIsOfTheClosed, ChangeIsOfOneGroup, ForgetFirstIsOfOneGroup, ForgetIsOfOneGroup};
 
 /// The known order says what the rule says in words: each place has the first id told for it, and the order ends only
 /// before a place of which nothing was told, or at the last place.
@@ -8,41 +8,60 @@ pub fn order_is_the_rule_in_words()
 {}
 
 /// By what a site keeps, the first id that a process which goes on through the order has not delivered is that of the whole
-/// order known; as many ids are known as that has; as many ABCASTs are unsettled as the holder delivered beyond those that
-/// its stable set-order messages list; its next one sets the places behind the order known, of what it delivered and has
-/// not listed; that makes up the whole order, of which all but the first ids are kept; and the tail is that of it.
+/// order known; as many ids are known as that has; and the ids past a place are those of that, but for what is forgotten.
+/// The next set-order message of a process sets the places behind the order known, of what it delivered and what is not in
+/// that. The two make up the whole order, of which all but the first ids are kept, and the tail is that of it.
 pub fn log_means_the_rule()
     ensures next { NextIsTheRule }
     ensures length { LengthIsTheRule }
-    ensures unsettled { UnsettledIsTheRule }
+    ensures past { PastIsTheRule }
     ensures assign { AssignIsTheRule }
     ensures whole { WholeIsTheRule }
     ensures tail { TailIsTheRule }
 {}
 
-/// What each call does to what is kept it does to what that means: a set-order message is received, the holder
-/// delivers an ABCAST and lists what is next, processes deliver what the order names, and first ids are forgotten that
-/// each process which goes on has delivered and that are not of the tail. The oldest ids are such first ids.
+/// What each call does to what is kept it does to what that means: a set-order message is received, a process that orders
+/// does something (`hands_keep_their_meaning` says what), processes deliver what the order names, and first ids are
+/// forgotten that each process which goes on has delivered and that are not of the tail. The oldest ids are such first ids.
 pub fn log_keeps_its_meaning()
     ensures new { NewFits }
     ensures learn { LearnKeepsMeaning }
-    ensures tell { TellKeepsMeaning }
-    ensures assign { AssignKeepsMeaning }
+    ensures hand { HandKeepsMeaning }
     ensures pass { PassKeepsMeaning }
     ensures more { MoreKeepsMeaning }
     ensures forget { ForgetKeepsMeaning }
     ensures oldest { OldestMayBeForgotten }
 {}
 
+/// What each call does to what is kept of a process that orders the view's ABCASTs it does to what that means: the process
+/// holds the token from a place on, or hands it over; it delivers an ABCAST that is in the order known or is not; ids join
+/// that order; and it sends a set-order message. By what is kept it has settled the places before its first one, and those
+/// up to the last one that its stable messages set. A call about one process changes what is kept of no other, and what is
+/// learnt joins the order for each. What is kept stands in rising order of the processes.
+pub fn hands_keep_their_meaning()
+    ensures new { NewHandFits }
+    ensures hold { HoldKeepsHand }
+    ensures hand_over { HandOverKeepsHand }
+    ensures tell { TellKeepsHand }
+    ensures follow { FollowKeepsHand }
+    ensures place { PlaceKeepsHand }
+    ensures note { NoteKeepsHand }
+    ensures settled { SettledIsTheRule }
+    ensures one { HandChangeIsOfOne }
+    ensures all { LearntIsOfAll }
+    ensures rises { ChangeKeepsOrder }
+    ensures rises_placed { PlaceKeepsOrder }
+{}
+
 /// When the end of a view's order is told, the order known becomes the closed one, but for the first ids, which stay
-/// forgotten. Then nothing is learnt, processes deliver what the closed order names, the holder may still deliver, and
+/// forgotten. Then nothing is learnt, processes deliver what the closed order names, one that ordered may still do something, and
 /// the first id that a process which goes on has not delivered is that of the whole closed order.
 pub fn a_closed_order_stays()
     ensures close { CloseEndsTheOrder }
     ensures learn { ClosedLearnsNothing }
     ensures pass { PassKeepsClosed }
     ensures more { MoreKeepsClosed }
-    ensures tell { TellKeepsClosed }
+    ensures hand { HandKeepsClosed }
     ensures next { NextIsOfTheClosed }
 {}
 

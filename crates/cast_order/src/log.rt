@@ -1,13 +1,18 @@
-ghost use Rattle.std.specs.Prelude.{◌≡◌, ◌+◌, min, nat_lt, filter, take, drop, OnOk, IfOk};
+ghost use Rattle.std.specs.Prelude.{◌≡◌, filter, take, drop, OnOk, IfOk};
 ghost use Rattle.std.specs.List.{enumerate_from};
 ghost use Rattle.cast_types.specs.Counts.{is_within};
 ghost use Rattle.cast_types.specs.Names.{entry_eq};
 ghost use Rattle.cast_types.specs.Sets.{is_among};
 ghost use Rattle.cast_order.specs.Order.{id_at};
-ghost use Rattle.cast_order.specs.Log.{length_of, new_log, oldest_in, with_fact, with_facts, with_next, past, settled, learnt, place_of, next_in, passed, told, waits_in, next_places, assigned, ids_above, has_room_in, whole_kept, tail_start_in, tail_ids_in, closed_by, forgot};
+ghost use Rattle.cast_order.specs.Hand.{held, handed, told, noted, settled_by};
+ghost use Rattle.cast_order.specs.Log.{length_of, new_log, oldest_in, with_fact, with_facts, with_next, past, settled, learnt, place_of, next_in, passed, hand_here, with_hand, waits_in, next_places, known_past, waiting_of, whole_kept, tail_start_in, tail_ids_in, closed_by, forgot};
 
+use crate::hand::{
+    OrderHand, copy_hands, hand_among, hand_over_in, hold_in, holds, note_hand, open_hand,
+    place_in, some_wait, tell_hand,
+};
 use cast_message::{Placement, Tail};
-use cast_types::limits::{MAX_PLACED, MAX_POSITION, MAX_TAIL, MAX_UNSETTLED};
+use cast_types::limits::{MAX_PLACED, MAX_POSITION, MAX_TAIL};
 use cast_types::{Counts, GroupNo, Keyed, Listed, NoMemory, Proc};
 use std::alloc::{AllocError, Global};
 use std::marker::Model;
@@ -20,8 +25,7 @@ pub struct OrderLog {
     window: Vec<(Proc, u32)>,
     later: Vec<(usize, (Proc, u32))>,
     places: Keyed<Proc, usize>,
-    waiting: Vec<(Proc, u32)>,
-    lists: Vec<(u32, usize)>,
+    hands: Vec<OrderHand>,
     closed: bool,
 }
 
@@ -30,7 +34,7 @@ impl Model for OrderLog {
 
     ghost Value = { Log };
 
-    ghost view = { λ l. record { group = l.group; base = l.base; window = l.window.items; later = l.later.items; places = l.places; waiting = l.waiting.items; lists = l.lists.items; closed = l.closed } };
+    ghost view = { λ l. record { group = l.group; base = l.base; window = l.window.items; later = l.later.items; places = l.places; hands = l.hands.items; closed = l.closed } };
 }
 
 impl OrderLog {
@@ -44,8 +48,7 @@ impl OrderLog {
             window: Vec::new(alloc),
             later: Vec::new(alloc),
             places: Keyed::new(alloc),
-            waiting: Vec::new(alloc),
-            lists: Vec::new(alloc),
+            hands: Vec::new(alloc),
             closed: false,
         }
     }
@@ -61,8 +64,7 @@ impl OrderLog {
             window: Vec::from_slice(alloc, &self.window)?,
             later: Vec::from_slice(alloc, &self.later)?,
             places: self.places.copy()?,
-            waiting: Vec::from_slice(alloc, &self.waiting)?,
-            lists: Vec::from_slice(alloc, &self.lists)?,
+            hands: copy_hands(alloc, &self.hands)?,
             closed: self.closed,
         })
     }
@@ -80,13 +82,15 @@ impl OrderLog {
         Ok(())
     }
 
-    // Adds to the order known what follows it without a gap, and keeps only the facts past that.
+    // Adds to the order known what follows it without a gap, and keeps only the facts past that. What it adds waits no more.
     fn settle(&mut self) -> Result<(), NoMemory>
         ensures { OnOk result (self.new ≡ settled self.old) }
     {
+        let before = self.window.len();
         extend(&mut self.window, self.base, &self.later)?;
         let known = self.length();
         keep_past(&mut self.later, known);
+        place_in(&mut self.hands, past_first(&self.window, before));
         Ok(())
     }
 
@@ -109,8 +113,6 @@ impl OrderLog {
         self.base = self.base.min(start);
         self.later.clear();
         self.places = Keyed::new(*self.window.allocator());
-        self.waiting.clear();
-        self.lists.clear();
         self.closed = true;
         Ok(())
     }
@@ -164,86 +166,153 @@ impl OrderLog {
         Ok(())
     }
 
-    /// Takes in that the holder here delivered an ABCAST.
-    pub fn tell(&mut self, id: (Proc, u32)) -> Result<(), NoMemory>
-        ensures { OnOk result (self.new ≡ told id self.old) }
+    /// Takes in that a process here holds the token, and orders from this place on.
+    pub fn hold(&mut self, process: Proc, first: u32) -> Result<(), NoMemory>
+        ensures { OnOk result (self.new ≡ with_hand process (held first) self.old) }
     {
-        self.waiting.push(id)?;
+        open_hand(&mut self.hands, process)?;
+        hold_in(&mut self.hands, process, first);
         Ok(())
     }
 
-    /// Whether something is still to list.
+    /// Takes in that it holds the token no more.
+    pub fn hand_over(&mut self, process: Proc) -> Result<(), NoMemory>
+        ensures { OnOk result (self.new ≡ with_hand process handed self.old) }
+    {
+        open_hand(&mut self.hands, process)?;
+        hand_over_in(&mut self.hands, process);
+        Ok(())
+    }
+
+    /// Takes in that a process here delivered an ABCAST that is not in the order known.
+    pub fn tell(&mut self, process: Proc, id: (Proc, u32)) -> Result<(), NoMemory>
+        ensures { OnOk result (self.new ≡ with_hand process (told id) self.old) }
+    {
+        open_hand(&mut self.hands, process)?;
+        tell_hand(&mut self.hands, process, id)?;
+        Ok(())
+    }
+
+    /// Takes in that a process here sent a set-order message of this count, which sets places up to the last.
+    pub fn note(
+        &mut self,
+        process: Proc,
+        count: u32,
+        last: usize,
+        stable: u32,
+    ) -> Result<(), NoMemory>
+        ensures { OnOk result (self.new ≡ with_hand process (noted count last stable) self.old) }
+    {
+        open_hand(&mut self.hands, process)?;
+        note_hand(&mut self.hands, process, count, last, stable)?;
+        Ok(())
+    }
+
+    /// Whether a process here has something to list.
     pub fn waits(&self) -> bool
         ensures { result ≡ waits_in self.now }
     {
-        0 < self.waiting.len()
+        some_wait(&self.hands)
     }
 
-    /// The places that the holder's next set-order message sets.
-    pub fn assign(&self) -> Result<Option<Placement>, NoMemory>
-        ensures { IfOk result (λ q. q ≡ next_places self.now) }
+    /// The first place that a process here orders, where it holds the token.
+    pub fn first(&self, process: Proc) -> Option<u32>
+        ensures { result ≡ (hand_here self.now process).first }
     {
-        if !self.waits() || MAX_POSITION as usize <= self.length() {
+        match hand_among(&self.hands, process) {
+            Some(hand) => hand.first(),
+            None => None,
+        }
+    }
+
+    /// What is kept of processes that order the view's ABCASTs, or did, in rising order of the processes.
+    pub fn hands(&self) -> &[OrderHand]
+        ensures { result.now ≡ self.now.hands }
+    {
+        &self.hands
+    }
+
+    /// How many places it has settled.
+    pub fn settled(&self, process: Proc, stable: u32) -> usize
+        ensures { result ≡ settled_by stable (hand_here self.now process) }
+    {
+        match hand_among(&self.hands, process) {
+            Some(hand) => hand.settled(stable),
+            None => 0,
+        }
+    }
+
+    /// The ABCASTs that it has to list.
+    pub fn waiting(&self, process: Proc) -> &[(Proc, u32)]
+        ensures { result.now ≡ (hand_here self.now process).waiting }
+    {
+        match hand_among(&self.hands, process) {
+            Some(hand) => hand.waiting(),
+            None => &[],
+        }
+    }
+
+    // The ABCASTs that a process has to list, if there is a process.
+    fn waiting_of(&self, holder: Option<Proc>) -> &[(Proc, u32)]
+        ensures { result.now ≡ waiting_of self.now holder }
+    {
+        match holder {
+            Some(process) => self.waiting(process),
+            None => &[],
+        }
+    }
+
+    /// The ids kept of the order known past so many places.
+    pub fn past(&self, place: usize) -> &[(Proc, u32)]
+        ensures { result.now ≡ known_past place self.now }
+    {
+        past_first(&self.window, place.saturating_sub(self.base as usize))
+    }
+
+    /// How many ids are forgotten.
+    pub fn forgotten(&self) -> usize
+        ensures { result ≡ self.now.base }
+    {
+        self.base as usize
+    }
+
+    /// The places that the next set-order message of a process sets.
+    pub fn assign(&self, process: Proc) -> Result<Option<Placement>, NoMemory>
+        ensures { IfOk result (λ q. q ≡ next_places self.now process) }
+    {
+        let waiting = self.waiting(process);
+        if waiting.is_empty() || MAX_POSITION as usize <= self.length() {
             return Ok(None);
         }
         let first = self.length() as u32 + 1;
-        let ids = Vec::from_slice(
-            *self.waiting.allocator(),
-            first_ids(&self.waiting, MAX_PLACED),
-        )?;
-        Ok(Some(Placement::from_parts(first, ids)))
+        let ids = Vec::from_slice(*self.window.allocator(), first_ids(waiting, MAX_PLACED))?;
+        Ok(Some(Placement::from_parts(first, ids, None)))
     }
 
-    /// Takes in that a set-order message of this count with the assigned ids was sent.
-    pub fn note(&mut self, count: u32, stable: u32) -> Result<(), NoMemory>
-        ensures { OnOk result (self.new ≡ assigned count stable self.old) }
+    /// Whether an id is kept of the order known, or waits to be listed by the holder.
+    pub fn knows(&self, holder: Option<Proc>, id: (Proc, u32)) -> bool
+        ensures { result ≡ is_among entry_eq id (whole_kept self.now holder) }
     {
-        let taken = first_ids(&self.waiting, MAX_PLACED).len();
-        keep_above(&mut self.lists, stable);
-        self.lists.push((count, taken))?;
-        remove_first(&mut self.waiting, MAX_PLACED);
-        Ok(())
-    }
-
-    /// Whether the holder may deliver one more ABCAST.
-    pub fn has_room(&self, stable: u32) -> bool
-        ensures { result ≡ has_room_in stable self.now }
-    {
-        let unsettled = unsettled(self.waiting.len(), &self.lists, stable);
-        unsettled < MAX_UNSETTLED
-            && self.length().saturating_add(self.waiting.len()) < MAX_POSITION as usize
-    }
-
-    /// Whether an id is kept of the order known, or waits to be listed.
-    pub fn knows(&self, id: (Proc, u32)) -> bool
-        ensures { result ≡ is_among entry_eq id (whole_kept self.now) }
-    {
-        holds(&self.window, id) || holds(&self.waiting, id)
+        holds(&self.window, id) || holds(self.waiting_of(holder), id)
     }
 
     /// How many ids stand before the tail of the whole order, and its ids, as far as they are kept.
-    pub fn tail(&self) -> Result<(usize, Listed<(Proc, u32)>), NoMemory>
-        ensures { IfOk result (λ t. t ≡ (tail_start_in self.now, tail_ids_in self.now)) }
+    pub fn tail(&self, holder: Option<Proc>) -> Result<(usize, Listed<(Proc, u32)>), NoMemory>
+        ensures { IfOk result (λ t. t ≡ (tail_start_in self.now holder, tail_ids_in self.now holder)) }
     {
+        let waiting = self.waiting_of(holder);
         let known = self.length();
         // No memory holds more ids than a number counts.
-        let Some(whole) = known.checked_add(self.waiting.len()) else {
+        let Some(whole) = known.checked_add(waiting.len()) else {
             return Err(AllocError);
         };
         let base = self.base as usize;
         let start = base.max(whole.saturating_sub(MAX_TAIL));
         let alloc = *self.window.allocator();
         let mut ids = Vec::from_slice(alloc, past_first(&self.window, start - base))?;
-        ids.extend_from_slice(past_first(&self.waiting, start.saturating_sub(known)))?;
+        ids.extend_from_slice(past_first(waiting, start.saturating_sub(known)))?;
         Ok((start, Listed::from_vec(ids)))
     }
-}
-
-// Whether an id is one of these.
-fn holds(ids: &[(Proc, u32)], id: (Proc, u32)) -> bool
-    ensures { result ≡ is_among entry_eq id ids.now }
-{
-    ids.iter().any(|other| id == *other)
 }
 
 // The ids behind the first ones.
@@ -341,24 +410,4 @@ fn keep_past(facts: &mut Vec<(usize, (Proc, u32))>, known: usize)
     ensures { facts.new.items ≡ past known facts.old.items }
 {
     facts.retain(|fact| known < fact.0);
-}
-
-// Keeps the messages of counts above this one.
-fn keep_above(lists: &mut Vec<(u32, usize)>, stable: u32)
-    ensures { lists.new.items ≡ filter (λ x. nat_lt stable x.0) lists.old.items }
-{
-    lists.retain(|list| stable < list.0);
-}
-
-// How many wait, with how many messages of counts above this one list.
-fn unsettled(waiting: usize, lists: &[(u32, usize)], stable: u32) -> usize
-    ensures { result ≡ min 18446744073709551615 (waiting + ids_above stable lists.now) }
-{
-    let mut total = waiting;
-    for (count, ids) in lists {
-        if stable < *count {
-            total = total.saturating_add(*ids);
-        }
-    }
-    total
 }

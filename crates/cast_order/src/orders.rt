@@ -4,8 +4,10 @@ ghost use Rattle.std.specs.Option.{option_copied};
 ghost use Rattle.cast_types.specs.Counts.{is_within};
 ghost use Rattle.cast_types.specs.Names.{entry_eq, group_eq};
 ghost use Rattle.cast_types.specs.Sets.{is_among};
-ghost use Rattle.cast_order.specs.Log.{length_of, log_of, change_in, opened, change_log, but_log, learnt, next_in, passed, told, waits_in, next_places, assigned, has_room_in, whole_kept, tail_start_in, tail_ids_in, closed_by, oldest_in, forgot};
+ghost use Rattle.cast_order.specs.Hand.{held, handed, told, noted, settled_by};
+ghost use Rattle.cast_order.specs.Log.{length_of, log_of, change_in, opened, change_log, but_log, learnt, next_in, passed, hand_here, with_hand, waits_in, next_places, known_past, whole_kept, tail_start_in, tail_ids_in, closed_by, oldest_in, forgot};
 
+use crate::hand::OrderHand;
 use crate::log::OrderLog;
 use cast_message::{Placement, Tail};
 use cast_types::{Counts, GroupNo, Listed, NoMemory, Proc};
@@ -90,52 +92,129 @@ impl Orders {
         Ok(())
     }
 
-    /// Takes in that the holder of the group's view, a process here, delivered this ABCAST.
+    /// Takes in that a process here holds the token of the group's view, and orders from this place on.
     #[tactic(auto, using(crate::proofs::Logs::change_opened))]
-    pub fn tell(&mut self, group: GroupNo, id: (Proc, u32)) -> Result<(), NoMemory>
-        ensures { OnOk result (self.new ≡ change_log group (told id) self.old) }
+    pub fn hold(&mut self, group: GroupNo, process: Proc, first: u32) -> Result<(), NoMemory>
+        ensures { OnOk result (self.new ≡ change_log group (with_hand process (held first)) self.old) }
     {
         open_in(&mut self.logs, group)?;
-        tell_in(&mut self.logs, group, id)?;
+        hold_token_in(&mut self.logs, group, process, first)?;
         Ok(())
     }
 
-    /// The places that the holder's next set-order message sets: those behind the order known, for the first ids that
-    /// it delivered and has not listed, at most 64. `None` where there is none, or no place is left.
-    pub fn assign(&self, group: GroupNo) -> Result<Option<Placement>, NoMemory>
-        ensures { IfOk result (λ q. q ≡ next_places (log_of self.now group)) }
+    /// Takes in that a process here holds the token of the group's view no more.
+    #[tactic(auto, using(crate::proofs::Logs::change_opened))]
+    pub fn hand_over(&mut self, group: GroupNo, process: Proc) -> Result<(), NoMemory>
+        ensures { OnOk result (self.new ≡ change_log group (with_hand process handed) self.old) }
+    {
+        open_in(&mut self.logs, group)?;
+        hand_token_in(&mut self.logs, group, process)?;
+        Ok(())
+    }
+
+    /// The first place that a process here orders, where it holds the token of the group's view. Takes no memory.
+    pub fn first(&self, group: GroupNo, process: Proc) -> Option<u32>
+        ensures { result ≡ (hand_here (log_of self.now group) process).first }
     {
         match log_in(&self.logs, group) {
-            Some(log) => log.assign(),
+            Some(log) => log.first(process),
+            None => None,
+        }
+    }
+
+    /// What is kept of processes here that order the ABCASTs of the group's view, or did, in rising order of the processes.
+    /// Takes no memory.
+    pub fn hands(&self, group: GroupNo) -> &[OrderHand]
+        ensures { result.now ≡ (log_of self.now group).hands }
+    {
+        match log_in(&self.logs, group) {
+            Some(log) => log.hands(),
+            None => &[],
+        }
+    }
+
+    /// Takes in that a process here delivered this ABCAST, which is not in the order known.
+    #[tactic(auto, using(crate::proofs::Logs::change_opened))]
+    pub fn tell(&mut self, group: GroupNo, process: Proc, id: (Proc, u32)) -> Result<(), NoMemory>
+        ensures { OnOk result (self.new ≡ change_log group (with_hand process (told id)) self.old) }
+    {
+        open_in(&mut self.logs, group)?;
+        tell_in(&mut self.logs, group, process, id)?;
+        Ok(())
+    }
+
+    /// The places that the next set-order message of a process here sets: those behind the order known, for the first ids
+    /// that it delivered and that are not in that, at most 64. `None` where there is none, or no place is left.
+    pub fn assign(&self, group: GroupNo, process: Proc) -> Result<Option<Placement>, NoMemory>
+        ensures { IfOk result (λ q. q ≡ next_places (log_of self.now group) process) }
+    {
+        match log_in(&self.logs, group) {
+            Some(log) => log.assign(process),
             None => Ok(None),
         }
     }
 
-    /// Takes in that the holder sent the ids that `assign` gives in a set-order message of this count, from 1 on, and
-    /// that its messages up to `stable` are stable, 0 where none is. The ids wait no more, and join the order known once
-    /// they are learnt here, as at any other site: until then `assign` would set the same places again, and `tail` lacks
-    /// them.
+    /// Takes in that a process here sent a set-order message of this count, from 1 on, which sets places up to the last, and
+    /// that its messages up to `stable` are stable, 0 where none is. Its ids wait until they join the order known, once they
+    /// are learnt here, as at any other site: until then `assign` would set the same places again.
     #[tactic(auto, using(crate::proofs::Logs::change_opened))]
-    pub fn note(&mut self, group: GroupNo, count: u32, stable: u32) -> Result<(), NoMemory>
-        ensures { OnOk result (self.new ≡ change_log group (assigned count stable) self.old) }
+    pub fn note(
+        &mut self,
+        group: GroupNo,
+        process: Proc,
+        count: u32,
+        last: usize,
+        stable: u32,
+    ) -> Result<(), NoMemory>
+        ensures { OnOk result (self.new ≡ change_log group (with_hand process (noted count last stable)) self.old) }
     {
         open_in(&mut self.logs, group)?;
-        note_in(&mut self.logs, group, count, stable)?;
+        note_in(&mut self.logs, group, process, count, last, stable)?;
         Ok(())
     }
 
-    /// Whether the holder here may deliver one more ABCAST: it delivered fewer than 512 beyond those that its set-order
-    /// messages up to count `stable` list, and a place is left for it. Takes no memory.
-    pub fn has_room(&self, group: GroupNo, stable: u32) -> bool
-        ensures { result ≡ has_room_in stable (log_of self.now group) }
+    /// How many places a process here has settled, where its set-order messages up to count `stable` are stable: those
+    /// before its first one, and those up to the last one that these messages set. Takes no memory.
+    pub fn settled(&self, group: GroupNo, process: Proc, stable: u32) -> usize
+        ensures { result ≡ settled_by stable (hand_here (log_of self.now group) process) }
     {
         match log_in(&self.logs, group) {
-            Some(log) => log.has_room(stable),
-            None => true,
+            Some(log) => log.settled(process, stable),
+            None => 0,
         }
     }
 
-    /// Whether the holder here delivered an ABCAST that it has not listed. Takes no memory.
+    /// The ABCASTs that a process here delivered and that are not in the order known, in its order. Takes no memory.
+    pub fn waiting(&self, group: GroupNo, process: Proc) -> &[(Proc, u32)]
+        ensures { result.now ≡ (hand_here (log_of self.now group) process).waiting }
+    {
+        match log_in(&self.logs, group) {
+            Some(log) => log.waiting(process),
+            None => &[],
+        }
+    }
+
+    /// The ids of the order known past so many places, but for those that are forgotten. Takes no memory.
+    pub fn past(&self, group: GroupNo, place: usize) -> &[(Proc, u32)]
+        ensures { result.now ≡ known_past place (log_of self.now group) }
+    {
+        match log_in(&self.logs, group) {
+            Some(log) => log.past(place),
+            None => &[],
+        }
+    }
+
+    /// How many ids of the order known are forgotten. Takes no memory.
+    pub fn forgotten(&self, group: GroupNo) -> usize
+        ensures { result ≡ (log_of self.now group).base }
+    {
+        match log_in(&self.logs, group) {
+            Some(log) => log.forgotten(),
+            None => 0,
+        }
+    }
+
+    /// Whether a process here delivered an ABCAST that is not in the order known. Takes no memory.
     pub fn waits(&self, group: GroupNo) -> bool
         ensures { result ≡ waits_in (log_of self.now group) }
     {
@@ -145,32 +224,36 @@ impl Orders {
         }
     }
 
-    /// Whether an id has a place in the order known, or waits for one, having been delivered by the holder here: of what is
-    /// not forgotten. Takes no memory.
-    pub fn knows(&self, group: GroupNo, id: (Proc, u32)) -> bool
-        ensures { result ≡ is_among entry_eq id (whole_kept (log_of self.now group)) }
+    /// Whether an id has a place in the order known, or waits for one, having been delivered by the holder, if one is here:
+    /// of what is not forgotten. Takes no memory.
+    pub fn knows(&self, group: GroupNo, holder: Option<Proc>, id: (Proc, u32)) -> bool
+        ensures { result ≡ is_among entry_eq id (whole_kept (log_of self.now group) holder) }
     {
         match log_in(&self.logs, group) {
-            Some(log) => log.knows(id),
+            Some(log) => log.knows(holder, id),
             None => false,
         }
     }
 
-    /// The last ids of the order known and, behind it, of what waits to be listed, at most 512 and none that is forgotten,
-    /// and how many stand before them.
-    pub fn tail(&self, group: GroupNo) -> Result<(usize, Listed<(Proc, u32)>), NoMemory>
-        ensures { IfOk result (λ t. t ≡ (tail_start_in (log_of self.now group), tail_ids_in (log_of self.now group))) }
+    /// The last ids of the order known and, behind it, of what waits to be listed by the holder, if one is here, at most
+    /// 512 and none that is forgotten, and how many stand before them.
+    pub fn tail(
+        &self,
+        group: GroupNo,
+        holder: Option<Proc>,
+    ) -> Result<(usize, Listed<(Proc, u32)>), NoMemory>
+        ensures { IfOk result (λ t. t ≡ (tail_start_in (log_of self.now group) holder, tail_ids_in (log_of self.now group) holder)) }
     {
         match log_in(&self.logs, group) {
-            Some(log) => log.tail(),
+            Some(log) => log.tail(holder),
             None => Ok((0, Listed::new(*self.logs.allocator()))),
         }
     }
 
     /// Closes the order of a group's view, which has ended: it becomes the first ids known, as many as the tail says stand
     /// before it, all where fewer are known, and behind them the tail's ids, all that are kept without ids beyond the cut.
-    /// Nothing more is learnt of it then, nothing waits to be listed, and each process is to go through it from the first
-    /// id on that is not forgotten.
+    /// Nothing more is learnt of it then, and each process is to go through it from the first id on that is not forgotten.
+    /// What is kept of processes here that order it stays as it is.
     #[tactic(auto, using(crate::proofs::Logs::change_opened))]
     pub fn close(&mut self, group: GroupNo, tail: &Tail, cut: &Counts) -> Result<(), NoMemory>
         ensures { OnOk result (self.new ≡ change_log group (closed_by (is_within cut.now) tail.now.start tail.now.ids) self.old) }
@@ -262,30 +345,66 @@ fn pass_in(
     Ok(())
 }
 
-// Each log of the group takes in an ABCAST that the holder delivered.
-fn tell_in(logs: &mut Vec<OrderLog>, group: GroupNo, id: (Proc, u32)) -> Result<(), NoMemory>
-    ensures { OnOk result (logs.new.items ≡ change_in group (told id) logs.old.items) }
+// Each log of the group takes in that a process holds the token.
+fn hold_token_in(
+    logs: &mut Vec<OrderLog>,
+    group: GroupNo,
+    process: Proc,
+    first: u32,
+) -> Result<(), NoMemory>
+    ensures { OnOk result (logs.new.items ≡ change_in group (with_hand process (held first)) logs.old.items) }
 {
     for log in logs.iter_mut() {
         if log.group == group {
-            log.tell(id)?;
+            log.hold(process, first)?;
         }
     }
     Ok(())
 }
 
-// Each log of the group takes in that the assigned ids were sent.
-fn note_in(
-    logs: &mut Vec<OrderLog>,
-    group: GroupNo,
-    count: u32,
-    stable: u32,
-) -> Result<(), NoMemory>
-    ensures { OnOk result (logs.new.items ≡ change_in group (assigned count stable) logs.old.items) }
+// And that it holds it no more.
+fn hand_token_in(logs: &mut Vec<OrderLog>, group: GroupNo, process: Proc) -> Result<(), NoMemory>
+    ensures { OnOk result (logs.new.items ≡ change_in group (with_hand process handed) logs.old.items) }
 {
     for log in logs.iter_mut() {
         if log.group == group {
-            log.note(count, stable)?;
+            log.hand_over(process)?;
+        }
+    }
+    Ok(())
+}
+
+// And an ABCAST that it delivered.
+fn tell_in(
+    logs: &mut Vec<OrderLog>,
+    group: GroupNo,
+    process: Proc,
+    id: (Proc, u32),
+) -> Result<(), NoMemory>
+    ensures { OnOk result (logs.new.items ≡ change_in group (with_hand process (told id)) logs.old.items) }
+{
+    for log in logs.iter_mut() {
+        if log.group == group {
+            log.tell(process, id)?;
+        }
+    }
+    Ok(())
+}
+
+// And a set-order message that it sent.
+fn note_in(
+    logs: &mut Vec<OrderLog>,
+    group: GroupNo,
+    process: Proc,
+    count: u32,
+    last: usize,
+    stable: u32,
+) -> Result<(), NoMemory>
+    ensures { OnOk result (logs.new.items ≡ change_in group (with_hand process (noted count last stable)) logs.old.items) }
+{
+    for log in logs.iter_mut() {
+        if log.group == group {
+            log.note(process, count, last, stable)?;
         }
     }
     Ok(())

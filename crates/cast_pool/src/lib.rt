@@ -1,16 +1,18 @@
-//! The table that the workers of a daemon share under a lock, beside the trace of the events that they took, and the workers.
+//! The table that workers share under a lock, the trace of its events, and the workers.
 //!
-//! Promised: whenever the lock is got, the trace leads from what the base stands for to what the table stands for (`Kept`): for each
-//! domain, its own events are steps of the history that a daemon has which serves the domain alone, each with the answer that
-//! is kept, up to where want of memory halted it. `Kept::serve_one` is the one call that adds to the trace: an event with its
-//! answer, at the end. It trims a trace of 4,096 events first, so that the base is a copy of the table and the trace begins
-//! anew. How many events were taken is counted by each worker for itself, and by the table for all; where all workers' shares are
-//! joined, both are the same (`Kept::total`). Nothing outside `kept` changes a `Kept` or makes a `Job` or a `Done`.
+//! Promised: whenever the lock is held, the trace leads from what the base stands for to what the
+//! table stands for (`Kept`). For each domain, its events are steps of a daemon that serves it
+//! alone, each with the answer that is kept, until it ran out of memory. Only `Kept::serve_one`
+//! adds to the trace. When the trace has 4,096 events, it copies the table as the new base and
+//! begins the trace anew. Each worker counts its events, and the table counts all. The two are
+//! equal once all shares are joined (`Kept::total`).
 //!
-//! Not promised: who gets the lock first, that a job comes or is answered, and in which order answers leave.
+//! Not promised: who gets the lock first, that a job arrives or is answered, and the order of
+//! answers.
 //!
-//! The definitions are in `specs/`: `Traces` has what a trace tells of each domain, `Kept` what contracts see of a kept table and
-//! what holds of it, `Served` what becomes of a job, and `Tasks` what is to be done where something is asked.
+//! The definitions are in `specs/`: `Traces` has what a trace says of each domain, `Kept` what
+//! contracts see of the shared table, `Served` what becomes of a job, and `Tasks` what is to be
+//! done on a request.
 #![tactic(auto)]
 
 pub mod configured;

@@ -1,11 +1,12 @@
-//! The replay of a script: from the bytes of its file to the text of its log, what the program writes and its status.
+//! The replay of a script: from the bytes of its file to the text of its log and the exit status.
 //!
-//! Promised: what is printed for a script is the text of a log that a daemon gives, in which each domain is the solo
-//! daemon, and what is not printed is refused for the first line that is at fault (`printed_log`). The program writes this
-//! text, or what is wrong, and ends with the status for it (`run_script`, and `replay_file` for a file).
+//! Promised: the printed text is that of a log in which each domain behaves as a daemon that
+//! serves it alone, and a text that is no script is refused for its first line at fault
+//! (`printed_log`). The program writes that text or the fault, and ends with the status for it
+//! (`run_script`, `replay_file`).
 //!
-//! The definitions are in `specs/`: `Shown` says which text shows what comes of a script, and `Ends` how the replay of a
-//! file ends.
+//! The definitions are in `specs/`: `Shown` says which text shows the outcome of a script, and
+//! `Ends` how a replay ends.
 #![tactic(auto)]
 
 mod run;

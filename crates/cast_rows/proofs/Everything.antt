@@ -12,12 +12,12 @@ unfolding
     Rattle.cast_field.specs.Reading.counts_at Rattle.cast_field.specs.Reading.group_above
     Rattle.cast_field.specs.Reading.clock_above Rattle.cast_field.specs.Reading.times_at
     Rattle.cast_field.specs.Reading.payload_at Rattle.cast_field.specs.Reading.id_at
-    Rattle.cast_field.specs.Reading.sequence_at Rattle.cast_field.specs.Reading.kind_at
-    Rattle.cast_field.specs.Reading.causal_at Rattle.cast_field.specs.Reading.atomic_at
-    Rattle.cast_field.specs.Reading.order_at Rattle.cast_field.specs.Reading.body_at
-    Rattle.cast_field.specs.Reading.message_at Rattle.cast_field.specs.Reading.holder_at
-    Rattle.cast_field.specs.Reading.members_at Rattle.cast_field.specs.Reading.tail_at
-    Rattle.cast_field.specs.Reading.id_above Rattle.cast_field.specs.Reading.mark_at
+    Rattle.cast_field.specs.Reading.new_holder_at Rattle.cast_field.specs.Reading.sequence_at
+    Rattle.cast_field.specs.Reading.kind_at Rattle.cast_field.specs.Reading.causal_at
+    Rattle.cast_field.specs.Reading.atomic_at Rattle.cast_field.specs.Reading.order_at
+    Rattle.cast_field.specs.Reading.body_at Rattle.cast_field.specs.Reading.message_at
+    Rattle.cast_field.specs.Reading.holder_at Rattle.cast_field.specs.Reading.members_at
+    Rattle.cast_field.specs.Reading.tail_at Rattle.cast_field.specs.Reading.id_above Rattle.cast_field.specs.Reading.mark_at
     Rattle.cast_field.specs.Reading.marked_above Rattle.cast_field.specs.Reading.kept_at
     Rattle.cast_frame.specs.Reading.full_of Rattle.cast_frame.specs.Reading.data_at Rattle.cast_frame.specs.Reading.ack_at
     Rattle.cast_frame.specs.Reading.stable_at Rattle.cast_frame.specs.Reading.ask_at Rattle.cast_frame.specs.Reading.asked_at
@@ -26,34 +26,36 @@ unfolding
     Rattle.cast_frame.specs.Reading.install_at Rattle.cast_frame.specs.Reading.installed_at
     Rattle.cast_frame.specs.Reading.out_at Rattle.cast_frame.specs.Reading.type_of Rattle.cast_frame.specs.Reading.type_at
     Rattle.cast_frame.specs.Reading.fields_at Rattle.cast_frame.specs.Reading.magic_at
-    Rattle.cast_frame.specs.Reading.version_at Rattle.cast_frame.specs.Reading.frame_at
-    Rattle.cast_frame.specs.Reading.site_frame_of Rattle.cast_field.specs.Spelling.byte
-    Rattle.cast_field.specs.Spelling.short Rattle.cast_field.specs.Spelling.word
+    Rattle.cast_frame.specs.Reading.version_of Rattle.cast_frame.specs.Reading.version_at
+    Rattle.cast_frame.specs.Reading.frame_at Rattle.cast_frame.specs.Reading.site_frame_of
+    Rattle.cast_field.specs.Spelling.byte Rattle.cast_field.specs.Spelling.short Rattle.cast_field.specs.Spelling.word
     Rattle.cast_field.specs.Spelling.spelled_proc Rattle.cast_field.specs.Spelling.spelled_entry
     Rattle.cast_field.specs.Spelling.spelled_uid Rattle.cast_field.specs.Spelling.spelled_counts
     Rattle.cast_field.specs.Spelling.spelled_clock Rattle.cast_field.specs.Spelling.spelled_times
-    Rattle.cast_field.specs.Spelling.spelled_payload Rattle.cast_field.specs.Spelling.spelled_sequence
-    Rattle.cast_field.specs.Spelling.spelled_body Rattle.cast_field.specs.Spelling.spelled_message
-    Rattle.cast_field.specs.Spelling.spelled_holder Rattle.cast_field.specs.Spelling.spelled_members
-    Rattle.cast_field.specs.Spelling.spelled_tail Rattle.cast_field.specs.Spelling.spelled_marked
-    Rattle.cast_field.specs.Spelling.spelled_kept Rattle.cast_frame.specs.Spelling.spelled_fields
-    Rattle.cast_frame.specs.Spelling.spelled_site Rattle.cast_words.specs.Readings.each
-    Rattle.cast_words.specs.Readings.spelled_number Rattle.cast_words.specs.Readings.number_of
-    Rattle.cast_words.specs.Readings.within Rattle.cast_words.specs.Readings.number_within
-    Rattle.cast_words.specs.Readings.domain_of Rattle.cast_words.specs.Readings.new_domain_of
-    Rattle.cast_words.specs.Readings.site_of Rattle.cast_words.specs.Readings.group_of
-    Rattle.cast_words.specs.Readings.checked_sites Rattle.cast_words.specs.Readings.sites_of
-    Rattle.cast_words.specs.Readings.checked_groups Rattle.cast_words.specs.Readings.groups_of
-    Rattle.cast_words.specs.Readings.quota_name_of Rattle.cast_words.specs.Readings.fixed_of
-    Rattle.cast_words.specs.Readings.bytes_of Rattle.cast_lines.specs.Readings.head_of
-    Rattle.cast_lines.specs.Readings.behind_first Rattle.cast_lines.specs.Readings.site_words
-    Rattle.cast_lines.specs.Readings.site_behind Rattle.cast_lines.specs.Readings.site_line
-    Rattle.cast_words.specs.Readings.place_words Rattle.cast_words.specs.Readings.list_words
-    Rattle.cast_words.specs.Readings.quota_words Rattle.cast_lines.specs.Readings.domain_parts
-    Rattle.cast_lines.specs.Readings.domain_words Rattle.cast_lines.specs.Readings.next_domain
-    Rattle.cast_lines.specs.Readings.request_parts Rattle.cast_lines.specs.Readings.open_words
-    Rattle.cast_lines.specs.Readings.join_words Rattle.cast_lines.specs.Readings.leave_words
-    Rattle.cast_lines.specs.Readings.cast_words Rattle.cast_lines.specs.Readings.bad_words
+    Rattle.cast_field.specs.Spelling.spelled_payload Rattle.cast_field.specs.Spelling.spelled_new_holder
+    Rattle.cast_field.specs.Spelling.spelled_sequence Rattle.cast_field.specs.Spelling.spelled_body
+    Rattle.cast_field.specs.Spelling.spelled_message Rattle.cast_field.specs.Spelling.spelled_holder
+    Rattle.cast_field.specs.Spelling.spelled_members Rattle.cast_field.specs.Spelling.spelled_tail
+    Rattle.cast_field.specs.Spelling.spelled_marked Rattle.cast_field.specs.Spelling.spelled_kept
+    Rattle.cast_frame.specs.Spelling.spelled_fields Rattle.cast_frame.specs.Spelling.spelled_site
+    Rattle.cast_words.specs.Readings.each Rattle.cast_words.specs.Readings.spelled_number
+    Rattle.cast_words.specs.Readings.number_of Rattle.cast_words.specs.Readings.within
+    Rattle.cast_words.specs.Readings.number_within Rattle.cast_words.specs.Readings.domain_of
+    Rattle.cast_words.specs.Readings.new_domain_of Rattle.cast_words.specs.Readings.site_of
+    Rattle.cast_words.specs.Readings.group_of Rattle.cast_words.specs.Readings.site_and_serial
+    Rattle.cast_words.specs.Readings.proc_of Rattle.cast_words.specs.Readings.checked_sites
+    Rattle.cast_words.specs.Readings.sites_of Rattle.cast_words.specs.Readings.checked_groups
+    Rattle.cast_words.specs.Readings.groups_of Rattle.cast_words.specs.Readings.quota_name_of
+    Rattle.cast_words.specs.Readings.fixed_of Rattle.cast_words.specs.Readings.bytes_of
+    Rattle.cast_lines.specs.Readings.head_of Rattle.cast_lines.specs.Readings.behind_first
+    Rattle.cast_lines.specs.Readings.site_words Rattle.cast_lines.specs.Readings.site_behind
+    Rattle.cast_lines.specs.Readings.site_line Rattle.cast_words.specs.Readings.place_words
+    Rattle.cast_words.specs.Readings.list_words Rattle.cast_words.specs.Readings.quota_words
+    Rattle.cast_lines.specs.Readings.domain_parts Rattle.cast_lines.specs.Readings.domain_words
+    Rattle.cast_lines.specs.Readings.next_domain Rattle.cast_lines.specs.Readings.request_parts
+    Rattle.cast_lines.specs.Readings.open_words Rattle.cast_lines.specs.Readings.join_words
+    Rattle.cast_lines.specs.Readings.leave_words Rattle.cast_lines.specs.Readings.cast_words
+    Rattle.cast_lines.specs.Readings.pass_words Rattle.cast_lines.specs.Readings.bad_words
     Rattle.cast_lines.specs.Readings.gone_words Rattle.cast_lines.specs.Readings.frame_words
     Rattle.cast_lines.specs.Readings.suspect_words Rattle.cast_lines.specs.Readings.quota_event_words
     Rattle.cast_lines.specs.Readings.take_words Rattle.cast_lines.specs.Readings.tick_words

@@ -4,6 +4,7 @@ pub mod Refusals
 pub mod Frames
 pub mod Room
 pub mod Ordering
+pub mod Tokens
 pub mod Stability
 pub mod Ticks
 pub mod Requests

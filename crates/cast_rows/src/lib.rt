@@ -1,12 +1,10 @@
-//! Worked scripts: what is printed of them, computed from the definitions alone.
+//! Worked scripts: what the definitions print for them.
 //!
-//! Promised: nothing more than the definitions say. Each script and the text that must be printed of it were worked out by
-//! hand from the rules, apart from code and definitions. Here the definitions give that text: the script's text is read, the
-//! events of each domain run through its history, and the log is written, all by computing. So a definition that says another
-//! thing than the rules is noticed, also where code and definition agree.
+//! Each script and the text that it must print were worked out by hand from the rules, apart from
+//! code and definitions. Here the definitions compute that text, from the bytes of the script to
+//! the bytes of the log. So a wrong definition is noticed, even where the code agrees with it.
 //!
-//! `specs/Printed` says what a text prints by the definitions of `cast_script`, `cast_history` and `cast_print`, each event followed by two passes, and
-//! whether nothing is left to be done behind them (`proofs/Resting` says what that comes to); the theorems are in
-//! `proofs/`: `Refusals`, `Frames`, `Room`, `Ordering`, `Stability`, `Ticks`, `Requests`, `Homes`, `Outboxes`, `Domains` and
-//! `Scripts`. The same scripts are trials of the program in `cast_trials`.
+//! `specs/Printed` says what a text prints. The theorems are in `proofs/`, one file per topic,
+//! and `proofs/Resting` says that nothing is left to be done after each event. `cast_trials` runs
+//! the same scripts through the program.
 #![tactic(auto)]

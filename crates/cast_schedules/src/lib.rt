@@ -1,4 +1,5 @@
-//! The tests of network runs: schedules over several sites, run by `cast_world`. Each is a list of rows, and what a process delivered then.
+//! Tests of network runs: schedules over several sites that `cast_world` runs, and what was
+//! delivered.
 #![tactic(auto)]
 
 #[cfg(test)]

@@ -20,6 +20,8 @@ enum Row {
     Casts(u16, u16),
     // It casts in a group, to be delivered in one order by all.
     Abcasts(u16, u16),
+    // It hands the token of a group over to the first program of another site.
+    Passes(u16, u16, u16),
     // A site, the first, is told that another may be lost.
     Suspects(u16, u16),
     // A frame comes to a site.
@@ -66,6 +68,17 @@ fn casts(site: u16, group: u16, kind: CastKind) -> Step {
     )
 }
 
+fn passes(site: u16, group: u16, to: u16) -> Step {
+    asks(
+        site,
+        Request::Pass {
+            tag: 9,
+            group: GroupNo(group),
+            to: process(to),
+        },
+    )
+}
+
 fn comes(site: u16, number: usize) -> Step {
     Step {
         site: SiteNo(site),
@@ -89,6 +102,7 @@ fn does(world: &mut World, sites: &[u16], row: Row) -> Result<(), NoMemory> {
         Row::Joins(site, group) => world.run(&[joins(site, group)]),
         Row::Casts(site, group) => world.run(&[casts(site, group, CastKind::Causal)]),
         Row::Abcasts(site, group) => world.run(&[casts(site, group, CastKind::Atomic)]),
+        Row::Passes(site, group, to) => world.run(&[passes(site, group, to)]),
         Row::Suspects(site, lost) => world.run(&[local(
             site,
             Event::Suspect(DOMAIN, SiteNo(lost)),
@@ -129,16 +143,20 @@ fn domain(alloc: Global, sites: &[u16], groups: &[u16]) -> Result<DomainConfig, 
     Ok(config)
 }
 
+// The first process of a site.
+fn process(site: u16) -> Proc {
+    Proc {
+        site: SiteNo(site),
+        serial: 1,
+    }
+}
+
 // A message of the first process of a site, by group, view, that site, and its count.
 type Message = (u16, u32, u16, u32);
 
 // Whether the first process of a site has delivered these messages, in this order.
 fn has_delivered(world: &World, site: u16, messages: &[Message]) -> Result<bool, NoMemory> {
-    let process = Proc {
-        site: SiteNo(site),
-        serial: 1,
-    };
-    let ids = world.delivered(DOMAIN, process)?;
+    let ids = world.delivered(DOMAIN, process(site))?;
     let mut same = ids.len() == messages.len();
     for (id, message) in ids.as_slice().iter().zip(messages.iter()) {
         same = same && *id == named(*message);
@@ -150,10 +168,7 @@ fn named((group, view, sender, count): Message) -> Uid {
     Uid {
         group: GroupNo(group),
         view,
-        proc: Proc {
-            site: SiteNo(sender),
-            serial: 1,
-        },
+        proc: process(sender),
         count,
     }
 }
@@ -321,6 +336,91 @@ fn a_lost_holder_leaves_its_order(rt: HostRuntime) -> Result<(), Fail> {
         &[
             (1, &[(1, 3, 3, 1), (1, 3, 1, 1), (1, 3, 2, 1)]),
             (3, &[(1, 3, 3, 1), (1, 3, 2, 1), (1, 3, 1, 1)]),
+        ],
+    )
+}
+
+// 1.1 and 2.1 are in one view. 1.1 hands the token over and casts, and its cast has no place before 2.1 gives it one.
+#[test]
+fn who_handed_the_token_over_waits_for_the_order(rt: HostRuntime) -> Result<(), Fail> {
+    leads(
+        rt.alloc(),
+        &[1, 2],
+        &[1],
+        &[
+            Row::Opens(1),
+            Row::Joins(1, 1),
+            Row::Come(0, 4),
+            Row::Opens(2),
+            Row::Joins(2, 1),
+            Row::Come(4, 12),
+            Row::Passes(1, 1, 2),
+            Row::Abcasts(1, 1),
+            Row::Comes(2, 12),
+            Row::Comes(2, 13),
+            Row::Comes(1, 16),
+        ],
+        &[
+            (1, &[(1, 2, 1, 1), (1, 2, 1, 2), (1, 2, 2, 1)]),
+            (2, &[(1, 2, 1, 1), (1, 2, 1, 2), (1, 2, 2, 1)]),
+        ],
+    )
+}
+
+// 2.1 delivers the hand-over, and orders its own cast at once.
+#[test]
+fn who_takes_the_token_over_orders_its_own_cast(rt: HostRuntime) -> Result<(), Fail> {
+    leads(
+        rt.alloc(),
+        &[1, 2],
+        &[1],
+        &[
+            Row::Opens(1),
+            Row::Joins(1, 1),
+            Row::Come(0, 4),
+            Row::Opens(2),
+            Row::Joins(2, 1),
+            Row::Come(4, 12),
+            Row::Passes(2, 1, 1),
+            Row::Passes(1, 1, 2),
+            Row::Comes(2, 12),
+            Row::Abcasts(2, 1),
+        ],
+        &[
+            (1, &[(1, 2, 1, 1)]),
+            (2, &[(1, 2, 1, 1), (1, 2, 2, 1), (1, 2, 2, 2)]),
+        ],
+    )
+}
+
+// 1.1 hands the token over to 2.1, which casts and sets the place of its cast. Site 1 receives the cast alone, and the flush of the view
+// brings the place: both that pass to the next view delivered the same.
+#[test]
+fn a_flush_brings_the_order_of_who_took_the_token_over(rt: HostRuntime) -> Result<(), Fail> {
+    leads(
+        rt.alloc(),
+        &[1, 2, 3],
+        &[1],
+        &[
+            Row::Opens(1),
+            Row::Joins(1, 1),
+            Row::Come(0, 4),
+            Row::Opens(2),
+            Row::Joins(2, 1),
+            Row::Come(4, 12),
+            Row::Opens(3),
+            Row::Joins(3, 1),
+            Row::Come(12, 24),
+            Row::Passes(1, 1, 2),
+            Row::Comes(2, 24),
+            Row::Abcasts(2, 1),
+            Row::Comes(1, 27),
+            Row::Suspects(1, 3),
+            Row::Come(32, 60),
+        ],
+        &[
+            (1, &[(1, 3, 1, 1), (1, 3, 2, 1), (1, 3, 2, 2)]),
+            (2, &[(1, 3, 1, 1), (1, 3, 2, 1), (1, 3, 2, 2)]),
         ],
     )
 }

@@ -1,11 +1,12 @@
-//! The daemon at work: its sockets, its datagrams, its console, and the threads that carry what comes from one to the other.
+//! The running daemon: sockets, datagrams, console, and the threads that connect them.
 //!
-//! A reader for each program hands its commands to the workers, one at a time; the workers serve what comes under the lock of the kept
-//! table; a dispatcher takes what came of it, sends the frames, hands each program its own, and asks for what programs are pushed;
-//! a writer for each program writes it. `serve` runs all of this until the console says `stop`.
+//! One reader per program hands its commands to the workers, one at a time. The workers serve
+//! events under the lock of the shared table. A dispatcher sends the frames and distributes the
+//! pushes, and one writer per program writes them. `serve` runs all of this until the console
+//! says `stop`.
 //!
-//! Promised: nothing but that every call is safe. What is promised of the table stands in `cast_pool`, of a program's bytes in
-//! `cast_session`, of datagrams in `cast_link`, and of the lines of the console in `cast_console`.
+//! Promised: every call is safe. `cast_pool` says what holds of the table, `cast_session` of a
+//! program's bytes, `cast_link` of datagrams, and `cast_console` of the console.
 #![tactic(auto)]
 
 mod client;

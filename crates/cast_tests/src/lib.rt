@@ -1,5 +1,6 @@
-//! The tests of the crates below the domain, of scripts, of printed texts and of the bytes of programs. Each is a list of rows: calls
-//! with what they answer, and what is then seen.
+//! Tests of the crates below the domain, of scripts, printed texts and the bytes of programs.
+//!
+//! Each is a list of rows: calls, what they answer, and what is seen afterwards.
 #![tactic(auto)]
 
 #[cfg(test)]

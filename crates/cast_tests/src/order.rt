@@ -26,15 +26,20 @@ enum Step<'a> {
     Learns(GroupNo, (u32, u32, u32)),
     // The process delivers so many of those that come next.
     Passes(usize),
-    // The holder delivers the ABCASTs of the counts from one to before another.
-    Tells(u32, u32),
-    // The holder has sent its set-order message of a count, where its messages up to another are stable.
-    Sends(u32, u32),
+    // A process delivers the ABCASTs of the counts from one to before another, of which none is in the order known.
+    Tells(Proc, u32, u32),
+    // The holder has sent its set-order message of a count, which sets places up to a last one, where its messages up to
+    // another count are stable.
+    Sends(u32, usize, u32),
     // It does so with what it has to list, and learns that: places from one on, and how many ABCASTs stand there, from a
     // first count to a last.
     Lists(u32, u32, u32, (usize, u32, u32)),
     // It does so with all that it has to list, in so many messages that are stable at once.
     ListsAll(u32),
+    // It holds the token, and orders from a place on.
+    Holds(u32),
+    // It hands the token over.
+    HandsOver,
     // The order of the group ends, with an end and a cut.
     Closes,
     // The order of the group is forgotten.
@@ -59,10 +64,14 @@ enum Step<'a> {
     Oldest(Option<(usize, u32, u32)>),
     // Whether ABCASTs wait to be listed.
     Waits(bool),
+    // The counts of those that a process has to list.
+    Waiting(Proc, &'a [u32]),
     // Whether the ABCAST of a count has a place in a group's order, or waits for one.
     Knows(GroupNo, u32, bool),
-    // Whether the holder of a group may deliver one more, where its messages up to a count are stable.
-    HasRoom(GroupNo, u32, bool),
+    // How many places the holder has settled, where its messages up to a count are stable.
+    Settles(u32, usize),
+    // The first place that it orders, if it holds the token.
+    First(Option<u32>),
 }
 
 // The ABCAST of a count of the process.
@@ -75,7 +84,7 @@ fn placement(alloc: Global, (first, here, next): (u32, u32, u32)) -> Result<Plac
     let mut ids = Vec::new(alloc);
     ids.push(cast(here))?;
     ids.push(cast(next))?;
-    Ok(Placement::from_parts(first.clamp(1, MAX_POSITION), ids))
+    Ok(Placement::from_parts(first.clamp(1, MAX_POSITION), ids, None))
 }
 
 // The end of an order, behind three ids: the ABCASTs 13, 18 and 15.
@@ -108,16 +117,17 @@ fn is_run(ids: &[(Proc, u32)], (len, first, last): (usize, u32, u32)) -> bool {
     ids.len() == len && ids.first() == Some(&cast(first)) && ids.last() == Some(&cast(last))
 }
 
-fn tells(orders: &mut Orders, from: u32, to: u32) -> Result<(), NoMemory> {
+fn tells(orders: &mut Orders, process: Proc, from: u32, to: u32) -> Result<(), NoMemory> {
     for count in from..to {
-        orders.tell(GROUP, cast(count))?;
+        orders.tell(GROUP, process, cast(count))?;
     }
     Ok(())
 }
 
 // The set-order message of a count is sent and learnt.
 fn sends(orders: &mut Orders, count: u32, stable: u32, told: &Placement) -> Result<(), NoMemory> {
-    orders.note(GROUP, count, stable)?;
+    let last = told.first() as usize + told.ids().len() - 1;
+    orders.note(GROUP, HERE, count, last, stable)?;
     orders.learn(GROUP, told)
 }
 
@@ -129,7 +139,7 @@ fn lists(
     place: u32,
     run: (usize, u32, u32),
 ) -> Result<bool, NoMemory> {
-    let Some(placement) = orders.assign(GROUP)? else {
+    let Some(placement) = orders.assign(GROUP, HERE)? else {
         return Ok(false);
     };
     sends(orders, count, stable, &placement)?;
@@ -139,7 +149,7 @@ fn lists(
 // All that the holder has to list is listed in so many set-order messages.
 fn lists_all(orders: &mut Orders, messages: u32) -> Result<(), NoMemory> {
     for message in 0..messages {
-        if let Some(placement) = orders.assign(GROUP)? {
+        if let Some(placement) = orders.assign(GROUP, HERE)? {
             sends(orders, message + 1, message + 1, &placement)?;
         }
     }
@@ -163,7 +173,7 @@ fn closes(alloc: Global, orders: &mut Orders) -> Result<(), NoMemory> {
 
 // The first place that the next set-order message sets.
 fn first_assigned(orders: &Orders) -> Result<u32, NoMemory> {
-    match orders.assign(GROUP)? {
+    match orders.assign(GROUP, HERE)? {
         Some(placement) => Ok(placement.first()),
         None => Ok(0),
     }
@@ -171,13 +181,13 @@ fn first_assigned(orders: &Orders) -> Result<u32, NoMemory> {
 
 // Whether the order ends in these, behind so many ids.
 fn has_tail(orders: &Orders, start: usize, counts: &[u32]) -> Result<bool, NoMemory> {
-    let (before, ids) = orders.tail(GROUP)?;
+    let (before, ids) = orders.tail(GROUP, Some(HERE))?;
     Ok(before == start && are(ids.as_slice(), counts))
 }
 
 // The same of many.
 fn has_long_tail(orders: &Orders, start: usize, run: (usize, u32, u32)) -> Result<bool, NoMemory> {
-    let (before, ids) = orders.tail(GROUP)?;
+    let (before, ids) = orders.tail(GROUP, Some(HERE))?;
     Ok(before == start && is_run(ids.as_slice(), run))
 }
 
@@ -192,8 +202,10 @@ fn shows(orders: &Orders, step: Step<'_>) -> bool {
         Step::LongNext(process, run) => is_run(orders.next(GROUP, process), run),
         Step::Oldest(run) => has_oldest(orders, run),
         Step::Waits(waits) => orders.waits(GROUP) == waits,
-        Step::Knows(group, count, knows) => orders.knows(group, cast(count)) == knows,
-        Step::HasRoom(group, stable, has_room) => orders.has_room(group, stable) == has_room,
+        Step::Knows(group, count, knows) => orders.knows(group, Some(HERE), cast(count)) == knows,
+        Step::Waiting(process, counts) => are(orders.waiting(GROUP, process), counts),
+        Step::Settles(stable, places) => orders.settled(GROUP, HERE, stable) == places,
+        Step::First(place) => orders.first(GROUP, HERE) == place,
         _ => false,
     }
 }
@@ -225,8 +237,10 @@ fn does(alloc: Global, orders: &mut Orders, step: Step<'_>) -> Result<bool, NoMe
     let done = match step {
         Step::Learns(group, told) => learns(alloc, orders, group, told),
         Step::Passes(count) => orders.pass(GROUP, HERE, count),
-        Step::Tells(from, to) => tells(orders, from, to),
-        Step::Sends(count, stable) => orders.note(GROUP, count, stable),
+        Step::Tells(process, from, to) => tells(orders, process, from, to),
+        Step::Sends(count, last, stable) => orders.note(GROUP, HERE, count, last, stable),
+        Step::Holds(place) => orders.hold(GROUP, HERE, place),
+        Step::HandsOver => orders.hand_over(GROUP, HERE),
         Step::ListsAll(messages) => lists_all(orders, messages),
         Step::Closes => closes(alloc, orders),
         Step::Forgets => {
@@ -280,7 +294,7 @@ fn the_holder_lists_what_it_delivered(rt: HostRuntime) -> Result<(), Fail> {
         rt.alloc(),
         &[
             Step::Learns(GROUP, (1, 11, 12)),
-            Step::Tells(101, 201),
+            Step::Tells(HERE, 101, 201),
             Step::Waits(true),
             Step::Lists(1, 0, 3, (64, 101, 164)),
             Step::Lists(2, 1, 67, (36, 165, 200)),
@@ -289,20 +303,57 @@ fn the_holder_lists_what_it_delivered(rt: HostRuntime) -> Result<(), Fail> {
     )
 }
 
+// The tail is of 512 ids, of which those that the holder has to list stand last.
 #[test]
-fn the_holder_waits_for_its_messages_to_be_stable(rt: HostRuntime) -> Result<(), Fail> {
+fn the_tail_ends_with_what_waits(rt: HostRuntime) -> Result<(), Fail> {
     goes(
         rt.alloc(),
         &[
             Step::Learns(GROUP, (1, 11, 12)),
-            Step::Tells(101, 612),
+            Step::Tells(HERE, 101, 612),
             Step::LongTail(1, (512, 12, 611)),
-            Step::HasRoom(GROUP, 0, true),
-            Step::Tells(612, 613),
-            Step::HasRoom(GROUP, 0, false),
-            Step::Sends(7, 0),
-            Step::HasRoom(GROUP, 6, false),
-            Step::HasRoom(GROUP, 7, true),
+        ],
+    )
+}
+
+// Those count that set-order messages set which are stable, and all before the first place that the holder orders.
+#[test]
+fn places_are_settled_by_stable_messages(rt: HostRuntime) -> Result<(), Fail> {
+    goes(
+        rt.alloc(),
+        &[
+            Step::Settles(9, 0),
+            Step::Sends(7, 64, 0),
+            Step::Settles(6, 0),
+            Step::Settles(7, 64),
+            Step::Sends(9, 100, 7),
+            Step::Settles(8, 64),
+            Step::Settles(9, 100),
+            Step::Holds(81),
+            Step::First(Some(81)),
+            Step::Settles(8, 80),
+            Step::Settles(9, 100),
+            Step::HandsOver,
+            Step::First(None),
+            Step::Settles(8, 64),
+        ],
+    )
+}
+
+// Who takes the token over has delivered what the holder before it listed, and one more.
+#[test]
+fn what_has_a_place_is_not_listed_again(rt: HostRuntime) -> Result<(), Fail> {
+    goes(
+        rt.alloc(),
+        &[
+            Step::Tells(HERE, 101, 103),
+            Step::Tells(NEXT, 101, 104),
+            Step::Waiting(HERE, &[101, 102]),
+            Step::Waiting(NEXT, &[101, 102, 103]),
+            Step::Lists(1, 0, 1, (2, 101, 102)),
+            Step::Waiting(HERE, &[]),
+            Step::Waiting(NEXT, &[103]),
+            Step::Waits(true),
         ],
     )
 }
@@ -312,7 +363,7 @@ fn first_ids_are_forgotten_but_for_the_tail(rt: HostRuntime) -> Result<(), Fail>
     goes(
         rt.alloc(),
         &[
-            Step::Tells(1, 577),
+            Step::Tells(HERE, 1, 577),
             Step::Lists(1, 0, 1, (64, 1, 64)),
             Step::Lists(2, 1, 65, (64, 65, 128)),
             Step::Lists(3, 2, 129, (64, 129, 192)),
@@ -338,11 +389,11 @@ fn the_oldest_may_be_forgotten_once_many_are_kept(rt: HostRuntime) -> Result<(),
     goes(
         rt.alloc(),
         &[
-            Step::Tells(1, 1024),
+            Step::Tells(HERE, 1, 1024),
             Step::ListsAll(16),
             Step::CountKnown(1023),
             Step::Oldest(None),
-            Step::Tells(1024, 1025),
+            Step::Tells(HERE, 1024, 1025),
             Step::ListsAll(1),
             Step::Oldest(Some((512, 1, 512))),
             Step::ForgetsFirst(512),
@@ -364,11 +415,10 @@ fn a_closed_order_stays(rt: HostRuntime) -> Result<(), Fail> {
             Step::Learns(GROUP, (1, 11, 16)),
             Step::Learns(GROUP, (3, 14, 12)),
             Step::Passes(1),
-            Step::Tells(17, 18),
+            Step::Tells(HERE, 17, 18),
             Step::Closes,
             Step::Known(GROUP, &[11, 14, 13, 15]),
             Step::Next(HERE, &[11, 14, 13, 15]),
-            Step::Waits(false),
             Step::Learns(GROUP, (5, 12, 10)),
             Step::Known(GROUP, &[11, 14, 13, 15]),
         ],
@@ -389,7 +439,7 @@ fn an_abcast_is_known_once_it_has_a_place_or_waits_for_one(rt: HostRuntime) -> R
             Step::Knows(GROUP, 12, true),
             Step::Knows(GROUP, 14, false),
             Step::Knows(GroupNo(2), 11, false),
-            Step::Tells(21, 22),
+            Step::Tells(HERE, 21, 22),
             Step::Knows(GROUP, 21, true),
             Step::Knows(GROUP, 22, false),
             Step::Forgets,
@@ -422,12 +472,12 @@ fn a_refused_call_says_so(rt: HostRuntime) {
             Step::Known(GROUP, &[11, 12]),
             Step::Passes(1),
             Step::Next(HERE, &[12]),
-            Step::Tells(101, 102),
+            Step::Tells(HERE, 101, 102),
             Step::Waits(true),
             Step::Tail(0, &[11, 12, 101]),
             Step::Assigns(3),
-            Step::Sends(1, 0),
-            Step::Waits(false),
+            Step::Sends(1, 3, 0),
+            Step::Waiting(HERE, &[101]),
             Step::Closes,
             Step::CountKnown(4),
         ],

@@ -1,12 +1,12 @@
-//! Trials of the whole program and of the codec. `cast_trials rows SCRIPT ..` goes through worked examples,
-//! `cast_trials speed FILE ROUNDS` measures how fast a frame is decoded and encoded, `cast_trials steps SCRIPT` how long the
-//! steps of a script take, `cast_trials serve WORKERS DOMAINS EVENTS` how many events a second so many workers serve, and
-//! `cast_trials trim DOMAINS MESSAGES ROUNDS` how long the lock is held at an event that trims the trace, where each domain keeps
-//! so many messages.
+//! Trials of the whole program, and its benchmarks.
 //!
-//! The worked examples are the scripts in `data/`, one for each rule, a script of five thousand events (`long`), one of sixteen
-//! domains (`tenants`), the frames in `stdin`, command lines (`words`), and short runs of workers (`pool`). What has to be printed for them stands in `stdout`, and
-//! for the long one and that of the domains beside it.
+//! `cast_trials rows SCRIPT ..` prints what comes of worked scripts. `speed FILE ROUNDS` times
+//! the codec, `steps SCRIPT` the steps of a script, `serve WORKERS DOMAINS EVENTS` the workers,
+//! and `trim DOMAINS MESSAGES ROUNDS` how long the lock is held when the trace is trimmed.
+//!
+//! `data/` has the scripts, one for each rule, and `stdin` frames. There are also a script of
+//! five thousand events (`long`), one of sixteen domains (`tenants`), command lines (`words`),
+//! and runs of workers (`pool`). `stdout` has what must be printed.
 #![tactic(auto)]
 
 mod frames;

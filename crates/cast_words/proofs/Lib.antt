@@ -3,3 +3,4 @@ pub mod Each
 pub mod Numbers
 pub mod Named
 pub mod Parts
+pub mod Processes

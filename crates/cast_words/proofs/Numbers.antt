@@ -47,6 +47,10 @@ zero_no_number bs (suc n) small nought long same =
     let first = first_decimal (suc n) (omega arith) (omega arith) in
     let begins : get_or (decimal (suc n)) 0 0 ≡ 48 = rw same at nought in omega arith
 
+-- the digits of a number are no dots
+pub no_dots : (n : ℕ) → n < 2 ^ 64 → (k : ℕ) → k < length (decimal n) → get_or (decimal n) k 0 ≢ 46
+no_dots n small k inside = not_in_digits own (decimal n) 46 (digits_decimal own n small) (λ range. omega (arith, range.0)) k inside
+
 -- what begins with a sign, or with a zero before other digits, is no number
 pub odd_no_number : (bs : List ℕ) → (get_or bs 0 0 ≡ 43) ⊎ ((get_or bs 0 0 ≡ 48) × (1 < length bs)) → (n : ℕ) → n < 2 ^ 64 → bs ≢ decimal n
 odd_no_number bs (inl sign) n small = sign_no_number bs n small sign

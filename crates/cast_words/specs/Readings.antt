@@ -1,6 +1,6 @@
 -- Reading words: what they say, or the reason of their first fault.
-use Rattle.std.specs.Prelude.{◌≡◌, ℕ, ◌^◌, ◌&&◌, ◌||◌, ◌==◌, nat_lt, nat_le, bytes_eq, if◌then◌else◌, List, [], ◌∷◌, length, codes, Result, Ok, Err}
-use Rattle.std.specs.List.{list_any}
+use Rattle.std.specs.Prelude.{◌≡◌, ℕ, ◌^◌, Bool, ◌&&◌, ◌||◌, ◌==◌, nat_lt, nat_le, bytes_eq, if◌then◌else◌, List, [], ◌∷◌, length, codes, Result, Ok, Err}
+use Rattle.std.specs.List.{list_any, position_or_len, before_first, after_first}
 use Rattle.std.specs.Fmt.{decimal}
 use Rattle.std.specs.Str.Parse.{digits_value}
 use Rattle.hex.specs.Hex.{decode_of}
@@ -8,6 +8,7 @@ use Rattle.hex.specs.declared.error.FromHexError.{FromHexError}
 use Rattle.cast_types.specs.declared.names.DomainNo.{DomainNo}
 use Rattle.cast_types.specs.declared.names.SiteNo.{SiteNo}
 use Rattle.cast_types.specs.declared.names.GroupNo.{GroupNo}
+use Rattle.cast_types.specs.declared.names.Proc.{Proc}
 use Rattle.cast_types.specs.Names.{site_eq}
 use Rattle.cast_quota.specs.declared.quotas.Quotas.{Quotas}
 use Rattle.cast_quota.specs.declared.quotas.QuotaName.{QuotaName}
@@ -80,6 +81,22 @@ unfoldable pub group_of : List ℕ → Result GroupNo Reason
 group_of word = do
   n ← number_within 1 65535 word
   Ok (record { 0 = n })
+
+abbrev pub is_dot : ℕ → Bool
+is_dot b = b == 46
+
+-- the site of a process and its serial there
+unfoldable pub site_and_serial : List ℕ → List ℕ → Result Proc Reason
+site_and_serial site serial = do
+  s ← site_of site
+  n ← number_within 1 4294967295 serial
+  Ok (record { site = s; serial = n })
+
+-- a process: its site before the first dot, and its serial there behind it
+unfoldable pub proc_of : List ℕ → Result Proc Reason
+proc_of word =
+    if nat_lt (position_or_len is_dot word) (length word) then site_and_serial (before_first is_dot word) (after_first is_dot word)
+    else Err BadNumber
 
 -- at most 16 sites, which rise, the home and the own site among them
 unfoldable pub checked_sites : SiteNo → SiteNo → List SiteNo → Result (List SiteNo) Reason

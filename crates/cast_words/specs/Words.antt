@@ -1,5 +1,5 @@
 -- What words of a script spell.
-use Rattle.std.specs.Prelude.{◌≡◌, ◌≢◌, ◌<◌, ◌≤◌, ◌^◌, ◌⊎◌, ℕ, Bool, true, ◌&&◌, ◌==◌, nat_lt, List, [], ◌∷◌, map, codes, Ok}
+use Rattle.std.specs.Prelude.{◌≡◌, ◌≢◌, ◌<◌, ◌≤◌, ◌^◌, ◌⊎◌, ℕ, Bool, true, ◌&&◌, ◌==◌, nat_lt, List, [], ◌∷◌, ◌++◌, map, codes, Ok}
 use Rattle.std.specs.Borrow.{Bor}
 use Rattle.std.specs.List.{list_any, slice_split}
 use Rattle.std.specs.Fmt.{decimal}
@@ -7,6 +7,7 @@ use Rattle.hex.specs.Hex.{decode_of}
 use Rattle.cast_types.specs.declared.names.DomainNo.{DomainNo}
 use Rattle.cast_types.specs.declared.names.SiteNo.{SiteNo}
 use Rattle.cast_types.specs.declared.names.GroupNo.{GroupNo}
+use Rattle.cast_types.specs.declared.names.Proc.{Proc}
 use Rattle.cast_quota.specs.declared.quotas.Quotas.{Quotas}
 use Rattle.cast_quota.specs.declared.quotas.QuotaName.{QuotaName}
 use Rattle.cast_quota.specs.declared.quotas.QuotaName.TheVariants as name
@@ -42,6 +43,10 @@ IsSite s = IsBetween 1 65535 s.0
 abbrev pub IsGroup : GroupNo → Type 0
 IsGroup g = IsBetween 1 65535 g.0
 
+-- a process: its site, and its serial there, from 1 on
+abbrev pub IsProc : Proc → Type 0
+IsProc p = IsSite p.site × IsBetween 1 4294967295 p.serial
+
 -- the serial of a session, the tag of a request, the value of a quota, or how many entries are taken
 abbrev pub IsNumber : ℕ → Type 0
 IsNumber n = n < 2 ^ 32
@@ -64,6 +69,10 @@ texts ws = map (λ w. w.now) ws
 -- hexadecimal digits of either case spell bytes, and `-` spells none
 abbrev pub SpellsBytes : List ℕ → List ℕ → Type 0
 SpellsBytes word bytes = ((word ≡ codes "-") × (bytes ≡ [])) ⊎ ((word ≢ []) × (decode_of word ≡ Ok bytes))
+
+-- the word that names a process, as `2.1`: its site and its serial there
+abbrev pub proc_text : Proc → List ℕ
+proc_text p = decimal p.site.0 ++ (codes "." ++ decimal p.serial)
 
 -- a word spells sites, parted by commas
 abbrev pub SpellsSites : List ℕ → List SiteNo → Type 0

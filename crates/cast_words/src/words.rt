@@ -1,11 +1,12 @@
 ghost use Rattle.std.specs.Prelude.{◌≡◌, ◌≢◌, ◌≤◌, ◌<◌, ◌⊎◌, IfOk, IsTrue, false, length, slice_index};
 ghost use Rattle.cast_words.specs.Words.{groups_rise as are_rising_groups, parted, sites_rise as are_rising_sites, texts};
-ghost use Rattle.cast_words.specs.Readings.{GivesAs, bytes_of, domain_of, each, fixed_of, group_of, number_of, number_within, quota_name_of, site_of};
+ghost use Rattle.cast_words.specs.Readings.{GivesAs, bytes_of, domain_of, each, fixed_of, group_of, number_of, number_within, proc_of, quota_name_of, site_and_serial, site_of};
 ghost use Rattle.cast_words.specs.Reasons.{reason_text};
 ghost use Rattle.cast_words.specs.declared.words.LineFault.TheVariants.{Refused, NoMemory};
 
 use cast_model::QuotaName;
-use cast_types::{DomainNo, GroupNo, SiteNo};
+use cast_types::limits::MAX_NUMBER;
+use cast_types::{DomainNo, GroupNo, Proc, SiteNo};
 use std::alloc::{AllocError, AllocFailed, Global};
 use thiserror::Error;
 
@@ -17,7 +18,7 @@ pub enum Reason {
     UnknownWord,
     /// The line has more or fewer words than its first word asks for.
     WrongCount,
-    /// A word is no number, or a number or how many there are of them is out of its range.
+    /// A word is no number or no process, or a number or how many there are of them is out of its range.
     BadNumber,
     /// A word is not an even number of hexadecimal digits, nor `-`.
     BadHex,
@@ -144,6 +145,26 @@ pub fn group_word(word: &str) -> Result<GroupNo, Reason>
     ensures { result ≡ group_of word.now }
 {
     Ok(GroupNo(number_between(word, 1, 65_535)? as u16))
+}
+
+/// A process, as `2.1`: its site and its serial there.
+#[tactic(auto, unfolding(crate::specs::Readings::proc_of))]
+pub fn proc_word(word: &str) -> Result<Proc, Reason>
+    ensures { result ≡ proc_of word.now }
+{
+    let (site, serial) = word.split_once('.').ok_or(Reason::BadNumber)?;
+    site_and_serial(site, serial)
+}
+
+// A process: its site and its serial there.
+#[tactic(auto, unfolding(crate::specs::Readings::site_and_serial))]
+fn site_and_serial(site: &str, serial: &str) -> Result<Proc, Reason>
+    ensures { result ≡ site_and_serial site.now serial.now }
+{
+    Ok(Proc {
+        site: site_word(site)?,
+        serial: number_between(serial, 1, MAX_NUMBER)?,
+    })
 }
 
 // The pieces of a word, parted by commas.

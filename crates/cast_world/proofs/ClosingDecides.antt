@@ -29,6 +29,7 @@ use Rattle.cast_world.proofs.Firsts.{drop_length, kept_length, shorter_begins}
 use Rattle.cast_world.proofs.Flush.{Choice}
 use Rattle.cast_world.proofs.Homes.{among_kept, idle_not, same_decision, set_had}
 use Rattle.cast_world.proofs.Invariants.{Sites}
+use Rattle.cast_world.proofs.Tokens.{HandOvers}
 use Rattle.cast_world.proofs.Orders.{Orders, done_in}
 use Rattle.cast_world.proofs.Prefixes.{comparable, in_flat, prefix_trans}
 use Rattle.cast_world.proofs.Runs.{from_mapped}
@@ -109,19 +110,19 @@ longest_from first (r ∷ reports) = go (nat_lt (end_of first) (end_of r.1.tail)
 
 -- Orders that were said of one view are comparable
 
-pub comparable_said : (choice : Choice) (at : Sites) (order : Orders) (s q : SiteNo) (g : GroupNo) (v : ℕ) (one two : List Entry) → Sided choice at order s g v one → Sided choice at order q g v two → IsPrefix one two ⊎ IsPrefix two one
-comparable_said choice at order s q g v one two (inl a) (inl b) = comparable one two (order g v) a b
-comparable_said choice at order s q g v one two (inl a) (inr b) = inl (prefix_trans one (order g v) two a b.all)
-comparable_said choice at order s q g v one two (inr a) (inl b) = inr (prefix_trans two (order g v) one b a.all)
-comparable_said choice at order s q g v one two (inr a) (inr b) =
+pub comparable_said : (choice : Choice) (at : Sites) (order : Orders) (handed : HandOvers) (s q : SiteNo) (g : GroupNo) (v : ℕ) (one two : List Entry) → Sided choice at order handed s g v one → Sided choice at order handed q g v two → IsPrefix one two ⊎ IsPrefix two one
+comparable_said choice at order handed s q g v one two (inl a) (inl b) = comparable one two (order g v) a b
+comparable_said choice at order handed s q g v one two (inl a) (inr b) = inl (prefix_trans one (order g v) two a b.all)
+comparable_said choice at order handed s q g v one two (inr a) (inl b) = inr (prefix_trans two (order g v) one b a.all)
+comparable_said choice at order handed s q g v one two (inr a) (inr b) =
     let same : a.holder ≡ b.holder = ap (λ (o : Option Proc). unwrap_or o a.holder) (sym a.chosen ∙ b.chosen) in
     let place : s ≡ q = sym a.there ∙ ap (λ (p : Proc). p.site) same ∙ b.there in
     comparable one two (done_in g v ((at q).abcasts b.holder.serial)) (subst (IsPrefix one) (λ i. done_in g v ((at (place i)).abcasts (same i).serial)) a.done) b.done
 
 -- The end that the home decides
 
-module _ (choice : Choice) (at : Sites) (order : Orders) (safe : Safe) (g : GroupNo) (v : ℕ) (reports : Reports)
-    (said : (q : SiteNo) (r : Report) → Contains reports (q, r) → HasReported choice at order safe q g v r.tail r.kept) (cut : CountList) where
+module _ (choice : Choice) (at : Sites) (order : Orders) (handed : HandOvers) (safe : Safe) (g : GroupNo) (v : ℕ) (reports : Reports)
+    (said : (q : SiteNo) (r : Report) → Contains reports (q, r) → HasReported choice at order handed safe q g v r.tail r.kept) (cut : CountList) where
   abbrev placed : List Entry
   placed = filter (is_within cut) (longest reports).ids
 
@@ -134,7 +135,7 @@ module _ (choice : Choice) (at : Sites) (order : Orders) (safe : Safe) (g : Grou
   -- the order whose end is the longest
   pub record Longest : Type 0 where
     pub whole : List Entry
-    pub side : (whole ≡ []) ⊎ ((q : SiteNo) × HasSaid choice at order safe q g v whole)
+    pub side : (whole ≡ []) ⊎ ((q : SiteNo) × HasSaid choice at order handed safe q g v whole)
     pub tail : longest reports ≡ tail_of whole
     pub few : length whole ≤ MAX_POSITION
 
@@ -167,7 +168,7 @@ module _ (choice : Choice) (at : Sites) (order : Orders) (safe : Safe) (g : Grou
       (let far = is_longest.2 (q, r) c in let mine = ap end_of one.2 ∙ tail_ends one.0 one.1.few in let most = ap end_of longest_is.tail ∙ tail_ends longest_is.whole longest_is.few in omega (arith, far, mine, most)) in
       elim longest_is.side [
         | inl none ↦ (longest_is.whole, ap (λ l. l ++ longest_is.whole) (empty one.0 (let n = ap length none in omega (arith, short, n))))
-        | inr s ↦ shorter_begins one.0 longest_is.whole (comparable_said choice at order q s.0 g v one.0 longest_is.whole one.1.side s.1.side) short
+        | inr s ↦ shorter_begins one.0 longest_is.whole (comparable_said choice at order handed q s.0 g v one.0 longest_is.whole one.1.side s.1.side) short
       ]
     where
       empty : (l : List Entry) → length l ≡ 0 → l ≡ []

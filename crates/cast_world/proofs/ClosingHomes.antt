@@ -58,22 +58,22 @@ module _ (home : SiteNo) (w : Network) (a : SiteNo) where
   no_calm t g v k s m c q = (m, c, q, refl)
 
   -- a home that moves on without a decision
-  follows_closing : (t : State) (g : GroupNo) (h : Home) (i : ClosingNow home w a no_key t) (j : WindowNow home w a no_key (set_home t g h)) (ext : Extends i.0.0.1 (number t) j.0.1 (number (set_home t g h))) → j.0.3 ≡ i.0.0.3 → j.1 ≡ i.0.1 →
+  follows_closing : (t : State) (g : GroupNo) (h : Home) (i : ClosingNow home w a no_key t) (j : WindowNow home w a no_key (set_home t g h)) (ext : Extends i.0.0.1 (number t) j.0.1 (number (set_home t g h))) → j.0.3 ≡ i.0.0.3 → j.0.4 ≡ i.0.0.4 → j.1 ≡ i.0.1 →
       HomeFollows (Arrived home w a) g (t.home g) h → ClosingNow home w a no_key (set_home t g h)
-  follows_closing t g h i j ext order safe f =
+  follows_closing t g h i j ext order given safe f =
       let u : State = set_home t g h in
       let le : (t.home g).number ≤ h.number = (let same = f.number in omega (arith, same)) in
-      closing_same home w a no_key no_key t u (later_home t g h le) i j ext order safe (no_stops t) (no_notes t) (no_calm t)
+      closing_same home w a no_key no_key t u (later_home t g h le) i j ext order given safe (no_stops t) (no_notes t) (no_calm t)
       (still_there home w a t u (set_group_all (λ y (z : Home). z.number ≤ (t.home y).number) t.home g h (λ y. omega arith) (let same = f.number in omega (arith, same))))
       (λ x. record {
         closes = x.closes;
         begins = x.begins;
         well = x.well;
-        reports = set_group_all (λ y (z : Home). (q : SiteNo) (r : Report) → Contains (reports_of z.phase) (q, r) → HasReported j.0.1 (at u) j.0.3 j.1 q y z.number r.tail r.kept) t.home g h x.reports
+        reports = set_group_all (λ y (z : Home). (q : SiteNo) (r : Report) → Contains (reports_of z.phase) (q, r) → HasReported j.0.1 (at u) j.0.3 j.0.4 j.1 q y z.number r.tail r.kept) t.home g h x.reports
             (λ q r c. elim (f.reports q r c) [
-              | inl old ↦ subst (λ n. HasReported j.0.1 (at u) j.0.3 j.1 q g n r.tail r.kept) (sym f.number) (x.reports g q r old)
-              | inr came ↦ subst (λ n. HasReported j.0.1 (at u) j.0.3 j.1 q g n r.tail r.kept) (sym f.number)
-                  (came_same home w a no_key no_key t u (later_home t g h le) i j ext order safe (no_stops t) (no_notes t) (no_calm t) q (frame.Flushed g (t.home g).number r.counts r.tail r.kept) came)
+              | inl old ↦ subst (λ n. HasReported j.0.1 (at u) j.0.3 j.0.4 j.1 q g n r.tail r.kept) (sym f.number) (x.reports g q r old)
+              | inr came ↦ subst (λ n. HasReported j.0.1 (at u) j.0.3 j.0.4 j.1 q g n r.tail r.kept) (sym f.number)
+                  (came_same home w a no_key no_key t u (later_home t g h le) i j ext order given safe (no_stops t) (no_notes t) (no_calm t) q (frame.Flushed g (t.home g).number r.counts r.tail r.kept) came)
             ]);
         decision = set_group_all (λ y (z : Home). (waiting : List SiteNo) (d : Decision) (bodies : List Message) (view : ℕ) → z.phase ≡ Installing waiting d bodies → z.number ≡ view + 1 → d.tail ≡ end_tail (j.0.1 y (view + 1)).cut (i.1 y view))
             t.home g h x.decision (λ waiting d bodies view e is. let was = f.installs waiting d bodies e in x.decision g was.0 d was.1 view was.2 (sym f.number ∙ is));
@@ -114,20 +114,20 @@ module _ (home : SiteNo) (w : Network) (a : SiteNo) where
         ap (λ (z : State). (z.home y).number) (subst (λ z. at u z ≡ u) home_is (own_is home w a u)) ∙ ap (λ (z : Home). z.number) (set_other t.home g (decided h) y apart)
         ∙ sym (ap (λ (z : State). (z.home y).number) (subst (λ z. at t z ≡ t) home_is (own_is home w a t)))
 
-    abbrev mine : SiteClosing i.0.0.1 (at t) i.0.0.3 i.0.1 i.1 a t
-    mine = own_closing home w a t i.0.0.1 i.0.0.3 i.0.1 i.1 i.2
+    abbrev mine : SiteClosing i.0.0.1 (at t) i.0.0.3 i.0.0.4 i.0.1 i.1 a t
+    mine = own_closing home w a t i.0.0.1 i.0.0.3 i.0.0.4 i.0.1 i.1 i.2
 
     abbrev reports : Reports
     reports = reports_of h.phase
 
-    abbrev said : (q : SiteNo) (r : Report) → Contains reports (q, r) → HasReported i.0.0.1 (at t) i.0.0.3 i.0.1 q g v r.tail r.kept
+    abbrev said : (q : SiteNo) (r : Report) → Contains reports (q, r) → HasReported i.0.0.1 (at t) i.0.0.3 i.0.0.4 i.0.1 q g v r.tail r.kept
     said = mine.reports g
 
     abbrev cut : CountList
     cut = cut_from h.members.list reports
 
     abbrev e : End
-    e = decided_end i.0.0.1 (at t) i.0.0.3 i.0.1 g v reports said cut
+    e = decided_end i.0.0.1 (at t) i.0.0.3 i.0.0.4 i.0.1 g v reports said cut
 
     abbrev ends : Ends
     ends y z = if group_eq g y && (z == v) then e else i.1 y z
@@ -150,11 +150,11 @@ module _ (home : SiteNo) (w : Network) (a : SiteNo) where
     low : v ≤ number t g
     low = let top = number_t in omega (arith, top)
 
-    lift : (q : SiteNo) (whole : List Entry) → HasSaid i.0.0.1 (at t) i.0.0.3 i.0.1 q g v whole → HasSaid j.0.1 (at u) j.0.3 j.1 q g v whole
-    lift q whole x = said_later home w a t u (later_home t g (decided h) up) i.0.0.0 i.0.0.1 j.0.1 i.0.0.2 ext i.0.0.3 j.0.3 i.0.1 j.1 (λ y z. omega arith) (λ y z. ([], append-nil (i.0.0.3 y z))) (λ y z. inl refl) (no_stops t) (no_notes t) (no_calm t) q g v whole low x
+    lift : (q : SiteNo) (whole : List Entry) → HasSaid i.0.0.1 (at t) i.0.0.3 i.0.0.4 i.0.1 q g v whole → HasSaid j.0.1 (at u) j.0.3 j.0.4 j.1 q g v whole
+    lift q whole x = said_later home w a t u (later_home t g (decided h) up) i.0.0.0 i.0.0.1 j.0.1 i.0.0.2 ext i.0.0.3 j.0.3 i.0.0.4 j.0.4 i.0.1 j.1 (λ y z. omega arith) (λ y z. ([], append-nil (i.0.0.3 y z))) (λ y z. inl (refl, refl)) (no_stops t) (no_notes t) (no_calm t) q g v whole low x
 
     abbrev whole : List Entry
-    whole = (longest_is i.0.0.1 (at t) i.0.0.3 i.0.1 g v reports said cut).whole
+    whole = (longest_is i.0.0.1 (at t) i.0.0.3 i.0.0.4 i.0.1 g v reports said cut).whole
 
     -- who is in both views is at a site that reported
     covered_by : (q : Proc) → IsChosen j.0.1 g v q → IsChosen j.0.1 g (v + 1) q → (r : Report) × Contains reports (q.site, r)
@@ -167,26 +167,26 @@ module _ (home : SiteNo) (w : Network) (a : SiteNo) where
         (subst (λ n. IsChosen j.0.1 g n q) (ap (λ (x : Home). x.number) made) after)) in
         has_reported g h h.phase may.1 (y.homes g).awaits q member (not_suspected h q listed)
 
-    new_end : EndHolds j.0.1 (at u) j.0.3 j.1 g v e
+    new_end : EndHolds j.0.1 (at u) j.0.3 j.0.4 j.1 g v e
     new_end = record {
-      low = start_within i.0.0.1 (at t) i.0.0.3 i.0.1 g v reports said cut;
-      known = start_known i.0.0.1 (at t) i.0.0.3 i.0.1 g v reports said cut;
-      apart = elim (longest_is i.0.0.1 (at t) i.0.0.3 i.0.1 g v reports said cut).side [ inl none ↦ subst Apart (sym none) tt | inr s ↦ s.1.apart ];
-      side = elim (longest_is i.0.0.1 (at t) i.0.0.3 i.0.1 g v reports said cut).side [
+      low = start_within i.0.0.1 (at t) i.0.0.3 i.0.0.4 i.0.1 g v reports said cut;
+      known = start_known i.0.0.1 (at t) i.0.0.3 i.0.0.4 i.0.1 g v reports said cut;
+      apart = elim (longest_is i.0.0.1 (at t) i.0.0.3 i.0.0.4 i.0.1 g v reports said cut).side [ inl none ↦ subst Apart (sym none) tt | inr s ↦ s.1.apart ];
+      side = elim (longest_is i.0.0.1 (at t) i.0.0.3 i.0.0.4 i.0.1 g v reports said cut).side [
         | inl none ↦ inl (i.0.0.3 g v, ap (λ l. l ++ i.0.0.3 g v) none)
         | inr s ↦ (let x = lift s.0 whole s.1 in elim x.side [ inl p ↦ inl p | inr b ↦ inr (s.0, x.stopped, b) ])
       ];
       kinds = λ z c. elim c [
-        | inl one ↦ elim (longest_is i.0.0.1 (at t) i.0.0.3 i.0.1 g v reports said cut).side [
+        | inl one ↦ elim (longest_is i.0.0.1 (at t) i.0.0.3 i.0.0.4 i.0.1 g v reports said cut).side [
           | inl none ↦ absurd (let no = subst (λ l. Contains l z) none one in omega (arith, no.1))
           | inr s ↦ (lift s.0 whole s.1).kinds z one
         ]
-        | inr two ↦ abcast_later home w a t u (later_home t g (decided h) up) i.0.0.0 i.0.0.1 j.0.1 i.0.0.2 ext i.0.0.3 j.0.3 i.0.1 j.1 (λ y n. omega arith) (λ y n. ([], append-nil (i.0.0.3 y n))) (λ y n. inl refl) (no_stops t) (no_notes t) (no_calm t) g v z
-            (added_kinds i.0.0.1 (at t) i.0.0.3 i.0.1 g v reports said cut z two)
+        | inr two ↦ abcast_later home w a t u (later_home t g (decided h) up) i.0.0.0 i.0.0.1 j.0.1 i.0.0.2 ext i.0.0.3 j.0.3 i.0.0.4 j.0.4 i.0.1 j.1 (λ y n. omega arith) (λ y n. ([], append-nil (i.0.0.3 y n))) (λ y n. inl (refl, refl)) (no_stops t) (no_notes t) (no_calm t) g v z
+            (added_kinds i.0.0.1 (at t) i.0.0.3 i.0.0.4 i.0.1 g v reports said cut z two)
       ];
       covered = λ q before after.
           let r = covered_by q before after in
-          ((said q.site r.0 r.1).0, lift q.site (said q.site r.0 r.1).0 (said q.site r.0 r.1).1, each_begins i.0.0.1 (at t) i.0.0.3 i.0.1 g v reports said cut q.site r.0 r.1);
+          ((said q.site r.0 r.1).0, lift q.site (said q.site r.0 r.1).0 (said q.site r.0 r.1).1, each_begins i.0.0.1 (at t) i.0.0.3 i.0.0.4 i.0.1 g v reports said cut q.site r.0 r.1);
     }
 
     -- the decision goes with that end
@@ -206,19 +206,19 @@ module _ (home : SiteNo) (w : Network) (a : SiteNo) where
         let chosen : d.cut ≡ (j.0.1 g (v + 1)).cut = ((own_agrees home w a u j.0.1 j.0.2).homes g).decision waiting d bodies (ap (λ (x : Home). x.phase) made ∙ same) ∙ ap (λ (x : Home). (j.0.1 g x.number).cut) made in
         let at_v : v ≡ view = omega (arith, is) in
         subst (λ n. d.tail ≡ end_tail (j.0.1 g (n + 1)).cut (ends g n)) at_v
-        (two.1 ∙ decided_tail i.0.0.1 (at t) i.0.0.3 i.0.1 g v reports said cut ∙ (λ n. end_tail ((sym two.0 ∙ chosen) n) (sym ends_here n)))
+        (two.1 ∙ decided_tail i.0.0.1 (at t) i.0.0.3 i.0.0.4 i.0.1 g v reports said cut ∙ (λ n. end_tail ((sym two.0 ∙ chosen) n) (sym ends_here n)))
 
     pub decides_closing : ClosingNow home w a no_key u
     decides_closing = (
       j,
       ends,
-      closing_all home w a no_key no_key t u (later_home t g (decided h) up) i j ext (λ y z. omega arith) (λ y z. ([], append-nil (i.0.0.3 y z))) (λ y z. inl refl) (no_stops t) (no_notes t) (no_calm t) ends ends_same
-          (let x = old_here home w a no_key no_key t u (later_home t g (decided h) up) i j ext (λ y z. omega arith) (λ y z. ([], append-nil (i.0.0.3 y z))) (λ y z. inl refl) (no_stops t) (no_notes t) (no_calm t) ends ends_same in
+      closing_all home w a no_key no_key t u (later_home t g (decided h) up) i j ext (λ y z. omega arith) (λ y z. ([], append-nil (i.0.0.3 y z))) (λ y z. inl (refl, refl)) (no_stops t) (no_notes t) (no_calm t) ends ends_same
+          (let x = old_here home w a no_key no_key t u (later_home t g (decided h) up) i j ext (λ y z. omega arith) (λ y z. ([], append-nil (i.0.0.3 y z))) (λ y z. inl (refl, refl)) (no_stops t) (no_notes t) (no_calm t) ends ends_same in
           record {
             closes = x.closes;
             begins = x.begins;
             well = x.well;
-            reports = set_group_all (λ y (z : Home). (q : SiteNo) (r : Report) → Contains (reports_of z.phase) (q, r) → HasReported j.0.1 (at u) j.0.3 j.1 q y z.number r.tail r.kept) t.home g (decided h) x.reports
+            reports = set_group_all (λ y (z : Home). (q : SiteNo) (r : Report) → Contains (reports_of z.phase) (q, r) → HasReported j.0.1 (at u) j.0.3 j.0.4 j.1 q y z.number r.tail r.kept) t.home g (decided h) x.reports
                 (λ q r c. absurd (no_reports home w a t g may.0 may.1 i.0.0.0 i.0.0.1 i.0.0.2 h.phase may.1 q r c));
             decision = set_group_all (λ y (z : Home). (waiting : List SiteNo) (d : Decision) (bodies : List Message) (view : ℕ) → z.phase ≡ Installing waiting d bodies → z.number ≡ view + 1 → d.tail ≡ end_tail (j.0.1 y (view + 1)).cut (ends y view))
                 t.home g (decided h) x.decision new_decision;
@@ -230,20 +230,20 @@ module _ (home : SiteNo) (w : Network) (a : SiteNo) where
                 let top : number t y ≡ v = sym (ap (number t) same) ∙ number_t in
                 let high : number u y ≡ v + 1 = sym (ap (number u) same) ∙ number_u in
                 let is : v ≡ z = omega (arith, top, high, new_one, le) in
-                subst (λ x. EndHolds j.0.1 (at u) j.0.3 j.1 x z (ends x z)) same (subst (λ n. EndHolds j.0.1 (at u) j.0.3 j.1 g n (ends g n)) is (subst (EndHolds j.0.1 (at u) j.0.3 j.1 g v) (sym ends_here) new_end))
+                subst (λ x. EndHolds j.0.1 (at u) j.0.3 j.0.4 j.1 x z (ends x z)) same (subst (λ n. EndHolds j.0.1 (at u) j.0.3 j.0.4 j.1 g n (ends g n)) is (subst (EndHolds j.0.1 (at u) j.0.3 j.0.4 j.1 g v) (sym ends_here) new_end))
           ]),
     )
 
   pub homes_closing : (t : State) (g : GroupNo) (what : HomeMove) → ClosingNow home w a no_key t → MayMove (Arrived home w a) t g what → ClosingNow home w a no_key (set_home t g (moved what (t.home g)))
-  homes_closing t g (Asked from k what p) i may = follows_closing t g (after_ask (t.home g) from k what p) i ((kept_window home w a).homes t g (Asked from k what p) i.0 may) ((flush home w a t i.0.0).homes t g (Asked from k what p) (begin home w a t i.0.0) may).3 refl refl
+  homes_closing t g (Asked from k what p) i may = follows_closing t g (after_ask (t.home g) from k what p) i ((kept_window home w a).homes t g (Asked from k what p) i.0 may) ((flush home w a t i.0.0).homes t g (Asked from k what p) (begin home w a t i.0.0) may).3 refl refl refl
       (request_follows (Arrived home w a) g (t.home g) from k what p may)
-  homes_closing t g (Suspected site) i may = follows_closing t g (after_suspicion (t.home g) site) i ((kept_window home w a).homes t g (Suspected site) i.0 may) ((flush home w a t i.0.0).homes t g (Suspected site) (begin home w a t i.0.0) may).3 refl refl
+  homes_closing t g (Suspected site) i may = follows_closing t g (after_suspicion (t.home g) site) i ((kept_window home w a).homes t g (Suspected site) i.0 may) ((flush home w a t i.0.0).homes t g (Suspected site) (begin home w a t i.0.0) may).3 refl refl refl
       (suspicion_follows (Arrived home w a) g (t.home g) site)
-  homes_closing t g Started i may = follows_closing t g (after_start (t.home g)) i ((kept_window home w a).homes t g Started i.0 may) ((flush home w a t i.0.0).homes t g Started (begin home w a t i.0.0) may).3 refl refl (started_follows (Arrived home w a) g (t.home g))
-  homes_closing t g (Reported from view r) i may = follows_closing t g (after_reply (t.home g) from view r) i ((kept_window home w a).homes t g (Reported from view r) i.0 may) ((flush home w a t i.0.0).homes t g (Reported from view r) (begin home w a t i.0.0) may).3 refl refl
+  homes_closing t g Started i may = follows_closing t g (after_start (t.home g)) i ((kept_window home w a).homes t g Started i.0 may) ((flush home w a t i.0.0).homes t g Started (begin home w a t i.0.0) may).3 refl refl refl (started_follows (Arrived home w a) g (t.home g))
+  homes_closing t g (Reported from view r) i may = follows_closing t g (after_reply (t.home g) from view r) i ((kept_window home w a).homes t g (Reported from view r) i.0 may) ((flush home w a t i.0.0).homes t g (Reported from view r) (begin home w a t i.0.0) may).3 refl refl refl
       (replied_follows (Arrived home w a) g (t.home g) from view r may)
-  homes_closing t g (Brought m) i may = follows_closing t g (after_body (t.home g) m) i ((kept_window home w a).homes t g (Brought m) i.0 may) ((flush home w a t i.0.0).homes t g (Brought m) (begin home w a t i.0.0) may).3 refl refl
+  homes_closing t g (Brought m) i may = follows_closing t g (after_body (t.home g) m) i ((kept_window home w a).homes t g (Brought m) i.0 may) ((flush home w a t i.0.0).homes t g (Brought m) (begin home w a t i.0.0) may).3 refl refl refl
       (brought_follows (Arrived home w a) g (t.home g) may.0 m may.1)
   homes_closing t g Decided i may = decides_closing t g i may
-  homes_closing t g (Installed from view) i may = follows_closing t g (after_installed (t.home g) from view) i ((kept_window home w a).homes t g (Installed from view) i.0 may) ((flush home w a t i.0.0).homes t g (Installed from view) (begin home w a t i.0.0) may).3 refl refl
+  homes_closing t g (Installed from view) i may = follows_closing t g (after_installed (t.home g) from view) i ((kept_window home w a).homes t g (Installed from view) i.0 may) ((flush home w a t i.0.0).homes t g (Installed from view) (begin home w a t i.0.0) may).3 refl refl refl
       (left_follows (Arrived home w a) g (t.home g) from view)

@@ -47,6 +47,7 @@ use Rattle.cast_world.proofs.Prefixes.{apart_both, apart_first, comparable, flat
 use Rattle.cast_world.proofs.Same.{EachSeen, none_after, same_messages, seen_in_every}
 use Rattle.cast_world.proofs.OrderRuns.{start_ordered}
 use Rattle.cast_world.proofs.OrderSteps.{From, own}
+use Rattle.cast_world.proofs.Tokens.{HandOvers}
 use Rattle.cast_world.proofs.Orders.{AllOrdered, Stands, Apart, Orders, done_in}
 use Rattle.cast_world.proofs.Runs.{facts, first, from_mapped, last, nothing, start_holds, step_arrives}
 use Rattle.cast_world.proofs.Steps.{AllHold, Arrived, own_is, sites_at}
@@ -62,26 +63,26 @@ use Rattle.cast_world.specs.declared.step.Step.{Step}
 use Rattle.cast_message.specs.declared.site.SiteFrame.TheVariants as frame
 
 -- what holds of the states of all sites and of the frames on the network
-pub record Everything (home : SiteNo) (sent : List Packet) (choice : Choice) (order : Orders) (safe : Safe) (ends : Ends) (at : Sites) : Type 0 where
+pub record Everything (home : SiteNo) (sent : List Packet) (choice : Choice) (order : Orders) (handed : HandOvers) (safe : Safe) (ends : Ends) (at : Sites) : Type 0 where
   pub holds : (s : SiteNo) → SiteHolds at home s (at s)
   pub sound : (p : Packet) → Contains sent p → IsSound at home p.from p.to p.frame
   pub agrees : (s : SiteNo) → SiteAgrees choice (numbers at home) at s (at s)
   pub true_of : (p : Packet) → Contains sent p → IsTrueOf choice (numbers at home) at p.from p.frame
   pub covered : AllCovered choice (numbers at home) at
-  pub ordered : AllOrdered choice (numbers at home) at order
+  pub ordered : AllOrdered choice (numbers at home) at order handed
   pub window : AllWindow choice (numbers at home) at order safe
   pub acks : (p : Packet) → Contains sent p → AckTrue (at p.from).got p.frame
   pub owed : (s : SiteNo) → OwedBut no_key (at s)
-  pub closing : (s : SiteNo) → SiteClosing choice at order safe ends s (at s)
-  pub closed : (p : Packet) → Contains sent p → IsClosing choice at order safe ends p.from p.frame
-  pub ended : (g : GroupNo) (v : ℕ) → v + 1 ≤ numbers at home g → EndHolds choice at order safe g v (ends g v)
+  pub closing : (s : SiteNo) → SiteClosing choice at order handed safe ends s (at s)
+  pub closed : (p : Packet) → Contains sent p → IsClosing choice at order handed safe ends p.from p.frame
+  pub ended : (g : GroupNo) (v : ℕ) → v + 1 ≤ numbers at home g → EndHolds choice at order handed safe g v (ends g v)
 
 abbrev pub AllEnded : SiteNo → Network → Type 0
-AllEnded home w = (choice : Choice) × (order : Orders) × (safe : Safe) × (ends : Ends) × Everything home w.sent choice order safe ends w.at
+AllEnded home w = (choice : Choice) × (order : Orders) × (handed : HandOvers) × (safe : Safe) × (ends : Ends) × Everything home w.sent choice order handed safe ends w.at
 
 -- One step
 
-module _ (home : SiteNo) (w : Network) (choice : Choice) (order : Orders) (safe : Safe) (ends : Ends) (x : Everything home w.sent choice order safe ends w.at) (a : SiteNo) where
+module _ (home : SiteNo) (w : Network) (choice : Choice) (order : Orders) (handed : HandOvers) (safe : Safe) (ends : Ends) (x : Everything home w.sent choice order handed safe ends w.at) (a : SiteNo) where
   abbrev t : State
   t = w.at a
 
@@ -95,8 +96,8 @@ module _ (home : SiteNo) (w : Network) (choice : Choice) (order : Orders) (safe 
       go s true e = ap w.at (same_site a s e)
       go s false e = refl
 
-  y : Everything home w.sent choice order safe ends (sites_at home w a (w.at a))
-  y = subst (Everything home w.sent choice order safe ends) (sym at_now) x
+  y : Everything home w.sent choice order handed safe ends (sites_at home w a (w.at a))
+  y = subst (Everything home w.sent choice order handed safe ends) (sym at_now) x
 
   pub hold : AllHold home w
   hold = record { sites = x.holds; packets = x.sound }
@@ -106,7 +107,7 @@ module _ (home : SiteNo) (w : Network) (choice : Choice) (order : Orders) (safe 
 
   abbrev before : ClosingNow home w a no_key t
   before = (
-    (((y.holds, y.sound), choice, record { sites = y.agrees; packets = y.true_of; covered = y.covered }, order, y.ordered), safe, y.window, y.acks, x.owed a),
+    (((y.holds, y.sound), choice, record { sites = y.agrees; packets = y.true_of; covered = y.covered }, order, handed, y.ordered), safe, y.window, y.acks, x.owed a),
     ends,
     record { sites = y.closing; packets = y.closed; ended = y.ended },
   )
@@ -127,7 +128,7 @@ module _ (home : SiteNo) (w : Network) (choice : Choice) (order : Orders) (safe 
       (same_owed home w a no_key t t0 refl refl refl before.0.4)
 
   pub first_closing : ClosingNow home w a no_key t0
-  first_closing = closing_quiet home w a no_key no_key t t0 later before begun from.3 refl refl refl refl (λ k g e. e) (still_there home w a t t0 (λ g. omega arith)) (λ z. record {
+  first_closing = closing_quiet home w a no_key no_key t t0 later before begun from.3 refl refl refl refl refl (λ k g e. e) (still_there home w a t t0 (λ g. omega arith)) (λ z. record {
     closes = z.closes;
     begins = z.begins;
     well = z.well;
@@ -141,6 +142,7 @@ module _ (home : SiteNo) (w : Network) (choice : Choice) (order : Orders) (safe 
   last_closing s i = (
     i.0.0.1,
     i.0.0.3,
+    i.0.0.4,
     i.0.1,
     i.1,
     record {
@@ -149,7 +151,7 @@ module _ (home : SiteNo) (w : Network) (choice : Choice) (order : Orders) (safe 
       agrees = i.0.0.2.sites;
       true_of = (flush_last home w a s i.0.0.1 i.0.0.2).packets;
       covered = i.0.0.2.covered;
-      ordered = record { sites = i.0.0.4.sites; told = i.0.0.4.told; orders = i.0.0.4.orders };
+      ordered = record { sites = i.0.0.5.sites; told = i.0.0.5.told; placed = i.0.0.5.placed; hands = i.0.0.5.hands; orders = i.0.0.5.orders };
       window = i.0.2;
       acks = λ p c. elim (Contains-append_cases w.sent (map (λ (f : SiteNo × SiteFrame). record { from = a; to = f.0; frame = f.1 }) s.frames) p c) [
         | inl old ↦ i.0.3 p old
@@ -164,8 +166,8 @@ module _ (home : SiteNo) (w : Network) (choice : Choice) (order : Orders) (safe 
         | inl old ↦ i.2.packets p old
         | inr new ↦
             let from_it = from_mapped (λ (f : SiteNo × SiteFrame). record { from = a; to = f.0; frame = f.1 }) s.frames p new in
-            subst (λ (q : Packet). IsClosing i.0.0.1 (sites_at home w a s) i.0.0.3 i.0.1 i.1 q.from q.frame) from_it.2
-            ((own_closing home w a s i.0.0.1 i.0.0.3 i.0.1 i.1 i.2).sent from_it.0.0 from_it.0.1 from_it.1)
+            subst (λ (q : Packet). IsClosing i.0.0.1 (sites_at home w a s) i.0.0.3 i.0.0.4 i.0.1 i.1 q.from q.frame) from_it.2
+            ((own_closing home w a s i.0.0.1 i.0.0.3 i.0.0.4 i.0.1 i.1 i.2).sent from_it.0.0 from_it.0.1 from_it.1)
       ];
       ended = i.2.ended;
     },
@@ -176,14 +178,14 @@ module _ (home : SiteNo) (w : Network) (choice : Choice) (order : Orders) (safe 
       owed_at q false = x.owed q
 
 step_ended : (home : SiteNo) (w v : Network) (step : Step) → Happens w step v → AllEnded home w → AllEnded home v
-step_ended home w v step happens (choice, order, safe, ends, x) = go_on (event_of w step) refl happens
+step_ended home w v step happens (choice, order, handed, safe, ends, x) = go_on (event_of w step) refl happens
   where
     go_on : (o : Option Event) → event_of w step ≡ o → Becomes w step.site o v → AllEnded home v
-    go_on None e same = subst (AllEnded home) (sym same) (choice, order, safe, ends, x)
-    go_on (Some made) e (answer, t, is, same) = subst (AllEnded home) (sym same) (last_closing home w choice order safe ends x step.site t
+    go_on None e same = subst (AllEnded home) (sym same) (choice, order, handed, safe, ends, x)
+    go_on (Some made) e (answer, t, is, same) = subst (AllEnded home) (sym same) (last_closing home w choice order handed safe ends x step.site t
         (rests_keeps_fully (ClosingNow home w step.site no_key) (λ g. ClosingNow home w step.site (is_of_view g)) (Arrived home w step.site) (site_eq step.site home) (kept_closing home w step.site) (after_event (w.at step.site) made) t is.rests
         (event_keeps_fully (ClosingNow home w step.site no_key) (λ g. ClosingNow home w step.site (is_of_view g)) (Arrived home w step.site) (site_eq step.site home) (kept_closing home w step.site) (w.at step.site) made
-        (first_closing home w choice order safe ends x step.site) (step_arrives home w (hold home w choice order safe ends x step.site) step made e))))
+        (first_closing home w choice order handed safe ends x step.site) (step_arrives home w (hold home w choice order handed safe ends x step.site) step made e))))
 
 leads_ended : (home : SiteNo) (steps : List Step) (w v : Network) → Leads w steps v → AllEnded home w → AllEnded home v
 leads_ended home [] w v same i = subst (AllEnded home) (sym same) i
@@ -197,6 +199,7 @@ start_ended sites config home hold_it =
     let agree_it = start_agrees sites config home in (
       no_choice,
       (λ g v. []),
+      (λ g v. None),
       (λ g v. 0),
       no_ends,
       record {
@@ -209,7 +212,8 @@ start_ended sites config home hold_it =
         window = record {
           acked = λ s q z c. absurd (nothing (q, z) c);
           sent = λ s to f c. absurd (nothing (to, f) c);
-          rising = λ s k m n f e at_m at_n g v lt. absurd (nothing (Sent m) at_m);
+          rising = λ s k m n e at_m at_n g v lt. absurd (nothing (Sent m) at_m);
+          hands = λ s k m to c. absurd (nothing (Sent m) c);
           knows = λ g v q le chosen b c e is lt. absurd (never_nil b c e is);
           under = λ g v. omega arith;
           near = λ g v. omega arith;
@@ -252,8 +256,8 @@ same_prefixes xs ys zs apart p q one two = elim (comparable xs ys zs p q) [
         none (z ∷ rest) is = absurd (apart_both us (z ∷ rest) (subst Apart (sym is) apart_it) z (has z (subst (λ l. Contains l z) is (Contains-append_right us (z ∷ rest) z (0, omega arith, refl)))) (0, omega arith, refl))
 
 module _ (home : SiteNo) (w : Network) (all : AllEnded home w) (seen : EachSeen w) (same : SameMessages w (delivered_of w)) where
-  abbrev x : Everything home w.sent all.0 all.1 all.2 all.3 w.at
-  x = all.4
+  abbrev x : Everything home w.sent all.0 all.1 all.2 all.3 all.4 w.at
+  x = all.5
 
   f : Facts w
   f = facts home w (record { sites = x.holds; packets = x.sound })
@@ -278,8 +282,8 @@ module _ (home : SiteNo) (w : Network) (all : AllEnded home w) (seen : EachSeen 
         ∙ ap (λ l. done_in g view (abcasts_by until) ++ l) none ∙ append-nil (done_in g view (abcasts_by until))
 
     -- it is a prefix of the order that the view ended with
-    pub done_begins : IsPrefix done (firsts (final (all.0 g (view + 1)).cut (all.3 g view)))
-    done_begins = subst (λ l. IsPrefix l (firsts (final (all.0 g (view + 1)).cut (all.3 g view)))) (sym done_until)
+    pub done_begins : IsPrefix done (firsts (final (all.0 g (view + 1)).cut (all.4 g view)))
+    done_begins = subst (λ l. IsPrefix l (firsts (final (all.0 g (view + 1)).cut (all.4 g view)))) (sym done_until)
         ((x.closing p.site).well p.serial until passes_it.4 (Entered g (view + 1) passes_it.1) passes_it.5 view (still_in w f p g view passes_it.0 passes_it.1 passes_it.2 passes_it.3 passes_it.4 passes_it.5 passes_it.6) refl)
 
   -- whatever one delivered the other delivered
@@ -299,7 +303,7 @@ module _ (home : SiteNo) (w : Network) (all : AllEnded home w) (seen : EachSeen 
 
   order_same : (p q : Proc) (g : GroupNo) (view : ℕ) → Passes w p g view → Passes w q g view → abcasts_in w p g view ≡ abcasts_in w q g view
   order_same p q g view one two =
-      let common = same_prefixes (done p g view one) (done q g view two) (firsts (final (all.0 g (view + 1)).cut (all.3 g view))) (firsts_apart (final (all.0 g (view + 1)).cut (all.3 g view)))
+      let common = same_prefixes (done p g view one) (done q g view two) (firsts (final (all.0 g (view + 1)).cut (all.4 g view))) (firsts_apart (final (all.0 g (view + 1)).cut (all.4 g view)))
       (done_begins p g view one) (done_begins q g view two) (has_too p q g view one two) (has_too q p g view two one) in
       names_of g view (abcasts_by (acts_of w p)) ∙ ap (map (named g view)) common ∙ sym (names_of g view (abcasts_by (acts_of w q)))
 
@@ -312,8 +316,8 @@ same_order sites config steps w r p q g view one two =
 -- The places before a start
 
 module _ (home : SiteNo) (w : Network) (all : AllEnded home w) where
-  abbrev every : Everything home w.sent all.0 all.1 all.2 all.3 w.at
-  every = all.4
+  abbrev every : Everything home w.sent all.0 all.1 all.2 all.3 all.4 w.at
+  every = all.5
 
   abbrev order : Orders
   order = all.1
@@ -350,10 +354,10 @@ module _ (home : SiteNo) (w : Network) (all : AllEnded home w) where
       decided_next : view + 1 ≤ numbers w.at home g
       decided_next = (every.sound (record { from = from; to = to; frame = frame.Install g (view + 1) members request cut tail }) sent).0
 
-      start_is : tail.start ≡ (all.3 g view).start
+      start_is : tail.start ≡ (all.4 g view).start
       start_is = ap (λ (z : Stretch). z.start) (every.closed (record { from = from; to = to; frame = frame.Install g (view + 1) members request cut tail }) sent view refl)
 
-      known_it : (all.3 g view).start ≤ all.2 g view
+      known_it : (all.4 g view).start ≤ all.3 g view
       known_it = (every.ended g view decided_next).known
 
       low : tail.start ≤ length (all.1 g view)

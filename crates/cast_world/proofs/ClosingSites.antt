@@ -27,6 +27,7 @@ use Rattle.cast_world.proofs.Invariants.{Sites}
 use Rattle.cast_world.proofs.Listings.{done_named, keeps_every}
 use Rattle.cast_world.proofs.OrderMoves.{abcast_had, noted_abcast, own_ordered, stand_in}
 use Rattle.cast_world.proofs.OrderTells.{is_next_frozen, knows_done}
+use Rattle.cast_world.proofs.Tokens.{HandOvers}
 use Rattle.cast_world.proofs.Orders.{AllOrdered, Apart, KnowsFirst, Orders, SiteOrdered, done_in}
 use Rattle.cast_world.proofs.Prefixes.{next_begins, prefix_trans}
 use Rattle.cast_world.proofs.Steps.{Now, own_holds, own_is, sites_at}
@@ -67,10 +68,10 @@ module _ (home : SiteNo) (w : Network) (a : SiteNo) where
   abbrev number : State → GroupNo → ℕ
   number t = numbers (sites_at home w a t) home
 
-  module _ (t : State) (now : Now home w a t) (choice : Choice) (f : Flushing home w a t choice) (order : Orders) (x : AllOrdered choice (number t) (at t) order) (safe : Safe)
-      (y : AllWindow choice (number t) (at t) order safe) (g : GroupNo) (e : End) (ended : EndHolds choice (at t) order safe g (t.group g).number e) (decided : (t.group g).number + 1 ≤ number t g) where
-    abbrev own : SiteOrdered order t
-    own = own_ordered home w a t now choice f order x
+  module _ (t : State) (now : Now home w a t) (choice : Choice) (f : Flushing home w a t choice) (order : Orders) (handed : HandOvers) (x : AllOrdered choice (number t) (at t) order handed) (safe : Safe)
+      (y : AllWindow choice (number t) (at t) order safe) (g : GroupNo) (e : End) (ended : EndHolds choice (at t) order handed safe g (t.group g).number e) (decided : (t.group g).number + 1 ≤ number t g) where
+    abbrev own : SiteOrdered order handed t
+    own = own_ordered home w a t now choice f order handed x
 
     abbrev v : ℕ
     v = (t.group g).number
@@ -90,7 +91,7 @@ module _ (home : SiteNo) (w : Network) (a : SiteNo) where
         let begin : IsPrefix first (order g v) = (drop e.start (order g v), take-append-drop e.start (order g v)) in
         let got : KnowsFirst t.got g v (order g v) (safe g v) = subst (λ (s : State). KnowsFirst s.got g v (order g v) (safe g v)) here_is (y.knows g v (local t k) (omega (arith, decided)) (chosen_here k member)) in
         let knows : KnowsFirst t.got g v (order g v) (length first) = λ b c z is lt. got b c z is (let a = ended.known in omega (arith, lt, long, a)) in
-        let reach : IsPrefix first (order_told t g) = knows_done (order g v) t g waits (stand_in home w a t now choice f order x g v) first begin knows (let few = (x.orders g v).few in omega (arith, long, low, few)) in
+        let reach : IsPrefix first (order_told t g) = knows_done (order g v) t g waits (stand_in home w a t now choice f order handed x g v) first begin knows (let few = (x.orders g v).few in omega (arith, long, low, few)) in
         let mine : take e.start (order_told t g) ≡ take e.start first = sym (take_begin e.start first (order_told t g) reach (omega (arith, long))) in
         let common : take e.start first ≡ take e.start (order g v) = take_begin e.start first (order g v) begin (omega (arith, long)) in
         mine ∙ common ∙ elim ended.side [
@@ -101,7 +102,7 @@ module _ (home : SiteNo) (w : Network) (a : SiteNo) where
     -- what a member that passes has delivered of the view is within the cut
     pub within_cut : (k : ℕ) → (t.process k).standing g ≡ Member → IsChosen choice g (v + 1) (local t k) → (z : Entry) → Contains (done_in g v (t.abcasts k)) z → IsTrue (is_within (choice g (v + 1)).cut z)
     within_cut k member after z c =
-        let had = abcast_had home w a t now choice f order x k (named g v z) (done_named g v (t.abcasts k) z c) in
+        let had = abcast_had home w a t now choice f order handed x k (named g v z) (done_named g v (t.abcasts k) z c) in
         let m : Message = had.0 in
         let group : m.id.group ≡ g = ap (λ (u : Uid). u.group) had.2 in
         let view : m.id.view ≡ v = ap (λ (u : Uid). u.view) had.2 in
@@ -119,7 +120,7 @@ module _ (home : SiteNo) (w : Network) (a : SiteNo) where
         begins_final (choice g (v + 1)).cut e (done_in g v (t.abcasts k)) ended.apart (prefix_trans (done_in g v (t.abcasts k)) said.0 e.whole begin said.2) (within_cut k member after)
 
   -- a member delivers by the order with its end, where the Install waits
-  module _ (t : State) (now : Now home w a t) (choice : Choice) (f : Flushing home w a t choice) (order : Orders) (x : AllOrdered choice (number t) (at t) order) (safe : Safe)
+  module _ (t : State) (now : Now home w a t) (choice : Choice) (f : Flushing home w a t choice) (order : Orders) (handed : HandOvers) (x : AllOrdered choice (number t) (at t) order handed) (safe : Safe)
       (k : ℕ) (m : Message) (ready : is_ready_for t k m ≡ true) (atomic : is_atomic (kind_of m.body) ≡ true) (pending : is_pending (t.group m.id.group) ≡ true)
       (kinds : (e : Entry) → Contains (t.closed m.id.group) e → IsAbcast (at t) m.id.group (t.group m.id.group).number e) where
     abbrev g : GroupNo
@@ -138,7 +139,7 @@ module _ (home : SiteNo) (w : Network) (a : SiteNo) where
     delivers_closed begin =
         let closed : order_of t g ≡ t.closed g = ap (λ b. if b then t.closed g else order_told t g) pending in
         let next : next_of had (firsts (t.closed g)) ≡ Some (entry_of m.id) =
-        next_first had (t.closed g) ∙ ap (next_of had) (sym closed) ∙ is_next_frozen t k m tt ready atomic ((own_ordered home w a t now choice f order x).frozen g pending) in
+        next_first had (t.closed g) ∙ ap (next_of had) (sym closed) ∙ is_next_frozen t k m tt ready atomic ((own_ordered home w a t now choice f order handed x).frozen g pending) in
         next_begins had done (firsts (t.closed g)) (firsts (t.closed g)) (entry_of m.id) (firsts_apart (t.closed g)) begin ([], append-nil (firsts (t.closed g)))
-        (λ e c. (abcast_had home w a t now choice f order x k (named g view e) (done_named g view (t.abcasts k) e c)).5)
-        (λ e c is. noted_abcast home w a t now choice f order x k g view e (kinds e (firsts_had (t.closed g) e c)) is) next
+        (λ e c. (abcast_had home w a t now choice f order handed x k (named g view e) (done_named g view (t.abcasts k) e c)).5)
+        (λ e c is. noted_abcast home w a t now choice f order handed x k g view e (kinds e (firsts_had (t.closed g) e c)) is) next

@@ -40,17 +40,19 @@ use Rattle.cast_world.proofs.Firsts.{firsts}
 use Rattle.cast_world.proofs.Flush.{numbers}
 use Rattle.cast_world.proofs.FlushLaters.{Extends}
 use Rattle.cast_world.proofs.Invariants.{Sites}
-use Rattle.cast_world.proofs.Kept.{Adds, MaySend, Says, FullyKept, FullyKeptByTelling, casts, lists}
+use Rattle.cast_world.proofs.Kept.{Adds, MaySend, Says, FullyKept, FullyKeptByTelling, casts, hands, lists}
 use Rattle.cast_world.proofs.Laters.{later_same, set_all, set_group_all}
 use Rattle.cast_world.proofs.Listings.{done_apart, done_here, parts_of_id}
 use Rattle.cast_world.proofs.Lists.{each_more}
 use Rattle.cast_world.proofs.Moves.{later_delivered, later_group, later_join, later_part, later_sent}
 use Rattle.cast_world.proofs.Onward.{asks, stands}
-use Rattle.cast_world.proofs.OrderGrows.{cases_here, grows}
+use Rattle.cast_world.proofs.OrderGrows.{cases_here, grows, has_token}
+use Rattle.cast_world.proofs.OrderHands.{hand_cases, hand_token}
 use Rattle.cast_world.proofs.OrderSteps.{begin, delivery_tells, flush}
 use Rattle.cast_world.proofs.OrderTells.{is_open}
-use Rattle.cast_world.proofs.Orders.{done_in, tells}
+use Rattle.cast_world.proofs.Orders.{done_in, token_at}
 use Rattle.cast_world.proofs.Steps.{Arrived, own_holds, sites_at}
+use Rattle.cast_world.proofs.WindowGrows.{widened_up}
 use Rattle.cast_world.proofs.WindowMoves.{window_delivers}
 use Rattle.cast_world.proofs.WindowSteps.{WindowNow, delivers_window, kept_window, no_key, sends_window, window_telling}
 use Rattle.cast_world.specs.Agreement.{IsPrefix, is_in}
@@ -99,7 +101,7 @@ module _ (home : SiteNo) (w : Network) (a : SiteNo) where
       abbrev from : Extends i.0.0.1 (number t) next.0.1 (number now)
       from = ((flush home w a t i.0.0).telling.emits t to f (begin home w a t i.0.0) says).3
 
-      new_frame : SiteClosing next.0.1 (at now) next.0.3 next.1 i.1 a t → (fr : SiteFrame) → Says t to fr → Adds t fr → IsClosing next.0.1 (at now) next.0.3 next.1 i.1 a fr
+      new_frame : SiteClosing next.0.1 (at now) next.0.3 next.0.4 next.1 i.1 a t → (fr : SiteFrame) → Says t to fr → Adds t fr → IsClosing next.0.1 (at now) next.0.3 next.0.4 next.1 i.1 a fr
       new_frame x (frame.Data m) says_it adds_it = tt
       new_frame x (frame.Ack z) says_it adds_it = tt
       new_frame x (frame.Stable z) says_it adds_it = tt
@@ -107,11 +109,11 @@ module _ (home : SiteNo) (w : Network) (a : SiteNo) where
       new_frame x (frame.Asked g k full) says_it adds_it = tt
       new_frame x (frame.Prepare g view) says_it adds_it = tt
       new_frame x (frame.Flushed g view counts tail kept) says_it adds_it =
-          let r = reports_it home w a t i.0.0.0 i.0.0.1 i.0.0.2 i.0.0.3 i.0.0.4 i.0.1 i.0.2 g says_it.1 adds_it.0 in
-          let one = reported_same home w a skip skip t now (later_same t) i next from refl refl (λ h v s. s) (λ k. ([], append-nil (t.abcasts k))) (λ h v k s m c p. (m, c, p, refl)) a g (t.group g).number (report_in t g).tail (report_in t g).kept
+          let r = reports_it home w a t i.0.0.0 i.0.0.1 i.0.0.2 i.0.0.3 i.0.0.4 i.0.0.5 i.0.1 i.0.2 g says_it.1 adds_it.0 in
+          let one = reported_same home w a skip skip t now (later_same t) i next from refl refl refl (λ h v s. s) (λ k. ([], append-nil (t.abcasts k))) (λ h v k s m c p. (m, c, p, refl)) a g (t.group g).number (report_in t g).tail (report_in t g).kept
           ((own_holds home w a t i.0.0.0).groups g).number r in
-          subst (λ z. HasReported next.0.1 (at now) next.0.3 next.1 a g z tail kept) (sym says_it.0)
-          (subst (λ z. HasReported next.0.1 (at now) next.0.3 next.1 a g (t.group g).number z kept) (sym adds_it.1) (subst (λ z. HasReported next.0.1 (at now) next.0.3 next.1 a g (t.group g).number (report_in t g).tail z) (sym adds_it.2) one))
+          subst (λ z. HasReported next.0.1 (at now) next.0.3 next.0.4 next.1 a g z tail kept) (sym says_it.0)
+          (subst (λ z. HasReported next.0.1 (at now) next.0.3 next.0.4 next.1 a g (t.group g).number z kept) (sym adds_it.1) (subst (λ z. HasReported next.0.1 (at now) next.0.3 next.0.4 next.1 a g (t.group g).number (report_in t g).tail z) (sym adds_it.2) one))
       new_frame x (frame.Want z) says_it adds_it = tt
       new_frame x (frame.Forward m) says_it adds_it = tt
       new_frame x (frame.Install g k members request cut tail) says_it adds_it = λ view is. adds_it.4 ∙ x.decision g adds_it.0 adds_it.1 adds_it.2 view adds_it.3 (sym says_it.4 ∙ is)
@@ -130,10 +132,10 @@ module _ (home : SiteNo) (w : Network) (a : SiteNo) where
         go false = all j
 
     group_closing : (t : State) (g : GroupNo) (v : MemberSide) (asked : (t.group g).asked ≤ v.asked) (i : ClosingNow home w a skip t) (j : WindowNow home w a skip (set_group t g v)) (ext : Extends i.0.0.1 (number t) j.0.1 (number (set_group t g v))) →
-        j.0.3 ≡ i.0.0.3 → j.1 ≡ i.0.1 → v.number ≡ (t.group g).number → ((t.group g).frozen ≡ true → v.frozen ≡ true) → v.pending ≡ (t.group g).pending → ClosingNow home w a skip (set_group t g v)
-    group_closing t g v asked i j ext order safe same frozen pending =
+        j.0.3 ≡ i.0.0.3 → j.0.4 ≡ i.0.0.4 → j.1 ≡ i.0.1 → v.number ≡ (t.group g).number → ((t.group g).frozen ≡ true → v.frozen ≡ true) → v.pending ≡ (t.group g).pending → ClosingNow home w a skip (set_group t g v)
+    group_closing t g v asked i j ext order given safe same frozen pending =
         let u : State = set_group t g v in
-        closing_same home w a skip skip t u (later_group t g v asked) i j ext order safe (group_stops t g v same frozen) (no_notes t)
+        closing_same home w a skip skip t u (later_group t g v asked) i j ext order given safe (group_stops t g v same frozen) (no_notes t)
         (group_calm t g v same (λ p. ap (λ (o : Option Pending). elim o as (λ x. Bool) [ Some q ↦ true | None ↦ false ]) (sym pending) ∙ p)) (still t u (λ h. omega arith))
         (λ x. record {
           closes = set_group_all (λ h (z : MemberSide). (p : Pending) (k : ℕ) → z.pending ≡ Some p → (t.process k).standing h ≡ Member → t.closed h ≡ final (j.0.1 h (z.number + 1)).cut (i.1 h z.number)) t.group g v x.closes
@@ -151,40 +153,40 @@ module _ (home : SiteNo) (w : Network) (a : SiteNo) where
       emits = λ t to f i says adds.
           let u : State = emitted t to f in
           let j : WindowNow home w a skip u = n.emits t to f i.0 says adds in
-          closing_quiet home w a skip skip t u (later_same t) i j ((flush home w a t i.0.0).telling.emits t to f (begin home w a t i.0.0) says).3 refl refl refl refl (λ k g e. e) (still t u (λ g. omega arith))
+          closing_quiet home w a skip skip t u (later_same t) i j ((flush home w a t i.0.0).telling.emits t to f (begin home w a t i.0.0) says).3 refl refl refl refl refl (λ k g e. e) (still t u (λ g. omega arith))
           (λ x. record {
             closes = x.closes;
             begins = x.begins;
             well = x.well;
             reports = x.reports;
             decision = x.decision;
-            sent = λ to_it f_it c. elim (Contains-push_cases t.frames (to, f) (to_it, f_it) c) [ inl old ↦ x.sent to_it f_it old | inr same ↦ subst (λ (p : SiteNo × SiteFrame). IsClosing j.0.1 (at u) j.0.3 j.1 i.1 a p.1) same (new_frame t to f i says adds x f says adds) ];
+            sent = λ to_it f_it c. elim (Contains-push_cases t.frames (to, f) (to_it, f_it) c) [ inl old ↦ x.sent to_it f_it old | inr same ↦ subst (λ (p : SiteNo × SiteFrame). IsClosing j.0.1 (at u) j.0.3 j.0.4 j.1 i.1 a p.1) same (new_frame t to f i says adds x f says adds) ];
           });
       books = λ t quotas moment count i.
           let u : State = record t { quotas = quotas; moment = moment; casts = count } in
-          closing_quiet home w a skip skip t u (later_same t) i (n.books t quotas moment count i.0) ((flush home w a t i.0.0).telling.books t quotas moment t.acks t.told t.owed count t.pushes (begin home w a t i.0.0)).3 refl refl refl refl (λ k g e. e) (still t u (λ g. omega arith)) (λ x. x);
+          closing_quiet home w a skip skip t u (later_same t) i (n.books t quotas moment count i.0) ((flush home w a t i.0.0).telling.books t quotas moment t.acks t.told t.owed count t.pushes (begin home w a t i.0.0)).3 refl refl refl refl refl (λ k g e. e) (still t u (λ g. omega arith)) (λ x. x);
       pushes = λ t k p i agrees.
           let u : State = record t { pushes = t.pushes ++ (k, p) ∷ [] } in
-          closing_quiet home w a skip skip t u (later_same t) i (n.pushes t k p i.0 agrees) ((flush home w a t i.0.0).telling.books t t.quotas t.moment t.acks t.told t.owed t.casts (t.pushes ++ (k, p) ∷ []) (begin home w a t i.0.0)).3 refl refl refl refl (λ k_it g e. e) (still t u (λ g. omega arith)) (λ x. x);
+          closing_quiet home w a skip skip t u (later_same t) i (n.pushes t k p i.0 agrees) ((flush home w a t i.0.0).telling.books t t.quotas t.moment t.acks t.told t.owed t.casts (t.pushes ++ (k, p) ∷ []) (begin home w a t i.0.0)).3 refl refl refl refl refl (λ k_it g e. e) (still t u (λ g. omega arith)) (λ x. x);
       owes = λ t key due i owes.
           let u : State = record t { owed = with_owed t.owed key due } in
-          closing_quiet home w a skip skip t u (later_same t) i (n.owes t key due i.0 owes) ((flush home w a t i.0.0).telling.books t t.quotas t.moment t.acks t.told (with_owed t.owed key due) t.casts t.pushes (begin home w a t i.0.0)).3 refl refl refl refl (λ k g e. e) (still t u (λ g. omega arith)) (λ x. x);
+          closing_quiet home w a skip skip t u (later_same t) i (n.owes t key due i.0 owes) ((flush home w a t i.0.0).telling.books t t.quotas t.moment t.acks t.told (with_owed t.owed key due) t.casts t.pushes (begin home w a t i.0.0)).3 refl refl refl refl refl (λ k g e. e) (still t u (λ g. omega arith)) (λ x. x);
       renews = λ t key due i owes.
           let u : State = record t { owed = renewed t.owed key due } in
-          closing_quiet home w a skip skip t u (later_same t) i (n.renews t key due i.0 owes) ((flush home w a t i.0.0).telling.books t t.quotas t.moment t.acks t.told (renewed t.owed key due) t.casts t.pushes (begin home w a t i.0.0)).3 refl refl refl refl (λ k g e. e) (still t u (λ g. omega arith)) (λ x. x);
+          closing_quiet home w a skip skip t u (later_same t) i (n.renews t key due i.0 owes) ((flush home w a t i.0.0).telling.books t t.quotas t.moment t.acks t.told (renewed t.owed key due) t.casts t.pushes (begin home w a t i.0.0)).3 refl refl refl refl refl (λ k g e. e) (still t u (λ g. omega arith)) (λ x. x);
       pays = λ t test i.
           let u : State = record t { owed = paid test t.owed } in
-          closing_quiet home w a skip skip t u (later_same t) i (n.pays t test i.0) ((flush home w a t i.0.0).telling.books t t.quotas t.moment t.acks t.told (paid test t.owed) t.casts t.pushes (begin home w a t i.0.0)).3 refl refl refl refl (λ k g e. e) (still t u (λ g. omega arith)) (λ x. x);
+          closing_quiet home w a skip skip t u (later_same t) i (n.pays t test i.0) ((flush home w a t i.0.0).telling.books t t.quotas t.moment t.acks t.told (paid test t.owed) t.casts t.pushes (begin home w a t i.0.0)).3 refl refl refl refl refl (λ k g e. e) (still t u (λ g. omega arith)) (λ x. x);
       releases = λ t lets i.
           let u : State = releasing t lets in
-          closing_quiet home w a skip skip t u (later_same t) i (n.releases t lets i.0) ((flush home w a t i.0.0).telling.releases t lets (begin home w a t i.0.0)).3 refl refl refl refl (λ k g e. e) (still t u (λ g. omega arith)) (λ x. x);
+          closing_quiet home w a skip skip t u (later_same t) i (n.releases t lets i.0) ((flush home w a t i.0.0).telling.releases t lets (begin home w a t i.0.0)).3 refl refl refl refl refl (λ k g e. e) (still t u (λ g. omega arith)) (λ x. x);
       sets_session = λ t k v i same.
           let u : State = set_session t k v in
-          closing_quiet home w a skip skip t u (later_same t) i (n.sets_session t k v i.0 same) ((flush home w a t i.0.0).telling.sets_session t k v (begin home w a t i.0.0) same).3 refl refl refl refl (λ k_it g e. e) (still t u (λ g. omega arith)) (λ x. x);
+          closing_quiet home w a skip skip t u (later_same t) i (n.sets_session t k v i.0 same) ((flush home w a t i.0.0).telling.sets_session t k v (begin home w a t i.0.0) same).3 refl refl refl refl refl (λ k_it g e. e) (still t u (λ g. omega arith)) (λ x. x);
       parts = λ t k g i.
           let u : State = outside t k g in
           let j : WindowNow home w a skip u = n.parts t k g i.0 in
-          closing_quiet home w a skip skip t u (later_part t k g) i j ((flush home w a t i.0.0).telling.parts t k g (begin home w a t i.0.0)).3 refl refl refl refl (part_member t k g) (still t u (λ h. omega arith))
+          closing_quiet home w a skip skip t u (later_part t k g) i j ((flush home w a t i.0.0).telling.parts t k g (begin home w a t i.0.0)).3 refl refl refl refl refl (part_member t k g) (still t u (λ h. omega arith))
           (λ x. record {
             closes = λ h p q e m. x.closes h p q e (part_member t k g q h m);
             begins = λ h p q e m. x.begins h p q e (part_member t k g q h m);
@@ -193,7 +195,7 @@ module _ (home : SiteNo) (w : Network) (a : SiteNo) where
             decision = x.decision;
             sent = x.sent;
           });
-      requests = λ t g what p i. group_closing t g (with_request (t.group g) what p) (omega arith) i (n.requests t g what p i.0) ((flush home w a t i.0.0).telling.requests t g what p (begin home w a t i.0.0)).3 refl refl refl (λ e. e) refl;
+      requests = λ t g what p i. group_closing t g (with_request (t.group g) what p) (omega arith) i (n.requests t g what p i.0) ((flush home w a t i.0.0).telling.requests t g what p (begin home w a t i.0.0)).3 refl refl refl refl (λ e. e) refl;
     }
 
   -- Deliveries
@@ -240,7 +242,7 @@ module _ (home : SiteNo) (w : Network) (a : SiteNo) where
     -- what stands in a closed order are ABCASTs
     closed_kinds : (p : Pending) → (t.group m.id.group).pending ≡ Some p → (t.process k).standing m.id.group ≡ Member → (e : Entry) → Contains (t.closed m.id.group) e → IsAbcast (at t) m.id.group (t.group m.id.group).number e
     closed_kinds p pending member e at_it =
-        let x = own_closing home w a t i.0.0.1 i.0.0.3 i.0.1 i.1 i.2 in
+        let x = own_closing home w a t i.0.0.1 i.0.0.3 i.0.0.4 i.0.1 i.1 i.2 in
         let decided = ((own_holds home w a t i.0.0.0).groups m.id.group).pending p pending in
         (i.2.ended m.id.group (t.group m.id.group).number decided.0).kinds e
         (final_had (i.0.0.1 m.id.group ((t.group m.id.group).number + 1)).cut (i.1 m.id.group (t.group m.id.group).number) e (subst (λ l. Contains l e) (x.closes m.id.group p k pending member) at_it))
@@ -255,18 +257,18 @@ module _ (home : SiteNo) (w : Network) (a : SiteNo) where
               subst (λ l. IsPrefix l (firsts (t.closed g))) (sym (done_here g (t.group g).number (t.abcasts k) m.id is))
               (subst (λ h. (t.group h).pending ≡ Some p → (t.process k).standing h ≡ Member → IsPrefix (done_in h (t.group h).number (t.abcasts k)) (firsts (t.closed h)) →
               IsPrefix (done_in h (t.group h).number (t.abcasts k) ++ entry_of m.id ∷ []) (firsts (t.closed h))) two.0
-              (λ e st begin. delivers_closed home w a t i.0.0.0 i.0.0.1 i.0.0.2 i.0.0.3 i.0.0.4 i.0.1 k m ready atomic (ap (λ (o : Option Pending). elim o as (λ x. Bool) [ Some y ↦ true | None ↦ false ]) e) (closed_kinds p e st) begin)
+              (λ e st begin. delivers_closed home w a t i.0.0.0 i.0.0.1 i.0.0.2 i.0.0.3 i.0.0.4 i.0.0.5 i.0.1 k m ready atomic (ap (λ (o : Option Pending). elim o as (λ x. Bool) [ Some y ↦ true | None ↦ false ]) e) (closed_kinds p e st) begin)
               pending s (old.begins g p k pending s z))
           | inr other ↦ subst (λ l. IsPrefix l (firsts (t.closed g))) (sym (done_apart g (t.group g).number (t.abcasts k) m.id other)) (old.begins g p k pending s z)
         ]) q member in_it
       where
-        old : SiteClosing i.0.0.1 (at t) i.0.0.3 i.0.1 i.1 a t
-        old = own_closing home w a t i.0.0.1 i.0.0.3 i.0.1 i.1 i.2
+        old : SiteClosing i.0.0.1 (at t) i.0.0.3 i.0.0.4 i.0.1 i.1 a t
+        old = own_closing home w a t i.0.0.1 i.0.0.3 i.0.0.4 i.0.1 i.1 i.2
 
     pub delivers_closing : ClosingNow home w a no_key done_now
     delivers_closing = closing_keep home w a no_key no_key t done_now (later_delivered t k m) i j ext
-        (window_delivers home w a t k m i.0.0 ((flush home w a t i.0.0).delivers t k m (begin home w a t i.0.0) c ready) (later_delivered t k m) (delivery_tells home w a t k m) i.0.1 i.0.2 ready).2
-        (λ g v. ([], append-nil (i.0.0.3 g v))) (λ g v. inl refl) (λ g v s. s) delivers_notes delivers_calm (still t done_now (λ g. omega arith))
+        (window_delivers home w a t k m i.0.0 ((flush home w a t i.0.0).delivers t k m (begin home w a t i.0.0) c ready) (later_delivered t k m) (delivery_tells home w a t k m) i.0.1 i.0.2 c ready).2
+        (λ g v. ([], append-nil (i.0.0.3 g v))) (λ g v. inl (refl, refl)) (λ g v s. s) delivers_notes delivers_calm (still t done_now (λ g. omega arith))
         (λ x. record {
           closes = λ g p q e s. x.closes g p q e (same_standing q g s);
           begins = λ g p q e s z. delivers_begins g p q e (same_standing q g s) z;
@@ -288,7 +290,7 @@ module _ (home : SiteNo) (w : Network) (a : SiteNo) where
     sent_standing : (q : ℕ) (h : GroupNo) → (sent_now.process q).standing h ≡ Member → (t.process q).standing h ≡ Member
     sent_standing = set_all (λ q (p : Process). (h : GroupNo) → p.standing h ≡ Member → (t.process q).standing h ≡ Member) t.process k (record (t.process k) { time = m.times }) (λ q h e. e) (λ h e. e)
 
-    sent_here : (j : WindowNow home w a no_key sent_now) → SiteClosing j.0.1 (at sent_now) j.0.3 j.1 i.1 a t → SiteClosing j.0.1 (at sent_now) j.0.3 j.1 i.1 a sent_now
+    sent_here : (j : WindowNow home w a no_key sent_now) → SiteClosing j.0.1 (at sent_now) j.0.3 j.0.4 j.1 i.1 a t → SiteClosing j.0.1 (at sent_now) j.0.3 j.0.4 j.1 i.1 a sent_now
     sent_here j x = record {
       closes = λ h p q e s. x.closes h p q e (sent_standing q h s);
       begins = λ h p q e s. x.begins h p q e (sent_standing q h s);
@@ -304,14 +306,23 @@ module _ (home : SiteNo) (w : Network) (a : SiteNo) where
     sends_closing : is_member ((t.process k).standing g) ≡ true → MaySend t g k content → ClosingNow home w a no_key sent_now
     sends_closing member (casts none) =
         let j : WindowNow home w a no_key sent_now = sends_window home w a t g k content i.0 member (casts none) in
-        closing_quiet home w a no_key no_key t sent_now (later_sent t k m) i j ((flush home w a t i.0.0).sends t g k content (begin home w a t i.0.0) member (casts none)).3 refl refl refl refl sent_standing (still t sent_now (λ h. omega arith)) (sent_here j)
+        closing_quiet home w a no_key no_key t sent_now (later_sent t k m) i j ((flush home w a t i.0.0).sends t g k content (begin home w a t i.0.0) member (casts none)).3 refl refl refl refl refl sent_standing (still t sent_now (λ h. omega arith)) (sent_here j)
     sends_closing member (lists held open_it is) =
         let j : WindowNow home w a no_key sent_now = sends_window home w a t g k content i.0 member (lists held open_it is) in
         closing_keep home w a no_key no_key t sent_now (later_sent t k m) i j ((flush home w a t i.0.0).sends t g k content (begin home w a t i.0.0) member (lists held open_it is)).3 (λ h v. omega arith)
-        (grows home w a t i.0.0.0 i.0.0.1 i.0.0.2 i.0.0.3 i.0.0.4 g k content member held open_it is)
-        (λ h v. elim (cases_here home w a t i.0.0.0 i.0.0.1 i.0.0.2 i.0.0.3 i.0.0.4 g k content member held open_it is h v) [
-          | inl two ↦ inr (k, subst (λ z. tells t.here (t.group z) k ≡ true) two.0 held, ap (λ z. (t.group z).number) (sym two.0) ∙ sym two.1, ap (λ z. (t.group z).frozen) (sym two.0) ∙ open_it)
-          | inr same ↦ inl same
+        (grows home w a t i.0.0.0 i.0.0.1 i.0.0.2 i.0.0.3 i.0.0.4 i.0.0.5 g k content member held open_it is)
+        (λ h v. elim (cases_here home w a t i.0.0.0 i.0.0.1 i.0.0.2 i.0.0.3 i.0.0.4 i.0.0.5 g k content member held open_it is h v) [
+          | inl two ↦ inr (k, (λ n. token_at i.0.0.1 i.0.0.4 (sym two.0 n) (two.1 n)) ∙ has_token home w a t i.0.0.0 i.0.0.1 i.0.0.2 i.0.0.3 i.0.0.4 i.0.0.5 g k content member held open_it is, ap (λ z. (t.group z).number) (sym two.0) ∙ sym two.1, ap (λ z. (t.group z).frozen) (sym two.0) ∙ open_it)
+          | inr same ↦ inl (same, refl)
+        ])
+        (λ h v s. s) (no_notes t) sent_calm (still t sent_now (λ h. omega arith)) (sent_here j)
+    sends_closing member (hands place to held open_it settled is) =
+        let j : WindowNow home w a no_key sent_now = sends_window home w a t g k content i.0 member (hands place to held open_it settled is) in
+        closing_keep home w a no_key no_key t sent_now (later_sent t k m) i j ((flush home w a t i.0.0).sends t g k content (begin home w a t i.0.0) member (hands place to held open_it settled is)).3
+        (widened_up home w a t g k content i.0.0 member place to held open_it settled is i.0.1 i.0.2) (λ h v. ([], append-nil (i.0.0.3 h v)))
+        (λ h v. elim (hand_cases home w a t i.0.0.0 i.0.0.1 i.0.0.2 i.0.0.3 i.0.0.4 i.0.0.5 g k content place to member held open_it settled is h v) [
+          | inl two ↦ inr (k, (λ n. token_at i.0.0.1 i.0.0.4 (sym two.0 n) (two.1 n)) ∙ hand_token home w a t i.0.0.0 i.0.0.1 i.0.0.2 i.0.0.3 i.0.0.4 i.0.0.5 g k content place to member held open_it settled is, ap (λ z. (t.group z).number) (sym two.0) ∙ sym two.1, ap (λ z. (t.group z).frozen) (sym two.0) ∙ open_it)
+          | inr same ↦ inl (refl, same)
         ])
         (λ h v s. s) (no_notes t) sent_calm (still t sent_now (λ h. omega arith)) (sent_here j)
 
@@ -326,11 +337,11 @@ module _ (home : SiteNo) (w : Network) (a : SiteNo) where
     between = λ g. closing_telling (is_of_view g);
     truly = inl (λ t i o c. elim (i.0.4 o c) [ inl e ↦ absurd (false≢true e) | inr owes ↦ owes ]);
     fixed = λ t i. (flush home w a t i.0.0).fixed t (begin home w a t i.0.0);
-    opens = λ t i. closing_quiet home w a no_key no_key t (opening_next t) (later_same t) i ((kept_window home w a).opens t i.0) ((flush home w a t i.0.0).opens t (begin home w a t i.0.0)).3 refl refl refl refl (λ k g e. e) (still t (opening_next t) (λ g. omega arith)) (λ x. x);
-    answers = λ t g i. group_closing no_key t g (with_answer (t.group g)) (omega arith) i ((kept_window home w a).answers t g i.0) ((flush home w a t i.0.0).answers t g (begin home w a t i.0.0)).3 refl refl refl (λ e. e) refl;
+    opens = λ t i. closing_quiet home w a no_key no_key t (opening_next t) (later_same t) i ((kept_window home w a).opens t i.0) ((flush home w a t i.0.0).opens t (begin home w a t i.0.0)).3 refl refl refl refl refl (λ k g e. e) (still t (opening_next t) (λ g. omega arith)) (λ x. x);
+    answers = λ t g i. group_closing no_key t g (with_answer (t.group g)) (omega arith) i ((kept_window home w a).answers t g i.0) ((flush home w a t i.0.0).answers t g (begin home w a t i.0.0)).3 refl refl refl refl (λ e. e) refl;
     joins = λ t k g i open_it known out.
         let u : State = set_standing t k g (Joining ((t.group g).asked + 1) (view_of (t.process k).time g)) in
-        closing_quiet home w a no_key no_key t u (later_join t k g (view_of (t.process k).time g)) i ((kept_window home w a).joins t k g i.0 open_it known out) ((flush home w a t i.0.0).joins t k g (begin home w a t i.0.0) open_it known out).3 refl refl refl refl
+        closing_quiet home w a no_key no_key t u (later_join t k g (view_of (t.process k).time g)) i ((kept_window home w a).joins t k g i.0 open_it known out) ((flush home w a t i.0.0).joins t k g (begin home w a t i.0.0) open_it known out).3 refl refl refl refl refl
         (join_standing t k g) (still t u (λ h. omega arith)) (λ x. record {
           closes = λ h p q e s. x.closes h p q e (join_standing t k g q h s);
           begins = λ h p q e s. x.begins h p q e (join_standing t k g q h s);
@@ -341,16 +352,16 @@ module _ (home : SiteNo) (w : Network) (a : SiteNo) where
         });
     sends = λ t g k content i member may. sends_closing t g k content i member may;
     receives = λ t from m i came view member. closing_quiet home w a no_key no_key t (receiving t m) (later_same t) i ((kept_window home w a).receives t from m i.0 came view member) ((flush home w a t i.0.0).receives t from m (begin home w a t i.0.0) came view member).3
-        refl refl refl refl (λ k g e. e) (still t (receiving t m) (λ g. omega arith)) (λ x. x);
+        refl refl refl refl refl (λ k g e. e) (still t (receiving t m) (λ g. omega arith)) (λ x. x);
     acknowledged = λ t from z i came. closing_quiet home w a no_key no_key t (noting_ack t from z) (later_same t) i ((kept_window home w a).acknowledged t from z i.0 came)
-        ((flush home w a t i.0.0).telling.books t t.quotas t.moment (t.acks ++ (from, z) ∷ []) t.told t.owed t.casts t.pushes (begin home w a t i.0.0)).3 refl refl refl refl (λ k g e. e) (still t (noting_ack t from z) (λ g. omega arith)) (λ x. x);
+        ((flush home w a t i.0.0).telling.books t t.quotas t.moment (t.acks ++ (from, z) ∷ []) t.told t.owed t.casts t.pushes (begin home w a t i.0.0)).3 refl refl refl refl refl (λ k g e. e) (still t (noting_ack t from z) (λ g. omega arith)) (λ x. x);
     learns = λ t from z i came. closing_quiet home w a no_key no_key t (noting_stable t z) (later_same t) i ((kept_window home w a).learns t from z i.0 came)
-        ((flush home w a t i.0.0).telling.books t t.quotas t.moment t.acks (t.told ++ z ∷ []) t.owed t.casts t.pushes (begin home w a t i.0.0)).3 refl refl refl refl (λ k g e. e) (still t (noting_stable t z) (λ g. omega arith)) (λ x. x);
+        ((flush home w a t i.0.0).telling.books t t.quotas t.moment t.acks (t.told ++ z ∷ []) t.owed t.casts t.pushes (begin home w a t i.0.0)).3 refl refl refl refl refl (λ k g e. e) (still t (noting_stable t z) (λ g. omega arith)) (λ x. x);
     delivers = delivers_closing;
-    freezes = λ t g i current. group_closing no_key t g (frozen_side (t.group g)) (omega arith) i ((kept_window home w a).freezes t g i.0 current) ((flush home w a t i.0.0).freezes t g (begin home w a t i.0.0) current).3 refl refl refl (λ e. refl) refl;
+    freezes = λ t g i current. group_closing no_key t g (frozen_side (t.group g)) (omega arith) i ((kept_window home w a).freezes t g i.0 current) ((flush home w a t i.0.0).freezes t g (begin home w a t i.0.0) current).3 refl refl refl refl (λ e. refl) refl;
     pends = λ t from g p tail i came current waits. pends_closing home w a t from g p tail i came current waits;
     passes = λ t g skipped n members request cut i comes. passes_closing home w a t g skipped n members request cut i comes;
     ends = λ t g i. closing_quiet home w a (is_of_view g) no_key t (paying_view t g) (later_same t) i ((kept_window home w a).ends t g i.0)
-        ((flush home w a t i.0.0).telling.books t t.quotas t.moment t.acks t.told (paid (is_of_view g) t.owed) t.casts t.pushes (begin home w a t i.0.0)).3 refl refl refl refl (λ k h e. e) (still t (paying_view t g) (λ h. omega arith)) (λ x. x);
+        ((flush home w a t i.0.0).telling.books t t.quotas t.moment t.acks t.told (paid (is_of_view g) t.owed) t.casts t.pushes (begin home w a t i.0.0)).3 refl refl refl refl refl (λ k h e. e) (still t (paying_view t g) (λ h. omega arith)) (λ x. x);
     homes = homes_closing home w a;
   }

@@ -1,13 +1,13 @@
 -- What the moves of a history keep, it keeps through each event and through the rest that follows.
-use Rattle.std.proofs.Common.{ap, inl, inr, subst, sym}
-use Rattle.std.proofs.lemmas.Bool.{and_parts, eq-eqb, false≢true}
+use Rattle.std.proofs.Common.{ap, inl, inr, subst, sym, ◌∙◌}
+use Rattle.std.proofs.lemmas.Bool.{and_parts, false≢true}
 use Rattle.std.specs.List.{find, fold}
-use Rattle.std.specs.Prelude.{Bool, Contains, None, Option, Some, false, if◌then◌else◌, is_some, length, not, refl, true, unwrap_or, ℕ, ◌&&◌, ◌+◌, ◌==◌, ◌≡◌, ◌⊎◌}
+use Rattle.std.specs.Prelude.{Bool, Contains, None, List, Option, Some, [], false, if◌then◌else◌, is_some, length, not, refl, true, unwrap_or, ℕ, ◌&&◌, ◌+◌, ◌∷◌, ◌≡◌, ◌⊎◌}
 use Rattle.cast_delay.specs.Ready.{is_member}
 use Rattle.cast_history.specs.Acts.Act.{Delivered}
 use Rattle.cast_history.specs.Effects.{delivering, sending}
 use Rattle.cast_history.specs.History.{history}
-use Rattle.cast_history.specs.Order.{has_place, holds, order_of, unlisted}
+use Rattle.cast_history.specs.Order.{has_place, holders, holds, order_told, unlisted}
 use Rattle.cast_history.specs.Reports.{has_delivered_cut, missing_in}
 use Rattle.cast_history.specs.Rest.{RestsAt, deliver_all, deliver_first, is_free, let_go, pass, set_order, set_order_by, set_orders, settle}
 use Rattle.cast_history.specs.Resting.{next_places, places_of, resting}
@@ -27,18 +27,18 @@ use Rattle.cast_message.specs.declared.site.SiteFrame.{SiteFrame}
 use Rattle.cast_model.specs.Session.{is_gone, taken_from}
 use Rattle.cast_model.specs.declared.event.Event.{Event}
 use Rattle.cast_quota.specs.Quotas.{is_in_range, with_quota}
-use Rattle.cast_types.specs.Names.{site_eq}
 use Rattle.cast_types.specs.declared.names.GroupNo.{GroupNo}
-use Rattle.cast_types.specs.declared.names.Proc.{Proc}
 use Rattle.cast_types.specs.declared.names.SiteNo.{SiteNo}
 use Rattle.cast_view.specs.Home.{is_empty}
-use Rattle.cast_view.specs.MemberSide.{holder_at, holder_of, is_process}
 use Rattle.cast_view.specs.declared.member.Pending.{Pending}
+use Rattle.cast_world.proofs.Acts.{contains_here}
+use Rattle.cast_world.proofs.Allowed.{contains_more, passed}
 use Rattle.cast_world.proofs.Entries.{delivered_now, told_agrees}
 use Rattle.cast_world.proofs.Handlers.{commanded_keeps, framed_keeps, install_keeps, lead_keeps, sending_keeps, suspect_keeps}
 use Rattle.cast_world.proofs.Keeps.{found_is, keeps_fold, keeps_if, keeps_iterate, keeps_option}
 use Rattle.cast_world.proofs.Kept.{AcksFreely, Kept, OwedTrue, FullyKept, FullyKeptByTelling, completes, lists, kept_fully}
 use Rattle.cast_world.proofs.Telling.{end_session_keeps, owe_keeps, tell_keeps, tick_keeps}
+use Rattle.cast_world.proofs.Tokens.{holds_still}
 use Rattle.cast_message.specs.declared.message.Body.TheVariants as body
 use Rattle.cast_model.specs.declared.event.Event.TheVariants as event
 
@@ -71,16 +71,6 @@ is_false : (b : Bool) → not b ≡ true → b ≡ false
 is_false true e = absurd (false≢true e)
 is_false false e = refl
 
--- who is a view's holder at this site holds its order
-pub holder_here : (here : SiteNo) (o : Option Proc) (p : Proc) → elim o as (λ x. Option Proc) [ Some q ↦ if site_eq q.site here then Some q else None | None ↦ None ] ≡ Some p →
-    is_process (record { site = here; serial = p.serial }) o ≡ true
-holder_here here None p e = absurd (false≢true (ap is_some e))
-holder_here here (Some q) p e = go (site_eq q.site here) refl e
-  where
-    go : (b : Bool) → site_eq q.site here ≡ b → (if b then Some q else None) ≡ Some p → (site_eq q.site here && (q.serial == p.serial)) ≡ true
-    go true same is = λ i. same i && eq-eqb q.serial p.serial (ap (λ (o : Option Proc). (unwrap_or o q).serial) is) i
-    go false other is = absurd (false≢true (ap is_some is))
-
 module _ (I : State → Type 0) (Between : GroupNo → State → Type 0) (Came : SiteNo → SiteFrame → Type 0) (home_here : Bool) (k : FullyKept I Between Came home_here) where
   abbrev t : FullyKeptByTelling I
   t = k.telling
@@ -111,7 +101,7 @@ module _ (I : State → Type 0) (Between : GroupNo → State → Type 0) (Came :
 
   -- the places that a holder sets next are those after the order known here
   next_are : (s : State) (g : GroupNo) (n : ℕ) (places : Sequence) → next_places s g n ≡ Some places → body.Order places ≡ body.Order (places_of s g n)
-  next_are s g n places e = ap (λ (p : Sequence). body.Order p) (go (not (is_empty (unlisted s g n)) && has_place (order_of s g)) e)
+  next_are s g n places e = ap (λ (p : Sequence). body.Order p) (go (not (is_empty (unlisted s g n)) && has_place (order_told s g)) e)
     where
       go : (b : Bool) → (if b then Some (places_of s g n) else None) ≡ Some places → places ≡ places_of s g n
       go true is = sym (ap (λ o. unwrap_or o places) is)
@@ -126,11 +116,11 @@ module _ (I : State → Type 0) (Between : GroupNo → State → Type 0) (Came :
       (λ _. i)) i) (λ _. i)
 
   set_order_keeps : (s : State) (g : GroupNo) → I s → I (set_order s g)
-  set_order_keeps s g i = go (holder_at s.here (s.group g)) refl
+  set_order_keeps s g i = each (holders s g) s i (λ n at. passed (holds s g) (serials s) n at)
     where
-      go : (o : Option Proc) → holder_at s.here (s.group g) ≡ o → I (elim o [ Some p ↦ set_order_by s g p.serial | None ↦ s ])
-      go (Some p) e = set_order_by_keeps s g p.serial i (holder_here s.here (holder_of (s.group g)) p e)
-      go None e = i
+      each : (ns : List ℕ) (r : State) → I r → ((n : ℕ) → Contains ns n → holds r g n ≡ true) → I (fold (λ t n. set_order_by t g n) r ns)
+      each [] r j held = j
+      each (n ∷ ns) r j held = each ns (set_order_by r g n) (set_order_by_keeps r g n j (held n (contains_here [] ns n))) (λ m at. holds_still r g n m ∙ held m (contains_more n ns m at))
 
   go_on_keeps : (s : State) (g : GroupNo) → I s → I (go_on history resting s g)
   go_on_keeps s g i = go (s.group g).pending refl

@@ -11,11 +11,12 @@ use Rattle.cast_flush.specs.declared.report.Report.{Report}
 use Rattle.cast_history.specs.Effects.{next_message}
 use Rattle.cast_history.specs.Entering.{freezing, passing}
 use Rattle.cast_history.specs.History.{history}
+use Rattle.cast_history.specs.Order.{holds, place_to_pass}
 use Rattle.cast_history.specs.Owing.{paying, paying_upto}
 use Rattle.cast_history.specs.Reports.{had_here, report_in}
 use Rattle.cast_history.specs.Rules.Asking.{is_from_home, is_home, request}
-use Rattle.cast_history.specs.Rules.Commands.{body_of, cast, cast_at, commanded, join, join_at, leave, reply, requested, send_own}
-use Rattle.cast_history.specs.Rules.Data.{acknowledge, counts_itself, is_outdated, is_used, is_well_formed, on_data, use_data, want_no_more}
+use Rattle.cast_history.specs.Rules.Commands.{body_handing, body_of, cast, cast_at, commanded, hand_over, join, join_at, leave, pass_at, pass_token, reply, requested, send_own}
+use Rattle.cast_history.specs.Rules.Data.{acknowledge, is_outdated, is_used, is_well_formed, on_data, use_data, want_no_more}
 use Rattle.cast_history.specs.Rules.Flushes.{flushed_frame, is_wanted_here, on_prepare, on_wanted}
 use Rattle.cast_history.specs.Rules.Frames.{framed, group_of, on_frame}
 use Rattle.cast_history.specs.Rules.Home.{announce, decide, drop_want, drop_wants, forwardable, is_of_home, lead, lead_group, on_flushed, on_forward, on_installed, on_want, owe_of_home, prepare, start, suspect, suspect_in, want, want_bodies, want_eq, wants}
@@ -23,7 +24,7 @@ use Rattle.cast_history.specs.Rules.Keys.{ask_key, home_key, message_key, want_k
 use Rattle.cast_history.specs.Rules.Leaving.{Attempt, close_session, leave_at}
 use Rattle.cast_history.specs.Rules.Owing.{owe, send_for}
 use Rattle.cast_history.specs.Rules.Requests.{answer_ask, deny, deny_if, is_joining_by, on_ask, on_asked, take_answer}
-use Rattle.cast_history.specs.Rules.Room.{may_receive, may_take}
+use Rattle.cast_history.specs.Rules.Room.{may_order, may_receive, may_take}
 use Rattle.cast_history.specs.Rules.Sending.{may_raise, send_data}
 use Rattle.cast_history.specs.Rules.Stability.{is_used_ack, on_ack, on_stable, tell_more, tell_stable, with_ack}
 use Rattle.cast_history.specs.Rules.Views.{change_view, enter_and_tell, install, no_members, on_install, on_out, tell_out, tell_view}
@@ -53,7 +54,7 @@ use Rattle.cast_types.specs.declared.names.SiteNo.{SiteNo}
 use Rattle.cast_types.specs.declared.names.Standing.TheVariants.{Joining}
 use Rattle.cast_types.specs.declared.names.Uid.{Uid}
 use Rattle.cast_types.specs.declared.refusal.Refusal.{Refusal}
-use Rattle.cast_types.specs.declared.refusal.Refusal.TheVariants.{AlreadyMember, BadFrame, Flushing, GroupFull, HeldFull, NoGroup, NotMember, OwnAbcast, TooLong}
+use Rattle.cast_types.specs.declared.refusal.Refusal.TheVariants.{AlreadyMember, BadFrame, Flushing, GroupFull, HeldFull, NoGroup, NotHolder, NotMember, OwnAbcast, TooLong}
 use Rattle.cast_view.specs.Home.{answer_to, awaited_of, bodies_of, may_decide, may_start, moved, takes_installed, takes_report, waiting_of}
 use Rattle.cast_view.specs.Home.HomeMove.{Asked, Brought, Decided, Installed, Reported, Started, Suspected}
 use Rattle.cast_view.specs.MemberSide.{MemberSide, answers_prepare, counts_by, first_asking, frozen_side, greatest_of, has_view, is_current, is_pending, is_put_out_by, members_of, with_answer}
@@ -62,7 +63,7 @@ use Rattle.cast_view.specs.declared.member.Verdict.{Verdict}
 use Rattle.cast_view.specs.declared.member.Verdict.TheVariants.{Again, Completes, Ignored, Pends, Skips}
 use Rattle.cast_world.proofs.Entries.{agrees_later, members_entered, put_out_left, tell_all_goes_on, tell_all_keeps}
 use Rattle.cast_world.proofs.Keeps.{found_is, keeps_fold, keeps_if, keeps_option}
-use Rattle.cast_world.proofs.Kept.{Comes, MaySend, FullyKept, FullyKeptByTelling, casts, ends, installs, skips}
+use Rattle.cast_world.proofs.Kept.{Comes, MaySend, FullyKept, FullyKeptByTelling, casts, ends, hands, installs, skips}
 use Rattle.cast_world.proofs.Telling.{ask_home_keeps, close_session_keeps, leave_at_keeps, outcome, owe_keeps, pay_keeps, request_keeps, send_for_keeps, tell_keeps}
 use Rattle.cast_message.specs.declared.site.Change.TheVariants as change
 use Rattle.cast_message.specs.declared.client.CastKind.TheVariants as kind_name
@@ -166,10 +167,38 @@ module _ (I : State → Type 0) (Between : GroupNo → State → Type 0) (Came :
       place true = at
       place false = i
 
+  -- who has settled all that it ordered hands the token over
+  handed_keeps : (s : State) (n : ℕ) (g : GroupNo) (to : Proc) → I s → is_member ((s.process n).standing g) ≡ true → holds s g n ≡ true → (s.group g).frozen ≡ false → (o : Option ℕ) → place_to_pass s g n ≡ o →
+      I (outcome (option_map_or (hand_over history s n g to g) o (s, Some HeldFull)))
+  handed_keeps s n g to i member held open_it None e = i
+  handed_keeps s n g to i member held open_it (Some place) e = itself (proc_eq to (local s n))
+    where
+      itself : (b : Bool) → I (outcome (if b then (s, None) else (send_own history s n (next_message s g n (body_handing place to)), None)))
+      itself true = i
+      itself false = sending_keeps s g n (body_handing place to) i member (hands place to held open_it e refl)
+
+  pass_token_keeps : (s : State) (n : ℕ) (g : GroupNo) (to : Proc) → I s → I (outcome (pass_token history s n g to))
+  pass_token_keeps s n g to i = place (is_group s g)
+    where
+      at : I (outcome (pass_at history s n g to g))
+      at = refused_or (not (is_member ((s.process n).standing g))) s NotMember _ i
+          (λ member. refused_or (not (is_among proc_eq to (members_of (s.group g)))) s NotMember _ i
+          (λ _. refused_or (s.group g).frozen s Flushing _ i
+          (λ open_it. refused_or (awaits_own s n) s OwnAbcast _ i
+          (λ _. refused_or (not (holds s g n)) s NotHolder _ i
+          (λ held. refused_or (not (may_order history s)) s HeldFull _ i
+          (λ _. refused_or (not (may_raise (s.process n).time g (local s n))) s HeldFull (option_map_or (hand_over history s n g to g) (place_to_pass s g n) (s, Some HeldFull)) i
+          (λ _. handed_keeps s n g to i (not_true (is_member ((s.process n).standing g)) member) (not_true (holds s g n) held) open_it (place_to_pass s g n) refl)))))))
+
+      place : (b : Bool) → I (outcome (option_map_or (pass_at history s n g to) (if b then Some g else None) (s, Some NoGroup)))
+      place true = at
+      place false = i
+
   requested_keeps : (s : State) (n : ℕ) (q : Request) → I s → is_open (s.session n) ≡ true → I (requested history s n q)
   requested_keeps s n (request_of.Join tag g) i open_it = reply_keeps (join history s n g) n tag (join_keeps s n g i open_it)
   requested_keeps s n (request_of.Leave tag g) i open_it = reply_keeps (leave history s n g) n tag (leave_keeps s n g i)
   requested_keeps s n (request_of.Cast tag g kind payload) i open_it = reply_keeps (cast history s n g kind payload) n tag (cast_keeps s n g kind payload i)
+  requested_keeps s n (request_of.Pass tag g to) i open_it = reply_keeps (pass_token history s n g to) n tag (pass_token_keeps s n g to i)
 
   pub commanded_keeps : (s : State) (n : ℕ) (c : Command) → I s → I (commanded history s n c)
   commanded_keeps s n (command.Request q) i = keeps_if I (is_open (s.session n)) (requested history s n q) s (requested_keeps s n q i) (λ _. i)
@@ -192,7 +221,7 @@ module _ (I : State → Type 0) (Between : GroupNo → State → Type 0) (Came :
       go false more = more
 
   well_formed_member : (s : State) (members : List Proc) (m : Message) → is_well_formed history s members m ≡ true → is_among proc_eq m.id.proc members ≡ true
-  well_formed_member s members m e = (and_parts (is_among proc_eq m.id.proc members) (counts_itself m) (and_parts (list_all (λ c. is_among group_eq c.0 s.config.groups) m.times) _ e).1).0
+  well_formed_member s members m e = (and_parts (is_among proc_eq m.id.proc members) _ (and_parts (list_all (λ c. is_among group_eq c.0 s.config.groups) m.times) _ e).1).0
 
   use_data_keeps : (s : State) (from : SiteNo) (m : Message) → I s → Came from (frame.Data m) → is_used history s m.id.group from m ≡ true → I (use_data history s from m)
   use_data_keeps s from m i came used =

@@ -34,9 +34,9 @@ pub record TakesIn (process : ℕ → Process) (group : GroupNo → MemberSide) 
   pub asked : request ≤ (group g).asked
   pub above : (k number heard : ℕ) → (process k).standing g ≡ Joining number heard → number ≤ request → heard < view
 
--- what others rest on of a site: the messages that its processes sent, the home's numbers, its requests. It never goes back
+-- what others rest on of a site: what its processes did, the home's numbers, its requests. It never goes back
 pub record Grows (process new_process : ℕ → Process) (acts new_acts : ℕ → List Act) (group new_group : GroupNo → MemberSide) (home new_home : GroupNo → Home) : Type 0 where
-  pub sent : (k : ℕ) (m : Message) → Contains (acts k) (Sent m) → Contains (new_acts k) (Sent m)
+  pub did : (k : ℕ) (x : Act) → Contains (acts k) x → Contains (new_acts k) x
   pub decided : (g : GroupNo) → (home g).number ≤ (new_home g).number
   pub asked : (g : GroupNo) → (group g).asked ≤ (new_group g).asked
   pub takes : (g : GroupNo) (request view : ℕ) → TakesIn process group g request view → TakesIn new_process new_group g request view

@@ -6,13 +6,14 @@ use Rattle.cast_delay.specs.Ready.{is_member, is_outside}
 use Rattle.cast_history.specs.Effects.{next_message}
 use Rattle.cast_history.specs.Entering.{freezing, passing, pending_install}
 use Rattle.cast_history.specs.History.{history}
-use Rattle.cast_history.specs.Order.{holds}
+use Rattle.cast_history.specs.Order.{holds, place_to_pass}
 use Rattle.cast_history.specs.Owing.{paying_view}
 use Rattle.cast_history.specs.Reports.{has_delivered_cut, report_in}
 use Rattle.cast_history.specs.Resting.{places_of}
 use Rattle.cast_history.specs.Rules.Asking.{is_home}
 use Rattle.cast_history.specs.Rules.Keys.{id_in}
 use Rattle.cast_history.specs.Rules.Views.{no_members}
+use Rattle.cast_history.specs.Rules.Commands.{body_handing}
 use Rattle.cast_history.specs.State.{State, emitted, is_group, is_received, noting_ack, noting_sent, noting_stable, outside, receiving, releasing, set_group, set_home, set_session, set_standing, with_delivery}
 use Rattle.cast_history.specs.Step.{opening_next}
 use Rattle.cast_history.specs.Turns.{is_ready_for}
@@ -80,11 +81,12 @@ MayMove Came s g (Brought m) = (from : SiteNo) × Came from (frame.Forward m)
 MayMove Came s g Decided = (is_home history s ≡ true) × (may_decide g (s.home g) ≡ true)
 MayMove Came s g (Installed from view) = Unit {0}
 
--- what a member may send: a cast at all times; a set-order message only where it holds the view's order, no flush has frozen the group, and it
--- sets the places after the order known here
+-- what a member may send: a cast at all times; a set-order message only where it holds the token of the view and no flush has frozen the group.
+-- It sets the places after the order known here, or hands the token over, from the place after all that it ordered
 pub data MaySend (s : State) (g : GroupNo) (k : ℕ) (content : Body) : Type 0 where
   casts : is_order (kind_of content) ≡ false → MaySend s g k content
   lists : holds s g k ≡ true → (s.group g).frozen ≡ false → content ≡ body.Order (places_of s g k) → MaySend s g k content
+  hands : (place : ℕ) (to : Proc) → holds s g k ≡ true → (s.group g).frozen ≡ false → place_to_pass s g k ≡ Some place → content ≡ body_handing place to → MaySend s g k content
 
 -- how a site comes to pass to a view: the Install that waited is completed; one comes where the site has no view, or skips a view; or it is
 -- told of a view without members here

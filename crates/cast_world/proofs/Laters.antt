@@ -44,13 +44,13 @@ set_group_all {V} P f g v all one h = go (group_eq g h) refl
 
 -- a state that has others' reasons: acts and numbers only grow, and who is joining was, or asked later than all that was asked
 module _ (process new_process : ℕ → Process) (acts new_acts : ℕ → List Act) (group new_group : GroupNo → MemberSide) (home new_home : GroupNo → Home)
-    (sent : (k : ℕ) (m : Message) → Contains (acts k) (Sent m) → Contains (new_acts k) (Sent m))
+    (did : (k : ℕ) (x : Act) → Contains (acts k) x → Contains (new_acts k) x)
     (decided : (g : GroupNo) → (home g).number ≤ (new_home g).number)
     (asked : (g : GroupNo) → (group g).asked ≤ (new_group g).asked)
     (joins : (k : ℕ) (g : GroupNo) (number heard : ℕ) → (new_process k).standing g ≡ Joining number heard → ((process k).standing g ≡ Joining number heard) ⊎ ((group g).asked < number)) where
   pub grows : Grows process new_process acts new_acts group new_group home new_home
   grows = record {
-    sent = sent;
+    did = did;
     decided = decided;
     asked = asked;
     takes = λ g request view t. record {
@@ -63,13 +63,13 @@ module _ (process new_process : ℕ → Process) (acts new_acts : ℕ → List A
   }
 
 pub later_same : (s : State) → Later s s
-later_same s = record { sent = λ k m at. at; decided = λ g. omega arith; asked = λ g. omega arith; takes = λ g request view t. t }
+later_same s = record { did = λ k x at. at; decided = λ g. omega arith; asked = λ g. omega arith; takes = λ g request view t. t }
 
 -- others' claims at a later moment
 
 module _ (at next : Sites) (home : SiteNo) (ahead : Ahead at next) where
   pub known_later : (m : Message) → Known at home m → Known next home m
-  known_later m k = record { sent = (ahead m.id.proc.site).sent m.id.proc.serial m k.sent; sorted = k.sorted; views = λ g. further at next home g _ ahead (k.views g) }
+  known_later m k = record { sent = (ahead m.id.proc.site).did m.id.proc.serial (Sent m) k.sent; sorted = k.sorted; views = λ g. further at next home g _ ahead (k.views g) }
 
   asked_later : (s : SiteNo) (g : GroupNo) (n : ℕ) → n ≤ ((at s).group g).asked → n ≤ ((next s).group g).asked
   asked_later s g n le = let up = (ahead s).asked g in omega (arith, le, up)

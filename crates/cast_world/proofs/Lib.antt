@@ -9,6 +9,7 @@ pub mod Kept
 pub mod Keeps
 pub mod Telling
 pub mod Entries
+pub mod Tokens
 pub mod Handlers
 pub mod Events
 pub mod Invariants
@@ -40,6 +41,8 @@ pub mod OrderTells
 pub mod OrderMoves
 pub mod OrderPasses
 pub mod OrderGrows
+pub mod Settles
+pub mod OrderHands
 pub mod OrderSteps
 pub mod OrderRuns
 pub mod Windows

@@ -77,7 +77,7 @@ names_of g v (u ∷ us) = go (is_in g v u) refl (names_of g v us)
 
 -- What is still to be listed
 
-pub entry_among : (xs : List Entry) (e : Entry) → Contains xs e → is_among entry_eq e xs ≡ true
+entry_among : (xs : List Entry) (e : Entry) → Contains xs e → is_among entry_eq e xs ≡ true
 entry_among [] e at = absurd (omega (arith, at.1))
 entry_among (x ∷ xs) e (zero, lt, is) = ap (λ b. b || is_among entry_eq e xs) (ap (entry_eq e) is ∙ entry_itself e)
 entry_among (x ∷ xs) e (suc n, lt, is) = go (entry_eq e x) (entry_among xs e (n, omega (arith, lt), is))
@@ -86,7 +86,7 @@ entry_among (x ∷ xs) e (suc n, lt, is) = go (entry_eq e x) (entry_among xs e (
     go true more = refl
     go false more = more
 
-pub among_entry : (xs : List Entry) (e : Entry) → is_among entry_eq e xs ≡ true → Contains xs e
+among_entry : (xs : List Entry) (e : Entry) → is_among entry_eq e xs ≡ true → Contains xs e
 among_entry [] e is = absurd (false≢true is)
 among_entry (x ∷ xs) e is = go (entry_eq e x) refl is (among_entry xs e)
   where
@@ -112,14 +112,13 @@ keeps_every test [] all = refl
 keeps_every test (x ∷ xs) all =
     ap (λ b. cond b (x ∷ filter test xs) (filter test xs)) (all x (0, omega arith, refl)) ∙ ap (λ l. x ∷ l) (keeps_every test xs (λ y at. all y (contains_more x xs y at)))
 
--- what follows an order of which all, and nothing else, is listed
-pub still_is : (order rest listed : List Entry) → Apart (order ++ rest) → ((e : Entry) → Contains order e → Contains listed e) → ((e : Entry) → Contains listed e → Contains order e) →
-    still_to_list (order ++ rest) listed ≡ rest
-still_is order rest listed apart has only =
-    filter-append (λ e. not (is_among entry_eq e listed)) order rest
-    ∙ (λ i. keeps_none (λ e. not (is_among entry_eq e listed)) order (λ e at. ap not (entry_among listed e (has e at))) i
-    ++ keeps_every (λ e. not (is_among entry_eq e listed)) rest
-    (λ e at. ap not (false_from_ne_true (is_among entry_eq e listed) (λ is. apart_both order rest apart e (only e (among_entry listed e is)) at))) i)
+-- what follows an order is all that is not in it
+pub still_is : (order rest : List Entry) → Apart (order ++ rest) → still_to_list (order ++ rest) order ≡ rest
+still_is order rest apart =
+    filter-append (λ e. not (is_among entry_eq e order)) order rest
+    ∙ (λ i. keeps_none (λ e. not (is_among entry_eq e order)) order (λ e at. ap not (entry_among order e at)) i
+    ++ keeps_every (λ e. not (is_among entry_eq e order)) rest
+    (λ e at. ap not (false_from_ne_true (is_among entry_eq e order) (λ is. apart_both order rest apart e (among_entry order e is) at))) i)
 
 -- What acts say
 

@@ -57,10 +57,10 @@ module _ (s : State) (k : ℕ) (p : Process) where
   abbrev Asks : Type 0
   Asks = (g : GroupNo) (number heard : ℕ) → p.standing g ≡ Joining number heard → ((s.process k).standing g ≡ Joining number heard) ⊎ ((s.group g).asked < number)
 
-  later_process : Asks → (acts : List Act) → ((m : Message) → Contains (s.acts k) (Sent m) → Contains acts (Sent m)) →
+  later_process : Asks → (acts : List Act) → ((y : Act) → Contains (s.acts k) y → Contains acts y) →
       Grows s.process (set_at (λ a b. a == b) s.process k p) s.acts (set_at (λ a b. a == b) s.acts k acts) s.group s.group s.home s.home
-  later_process asks acts sent = grows s.process _ s.acts _ s.group s.group s.home s.home
-      (set_all (λ j (x : List Act). (m : Message) → Contains (s.acts j) (Sent m) → Contains x (Sent m)) s.acts k acts (λ j m c. c) sent)
+  later_process asks acts did = grows s.process _ s.acts _ s.group s.group s.home s.home
+      (set_all (λ j (x : List Act). (y : Act) → Contains (s.acts j) y → Contains x y) s.acts k acts (λ j y c. c) did)
       (λ g. omega arith) (λ g. omega arith)
       (set_all (λ j (x : Process). (g : GroupNo) (number heard : ℕ) → x.standing g ≡ Joining number heard → ((s.process j).standing g ≡ Joining number heard) ⊎ ((s.group g).asked < number))
       s.process k p (λ j g number heard e. inl e) asks)
@@ -78,7 +78,7 @@ later_part s k g = go (is_member ((s.process k).standing g))
 
     go : (b : Bool) → Grows s.process (set_at (λ a c. a == c) s.process k (parted g (s.process k))) s.acts (if b then (noting_act s k (Left g)).acts else s.acts) s.group s.group s.home s.home
     go true = later_process s k (parted g (s.process k)) (λ h number heard e. inl (joining_in_part ((s.process k).standing h) (group_eq g h) number heard e)) (s.acts k ++ Left g ∷ [])
-        (λ m c. Contains-append_left (s.acts k) (Left g ∷ []) (Sent m) c)
+        (λ y c. Contains-append_left (s.acts k) (Left g ∷ []) y c)
     go false = later_standing s k (parted g (s.process k)) (λ h number heard e. inl (joining_in_part ((s.process k).standing h) (group_eq g h) number heard e))
 
 number_or : Standing → ℕ
@@ -97,11 +97,11 @@ later_join s k g heard = later_standing s k _ (λ h number was e. go h number wa
     go h number was false e is = inl is
 
 pub later_sent : (s : State) (k : ℕ) (m : Message) → Later s (receiving (noting_sent s k m) m)
-later_sent s k m = later_process s k (record (s.process k) { time = m.times }) (λ h number heard e. inl e) (s.acts k ++ Sent m ∷ []) (λ x c. Contains-append_left (s.acts k) (Sent m ∷ []) (Sent x) c)
+later_sent s k m = later_process s k (record (s.process k) { time = m.times }) (λ h number heard e. inl e) (s.acts k ++ Sent m ∷ []) (λ y c. Contains-append_left (s.acts k) (Sent m ∷ []) y c)
 
 pub later_delivered : (s : State) (k : ℕ) (m : Message) → Later s (with_delivery s k m)
 later_delivered s k m = later_process s k (record (s.process k) { time = join (s.process k).time m.times; delivered = (s.process k).delivered ++ m.id ∷ [] }) (λ h number heard e. inl e)
-    (s.acts k ++ Delivered m ∷ []) (λ x c. Contains-append_left (s.acts k) (Delivered m ∷ []) (Sent x) c)
+    (s.acts k ++ Delivered m ∷ []) (λ y c. Contains-append_left (s.acts k) (Delivered m ∷ []) y c)
 
 pub later_group : (s : State) (g : GroupNo) (v : MemberSide) → (s.group g).asked ≤ v.asked → Later s (set_group s g v)
 later_group s g v le = grows s.process s.process s.acts s.acts s.group _ s.home s.home (λ k m c. c) (λ h. omega arith)
@@ -127,22 +127,22 @@ joining_after s g goes k h number heard e = go (goes k) e
 
 pub later_parted : (s : State) (g : GroupNo) (goes : ℕ → Bool) → Later s (all_parted s g goes)
 later_parted s g goes = grows s.process _ s.acts _ s.group s.group s.home s.home
-    (λ k m c. acts k m (goes k) c) (λ h. omega arith) (λ h. omega arith)
+    (λ k y c. acts k y (goes k) c) (λ h. omega arith) (λ h. omega arith)
     (λ k h number heard e. inl (joining_after s g goes k h number heard e))
   where
-    acts : (k : ℕ) (m : Message) (b : Bool) → Contains (s.acts k) (Sent m) → Contains (if b then s.acts k ++ Left g ∷ [] else s.acts k) (Sent m)
-    acts k m true c = Contains-append_left (s.acts k) (Left g ∷ []) (Sent m) c
-    acts k m false c = c
+    acts : (k : ℕ) (y : Act) (b : Bool) → Contains (s.acts k) y → Contains (if b then s.acts k ++ Left g ∷ [] else s.acts k) y
+    acts k y true c = Contains-append_left (s.acts k) (Left g ∷ []) y c
+    acts k y false c = c
 
 later_completing : (s : State) (g : GroupNo) (n : ℕ) (members : Membership) (request : ℕ) (cut : CountList) → Later s (completing s g n members request cut)
 later_completing s g n members request cut = grows s.process _ s.acts _ s.group _ s.home s.home
-    (λ k m c. acts k m (enters s g members request k) c) (λ h. omega arith)
+    (λ k y c. acts k y (enters s g members request k) c) (λ h. omega arith)
     (set_group_all (λ h (x : MemberSide). (s.group h).asked ≤ x.asked) s.group g (with_view s.here n members (s.group g)) (λ h. omega arith) (omega arith))
     (λ k h number heard e. inl (stands k h number heard (enters s g members request k) e))
   where
-    acts : (k : ℕ) (m : Message) (b : Bool) → Contains (s.acts k) (Sent m) → Contains (if b then s.acts k ++ Entered g n cut ∷ [] else s.acts k) (Sent m)
-    acts k m true c = Contains-append_left (s.acts k) (Entered g n cut ∷ []) (Sent m) c
-    acts k m false c = c
+    acts : (k : ℕ) (y : Act) (b : Bool) → Contains (s.acts k) y → Contains (if b then s.acts k ++ Entered g n cut ∷ [] else s.acts k) y
+    acts k y true c = Contains-append_left (s.acts k) (Entered g n cut ∷ []) y c
+    acts k y false c = c
 
     stands : (k : ℕ) (h : GroupNo) (number heard : ℕ) (b : Bool) → (if b then in_view g n (s.process k) else s.process k).standing h ≡ Joining number heard → (s.process k).standing h ≡ Joining number heard
     stands k h number heard true e = joining_in_view ((s.process k).standing h) (group_eq g h) number heard e
@@ -150,7 +150,7 @@ later_completing s g n members request cut = grows s.process _ s.acts _ s.group 
 
 pub later_then : (s t u : State) → Later s t → Later t u → Later s u
 later_then s t u one two = record {
-  sent = λ k m c. two.sent k m (one.sent k m c);
+  did = λ k y c. two.did k y (one.did k y c);
   decided = λ g. let a = one.decided g in let b = two.decided g in omega (arith, a, b);
   asked = λ g. let a = one.asked g in let b = two.asked g in omega (arith, a, b);
   takes = λ g request view x. two.takes g request view (one.takes g request view x);

@@ -52,7 +52,7 @@ module _ (at : Sites) (home here : SiteNo) (used : ℕ) (groups : List GroupNo) 
     sorted = o.sorted;
     views = λ g. further at next home g (view_of p.time g) ahead (o.views g);
     heard = λ g number heard is. further at next home g heard ahead (o.heard g number heard is);
-    done = λ m did. (ahead m.id.proc.site).sent m.id.proc.serial m (o.done m did);
+    done = λ m did. (ahead m.id.proc.site).did m.id.proc.serial (Sent m) (o.done m did);
   }
 
   -- when another serial is given

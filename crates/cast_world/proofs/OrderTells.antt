@@ -1,68 +1,41 @@
 -- Who tells a view's order knows all of it, and has still to list what it delivered beyond it.
-use Rattle.cast_types.proofs.Orders.{proc_itself, same_entry}
+use Rattle.cast_types.proofs.Orders.{same_entry}
 use Rattle.std.proofs.Common.{ap, arith, inl, inr, subst, sym, ◌∙◌}
 use Rattle.std.proofs.lemmas.Bool.{and_parts, false≢true, ltb-true, true≢false}
 use Rattle.std.proofs.lemmas.List.{length-append}
-use Rattle.std.specs.List.{enumerate_from}
 use Rattle.std.specs.Prelude.{◌&&◌, ◌+◌, ◌++◌, ◌<◌, ◌==◌, Bool, Contains, List, None, Option, Some, [], false, filter, if◌then◌else◌, length, nat_lt, not, refl, true, ◌||◌, ℕ, ◌∷◌, ◌≡◌, ◌≤◌}
 use Rattle.cast_delay.specs.Ready.{has_delivered, has_turn, is_causally_ready, is_cut_by, is_member, is_open_to}
 use Rattle.cast_delay.specs.declared.turn.Turn.TheVariants.{Following, Holding}
 use Rattle.cast_history.specs.History.{history}
-use Rattle.cast_history.specs.Order.{facts_in, has_place, holds, ids_told, is_of_view, lists_of, order_of, order_told, told_by, unlisted, unsettled}
+use Rattle.cast_history.specs.Order.{facts_in, has_place, holds, is_of_view, order_by, order_of, order_told, told_by, unlisted, unsettled}
 use Rattle.cast_history.specs.Rules.Room.{may_order}
 use Rattle.cast_history.specs.State.{State, gate_of, local}
 use Rattle.cast_history.specs.Turns.{has_room_for_order, is_ready_for, turn_of}
 use Rattle.cast_message.specs.Bodies.{kind_of}
 use Rattle.cast_message.specs.declared.message.Body.{Body}
 use Rattle.cast_message.specs.declared.message.Message.{Message}
-use Rattle.cast_order.specs.Order.{listed_ids, next_of, still_to_list}
+use Rattle.cast_order.specs.Order.{next_of, still_to_list}
 use Rattle.cast_types.specs.Counts.{CountList}
-use Rattle.cast_types.specs.Names.{Entry, entry_of, is_atomic, is_order, named, proc_eq}
+use Rattle.cast_types.specs.Names.{Entry, entry_of, is_atomic, is_order, named}
 use Rattle.cast_types.specs.declared.limits.TheConstants.{MAX_POSITION, MAX_UNSETTLED}
 use Rattle.cast_types.specs.declared.names.GroupNo.{GroupNo}
 use Rattle.cast_view.specs.MemberSide.{is_pending}
 use Rattle.cast_view.specs.declared.member.Pending.{Pending}
-use Rattle.cast_world.proofs.Acts.{contains_here}
-use Rattle.cast_world.proofs.Allowed.{contains_kept, contains_mapped, passed}
+use Rattle.cast_world.proofs.Allowed.{contains_kept, passed}
 use Rattle.cast_world.proofs.Facts.{StopsIn, WaitsForTurn}
 use Rattle.cast_world.proofs.Homes.{among_kept}
 use Rattle.cast_world.proofs.Listings.{apart_done, still_is}
-use Rattle.cast_world.proofs.Lists.{contains_split}
 use Rattle.cast_world.proofs.Orders.{Apart, KnowsFirst, Leads, Stands, done_in}
-use Rattle.cast_world.proofs.Prefixes.{flat_has, in_flat, known_begins, known_places, known_reaches, known_whole, place_in, told_at, told_id}
-use Rattle.cast_world.proofs.Runs.{from_mapped}
+use Rattle.cast_world.proofs.Prefixes.{flat_has, in_flat, known_begins, known_places, known_reaches, known_whole, place_in}
 use Rattle.cast_message.specs.declared.message.Body.TheVariants as body
 use Rattle.cast_world.specs.Agreement.{IsPrefix, is_in}
 
 -- What a body tells
 
-pub told_ids : (b : Body) (f : ℕ × Entry) → Contains (told_by b) f → Contains (ids_told b) f.1
-told_ids (body.Causal payload) f at = absurd (omega (arith, at.1))
-told_ids (body.Atomic payload) f at = absurd (omega (arith, at.1))
-told_ids (body.Order s) f at = told_id s.ids s.first f at
-
-pub told_sets : (b : Body) (f : ℕ × Entry) → Contains (told_by b) f → is_order (kind_of b) ≡ true
-told_sets (body.Causal payload) f at = absurd (omega (arith, at.1))
-told_sets (body.Atomic payload) f at = absurd (omega (arith, at.1))
-told_sets (body.Order s) f at = refl
-
 pub tells_none : (b : Body) → is_order (kind_of b) ≡ false → told_by b ≡ []
 tells_none (body.Causal payload) e = refl
 tells_none (body.Atomic payload) e = refl
 tells_none (body.Order s) e = absurd (true≢false e)
-
-listed_at : (ids : List Entry) (place : ℕ) (e : Entry) → Contains ids e → (n : ℕ) × Contains (enumerate_from place ids) (n, e)
-listed_at ids place e at =
-    let s = contains_split ids e at in
-    (place + length s.0, subst (λ l. Contains (enumerate_from place l) (place + length s.0, e)) (sym s.2) (told_at s.0 s.1 e place))
-
-pub ids_place : (b : Body) (e : Entry) → Contains (ids_told b) e → (n : ℕ) × Contains (told_by b) (n, e)
-ids_place (body.Causal payload) e at = absurd (omega (arith, at.1))
-ids_place (body.Atomic payload) e at = absurd (omega (arith, at.1))
-ids_place (body.Order s) e at = listed_at s.ids s.first e at
-
-stands_among : (order : List Entry) (f : ℕ × Entry) → Stands order f → Contains order f.1
-stands_among order f (a, c, is, at) = subst (λ l. Contains l f.1) (sym is) (contains_here a c f.1)
 
 -- At a site, of a group in which no Install waits
 
@@ -101,7 +74,7 @@ module _ (order : List Entry) (t : State) (g : GroupNo) (waits : is_pending (t.g
       (λ a c e is lt. let m = known a c e is lt in flat_has (λ (z : Message). told_by z.body) (filter (λ z. is_of_view t g z.id) t.got) m.0 (length a + 1, e) (contains_kept (λ (z : Message). is_of_view t g z.id) t.got m.0 m.1 m.2) m.3) few
 
   -- who tells the order
-  module _ (k : ℕ) (l : Leads order g (t.group g).number (local t k) (t.abcasts k) t.got) (once : Apart (t.abcasts k)) where
+  module _ (k first : ℕ) (l : Leads order first g (t.group g).number (local t k) (t.abcasts k) t.got) (once : Apart (t.abcasts k)) where
     abbrev rest : List Entry
     rest = l.all.0
 
@@ -110,50 +83,34 @@ module _ (order : List Entry) (t : State) (g : GroupNo) (waits : is_pending (t.g
 
     all_told : (a c : List Entry) (e : Entry) → order ≡ a ++ e ∷ c → Contains (facts_in t g) (length a + 1, e)
     all_told a c e is =
-        let m = l.told a c e is in
-        flat_has (λ (z : Message). told_by z.body) (filter (λ z. is_of_view t g z.id) t.got) m.0 (length a + 1, e) (contains_kept (λ (z : Message). is_of_view t g z.id) t.got m.0 m.1 m.2) m.4
+        let whole = ap length is in
+        let parts = length-append a (e ∷ c) in
+        let m = l.known a c e is (omega (arith, whole, parts)) in
+        flat_has (λ (z : Message). told_by z.body) (filter (λ z. is_of_view t g z.id) t.got) m.0 (length a + 1, e) (contains_kept (λ (z : Message). is_of_view t g z.id) t.got m.0 m.1 m.2) m.3
 
-    pub done_length : length done ≡ length order + length rest
+    done_length : length done ≡ length order + length rest
     done_length = ap length (sym l.all.1) ∙ length-append order rest
 
-    -- it knows all of it
-    pub knows_all : order_of t g ≡ order
-    knows_all = is_told ∙ known_whole order (facts_in t g) facts_stand all_told (let n = done_length in let p = l.places in omega (arith, n, p))
+    -- its site knows all of it
+    pub knows_told : order_told t g ≡ order
+    knows_told = known_whole order (facts_in t g) facts_stand all_told (let n = done_length in let p = l.places in omega (arith, n, p))
 
     apart : Apart (order ++ rest)
     apart = subst Apart (sym l.all.1) (apart_done g (t.group g).number (t.abcasts k) once)
 
-    abbrev own : Message → Bool
-    own m = is_of_view t g m.id && (is_order (kind_of m.body) && proc_eq m.id.proc (local t k))
-
-    abbrev as_listed : Message → ℕ × List Entry
-    as_listed m = (m.id.count, ids_told m.body)
-
-    has_listed : (e : Entry) → Contains order e → Contains (listed_ids (lists_of t g k)) e
-    has_listed e at =
-        let s = contains_split order e at in
-        let m = l.told s.0 s.1 e s.2 in
-        flat_has (λ (x : ℕ × List Entry). x.1) (lists_of t g k) (as_listed m.0) e
-        (contains_mapped as_listed (filter own t.got) m.0 (contains_kept own t.got m.0 m.1
-        (λ i. m.2 i && (told_sets m.0.body (length s.0 + 1, e) m.4 i && (ap (λ p. proc_eq p (local t k)) m.3 ∙ proc_itself (local t k)) i))))
-        (told_ids m.0.body (length s.0 + 1, e) m.4)
-
-    only_listed : (e : Entry) → Contains (listed_ids (lists_of t g k)) e → Contains order e
-    only_listed e at =
-        let from = in_flat (λ (x : ℕ × List Entry). x.1) (lists_of t g k) e at in
-        let m = from_mapped as_listed (filter own t.got) from.0 from.1 in
-        let place = ids_place m.0.body e (subst (λ (x : ℕ × List Entry). Contains x.1 e) (sym m.2) from.2) in
-        stands_among order (place.0, e) (stand m.0 (place.0, e) (among_kept own t.got m.0 m.1) (and_parts (is_of_view t g m.0.id) _ (passed own t.got m.0 m.1)).0 place.1)
-
     -- and what it has still to list is what it delivered beyond
     pub still_lists : unlisted t g k ≡ rest
-    still_lists = ap (λ d. still_to_list d (listed_ids (lists_of t g k))) (sym l.all.1) ∙ still_is order rest (listed_ids (lists_of t g k)) apart has_listed only_listed
+    still_lists = (λ i. still_to_list (sym l.all.1 i) (knows_told i)) ∙ still_is order rest apart
+
+    -- so the order and behind it that is all that it delivered
+    pub order_by_is : order_by t g k ≡ done
+    order_by_is = (λ i. knows_told i ++ still_lists i) ∙ l.all.1
 
     -- where there is a place for one more, all that it delivered and that one have places
-    pub has_place_for : has_place (order_of t g ++ unlisted t g k) ≡ true → length done + 1 ≤ MAX_POSITION
+    pub has_place_for : has_place (order_by t g k) ≡ true → length done + 1 ≤ MAX_POSITION
     has_place_for e =
-        let lt = ltb-true (length (order_of t g ++ unlisted t g k)) MAX_POSITION e in
-        let same : length (order_of t g ++ unlisted t g k) ≡ length done = (λ i. length (knows_all i ++ still_lists i)) ∙ ap length l.all.1 in
+        let lt = ltb-true (length (order_by t g k)) MAX_POSITION e in
+        let same = ap length order_by_is in
         omega (arith, lt, same)
 
 -- A delivery
@@ -186,11 +143,11 @@ module _ (t : State) (k : ℕ) (m : Message) (waits : WaitsForTurn m) (ready : i
   entry_is (Some n) e is = ap (λ z. Some z) (sym (same_entry e n is))
 
   -- who tells the order has room for it
-  pub has_room : holds t g k ≡ true → (t.group g).frozen ≡ false → has_place (order_of t g ++ unlisted t g k) ≡ true
+  pub has_room : holds t g k ≡ true → (t.group g).frozen ≡ false → has_place (order_by t g k) ≡ true
   has_room held open_it =
       let turn : turn_of t k g ≡ Holding (has_room_for_order t g k) = λ i. if held i && not (open_it i) then Holding (has_room_for_order t g k) else Following (next_of (λ e. has_delivered (t.process k) (named g (t.group g).number e)) (order_of t g)) in
       let room : has_room_for_order t g k ≡ true = sym (ap (λ z. has_turn z (entry_of m.id)) turn) ∙ has_its_turn in
-      (and_parts _ (has_place (order_of t g ++ unlisted t g k)) (and_parts (may_order history t) _ room).1).1
+      (and_parts _ (has_place (order_by t g k)) (and_parts (may_order history t) _ room).1).1
 
   -- and few of what it delivered is unsettled
   pub has_few : holds t g k ≡ true → (t.group g).frozen ≡ false → length (unsettled t g k) + 1 ≤ MAX_UNSETTLED

@@ -274,12 +274,6 @@ told_at (x ∷ a) c e place = contains_more (place, x) (enumerate_from (place + 
     same : place + 1 + length a ≡ place + length (x ∷ a)
     same = omega arith
 
--- and only ids that are listed are told
-pub told_id : (ids : List Entry) (place : ℕ) (f : ℕ × Entry) → Contains (enumerate_from place ids) f → Contains ids f.1
-told_id [] place f at = absurd (omega (arith, at.1))
-told_id (e ∷ ids) place f (zero, lt, is) = (0, omega arith, ap (λ (x : ℕ × Entry). x.1) is)
-told_id (e ∷ ids) place f (suc n, lt, is) = contains_more e ids f.1 (told_id ids (place + 1) f (n, omega (arith, lt), is))
-
 pub in_flat : {X Y : Type 0} (g : X → List Y) (xs : List X) (y : Y) → Contains (flat_map g xs) y → (x : X) × Contains xs x × Contains (g x) y
 in_flat g [] y at = absurd (omega (arith, at.1))
 in_flat g (x ∷ xs) y at = elim (Contains-append_cases (g x) (flat_map g xs) y at) [

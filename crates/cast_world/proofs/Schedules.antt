@@ -3,11 +3,13 @@ use Rattle.cast_delay.proofs.Members.{member_any}
 use Rattle.std.proofs.Common.{ap, append_assoc, subst, sym, ◌∙◌}
 use Rattle.std.proofs.lemmas.Bool.{false≢true, true≢false}
 use Rattle.std.proofs.lemmas.List.Elements.{Contains-append_left, Contains-append_right}
-use Rattle.std.specs.List.{list_any}
-use Rattle.std.specs.Prelude.{◌+◌, ◌++◌, Bool, Contains, List, None, Some, [], false, is_some, length, refl, slice_get, suc, true, unwrap_or, zero, ℕ, ◌∷◌, ◌≡◌}
+use Rattle.std.specs.List.{find, list_any}
+use Rattle.std.specs.Prelude.{◌+◌, ◌++◌, ◌==◌, Bool, Contains, List, None, Some, [], false, is_some, length, map, refl, slice_get, suc, true, unwrap_or, zero, ℕ, ◌∷◌, ◌≡◌}
 use Rattle.cast_history.specs.Acts.{Act}
 use Rattle.cast_history.specs.Acts.Act.{Delivered, Entered, Left, Sent as Sends}
-use Rattle.cast_message.specs.declared.client.Request.TheVariants.{Cast, Join}
+use Rattle.cast_message.specs.declared.client.Push.{Push}
+use Rattle.cast_message.specs.declared.client.Request.TheVariants.{Cast, Join, Pass}
+use Rattle.cast_message.specs.declared.site.SiteFrame.{SiteFrame}
 use Rattle.cast_model.specs.declared.config.DomainConfig.{DomainConfig}
 use Rattle.cast_model.specs.declared.event.Event.{Event}
 use Rattle.cast_order.specs.Order.{known_order}
@@ -17,17 +19,22 @@ use Rattle.cast_types.specs.declared.names.DomainNo.{DomainNo}
 use Rattle.cast_types.specs.declared.names.GroupNo.{GroupNo}
 use Rattle.cast_types.specs.declared.names.Proc.{Proc}
 use Rattle.cast_types.specs.declared.names.SiteNo.{SiteNo}
+use Rattle.cast_types.specs.Names.{uid_eq}
 use Rattle.cast_types.specs.declared.names.Uid.{Uid}
+use Rattle.cast_types.specs.declared.refusal.Refusal.TheVariants.{NotHolder, OwnAbcast}
 use Rattle.cast_view.specs.MemberSide.{is_pending}
 use Rattle.cast_world.proofs.Allowed.{contains_more}
 use Rattle.cast_world.specs.Agreement.{IsWithin, Passes, abcasts_in}
 use Rattle.cast_world.specs.HappenedBefore.{NeverLeft, acts_of}
 use Rattle.cast_world.specs.Network.{Network, happens_in, leads_in, start}
 use Rattle.cast_world.specs.declared.step.Happening.TheVariants.{Local, Sent}
+use Rattle.cast_world.specs.declared.step.Packet.{Packet}
 use Rattle.cast_world.specs.declared.step.Step.{Step}
 use Rattle.cast_message.specs.declared.client.Command.TheVariants as command
 use Rattle.cast_model.specs.declared.event.Event.TheVariants as event
 use Rattle.cast_message.specs.declared.client.CastKind.TheVariants as kind
+use Rattle.cast_message.specs.declared.client.Push.TheVariants as push
+use Rattle.cast_message.specs.declared.site.SiteFrame.TheVariants as frame
 
 abbrev domain : DomainNo
 domain = record { 0 = 1 }
@@ -62,6 +69,9 @@ casts s g = does s (event.Command domain 1 (command.Request (Cast 8 (group g) ki
 abbrev abcasts : ℕ → ℕ → Step
 abcasts s g = does s (event.Command domain 1 (command.Request (Cast 8 (group g) kind.Atomic [])))
 
+abbrev passes : ℕ → ℕ → Proc → Step
+passes s g to = does s (event.Command domain 1 (command.Request (Pass 9 (group g) to)))
+
 abbrev suspects : ℕ → ℕ → Step
 suspects s t = does s (event.Suspect domain (site t))
 
@@ -84,6 +94,10 @@ begun sites groups = start sites (λ s. config sites groups)
 -- what the first process of a site delivered
 abbrev delivered : Network → ℕ → List Uid
 delivered w s = ((w.at (site s)).process 1).delivered
+
+-- what its program was told at the last event of the site
+abbrev pushed : Network → ℕ → List Push
+pushed w s = map (λ p. p.1) (w.at (site s)).pushes
 
 -- the ABCASTs that it delivered of a view of group 1
 abbrev delivered_abcasts : Network → ℕ → ℕ → List Uid
@@ -263,6 +277,144 @@ lost_passes = passes_at lost (proc 1 1) (group 1) 3 [] ((proc 1 1, 1) ∷ (proc 
 lost_passes_there : Passes lost (proc 3 1) (group 1) 3
 unfolding lost told held known_order is_leaving
 lost_passes_there = passes_at lost (proc 3 1) (group 1) 3 [] ((proc 1 1, 1) ∷ (proc 2 1, 1) ∷ (proc 3 1, 1) ∷ []) 0 4 refl refl refl
+
+-- The token is handed over
+
+-- 1.1 and 2.1 are in a view, and 1.1 has its token
+two : Network
+two =
+    let sites : List SiteNo = site 1 ∷ site 2 ∷ [] in
+    through (through (begun sites (group 1 ∷ [])) (opens 1 ∷ joins 1 1 ∷ [])) (opens 2 ∷ joins 2 1 ∷ [])
+
+-- 1.1 hands it over to 2.1, and has it no more
+given : Network
+unfolding known_order two
+given = leads_in 3 two (passes 1 1 (proc 2 1) ∷ [])
+
+given_told : pushed given 1 ≡ push.Reply 9 None ∷ []
+unfolding known_order given two
+given_told = refl
+
+given_again : pushed (leads_in 3 given (passes 1 1 (proc 2 1) ∷ [])) 1 ≡ push.Reply 9 (Some NotHolder) ∷ []
+unfolding known_order given two
+given_again = refl
+
+-- nor does it order its own ABCAST, and while that waits it cannot hand over anything
+waiting : Network
+unfolding known_order given two
+waiting = leads_in 3 given (abcasts 1 1 ∷ [])
+
+waiting_told : pushed waiting 1 ≡ push.Reply 8 None ∷ []
+unfolding known_order waiting given two
+waiting_told = refl
+
+waiting_delivered : delivered waiting 1 ≡ uid 1 2 (proc 1 1) 1 ∷ []
+unfolding known_order waiting given two
+waiting_delivered = refl
+
+waiting_again : pushed (leads_in 3 waiting (passes 1 1 (proc 2 1) ∷ [])) 1 ≡ push.Reply 9 (Some OwnAbcast) ∷ []
+unfolding known_order waiting given two
+waiting_again = refl
+
+-- 2.1 takes the token up, and orders that ABCAST; 1.1 delivers it once it hears so
+ordered : Network
+unfolding known_order waiting given two
+ordered = let n : ℕ = length two.sent in leads_in 3 waiting (hand 2 n ∷ hand 2 (n + 1) ∷ hand 1 (n + 4) ∷ [])
+
+ordered_delivered : delivered ordered 1 ≡ uid 1 2 (proc 1 1) 1 ∷ uid 1 2 (proc 1 1) 2 ∷ uid 1 2 (proc 2 1) 1 ∷ []
+unfolding known_order ordered waiting given two
+ordered_delivered = refl
+
+ordered_there : delivered ordered 2 ≡ uid 1 2 (proc 1 1) 1 ∷ uid 1 2 (proc 1 1) 2 ∷ uid 1 2 (proc 2 1) 1 ∷ []
+unfolding known_order ordered waiting given two
+ordered_there = refl
+
+ordered_told : pushed ordered 1 ≡ push.Deliver (uid 1 2 (proc 1 1) 2) kind.Atomic [] ∷ []
+unfolding known_order ordered waiting given two
+ordered_told = refl
+
+-- 2.1 has no token before it delivers the hand-over, and orders its own ABCAST after
+taken_before : pushed (leads_in 3 two (passes 2 1 (proc 1 1) ∷ [])) 2 ≡ push.Reply 9 (Some NotHolder) ∷ []
+unfolding known_order two
+taken_before = refl
+
+taken : Network
+unfolding known_order given two
+taken = leads_in 3 given (hand 2 (length two.sent) ∷ abcasts 2 1 ∷ [])
+
+taken_told : pushed taken 2 ≡ push.Reply 8 None ∷ push.Deliver (uid 1 2 (proc 2 1) 1) kind.Atomic [] ∷ []
+unfolding known_order taken given two
+taken_told = refl
+
+taken_delivered : delivered taken 2 ≡ uid 1 2 (proc 1 1) 1 ∷ uid 1 2 (proc 2 1) 1 ∷ uid 1 2 (proc 2 1) 2 ∷ []
+unfolding known_order taken given two
+taken_delivered = refl
+
+-- both are within the view: 1.1 has delivered a prefix of what 2.1 did, as it has not heard of the order
+taken_within : IsWithin taken (proc 1 1) (group 1) 2
+unfolding known_order taken given two is_leaving
+taken_within = within_at taken (proc 1 1) (group 1) 2 [] 1 refl refl refl refl
+
+taken_within_site_2 : IsWithin taken (proc 2 1) (group 1) 2
+unfolding known_order taken given two is_leaving
+taken_within_site_2 = within_at taken (proc 2 1) (group 1) 2 [] 0 refl refl refl refl
+
+-- 1.1 hands the token over to 2.1, which orders its ABCAST; site 1 has that and not its place, and the flush of the view brings it
+handed : Network
+unfolding known_order three
+handed =
+    let n : ℕ = length three.sent in
+    drained 60 (n + 7) (leads_in 3 three (passes 1 1 (proc 2 1) ∷ hand 2 n ∷ abcasts 2 1 ∷ hand 1 (n + 3) ∷ suspects 1 3 ∷ []))
+
+handed_delivered : delivered handed 1 ≡ uid 1 3 (proc 1 1) 1 ∷ uid 1 3 (proc 2 1) 1 ∷ uid 1 3 (proc 2 1) 2 ∷ []
+unfolding known_order handed three
+handed_delivered = refl
+
+handed_delivered_there : delivered handed 2 ≡ uid 1 3 (proc 1 1) 1 ∷ uid 1 3 (proc 2 1) 1 ∷ uid 1 3 (proc 2 1) 2 ∷ []
+unfolding known_order handed three
+handed_delivered_there = refl
+
+-- a frame by which the home wants a message
+is_want : Uid → Packet → Bool
+is_want u p = go p.frame
+  where
+    go : SiteFrame → Bool
+    go (frame.Want v) = uid_eq u v
+    go _ = false
+
+-- an Install of view 4
+is_fourth : Packet → Bool
+is_fourth p = go p.frame
+  where
+    go : SiteFrame → Bool
+    go (frame.Install g n members request cut tail) = n == 4
+    go _ = false
+
+-- the home wants the order from site 2, and ends the view with it
+handed_wanted : list_any (is_want (uid 1 3 (proc 2 1) 2)) handed.sent ≡ true
+unfolding known_order handed three is_want
+handed_wanted = refl
+
+handed_installed : find is_fourth handed.sent ≡
+    Some record { from = site 1; to = site 1; frame = frame.Install (group 1) 4 (record { list = proc 1 1 ∷ proc 2 1 ∷ []; holder = Some (proc 1 1) }) 1 ((proc 1 1, 1) ∷ (proc 2 1, 2) ∷ []) (record { start = 0; ids = (proc 2 1, 1) ∷ [] }) }
+unfolding known_order handed three is_fourth
+handed_installed = refl
+
+handed_order : delivered_abcasts handed 1 3 ≡ uid 1 3 (proc 2 1) 1 ∷ []
+unfolding known_order handed three
+handed_order = refl
+
+handed_order_there : delivered_abcasts handed 2 3 ≡ uid 1 3 (proc 2 1) 1 ∷ []
+unfolding known_order handed three
+handed_order_there = refl
+
+handed_passes : Passes handed (proc 1 1) (group 1) 3
+unfolding known_order handed three is_leaving
+handed_passes = passes_at handed (proc 1 1) (group 1) 3 [] ((proc 1 1, 1) ∷ (proc 2 1, 2) ∷ []) 2 4 refl refl refl
+
+handed_passes_there : Passes handed (proc 2 1) (group 1) 3
+unfolding known_order handed three is_leaving
+handed_passes_there = passes_at handed (proc 2 1) (group 1) 3 [] ((proc 1 1, 1) ∷ (proc 2 1, 2) ∷ []) 1 5 refl refl refl
 
 -- A joining process does not deliver past the view that it will enter
 

@@ -4,9 +4,11 @@ use Rattle.std.proofs.Common.{ap, arith, inl, inr, subst, sym, ◌∙◌}
 use Rattle.std.proofs.lemmas.Bool.{false≢true, true≢false}
 use Rattle.std.proofs.lemmas.List.Elements.{Contains-append_left, Contains-push_cases}
 use Rattle.std.specs.List.{list_any}
-use Rattle.std.specs.Prelude.{◌&&◌, ◌+◌, ◌++◌, Bool, Contains, List, [], false, length, not, refl, suc, true, ◌||◌, ℕ, ◌∷◌, ◌≡◌, ◌≤◌, ◌⊎◌}
+use Rattle.std.specs.Prelude.{◌&&◌, ◌+◌, ◌++◌, Bool, Contains, List, [], false, is_some, length, not, refl, suc, true, ◌||◌, ℕ, ◌∷◌, ◌≡◌, ◌≤◌, ◌⊎◌}
 use Rattle.cast_clock.specs.Times.{view_of}
 use Rattle.cast_delay.specs.Ready.{Process, is_member}
+use Rattle.cast_history.specs.Acts.{Act}
+use Rattle.cast_history.specs.Acts.Act.{Sent}
 use Rattle.cast_history.specs.Effects.{next_message}
 use Rattle.cast_history.specs.Entering.{passing, pending_install}
 use Rattle.cast_history.specs.Owing.{paying_view}
@@ -14,6 +16,7 @@ use Rattle.cast_history.specs.Rules.Keys.{id_in}
 use Rattle.cast_history.specs.State.{State, emitted, is_received, noting_ack, noting_sent, noting_stable, outside, receiving, releasing, set_group, set_home, set_session, set_standing, with_delivery}
 use Rattle.cast_history.specs.Step.{opening_next}
 use Rattle.cast_history.specs.Turns.{is_ready_for}
+use Rattle.cast_message.specs.Bodies.{kind_of}
 use Rattle.cast_message.specs.Membership.{Membership}
 use Rattle.cast_message.specs.declared.message.Body.{Body}
 use Rattle.cast_message.specs.declared.message.Message.{Message}
@@ -23,7 +26,7 @@ use Rattle.cast_timer.specs.declared.key.Owed.{Owed}
 use Rattle.cast_timer.specs.declared.key.OwedKey.{OwedKey}
 use Rattle.cast_timer.specs.declared.key.OwedKind.{OwedKind}
 use Rattle.cast_types.specs.Counts.{CountList}
-use Rattle.cast_types.specs.Names.{group_eq, site_eq, uid_eq}
+use Rattle.cast_types.specs.Names.{group_eq, is_order, site_eq, uid_eq}
 use Rattle.cast_types.specs.Sets.{set_at}
 use Rattle.cast_types.specs.declared.limits.TheConstants.{MAX_UNSETTLED}
 use Rattle.cast_types.specs.declared.names.GroupNo.{GroupNo}
@@ -35,18 +38,19 @@ use Rattle.cast_view.specs.MemberSide.{MemberSide, frozen_side, is_pending, with
 use Rattle.cast_world.proofs.Allowed.{passed}
 use Rattle.cast_world.proofs.Homes.{among_kept, item_was}
 use Rattle.cast_world.proofs.Invariants.{Later, Sites}
-use Rattle.cast_world.proofs.Kept.{Adds, Comes, MaySend, Owes, OwesOf, FullyKept, FullyKeptByTelling, casts, lists}
+use Rattle.cast_world.proofs.Kept.{Adds, Comes, MaySend, Owes, OwesOf, FullyKept, FullyKeptByTelling, casts, hands, lists}
 use Rattle.cast_world.proofs.Laters.{later_same, set_all, set_group_all}
 use Rattle.cast_world.proofs.Moves.{later_delivered, later_group, later_home, later_join, later_part, later_passing, later_sent}
 use Rattle.cast_world.proofs.Onward.{asks}
 use Rattle.cast_world.proofs.Ones.{set_other}
 use Rattle.cast_world.proofs.OrderMoves.{OrderNow, delivers_ordered}
-use Rattle.cast_world.proofs.OrderPasses.{none_done, passes_ordered}
-use Rattle.cast_world.proofs.OrderSites.{part_ordered, parts_group, parts_same}
+use Rattle.cast_world.proofs.OrderPasses.{none_done, passes_ordered, token_stays_apart}
+use Rattle.cast_world.proofs.OrderSites.{part_ordered, parts_group, parts_same, token_outside}
 use Rattle.cast_world.proofs.OrderSteps.{From, TellsNoMore, begin, cast_ordered, cast_tells, delivery_tells, flush, keep, moves_up, outside_tells, own, passing_tells, sends_kept}
-use Rattle.cast_world.proofs.Orders.{SiteOrdered, done_in, tells}
+use Rattle.cast_world.proofs.Orders.{SiteOrdered, done_in}
 use Rattle.cast_world.proofs.Steps.{Arrived, sites_at}
-use Rattle.cast_world.proofs.WindowGrows.{window_grows}
+use Rattle.cast_world.proofs.Tokens.{cast_hands_none, tells, token_in, token_sends}
+use Rattle.cast_world.proofs.WindowGrows.{widened, window_grows, window_hands}
 use Rattle.cast_world.proofs.WindowMoves.{Leading, Packets, own_leading, packets_later, window_delivers, window_keep}
 use Rattle.cast_world.proofs.Windows.{AckTrue, AllWindow, HasGot, Safe}
 use Rattle.cast_world.specs.Network.{Network}
@@ -113,7 +117,7 @@ module _ (home : SiteNo) (w : Network) (a : SiteNo) where
   WindowNow skip t = (i : OrderNow home w a t) × (safe : Safe) × AllWindow i.1 (λ g. ((at t home).home g).number) (at t) i.3 safe × Packets home w a t × OwedBut skip t
 
   -- where no order grows, and no one that tells one delivers
-  abbrev pub keepw : (skip new : OwedKey → Bool) (t u : State) (later : Later t u) (i : WindowNow skip t) (r : From home w a t i.0 u) → TellsNoMore home w a t u → SiteOrdered i.0.3 u → ((m : Message) → Contains t.got m → Contains u.got m) →
+  abbrev pub keepw : (skip new : OwedKey → Bool) (t u : State) (later : Later t u) (i : WindowNow skip t) (r : From home w a t i.0 u) → TellsNoMore home w a t u → SiteOrdered i.0.3 i.0.4 u → ((m : Message) → Contains t.got m → Contains u.got m) →
       ((q : SiteNo) (z : Uid) → Contains u.acks (q, z) → Contains t.acks (q, z) ⊎ HasGot (at t q).got z) → ((to : SiteNo) (f : SiteFrame) → Contains u.frames (to, f) → Contains t.frames (to, f) ⊎ AckTrue t.got f) →
       Leading home w a u i.1 → OwedBut new u → WindowNow new u
   keepw skip new t u later i r acts here got acks frames leads owed = (
@@ -128,15 +132,15 @@ module _ (home : SiteNo) (w : Network) (a : SiteNo) where
   leading skip t i = own_leading home w a t i.0.1 i.0.3 i.1 i.2
 
   -- a group changes in what no order rests on
-  abbrev pub group_keepw : (skip : OwedKey → Bool) (t : State) (g : GroupNo) (v : MemberSide) (asked : (t.group g).asked ≤ v.asked) (i : WindowNow skip t) (r : From home w a t i.0 (set_group t g v)) → SiteOrdered i.0.3 (set_group t g v) →
+  abbrev pub group_keepw : (skip : OwedKey → Bool) (t : State) (g : GroupNo) (v : MemberSide) (asked : (t.group g).asked ≤ v.asked) (i : WindowNow skip t) (r : From home w a t i.0 (set_group t g v)) → SiteOrdered i.0.3 i.0.4 (set_group t g v) →
       v.number ≡ (t.group g).number →
-      ((k : ℕ) → tells t.here v k ≡ true → is_pending v ≡ false → length (done_in g v.number (t.abcasts k)) ≤ i.1 g v.number + MAX_UNSETTLED) → WindowNow skip (set_group t g v)
+      ((k : ℕ) → tells t.here v g (t.acts k) k ≡ true → is_pending v ≡ false → length (done_in g v.number (t.abcasts k)) ≤ i.1 g v.number + MAX_UNSETTLED) → WindowNow skip (set_group t g v)
   group_keepw skip t g v asked i r here same new = keepw skip skip t (set_group t g v) (later_group t g v asked) i r (λ k m c. inl c) here (λ m c. c) (λ q z c. inl c) (λ to f c. inl c)
-      (set_group_all (λ h (z : MemberSide). (k : ℕ) → tells t.here z k ≡ true → is_pending z ≡ false → length (done_in h z.number (t.abcasts k)) ≤ i.1 h z.number + MAX_UNSETTLED) t.group g v (leading skip t i) new)
+      (set_group_all (λ h (z : MemberSide). (k : ℕ) → tells t.here z h (t.acts k) k ≡ true → is_pending z ≡ false → length (done_in h z.number (t.abcasts k)) ≤ i.1 h z.number + MAX_UNSETTLED) t.group g v (leading skip t i) new)
       (owed_moved skip t (set_group t g v) (λ o c. c) (set_group_all (λ h (z : MemberSide). z.number ≡ (t.group h).number) t.group g v (λ h. refl) same) (λ z e. e) i.4)
 
   -- nothing that is told of here changes
-  abbrev pub quiet : (skip new : OwedKey → Bool) (t u : State) (later : Later t u) (i : WindowNow skip t) (r : From home w a t i.0 u) → TellsNoMore home w a t u → SiteOrdered i.0.3 u → u.got ≡ t.got → u.acks ≡ t.acks → u.frames ≡ t.frames →
+  abbrev pub quiet : (skip new : OwedKey → Bool) (t u : State) (later : Later t u) (i : WindowNow skip t) (r : From home w a t i.0 u) → TellsNoMore home w a t u → SiteOrdered i.0.3 i.0.4 u → u.got ≡ t.got → u.acks ≡ t.acks → u.frames ≡ t.frames →
       Leading home w a u i.1 → OwedBut new u → WindowNow new u
   quiet skip new t u later i r acts here got acks frames leads owed = keepw skip new t u later i r acts here (λ m c. subst (λ l. Contains l m) (sym got) c) (λ q z c. inl (subst (λ l. Contains l (q, z)) acks c))
       (λ to f c. inl (subst (λ l. Contains l (to, f)) frames c)) leads owed
@@ -188,9 +192,10 @@ module _ (home : SiteNo) (w : Network) (a : SiteNo) where
           quiet skip skip t u (later_same t) i ((flush home w a t i.0).telling.sets_session t n v (begin home w a t i.0) same) (λ k m c. inl c) (own home w a t i.0) refl refl refl (leading skip t i) (same_owed t u refl refl refl i.4);
       parts = λ t n g i.
           let u : State = outside t n g in
-          quiet skip skip t u (later_part t n g) i ((flush home w a t i.0).telling.parts t n g (begin home w a t i.0)) (outside_tells home w a t n g) (part_ordered i.0.3 t (own home w a t i.0) n g) refl refl refl (leading skip t i) (same_owed t u refl refl refl i.4);
+          quiet skip skip t u (later_part t n g) i ((flush home w a t i.0).telling.parts t n g (begin home w a t i.0)) (outside_tells home w a t n g) (part_ordered i.0.3 i.0.4 t (own home w a t i.0) n g) refl refl refl
+          (λ h k held quiet. leading skip t i h k (sym (ap is_some (token_outside t n g k h)) ∙ held) quiet) (same_owed t u refl refl refl i.4);
       requests = λ t g what p i. group_keepw skip t g (with_request (t.group g) what p) (omega arith) i ((flush home w a t i.0).telling.requests t g what p (begin home w a t i.0))
-          (parts_group i.0.3 t.here t.process t.acts t.abcasts t.group t.got (own home w a t i.0) g (with_request (t.group g) what p) ((own home w a t i.0).frozen g) (omega arith) (λ k waits. (own home w a t i.0).ones g k waits)) refl (leading skip t i g);
+          (parts_group i.0.3 i.0.4 t.here t.process t.acts t.abcasts t.group t.got (own home w a t i.0) g (with_request (t.group g) what p) ((own home w a t i.0).frozen g) (omega arith) (λ k held. (own home w a t i.0).tokens g k held) (λ k waits. (own home w a t i.0).ones g k waits)) refl (leading skip t i g);
     }
 
   -- once nothing is owed for the view before it, all that is owed is so
@@ -225,9 +230,10 @@ module _ (home : SiteNo) (w : Network) (a : SiteNo) where
 
   pub leads_new : (t : State) (i : WindowNow no_key t) (g : GroupNo) (skipped : Bool) (n : ℕ) (members : Membership) (request : ℕ) (cut : CountList) (comes : Comes (Arrived home w a) t g skipped n members request cut) →
       From home w a t i.0 (passing t g skipped n members request cut) → Leading home w a (passing t g skipped n members request cut) i.1
-  leads_new t i g skipped n members request cut comes r = set_group_all (λ h (z : MemberSide). (k : ℕ) → tells t.here z k ≡ true → is_pending z ≡ false → length (done_in h z.number (t.abcasts k)) ≤ i.1 h z.number + MAX_UNSETTLED)
-      t.group g (with_view t.here n members (t.group g)) (leading no_key t i)
-      (λ k held waits. let none = ap length (none_done home w a t i.0.0 i.0.1 i.0.2 i.0.3 i.0.4 g skipped n members request cut comes r.1 r.2 r.3 k) in omega (arith, none))
+  leads_new t i g skipped n members request cut comes r = set_group_all (λ h (z : MemberSide). (k : ℕ) → tells t.here z h ((passing t g skipped n members request cut).acts k) k ≡ true → is_pending z ≡ false → length (done_in h z.number (t.abcasts k)) ≤ i.1 h z.number + MAX_UNSETTLED)
+      t.group g (with_view t.here n members (t.group g))
+      (λ h k held quiet. leading no_key t i h k (sym (ap is_some (token_stays_apart home w a t i.0.0 i.0.1 i.0.2 i.0.3 i.0.4 i.0.5 g skipped n members request cut comes r.1 r.2 r.3 h k)) ∙ held) quiet)
+      (λ k held waits. let none = ap length (none_done home w a t i.0.0 i.0.1 i.0.2 i.0.3 i.0.4 i.0.5 g skipped n members request cut comes r.1 r.2 r.3 k) in omega (arith, none))
 
   -- a message is sent
   module _ (t : State) (g : GroupNo) (n : ℕ) (content : Body) (i : WindowNow no_key t) where
@@ -240,14 +246,25 @@ module _ (home : SiteNo) (w : Network) (a : SiteNo) where
     pub sent_owed : OwedBut no_key u
     sent_owed = owed_moved no_key t u (λ o c. c) (λ h. refl) (received_more t.got m) i.4
 
+    pub cast_leads : is_order (kind_of content) ≡ false → Leading home w a u i.1
+    cast_leads none h j held quiet = leading no_key t i h j (sym (ap is_some (set_all (λ l (acts : List Act). token_in t.here (t.group h) h acts l ≡ token_in t.here (t.group h) h (t.acts l) l) t.acts n (t.acts n ++ Sent m ∷ []) (λ l. refl)
+        (token_sends t.here (t.group h) h (t.acts n) n m (cast_hands_none content none)) j)) ∙ held) quiet
+
     abbrev pub sends_window : is_member ((t.process n).standing g) ≡ true → MaySend t g n content → WindowNow no_key u
-    sends_window member (casts none) = keepw no_key no_key t u (later_sent t n m) i ((flush home w a t i.0).sends t g n content (begin home w a t i.0) member (casts none)) (cast_tells home w a t g n content i.0 none) (cast_ordered home w a t g n content i.0)
-        (λ z c. Contains-append_left t.got (m ∷ []) z c) (λ q z c. inl c) (λ to f c. inl c) (leading no_key t i) sent_owed
+    sends_window member (casts none) = keepw no_key no_key t u (later_sent t n m) i ((flush home w a t i.0).sends t g n content (begin home w a t i.0) member (casts none)) (cast_tells home w a t g n content i.0 none) (cast_ordered home w a t g n content i.0 none)
+        (λ z c. Contains-append_left t.got (m ∷ []) z c) (λ q z c. inl c) (λ to f c. inl c) (cast_leads none) sent_owed
     sends_window member (lists held open_it is) = (
       sends_kept home w a t g n content i.0 member (lists held open_it is),
       i.1,
       window_grows home w a t g n content i.0 member held open_it is i.1 i.2 (later_sent t n m) ((flush home w a t i.0).sends t g n content (begin home w a t i.0) member (lists held open_it is)),
       packets_later home w a t u (later_sent t n m) i.0 ((flush home w a t i.0).sends t g n content (begin home w a t i.0) member (lists held open_it is)) i.1 i.2 (λ z c. Contains-append_left t.got (m ∷ []) z c) i.3,
+      sent_owed,
+    )
+    sends_window member (hands place to held open_it settled is) = (
+      sends_kept home w a t g n content i.0 member (hands place to held open_it settled is),
+      widened home w a t g n content i.0 member place to held open_it settled is i.1 i.2,
+      window_hands home w a t g n content i.0 member place to held open_it settled is i.1 i.2 (later_sent t n m) ((flush home w a t i.0).sends t g n content (begin home w a t i.0) member (hands place to held open_it settled is)),
+      packets_later home w a t u (later_sent t n m) i.0 ((flush home w a t i.0).sends t g n content (begin home w a t i.0) member (hands place to held open_it settled is)) i.1 i.2 (λ z c. Contains-append_left t.got (m ∷ []) z c) i.3,
       sent_owed,
     )
 
@@ -256,8 +273,8 @@ module _ (home : SiteNo) (w : Network) (a : SiteNo) where
   delivers_window t k m i c ready =
       let u : State = with_delivery t k m in
       let r : From home w a t i.0 u = (flush home w a t i.0).delivers t k m (begin home w a t i.0) c ready in
-      let more = window_delivers home w a t k m i.0 r (later_delivered t k m) (delivery_tells home w a t k m) i.1 i.2 ready in (
-        keep home w a t u (later_delivered t k m) i.0 r (delivery_tells home w a t k m) (delivers_ordered home w a t i.0.0 i.0.1 i.0.2 i.0.3 i.0.4 k m ready),
+      let more = window_delivers home w a t k m i.0 r (later_delivered t k m) (delivery_tells home w a t k m) i.1 i.2 c ready in (
+        keep home w a t u (later_delivered t k m) i.0 r (delivery_tells home w a t k m) (delivers_ordered home w a t i.0.0 i.0.1 i.0.2 i.0.3 i.0.4 i.0.5 k m c ready),
         more.0,
         more.1,
         packets_later home w a t u (later_delivered t k m) i.0 r i.1 i.2 (λ z c_it. c_it) i.3,
@@ -272,11 +289,11 @@ module _ (home : SiteNo) (w : Network) (a : SiteNo) where
     fixed = λ t i. (flush home w a t i.0).fixed t (begin home w a t i.0);
     opens = λ t i. quiet no_key no_key t (opening_next t) (later_same t) i ((flush home w a t i.0).opens t (begin home w a t i.0)) (λ k m c. inl c) (own home w a t i.0) refl refl refl (leading no_key t i) (same_owed no_key t (opening_next t) refl refl refl i.4);
     answers = λ t g i. group_keepw no_key t g (with_answer (t.group g)) (omega arith) i ((flush home w a t i.0).answers t g (begin home w a t i.0))
-        (parts_group i.0.3 t.here t.process t.acts t.abcasts t.group t.got (own home w a t i.0) g (with_answer (t.group g)) ((own home w a t i.0).frozen g) (omega arith) (λ k waits. (own home w a t i.0).ones g k waits)) refl (leading no_key t i g);
+        (parts_group i.0.3 i.0.4 t.here t.process t.acts t.abcasts t.group t.got (own home w a t i.0) g (with_answer (t.group g)) ((own home w a t i.0).frozen g) (omega arith) (λ k held. (own home w a t i.0).tokens g k held) (λ k waits. (own home w a t i.0).ones g k waits)) refl (leading no_key t i g);
     joins = λ t n g i open_it known out.
         let u : State = set_standing t n g (Joining ((t.group g).asked + 1) (view_of (t.process n).time g)) in
         quiet no_key no_key t u (later_join t n g (view_of (t.process n).time g)) i ((flush home w a t i.0).joins t n g (begin home w a t i.0) open_it known out) (λ k m c. inl c)
-        (parts_same i.0.3 t.here t.process t.acts t.abcasts t.group t.got (own home w a t i.0) u.process t.acts t.got (λ k. refl) (λ k m c. inl c)
+        (parts_same i.0.3 i.0.4 t.here t.process t.acts t.abcasts t.group t.got (own home w a t i.0) u.process t.acts t.got (λ k. refl) (λ k m c. inl c) (λ k y c. c) (λ k h. refl)
         (set_all (λ j (q : Process). (h : GroupNo) → q.standing h ≡ Member → (t.process j).standing h ≡ Member) t.process n
         (record (t.process n) { standing = set_at group_eq (t.process n).standing g (Joining ((t.group g).asked + 1) (view_of (t.process n).time g)) }) (λ j h e. e)
         (λ h e. asks ((t.process n).standing h) (group_eq g h) ((t.group g).asked + 1) (view_of (t.process n).time g) e)) (λ m c. c))
@@ -285,7 +302,7 @@ module _ (home : SiteNo) (w : Network) (a : SiteNo) where
     receives = λ t from m i came view member.
         let u : State = receiving t m in
         keepw no_key no_key t u (later_same t) i ((flush home w a t i.0).receives t from m (begin home w a t i.0) came view member) (λ k z c. inl c)
-        (parts_same i.0.3 t.here t.process t.acts t.abcasts t.group t.got (own home w a t i.0) t.process t.acts (t.got ++ m ∷ []) (λ k. refl) (λ k z c. inl c) (λ k g e. e) (λ z c. Contains-append_left t.got (m ∷ []) z c))
+        (parts_same i.0.3 i.0.4 t.here t.process t.acts t.abcasts t.group t.got (own home w a t i.0) t.process t.acts (t.got ++ m ∷ []) (λ k. refl) (λ k z c. inl c) (λ k y c. c) (λ k h. refl) (λ k g e. e) (λ z c. Contains-append_left t.got (m ∷ []) z c))
         (λ z c. Contains-append_left t.got (m ∷ []) z c) (λ q z c. inl c) (λ to f c. inl c) (leading no_key t i) (owed_moved no_key t u (λ o c. c) (λ h. refl) (received_more t.got m) i.4);
     acknowledged = λ t from z i came.
         let u : State = noting_ack t from z in
@@ -300,19 +317,19 @@ module _ (home : SiteNo) (w : Network) (a : SiteNo) where
         (leading no_key t i) (same_owed no_key t u refl refl refl i.4);
     delivers = delivers_window;
     freezes = λ t g i current. group_keepw no_key t g (frozen_side (t.group g)) (omega arith) i ((flush home w a t i.0).freezes t g (begin home w a t i.0) current)
-        (parts_group i.0.3 t.here t.process t.acts t.abcasts t.group t.got (own home w a t i.0) g (frozen_side (t.group g)) (λ e. refl) (omega arith) (λ k waits. (own home w a t i.0).ones g k waits)) refl (leading no_key t i g);
+        (parts_group i.0.3 i.0.4 t.here t.process t.acts t.abcasts t.group t.got (own home w a t i.0) g (frozen_side (t.group g)) (λ e. refl) (omega arith) (λ k held. (own home w a t i.0).tokens g k held) (λ k waits. (own home w a t i.0).ones g k waits)) refl (leading no_key t i g);
     pends = λ t from g p tail i came current waits.
         let u : State = pending_install t g p tail in
         quiet no_key no_key t u (later_group t g (with_pending (t.group g) p) (omega arith)) i ((flush home w a t i.0).pends t from g p tail (begin home w a t i.0) came current) (λ k m c. inl c)
-        (parts_group i.0.3 t.here t.process t.acts t.abcasts t.group t.got (own home w a t i.0) g (with_pending (t.group g) p) (λ e. refl) (omega arith) (λ k waits_it. absurd (true≢false waits_it))) refl refl refl
-        (set_group_all (λ h (z : MemberSide). (k : ℕ) → tells t.here z k ≡ true → is_pending z ≡ false → length (done_in h z.number (t.abcasts k)) ≤ i.1 h z.number + MAX_UNSETTLED) t.group g (with_pending (t.group g) p) (leading no_key t i)
+        (parts_group i.0.3 i.0.4 t.here t.process t.acts t.abcasts t.group t.got (own home w a t i.0) g (with_pending (t.group g) p) (λ e. refl) (omega arith) (λ k held. (own home w a t i.0).tokens g k held) (λ k waits_it. absurd (true≢false waits_it))) refl refl refl
+        (set_group_all (λ h (z : MemberSide). (k : ℕ) → tells t.here z h (t.acts k) k ≡ true → is_pending z ≡ false → length (done_in h z.number (t.abcasts k)) ≤ i.1 h z.number + MAX_UNSETTLED) t.group g (with_pending (t.group g) p) (leading no_key t i)
         (λ k held waits_it. absurd (true≢false waits_it)))
         (owed_moved no_key t u (λ o c. c) (set_group_all (λ h (z : MemberSide). z.number ≡ (t.group h).number) t.group g (with_pending (t.group g) p) (λ h. refl) refl) (λ z e. e) i.4);
     passes = λ t g skipped n members request cut i comes.
         let u : State = passing t g skipped n members request cut in
         let r : From home w a t i.0 u = (flush home w a t i.0).passes t g skipped n members request cut (begin home w a t i.0) comes in
         quiet no_key (is_of_view g) t u (later_passing t g skipped n members request cut) i r (passing_tells home w a t g skipped n members request cut)
-        (passes_ordered home w a t i.0.0 i.0.1 i.0.2 i.0.3 i.0.4 g skipped n members request cut comes r.1 r.2 r.3) refl refl refl
+        (passes_ordered home w a t i.0.0 i.0.1 i.0.2 i.0.3 i.0.4 i.0.5 g skipped n members request cut comes r.1 r.2 r.3) refl refl refl
         (leads_new t i g skipped n members request cut comes r) (owed_passing t g skipped n members request cut i.4);
     ends = λ t g i.
         let u : State = paying_view t g in

@@ -1,12 +1,13 @@
 -- Acknowledgements, and how far each site of a view knows its order, at every moment. Who tells the order has delivered at most `MAX_UNSETTLED` more
 -- ABCASTs than each site of the view knows places.
 use Rattle.cast_types.proofs.Orders.{same_site, same_uid}
-use Rattle.std.proofs.Common.{ap, arith, inl, inr, subst, sym, ◌∙◌}
-use Rattle.std.proofs.lemmas.Bool.{and_parts, cases_lt, false_from_ne_true, false≢true, true≢false}
+use Rattle.std.proofs.Common.{arith, inl, inr, subst}
+use Rattle.std.proofs.lemmas.Bool.{and_parts, cases_lt, false≢true}
 use Rattle.std.specs.List.{list_all}
-use Rattle.std.specs.Prelude.{◌&&◌, ◌+◌, ◌++◌, ◌<◌, Bool, Contains, List, [], cond, false, filter, if◌then◌else◌, length, not, refl, suc, true, zero, ◌||◌, ℕ, ◌∷◌, ◌≡◌, ◌≤◌, ◌⊎◌}
+use Rattle.std.specs.Prelude.{◌&&◌, ◌+◌, ◌<◌, Bool, Contains, List, Some, [], false, if◌then◌else◌, length, refl, suc, true, zero, ◌||◌, ℕ, ◌∷◌, ◌≡◌, ◌≤◌, ◌⊎◌}
 use Rattle.cast_history.specs.Acts.Act.{Sent}
-use Rattle.cast_history.specs.Order.{told_by}
+use Rattle.cast_history.specs.Order.{last_place, told_by}
+use Rattle.cast_message.specs.Bodies.{new_holder}
 use Rattle.cast_message.specs.declared.message.Message.{Message}
 use Rattle.cast_message.specs.declared.site.SiteFrame.{SiteFrame}
 use Rattle.cast_stable.specs.Stable.{Acked, acked_from, greatest_acked, has_acked, stable_upto}
@@ -17,13 +18,11 @@ use Rattle.cast_types.specs.declared.names.Proc.{Proc}
 use Rattle.cast_types.specs.declared.names.SiteNo.{SiteNo}
 use Rattle.cast_types.specs.declared.names.Uid.{Uid}
 use Rattle.cast_view.specs.MemberSide.{is_pending}
-use Rattle.cast_world.proofs.Acts.{contains_here}
 use Rattle.cast_world.proofs.Allowed.{contains_more, passes}
 use Rattle.cast_world.proofs.Flush.{Choice, IsChosen}
 use Rattle.cast_world.proofs.Invariants.{Sites}
-use Rattle.cast_world.proofs.Listings.{keeps_every}
-use Rattle.cast_world.proofs.Lists.{contains_split, head_or, tail_of}
-use Rattle.cast_world.proofs.Orders.{KnowsFirst, Orders, Apart, done_in, tells}
+use Rattle.cast_world.proofs.Orders.{KnowsFirst, Orders, done_in}
+use Rattle.cast_world.proofs.Tokens.{tells}
 use Rattle.cast_message.specs.declared.site.SiteFrame.TheVariants as frame
 
 -- a message of this name was received
@@ -53,65 +52,18 @@ pub record AllWindow (choice : Choice) (number : GroupNo → ℕ) (at : Sites) (
   pub acked : (s q : SiteNo) (u : Uid) → Contains (at s).acks (q, u) → HasGot (at q).got u
   pub sent : (s to : SiteNo) (f : SiteFrame) → Contains (at s).frames (to, f) → AckTrue (at s).got f
   -- of two set-order messages of one process in one view the later one tells later places
-  pub rising : (s : SiteNo) (k : ℕ) (x y : Message) (f e : ℕ × Entry) → Contains ((at s).acts k) (Sent x) → Contains ((at s).acts k) (Sent y) → x.id.group ≡ y.id.group → x.id.view ≡ y.id.view →
-      x.id.count < y.id.count → Contains (told_by x.body) f → Contains (told_by y.body) e → f.0 < e.0
+  pub rising : (s : SiteNo) (k : ℕ) (x y : Message) (e : ℕ × Entry) → Contains ((at s).acts k) (Sent x) → Contains ((at s).acts k) (Sent y) → x.id.group ≡ y.id.group → x.id.view ≡ y.id.view →
+      x.id.count < y.id.count → Contains (told_by y.body) e → last_place x.body < e.0
+  -- and a hand-over comes after places that each site of the view knows
+  pub hands : (s : SiteNo) (k : ℕ) (m : Message) (to : Proc) → Contains ((at s).acts k) (Sent m) → new_holder m.body ≡ Some to → last_place m.body ≤ safe m.id.group m.id.view
   pub knows : (g : GroupNo) (view : ℕ) (q : Proc) → view ≤ number g → IsChosen choice g view q → KnowsFirst (at q.site).got g view (order g view) (safe g view)
   pub under : (g : GroupNo) (view : ℕ) → safe g view ≤ length (order g view)
   pub near : (g : GroupNo) (view : ℕ) → length (order g view) ≤ safe g view + MAX_UNSETTLED
-  pub leads : (s : SiteNo) (g : GroupNo) (k : ℕ) → tells (at s).here ((at s).group g) k ≡ true → is_pending ((at s).group g) ≡ false →
+  pub leads : (s : SiteNo) (g : GroupNo) (k : ℕ) → tells (at s).here ((at s).group g) g ((at s).acts k) k ≡ true → is_pending ((at s).group g) ≡ false →
       length (done_in g ((at s).group g).number ((at s).abcasts k)) ≤ safe g ((at s).group g).number + MAX_UNSETTLED
-
--- Lists
-
-first_is : {X : Type 0} (x y : X) (xs ys : List X) → x ∷ xs ≡ y ∷ ys → x ≡ y
-unfolding head_or
-first_is x y xs ys e = ap (head_or x) e
-
-rest_is : {X : Type 0} (x y : X) (xs ys : List X) → x ∷ xs ≡ y ∷ ys → xs ≡ ys
-unfolding tail_of
-rest_is x y xs ys e = ap tail_of e
 
 cases_next : (n k : ℕ) → n < k → (n + 1 ≡ k) ⊎ (n + 1 < k)
 cases_next n k lt = elim (cases_lt (n + 1) k) [ inl past ↦ inr past | inr low ↦ inl (omega (arith, lt, low)) ]
-
--- where a test that an element passes each element before it passes too, so many first elements pass it, and the rest does not
-pub first_passing : {X : Type 0} (test : X → Bool) (xs : List X) → ((a b c : List X) (x y : X) → xs ≡ a ++ x ∷ (b ++ y ∷ c) → test y ≡ true → test x ≡ true) →
-    (n : ℕ) × (n ≤ length xs) × ((a c : List X) (x : X) → xs ≡ a ++ x ∷ c → length a < n → test x ≡ true) × (length xs ≤ n + length (filter (λ x. not (test x)) xs))
-first_passing test [] down = (0, omega arith, (λ a c x is lt. absurd (omega (arith, lt))), omega arith)
-first_passing {X} test (x ∷ xs) down = go (test x) refl (first_passing test xs (λ a b c y z is. down (x ∷ a) b c y z (ap (λ l. x ∷ l) is)))
-  where
-    at_place : test x ≡ true → (n : ℕ) → ((a c : List X) (y : X) → xs ≡ a ++ y ∷ c → length a < n → test y ≡ true) → (a c : List X) (y : X) → x ∷ xs ≡ a ++ y ∷ c → length a < n + 1 → test y ≡ true
-    at_place e n more [] c y is lt = ap test (sym (first_is x y xs c is)) ∙ e
-    at_place e n more (z ∷ a) c y is lt = more a c y (rest_is x z xs (a ++ y ∷ c) is) (omega (arith, lt))
-
-    go : (b : Bool) → test x ≡ b →
-        ((n : ℕ) × (n ≤ length xs) × ((a c : List X) (y : X) → xs ≡ a ++ y ∷ c → length a < n → test y ≡ true) × (length xs ≤ n + length (filter (λ y. not (test y)) xs))) →
-        (n : ℕ) × (n ≤ length (x ∷ xs)) × ((a c : List X) (y : X) → x ∷ xs ≡ a ++ y ∷ c → length a < n → test y ≡ true) × (length (x ∷ xs) ≤ n + length (filter (λ y. not (test y)) (x ∷ xs)))
-    go true e more = (
-      more.0 + 1,
-      (let low = more.1 in omega (arith, low)),
-      at_place e more.0 more.2,
-      (let same = ap (λ b. length (cond (not b) (x ∷ filter (λ y. not (test y)) xs) (filter (λ y. not (test y)) xs))) e in let low = more.3 in omega (arith, same, low)),
-    )
-    go false e more = (
-      0,
-      omega arith,
-      (λ a c y is lt. absurd (omega (arith, lt))),
-      (let all = ap length (keeps_every (λ y. not (test y)) (x ∷ xs) (λ y at. ap not (fails y at))) in omega (arith, all)),
-    )
-      where
-        fails : (y : X) → Contains (x ∷ xs) y → test y ≡ false
-        fails y (zero, lt, is) = ap test (sym is) ∙ e
-        fails y (suc n, lt, is) =
-            let s = contains_split xs y (n, omega (arith, lt), is) in
-            false_from_ne_true (test y) (λ yes_it. true≢false (sym (down [] s.0 s.1 x y (ap (λ l. x ∷ l) s.2) yes_it) ∙ e))
-
--- an element of a list without repetitions stands at one place
-pub one_place : {X : Type 0} (a b c d : List X) (x : X) → Apart (a ++ x ∷ c) → a ++ x ∷ c ≡ b ++ x ∷ d → length a ≡ length b
-one_place [] [] c d x apart is = refl
-one_place [] (z ∷ b) c d x apart is = absurd (apart.0 (subst (λ l. Contains l x) (sym (rest_is x z c (b ++ x ∷ d) is)) (contains_here b d x)))
-one_place (z ∷ a) [] c d x apart is = absurd (apart.0 (subst (Contains (a ++ x ∷ c)) (sym (first_is z x (a ++ x ∷ c) d is)) (contains_here a c x)))
-one_place (z ∷ a) (y ∷ b) c d x apart is = let n = one_place a b c d x apart.1 (rest_is z y (a ++ x ∷ c) (b ++ x ∷ d) is) in omega (arith, n)
 
 -- Acknowledgements
 

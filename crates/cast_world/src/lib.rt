@@ -1,28 +1,31 @@
-//! Daemons of one domain at several sites, and the network between them: what holds of every list of steps.
+//! Daemons of one domain at several sites and the network between them: laws of every list of
+//! steps.
 //!
-//! A step is an event at a site, or a frame that was sent once comes to the site that it is addressed to. A frame that no step takes is
-//! lost, steps may take one again, and in any order. So the laws hold while the network loses, repeats, delays and reorders frames, with
-//! overlapping groups, joins in progress, frozen groups, wrong suspicions and members that are put out.
+//! A step is an event at a site, or a frame that was sent arrives at the site to which it is
+//! addressed. A frame that no step takes is lost, and steps may take one again and in any order.
+//! So the laws hold while the network loses, repeats, delays and reorders frames, with
+//! overlapping groups, joins in progress, wrong suspicions, hand-overs of the token and members
+//! that are put out.
 //!
-//! Promised is, of every list of steps:
+//! Promised of every list of steps:
 //!
-//! - No process delivers a message before one that happened before it and is due to it (`laws::causal_delivery`).
-//! - Views agree (`laws::views_agree`). Who passes from one view to the next delivered the same messages of the first as all others who do,
-//!   and its ABCASTs in the same order. Of two members of a view, until an Install of the next one comes to their sites, one has delivered a
-//!   prefix of the view's ABCASTs that the other has delivered.
+//! - No process delivers a message before one that happened before it and is due to it
+//!   (`laws::causal_delivery`).
+//! - Processes that pass from one view to the next delivered the same messages of the first, and
+//!   its ABCASTs in the same order. Of two members of a view, until an Install of the next one
+//!   arrives at their sites, one has delivered a prefix of the ABCASTs that the other has
+//!   (`laws::views_agree`).
 //!
-//! These rest on laws of their own: stamps rise (`laws::stamps_rise`), views are decided at the home (`laws::views_are_decided`), joins go
-//! forward (`laws::joins_go_forward`), who passes to the next view has delivered exactly the cut (`laws::passes_with_cut`), what an Install
-//! does not list of an order is known at each site (`laws::starts_are_known`), names are unique (`laws::names_are_unique`), and what is
-//! delivered was sent (`laws::deliveries_were_sent`).
+//! Other laws carry these: `stamps_rise`, `views_are_decided`, `joins_go_forward`,
+//! `passes_with_cut`, `starts_are_known`, `names_are_unique` and `deliveries_were_sent`. The laws
+//! speak of what processes did. What they delivered and what was pushed agrees with it
+//! (`lists_are_acts`, `pushes_are_acts`). A `World` runs daemons by a list of steps, and the laws
+//! hold of the deliveries that it reports (`answers_agree`).
 //!
-//! The laws speak of what processes did, in histories alone. What a process delivered, and what its program is pushed, agrees with that
-//! (`laws::lists_are_acts`, `laws::pushes_are_acts`). A `World` runs daemons as such a list of steps says, and the laws hold of what it tells
-//! of their deliveries (`laws::answers_agree`).
-//!
-//! The definitions are in `specs/`: `Network` has what a step is and where a list of steps leads, `HappenedBefore` which message happened
-//! before which and what is due to a process, `Agreement` who shares a view and what was delivered of it, `Laws` what holds of every list of
-//! steps, and `Worlds` how daemons stand for a network. Worked schedules are computed in `proofs/Schedules`, and run in `cast_schedules`.
+//! The definitions are in `specs/`: `Network` has steps, `HappenedBefore` which message happened
+//! before which and what is due to a process, `Agreement` who shares a view, `Laws` the laws, and
+//! `Worlds` how daemons stand for a network. `proofs/Schedules` computes worked schedules;
+//! `cast_schedules` runs them.
 #![tactic(auto)]
 
 pub mod laws;

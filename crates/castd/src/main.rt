@@ -1,10 +1,9 @@
-//! `castd`, a group communication daemon. `castd serve CONFIG --site N` runs it: programs connect by Unix sockets, daemons
-//! exchange datagrams, and lines of standard input look in and stop it. `castd replay FILE` replays a script, which says how a
-//! daemon is configured and what happens to it, and prints what it answers, what it pushes to its programs and what it sends
-//! to other sites.
+//! `castd`, a group communication daemon.
 //!
-//! The command line stands in the crate `cast_arguments`, the running daemon in `cast_serve`, and what is promised of a printed
-//! log in `cast_replay`.
+//! `castd serve CONFIG --site N` runs it: programs connect by Unix sockets, daemons exchange
+//! datagrams, and an operator uses lines of standard input. `castd replay FILE` replays a script
+//! and prints what the daemon answers, pushes and sends. `cast_arguments` has the command line,
+//! `cast_serve` the running daemon, and `cast_replay` what is promised of a replay.
 #![tactic(auto)]
 
 use cast_arguments::{Asked, read_command_line};

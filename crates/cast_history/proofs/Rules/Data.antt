@@ -19,7 +19,7 @@ use Rattle.cast_history.specs.Rules.Keys.{message_key}
 use Rattle.cast_history.specs.Rules.Interface.{Site}
 use Rattle.cast_history.specs.Rules.Room.{may_take}
 use Rattle.cast_history.specs.Rules.Owing.{owe}
-use Rattle.cast_history.specs.Rules.Data.{counts_itself, is_well_formed, is_used, is_outdated, acknowledge, want_no_more, use_data, on_data}
+use Rattle.cast_history.specs.Rules.Data.{counts_itself, names_member, is_well_formed, is_used, is_outdated, acknowledge, want_no_more, use_data, on_data}
 use Rattle.cast_history.proofs.Rules.Follows.{FollowsAll, IsTaken, choose}
 use Rattle.cast_history.proofs.Rules.Owing.{owe_follows}
 use Rattle.cast_history.proofs.Rules.Requests.{send_as}
@@ -36,7 +36,7 @@ module _ {S H : Type 0} (d : Site S H) (s : S) (h : H) (from : SiteNo) (m : Mess
   used_formed : is_well_formed d s (members_of (d.group s h)) m ≡ true
   used_formed = (and_parts (m.id.view == (d.group s h).number) _ used_current_formed).1
 
-  used_member_counts : (is_among proc_eq m.id.proc (members_of (d.group s h)) && counts_itself m) ≡ true
+  used_member_counts : (is_among proc_eq m.id.proc (members_of (d.group s h)) && (names_member (members_of (d.group s h)) m.body && counts_itself m)) ≡ true
   used_member_counts = (and_parts (list_all (λ c. is_among group_eq c.0 (d.config s).groups) m.times) _ used_formed).1
 
   pub used_from_its_site : site_eq m.id.proc.site from ≡ true
@@ -52,10 +52,10 @@ module _ {S H : Type 0} (d : Site S H) (s : S) (h : H) (from : SiteNo) (m : Mess
   used_known = (and_parts (list_all (λ c. is_among group_eq c.0 (d.config s).groups) m.times) _ used_formed).0
 
   pub used_of_member : is_among proc_eq m.id.proc (members_of (d.group s h)) ≡ true
-  used_of_member = (and_parts (is_among proc_eq m.id.proc (members_of (d.group s h))) (counts_itself m) used_member_counts).0
+  used_of_member = (and_parts (is_among proc_eq m.id.proc (members_of (d.group s h))) _ used_member_counts).0
 
   pub used_counts : counts_itself m ≡ true
-  used_counts = (and_parts (is_among proc_eq m.id.proc (members_of (d.group s h))) (counts_itself m) used_member_counts).1
+  used_counts = (and_parts (names_member (members_of (d.group s h)) m.body) (counts_itself m) (and_parts (is_among proc_eq m.id.proc (members_of (d.group s h))) _ used_member_counts).1).1
 
 -- the count of a message that counts itself is at least 1
 counted : (m : Message) → counts_itself m ≡ true → nat_lt 0 m.id.count ≡ true
@@ -95,7 +95,7 @@ module _ {R S H K : Type 0} (a : Site R H) (b : Site S K) (fits : R → S → Ty
       let group = all.follows.group r s f h k at in
       choose fits (is_used a r h from m) (is_used b s k from m) (use_data a r from m) _ (use_data b s from m) _
       (λ j. site_eq m.id.proc.site from && (not (site_eq from (here j)) && ((m.id.view == (group j).number)
-      && (list_all (λ c. is_among group_eq c.0 (config j).groups) m.times && (is_among proc_eq m.id.proc (members_of (group j)) && counts_itself m)))))
+      && (list_all (λ c. is_among group_eq c.0 (config j).groups) m.times && (is_among proc_eq m.id.proc (members_of (group j)) && (names_member (members_of (group j)) m.body && counts_itself m))))))
       (λ used. use_data_follows r s f k from m (record { at = there; used = used; typed = typed }))
       (λ _. choose fits (is_outdated a r h from m) (is_outdated b s k from m) _ r _ s
       (ap (λ (x : MemberSide). has_view x && (nat_lt m.id.view x.number && not (list_any (is_at from) (members_of x)))) group)

@@ -20,7 +20,7 @@ use Rattle.cast_history.specs.Rules.Keys.{message_key}
 use Rattle.cast_history.specs.Rules.Interface.{Site, Resting}
 use Rattle.cast_history.specs.Rules.Owing.{owe}
 use Rattle.cast_history.specs.Rules.Asking.{is_from_home}
-use Rattle.cast_history.specs.Rules.Data.{counts_itself, is_well_formed}
+use Rattle.cast_history.specs.Rules.Data.{counts_itself, names_member, is_well_formed}
 use Rattle.cast_history.specs.Rules.Views.{install}
 use Rattle.cast_history.specs.Rules.Release.{let_go}
 use Rattle.cast_history.specs.Rules.Flushes.{flushed_frame, on_prepare, own_want_key, is_wanted_here, on_wanted, complete, want_own, complete_or_want, go_on}
@@ -42,7 +42,7 @@ module _ {S H : Type 0} (d : Site S H) (s : S) (h : H) (m : Message) (wanted : i
   wanted_formed : is_well_formed d s (members_of (d.group s h)) m ≡ true
   wanted_formed = (and_parts (m.id.view == (d.group s h).number) _ wanted_current_formed).1
 
-  wanted_member_counts : (is_among proc_eq m.id.proc (members_of (d.group s h)) && counts_itself m) ≡ true
+  wanted_member_counts : (is_among proc_eq m.id.proc (members_of (d.group s h)) && (names_member (members_of (d.group s h)) m.body && counts_itself m)) ≡ true
   wanted_member_counts = (and_parts (list_all (λ c. is_among group_eq c.0 (d.config s).groups) m.times) _ wanted_formed).1
 
   pub wanted_pending : is_pending (d.group s h) ≡ true
@@ -58,10 +58,10 @@ module _ {S H : Type 0} (d : Site S H) (s : S) (h : H) (m : Message) (wanted : i
   wanted_known = (and_parts (list_all (λ c. is_among group_eq c.0 (d.config s).groups) m.times) _ wanted_formed).0
 
   pub wanted_of_member : is_among proc_eq m.id.proc (members_of (d.group s h)) ≡ true
-  wanted_of_member = (and_parts (is_among proc_eq m.id.proc (members_of (d.group s h))) (counts_itself m) wanted_member_counts).0
+  wanted_of_member = (and_parts (is_among proc_eq m.id.proc (members_of (d.group s h))) _ wanted_member_counts).0
 
   pub wanted_counts : counts_itself m ≡ true
-  wanted_counts = (and_parts (is_among proc_eq m.id.proc (members_of (d.group s h))) (counts_itself m) wanted_member_counts).1
+  wanted_counts = (and_parts (names_member (members_of (d.group s h)) m.body) (counts_itself m) (and_parts (is_among proc_eq m.id.proc (members_of (d.group s h))) _ wanted_member_counts).1).1
 
 module _ {R S H K : Type 0} (a : Site R H) (b : Site S K) (fits : R → S → Type 0) (stands : H → K → Type 0) (all : FollowsAll a b fits stands) where
   -- Prepare is answered with the same report
@@ -90,7 +90,7 @@ module _ {R S H K : Type 0} (a : Site R H) (b : Site S K) (fits : R → S → Ty
       λ j. is_pending (group j)
       && (owed j
       && ((m.id.view == (group j).number)
-      && (list_all (λ c. is_among group_eq c.0 (config j).groups) m.times && (is_among proc_eq m.id.proc (members_of (group j)) && counts_itself m))))
+      && (list_all (λ c. is_among group_eq c.0 (config j).groups) m.times && (is_among proc_eq m.id.proc (members_of (group j)) && (names_member (members_of (group j)) m.body && counts_itself m)))))
 
   -- a message that the home forwards is received at both sites
   pub wanted_follows : (r : R) (s : S) → fits r s → (h : H) (k : K) → stands h k → (from : SiteNo) (m : Message) → b.place s m.id.group ≡ Some k → IsTypedFrame (frame.Forward m) → fits (on_wanted a r h from m) (on_wanted b s k from m)

@@ -10,11 +10,9 @@ use Rattle.cast_types.specs.declared.names.GroupNo.{GroupNo}
 use Rattle.cast_types.specs.declared.names.Proc.{Proc}
 use Rattle.cast_types.specs.declared.names.Uid.{Uid}
 use Rattle.cast_types.specs.declared.refusal.Refusal.{Refusal}
-use Rattle.cast_types.specs.Names.{is_order}
 use Rattle.cast_types.specs.Counts.{CountList}
 use Rattle.cast_message.specs.declared.message.Body.{Body}
 use Rattle.cast_message.specs.declared.message.Message.{Message}
-use Rattle.cast_message.specs.Bodies.{kind_of}
 use Rattle.cast_message.specs.declared.client.Push.{Push}
 use Rattle.cast_delay.specs.Ready.{is_member, is_outside}
 use Rattle.cast_view.specs.Home.{HomeMove}
@@ -27,6 +25,7 @@ use Rattle.cast_view.specs.declared.member.Pending.{Pending}
 use Rattle.cast_view.specs.MemberSide.{is_pending}
 use Rattle.cast_timer.specs.declared.key.OwedKey.{OwedKey}
 use Rattle.cast_history.specs.Lawful.{IsTypedFrame}
+use Rattle.cast_history.specs.Order.{told_by}
 use Rattle.cast_history.specs.Rules.Interface.{Site}
 use Rattle.cast_history.specs.Rules.Sending.{may_raise}
 use Rattle.cast_history.specs.Rules.Data.{is_used}
@@ -114,7 +113,7 @@ pub record IsEntered {S H : Type 0} (d : Site S H) (s : S) (h : H) (g : GroupNo)
   pub later : (d.group s h).number < n
   pub typed : is_members members ≡ true
 
--- and of a message that a local process sends to the group g, which stands at h
+-- and of a message that a local process sends to the group g, which stands at h, and which tells nothing of the order
 
 pub record IsSent {S H : Type 0} (d : Site S H) (s : S) (h : H) (k : ℕ) (g : GroupNo) (content : Body) : Type 0 where
   pub given : d.is_open s k ≡ true
@@ -122,7 +121,7 @@ pub record IsSent {S H : Type 0} (d : Site S H) (s : S) (h : H) (k : ℕ) (g : G
   pub member : is_member (d.standing s k g) ≡ true
   pub unfrozen : (d.group s h).frozen ≡ false
   pub raises : may_raise (d.time s k) g (named_here d s k) ≡ true
-  pub plain : is_order (kind_of content) ≡ false
+  pub silent : told_by content ≡ []
 
 -- the message is stamped, and received here
 abbrev pub sent_here : {S H : Type 0} → Site S H → S → H → ℕ → GroupNo → Body → S
@@ -147,6 +146,8 @@ pub record FollowsAll {R S H K : Type 0} (a : Site R H) (b : Site S K) (fits : R
   pub standing : (r : R) (s : S) → fits r s → (k : ℕ) (g : GroupNo) → a.standing r k g ≡ b.standing s k g
   pub time : (r : R) (s : S) → fits r s → (k : ℕ) → b.is_open s k ≡ true → a.time r k ≡ b.time s k
   pub awaits_own : (r : R) (s : S) → fits r s → (k : ℕ) → b.is_open s k ≡ true → a.awaits_own r k ≡ b.awaits_own s k
+  pub holds : (r : R) (s : S) → fits r s → (h : H) (l : K) → stands h l → (k : ℕ) → a.holds r h k ≡ b.holds s l k
+  pub place_to_pass : (r : R) (s : S) → fits r s → (h : H) (l : K) → stands h l → (k : ℕ) (g : GroupNo) → b.place s g ≡ Some l → is_member (b.standing s k g) ≡ true → (b.group s l).frozen ≡ false → a.place_to_pass r h k ≡ b.place_to_pass s l k
   pub push : (r : R) (s : S) → fits r s → (k : ℕ) → b.is_open s k ≡ true → b.is_full s k ≡ false → (p : Push) → fits (a.push r k p) (b.push s k p)
   pub note_cast : (r : R) (s : S) → fits r s → fits (a.note_cast r) (b.note_cast s)
   pub note_joining : (r : R) (s : S) → fits r s → (k : ℕ) → b.is_open s k ≡ true → (g : GroupNo) (h : K) → b.place s g ≡ Some h → (number heard : ℕ) → fits (a.note_joining r k g number heard) (b.note_joining s k g number heard)
@@ -296,6 +297,8 @@ follows_itself_in_all d holds keeps = record {
   standing = λ r s f k g. λ i. d.standing (f.0 i) k g;
   time = λ r s f k given. λ i. d.time (f.0 i) k;
   awaits_own = λ r s f k given. λ i. d.awaits_own (f.0 i) k;
+  holds = λ r s f h l at k. λ i. d.holds (f.0 i) (at i) k;
+  place_to_pass = λ r s f h l at k g there member unfrozen. λ i. d.place_to_pass (f.0 i) (at i) k;
   push = λ r s f k given room p. (λ i. d.push (f.0 i) k p, keeps.push s f.1 k given room p);
   note_cast = λ r s f. (λ i. d.note_cast (f.0 i), keeps.note_cast s f.1);
   note_joining = λ r s f k given g h at number heard. (λ i. d.note_joining (f.0 i) k g number heard, keeps.note_joining s f.1 k given g h at number heard);

@@ -20,7 +20,7 @@ use Rattle.cast_history.specs.Rules.Keys.{home_key, want_key}
 use Rattle.cast_history.specs.Rules.Interface.{Site}
 use Rattle.cast_history.specs.Rules.Owing.{owe}
 use Rattle.cast_history.specs.Rules.Asking.{is_home}
-use Rattle.cast_history.specs.Rules.Data.{counts_itself, is_well_formed}
+use Rattle.cast_history.specs.Rules.Data.{counts_itself, names_member, is_well_formed}
 use Rattle.cast_types.specs.declared.names.GroupNo.{GroupNo}
 use Rattle.cast_history.specs.Rules.Home.{want_eq, owe_of_home, start, wants, want, want_bodies, decide, lead_group, lead, on_installed, on_flushed, drop_want, drop_wants, release_site, suspect_in, suspect, on_forward, forwardable, on_want}
 use Rattle.cast_history.proofs.Rules.Follows.{FollowsAll, choose, each, each_place, IsInvariant, IsInvariantOfAll, AlsoHolds, SamePlace, follows_itself_in_all}
@@ -142,7 +142,7 @@ module _ {R S H K : Type 0} (a : Site R H) (b : Site S K) (fits : R → S → Ty
   formed_same : (r : R) (s : S) → fits r s → (x y : Home) → x ≡ y → (m : Message) → ((m.id.view == x.number) && is_well_formed a r x.members.list m) ≡ ((m.id.view == y.number) && is_well_formed b s y.members.list m)
   formed_same r s f x y same m =
       let config = all.follows.config r s f in
-      λ j. (m.id.view == (same j).number) && (list_all (λ c. is_among group_eq c.0 (config j).groups) m.times && (is_among proc_eq m.id.proc (same j).members.list && counts_itself m))
+      λ j. (m.id.view == (same j).number) && (list_all (λ c. is_among group_eq c.0 (config j).groups) m.times && (is_among proc_eq m.id.proc (same j).members.list && (names_member (same j).members.list m.body && counts_itself m)))
 
   pub forward_follows : (r : R) (s : S) → fits r s → (h : H) (k : K) → stands h k → (m : Message) → fits (on_forward a r h m) (on_forward b s k m)
   forward_follows r s f h k at m =

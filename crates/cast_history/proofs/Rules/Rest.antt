@@ -1,15 +1,13 @@
 -- By what a domain does of itself a site that follows another goes on standing for it.
 use Rattle.std.proofs.Common.{◌≡◌, ℕ, List, [], ◌∷◌, Option, Some, None, refl, sym, subst, inl, inr}
 use Rattle.std.specs.List.{fold}
-use Rattle.cast_types.specs.declared.names.Proc.{Proc}
-use Rattle.cast_view.specs.MemberSide.{holder_at}
 use Rattle.cast_history.specs.Rules.Interface.{Site, Resting}
 use Rattle.cast_history.specs.Rules.Order.{set_order_by, set_order, set_orders}
 use Rattle.cast_history.specs.Rules.Flushes.{go_on, go_on_all}
 use Rattle.cast_message.specs.declared.client.Push.{Push}
 use Rattle.cast_history.specs.Rules.Rest.{tell_if, deliver_all, settle, pass}
 use Rattle.cast_history.proofs.Totals.{In}
-use Rattle.cast_history.proofs.Rules.Follows.{FollowsAll, IsInvariantOfAll, each_place}
+use Rattle.cast_history.proofs.Rules.Follows.{FollowsAll, IsInvariantOfAll, each, each_place}
 use Rattle.cast_history.proofs.Rules.Leaving.{told_keeps}
 use Rattle.cast_history.proofs.Rules.Home.{lead_follows}
 
@@ -18,14 +16,15 @@ pub told_if_keeps : {S H : Type 0} (d : Site S H) (holds : S → Type 0) → IsI
 told_if_keeps d holds keeps s l k (Some p) = told_keeps d holds keeps s l k p
 told_if_keeps d holds keeps s l k None = l
 
--- beside all that other rules ask and do: both have the same serials, and stand for each other after all deliveries of one process,
--- after what the holder of one group lists, and after the Install that waits in one group, or what the site wants for it
+-- beside all that other rules ask and do: both have the same serials, and the same processes that hold the token of one group; and they stand
+-- for each other after all deliveries of one process, after what a process lists in one group, and after the Install that waits in one group, or what the site wants for it
 pub record FollowsToRest {R S H K : Type 0} (a : Site R H) (b : Site S K) (x : Resting R H) (y : Resting S K) (fits : R → S → Type 0) (stands : H → K → Type 0) : Type 1 where
   pub all : FollowsAll a b fits stands
   pub serials : (r : R) (s : S) → fits r s → x.serials r ≡ y.serials s
   pub same_serials : (s : S) (k : ℕ) → y.serials (deliver_all b y s k) ≡ y.serials s
   pub delivers : (r : R) (s : S) → fits r s → (k : ℕ) → In k (y.serials s) → fits (deliver_all a x r k) (deliver_all b y s k)
-  pub orders : (r : R) (s : S) → fits r s → (h : H) (l : K) → stands h l → (p : Proc) → holder_at (b.here s) (b.group s l) ≡ Some p → fits (set_order_by a x r h p.serial) (set_order_by b y s l p.serial)
+  pub holders : (r : R) (s : S) → fits r s → (h : H) (l : K) → stands h l → x.holders r h ≡ y.holders s l
+  pub orders : (r : R) (s : S) → fits r s → (h : H) (l : K) → stands h l → (k : ℕ) → fits (set_order_by a x r h k) (set_order_by b y s l k)
   pub goes_on : (r : R) (s : S) → fits r s → (h : H) (l : K) → stands h l → fits (go_on a x r h) (go_on b y s l)
 
 module _ {R S H K : Type 0} (a : Site R H) (b : Site S K) (x : Resting R H) (y : Resting S K) (fits : R → S → Type 0) (stands : H → K → Type 0) (rests : FollowsToRest a b x y fits stands) where
@@ -42,14 +41,8 @@ module _ {R S H K : Type 0} (a : Site R H) (b : Site S K) (x : Resting R H) (y :
 
   set_order_follows : (r : R) (s : S) → fits r s → (h : H) (l : K) → stands h l → fits (set_order a x r h) (set_order b y s l)
   set_order_follows r s f h l at =
-      let here = rests.all.follows.here r s f in
-      let group = rests.all.follows.group r s f h l at in
-      subst (λ o. fits (elim o [ Some p ↦ set_order_by a x r h p.serial | None ↦ r ]) (set_order b y s l)) (sym (λ i. holder_at (here i) (group i)))
-      (held (holder_at (b.here s) (b.group s l)) refl)
-    where
-      held : (o : Option Proc) → holder_at (b.here s) (b.group s l) ≡ o → fits (elim o [ Some p ↦ set_order_by a x r h p.serial | None ↦ r ]) (elim o [ Some p ↦ set_order_by b y s l p.serial | None ↦ s ])
-      held (Some p) is = rests.orders r s f h l at p is
-      held None is = f
+      subst (λ ks. fits (fold (λ t k. set_order_by a x t h k) r ks) (set_order b y s l)) (sym (rests.holders r s f h l at))
+      (each fits (λ t k. set_order_by a x t h k) (λ t k. set_order_by b y t l k) (λ t u k same. rests.orders t u same h l at k) (y.holders s l) r s f)
 
   pub pass_follows : (r : R) (s : S) → fits r s → fits (pass a x r) (pass b y s)
   pass_follows r s f =

@@ -13,7 +13,7 @@ module _ {R S H K : Type 0} (a : Site R H) (b : Site S K) (fits : R → S → Ty
   pub receive_same : (r : R) (s : S) → fits r s → may_receive a r ≡ may_receive b s
   receive_same r s f = λ j. quota.may_receive (all.quotas r s f j) (all.held r s f j)
 
-  order_same : (r : R) (s : S) → fits r s → may_order a r ≡ may_order b s
+  pub order_same : (r : R) (s : S) → fits r s → may_order a r ≡ may_order b s
   order_same r s f = λ j. quota.may_order (all.quotas r s f j) (all.held r s f j)
 
   pub take_same : (r : R) (s : S) → fits r s → (x : Body) → may_take a r x ≡ may_take b s x

@@ -1,5 +1,5 @@
 -- The rules of messages that come from other sites.
-use Rattle.std.specs.Prelude.{Bool, List, not, ◌&&◌, ◌==◌, nat_lt, if◌then◌else◌}
+use Rattle.std.specs.Prelude.{Bool, true, List, Some, None, not, ◌&&◌, ◌==◌, nat_lt, if◌then◌else◌}
 use Rattle.std.specs.List.{list_all, list_any}
 use Rattle.cast_types.specs.declared.names.SiteNo.{SiteNo}
 use Rattle.cast_types.specs.declared.names.Proc.{Proc}
@@ -7,7 +7,9 @@ use Rattle.cast_types.specs.declared.names.Uid.{Uid}
 use Rattle.cast_types.specs.Names.{site_eq, group_eq, proc_eq}
 use Rattle.cast_types.specs.Sets.{is_among}
 use Rattle.cast_clock.specs.Times.{clock_of, count_in}
+use Rattle.cast_message.specs.declared.message.Body.{Body}
 use Rattle.cast_message.specs.declared.message.Message.{Message}
+use Rattle.cast_message.specs.Bodies.{new_holder}
 use Rattle.cast_message.specs.declared.site.SiteFrame.TheVariants as frame
 use Rattle.cast_timer.specs.declared.key.OwedKind.TheVariants as kinds
 use Rattle.cast_view.specs.MemberSide.{members_of, has_view}
@@ -23,12 +25,17 @@ counts_itself m =
     ((clock_of m.times m.id.group).view == m.id.view)
     && (nat_lt 0 m.id.count && (count_in m.times m.id.group m.id.proc == m.id.count))
 
+-- if a message hands the token over, then to one of these
+abbrev pub names_member : List Proc → Body → Bool
+names_member members b = elim (new_holder b) [ Some p ↦ is_among proc_eq p members | None ↦ true ]
+
 -- each rule is of a message of the group that stands at h
 module _ {S H : Type 0} (d : Site S H) where
-  -- well formed in a view of these members: all groups of its time are configured, its process is one of them, and its own time counts it
+  -- well formed in a view of these members: all groups of its time are configured, its process is one of them, and so is the one to which it
+  -- hands the token over, and its own time counts it
   abbrev pub is_well_formed : S → List Proc → Message → Bool
   is_well_formed s members m =
-      list_all (λ c. is_among group_eq c.0 (d.config s).groups) m.times && (is_among proc_eq m.id.proc members && counts_itself m)
+      list_all (λ c. is_among group_eq c.0 (d.config s).groups) m.times && (is_among proc_eq m.id.proc members && (names_member members m.body && counts_itself m))
 
   -- a message is used that is well formed, of the group's view here, and from its process's own site, which is another
   abbrev pub is_used : S → H → SiteNo → Message → Bool

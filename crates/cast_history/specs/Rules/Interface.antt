@@ -69,6 +69,9 @@ pub record Site (S H : Type 0) : Type 0 where
   pub standing : S → ℕ → GroupNo → Standing
   pub time : S → ℕ → ClockList
   pub awaits_own : S → ℕ → Bool
+  -- it holds the token of a group's view; and the place from which another would order, where it has settled all that it ordered
+  pub holds : S → H → ℕ → Bool
+  pub place_to_pass : S → H → ℕ → Option ℕ
   -- a frame is owed
   pub is_owed : S → OwedKey → Bool
   -- the frames that are due to be sent again, in their order
@@ -159,11 +162,11 @@ pub record Resting (S H : Type 0) : Type 0 where
   pub has_cut : S → H → CountList → Bool
   -- of those, the first 64 that some local member has not delivered and that were not received
   pub missing : S → H → CountList → List Entry
-  -- what a local process, the holder of a group's view, has to list, at the places after those that are known
+  -- the local processes that hold the token of a group's view, by serial
+  pub holders : S → H → List ℕ
+  -- what one of them has to list, at the places after those that are known
   pub next_places : S → H → ℕ → Option Sequence
   -- a local process has delivered a message, the first one that was ready for it
   pub note_delivered : S → ℕ → Message → S
-  -- the holder lists what it has to list, in the message that it sends now
-  pub note_listed : S → H → ℕ → S
   -- kept messages are let go, those whose ids pass a test
   pub release : S → (Uid → Bool) → S

@@ -1,11 +1,10 @@
--- The rules of set-order messages: the holder of a group's view gives ABCASTs their places.
-use Rattle.std.specs.Prelude.{ℕ, Bool, not, ◌&&◌, if◌then◌else◌, Some, None}
+-- The rules of set-order messages: who holds the token of a group's view gives ABCASTs their places.
+use Rattle.std.specs.Prelude.{ℕ, Bool, not, ◌&&◌, if◌then◌else◌}
 use Rattle.std.specs.List.{fold}
 use Rattle.std.specs.Option.{option_map_or}
 use Rattle.cast_message.specs.declared.message.Body.TheVariants as body
 use Rattle.cast_message.specs.Sequence.{Sequence}
 use Rattle.cast_delay.specs.Ready.{is_member}
-use Rattle.cast_view.specs.MemberSide.{holder_at}
 use Rattle.cast_history.specs.Rules.Interface.{Site, Resting}
 use Rattle.cast_history.specs.Rules.Release.{let_go}
 use Rattle.cast_history.specs.Rules.Room.{may_order}
@@ -21,7 +20,7 @@ module _ {S H : Type 0} (d : Site S H) (q : Resting S H) where
 
   -- the holder lists ABCASTs at these places in a set-order message
   abbrev pub send_places : S → H → ℕ → Sequence → S
-  send_places s h k places = send_own d (q.note_listed s h k) k (message_sent d s k (d.name s h) h (body.Order places))
+  send_places s h k places = send_own d s k (message_sent d s k (d.name s h) h (body.Order places))
 
   -- where its count may be raised; what is free then is let go
   abbrev pub list_places : S → H → ℕ → Sequence → S
@@ -32,9 +31,9 @@ module _ {S H : Type 0} (d : Site S H) (q : Resting S H) where
   abbrev pub set_order_by : S → H → ℕ → S
   set_order_by s h k = if may_list s h k then option_map_or (list_places s h k) (q.next_places s h k) s else s
 
-  -- where it is a process of this site
+  -- each that is a process of this site
   abbrev pub set_order : S → H → S
-  set_order s h = elim (holder_at (d.here s) (d.group s h)) [ Some p ↦ set_order_by s h p.serial | None ↦ s ]
+  set_order s h = fold (λ t k. set_order_by t h k) s (q.holders s h)
 
   -- for each group
   abbrev pub set_orders : S → S

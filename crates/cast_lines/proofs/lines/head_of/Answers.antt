@@ -1,5 +1,5 @@
 use Rattle.std.proofs.Common.{◌≢◌, sym, ap, ◌∙◌}
-use Rattle.cast_lines.specs.declared.lines.Head.TheVariants.{Site, Domain, Open, Join, Leave, Cast, Abcast, Bad, Gone, Frame, Suspect, Quota, Take, Tick}
+use Rattle.cast_lines.specs.declared.lines.Head.TheVariants.{Site, Domain, Open, Join, Leave, Cast, Abcast, Pass, Bad, Gone, Frame, Suspect, Quota, Take, Tick}
 use Rattle.cast_lines.specs.Lines.{head_text}
 use Rattle.cast_lines.specs.Readings.{head_of}
 use Rattle.cast_lines.proofs.Heads.{head_again, head_not}
@@ -25,6 +25,9 @@ returns-in-cast c = sym (ap head_of c.in-cast.is ∙ head_again Cast)
 
 pub returns-in-abcast : goal.returns-in-abcast
 returns-in-abcast c = sym (ap head_of c.in-abcast.is ∙ head_again Abcast)
+
+pub returns-in-pass : goal.returns-in-pass
+returns-in-pass c = sym (ap head_of c.in-pass.is ∙ head_again Pass)
 
 pub returns-in-bad : goal.returns-in-bad
 returns-in-bad c = sym (ap head_of c.in-bad.is ∙ head_again Bad)
@@ -58,6 +61,7 @@ returns-in_default c =
       | Leave ↦ c.in_default.not-leave
       | Cast ↦ c.in_default.not-cast
       | Abcast ↦ c.in_default.not-abcast
+      | Pass ↦ c.in_default.not-pass
       | Bad ↦ c.in_default.not-bad
       | Gone ↦ c.in_default.not-gone
       | Frame ↦ c.in_default.not-frame

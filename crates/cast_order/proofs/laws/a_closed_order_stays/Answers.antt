@@ -1,4 +1,4 @@
-use Rattle.cast_order.proofs.Closed.{close_fits, closed_learns, closed_pass, closed_more, closed_tell, closed_next}
+use Rattle.cast_order.proofs.Closed.{close_fits, closed_learns, closed_pass, closed_more, closed_hand, closed_next}
 use Rattle.cast_order.proofs.laws.a_closed_order_stays.Goals as goal
 
 pub returns-clause-close : goal.returns-clause-close
@@ -13,8 +13,8 @@ returns-clause-pass c = closed_pass
 pub returns-clause-more : goal.returns-clause-more
 returns-clause-more c = closed_more
 
-pub returns-clause-tell : goal.returns-clause-tell
-returns-clause-tell c = closed_tell
+pub returns-clause-hand : goal.returns-clause-hand
+returns-clause-hand c = closed_hand
 
 pub returns-clause-next : goal.returns-clause-next
 returns-clause-next c = closed_next

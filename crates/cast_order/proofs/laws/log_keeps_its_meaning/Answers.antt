@@ -1,4 +1,4 @@
-use Rattle.cast_order.proofs.Meanings.{new_fits, learn_fits, tell_fits, assign_fits, pass_fits, more_fits, forget_fits, oldest_rules}
+use Rattle.cast_order.proofs.Meanings.{new_fits, learn_fits, hand_fits, pass_fits, more_fits, forget_fits, oldest_rules}
 use Rattle.cast_order.proofs.laws.log_keeps_its_meaning.Goals as goal
 
 pub returns-clause-new : goal.returns-clause-new
@@ -7,11 +7,8 @@ returns-clause-new c = new_fits
 pub returns-clause-learn : goal.returns-clause-learn
 returns-clause-learn c = learn_fits
 
-pub returns-clause-tell : goal.returns-clause-tell
-returns-clause-tell c = tell_fits
-
-pub returns-clause-assign : goal.returns-clause-assign
-returns-clause-assign c = assign_fits
+pub returns-clause-hand : goal.returns-clause-hand
+returns-clause-hand c = hand_fits
 
 pub returns-clause-pass : goal.returns-clause-pass
 returns-clause-pass c = pass_fits

@@ -5,13 +5,13 @@ use Rattle.std.proofs.Math.Nat.{min_comm}
 use Rattle.cast_model.specs.declared.limits.TheConstants.{MAX_CASTS}
 use Rattle.cast_types.specs.declared.limits.TheConstants.{MAX_PAYLOAD}
 use Rattle.cast_clock.specs.Times.{bumped, count_in}
+use Rattle.cast_message.specs.declared.message.Message.{Message}
 use Rattle.cast_history.specs.Rules.Commands.{body_of}
 use Rattle.cast_delay.specs.Ready.{is_member}
-use Rattle.cast_delay.specs.declared.row.Fact.TheVariants as fact
 use Rattle.cast_history.specs.Rules.Room.{may_receive}
 use Rattle.cast_history.specs.Rules.Sending.{send_message, may_raise}
 use Rattle.cast_domain.specs.Records.{records_in}
-use Rattle.cast_domain.specs.Calls.{awaits_own_in, count_cast_in, records, record_at, tell_in, standing_of, time_of, local_in}
+use Rattle.cast_domain.specs.Calls.{awaits_own_in, count_cast_in, records, note_sent_by, record_at, standing_of, time_of, local_in}
 use Rattle.cast_domain.proofs.Attempts.{sent, cast_made, cast_owned, cast_full, cast_unraised, raised_none, raised_some}
 use Rattle.cast_domain.proofs.Loops.{seen_as}
 use Rattle.cast_domain.proofs.domain.Domain.cast_at.Goals as goal
@@ -73,17 +73,25 @@ returns-clause-made c =
     let room : may_receive records r ≡ true = sym c.has_room.ensures ∙ c.if-not-has_room.false in
     let own : awaits_own_in r (local_in r k) ≡ false = sym (c.awaits_own.ensures ∙ ap (awaits_own_in r) p) ∙ c.if-awaits_own.false in
     let may : may_raise (time_of r.delay (local_in r k)) g (local_in r k) ≡ true = ap (λ x. may_raise (time_of r.delay x) g x) (sym p) ∙ raised.0 in
-    let sends : records_in c.send_message.new.self c.send_message.new.lent ≡ sent r k g c.args.kind c.args.payload.now i =
-    c.in_ok-send_message.ensures.made
-    ∙ (λ j. send_message records ((seen_as c.args.self.now c.tell.new.self c.in_ok-tell.ensures.kept c.args.lent.now.shared.now c.args.lent.now.outs.now ∙ c.in_ok-tell.ensures.made c.args.lent.now.outs.now r.part) j) (record {
+    let content : c.body_of.result ≡ body_of c.args.kind c.args.payload.now = c.body_of.ensures ∙ ap (body_of c.args.kind) c.in_ok-content.ensures in
+    let made : Message = record {
       id = record { group = g; view = c.number.result; proc = q; count = c.count.result };
       times = c.in-Some.stamp;
-      body = (c.body_of.ensures ∙ ap (body_of c.args.kind) c.in_ok-content.ensures) j;
-    }))
-    ∙ λ j. send_message records (tell_in r (p j) (fact.Time (time j))) (record {
+      body = c.body_of.result;
+    } in
+    let noted : records_in c.note_sent.new.self c.args.lent.now ≡ note_sent_by r q made =
+    seen_as c.args.self.now c.note_sent.new.self c.in_ok-note_sent.ensures.same c.args.lent.now.shared.now c.args.lent.now.outs.now ∙ c.in_ok-note_sent.ensures.made c.args.lent.now.outs.now r.part in
+    let sends : records_in c.send_message.new.self c.send_message.new.lent ≡ sent r k g c.args.kind c.args.payload.now i =
+    c.in_ok-send_message.ensures.made
+    ∙ (λ j. send_message records (noted j) made)
+    ∙ λ j. send_message records (note_sent_by r (p j) (record {
       id = record { group = g; view = view j; proc = p j; count = count j };
       times = stamp j;
-      body = body_of c.args.kind c.args.payload.now;
+      body = content j;
+    })) (record {
+      id = record { group = g; view = view j; proc = p j; count = count j };
+      times = stamp j;
+      body = content j;
     }) in
     ap (λ x. (x, None)) ((λ j. record (records_in c.send_message.new.self c.send_message.new.lent) { casts = (c.saturating_add-self.ensures ∙ min_comm (c.send_message.new.self.casts + 1) MAX_CASTS) j }) ∙ ap count_cast_in sends)
     ∙ sym (cast_made r k g c.args.kind c.args.payload.now i short member going own room may)

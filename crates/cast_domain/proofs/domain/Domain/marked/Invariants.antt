@@ -9,4 +9,4 @@ use Rattle.cast_domain.proofs.domain.Domain.marked.Given as goal
 abbrev pub invariant-loop-name : goal.invariant-loop-name
 invariant-loop-name l =
     l.marked.items
-    ≡ map (λ e. (e, is_unplaced (filter (is_kept_of l.fn.group) (messages l.fn.kept)) (whole_kept (log_of l.fn.self.orders l.fn.group.name)) e)) (take l.name-index l.names)
+    ≡ map (λ e. (e, is_unplaced (filter (is_kept_of l.fn.group) (messages l.fn.kept)) (whole_kept (log_of l.fn.self.orders l.fn.group.name) l.holder) e)) (take l.name-index l.names)

@@ -1,11 +1,10 @@
 use Rattle.std.proofs.Common.{◌≡◌, ◌∙◌, ap}
 use Rattle.cast_clock.specs.Times.{bumped, count_in}
 use Rattle.cast_message.specs.declared.message.Body.TheVariants as body
-use Rattle.cast_delay.specs.declared.row.Fact.TheVariants as fact
-use Rattle.cast_order.specs.Log.{assigned, change_log}
+use Rattle.cast_message.specs.declared.message.Message.{Message}
 use Rattle.cast_history.specs.Rules.Sending.{send_message}
 use Rattle.cast_domain.specs.Records.{records_in}
-use Rattle.cast_domain.specs.Calls.{local_in, record_at, records, settled_in, tell_in, time_of}
+use Rattle.cast_domain.specs.Calls.{local_in, note_sent_by, record_at, records, time_of}
 use Rattle.cast_domain.proofs.Loops.{seen_as}
 use Rattle.cast_domain.proofs.domain.Domain.send_places.Goals as goal
 
@@ -22,18 +21,20 @@ returns-clause-made c =
     let view : c.number-view.result ≡ (record_at r.groups i).here.number = c.number-view.ensures ∙ ap (λ x. x.here.number) c.record-2.ensures in
     let time : c.args.time ≡ bumped (time_of r.delay p) (record_at r.groups i).name p = c.requires.raised in
     let count : c.count-count.result ≡ count_in (bumped (time_of r.delay p) (record_at r.groups i).name p) (record_at r.groups i).name p = c.count-count.ensures ∙ λ j. count_in (time j) (name j) (own j) in
-    let settled : c.settled-settled.result ≡ settled_in r (record_at r.groups i).name (record_at r.groups i).here.number p = c.settled-settled.ensures lent.outs.now r.part ∙ λ j. settled_in r (name j) (view j) (own j) in
-    let noted : c.note.new.self ≡ change_log (record_at r.groups i).name (assigned (count_in (bumped (time_of r.delay p) (record_at r.groups i).name p) (record_at r.groups i).name p) (settled_in r (record_at r.groups i).name (record_at r.groups i).here.number p)) r.orders =
-    c.in_ok-note.ensures ∙ λ j. change_log (name j) (assigned (count j) (settled j)) r.orders in
-    let told : records_in c.tell.new.self lent ≡ tell_in (record r { orders = c.note.new.self }) c.process-holder.result (fact.Time c.args.time) =
-    seen_as (record d { orders = c.note.new.self }) c.tell.new.self c.in_ok-tell.ensures.kept lent.shared.now lent.outs.now ∙ c.in_ok-tell.ensures.made lent.outs.now r.part in
-    c.in_ok-send_message.ensures.made
-    ∙ (λ j. send_message records (told j) (record {
+    let made : Message = record {
       id = record { group = c.record.result.now.name; view = c.number-view.result; proc = c.process-holder.result; count = c.count-count.result };
       times = c.args.stamp;
       body = body.Order c.args.places;
-    }))
-    ∙ (λ j. send_message records (tell_in (record r { orders = noted j }) (own j) (fact.Time (time j))) (record {
+    } in
+    let noted : records_in c.note_sent.new.self lent ≡ note_sent_by r c.process-holder.result made =
+    seen_as d c.note_sent.new.self c.in_ok-note_sent.ensures.same lent.shared.now lent.outs.now ∙ c.in_ok-note_sent.ensures.made lent.outs.now r.part in
+    c.in_ok-send_message.ensures.made
+    ∙ (λ j. send_message records (noted j) made)
+    ∙ (λ j. send_message records (note_sent_by r (own j) (record {
+      id = record { group = name j; view = view j; proc = own j; count = count j };
+      times = (c.requires.stamped ∙ time) j;
+      body = body.Order c.args.places;
+    })) (record {
       id = record { group = name j; view = view j; proc = own j; count = count j };
       times = (c.requires.stamped ∙ time) j;
       body = body.Order c.args.places;

@@ -1,17 +1,20 @@
 use Rattle.std.proofs.Common.{◌≡◌, ◌<◌, ◌∙◌, ap, length, arith}
+use Rattle.std.proofs.lemmas.Result.{on_ok_weaker}
 use Rattle.cast_types.specs.Places.{update}
 use Rattle.cast_delay.specs.Queue.{queue_viewing}
 use Rattle.cast_stable.specs.Ledger.{told_ledger}
 use Rattle.cast_order.specs.Log.{but_log}
-use Rattle.cast_view.specs.MemberSide.{members_of, with_view}
+use Rattle.cast_view.specs.MemberSide.{holder_at, members_of, with_view}
 use Rattle.cast_view.specs.Sites.{other_sites}
-use Rattle.cast_domain.specs.Records.{records_of}
-use Rattle.cast_domain.specs.Calls.{record_at}
+use Rattle.cast_domain.specs.Records.{Records, records_of}
+use Rattle.cast_domain.specs.Calls.{holding_from, record_at}
 use Rattle.cast_domain.proofs.Loops.{record_at_update}
 use Rattle.cast_domain.proofs.domain.Domain.take_view.Goals as goal
 
 pub returns-clause-made : goal.returns-clause-made
-returns-clause-made c o part =
+returns-clause-made c =
+    on_ok_weaker c.hold_from.result
+    (λ made o part.
     let r = records_of c.args.self.now part o in
     let i = c.args.place in
     let n = c.args.view in
@@ -22,6 +25,13 @@ returns-clause-made c o part =
     ap (λ xs. record_at xs i) c.in_ok-view_at.ensures.items ∙ record_at_update (λ x. record x { here = with_view r.site n members x.here }) r.groups i within in
     let others : c.in_ok-others.others ≡ other_sites r.site (members_of (with_view r.site n members (record_at r.groups i).here)) =
     c.in_ok-others.ensures ∙ ap (other_sites r.site) (c.members.ensures.value ∙ ap (λ x. members_of x.here) (c.record-2.ensures ∙ there)) in
+    let mid : Records = record r { groups = c.view_at.new.groups.items; delay = c.view_changed.new.self; acks = c.tell.new.self; orders = c.forget.new.self } in
+    let before : mid ≡ (record r {
+      groups = update r.groups i (λ x. record x { here = with_view r.site n members x.here });
+      delay = queue_viewing (record_at r.groups i).name n r.delay;
+      acks = told_ledger r.acks (record_at r.groups i).name n (other_sites r.site (members_of (with_view r.site n members (record_at r.groups i).here)));
+      orders = but_log (record_at r.groups i).name r.orders;
+    }) =
     (λ j. record r {
       groups = c.in_ok-view_at.ensures.items j;
       delay = c.in_ok-view_changed.ensures j;
@@ -33,4 +43,6 @@ returns-clause-made c o part =
       delay = queue_viewing (name j) n r.delay;
       acks = told_ledger r.acks (name j) n (others j);
       orders = but_log (name j) r.orders;
-    })
+    }) in
+    made o part ∙ (λ j. record (before j) { orders = holding_from (name j) (holder_at r.site (there j).here) (before j).orders }))
+    c.hold_from.ensures.made

@@ -6,4 +6,4 @@ use Rattle.cast_order.proofs.orders.Orders.assign.Goals as goal
 pub returns-in-Some : goal.returns-in-Some
 returns-in-Some c =
     let here : c.in-Some.log.now ≡ log_of c.args.self.now c.args.group = search rules in
-    subst (λ (l : Log). IfOk c.assign.result (λ q. q ≡ next_places l)) here c.assign.ensures
+    subst (λ (l : Log). IfOk c.assign.result (λ q. q ≡ next_places l c.args.process)) here c.assign.ensures

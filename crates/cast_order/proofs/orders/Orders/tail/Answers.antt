@@ -6,4 +6,4 @@ use Rattle.cast_order.proofs.orders.Orders.tail.Goals as goal
 pub returns-in-Some : goal.returns-in-Some
 returns-in-Some c =
     let here : c.in-Some.log.now ≡ log_of c.args.self.now c.args.group = search rules in
-    subst (λ (l : Log). IfOk c.tail.result (λ t. t ≡ (tail_start_in l, tail_ids_in l))) here c.tail.ensures
+    subst (λ (l : Log). IfOk c.tail.result (λ t. t ≡ (tail_start_in l c.args.holder, tail_ids_in l c.args.holder))) here c.tail.ensures
