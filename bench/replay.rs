@@ -14,8 +14,8 @@
 //!   cast, and its message is said to be stable;
 //! - `groups-N`: so in N groups of four members, with stamps that name all groups;
 //! - `opened-N`: N programs connected and are gone again; in each round 1.1 and 2.1 cast, and both messages become stable;
-//! - `tokens-N`: N rounds before the others; in each 1.1 casts an ABCAST, gives it its place, hands the token over to 2.1 and gets it back,
-//!   and all four messages become stable, all in one view;
+//! - `tokens`: 1.1 casts an ABCAST, gives it its place, hands the token over to 2.1 and gets it back, and all four messages become
+//!   stable, all in one view;
 //! - `partition-N`: 1.1 casts N times in a view with a member at each of 14 other sites, none of which answers; in each round all that
 //!   is owed falls due.
 
@@ -340,6 +340,7 @@ fn events(case: &str, rounds: usize) -> Option<Vec<String>> {
             "holder" => Some(by_round(1, held)),
             "follower" => Some(by_round(2, followed)),
             "sessions" => Some(by_round(1, session)),
+            "tokens" => Some(by_round(1, token)),
             _ => None,
         },
         Some(("kept", casts)) => {
@@ -356,12 +357,6 @@ fn events(case: &str, rounds: usize) -> Option<Vec<String>> {
         }
         Some(("members", many)) => Some(spread(1, &members(many.parse::<usize>().ok()? - 1, 2), rounds)),
         Some(("groups", many)) => Some(spread(many.parse().ok()?, &members(3, 1), rounds)),
-        Some(("tokens", before)) => {
-            let before = before.parse::<usize>().ok()?;
-            let mut events = joined(1, 1);
-            events.extend((1..=before + rounds).flat_map(token));
-            Some(events)
-        }
         Some(("opened", many)) => Some(opened(many.parse().ok()?, rounds)),
         Some(("passes", groups)) => Some(passes(groups.parse().ok()?, rounds)),
         Some(("partition", casts)) => Some(partition(casts.parse().ok()?, rounds)),
@@ -396,7 +391,7 @@ fn main() {
     };
     let Some(text) = text else {
         eprintln!(
-            "replay kept-N|views|holder|follower|sessions|waiting-N|members-N|groups-N|opened-N|tokens-N|passes-N|partition-N ROUNDS FILE"
+            "replay kept-N|views|holder|follower|sessions|tokens|waiting-N|members-N|groups-N|opened-N|passes-N|partition-N ROUNDS FILE"
         );
         process::exit(2);
     };
