@@ -17,7 +17,7 @@ use cast_clock::Times;
 use cast_delay::{Fact, Turn};
 use cast_message::{Body, Message, Placement, Received};
 use cast_model::Outs;
-use cast_order::{OrderHand, Orders};
+use cast_order::{OrderHand, OrderLog, Orders};
 use cast_types::limits::{MAX_NUMBER, MAX_POSITION, MAX_UNSETTLED};
 use cast_types::{GroupNo, Key, Kind, NoMemory, Proc, Stamp, Standing, Uid};
 
@@ -96,10 +96,21 @@ impl Domain {
     fn turn(&self, process: Proc, kept: &GroupRecord, lent: &Lent<'_>) -> Turn
         ensures { result ≡ turn_at (records_in self.now lent.now) process kept.now }
     {
-        if self.is_held_by(kept, process) {
-            return Turn::Holding(self.may_place(process, kept, lent));
+        match self.orders.log(kept.name) {
+            Some(log) => self.turn_by(log, process, kept, lent),
+            None => Turn::Following(None),
         }
-        let ids = self.orders.next(kept.name, process);
+    }
+
+    // The same by what is kept of the group's order.
+    fn turn_by(&self, log: &OrderLog, process: Proc, kept: &GroupRecord, lent: &Lent<'_>) -> Turn
+        requires { log.now ≡ log_of self.now.orders kept.now.name }
+        ensures { result ≡ turn_at (records_in self.now lent.now) process kept.now }
+    {
+        if log.first(process).is_some() && !kept.here.is_frozen() {
+            return Turn::Holding(self.may_place(log, process, kept, lent));
+        }
+        let ids = log.next(process);
         let passed = self
             .delay
             .passed(process, kept.name, kept.here.number(), ids);
@@ -114,17 +125,27 @@ impl Domain {
     }
 
     // Whether a process that holds the token may deliver one more ABCAST.
-    fn may_place(&self, process: Proc, kept: &GroupRecord, lent: &Lent<'_>) -> bool
+    fn may_place(&self, log: &OrderLog, process: Proc, kept: &GroupRecord, lent: &Lent<'_>) -> bool
+        requires { log.now ≡ log_of self.now.orders kept.now.name }
         ensures { result ≡ has_room_at (records_in self.now lent.now) process kept.now }
     {
+        let places = log.places_by(process);
         self.has_order_room(lent)
-            && self.is_unsettled_below_most(process, kept)
-            && self.places_by(kept.name, process) < MAX_POSITION as usize
+            && self.is_unsettled_below_most(places, process, kept)
+            && places < MAX_POSITION as usize
     }
 
-    // Whether a process has delivered fewer ids past those places that it has settled than it may. They are counted only where
-    // there are so many places at all.
-    fn is_unsettled_below_most(&self, process: Proc, kept: &GroupRecord) -> bool
+    // Whether a process has delivered fewer ids past those places that it has settled than it may, where there are so many places
+    // up to the last id that it has to list. They are counted only where there are so many at all.
+    fn is_unsettled_below_most(&self, places: usize, process: Proc, kept: &GroupRecord) -> bool
+        requires { places ≡ min 18446744073709551615 (places_by (log_of self.now.orders kept.now.name) process) }
+        ensures { result ≡ nat_lt (unsettled_at (own_records self.now) process kept.now) MAX_UNSETTLED }
+    {
+        places < MAX_UNSETTLED || self.is_unsettled_past_few(process, kept)
+    }
+
+    // The same where there are many.
+    fn is_unsettled_past_few(&self, process: Proc, kept: &GroupRecord) -> bool
         ensures { result ≡ nat_lt (unsettled_at (own_records self.now) process kept.now) MAX_UNSETTLED }
     {
         let settled = self.settled_to(process, kept);

@@ -34,4 +34,5 @@ mod log;
 mod orders;
 
 pub use hand::OrderHand;
+pub use log::OrderLog;
 pub use orders::Orders;

@@ -1,11 +1,11 @@
-ghost use Rattle.std.specs.Prelude.{◌≡◌, filter, take, drop, OnOk, IfOk};
+ghost use Rattle.std.specs.Prelude.{◌≡◌, min, filter, take, drop, OnOk, IfOk};
 ghost use Rattle.std.specs.List.{enumerate_from};
 ghost use Rattle.cast_types.specs.Counts.{is_within};
 ghost use Rattle.cast_types.specs.Names.{entry_eq};
 ghost use Rattle.cast_types.specs.Sets.{is_among};
 ghost use Rattle.cast_order.specs.Order.{id_at};
 ghost use Rattle.cast_order.specs.Hand.{held, handed, told, noted, settled_by};
-ghost use Rattle.cast_order.specs.Log.{length_of, new_log, oldest_in, with_fact, with_facts, with_next, past, settled, learnt, place_of, next_in, passed, hand_here, with_hand, waits_in, next_places, known_past, waiting_of, whole_kept, tail_start_in, tail_ids_in, closed_by, forgot};
+ghost use Rattle.cast_order.specs.Log.{length_of, new_log, oldest_in, with_fact, with_facts, with_next, past, settled, learnt, place_of, next_in, passed, hand_here, with_hand, waits_in, next_places, places_by, known_past, waiting_of, whole_kept, tail_start_in, tail_ids_in, closed_by, forgot};
 
 use crate::hand::{
     OrderHand, copy_hands, hand_among, hand_over_in, hold_in, holds, note_hand, open_hand,
@@ -99,6 +99,13 @@ impl OrderLog {
         ensures { result ≡ length_of self.now }
     {
         self.base as usize + self.window.len()
+    }
+
+    /// How many places there are up to the last id that a process here has to list, as far as a number counts.
+    pub fn places_by(&self, process: Proc) -> usize
+        ensures { result ≡ min 18446744073709551615 (places_by self.now process) }
+    {
+        self.length().saturating_add(self.waiting(process).len())
     }
 
     /// Closes the order: it becomes its first ids and those of the tail, all that are kept without ids beyond the cut.

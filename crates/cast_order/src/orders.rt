@@ -59,6 +59,13 @@ impl Orders {
         Ok(())
     }
 
+    /// What is kept of a group's order, if there is something. Takes no memory.
+    pub fn log(&self, group: GroupNo) -> Option<&OrderLog>
+        ensures { option_copied result ≡ find (λ l. group_eq l.group group) self.now }
+    {
+        log_in(&self.logs, group)
+    }
+
     /// How many ids of a group's order are known without a gap, from place 1 on, with those that are forgotten. Takes no
     /// memory.
     pub fn length(&self, group: GroupNo) -> usize
