@@ -1,6 +1,6 @@
 //! The command line of `castd`: what its words ask for.
 //!
-//! Promised: nothing but that every call is safe and returns. What is promised of a replay stands in the crate `cast_replay`.
+//! Promised: every call is safe and returns.
 #![tactic(auto)]
 
 use cast_types::SiteNo;
@@ -103,11 +103,11 @@ fn what_is_asked(alloc: Global, matches: &ArgMatches<'_>) -> Result<Option<Asked
         };
         return Ok(Some(Asked::Replay(String::from_str(alloc, file)?)));
     }
-    served(alloc, inner)
+    serve_arguments(alloc, inner)
 }
 
 // What `serve` was asked for.
-fn served(alloc: Global, inner: &ArgMatches<'_>) -> Result<Option<Asked>, AllocError> {
+fn serve_arguments(alloc: Global, inner: &ArgMatches<'_>) -> Result<Option<Asked>, AllocError> {
     let (Some(config), Some(site), Some(workers)) = (
         inner.get_str("CONFIG"),
         inner.get_one::<u16>("site"),

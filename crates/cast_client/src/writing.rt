@@ -8,7 +8,7 @@ ghost use Rattle.cast_field.specs.Spelling.{byte, short, spelled_members, spelle
 use crate::front::MIN_CLIENT_FRAME;
 use bytes::{BufMut, Bytes, BytesMut};
 use cast_field::writing::{put_members, put_proc, put_uid, put_view};
-use cast_message::{CastKind, ClientFrame, Members, Payload, Push, Request};
+use cast_message::{CastKind, ClientFrame, Membership, Payload, Push, Request};
 use cast_types::{GroupNo, NoMemory, Refusal, Uid};
 use std::alloc::Global;
 
@@ -57,7 +57,7 @@ fn code_of_push(push: &Push) -> u8
 
 // How many bytes members have in a frame.
 #[tactic(auto, using(crate::proofs::Sizes::members_len))]
-fn len_of_members(members: &Members) -> usize
+fn len_of_members(members: &Membership) -> usize
     ensures value { result ≡ length (spelled_members members.now) }
     ensures bound { result ≤ 386 }
 {

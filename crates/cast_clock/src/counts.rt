@@ -49,11 +49,11 @@ pub fn joined_len(mine: &[(Proc, u32)], theirs: &[(Proc, u32)]) -> usize
     requires theirs { IsTrue (is_counts theirs.now) }
     ensures { result ≡ length (join_counts mine.now theirs.now) }
 {
-    mine.len() + lacking(mine, theirs)
+    mine.len() + lacking_count(mine, theirs)
 }
 
 // How many of the second counts are of a process that the first lack.
-fn lacking(mine: &[(Proc, u32)], theirs: &[(Proc, u32)]) -> usize
+fn lacking_count(mine: &[(Proc, u32)], theirs: &[(Proc, u32)]) -> usize
     requires { is_sorted proc_cmp mine.now ≡ true }
     ensures { result ≡ count_by (λ e. not (is_some (find proc_cmp e.0 mine.now))) theirs.now }
 {

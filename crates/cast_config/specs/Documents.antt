@@ -5,8 +5,8 @@ use Rattle.toml.specs.Data.{Data, Members, as_table}
 use Rattle.toml.specs.Parse.{parse_document}
 use Rattle.cast_types.specs.declared.names.SiteNo.{SiteNo}
 use Rattle.cast_types.specs.Names.{site_eq}
-use Rattle.cast_model.specs.declared.config.DomainConfig.{DomainConfig}
-use Rattle.cast_words.specs.Readings.{◌>>=◌, each}
+use Rattle.cast_events.specs.declared.config.DomainConfig.{DomainConfig}
+use Rattle.cast_script.specs.WordReadings.{◌>>=◌, each}
 use Rattle.cast_config.specs.declared.domains.DomainEntry.{DomainEntry}
 use Rattle.cast_config.specs.declared.setup.DomainSocket.{DomainSocket}
 use Rattle.cast_config.specs.declared.setup.Setup.{Setup}

@@ -4,7 +4,7 @@ use Rattle.toml.specs.Data.{Members}
 use Rattle.cast_types.specs.declared.names.SiteNo.{SiteNo}
 use Rattle.cast_types.specs.declared.names.GroupNo.{GroupNo}
 use Rattle.cast_quota.specs.declared.quotas.Quotas.{Quotas}
-use Rattle.cast_words.specs.Readings.{◌>>=◌}
+use Rattle.cast_script.specs.WordReadings.{◌>>=◌}
 use Rattle.cast_config.specs.declared.domains.DomainEntry.{DomainEntry}
 use Rattle.cast_config.specs.declared.sites.SiteAddress.{SiteAddress}
 use Rattle.cast_config.specs.declared.fault.Field.TheVariants.{Number, Address, Home, Sites, Groups, Socket, Sessions, Held, Outbox, Resend}

@@ -3,7 +3,7 @@ use Rattle.std.specs.Prelude.{ℕ, ℤ, pos, negsuc, ◌&&◌, ◌==◌, nat_lt,
 use Rattle.std.specs.Ordering.{nat_cmp}
 use Rattle.toml.specs.Data.{Data, Items, no_items, item, Members, as_array, as_integer, as_str, get_member}
 use Rattle.cast_types.specs.Sets.{set_of}
-use Rattle.cast_words.specs.Readings.{◌>>=◌, each}
+use Rattle.cast_script.specs.WordReadings.{◌>>=◌, each}
 use Rattle.cast_config.specs.declared.fault.Field.{Field}
 use Rattle.cast_config.specs.declared.fault.Cause.TheVariants.{Missing, WrongKind, Range, Repeated}
 use Rattle.cast_config.specs.declared.fault.ConfigFault.{ConfigFault}

@@ -1,6 +1,6 @@
 ghost use Rattle.std.specs.Prelude.{◌≡◌, IfOk, map};
 ghost use Rattle.toml.specs.View.{table_view};
-ghost use Rattle.cast_words.specs.Readings.{each};
+ghost use Rattle.cast_script.specs.WordReadings.{each};
 ghost use Rattle.cast_config.specs.Faults.{Gives};
 ghost use Rattle.cast_config.specs.Fields.{all_pass};
 ghost use Rattle.cast_config.specs.Entries.{domain_of, groups_from, quotas_of, sites_from};
@@ -10,9 +10,9 @@ use crate::fault::{Cause, ConfigFault, Field};
 use crate::fields::{are_distinct, fault, number_at, number_at_or, numbers_at, text_at};
 use crate::sites::{SiteAddress, is_listed};
 use crate::text::Text;
-use cast_model::{DomainConfig, Quotas};
+use cast_events::{DomainConfig, Quotas};
 use cast_types::limits::{MAX_GROUPS, MAX_SITES};
-use cast_types::{DomainNo, GroupNo, Listed, NoMemory, SiteNo};
+use cast_types::{DomainNo, GroupNo, List, NoMemory, SiteNo};
 use std::alloc::Global;
 use toml::Table;
 
@@ -66,8 +66,8 @@ fn domain_of(alloc: Global, table: &Table) -> Result<DomainEntry, ConfigFault>
         config: DomainConfig {
             domain: DomainNo(number as u8),
             home: SiteNo(home as u16),
-            sites: Listed::from_vec(sites_from(alloc, &sites)?),
-            groups: Listed::from_vec(groups_from(alloc, &groups)?),
+            sites: List::from_vec(sites_from(alloc, &sites)?),
+            groups: List::from_vec(groups_from(alloc, &groups)?),
             quotas,
         },
         socket: Text::copy_of(alloc, socket)?,
@@ -75,10 +75,10 @@ fn domain_of(alloc: Global, table: &Table) -> Result<DomainEntry, ConfigFault>
 }
 
 // What the tables of domains say, in their order.
-fn all_domains(alloc: Global, tables: &[&Table]) -> Result<Listed<DomainEntry>, ConfigFault>
+fn all_domains(alloc: Global, tables: &[&Table]) -> Result<List<DomainEntry>, ConfigFault>
     ensures { Gives result (each domain_of (map (λ t. table_view t.now) tables.now)) }
 {
-    let mut domains = Listed::new(alloc);
+    let mut domains = List::new(alloc);
     for table in tables {
         domains.push(domain_of(alloc, table)?)?;
     }
@@ -121,7 +121,7 @@ fn is_at(domain: &DomainEntry, site: SiteNo) -> bool
 
 // Whether a domain's sites are in the document, and its home is one of them.
 #[tactic(auto, unfolding(crate::specs::Documents::placed))]
-fn placed(domain: &DomainEntry, sites: &[SiteAddress]) -> Result<(), ConfigFault>
+fn check_sites(domain: &DomainEntry, sites: &[SiteAddress]) -> Result<(), ConfigFault>
     ensures { result ≡ placed sites.now domain.now }
 {
     if !are_listed(domain, sites) {
@@ -135,11 +135,11 @@ fn placed(domain: &DomainEntry, sites: &[SiteAddress]) -> Result<(), ConfigFault
 }
 
 // The same of each domain.
-fn all_placed(domains: &[DomainEntry], sites: &[SiteAddress]) -> Result<(), ConfigFault>
+fn check_all_sites(domains: &[DomainEntry], sites: &[SiteAddress]) -> Result<(), ConfigFault>
     ensures { result ≡ all_pass (placed sites.now) domains.now }
 {
     for domain in domains {
-        placed(domain, sites)?;
+        check_sites(domain, sites)?;
     }
     Ok(())
 }
@@ -148,16 +148,16 @@ fn all_placed(domains: &[DomainEntry], sites: &[SiteAddress]) -> Result<(), Conf
 #[tactic(auto, unfolding(crate::specs::Documents::checked_domains))]
 fn checked_domains(
     alloc: Global,
-    domains: Listed<DomainEntry>,
+    domains: List<DomainEntry>,
     sites: &[SiteAddress],
-) -> Result<Listed<DomainEntry>, ConfigFault>
+) -> Result<List<DomainEntry>, ConfigFault>
     ensures { Gives result (checked_domains sites.now domains) }
 {
     let numbers = numbers_of(alloc, domains.as_slice())?;
     if !are_distinct(&numbers) {
         return Err(fault(Field::Number, Cause::Repeated));
     }
-    all_placed(domains.as_slice(), sites)?;
+    check_all_sites(domains.as_slice(), sites)?;
     Ok(domains)
 }
 
@@ -167,7 +167,7 @@ pub fn domains_of(
     alloc: Global,
     tables: &[&Table],
     sites: &[SiteAddress],
-) -> Result<Listed<DomainEntry>, ConfigFault>
+) -> Result<List<DomainEntry>, ConfigFault>
     ensures { Gives result (domains_of sites.now (map (λ t. table_view t.now) tables.now)) }
 {
     let domains = all_domains(alloc, tables)?;
@@ -177,12 +177,12 @@ pub fn domains_of(
 /// Of these domains those that a site has.
 pub fn own_domains(
     alloc: Global,
-    domains: Listed<DomainEntry>,
+    domains: List<DomainEntry>,
     own: SiteNo,
-) -> Result<Listed<DomainEntry>, NoMemory>
+) -> Result<List<DomainEntry>, NoMemory>
     ensures { IfOk result (λ kept. kept ≡ own_domains own domains) }
 {
-    let mut kept = Listed::new(alloc);
+    let mut kept = List::new(alloc);
     for domain in domains.into_vec() {
         if is_at(&domain, own) {
             kept.push(domain)?;

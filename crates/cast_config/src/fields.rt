@@ -3,7 +3,7 @@ ghost use Rattle.std.specs.Ordering.{nat_cmp};
 ghost use Rattle.std.specs.List.{list_any};
 ghost use Rattle.toml.specs.View.{items_view, table_view, view};
 ghost use Rattle.cast_types.specs.Sets.{set_of};
-ghost use Rattle.cast_words.specs.Readings.{each};
+ghost use Rattle.cast_script.specs.WordReadings.{each};
 ghost use Rattle.cast_config.specs.Faults.{Gives, GivesAs, IsSeen, fault};
 ghost use Rattle.cast_config.specs.Fields.{all_pass, at_field, counted, integer_of, items_of_array, list_of, needed, number_at, number_at_or, number_of, numbers_at, numbers_of, rising, text_at, text_of, within};
 ghost use Rattle.cast_config.specs.Documents.{are_distinct};
@@ -29,7 +29,7 @@ fn find(table: &Table, field: Field) -> Option<&Value>
 
 /// What stands at a field that a table has to have.
 #[tactic(auto, unfolding(crate::specs::Fields::needed))]
-pub fn needed(table: &Table, field: Field) -> Result<&Value, ConfigFault>
+pub fn require(table: &Table, field: Field) -> Result<&Value, ConfigFault>
     ensures { IsSeen (λ v. view v.now) result (needed field (table_view table.now)) }
 {
     match find(table, field) {
@@ -76,7 +76,7 @@ pub fn number_at(table: &Table, field: Field, least: u32, most: u32) -> Result<u
     ensures value { result ≡ number_at field least most (table_view table.now) }
     ensures bounded { IfOk result (λ n. (least ≤ n) × (n ≤ most)) }
 {
-    number_of(needed(table, field)?, field, least, most)
+    number_of(require(table, field)?, field, least, most)
 }
 
 /// The number at a field of a table, within limits; the usual one where the field is absent.
@@ -112,7 +112,7 @@ fn text_of(value: &Value, field: Field) -> Result<&str, ConfigFault>
 pub fn text_at(table: &Table, field: Field) -> Result<&str, ConfigFault>
     ensures { IsSeen (λ text. text.now) result (text_at field (table_view table.now)) }
 {
-    text_of(needed(table, field)?, field)
+    text_of(require(table, field)?, field)
 }
 
 /// The items of an array.
@@ -156,7 +156,7 @@ fn all_within(alloc: Global, items: &[Value], field: Field) -> Result<Vec<u16>, 
 
 // Numbers in rising order, if no two are alike.
 #[tactic(auto, unfolding(crate::specs::Fields::rising))]
-fn rising(alloc: Global, numbers: &[u16], field: Field) -> Result<Vec<u16>, ConfigFault>
+fn read_rising(alloc: Global, numbers: &[u16], field: Field) -> Result<Vec<u16>, ConfigFault>
     ensures { GivesAs (λ set. set.items) result (rising field numbers.now) }
 {
     let set = set_of(alloc, numbers)?;
@@ -199,7 +199,7 @@ fn is_among(number: u16, numbers: &[u16]) -> bool
 
 /// Whether there are 1 to so many; else the field is out of range.
 #[tactic(auto, unfolding(crate::specs::Fields::counted))]
-pub fn counted(count: usize, field: Field, most: usize) -> Result<(), ConfigFault>
+pub fn check_count(count: usize, field: Field, most: usize) -> Result<(), ConfigFault>
     ensures { result ≡ counted field most count }
 {
     if count < 1 || count > most {
@@ -221,8 +221,8 @@ fn numbers_of(
     let items = items_of(value, field)?;
     are_integers(items, field)?;
     let numbers = all_within(alloc, items, field)?;
-    counted(numbers.len(), field, most)?;
-    rising(alloc, &numbers, field)
+    check_count(numbers.len(), field, most)?;
+    read_rising(alloc, &numbers, field)
 }
 
 /// The numbers of sites or groups at a field of a table: 1 to so many, all different, in rising order.
@@ -235,5 +235,5 @@ pub fn numbers_at(
 ) -> Result<Vec<u16>, ConfigFault>
     ensures { GivesAs (λ numbers. numbers.items) result (numbers_at field most (table_view table.now)) }
 {
-    numbers_of(alloc, needed(table, field)?, field, most)
+    numbers_of(alloc, require(table, field)?, field, most)
 }

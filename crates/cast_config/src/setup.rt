@@ -1,18 +1,18 @@
 ghost use Rattle.std.specs.Prelude.{◌≡◌, IfOk, map};
 ghost use Rattle.toml.specs.View.{table_view, view};
 ghost use Rattle.toml.specs.Parse.{parse_document};
-ghost use Rattle.cast_words.specs.Readings.{each};
+ghost use Rattle.cast_script.specs.WordReadings.{each};
 ghost use Rattle.cast_config.specs.Faults.{Gives, GivesAs, IsSeen};
 ghost use Rattle.cast_config.specs.Documents.{configs_of, document_gives, given, parsed, setup_of, sockets_of, table_of, tables_at, tables_give};
 
 use crate::domains::{DomainEntry, domains_of, own_domains};
 use crate::fault::{Cause, ConfigFault, Field};
-use crate::fields::{counted, fault, items_of, needed};
+use crate::fields::{check_count, fault, items_of, require};
 use crate::sites::{SiteAddress, sites_of};
 use crate::text::Text;
-use cast_model::{Config, DomainConfig};
+use cast_events::{Config, DomainConfig};
 use cast_types::limits::MAX_DOMAINS;
-use cast_types::{DomainNo, Listed, NoMemory, SiteNo};
+use cast_types::{DomainNo, List, NoMemory, SiteNo};
 use std::alloc::Global;
 use toml::{Table, Value};
 
@@ -30,9 +30,9 @@ pub struct Setup {
     /// The site, and its domains in the order of the document.
     pub config: Config,
     /// The address of each site of the document, in its order.
-    pub addresses: Listed<SiteAddress>,
+    pub addresses: List<SiteAddress>,
     /// The socket of each domain of the configuration, in the same order.
-    pub sockets: Listed<DomainSocket>,
+    pub sockets: List<DomainSocket>,
 }
 
 // A value that is a table.
@@ -70,7 +70,7 @@ fn tables_at<'a>(
 ) -> Result<Vec<&'a Table>, ConfigFault>
     ensures { GivesAs (λ tables. map (λ t. table_view t.now) tables.items) result (tables_at field (table_view document.now)) }
 {
-    all_tables(alloc, items_of(needed(document, field)?, field)?, field)
+    all_tables(alloc, items_of(require(document, field)?, field)?, field)
 }
 
 // The document that a text is.
@@ -85,10 +85,10 @@ fn document(alloc: Global, text: &str) -> Result<Table, ConfigFault>
 }
 
 // The configurations of domains.
-fn configs_of(alloc: Global, domains: &[DomainEntry]) -> Result<Listed<DomainConfig>, NoMemory>
+fn configs_of(alloc: Global, domains: &[DomainEntry]) -> Result<List<DomainConfig>, NoMemory>
     ensures { IfOk result (λ configs. configs ≡ configs_of domains.now) }
 {
-    let mut configs = Listed::new(alloc);
+    let mut configs = List::new(alloc);
     for domain in domains {
         configs.push(domain.config.copy()?)?;
     }
@@ -96,10 +96,10 @@ fn configs_of(alloc: Global, domains: &[DomainEntry]) -> Result<Listed<DomainCon
 }
 
 // The sockets of domains.
-fn sockets_of(alloc: Global, domains: &[DomainEntry]) -> Result<Listed<DomainSocket>, NoMemory>
+fn sockets_of(alloc: Global, domains: &[DomainEntry]) -> Result<List<DomainSocket>, NoMemory>
     ensures { IfOk result (λ sockets. sockets ≡ sockets_of domains.now) }
 {
-    let mut sockets = Listed::new(alloc);
+    let mut sockets = List::new(alloc);
     for domain in domains {
         sockets.push(DomainSocket {
             domain: domain.config.domain,
@@ -111,10 +111,10 @@ fn sockets_of(alloc: Global, domains: &[DomainEntry]) -> Result<Listed<DomainSoc
 
 // The set-up of a site with these domains, of which there have to be some.
 #[tactic(auto, unfolding(crate::specs::Documents::given))]
-fn given(
+fn build_setup(
     alloc: Global,
     own: SiteNo,
-    addresses: Listed<SiteAddress>,
+    addresses: List<SiteAddress>,
     domains: &[DomainEntry],
 ) -> Result<Setup, ConfigFault>
     ensures { Gives result (given own addresses domains.now) }
@@ -143,10 +143,10 @@ fn tables_give(
     ensures { Gives result (tables_give own (map (λ t. table_view t.now) site_tables.now) (map (λ t. table_view t.now) domain_tables.now)) }
 {
     let sites = sites_of(alloc, site_tables, own)?;
-    counted(domain_tables.len(), Field::Domain, MAX_DOMAINS)?;
+    check_count(domain_tables.len(), Field::Domain, MAX_DOMAINS)?;
     let domains = domains_of(alloc, domain_tables, sites.as_slice())?;
     let domains = own_domains(alloc, domains, own)?;
-    given(alloc, own, sites, domains.as_slice())
+    build_setup(alloc, own, sites, domains.as_slice())
 }
 
 // The set-up that a document gives a site.

@@ -1,6 +1,6 @@
 ghost use Rattle.std.specs.Prelude.{◌≡◌, IfOk, map};
 ghost use Rattle.toml.specs.View.{table_view};
-ghost use Rattle.cast_words.specs.Readings.{each};
+ghost use Rattle.cast_script.specs.WordReadings.{each};
 ghost use Rattle.cast_config.specs.Faults.{Gives};
 ghost use Rattle.cast_config.specs.Entries.{site_of};
 ghost use Rattle.cast_config.specs.Documents.{checked_sites, is_listed, site_numbers, sites_of};
@@ -8,7 +8,7 @@ ghost use Rattle.cast_config.specs.Documents.{checked_sites, is_listed, site_num
 use crate::fault::{Cause, ConfigFault, Field};
 use crate::fields::{are_distinct, fault, number_at, text_at};
 use crate::text::Text;
-use cast_types::{Listed, NoMemory, SiteNo};
+use cast_types::{List, NoMemory, SiteNo};
 use std::alloc::Global;
 use toml::Table;
 
@@ -34,10 +34,10 @@ fn site_of(alloc: Global, table: &Table) -> Result<SiteAddress, ConfigFault>
 }
 
 // What the tables of sites say, in their order.
-fn all_sites(alloc: Global, tables: &[&Table]) -> Result<Listed<SiteAddress>, ConfigFault>
+fn all_sites(alloc: Global, tables: &[&Table]) -> Result<List<SiteAddress>, ConfigFault>
     ensures { Gives result (each site_of (map (λ t. table_view t.now) tables.now)) }
 {
-    let mut sites = Listed::new(alloc);
+    let mut sites = List::new(alloc);
     for table in tables {
         sites.push(site_of(alloc, table)?)?;
     }
@@ -62,9 +62,9 @@ fn numbers_of(alloc: Global, sites: &[SiteAddress]) -> Result<Vec<u16>, NoMemory
 #[tactic(auto, unfolding(crate::specs::Documents::checked_sites))]
 fn checked_sites(
     alloc: Global,
-    sites: Listed<SiteAddress>,
+    sites: List<SiteAddress>,
     own: SiteNo,
-) -> Result<Listed<SiteAddress>, ConfigFault>
+) -> Result<List<SiteAddress>, ConfigFault>
     ensures { Gives result (checked_sites own sites) }
 {
     let numbers = numbers_of(alloc, sites.as_slice())?;
@@ -84,7 +84,7 @@ pub fn sites_of(
     alloc: Global,
     tables: &[&Table],
     own: SiteNo,
-) -> Result<Listed<SiteAddress>, ConfigFault>
+) -> Result<List<SiteAddress>, ConfigFault>
     ensures { Gives result (sites_of own (map (λ t. table_view t.now) tables.now)) }
 {
     let sites = all_sites(alloc, tables)?;

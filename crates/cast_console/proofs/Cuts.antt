@@ -3,7 +3,7 @@ use Rattle.std.proofs.Common.{◌≡◌, ◌≢◌, ℕ, suc, ◌<◌, eqb, List
 use Rattle.std.proofs.lemmas.Bool.{ne_eqb}
 use Rattle.std.proofs.lemmas.List.Splits.{length-slice_split, slice_split_first}
 use Rattle.std.proofs.lemmas.Str.Pattern.{IsSplitOnceResult, split_once_first, split_parts}
-use Rattle.cast_words.specs.Words.{parted}
+use Rattle.cast_script.specs.Words.{parted}
 use Rattle.cast_console.specs.declared.line.LineFault.TheVariants.{WrongCount}
 use Rattle.cast_console.specs.Lines.{none_of}
 

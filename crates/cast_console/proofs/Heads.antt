@@ -1,6 +1,6 @@
 -- A first word that is none.
 use Rattle.std.proofs.Common.{◌≡◌, ◌≢◌, ℕ, List, Err, ap}
-use Rattle.cast_words.proofs.Named.{none_among}
+use Rattle.cast_script.proofs.Named.{none_among}
 use Rattle.cast_console.specs.declared.line.Head.{Head}
 use Rattle.cast_console.specs.declared.line.LineFault.TheVariants.{UnknownWord}
 use Rattle.cast_console.specs.Lines.{head_of, head_text, heads, read}

@@ -1,8 +1,8 @@
 -- What the console answers a line: the text, what came of its event, and what is left as it was.
 use Rattle.std.specs.Prelude.{◌≡◌, ℕ, List, [], ◌++◌, codes, Option, Some, None, Result, Ok, Err}
 use Rattle.std.specs.Fmt.{decimal}
-use Rattle.cast_model.specs.declared.event.Event.{Event}
-use Rattle.cast_model.specs.declared.event.Event.TheVariants as event
+use Rattle.cast_events.specs.declared.event.Event.{Event}
+use Rattle.cast_events.specs.declared.event.Event.TheVariants as event
 use Rattle.cast_pool.specs.declared.kept.Done.{Done}
 use Rattle.cast_pool.specs.declared.task.Task.TheVariants.{Serve}
 use Rattle.cast_pool.specs.Kept.{Seen}

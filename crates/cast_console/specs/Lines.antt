@@ -1,10 +1,10 @@
 -- What a line of the console is, or its first fault.
 use Rattle.std.specs.Prelude.{◌≡◌, ℕ, List, [], ◌∷◌, codes, Option, Some, None, Result, Ok, Err}
 use Rattle.cast_types.specs.declared.names.DomainNo.{DomainNo}
-use Rattle.cast_words.specs.Words.{parted}
-use Rattle.cast_words.specs.Readings.{◌>>=◌, domain_of, named_among, number_within, quota_name_of, site_of}
-use Rattle.cast_words.specs.declared.words.Reason.{Reason}
-use Rattle.cast_words.specs.declared.words.Reason.TheVariants as reason
+use Rattle.cast_script.specs.Words.{parted}
+use Rattle.cast_script.specs.WordReadings.{◌>>=◌, domain_of, named_among, number_within, quota_name_of, site_of}
+use Rattle.cast_script.specs.declared.words.Reason.{Reason}
+use Rattle.cast_script.specs.declared.words.Reason.TheVariants as reason
 use Rattle.cast_console.specs.declared.line.Line.{Line}
 use Rattle.cast_console.specs.declared.line.Line.TheVariants as line
 use Rattle.cast_console.specs.declared.line.Head.{Head}

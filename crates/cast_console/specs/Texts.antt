@@ -7,10 +7,10 @@ use Rattle.std.specs.Fmt.{decimal}
 use Rattle.cast_types.specs.declared.names.DomainNo.{DomainNo}
 use Rattle.cast_types.specs.declared.names.Proc.{Proc}
 use Rattle.cast_types.specs.Refusals.{refusal_code}
-use Rattle.cast_model.specs.declared.event.Taken.{Taken}
-use Rattle.cast_model.specs.declared.event.Taken.TheVariants as taken
-use Rattle.cast_model.specs.declared.log.Fault.{Fault}
-use Rattle.cast_model.specs.declared.log.Fault.TheVariants as fault
+use Rattle.cast_events.specs.declared.event.Taken.{Taken}
+use Rattle.cast_events.specs.declared.event.Taken.TheVariants as taken
+use Rattle.cast_events.specs.declared.log.Fault.{Fault}
+use Rattle.cast_events.specs.declared.log.Fault.TheVariants as fault
 use Rattle.cast_domain.specs.declared.show.Shown.{Shown}
 use Rattle.cast_domain.specs.declared.show.GroupShown.{GroupShown}
 use Rattle.cast_table.specs.declared.table.Table.{Table}

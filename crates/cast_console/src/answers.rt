@@ -9,7 +9,7 @@ ghost use Rattle.cast_console.specs.Answers.{HandsOn, IsServed, LeavesAll, answe
 use crate::line::{Line, LineFault, parse};
 use crate::said::Answer;
 use crate::text::{NO_DOMAIN, begin_line, groups_text, outcome_text, put_domain, shown_text};
-use cast_model::Event;
+use cast_events::Event;
 use cast_pool::{Asked, Done, Kept, Raw, Worked, decode};
 use cast_table::Table;
 use cast_types::{DomainNo, NoMemory};
@@ -17,7 +17,7 @@ use std::alloc::Global;
 use std::sync::ledger::Ledger;
 
 // An answer of a line that has no event.
-fn said(text: Result<String, NoMemory>) -> Answer
+fn text_answer(text: Result<String, NoMemory>) -> Answer
     ensures text { result.text ≡ text }
     ensures done { result.done ≡ None }
 {
@@ -100,7 +100,7 @@ fn serve<L: Ledger>(alloc: Global, kept: &mut Kept<L>, mine: &mut Worked<L>, eve
 }
 
 // Serves an event, and says what came of it.
-fn served<L: Ledger>(
+fn serve_event<L: Ledger>(
     alloc: Global,
     kept: &mut Kept<L>,
     mine: &mut Worked<L>,
@@ -133,12 +133,12 @@ fn answer_line<L: Ledger>(
     ensures parts { mine.new.parts ≡ mine.old.parts }
 {
     match line {
-        Line::Domains => said(domains_text(alloc, kept.table())),
-        Line::Show(domain) => said(show_text(alloc, kept.table(), domain)),
-        Line::Groups(domain) => said(group_lines(alloc, kept.table(), domain)),
+        Line::Domains => text_answer(domains_text(alloc, kept.table())),
+        Line::Show(domain) => text_answer(show_text(alloc, kept.table(), domain)),
+        Line::Groups(domain) => text_answer(group_lines(alloc, kept.table(), domain)),
         Line::Suspect(domain, site) => {
             let event = Event::Suspect(domain, site);
-            served(alloc, kept, mine, event)
+            serve_event(alloc, kept, mine, event)
         }
         Line::Quota(domain, name, value) => {
             let event = Event::Quota {
@@ -146,10 +146,10 @@ fn answer_line<L: Ledger>(
                 name,
                 value,
             };
-            served(alloc, kept, mine, event)
+            serve_event(alloc, kept, mine, event)
         }
-        Line::Trace => said(trace_text(alloc, kept)),
-        Line::Stop => said(String::from_str(alloc, "ok")),
+        Line::Trace => text_answer(trace_text(alloc, kept)),
+        Line::Stop => text_answer(String::from_str(alloc, "ok")),
     }
 }
 
@@ -170,6 +170,6 @@ pub fn answer<L: Ledger>(
 {
     match parse(line) {
         Ok(line) => answer_line(alloc, kept, mine, line),
-        Err(fault) => said(fault_text(alloc, fault)),
+        Err(fault) => text_answer(fault_text(alloc, fault)),
     }
 }

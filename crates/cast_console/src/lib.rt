@@ -1,12 +1,8 @@
 //! The console: one line in, one answer out.
 //!
-//! Promised: `parse` reads a line as the command that its words spell, or reports its first
-//! fault. The text of an answer says exactly what the table shows, the count, the trace, the
-//! outcome of the event, or the fault. A line that is an event is served like any other, and
-//! every other line changes nothing (`answer`). Not promised: that there is memory for the text.
-//!
-//! The definitions are in `specs/`: `Lines` has what a line is, `Texts` the texts, and `Answers`
-//! which text answers which line.
+//! Promised: `parse` reads a line exactly, or reports its first fault. The answer says exactly
+//! what the table shows, or what came of the line's event (`answer`). Only an event changes
+//! anything. Not promised: that there is memory for the text.
 #![tactic(auto)]
 
 mod answers;

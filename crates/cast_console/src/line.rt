@@ -1,11 +1,11 @@
 ghost use Rattle.std.specs.Prelude.{◌≡◌, ◌∷◌};
 ghost use Rattle.std.specs.Option.{option_copied};
-ghost use Rattle.cast_words.specs.Words.{parted};
+ghost use Rattle.cast_script.specs.Words.{parted};
 ghost use Rattle.cast_console.specs.Lines.{IsSeen, bare, behind, fault_number, fault_of, head_of, line_of, none_of, of_domain, one_of, quota, suspect, three_of, two_of, words_of};
 
-use cast_model::QuotaName;
+use cast_events::QuotaName;
+use cast_script::{Reason, domain_word, number, quota_name_word, site_word};
 use cast_types::{DomainNo, SiteNo};
-use cast_words::{Reason, domain_word, number, quota_name_word, site_word};
 use thiserror::Error;
 
 /// A line of the console.

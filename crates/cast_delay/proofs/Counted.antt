@@ -12,7 +12,7 @@ use Rattle.cast_delay.specs.declared.gate.Gate.{Gate}
 use Rattle.cast_delay.specs.Ready.{Process, first_of, covered, has_delivered}
 use Rattle.cast_delay.specs.Rows.{done_in, needed, has_past}
 use Rattle.cast_delay.specs.Fits.{HasNotEnded, RowFits}
-use Rattle.cast_delay.proofs.Listed.{list_all-filter, list_all-map, list_all-flat_map, list_all_agree, range_holds, holds_range}
+use Rattle.cast_delay.proofs.ListLemmas.{list_all-filter, list_all-map, list_all-flat_map, list_all_agree, range_holds, holds_range}
 use Rattle.cast_types.proofs.Bools.{same_bools}
 
 -- the message's own entry needs one less

@@ -17,20 +17,20 @@ use Rattle.cast_clock.proofs.Entries.{found_or}
 use Rattle.cast_message.specs.declared.message.Message.{Message}
 use Rattle.cast_types.specs.declared.source.Source.{Source}
 use Rattle.cast_delay.specs.declared.row.Row.{Row}
-use Rattle.cast_delay.specs.declared.row.Fact.{Fact}
-use Rattle.cast_delay.specs.declared.row.Fact.TheVariants as fact
+use Rattle.cast_delay.specs.declared.row.ProcessUpdate.{ProcessUpdate}
+use Rattle.cast_delay.specs.declared.row.ProcessUpdate.TheVariants as fact
 use Rattle.cast_delay.specs.declared.gate.Gate.{Gate}
 use Rattle.cast_delay.specs.Ready.{Process, is_open_to, is_member, has_delivered}
 use Rattle.cast_types.specs.Sources.{source, source_cmp, source_of}
 use Rattle.cast_delay.specs.Rows.{gate_in, standing_in, done_in, needed, has_past, row_allows, all_allow, is_causally_ready_row, delivered_row, told_row}
 use Rattle.cast_delay.specs.Fits.{HasNotEnded, RowFits, IsSound, told, delivering}
-use Rattle.cast_delay.proofs.Listed.{list_any-append}
+use Rattle.cast_delay.proofs.ListLemmas.{list_any-append}
 use Rattle.cast_delay.proofs.Counted.{needed_own, within_entry}
 use Rattle.cast_delay.proofs.Finds.{put_at_group}
 use Rattle.cast_types.proofs.Sources.{source_total, source_exact}
 
 -- a row takes in a fact as the process does
-pub told_fits : (gate : GroupNo → Gate) (p : Process) (row : Row) → RowFits gate p row → (f : Fact) → RowFits gate (told f p) (told_row f row)
+pub told_fits : (gate : GroupNo → Gate) (p : Process) (row : Row) → RowFits gate p row → (f : ProcessUpdate) → RowFits gate (told f p) (told_row f row)
 told_fits gate p row fits (fact.Standing g s) = record {
   standing = λ h. put_at_group row.standings g h s Outside ∙ ap (λ old. if group_eq g h then s else old) (fits.standing h);
   in_order = sorted-put group_cmp group_total g s row.standings fits.in_order;

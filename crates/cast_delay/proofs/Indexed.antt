@@ -18,8 +18,8 @@ use Rattle.cast_index.proofs.Rises.{all_push, below_push, rises_push, rises_kept
 use Rattle.cast_delay.specs.declared.offered.Offered.{Offered}
 use Rattle.cast_delay.specs.Queue.{but_offered}
 use Rattle.cast_delay.specs.Offers.{key_of, is_regular, is_offered, AreIndexed, AreOrderly, MayCome}
-use Rattle.cast_delay.proofs.Listed.{list_any-append}
-use Rattle.cast_delay.proofs.Members.{any_member, member_any, kept_member, member_kept, same_item}
+use Rattle.cast_delay.proofs.ListLemmas.{list_any-append}
+use Rattle.cast_delay.proofs.MemberLemmas.{any_member, member_any, kept_member, member_kept, same_item}
 
 -- Pairs
 

@@ -1,6 +1,6 @@
-pub mod Listed
+pub mod ListLemmas
 pub mod Counted
-pub mod Means
+pub mod RowMeaning
 pub mod Finds
 pub mod Turns
 pub mod Delivers
@@ -10,6 +10,6 @@ pub mod Queues
 pub mod Words
 pub mod Least
 pub mod Settled
-pub mod Members
+pub mod MemberLemmas
 pub mod Sourced
 pub mod Indexed

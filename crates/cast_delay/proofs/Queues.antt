@@ -26,22 +26,22 @@ use Rattle.cast_message.specs.Receipts.{key_eq, messages, message_under}
 use Rattle.cast_message.proofs.Places.{position_or_len_found}
 use Rattle.cast_delay.specs.declared.turn.Turn.{Turn}
 use Rattle.cast_delay.specs.declared.row.Row.{Row}
-use Rattle.cast_delay.specs.declared.row.Fact.{Fact}
-use Rattle.cast_delay.specs.declared.row.Fact.TheVariants as fact
+use Rattle.cast_delay.specs.declared.row.ProcessUpdate.{ProcessUpdate}
+use Rattle.cast_delay.specs.declared.row.ProcessUpdate.TheVariants as fact
 use Rattle.cast_delay.specs.declared.offered.Offered.{Offered}
 use Rattle.cast_delay.specs.declared.gate.Gate.{Gate}
 use Rattle.cast_delay.specs.Ready.{Process, open_gate, frozen_gate, pending_gate, is_member, is_outside, has_delivered, awaits, turn_in, is_causally_ready, is_ready, has_turn}
-use Rattle.cast_delay.specs.Tallies.{Tally, raised_at, counts_in}
+use Rattle.cast_delay.specs.DeliveredCounts.{DeliveredCounts, raised_at, counts_in}
 use Rattle.cast_delay.specs.Rows.{gate_in, standing_in, is_causally_ready_row, is_ready_row, has_delivered_in, passed_by, awaits_row, delivered_row, told_row}
 use Rattle.cast_delay.specs.Queue.{Queue, new_row, row_of, but_row, change_row, first_for, offered_under, next_key, has_candidate, may_deliver_in, delivered_in, passed_in, but_offered, is_awaited, HasOneRowEach, after_delivery, reached_after, queue_viewing, queue_delivering}
 use Rattle.cast_delay.specs.Fits.{IsSound, HasNotEnded, RowFits, StandsFor, HasNotBegun, Reaches, offer_of, Fits, FirstReady, HasTurns, IsAwaited, set_process, told, delivering, FactFits}
 use Rattle.cast_delay.specs.Laws.{NewFits}
 use Rattle.cast_delay.specs.Says.{SaysReached}
-use Rattle.cast_delay.proofs.Means.{row_means, awaits_means, delivered_means}
+use Rattle.cast_delay.proofs.RowMeaning.{row_means, awaits_means, delivered_means}
 use Rattle.cast_delay.proofs.Turns.{in_turn, same_turns, causally_member}
 use Rattle.cast_delay.proofs.Finds.{found_in, find_agree, find_mapped, never_found, find-append_some, find-append_none, find_kept, none_before, kept_parts, filter_mapped, any_in, found_any, put_at_group}
 use Rattle.cast_delay.proofs.Delivers.{told_fits, delivered_fits, ready_parts}
-use Rattle.cast_delay.proofs.Listed.{list_any-append}
+use Rattle.cast_delay.proofs.ListLemmas.{list_any-append}
 use Rattle.cast_delay.proofs.Reached.{reaches_later, reaches_ended, reaches_same, reaches_raised, reached_most, reached_each}
 use Rattle.cast_delay.proofs.Rows.{some_row, rows_changed, row_admitted, row_dismissed, stands_later, row_ended, row_of_ended}
 
@@ -81,9 +81,9 @@ after_at offered p key rows o at =
     ap (λ (x : Option Offered). elim x as (λ _. List Row) [ Some y ↦ change_row p (delivered_row y.id y.times) rows | None ↦ rows ]) at
 
 -- what is reached after it
-raised_to : (offered : List Offered) (key : Key) (reached : Tally) (o : Offered) → offered_under offered key ≡ Some o → reached_after offered key reached ≡ raised_at (source o.id.group o.id.view o.id.proc) o.id.count reached
+raised_to : (offered : List Offered) (key : Key) (reached : DeliveredCounts) (o : Offered) → offered_under offered key ≡ Some o → reached_after offered key reached ≡ raised_at (source o.id.group o.id.view o.id.proc) o.id.count reached
 raised_to offered key reached o at =
-    ap (λ (x : Option Offered). elim x as (λ _. Tally) [ Some y ↦ raised_at (source y.id.group y.id.view y.id.proc) y.id.count reached | None ↦ reached ]) at
+    ap (λ (x : Option Offered). elim x as (λ _. DeliveredCounts) [ Some y ↦ raised_at (source y.id.group y.id.view y.id.proc) y.id.count reached | None ↦ reached ]) at
 
 or_false : (b : Bool) → (b || false) ≡ b
 or_false true = refl
@@ -178,14 +178,14 @@ module _ (groups : List GroupNo) (gate : GroupNo → Gate) (processes : Proc →
         | false ↦ fits.groups_known x g
       ]
 
-  known_told : (p : Proc) (f : Fact) → FactFits groups f → (g : GroupNo) → is_outside ((told f (processes p)).standing g) ≡ false → is_among group_eq g groups ≡ true
+  known_told : (p : Proc) (f : ProcessUpdate) → FactFits groups f → (g : GroupNo) → is_outside ((told f (processes p)).standing g) ≡ false → is_among group_eq g groups ≡ true
   known_told p (fact.Standing h s) ok g = elim (cases_Bool (group_eq h g)) [
     | inl same ↦ λ inside. subst (λ k. is_among group_eq k groups ≡ true) (same_group h g same) (ok (ap (λ b. is_outside (if b then s else (processes p).standing g)) (sym same) ∙ inside))
     | inr other ↦ λ inside. fits.groups_known p g (ap (λ b. is_outside (if b then s else (processes p).standing g)) (sym other) ∙ inside)
   ]
   known_told p (fact.Time time) ok g = fits.groups_known p g
 
-  told_keeps : (f : Fact) (r : Row) → (told_row f r).process ≡ r.process
+  told_keeps : (f : ProcessUpdate) (r : Row) → (told_row f r).process ≡ r.process
   told_keeps (fact.Standing h s) r = refl
   told_keeps (fact.Time time) r = refl
 
@@ -249,11 +249,11 @@ module _ (groups : List GroupNo) (gate : GroupNo → Gate) (processes : Proc →
           found_any (λ r. awaits_row r id) (λ r. proc_eq r.process p) q.rows row at (awaited_by p row at id stands from_one ∙ waits)
 
   -- a fact changes nothing of what processes delivered
-  told_delivered : (f : Fact) (v : Process) → (told f v).delivered ≡ v.delivered
+  told_delivered : (f : ProcessUpdate) (v : Process) → (told f v).delivered ≡ v.delivered
   told_delivered (fact.Standing h s) v = refl
   told_delivered (fact.Time time) v = refl
 
-  told_same : (p : Proc) (f : Fact) (x : Proc) (u : Uid) → has_delivered (set_process processes p (told f (processes p)) x) u ≡ has_delivered (processes x) u
+  told_same : (p : Proc) (f : ProcessUpdate) (x : Proc) (u : Uid) → has_delivered (set_process processes p (told f (processes p)) x) u ≡ has_delivered (processes x) u
   told_same p f x u = elim (cases_Bool (proc_eq p x)) [
     | inl same ↦
         ap (λ b. has_delivered (if b then told f (processes p) else processes x) u) same
@@ -263,7 +263,7 @@ module _ (groups : List GroupNo) (gate : GroupNo → Gate) (processes : Proc →
   ]
 
   -- a fact is taken in as the process takes it in
-  pub tell_fits : (p : Proc) (f : Fact) → IsSome (row_of q.rows p) → FactFits groups f → Fits groups gate (set_process processes p (told f (processes p))) received (record q { rows = change_row p (told_row f) q.rows })
+  pub tell_fits : (p : Proc) (f : ProcessUpdate) → IsSome (row_of q.rows p) → FactFits groups f → Fits groups gate (set_process processes p (told f (processes p))) received (record q { rows = change_row p (told_row f) q.rows })
   tell_fits p f admitted ok =
       let (row, at) = some_row (row_of q.rows p) admitted in
       record {

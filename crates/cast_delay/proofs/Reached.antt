@@ -17,7 +17,7 @@ use Rattle.cast_types.proofs.Sources.{source_total, source_exact}
 use Rattle.cast_clock.proofs.Entries.{option_cases}
 use Rattle.cast_delay.specs.declared.gate.Gate.{Gate}
 use Rattle.cast_delay.specs.Ready.{Process, has_delivered}
-use Rattle.cast_delay.specs.Tallies.{Tally, count_at, raised_at, counts_in}
+use Rattle.cast_delay.specs.DeliveredCounts.{DeliveredCounts, count_at, raised_at, counts_in}
 use Rattle.cast_delay.specs.Fits.{HasNotEnded, Reaches}
 use Rattle.cast_delay.proofs.Finds.{kept_parts}
 use Rattle.cast_delay.proofs.Rows.{count_kept, not_ended}
@@ -84,38 +84,38 @@ put_parts {R = R} exact k v (e ∷ es) x has =
 -- Counts
 
 -- a count from 1 on stands in the list
-counted_there : (tally : Tally) (s : Source) → 0 < count_at tally s → Contains tally (s, count_at tally s)
-counted_there tally s some = elim (option_cases (find source_cmp s tally)) [
+counted_there : (counts : DeliveredCounts) (s : Source) → 0 < count_at counts s → Contains counts (s, count_at counts s)
+counted_there counts s some = elim (option_cases (find source_cmp s counts)) [
   | inl none ↦ absurd (omega (arith, some, ap (λ (o : Option ℕ). unwrap_or o 0) none))
-  | inr (n, is) ↦ subst (λ m. Contains tally (s, m)) (sym (ap (λ (o : Option ℕ). unwrap_or o 0) is)) (found_there source_exact s n tally is)
+  | inr (n, is) ↦ subst (λ m. Contains counts (s, m)) (sym (ap (λ (o : Option ℕ). unwrap_or o 0) is)) (found_there source_exact s n counts is)
 ]
 
-raised_count : (tally : Tally) (s t : Source) (count : ℕ) → count_at (raised_at s count tally) t ≡ cond (eq_by_cmp source_cmp t s) (max (count_at tally s) count) (count_at tally t)
-raised_count tally s t count =
-    ap (λ (o : Option ℕ). unwrap_or o 0) (find-put source_cmp source_total t s (max (count_at tally s) count) tally)
-    ∙ elim (eq_by_cmp source_cmp t s) as (λ b. unwrap_or (cond b (Some (max (count_at tally s) count)) (find source_cmp t tally)) 0 ≡ cond b (max (count_at tally s) count) (count_at tally t)) [ true ↦ refl | false ↦ refl ]
+raised_count : (counts : DeliveredCounts) (s t : Source) (count : ℕ) → count_at (raised_at s count counts) t ≡ cond (eq_by_cmp source_cmp t s) (max (count_at counts s) count) (count_at counts t)
+raised_count counts s t count =
+    ap (λ (o : Option ℕ). unwrap_or o 0) (find-put source_cmp source_total t s (max (count_at counts s) count) counts)
+    ∙ elim (eq_by_cmp source_cmp t s) as (λ b. unwrap_or (cond b (Some (max (count_at counts s) count)) (find source_cmp t counts)) 0 ≡ cond b (max (count_at counts s) count) (count_at counts t)) [ true ↦ refl | false ↦ refl ]
 
 -- no count falls
-raised_least : (tally : Tally) (s t : Source) (count : ℕ) → count_at tally t ≤ count_at (raised_at s count tally) t
-raised_least tally s t count = elim (cases_Bool (eq_by_cmp source_cmp t s)) [
+raised_least : (counts : DeliveredCounts) (s t : Source) (count : ℕ) → count_at counts t ≤ count_at (raised_at s count counts) t
+raised_least counts s t count = elim (cases_Bool (eq_by_cmp source_cmp t s)) [
   | inl tie ↦
-      let is = raised_count tally s t count ∙ ap (λ b. cond b (max (count_at tally s) count) (count_at tally t)) tie in
-      let same = ap (count_at tally) (tie_same source_exact t s tie) in
+      let is = raised_count counts s t count ∙ ap (λ b. cond b (max (count_at counts s) count) (count_at counts t)) tie in
+      let same = ap (count_at counts) (tie_same source_exact t s tie) in
       omega (arith, is, same)
   | inr other ↦
-      let is = raised_count tally s t count ∙ ap (λ b. cond b (max (count_at tally s) count) (count_at tally t)) other in
+      let is = raised_count counts s t count ∙ ap (λ b. cond b (max (count_at counts s) count) (count_at counts t)) other in
       omega (arith, is)
 ]
 
 -- and its own is as great as the other
-raised_own : (tally : Tally) (s : Source) (count : ℕ) → count ≤ count_at (raised_at s count tally) s
-raised_own tally s count =
-    let is = raised_count tally s s count ∙ ap (λ b. cond b (max (count_at tally s) count) (count_at tally s)) (tie_self source_total s s refl) in
+raised_own : (counts : DeliveredCounts) (s : Source) (count : ℕ) → count ≤ count_at (raised_at s count counts) s
+raised_own counts s count =
+    let is = raised_count counts s s count ∙ ap (λ b. cond b (max (count_at counts s) count) (count_at counts s)) (tie_self source_total s s refl) in
     omega (arith, is)
 
 -- Processes
 
-module _ (gate : GroupNo → Gate) (processes : Proc → Process) (reached : Tally) (r : Reaches gate processes reached) where
+module _ (gate : GroupNo → Gate) (processes : Proc → Process) (reached : DeliveredCounts) (r : Reaches gate processes reached) where
   -- in later views of groups
   pub reaches_later : (later : GroupNo → Gate) → ((g : GroupNo) → (gate g).number ≤ (later g).number) → Reaches later processes reached
   reaches_later later rises = record {

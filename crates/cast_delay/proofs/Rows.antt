@@ -17,7 +17,7 @@ use Rattle.cast_clock.proofs.Entries.{option_cases}
 use Rattle.cast_delay.specs.declared.row.Row.{Row}
 use Rattle.cast_delay.specs.declared.gate.Gate.{Gate}
 use Rattle.cast_delay.specs.Ready.{Process, has_delivered}
-use Rattle.cast_delay.specs.Tallies.{Tally, count_at}
+use Rattle.cast_delay.specs.DeliveredCounts.{DeliveredCounts, count_at}
 use Rattle.cast_delay.specs.Rows.{ended_row}
 use Rattle.cast_delay.specs.Queue.{new_row, row_of, but_row, change_row}
 use Rattle.cast_delay.specs.Fits.{HasNotEnded, RowFits, StandsFor, HasNotBegun, set_process}
@@ -119,7 +119,7 @@ stands_later gate later rises v (Some row) fits = record {
 }
 
 -- what is counted of a view that has not ended is counted still
-pub count_kept : (g : GroupNo) (number : ℕ) (s : Source) → is_ended g number s ≡ false → (tally : Tally) → count_at (but_ended g number tally) s ≡ count_at tally s
+pub count_kept : (g : GroupNo) (number : ℕ) (s : Source) → is_ended g number s ≡ false → (tally : DeliveredCounts) → count_at (but_ended g number tally) s ≡ count_at tally s
 count_kept g number s stands tally =
     ap (λ (o : Option ℕ). unwrap_or o 0) (find_but_ended g number s stands tally)
 

@@ -17,12 +17,12 @@ use Rattle.cast_types.specs.Sources.{source, source_cmp}
 use Rattle.cast_types.proofs.Orders.{same_group, tie_same}
 use Rattle.cast_types.proofs.Sources.{source_total, source_exact}
 use Rattle.cast_message.specs.Receipts.{key_eq}
-use Rattle.cast_delay.specs.Tallies.{count_at}
+use Rattle.cast_delay.specs.DeliveredCounts.{count_at}
 use Rattle.cast_types.proofs.Rising.{all_kept}
 use Rattle.cast_delay.specs.declared.gate.Gate.{Gate}
 use Rattle.cast_delay.specs.declared.row.Row.{Row}
-use Rattle.cast_delay.specs.declared.row.Fact.{Fact}
-use Rattle.cast_delay.specs.declared.row.Fact.TheVariants as fact
+use Rattle.cast_delay.specs.declared.row.ProcessUpdate.{ProcessUpdate}
+use Rattle.cast_delay.specs.declared.row.ProcessUpdate.TheVariants as fact
 use Rattle.cast_delay.specs.declared.offered.Offered.{Offered}
 use Rattle.cast_delay.specs.declared.turn.Turn.{Turn}
 use Rattle.cast_delay.specs.Ready.{is_member, open_gate}
@@ -142,7 +142,7 @@ tell_list p t id (row ∷ rows) =
     ]
 
 -- a process takes in a fact
-pub tell_settled : (gates : List (GroupNo × Gate)) (rows : List Row) (p : Proc) (f : Fact) (offered : List Offered) (n : ℕ) → AreSettled gates rows offered n → AreSettled gates (change_row p (told_row f) rows) offered (despite_fact f n)
+pub tell_settled : (gates : List (GroupNo × Gate)) (rows : List Row) (p : Proc) (f : ProcessUpdate) (offered : List Offered) (n : ℕ) → AreSettled gates rows offered n → AreSettled gates (change_row p (told_row f) rows) offered (despite_fact f n)
 tell_settled gates rows p (fact.Standing g s) offered n settled = none_settled gates (change_row p (told_row (fact.Standing g s)) rows) offered
 tell_settled gates rows p (fact.Time t) offered n settled = settled_still gates gates (λ g. refl) rows (change_row p (told_row (fact.Time t)) rows) (λ id none. tell_list p t id rows ∙ none) offered n settled
 

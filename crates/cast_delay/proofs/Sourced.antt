@@ -29,8 +29,8 @@ use Rattle.cast_delay.specs.Rows.{done_in, is_causally_ready_row, is_ready_row}
 use Rattle.cast_delay.specs.Queue.{first_for, has_candidate}
 use Rattle.cast_delay.specs.Offers.{key_of, is_regular, none_ready, AreIndexed, next_id, next_of, passing, earlier, so_far}
 use Rattle.cast_delay.proofs.Delivers.{ready_parts, next_count}
-use Rattle.cast_delay.proofs.Listed.{all_each, find_past, any_past}
-use Rattle.cast_delay.proofs.Members.{any_member, member_any, none_any, find_none, none_found, found_member, same_item, first_is, found_least}
+use Rattle.cast_delay.proofs.ListLemmas.{all_each, find_past, any_past}
+use Rattle.cast_delay.proofs.MemberLemmas.{any_member, member_any, none_any, find_none, none_found, found_member, same_item, first_is, found_least}
 
 -- what passes a test of what is there
 passing_some : (t : Offered → Bool) (o : Option Offered) (m : Offered) → passing t o ≡ Some m → (o ≡ Some m) × (t m ≡ true)

@@ -24,7 +24,7 @@ use Rattle.cast_delay.specs.declared.turn.Turn.TheVariants.{Holding, Following}
 use Rattle.cast_delay.specs.declared.gate.Gate.{Gate}
 use Rattle.cast_delay.specs.Ready.{Process, is_cut_by, is_open_to, is_member, has_delivered, past_in, group_allows, has_turn, is_causally_ready, is_ready}
 use Rattle.cast_delay.specs.Rule.{HappenedBefore, Allows, IsCutBy, IsOpenTo, MayBeDelivered, IsTurnOf, MayBeDeliveredInTurn, RuleInWords, TurnInWords}
-use Rattle.cast_delay.proofs.Listed.{contains_cases, all_each, range_holds, holds_range}
+use Rattle.cast_delay.proofs.ListLemmas.{contains_cases, all_each, range_holds, holds_range}
 use Rattle.cast_delay.proofs.Counted.{past_spelled}
 use Rattle.cast_delay.proofs.Delivers.{only_member}
 use Rattle.cast_types.proofs.Contains.{contains_here, contains_later}

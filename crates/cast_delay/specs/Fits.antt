@@ -18,11 +18,11 @@ use Rattle.cast_message.specs.Receipts.{messages, message_under}
 use Rattle.cast_delay.specs.declared.turn.Turn.{Turn}
 use Rattle.cast_delay.specs.declared.offered.Offered.{Offered}
 use Rattle.cast_delay.specs.declared.row.Row.{Row}
-use Rattle.cast_delay.specs.declared.row.Fact.{Fact}
-use Rattle.cast_delay.specs.declared.row.Fact.TheVariants as fact
+use Rattle.cast_delay.specs.declared.row.ProcessUpdate.{ProcessUpdate}
+use Rattle.cast_delay.specs.declared.row.ProcessUpdate.TheVariants as fact
 use Rattle.cast_delay.specs.declared.gate.Gate.{Gate}
 use Rattle.cast_delay.specs.Ready.{Process, is_member, is_outside, has_delivered, awaits, turn_in, first_ready}
-use Rattle.cast_delay.specs.Tallies.{Tally, count_at}
+use Rattle.cast_delay.specs.DeliveredCounts.{DeliveredCounts, count_at}
 use Rattle.cast_delay.specs.Rows.{gate_in, standing_in, done_in}
 use Rattle.cast_delay.specs.Queue.{Queue, row_of}
 
@@ -51,7 +51,7 @@ StandsFor gate p None = (g : GroupNo) → p.standing g ≡ Outside
 
 -- the counts tell how far processes came: in views that have not ended none has delivered a message of a source beyond its count, and
 -- each count is of a message that one has delivered
-pub record Reaches (gate : GroupNo → Gate) (processes : Proc → Process) (reached : Tally) : Type 0 where
+pub record Reaches (gate : GroupNo → Gate) (processes : Proc → Process) (reached : DeliveredCounts) : Type 0 where
   pub most : (p : Proc) (u : Uid) → HasNotEnded gate u.group u.view → has_delivered (processes p) u ≡ true → u.count ≤ count_at reached (source u.group u.view u.proc)
   pub each : (x : Source × ℕ) → Contains reached x → (p : Proc) × (has_delivered (processes p) (named x.0.group x.0.view (x.0.process, x.1)) ≡ true)
 
@@ -93,7 +93,7 @@ abbrev pub set_process : (Proc → Process) → Proc → Process → Proc → Pr
 set_process processes p v = set_at proc_eq processes p v
 
 -- the process takes in a fact
-abbrev pub told : Fact → Process → Process
+abbrev pub told : ProcessUpdate → Process → Process
 told (fact.Standing g standing) p = record p { standing = set_at group_eq p.standing g standing }
 told (fact.Time time) p = record p { time = time }
 
@@ -102,6 +102,6 @@ abbrev pub delivering : Message → Process → Process
 delivering m p = record p { time = join p.time m.times; delivered = p.delivered ++ m.id ∷ [] }
 
 -- a fact that a process is in a group, or joins it, names one of the domain's groups
-abbrev pub FactFits : List GroupNo → Fact → Type 0
+abbrev pub FactFits : List GroupNo → ProcessUpdate → Type 0
 FactFits groups (fact.Standing g standing) = is_outside standing ≡ false → is_among group_eq g groups ≡ true
 FactFits groups (fact.Time time) = Unit {0}

@@ -15,7 +15,7 @@ use Rattle.cast_message.specs.declared.message.Received.{Received}
 use Rattle.cast_message.specs.Receipts.{key_eq, message_under}
 use Rattle.cast_delay.specs.declared.turn.Turn.{Turn}
 use Rattle.cast_delay.specs.declared.row.Row.{Row}
-use Rattle.cast_delay.specs.declared.row.Fact.{Fact}
+use Rattle.cast_delay.specs.declared.row.ProcessUpdate.{ProcessUpdate}
 use Rattle.cast_types.specs.Counts.{CountList}
 use Rattle.cast_delay.specs.declared.gate.Gate.{Gate}
 use Rattle.cast_delay.specs.Ready.{Process, open_gate, frozen_gate, pending_gate, has_delivered, awaits, is_causally_ready, is_ready}
@@ -90,7 +90,7 @@ DismissKeepsMeaning =
 abbrev pub TellKeepsMeaning : Type 0
 TellKeepsMeaning =
     (groups : List GroupNo) (gate : GroupNo → Gate) (processes : Proc → Process) (received : List Received) (q : Queue)
-    → Fits groups gate processes received q → (p : Proc) (f : Fact)
+    → Fits groups gate processes received q → (p : Proc) (f : ProcessUpdate)
     → IsSome (row_of q.rows p) → FactFits groups f
     → Fits groups gate (set_process processes p (told f (processes p))) received
     (record q { rows = change_row p (told_row f) q.rows })

@@ -1,5 +1,5 @@
 pub mod Ready
-pub mod Tallies
+pub mod DeliveredCounts
 pub mod Rows
 pub mod Queue
 pub mod Fits

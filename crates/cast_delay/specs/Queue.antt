@@ -17,7 +17,7 @@ use Rattle.cast_delay.specs.declared.offered.Offered.{Offered}
 use Rattle.cast_delay.specs.declared.gate.Gate.{Gate}
 use Rattle.cast_delay.specs.Ready.{open_gate, is_member}
 use Rattle.cast_types.specs.Sources.{source, but_ended}
-use Rattle.cast_delay.specs.Tallies.{Tally, raised_at}
+use Rattle.cast_delay.specs.DeliveredCounts.{DeliveredCounts, raised_at}
 use Rattle.cast_delay.specs.Rows.{gate_in, standing_in, done_in, is_causally_ready_row, is_ready_row, has_delivered_in, passed_by, awaits_row, ended_row, delivered_row}
 
 pub record Queue : Type 0 where
@@ -25,7 +25,7 @@ pub record Queue : Type 0 where
   pub offered : List Offered
   pub rows : List Row
   -- of each source the greatest count that was delivered here
-  pub reached : Tally
+  pub reached : DeliveredCounts
 
 abbrev pub new_row : Proc → Row
 new_row p = record { process = p; standings = []; time = []; done = [] }
@@ -70,7 +70,7 @@ after_delivery offered p key rows =
     elim (offered_under offered key) [ Some o ↦ change_row p (delivered_row o.id o.times) rows | None ↦ rows ]
 
 -- what is reached after a delivery of the message under a key
-abbrev pub reached_after : List Offered → Key → Tally → Tally
+abbrev pub reached_after : List Offered → Key → DeliveredCounts → DeliveredCounts
 reached_after offered key reached =
     elim (offered_under offered key) [
       | Some o ↦ raised_at (source o.id.group o.id.view o.id.proc) o.id.count reached

@@ -14,12 +14,12 @@ use Rattle.cast_clock.specs.Times.{clock_of, view_of, join, has_room}
 use Rattle.cast_delay.specs.declared.gate.Gate.{Gate}
 use Rattle.cast_delay.specs.Ready.{open_gate, is_open_to, is_member, has_turn, turn_in}
 use Rattle.cast_types.specs.Sources.{source, source_cmp, but_ended}
-use Rattle.cast_delay.specs.Tallies.{count_at}
+use Rattle.cast_delay.specs.DeliveredCounts.{count_at}
 use Rattle.cast_delay.specs.declared.turn.Turn.{Turn}
 use Rattle.cast_delay.specs.declared.offered.Offered.{Offered}
 use Rattle.cast_delay.specs.declared.row.Row.{Row}
-use Rattle.cast_delay.specs.declared.row.Fact.{Fact}
-use Rattle.cast_delay.specs.declared.row.Fact.TheVariants as fact
+use Rattle.cast_delay.specs.declared.row.ProcessUpdate.{ProcessUpdate}
+use Rattle.cast_delay.specs.declared.row.ProcessUpdate.TheVariants as fact
 
 -- the gate of a group: number 0 and not frozen where nothing was told of it
 abbrev pub gate_in : List (GroupNo × Gate) → GroupNo → Gate
@@ -101,6 +101,6 @@ abbrev pub ended_row : GroupNo → ℕ → Row → Row
 ended_row g number row = record row { done = but_ended g number row.done }
 
 -- the row after a fact
-abbrev pub told_row : Fact → Row → Row
+abbrev pub told_row : ProcessUpdate → Row → Row
 told_row (fact.Standing g standing) row = with_standing g standing row
 told_row (fact.Time time) row = with_time time row

@@ -8,8 +8,8 @@ use Rattle.cast_types.specs.declared.names.Uid.{Uid}
 use Rattle.cast_types.specs.Names.{proc_eq}
 use Rattle.cast_delay.specs.declared.gate.Gate.{Gate}
 use Rattle.cast_delay.specs.declared.row.Row.{Row}
-use Rattle.cast_delay.specs.declared.row.Fact.{Fact}
-use Rattle.cast_delay.specs.declared.row.Fact.TheVariants as fact
+use Rattle.cast_delay.specs.declared.row.ProcessUpdate.{ProcessUpdate}
+use Rattle.cast_delay.specs.declared.row.ProcessUpdate.TheVariants as fact
 use Rattle.cast_delay.specs.declared.offered.Offered.{Offered}
 use Rattle.cast_delay.specs.Rows.{gate_in, done_in}
 use Rattle.cast_delay.specs.Queue.{is_awaited, offered_under}
@@ -24,7 +24,7 @@ pub record AreSettled (gates : List (GroupNo × Gate)) (rows : List Row) (offere
   pub each : list_all (is_settled gates rows) (take n offered) ≡ true
 
 -- how many of these are settled still once a row has taken in a fact: a standing may make a process wait for any of them
-abbrev pub despite_fact : Fact → ℕ → ℕ
+abbrev pub despite_fact : ProcessUpdate → ℕ → ℕ
 despite_fact (fact.Standing g standing) n = 0
 despite_fact (fact.Time time) n = n
 

@@ -3,7 +3,7 @@ ghost use Rattle.cast_types.specs.Names.{entry_of};
 ghost use Rattle.cast_delay.specs.Ready.{open_gate, frozen_gate, is_cut_by, is_open_to};
 ghost use Rattle.cast_delay.specs.Rows.{gate_in};
 
-use cast_types::{Counts, GroupNo, Keyed, NoMemory, Uid};
+use cast_types::{Counts, GroupNo, NoMemory, SortedMap, Uid};
 use std::alloc::Global;
 
 /// What of a group decides whether its messages may be delivered.
@@ -37,7 +37,7 @@ impl Gate {
     }
 
     /// The same group, frozen, its cut as it is.
-    pub fn frozen(&self) -> Result<Self, NoMemory>
+    pub fn to_frozen(&self) -> Result<Self, NoMemory>
         ensures { IfOk result (λ gate. gate ≡ frozen_gate self.now) }
     {
         Ok(Gate {
@@ -62,11 +62,11 @@ impl Gate {
 }
 
 /// The gates of groups, copied.
-pub fn copy_gates(gates: &Keyed<GroupNo, Gate>) -> Result<Keyed<GroupNo, Gate>, NoMemory>
+pub fn copy_gates(gates: &SortedMap<GroupNo, Gate>) -> Result<SortedMap<GroupNo, Gate>, NoMemory>
     ensures { IfOk result (λ copy. copy ≡ gates.now) }
 {
     let copied = copy_entries(gates.alloc(), gates.entries())?;
-    Ok(Keyed::from_entries(copied))
+    Ok(SortedMap::from_entries(copied))
 }
 
 // Their entries, copied.
@@ -104,7 +104,7 @@ fn is_cut_by(cut: &Option<Counts>, id: Uid) -> bool
 }
 
 /// The number of a group's view, 0 where none was told.
-pub fn number_in(gates: &Keyed<GroupNo, Gate>, group: GroupNo) -> u32
+pub fn number_in(gates: &SortedMap<GroupNo, Gate>, group: GroupNo) -> u32
     ensures { result ≡ (gate_in gates.now group).number }
 {
     match gates.get(&group) {
@@ -114,7 +114,7 @@ pub fn number_in(gates: &Keyed<GroupNo, Gate>, group: GroupNo) -> u32
 }
 
 /// Whether a message's group lets it be delivered, as far as flushes go. One of which nothing was told does.
-pub fn is_open_in(gates: &Keyed<GroupNo, Gate>, id: Uid) -> bool
+pub fn is_open_in(gates: &SortedMap<GroupNo, Gate>, id: Uid) -> bool
     ensures { result ≡ is_open_to (gate_in gates.now id.group) (entry_of id) }
 {
     match gates.get(&id.group) {
@@ -124,11 +124,11 @@ pub fn is_open_in(gates: &Keyed<GroupNo, Gate>, id: Uid) -> bool
 }
 
 /// The gate of a group, frozen.
-pub fn frozen_in(gates: &Keyed<GroupNo, Gate>, group: GroupNo) -> Result<Gate, NoMemory>
+pub fn frozen_in(gates: &SortedMap<GroupNo, Gate>, group: GroupNo) -> Result<Gate, NoMemory>
     ensures { IfOk result (λ gate. gate ≡ frozen_gate (gate_in gates.now group)) }
 {
     match gates.get(&group) {
-        Some(gate) => gate.frozen(),
-        None => Gate::new(0).frozen(),
+        Some(gate) => gate.to_frozen(),
+        None => Gate::new(0).to_frozen(),
     }
 }

@@ -16,7 +16,7 @@ use crate::offered::Offered;
 use crate::row::Row;
 use crate::turn::Turn;
 use cast_index::Index;
-use cast_types::{GroupNo, Key, Keyed, NoMemory, Uid, source_of};
+use cast_types::{GroupNo, Key, NoMemory, SortedMap, Uid, source_of};
 use std::alloc::Global;
 use std::collections::VecDeque;
 use std::marker::Model;
@@ -119,7 +119,7 @@ impl Offers {
         &self,
         first: usize,
         turns: &[(GroupNo, Turn)],
-        gates: &Keyed<GroupNo, Gate>,
+        gates: &SortedMap<GroupNo, Gate>,
         row: &Row,
     ) -> Option<&Offered>
         requires within { first ≤ length self.now }
@@ -135,7 +135,7 @@ impl Offers {
     }
 
     /// Whether some message is ready for a row but for the turns of groups, where none of the first ones is.
-    pub fn has_candidate(&self, first: usize, gates: &Keyed<GroupNo, Gate>, row: &Row) -> bool
+    pub fn has_candidate(&self, first: usize, gates: &SortedMap<GroupNo, Gate>, row: &Row) -> bool
         requires within { first ≤ length self.now }
         requires none { none_ready gates.now row.now first self.now ≡ true }
         ensures { result ≡ has_candidate gates.now self.now row.now }
@@ -211,7 +211,7 @@ fn first_by_source<'a>(
     messages: &'a VecDeque<Offered>,
     ids: &Index,
     turns: &[(GroupNo, Turn)],
-    gates: &Keyed<GroupNo, Gate>,
+    gates: &SortedMap<GroupNo, Gate>,
     row: &Row,
 ) -> Option<&'a Offered>
     requires { AreIndexed ids.now messages.now.items }
@@ -230,7 +230,7 @@ fn first_by_source<'a>(
 fn any_by_source(
     messages: &VecDeque<Offered>,
     ids: &Index,
-    gates: &Keyed<GroupNo, Gate>,
+    gates: &SortedMap<GroupNo, Gate>,
     row: &Row,
 ) -> bool
     requires { AreIndexed ids.now messages.now.items }
@@ -262,7 +262,7 @@ fn ready_next<'a>(
     messages: &'a VecDeque<Offered>,
     ids: &Index,
     turns: &[(GroupNo, Turn)],
-    gates: &Keyed<GroupNo, Gate>,
+    gates: &SortedMap<GroupNo, Gate>,
     row: &Row,
     id: Uid,
 ) -> Option<&'a Offered>
@@ -281,7 +281,7 @@ fn ready_next<'a>(
 fn may_take_next(
     messages: &VecDeque<Offered>,
     ids: &Index,
-    gates: &Keyed<GroupNo, Gate>,
+    gates: &SortedMap<GroupNo, Gate>,
     row: &Row,
     id: Uid,
 ) -> bool
@@ -304,7 +304,9 @@ fn next_of<'a>(
     requires { AreIndexed ids.now messages.now.items }
     ensures { option_copied result ≡ next_of row.now id messages.now.items }
 {
-    let count = row.done(id.group, id.view, id.proc).checked_add(1)?;
+    let count = row
+        .delivered_count(id.group, id.view, id.proc)
+        .checked_add(1)?;
     let key = ids.key_of(Uid { count, ..id })?;
     found_under(messages, key)
 }
@@ -314,7 +316,7 @@ fn first_from<'a>(
     messages: &'a VecDeque<Offered>,
     first: usize,
     turns: &[(GroupNo, Turn)],
-    gates: &Keyed<GroupNo, Gate>,
+    gates: &SortedMap<GroupNo, Gate>,
     row: &Row,
 ) -> Option<&'a Offered>
     requires { first ≤ length messages.now.items }
@@ -329,7 +331,7 @@ fn first_from<'a>(
 fn any_from(
     messages: &VecDeque<Offered>,
     first: usize,
-    gates: &Keyed<GroupNo, Gate>,
+    gates: &SortedMap<GroupNo, Gate>,
     row: &Row,
 ) -> bool
     requires { first ≤ length messages.now.items }

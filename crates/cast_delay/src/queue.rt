@@ -9,22 +9,22 @@ ghost use Rattle.cast_message.specs.Receipts.{key_eq};
 ghost use Rattle.cast_delay.specs.declared.turn.Turn.{Turn};
 ghost use Rattle.cast_delay.specs.Ready.{frozen_gate, pending_gate, has_delivered};
 ghost use Rattle.cast_delay.specs.Rows.{ended_row, told_row, standing_in};
-ghost use Rattle.cast_delay.specs.Tallies.{counts_in};
+ghost use Rattle.cast_delay.specs.DeliveredCounts.{counts_in};
 ghost use Rattle.cast_delay.specs.Queue.{new_row, row_of, but_row, change_row, first_for, offered_under, next_key, has_candidate, may_deliver_in, delivered_in, passed_in, but_offered, is_awaited, least_in, after_delivery, reached_after, queue_viewing, queue_delivering, queue_gating};
 ghost use Rattle.cast_delay.specs.Fits.{offer_of};
 ghost use Rattle.cast_delay.specs.Settled.{is_settled, AreSettled, despite_fact, is_next_of, despite_delivery};
 ghost use Rattle.cast_delay.specs.Says.{SaysAwaited, SaysFirstReady, SaysMayDeliver, SaysDelivered, SaysPassed, SaysReached, SaysTime, SaysStanding};
 
+use crate::delivered_counts::DeliveredCounts;
 use crate::gate::{Gate, copy_gates, frozen_in, number_in};
 use crate::offered::Offered;
 use crate::offers::Offers;
-use crate::row::{Fact, Row, copy_rows};
-use crate::tally::Tally;
+use crate::row::{ProcessUpdate, Row, copy_rows};
 use crate::turn::Turn;
 use cast_clock::Times;
 use cast_message::Message;
 use cast_types::limits::MAX_NUMBER;
-use cast_types::{Counts, GroupNo, Key, Keyed, NoMemory, Proc, Source, Standing, Uid};
+use cast_types::{Counts, GroupNo, Key, NoMemory, Proc, SortedMap, Source, Standing, Uid};
 use std::alloc::Global;
 use std::marker::Model;
 
@@ -32,14 +32,14 @@ use std::marker::Model;
 /// it may deliver. Contracts see a `Queue`.
 #[derive(Drop)]
 pub struct Delay {
-    gates: Keyed<GroupNo, Gate>,
+    gates: SortedMap<GroupNo, Gate>,
     offered: Offers,
     /// How many messages, from the first on, are known to be settled: no process here awaits them any more, or their
     /// view is not the one that stands. None of them is ready for any process, so a question looks at the few behind
     /// them, and where these are many at the next one of each source.
     settled: usize,
     rows: Vec<Row>,
-    reached: Tally,
+    reached: DeliveredCounts,
 }
 
 impl Model for Delay {
@@ -59,11 +59,11 @@ impl Delay {
         ensures { result ≡ record { gates = []; offered = []; rows = []; reached = [] } }
     {
         Delay {
-            gates: Keyed::new(alloc),
+            gates: SortedMap::new(alloc),
             offered: Offers::new(alloc),
             settled: 0,
             rows: Vec::new(alloc),
-            reached: Tally::new(alloc),
+            reached: DeliveredCounts::new(alloc),
         }
     }
 
@@ -98,7 +98,7 @@ impl Delay {
     }
 
     /// How many processes are admitted: those that were, but the dismissed. Takes no memory.
-    pub fn admitted(&self) -> usize
+    pub fn admitted_count(&self) -> usize
         ensures { result ≡ length self.now.rows }
     {
         self.rows.len()
@@ -114,7 +114,7 @@ impl Delay {
     }
 
     /// Takes in a fact about a process.
-    pub fn tell(&mut self, process: Proc, fact: &Fact) -> Result<(), NoMemory>
+    pub fn tell(&mut self, process: Proc, fact: &ProcessUpdate) -> Result<(), NoMemory>
         ensures { OnOk result (self.new ≡ record self.old { rows = change_row process (told_row fact.now) self.old.rows }) }
     {
         let settled = despite_fact(fact, self.settled);
@@ -126,7 +126,7 @@ impl Delay {
 
     /// Takes in the number of a group's new view, which no flush has frozen. What was delivered of views below it is
     /// forgotten.
-    pub fn view_changed(&mut self, group: GroupNo, number: u32) -> Result<(), NoMemory>
+    pub fn note_view(&mut self, group: GroupNo, number: u32) -> Result<(), NoMemory>
         ensures { OnOk result (self.new ≡ queue_viewing group number self.old) }
     {
         self.settled = 0;
@@ -239,18 +239,24 @@ impl Delay {
 
     /// How many of these ids, which are of a view of a group that has not ended, the process, which was admitted, has
     /// delivered before the first that it has not: 0 to their number. Takes no memory.
-    pub fn passed(&self, process: Proc, group: GroupNo, view: u32, ids: &[(Proc, u32)]) -> usize
+    pub fn delivered_prefix(
+        &self,
+        process: Proc,
+        group: GroupNo,
+        view: u32,
+        ids: &[(Proc, u32)],
+    ) -> usize
         ensures value { result ≡ passed_in self.now process group view ids.now }
         ensures meaning { SaysPassed self.now process group view ids.now result }
     {
         match row_in(&self.rows, process) {
-            Some(row) => row.passed(group, view, ids),
+            Some(row) => row.delivered_prefix(group, view, ids),
             None => 0,
         }
     }
 
     /// Takes in that the process delivered a message.
-    pub fn delivered(&mut self, process: Proc, key: Key) -> Result<(), NoMemory>
+    pub fn note_delivered(&mut self, process: Proc, key: Key) -> Result<(), NoMemory>
         ensures { OnOk result (self.new ≡ queue_delivering process key self.old) }
     {
         let settled = despite_delivery(&self.rows, &self.offered, process, key, self.settled);
@@ -263,7 +269,7 @@ impl Delay {
 
     /// How far processes came in a view of a group that has not ended: of each process of whose messages one was delivered
     /// to a process here, also to one that is no member any more or was dismissed, the greatest count of these.
-    pub fn reached(&self, group: GroupNo, view: u32) -> Result<Vec<(Proc, u32)>, NoMemory>
+    pub fn greatest_counts(&self, group: GroupNo, view: u32) -> Result<Vec<(Proc, u32)>, NoMemory>
         ensures value { IfOk result (λ counts. counts.items ≡ counts_in group view self.now.reached) }
         ensures meaning { IfOk result (λ counts. SaysReached self.now group view counts.items) }
     {
@@ -301,14 +307,19 @@ fn row_in(rows: &[Row], process: Proc) -> Option<&Row>
 }
 
 // Whether a message is settled: no row awaits it, or its view is not the one that stands.
-fn is_settled(gates: &Keyed<GroupNo, Gate>, rows: &[Row], offered: &Offered) -> bool
+fn is_settled(gates: &SortedMap<GroupNo, Gate>, rows: &[Row], offered: &Offered) -> bool
     ensures { result ≡ is_settled gates.now rows.now offered.now }
 {
     offered.id.view != number_in(gates, offered.id.group) || !awaited_at_last(rows, offered.id)
 }
 
 // How many messages from the first on are settled, where this many are.
-fn settled_from(gates: &Keyed<GroupNo, Gate>, offered: &Offers, rows: &[Row], first: usize) -> usize
+fn settled_from(
+    gates: &SortedMap<GroupNo, Gate>,
+    offered: &Offers,
+    rows: &[Row],
+    first: usize,
+) -> usize
     requires { AreSettled gates.now rows.now offered.now first }
     ensures { AreSettled gates.now rows.now offered.now result }
 {
@@ -323,12 +334,12 @@ fn settled_from(gates: &Keyed<GroupNo, Gate>, offered: &Offers, rows: &[Row], fi
 }
 
 // How many of so many settled messages are settled still once a process has taken in a fact.
-fn despite_fact(fact: &Fact, settled: usize) -> usize
+fn despite_fact(fact: &ProcessUpdate, settled: usize) -> usize
     ensures { result ≡ despite_fact fact.now settled }
 {
     match fact {
-        Fact::Standing(..) => 0,
-        Fact::Time(_) => settled,
+        ProcessUpdate::Standing(..) => 0,
+        ProcessUpdate::Time(_) => settled,
     }
 }
 
@@ -354,7 +365,7 @@ fn is_next_of(rows: &[Row], process: Proc, id: Uid) -> bool
     ensures { result ≡ is_next_of process id rows.now }
 {
     rows.iter().all(|row| row.process != process
-        || row.done(id.group, id.view, id.proc) <= id.count)
+        || row.delivered_count(id.group, id.view, id.proc) <= id.count)
 }
 
 // Whether some row awaits a message.
@@ -405,7 +416,7 @@ fn end_in(rows: &mut Vec<Row>, group: GroupNo, number: u32)
 }
 
 // Each row of the process takes in a fact.
-fn tell_in(rows: &mut Vec<Row>, process: Proc, fact: &Fact) -> Result<(), NoMemory>
+fn tell_in(rows: &mut Vec<Row>, process: Proc, fact: &ProcessUpdate) -> Result<(), NoMemory>
     ensures { OnOk result (rows.new.items ≡ change_row process (told_row fact.now) rows.old.items) }
 {
     for row in rows.iter_mut() {
@@ -437,7 +448,7 @@ fn deliver_in(
 }
 
 // Raises what is reached to the message under a key.
-fn reach_in(reached: &mut Tally, offered: &Offers, key: Key) -> Result<(), NoMemory>
+fn reach_in(reached: &mut DeliveredCounts, offered: &Offers, key: Key) -> Result<(), NoMemory>
     ensures { OnOk result (reached.new ≡ reached_after offered.now key reached.old) }
 {
     let Some(message) = offered.under(key) else {

@@ -7,17 +7,17 @@ ghost use Rattle.cast_clock.specs.Times.{first_clock};
 ghost use Rattle.cast_delay.specs.Ready.{is_member};
 ghost use Rattle.cast_delay.specs.Rows.{needed, IsClockIn};
 
+use crate::delivered_counts::DeliveredCounts;
 use crate::gate::{Gate, is_open_in, number_in};
 use crate::offered::Offered;
-use crate::tally::Tally;
 use crate::turn::{Turn, turn_in};
 use cast_clock::{ClockFault, Times};
-use cast_types::{Clock, GroupNo, Keyed, NoMemory, Proc, Source, Stamp, Standing, Uid};
+use cast_types::{Clock, GroupNo, NoMemory, Proc, SortedMap, Source, Stamp, Standing, Uid};
 use std::alloc::{AllocError, Global};
 
 /// What is told of a process.
 #[derive(Drop)]
-pub enum Fact {
+pub enum ProcessUpdate {
     /// What it is in a group.
     Standing(GroupNo, Standing),
     /// Its time.
@@ -28,10 +28,10 @@ pub enum Fact {
 #[derive(Drop)]
 pub struct Row {
     pub process: Proc,
-    pub standings: Keyed<GroupNo, Standing>,
+    pub standings: SortedMap<GroupNo, Standing>,
     pub time: Times,
     /// How many messages of each source it has delivered.
-    pub done: Tally,
+    pub done: DeliveredCounts,
 }
 
 // The clock of a group, and the place behind it: at a place, or else found by halving. Where groups are asked for in
@@ -79,9 +79,9 @@ impl Row {
     {
         Row {
             process,
-            standings: Keyed::new(alloc),
+            standings: SortedMap::new(alloc),
             time: Times::new(alloc),
-            done: Tally::new(alloc),
+            done: DeliveredCounts::new(alloc),
         }
     }
 
@@ -108,7 +108,7 @@ impl Row {
     }
 
     /// How many messages of a process were delivered in a view of a group.
-    pub fn done(&self, group: GroupNo, view: u32, process: Proc) -> u32
+    pub fn delivered_count(&self, group: GroupNo, view: u32, process: Proc) -> u32
         ensures { result ≡ done_in self.now group view process }
     {
         let source = Source {
@@ -135,12 +135,12 @@ impl Row {
         ensures { result ≡ lesser_by group view process least self.now }
     {
         if self.is_member(group) {
-            return least.min(self.done(group, view, process));
+            return least.min(self.delivered_count(group, view, process));
         }
         least
     }
 
-    // Whether all of these counts but the message itself is delivered. The place is where the tally is looked at first,
+    // Whether all of these counts but the message itself is delivered. The place is where the counts are looked at first,
     // and moves on behind what is found.
     fn has_past(
         &self,
@@ -159,7 +159,7 @@ impl Row {
                 process: entry.0,
             };
             let (done, next) = self.done.near(*place, source);
-            if done < needed(id, group, view, *entry) {
+            if done < needed_count(id, group, view, *entry) {
                 return false;
             }
             *place = next;
@@ -168,7 +168,7 @@ impl Row {
     }
 
     // Whether nothing of a group holds the message back, where this is the group's clock in the message's time. The
-    // place is where the tally is looked at first, and moves on behind what is found.
+    // place is where the counts are looked at first, and moves on behind what is found.
     fn allows(
         &self,
         place: &mut usize,
@@ -192,7 +192,7 @@ impl Row {
     }
 
     // Whether no group holds the message back.
-    fn all_allow(&self, gates: &Keyed<GroupNo, Gate>, id: Uid, times: &Stamp) -> bool
+    fn all_allow(&self, gates: &SortedMap<GroupNo, Gate>, id: Uid, times: &Stamp) -> bool
         ensures { result ≡ all_allow gates.now self.now id times.now }
     {
         let mut place = 0;
@@ -210,13 +210,18 @@ impl Row {
 
     /// Whether all that happened before a message was delivered to the process, a member of its group in the current
     /// view that has not delivered the message, where the group is not frozen or the message is within its cut.
-    pub fn is_causally_ready(&self, gates: &Keyed<GroupNo, Gate>, id: Uid, times: &Stamp) -> bool
+    pub fn is_causally_ready(
+        &self,
+        gates: &SortedMap<GroupNo, Gate>,
+        id: Uid,
+        times: &Stamp,
+    ) -> bool
         ensures { result ≡ is_causally_ready_row gates.now self.now id times.now }
     {
         self.is_member(id.group)
             && id.view == number_in(gates, id.group)
             && is_open_in(gates, id)
-            && self.done(id.group, id.view, id.proc) < id.count
+            && self.delivered_count(id.group, id.view, id.proc) < id.count
             && self.all_allow(gates, id, times)
             && self.time.has_room_for(times)
     }
@@ -225,7 +230,7 @@ impl Row {
     pub fn is_ready(
         &self,
         turns: &[(GroupNo, Turn)],
-        gates: &Keyed<GroupNo, Gate>,
+        gates: &SortedMap<GroupNo, Gate>,
         offered: &Offered,
     ) -> bool
         ensures { result ≡ is_ready_row turns.now gates.now self.now offered.now }
@@ -239,7 +244,7 @@ impl Row {
     pub fn has_delivered(&self, id: Uid) -> bool
         ensures { result ≡ has_delivered_in self.now id }
     {
-        0 < id.count && id.count <= self.done(id.group, id.view, id.proc)
+        0 < id.count && id.count <= self.delivered_count(id.group, id.view, id.proc)
     }
 
     // The place of the first of these ids of a view of a group that the process has not delivered.
@@ -256,7 +261,7 @@ impl Row {
 
     /// How many of these ids, which are of a view of a group, the process has delivered before the first that it has
     /// not: 0 to their number.
-    pub fn passed(&self, group: GroupNo, view: u32, ids: &[(Proc, u32)]) -> usize
+    pub fn delivered_prefix(&self, group: GroupNo, view: u32, ids: &[(Proc, u32)]) -> usize
         ensures { result ≡ passed_by self.now group view ids.now }
     {
         match self.first_missing(group, view, ids) {
@@ -269,7 +274,7 @@ impl Row {
     pub fn awaits(&self, id: Uid) -> bool
         ensures { result ≡ awaits_row self.now id }
     {
-        self.is_member(id.group) && self.done(id.group, id.view, id.proc) < id.count
+        self.is_member(id.group) && self.delivered_count(id.group, id.view, id.proc) < id.count
     }
 
     /// Notes that a message was delivered to the process. After `NoMemory` the row may be of no use.
@@ -297,12 +302,12 @@ impl Row {
     }
 
     /// Takes a fact in. `NoMemory` changes nothing.
-    pub fn tell(&mut self, fact: &Fact) -> Result<(), NoMemory>
+    pub fn tell(&mut self, fact: &ProcessUpdate) -> Result<(), NoMemory>
         ensures { OnOk result (self.new ≡ told_row fact.now self.old) }
     {
         match fact {
-            Fact::Standing(group, standing) => self.standings.put(*group, *standing),
-            Fact::Time(time) => {
+            ProcessUpdate::Standing(group, standing) => self.standings.put(*group, *standing),
+            ProcessUpdate::Time(time) => {
                 self.time = time.copy()?;
                 Ok(())
             }
@@ -311,7 +316,7 @@ impl Row {
 }
 
 // How many messages of an entry must be delivered before a message.
-fn needed(id: Uid, group: GroupNo, view: u32, entry: (Proc, u32)) -> u32
+fn needed_count(id: Uid, group: GroupNo, view: u32, entry: (Proc, u32)) -> u32
     ensures { result ≡ needed id group view entry }
 {
     let (proc, count) = entry;

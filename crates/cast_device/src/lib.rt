@@ -1,12 +1,9 @@
-//! Readers and writers whose calls are noted.
+//! Readers and writers that note the failures of their calls.
 //!
-//! Promised: a `Watched` hands each call on to its reader or writer and notes of it, exactly, whether it failed, how many
-//! calls of `read` were made, and how many calls of `write` in a row were interrupted. `begin` clears the notes, and nothing
-//! else does. `write_whole` writes all of its bytes, in as many calls as the writer needs, and answers a fault, with a
-//! beginning of them written, exactly where a call failed or `PATIENCE` calls in a row were interrupted.
-//!
-//! The definitions are in `specs/`: `Watching` says which calls fail and what the notes tell of a device, `Writing` what
-//! was written where it may have stopped within.
+//! Promised: a `Watched` passes each call on and notes exactly whether one failed, how many calls
+//! of `read` were made, and how many calls of `write` in a row were interrupted. `write_whole`
+//! writes all bytes, or reports a fault exactly if a call failed or `PATIENCE` calls in a row
+//! were interrupted.
 #![tactic(auto)]
 
 mod watched;

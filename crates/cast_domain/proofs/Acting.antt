@@ -18,7 +18,7 @@ use Rattle.cast_message.specs.declared.message.Body.{Body}
 use Rattle.cast_message.specs.declared.message.Body.TheVariants as body
 use Rattle.cast_message.specs.declared.message.Message.{Message}
 use Rattle.cast_message.specs.Bodies.{kind_of}
-use Rattle.cast_message.specs.Sequence.{Sequence}
+use Rattle.cast_message.specs.Placement.{Placement}
 use Rattle.cast_order.specs.Order.{Listing}
 use Rattle.cast_order.specs.Hand.{Hand, noted, handed, FitsHand}
 use Rattle.cast_order.specs.Log.{Log, log_of, hand_here, with_hand}
@@ -28,10 +28,10 @@ use Rattle.cast_domain.proofs.Hands.{own_changed}
 use Rattle.cast_order.proofs.Hands.{KeepsProcess, change_own, change_other, note_fits, hand_over_fits}
 use Rattle.cast_order.proofs.Logs.{log_of_change}
 use Rattle.cast_view.specs.MemberSide.{is_process, holder_of}
-use Rattle.cast_history.specs.Acts.{Act}
-use Rattle.cast_history.specs.Acts.Act.{Sent, Entered, Left}
-use Rattle.cast_history.specs.State.{State, local, noting_act, acts_outside}
-use Rattle.cast_history.specs.Order.{is_of_view, facts_in, order_told, abcasts_delivered, last_place, token_sent, token_after, token_of, listed_by, lists_of}
+use Rattle.cast_rules.specs.Acts.{Act}
+use Rattle.cast_rules.specs.Acts.Act.{Sent, Entered, Left}
+use Rattle.cast_rules.specs.State.{State, local, noting_act, acts_outside}
+use Rattle.cast_rules.specs.Order.{is_of_view, facts_in, order_told, abcasts_delivered, last_place, token_sent, token_after, token_of, listed_by, lists_of}
 use Rattle.cast_domain.specs.Calls.{sent_hand, orders_sent}
 use Rattle.cast_domain.specs.Fits.{settled_of, goes_on, has_passed, TellsHand, TellsOrder, LogFits}
 use Rattle.cast_domain.proofs.Over.{over_alike, all_stay}
@@ -134,13 +134,13 @@ sent_plain s k m h l token plain =
     none true = ap (λ c. listed_if c (m.id.count, last_place m.body)) plain
     none false = refl
 
-pub sent_keeps : (count stable : ℕ) (q : Sequence) → KeepsProcess (sent_hand count stable q)
+pub sent_keeps : (count stable : ℕ) (q : Placement) → KeepsProcess (sent_hand count stable q)
 sent_keeps count stable q h =
     let now : Hand = noted count (last_place (body.Order q)) stable h in
     elim (is_some q.holder) as (λ b. (if b then handed now else now).process ≡ h.process) [ true ↦ refl | false ↦ refl ]
 
 -- what it lists, and whether it hands the token over, is told of it then
-sent_fits : (order : List Entry) (token : Option ℕ) (delivered : List Entry) (lists : Listing) (before count stable : ℕ) (q : Sequence) (h : Hand) → before ≤ stable → FitsHand order token delivered lists before h → FitsHand order (token_sent token (body.Order q)) delivered (lists ++ (count, last_place (body.Order q)) ∷ []) stable (sent_hand count stable q h)
+sent_fits : (order : List Entry) (token : Option ℕ) (delivered : List Entry) (lists : Listing) (before count stable : ℕ) (q : Placement) (h : Hand) → before ≤ stable → FitsHand order token delivered lists before h → FitsHand order (token_sent token (body.Order q)) delivered (lists ++ (count, last_place (body.Order q)) ∷ []) stable (sent_hand count stable q h)
 sent_fits order token delivered lists before count stable q h le fits =
     let last : ℕ = last_place (body.Order q) in
     let now : Hand = noted count last stable h in
@@ -150,7 +150,7 @@ sent_fits order token delivered lists before count stable q h le fits =
       | Some p ↦ hand_over_fits order token delivered (lists ++ (count, last) ∷ []) stable now noting
     ]
 
-sent_first : (token : Option ℕ) (count stable : ℕ) (q : Sequence) (h : Hand) → h.first ≡ token → (sent_hand count stable q h).first ≡ token_sent token (body.Order q)
+sent_first : (token : Option ℕ) (count stable : ℕ) (q : Placement) (h : Hand) → h.first ≡ token → (sent_hand count stable q h).first ≡ token_sent token (body.Order q)
 sent_first token count stable q h is =
     let now : Hand = noted count (last_place (body.Order q)) stable h in
     elim q.holder as (λ o. (if is_some o then handed now else now).first ≡ (elim o as (λ _. Option ℕ) [ Some p ↦ None | None ↦ token ])) [
@@ -159,7 +159,7 @@ sent_first token count stable q h is =
     ]
 
 -- a set-order message of the group's view
-sent_order : (s : State) (k : ℕ) (m : Message) (q : Sequence) (stable : ℕ) (l : Log) → m.body ≡ body.Order q → is_of_view s m.id.group m.id ≡ true → m.id.count ≤ MAX_NUMBER → stable ≡ settled_of s m.id.group (local s k) → LogFits s m.id.group l → LogFits (noting_act s k (Sent m)) m.id.group (with_hand (local s k) (sent_hand m.id.count stable q) l)
+sent_order : (s : State) (k : ℕ) (m : Message) (q : Placement) (stable : ℕ) (l : Log) → m.body ≡ body.Order q → is_of_view s m.id.group m.id ≡ true → m.id.count ≤ MAX_NUMBER → stable ≡ settled_of s m.id.group (local s k) → LogFits s m.id.group l → LogFits (noting_act s k (Sent m)) m.id.group (with_hand (local s k) (sent_hand m.id.count stable q) l)
 sent_order s k m q stable l is current most settled f = record {
   tokens = tokens_change s t g l k change keeps
       (sent_first (token_of s g k) m.id.count stable q (hand_here l (local s k)) (f.tokens k) ∙ sym token)

@@ -9,19 +9,19 @@ use Rattle.cast_types.specs.declared.refusal.Refusal.TheVariants.{NotMember, Alr
 use Rattle.cast_clock.specs.Times.{view_of}
 use Rattle.cast_message.specs.declared.client.CastKind.{CastKind}
 use Rattle.cast_message.specs.declared.site.Change.TheVariants as change
-use Rattle.cast_message.specs.Sequence.{Sequence}
+use Rattle.cast_message.specs.Placement.{Placement}
 use Rattle.cast_delay.specs.Ready.{is_member, is_outside}
-use Rattle.cast_delay.specs.declared.row.Fact.TheVariants as fact
-use Rattle.cast_history.specs.Rules.Asking.{request}
-use Rattle.cast_history.specs.Rules.Room.{may_receive}
-use Rattle.cast_history.specs.Rules.Sending.{send_message, may_raise}
-use Rattle.cast_history.specs.Rules.Leaving.{Attempt}
-use Rattle.cast_history.specs.Rules.Commands.{join_at, message_sent, cast_at}
+use Rattle.cast_delay.specs.declared.row.ProcessUpdate.TheVariants as fact
+use Rattle.cast_rules.specs.Rules.Asking.{request}
+use Rattle.cast_rules.specs.Rules.Room.{may_receive}
+use Rattle.cast_rules.specs.Rules.Sending.{send_message, may_raise}
+use Rattle.cast_rules.specs.Rules.Leaving.{Attempt}
+use Rattle.cast_rules.specs.Rules.Commands.{join_at, message_sent, cast_at}
 use Rattle.cast_domain.specs.Records.{Records}
-use Rattle.cast_history.specs.Rules.Commands.{body_of}
-use Rattle.cast_history.specs.Rules.Release as release
+use Rattle.cast_rules.specs.Rules.Commands.{body_of}
+use Rattle.cast_rules.specs.Rules.Release as release
 use Rattle.cast_domain.specs.Calls.{awaits_own_in, records, record_at, standing_of, time_of, local_in, tell_in, count_cast_in, note_sent_in, resting_records}
-use Rattle.cast_history.specs.Rules.Order.{may_list, send_places, list_places, set_order_by}
+use Rattle.cast_rules.specs.Rules.Order.{may_list, send_places, list_places, set_order_by}
 
 -- what a join does that is not refused
 abbrev pub joined : Records → ℕ → GroupNo → ℕ → Records
@@ -101,7 +101,7 @@ cast_unraised r k g cast payload i short member going own room may =
     ∙ ap (λ b. if not b then (r, Some HeldFull) else (count_cast_in (sent r k g cast payload i), None)) may
 
 -- what the holder's set-order message does that is sent
-pub places_made : (r : Records) (i k : ℕ) (q : Sequence) → may_list records resting_records r i k ≡ true → resting_records.next_places r i k ≡ Some q → may_raise (time_of r.delay (local_in r k)) (record_at r.groups i).name (local_in r k) ≡ true → set_order_by records resting_records r i k ≡ release.let_go records resting_records (send_places records resting_records r i k q)
+pub places_made : (r : Records) (i k : ℕ) (q : Placement) → may_list records resting_records r i k ≡ true → resting_records.next_places r i k ≡ Some q → may_raise (time_of r.delay (local_in r k)) (record_at r.groups i).name (local_in r k) ≡ true → set_order_by records resting_records r i k ≡ release.let_go records resting_records (send_places records resting_records r i k q)
 places_made r i k q may next raised =
     ap (λ b. if b then option_map_or (list_places records resting_records r i k) (resting_records.next_places r i k) r else r) may
     ∙ ap (λ o. option_map_or (list_places records resting_records r i k) o r) next
@@ -123,7 +123,7 @@ places_missing r i k next =
     either false = refl
 
 -- nor one whose count cannot be raised
-pub places_unraised : (r : Records) (i k : ℕ) (q : Sequence) → may_list records resting_records r i k ≡ true → resting_records.next_places r i k ≡ Some q → may_raise (time_of r.delay (local_in r k)) (record_at r.groups i).name (local_in r k) ≡ false → set_order_by records resting_records r i k ≡ r
+pub places_unraised : (r : Records) (i k : ℕ) (q : Placement) → may_list records resting_records r i k ≡ true → resting_records.next_places r i k ≡ Some q → may_raise (time_of r.delay (local_in r k)) (record_at r.groups i).name (local_in r k) ≡ false → set_order_by records resting_records r i k ≡ r
 places_unraised r i k q may next raised =
     ap (λ b. if b then option_map_or (list_places records resting_records r i k) (resting_records.next_places r i k) r else r) may
     ∙ ap (λ o. option_map_or (list_places records resting_records r i k) o r) next

@@ -8,24 +8,24 @@ use Rattle.cast_types.specs.declared.names.SiteNo.{SiteNo}
 use Rattle.cast_types.specs.declared.names.GroupNo.{GroupNo}
 use Rattle.cast_types.specs.declared.names.Proc.{Proc}
 use Rattle.cast_message.specs.declared.client.Push.TheVariants as push
-use Rattle.cast_message.specs.Sequence.{Sequence}
+use Rattle.cast_message.specs.Placement.{Placement}
 use Rattle.cast_message.specs.declared.message.Body.TheVariants as body
 use Rattle.cast_message.specs.declared.message.Message.{Message}
 use Rattle.cast_message.specs.declared.message.Received.{Received}
-use Rattle.cast_delay.specs.declared.row.Fact.TheVariants as fact
+use Rattle.cast_delay.specs.declared.row.ProcessUpdate.TheVariants as fact
 use Rattle.cast_delay.specs.Queue.{row_of}
-use Rattle.cast_history.specs.Rules.Commands.{message_sent}
-use Rattle.cast_history.specs.Rules.Sending.{may_raise, send_data}
-use Rattle.cast_history.specs.Rules.Release.{let_go}
-use Rattle.cast_history.specs.Rules.Order.{may_list, send_places, list_places, set_order_by}
-use Rattle.cast_history.specs.Rules.Views.{tell_out, tell_view}
-use Rattle.cast_history.proofs.Rules.Leaving.{told_keeps}
-use Rattle.cast_history.specs.Rules.Flushes.{own_want_key, complete, want_own, complete_or_want, go_on}
-use Rattle.cast_history.specs.Rules.Rest.{deliver_all, pass}
-use Rattle.cast_history.proofs.Rules.Follows.{AlsoHolds, SamePlace, follows_itself_in_all}
-use Rattle.cast_history.proofs.Rules.Sending.{send_data_keeps}
-use Rattle.cast_history.proofs.Rules.Owing.{owe_keeps}
-use Rattle.cast_history.proofs.Rules.Rest.{FollowsToRest, pass_follows}
+use Rattle.cast_rules.specs.Rules.Commands.{message_sent}
+use Rattle.cast_rules.specs.Rules.Sending.{may_raise, send_data}
+use Rattle.cast_rules.specs.Rules.Release.{let_go}
+use Rattle.cast_rules.specs.Rules.Order.{may_list, send_places, list_places, set_order_by}
+use Rattle.cast_rules.specs.Rules.Views.{tell_out, tell_view}
+use Rattle.cast_rules.proofs.Rules.Leaving.{told_keeps}
+use Rattle.cast_rules.specs.Rules.Flushes.{own_want_key, complete, want_own, complete_or_want, go_on}
+use Rattle.cast_rules.specs.Rules.Rest.{deliver_all, pass}
+use Rattle.cast_rules.proofs.Rules.Follows.{AlsoHolds, SamePlace, follows_itself_in_all}
+use Rattle.cast_rules.proofs.Rules.Sending.{send_data_keeps}
+use Rattle.cast_rules.proofs.Rules.Owing.{owe_keeps}
+use Rattle.cast_rules.proofs.Rules.Rest.{FollowsToRest, pass_follows}
 use Rattle.cast_domain.specs.Records.{Records}
 use Rattle.cast_domain.specs.Calls.{local_in, serials_in, record_at, time_of, pass_in, gone_in, members_in, is_ended_in, records, resting_records}
 use Rattle.cast_domain.specs.Trims.{trim_in, trim_all_in}
@@ -39,7 +39,7 @@ module _ (site : SiteNo) (names : List Proc) (gone : ℕ → Bool) where
   Same = Remain site names gone
 
   -- a process lists what it has to list
-  remain_listed : (r : Records) → Same r → (i k : ℕ) (places : Sequence) → Same (list_places records resting_records r i k places)
+  remain_listed : (r : Records) → Same r → (i k : ℕ) (places : Placement) → Same (list_places records resting_records r i k places)
   remain_listed r h i k places = elim (may_raise (time_of r.delay (local_in r k)) (record_at r.groups i).name (local_in r k)) as (λ b. Same (if b then let_go records resting_records (send_places records resting_records r i k places) else r)) [
     | true ↦ remain_let_go site names gone (send_places records resting_records r i k places) sent
     | false ↦ h

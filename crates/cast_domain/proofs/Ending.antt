@@ -20,28 +20,28 @@ use Rattle.cast_delay.specs.Queue.{row_of, but_row, new_row}
 use Rattle.cast_delay.proofs.Finds.{find_dropped, find_kept, find-append_none}
 use Rattle.cast_delay.proofs.Queues.{dismiss_fits}
 use Rattle.cast_quota.specs.Quotas.{is_in_range}
-use Rattle.cast_model.specs.Session.{no_session, is_gone, is_gone_status, first_session}
-use Rattle.cast_model.specs.declared.event.Event.{Event}
-use Rattle.cast_model.specs.declared.event.Event.TheVariants as event
-use Rattle.cast_history.specs.State.{State, local, serials, gate_of, going, outside}
-use Rattle.cast_history.specs.Step.{opening_next}
-use Rattle.cast_history.specs.History.{history}
-use Rattle.cast_history.specs.Lawful.{IsLawful, IsTyped}
-use Rattle.cast_history.specs.Rules.Events.{is_taken, may_open}
-use Rattle.cast_history.specs.Rules.Leaving.{Attempt, leave_group, leave_each, leave_all, end_session}
-use Rattle.cast_history.specs.Rules.Commands.{commanded}
-use Rattle.cast_history.specs.Rules.Home.{suspect}
-use Rattle.cast_history.specs.Rules.Frames.{framed}
-use Rattle.cast_history.specs.Rules.Owing.{tick}
-use Rattle.cast_history.specs.Rules.Asking.{request}
-use Rattle.cast_history.proofs.Lawful.{same_request}
-use Rattle.cast_history.proofs.LawfulSteps.{lawful_going}
-use Rattle.cast_history.proofs.Rules.Follows.{IsInvariantOfAll}
-use Rattle.cast_history.proofs.Rules.Leaving.{left_keeps}
-use Rattle.cast_history.proofs.Rules.Commands.{commanded_keeps}
-use Rattle.cast_history.proofs.Rules.Home.{suspect_keeps}
-use Rattle.cast_history.proofs.Rules.Frames.{framed_keeps}
-use Rattle.cast_history.proofs.Rules.Owing.{tick_keeps}
+use Rattle.cast_events.specs.Session.{no_session, is_gone, is_gone_status, first_session}
+use Rattle.cast_events.specs.declared.event.Event.{Event}
+use Rattle.cast_events.specs.declared.event.Event.TheVariants as event
+use Rattle.cast_rules.specs.State.{State, local, serials, gate_of, going, outside}
+use Rattle.cast_rules.specs.Step.{opening_next}
+use Rattle.cast_rules.specs.History.{history}
+use Rattle.cast_rules.specs.Lawful.{IsLawful, IsTyped}
+use Rattle.cast_rules.specs.Rules.Events.{is_taken, may_open}
+use Rattle.cast_rules.specs.Rules.Leaving.{Attempt, leave_group, leave_each, leave_all, end_session}
+use Rattle.cast_rules.specs.Rules.Commands.{commanded}
+use Rattle.cast_rules.specs.Rules.Home.{suspect}
+use Rattle.cast_rules.specs.Rules.Frames.{framed}
+use Rattle.cast_rules.specs.Rules.Owing.{tick}
+use Rattle.cast_rules.specs.Rules.Asking.{request}
+use Rattle.cast_rules.proofs.Lawful.{same_request}
+use Rattle.cast_rules.proofs.LawfulSteps.{lawful_going}
+use Rattle.cast_rules.proofs.Rules.Follows.{IsInvariantOfAll}
+use Rattle.cast_rules.proofs.Rules.Leaving.{left_keeps}
+use Rattle.cast_rules.proofs.Rules.Commands.{commanded_keeps}
+use Rattle.cast_rules.proofs.Rules.Home.{suspect_keeps}
+use Rattle.cast_rules.proofs.Rules.Frames.{framed_keeps}
+use Rattle.cast_rules.proofs.Rules.Owing.{tick_keeps}
 use Rattle.cast_domain.specs.Records.{Records}
 use Rattle.cast_domain.specs.Calls.{local_in, go_in, open_in, dismiss_in, end_in, acted_in, take_entries_in, set_quota_in, records, records_sessions}
 use Rattle.cast_domain.specs.Fits.{process_named, ProcessesFit, Fits, AreDismissed}

@@ -21,20 +21,20 @@ use Rattle.cast_types.specs.Counts.{CountList, count_of}
 use Rattle.cast_message.specs.Membership.{Membership, is_members}
 use Rattle.cast_types.specs.Rising.{is_rising}
 use Rattle.cast_delay.specs.declared.row.Row.{Row}
-use Rattle.cast_delay.specs.declared.row.Fact.TheVariants as fact
+use Rattle.cast_delay.specs.declared.row.ProcessUpdate.TheVariants as fact
 use Rattle.cast_delay.specs.Ready.{Process, is_outside}
 use Rattle.cast_delay.specs.Rows.{standing_in, told_row}
 use Rattle.cast_delay.specs.Queue.{row_of}
 use Rattle.cast_domain.specs.declared.record.GroupRecord.{GroupRecord}
 use Rattle.cast_order.specs.Log.{Log, log_of, but_log}
 use Rattle.cast_view.specs.MemberSide.{is_pending, with_view, is_taken_in, holder_at}
-use Rattle.cast_history.specs.Acts.{Act}
-use Rattle.cast_history.specs.State.{State, local, is_group, set_process, set_group, set_standing}
-use Rattle.cast_history.specs.Acts.Act.{Entered}
-use Rattle.cast_history.specs.Entering.{enters, in_view, completing, all_in_view}
+use Rattle.cast_rules.specs.Acts.{Act}
+use Rattle.cast_rules.specs.State.{State, local, is_group, set_process, set_group, set_standing}
+use Rattle.cast_rules.specs.Acts.Act.{Entered}
+use Rattle.cast_rules.specs.Entering.{enters, in_view, completing, all_in_view}
 use Rattle.cast_domain.specs.Records.{Records}
-use Rattle.cast_domain.specs.Calls.{holding_from, record_at, standing_of, tell_in, enter_in, take_in, view_in, complete_in}
-use Rattle.cast_history.specs.Lawful.{IsLawful}
+use Rattle.cast_domain.specs.Calls.{holding_from, record_at, standing_of, tell_in, enter_in, take_in, view_in, begin_view_in}
+use Rattle.cast_rules.specs.Lawful.{IsLawful}
 use Rattle.cast_domain.specs.Fits.{Fits}
 use Rattle.cast_domain.proofs.Logs.{IsFresh, held_log, held_fresh, log_of_held}
 use Rattle.cast_domain.proofs.Acting.{quiet_if, quiet_entered, logs_quiet}
@@ -226,7 +226,7 @@ module _ (g : GroupNo) (n : ℕ) (members : Membership) (request : ℕ) (t : Sta
       (λ k later. or_from (e k) (taken k && proc_eq (local t k) p) (fresh k (or_right (proc_eq (local t k) p) (is_among proc_eq (local t k) ps) later)) (ap (λ b. taken k && b) (apart k later) ∙ and_none (taken k))))
 
 -- a view is complete
-pub fits_complete : (r : Records) (s : State) → Fits r s → IsLawful s → (i : ℕ) (g : GroupNo) → slice_get s.config.groups i ≡ Some g → is_group s g ≡ true → (n : ℕ) (members : Membership) (request : ℕ) (cut : CountList) → is_members members ≡ true → (s.group g).number < n → Fits (complete_in r i n members request) (completing s g n members request cut)
+pub fits_complete : (r : Records) (s : State) → Fits r s → IsLawful s → (i : ℕ) (g : GroupNo) → slice_get s.config.groups i ≡ Some g → is_group s g ≡ true → (n : ℕ) (members : Membership) (request : ℕ) (cut : CountList) → is_members members ≡ true → (s.group g).number < n → Fits (begin_view_in r i n members request) (completing s g n members request cut)
 fits_complete r s f l i g at listed n members request cut typed newer =
     let viewed : State = set_group s g (with_view s.here n members (s.group g)) in
     let acts : ℕ → List Act = (all_in_view viewed g n members request cut).acts in

@@ -9,17 +9,17 @@ use Rattle.cast_types.specs.declared.names.Uid.{Uid}
 use Rattle.cast_types.specs.Sources.{source_of}
 use Rattle.cast_timer.specs.Owed.{is_owed, due_at}
 use Rattle.cast_stable.specs.Stable.{Acked}
-use Rattle.cast_stable.specs.Ledger.{Ledger, acked_ledger, learnt_ledger}
+use Rattle.cast_stable.specs.Acks.{Acks, acked_ledger, learnt_ledger}
 use Rattle.cast_stable.specs.Fits.{Fits as AcksFits}
 use Rattle.cast_stable.proofs.Meanings.{upto_meant, ack_fits, learn_fits}
 use Rattle.cast_order.specs.Log.{log_of}
-use Rattle.cast_history.specs.State.{State, is_group, noting_ack, noting_stable}
-use Rattle.cast_history.specs.History.{history}
-use Rattle.cast_history.specs.Rules.Owing.{tick}
-use Rattle.cast_history.specs.Rules.Sending.{send_data}
-use Rattle.cast_history.proofs.Rules.Follows.{AtBoth, IsInvariant, Follows}
-use Rattle.cast_history.proofs.Rules.Owing.{tick_follows}
-use Rattle.cast_history.proofs.Rules.Sending.{sends_follow}
+use Rattle.cast_rules.specs.State.{State, is_group, noting_ack, noting_stable}
+use Rattle.cast_rules.specs.History.{history}
+use Rattle.cast_rules.specs.Rules.Owing.{tick}
+use Rattle.cast_rules.specs.Rules.Sending.{send_data}
+use Rattle.cast_rules.proofs.Rules.Follows.{AtBoth, IsInvariant, Follows}
+use Rattle.cast_rules.proofs.Rules.Owing.{tick_follows}
+use Rattle.cast_rules.proofs.Rules.Sending.{sends_follow}
 use Rattle.cast_domain.specs.declared.record.GroupRecord.{GroupRecord}
 use Rattle.cast_domain.specs.Records.{Records}
 use Rattle.cast_domain.specs.Calls.{place_in, note_ack_in, note_stable_in, records}
@@ -47,7 +47,7 @@ place_both groups r s f g =
     ] refl
 
 -- what was acknowledged and told is noted on both sides
-fits_noted : (r : Records) (s : State) → Fits r s → (acks : List Acked) (told : List Uid) (ledger : Ledger) → AcksFits (record (past_of s) { acks = acks; told = told }) ledger → ((g : GroupNo) → LogFits (record s { acks = acks; told = told }) g (log_of r.orders g)) → Fits (record r { acks = ledger }) (record s { acks = acks; told = told })
+fits_noted : (r : Records) (s : State) → Fits r s → (acks : List Acked) (told : List Uid) (ledger : Acks) → AcksFits (record (past_of s) { acks = acks; told = told }) ledger → ((g : GroupNo) → LogFits (record s { acks = acks; told = told }) g (log_of r.orders g)) → Fits (record r { acks = ledger }) (record s { acks = acks; told = told })
 fits_noted r s f acks told ledger known orders = record {
   core = f.core;
   opened = f.opened;

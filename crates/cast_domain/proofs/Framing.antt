@@ -1,7 +1,7 @@
 -- What a rule changes of a domain's records it changes of their history.
 use Rattle.std.proofs.Common.{◌≡◌, ◌<◌, true, false, ◌&&◌, ◌||◌, List, [], ◌∷◌, length, map, ℕ, zero, suc, ◌+◌, Some, refl, sym, ap, subst, ◌∙◌, Option, None, arith}
 use Rattle.std.specs.Prelude.{◌==◌, ◌+◌, not, nat_lt, nat_le, min, slice_get, is_some}
-use Rattle.cast_model.specs.declared.limits.TheConstants.{MAX_CASTS}
+use Rattle.cast_events.specs.declared.limits.TheConstants.{MAX_CASTS}
 use Rattle.std.specs.List.{list_all, list_any, range_with_len}
 use Rattle.std.proofs.lemmas.Bool.{and_parts, eqb-true, eq-eqb, ltb-true, or_right}
 use Rattle.std.proofs.lemmas.List.{length-map}
@@ -17,13 +17,13 @@ use Rattle.cast_clock.specs.Times.{clock_of, count_in}
 use Rattle.cast_types.specs.Counts.{is_within}
 use Rattle.cast_types.specs.Names.{group_eq}
 use Rattle.cast_types.specs.Sources.{source_of}
-use Rattle.cast_message.specs.Stretch.{Stretch}
+use Rattle.cast_message.specs.Tail.{Tail}
 use Rattle.cast_order.specs.Log.{log_of, change_log, closed_by, hand_here}
 use Rattle.cast_message.specs.declared.message.Message.{Message}
 use Rattle.cast_message.specs.declared.message.Received.{Received}
 use Rattle.cast_message.specs.declared.site.SiteFrame.{SiteFrame}
 use Rattle.cast_message.specs.declared.client.Command.{Command}
-use Rattle.cast_stable.specs.Ledger.{is_received_in}
+use Rattle.cast_stable.specs.Acks.{is_received_in}
 use Rattle.cast_stable.proofs.Meanings.{stable_meant}
 use Rattle.std.specs.Prelude.{IsSome}
 use Rattle.std.proofs.lemmas.Bool.{false≢true}
@@ -32,32 +32,32 @@ use Rattle.cast_delay.proofs.Queues.{freeze_fits, pend_fits}
 use Rattle.cast_delay.specs.declared.row.Row.{Row}
 use Rattle.cast_delay.specs.Queue.{row_of}
 use Rattle.cast_delay.specs.Fits.{IsSound, StandsFor}
-use Rattle.cast_delay.specs.declared.row.Fact.TheVariants as fact
+use Rattle.cast_delay.specs.declared.row.ProcessUpdate.TheVariants as fact
 use Rattle.cast_timer.specs.declared.key.OwedKind.TheVariants.{Want}
 use Rattle.cast_timer.specs.Owed.{is_owed}
 use Rattle.cast_view.specs.declared.member.Pending.{Pending}
 use Rattle.cast_view.specs.MemberSide.{is_pending, with_request, with_answer, frozen_side, with_pending, has_view, is_current, members_of}
-use Rattle.cast_model.specs.Session.{is_open_status, is_gone_status}
+use Rattle.cast_events.specs.Session.{is_open_status, is_gone_status}
 use Rattle.cast_view.specs.Home.{moved}
-use Rattle.cast_history.specs.State.{State, gate_of, local, set_standing, going, outside, acts_outside, is_received, receiving, others_of, noting_sent}
-use Rattle.cast_history.specs.Effects.{next_message}
-use Rattle.cast_history.specs.Entering.{freezing, pending_install}
-use Rattle.cast_history.specs.History.{history}
-use Rattle.cast_history.specs.Lawful.{IsLawful, IsTypedFrame}
-use Rattle.cast_history.specs.Rules.Keys.{message_key}
-use Rattle.cast_history.specs.Rules.Data.{counts_itself, names_member, is_well_formed}
-use Rattle.cast_history.specs.Rules.Leaving.{leave_all}
-use Rattle.cast_history.specs.Rules.Commands.{message_sent, commanded}
-use Rattle.cast_history.specs.Rules.Home.{suspect}
-use Rattle.cast_history.specs.Rules.Frames.{framed}
-use Rattle.cast_history.proofs.Rules.Follows.{FollowsAll, AllAt, IsTaken, IsBrought, sent_here, with_invariant, invariant_asks}
-use Rattle.cast_history.proofs.Rules.Data.{used_counts}
-use Rattle.cast_history.proofs.Rules.Leaving.{leave_all_follows}
-use Rattle.cast_history.proofs.Rules.Commands.{commanded_follows}
-use Rattle.cast_history.proofs.Rules.Home.{suspect_follows}
-use Rattle.cast_history.proofs.Rules.Frames.{framed_follows}
-use Rattle.cast_history.proofs.Lawful.{same_pushing, same_closing, local_speaks}
-use Rattle.cast_history.proofs.LawfulSteps.{placed_at, taken_current, entered, all_lawful, lawful_going, taken_speaks}
+use Rattle.cast_rules.specs.State.{State, gate_of, local, set_standing, going, outside, acts_outside, is_received, receiving, others_of, noting_sent}
+use Rattle.cast_rules.specs.Effects.{next_message}
+use Rattle.cast_rules.specs.Entering.{freezing, pending_install}
+use Rattle.cast_rules.specs.History.{history}
+use Rattle.cast_rules.specs.Lawful.{IsLawful, IsTypedFrame}
+use Rattle.cast_rules.specs.Rules.Keys.{message_key}
+use Rattle.cast_rules.specs.Rules.Data.{counts_itself, names_member, is_well_formed}
+use Rattle.cast_rules.specs.Rules.Leaving.{leave_all}
+use Rattle.cast_rules.specs.Rules.Commands.{message_sent, commanded}
+use Rattle.cast_rules.specs.Rules.Home.{suspect}
+use Rattle.cast_rules.specs.Rules.Frames.{framed}
+use Rattle.cast_rules.proofs.Rules.Follows.{FollowsAll, AllAt, IsTaken, IsBrought, sent_here, with_invariant, invariant_asks}
+use Rattle.cast_rules.proofs.Rules.Data.{used_counts}
+use Rattle.cast_rules.proofs.Rules.Leaving.{leave_all_follows}
+use Rattle.cast_rules.proofs.Rules.Commands.{commanded_follows}
+use Rattle.cast_rules.proofs.Rules.Home.{suspect_follows}
+use Rattle.cast_rules.proofs.Rules.Frames.{framed_follows}
+use Rattle.cast_rules.proofs.Lawful.{same_pushing, same_closing, local_speaks}
+use Rattle.cast_rules.proofs.LawfulSteps.{placed_at, taken_current, entered, all_lawful, lawful_going, taken_speaks}
 use Rattle.cast_domain.specs.declared.record.GroupRecord.{GroupRecord}
 use Rattle.cast_domain.specs.Records.{Records}
 use Rattle.cast_domain.specs.Calls.{record_at, standing_of, time_of, tell_in, go_in, receive_in, freeze_in, pend_in, awaits_own_in, place_to_pass_of, records}
@@ -70,9 +70,9 @@ use Rattle.cast_domain.proofs.Reports.{report_there}
 use Rattle.cast_domain.proofs.Following.{records_ask, FitsIn, IsAt, records_follow, asked_of}
 use Rattle.cast_domain.proofs.Passing.{fits_pass, members_there, gone_there}
 use Rattle.cast_domain.proofs.Releases.{fits_release_ended}
-use Rattle.cast_domain.proofs.Commands.{awaits_own_there, fits_sent_here}
+use Rattle.cast_domain.proofs.CommandSteps.{awaits_own_there, fits_sent_here}
 use Rattle.cast_domain.proofs.Receipts.{live_now}
-use Rattle.cast_history.specs.Rules.Stability.{is_used_ack}
+use Rattle.cast_rules.specs.Rules.Stability.{is_used_ack}
 
 -- Messages of other sites
 
@@ -149,7 +149,7 @@ fits_freeze r s f l i g at =
     (orders_group s g (frozen_side (s.group g)) r.orders refl refl refl f.orders)
 
 -- an Install waits, and the order is closed
-fits_pend : (r : Records) (s : State) → Fits r s → IsLawful s → (i : ℕ) (g : GroupNo) → slice_get s.config.groups i ≡ Some g → (p : Pending) (tail : Stretch) → is_pending (s.group g) ≡ false → Fits (pend_in r i p tail) (pending_install s g p tail)
+fits_pend : (r : Records) (s : State) → Fits r s → IsLawful s → (i : ℕ) (g : GroupNo) → slice_get s.config.groups i ≡ Some g → (p : Pending) (tail : Tail) → is_pending (s.group g) ≡ false → Fits (pend_in r i p tail) (pending_install s g p tail)
 fits_pend r s f l i g at p tail first =
     let name : (record_at r.groups i).name ≡ g = ap (λ (x : GroupRecord). x.name) (record_there r s f i g at) in
     fits_gated r s f l i g at (λ x. with_pending x p) refl refl (pending_gate p.cut) refl (pend_fits s.config.groups (gate_of s) (process_named s) r.part.kept r.delay f.processes.delay g p.cut)

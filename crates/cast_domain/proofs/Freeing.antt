@@ -18,8 +18,8 @@ use Rattle.cast_delay.specs.declared.offered.Offered.{Offered}
 use Rattle.cast_delay.specs.Ready.{is_member}
 use Rattle.cast_delay.specs.Rows.{standing_in, done_in, awaits_row}
 use Rattle.cast_delay.specs.Queue.{is_awaited}
-use Rattle.cast_stable.specs.Ledger.{Ledger, is_stable_among, is_stable_in, others_in, told_count, least_acked}
-use Rattle.cast_history.specs.Rules.Release as release
+use Rattle.cast_stable.specs.Acks.{Acks, is_stable_among, is_stable_in, others_in, told_count, least_acked}
+use Rattle.cast_rules.specs.Rules.Release as release
 use Rattle.cast_domain.specs.Records.{Records}
 use Rattle.cast_domain.specs.Calls.{is_open_in, release_in, records, resting_records}
 use Rattle.cast_domain.specs.Freed.{AreNotFree}
@@ -168,7 +168,7 @@ earlier_le : (a b n : ℕ) → a ≤ b → nat_le b n ≡ true → nat_le a n �
 earlier_le a b n le h = let most = leb-true b n h in le-leb a n (omega (arith, le, most))
 
 -- a count below one that is stable is stable
-stable_before : (l : Ledger) (sites : List SiteNo) (v u : Uid) → source_of v ≡ source_of u → v.count ≤ u.count → is_stable_among l sites u ≡ true → is_stable_among l sites v ≡ true
+stable_before : (l : Acks) (sites : List SiteNo) (v u : Uid) → source_of v ≡ source_of u → v.count ≤ u.count → is_stable_among l sites u ≡ true → is_stable_among l sites v ≡ true
 stable_before l [] v u same le stable = refl
 stable_before l (site ∷ sites) v u same le stable =
     let here : site_eq v.proc.site l.here ≡ site_eq u.proc.site l.here = ap (λ (s : Source). site_eq s.process.site l.here) same in

@@ -10,10 +10,10 @@ use Rattle.cast_types.specs.declared.refusal.Refusal.TheVariants.{NotMember, Flu
 use Rattle.cast_delay.specs.Ready.{is_member}
 use Rattle.cast_order.specs.Log.{hand_here, log_of}
 use Rattle.cast_view.specs.MemberSide.{members_of}
-use Rattle.cast_history.specs.Rules.Room.{may_order}
-use Rattle.cast_history.specs.Rules.Sending.{may_raise}
-use Rattle.cast_history.specs.Rules.Leaving.{Attempt}
-use Rattle.cast_history.specs.Rules.Commands.{pass_at, hand_over}
+use Rattle.cast_rules.specs.Rules.Room.{may_order}
+use Rattle.cast_rules.specs.Rules.Sending.{may_raise}
+use Rattle.cast_rules.specs.Rules.Leaving.{Attempt}
+use Rattle.cast_rules.specs.Rules.Commands.{pass_at, hand_over}
 use Rattle.cast_domain.specs.Records.{Records}
 use Rattle.cast_domain.specs.Calls.{awaits_own_in, local_in, place_to_pass_of, record_at, records, standing_of, time_of}
 

@@ -10,7 +10,7 @@ use Rattle.cast_types.specs.declared.names.SiteNo.{SiteNo}
 use Rattle.cast_types.specs.declared.names.Proc.{Proc}
 use Rattle.cast_types.specs.Names.{Entry, group_eq, proc_eq, site_eq}
 use Rattle.cast_types.proofs.Orders.{group_itself, proc_itself}
-use Rattle.cast_message.specs.Sequence.{Sequence}
+use Rattle.cast_message.specs.Placement.{Placement}
 use Rattle.cast_order.specs.Order.{facts_of}
 use Rattle.cast_order.specs.Hand.{Hand, new_hand, placed, hand_in, hand_opened, hand_place, change_hand}
 use Rattle.cast_order.specs.Log.{Log, change_in, change_log, new_log, opened, length_of, learnt, longer, settled, with_facts, with_hand}
@@ -62,7 +62,7 @@ placed_own here ids (h ∷ hands) own =
     let parts = and_parts (of_site here h) (list_all (of_site here) hands) own in
     and_from (of_site here h) (list_all (of_site here) (map (placed ids) hands)) parts.0 (placed_own here ids hands parts.1)
 
-pub own_learnt : (here : SiteNo) (q : Sequence) (l : Log) → AreOwn here l.hands → AreOwn here (learnt q l).hands
+pub own_learnt : (here : SiteNo) (q : Placement) (l : Log) → AreOwn here l.hands → AreOwn here (learnt q l).hands
 own_learnt here q l own =
     let known : Log = record l { later = with_facts (length_of l) l.later (facts_of q) } in
     let ids : List Entry = drop (length l.window) (longer known) in

@@ -16,10 +16,10 @@ use Rattle.cast_types.proofs.Orders.{same_proc, same_site, proc_itself, proc_tot
 use Rattle.cast_types.proofs.Rising.{all_kept, less_is, rising_kept}
 use Rattle.cast_order.specs.Hand.{Hand, hand_of, new_hand, hands_rise}
 use Rattle.cast_order.specs.Log.{log_of, hand_here}
-use Rattle.cast_history.specs.State.{State, local, serials}
-use Rattle.cast_history.specs.Order.{holds, holders, holder_here}
-use Rattle.cast_history.proofs.Totals.{In}
-use Rattle.cast_history.proofs.Listings.{in_kept}
+use Rattle.cast_rules.specs.State.{State, local, serials}
+use Rattle.cast_rules.specs.Order.{holds, holders, holder_here}
+use Rattle.cast_rules.proofs.Totals.{In}
+use Rattle.cast_rules.proofs.Listings.{in_kept}
 use Rattle.cast_domain.specs.Records.{Records}
 use Rattle.cast_domain.specs.Calls.{holds_here, holders_in, holder_in}
 use Rattle.cast_domain.specs.Fits.{Fits, LogFits}

@@ -11,8 +11,8 @@ use Rattle.cast_types.proofs.Bools.{and_none}
 use Rattle.cast_order.specs.Hand.{Hand, hand_of, new_hand}
 use Rattle.cast_order.specs.Order.{ids_to_list}
 use Rattle.cast_order.specs.Log.{Log, log_of, hand_here, length_of, next_places, waits_in}
-use Rattle.cast_history.specs.Rules.Order.{list_places, may_list, set_order_by}
-use Rattle.cast_history.specs.Rules.Sending.{may_raise}
+use Rattle.cast_rules.specs.Rules.Order.{list_places, may_list, set_order_by}
+use Rattle.cast_rules.specs.Rules.Sending.{may_raise}
 use Rattle.cast_domain.specs.Records.{Records}
 use Rattle.cast_domain.specs.Calls.{local_in, record_at, records, resting_records, time_of}
 use Rattle.cast_domain.specs.Flags.{lists_some, orders_each}

@@ -18,7 +18,7 @@ use Rattle.cast_message.specs.declared.message.Body.{Body}
 use Rattle.cast_message.specs.declared.message.Body.TheVariants as body
 use Rattle.cast_message.specs.declared.message.Message.{Message}
 use Rattle.cast_message.specs.Bodies.{kind_of}
-use Rattle.cast_message.specs.Sequence.{Sequence}
+use Rattle.cast_message.specs.Placement.{Placement}
 use Rattle.cast_delay.specs.Ready.{Process, is_member, has_delivered}
 use Rattle.cast_order.specs.Hand.{Hand, held, told, FitsHand}
 use Rattle.cast_order.specs.Log.{Log, log_of, change_log, next_in, passed, hand_here, with_hand}
@@ -29,9 +29,9 @@ use Rattle.cast_order.proofs.Logs.{log_of_change}
 use Rattle.cast_delay.specs.Ready.{is_cut_by, is_open_to}
 use Rattle.cast_view.specs.declared.member.Pending.{Pending}
 use Rattle.cast_view.specs.MemberSide.{is_pending, is_process}
-use Rattle.cast_history.specs.Acts.Act.{Delivered}
-use Rattle.cast_history.specs.State.{State, no_process, local, cut_of, gate_of, with_delivery}
-use Rattle.cast_history.specs.Order.{is_of_view, facts_in, order_told, token_told, token_of, lists_of, holds, sets_order, abcasts_delivered}
+use Rattle.cast_rules.specs.Acts.Act.{Delivered}
+use Rattle.cast_rules.specs.State.{State, no_process, local, cut_of, gate_of, with_delivery}
+use Rattle.cast_rules.specs.Order.{is_of_view, facts_in, order_told, token_told, token_of, lists_of, holds, sets_order, abcasts_delivered}
 use Rattle.cast_domain.specs.declared.rest.Weight.{Weight}
 use Rattle.cast_domain.specs.declared.rest.Weight.TheVariants.{Nothing, Placed, Hands}
 use Rattle.cast_domain.specs.Calls.{told_in, weight_of}
@@ -316,7 +316,7 @@ logs_deliver s k m n orders fits kept current opens placed passes counts h = at 
     ] refl
 
     -- a hand-over
-    handed_at : (q : Sequence) (r : Proc) → m.body ≡ body.Order q → q.holder ≡ Some r → (b : Bool) → proc_eq r p ≡ b → LogFits t h (log_of (if b then change_log g (with_hand p (held q.first)) orders else orders) h)
+    handed_at : (q : Placement) (r : Proc) → m.body ≡ body.Order q → q.holder ≡ Some r → (b : Bool) → proc_eq r p ≡ b → LogFits t h (log_of (if b then change_log g (with_hand p (held q.first)) orders else orders) h)
     handed_at q r is names false other =
         stays_plain (ap (λ b. is_atomic (kind_of b)) is)
         (ap (token_told p (token_of s g k)) is ∙ ap (λ o. if is_process p o then Some q.first else token_of s g k) names ∙ ap (λ b. if b then Some q.first else token_of s g k) other)
@@ -329,7 +329,7 @@ logs_deliver s k m n orders fits kept current opens placed passes counts h = at 
         (x.hands k).stable (x.hands k).reached
         (hold_fits (order_told s g) (token_of s g k) (abcasts_delivered s g k) (lists_of s g k) (x.hands k).stable (hand_here l p) (x.hands k).fits q.first) (x.hands k).counted))
 
-    order_at : (q : Sequence) → m.body ≡ body.Order q → (o : Option Proc) → q.holder ≡ o → LogFits t h (log_of (noting (elim o [ Some r ↦ Hands r q.first | None ↦ Nothing ]) s k m n orders) h)
+    order_at : (q : Placement) → m.body ≡ body.Order q → (o : Option Proc) → q.holder ≡ o → LogFits t h (log_of (noting (elim o [ Some r ↦ Hands r q.first | None ↦ Nothing ]) s k m n orders) h)
     order_at q is None none =
         stays_plain (ap (λ b. is_atomic (kind_of b)) is)
         (ap (token_told p (token_of s g k)) is ∙ ap (λ o. if is_process p o then Some q.first else token_of s g k) none)

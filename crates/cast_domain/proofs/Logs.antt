@@ -20,8 +20,8 @@ use Rattle.cast_message.specs.declared.message.Body.TheVariants as body
 use Rattle.cast_message.specs.declared.message.Message.{Message}
 use Rattle.cast_message.specs.Bodies.{kind_of}
 use Rattle.cast_message.specs.Membership.{Membership}
-use Rattle.cast_message.specs.Sequence.{Sequence}
-use Rattle.cast_message.specs.Stretch.{Stretch}
+use Rattle.cast_message.specs.Placement.{Placement}
+use Rattle.cast_message.specs.Tail.{Tail}
 use Rattle.cast_types.specs.Counts.{is_within}
 use Rattle.cast_stable.specs.Stable.{Acked, has_acked, stable_upto}
 use Rattle.cast_stable.proofs.Greatest.{stable_greatest}
@@ -40,13 +40,13 @@ use Rattle.cast_view.specs.declared.member.Pending.{Pending}
 use Rattle.cast_view.specs.MemberSide.{MemberSide, no_group, is_pending, is_process, holder_of, holder_at, members_of, with_pending, with_view}
 use Rattle.cast_view.specs.Sites.{other_sites}
 use Rattle.cast_view.specs.Home.{is_empty}
-use Rattle.cast_history.specs.Acts.{Act}
-use Rattle.cast_history.specs.Acts.Act.{Sent, Delivered, Entered, Left}
-use Rattle.cast_history.specs.State.{State, local, is_received, others_of, noting_ack, set_group, receiving}
-use Rattle.cast_history.specs.Order.{told_by, is_of_view, facts_in, order_told, last_place, token_sent, token_told, token_after, token_of, listed_by, lists_of, abcasts_delivered}
-use Rattle.cast_history.specs.Entering.{pending_install}
+use Rattle.cast_rules.specs.Acts.{Act}
+use Rattle.cast_rules.specs.Acts.Act.{Sent, Delivered, Entered, Left}
+use Rattle.cast_rules.specs.State.{State, local, is_received, others_of, noting_ack, set_group, receiving}
+use Rattle.cast_rules.specs.Order.{told_by, is_of_view, facts_in, order_told, last_place, token_sent, token_told, token_after, token_of, listed_by, lists_of, abcasts_delivered}
+use Rattle.cast_rules.specs.Entering.{pending_install}
 use Rattle.cast_domain.specs.Calls.{learn_in, holding_from}
-use Rattle.cast_history.specs.Lawful.{IsOfReached, IsTraced}
+use Rattle.cast_rules.specs.Lawful.{IsOfReached, IsTraced}
 use Rattle.cast_domain.specs.Fits.{process_named, settled_of, goes_on, has_passed, IsOver, TellsHand, TellsOrder, AreOwn, LogFits}
 use Rattle.cast_domain.proofs.Hands.{own_changed, own_learnt}
 use Rattle.cast_domain.proofs.Over.{StaysOver, all_stay, over_alike, none_over, over_received, some_forgotten}
@@ -253,18 +253,18 @@ log_silent : (s : State) (g : GroupNo) (m : Message) (l : Log) → told_by m.bod
 log_silent s g m l silent new f = record { tokens = f.tokens; own = f.own; tells = λ none. tells_silent s g m l silent (λ current. new current none) (f.tells none); closed = f.closed }
 
 -- nothing of an order is forgotten as one is learnt
-pub learnt_base : (q : Sequence) (l : Log) → (learnt q l).base ≡ l.base
+pub learnt_base : (q : Placement) (l : Log) → (learnt q l).base ≡ l.base
 learnt_base q l = elim l.closed as (λ b. (if b then l else settled (record l { later = with_facts (length_of l) l.later (facts_of q) })).base ≡ l.base) [ true ↦ refl | false ↦ refl ]
 
 -- so what is forgotten is what was
-pub gone_learnt : (s : State) (m : Message) (q : Sequence) (l : Log) → OrderFits (facts_in s m.id.group) (goes_on s m.id.group) (has_passed s m.id.group) l → ((e : Entry) → is_among entry_eq e (take l.base (order_told s m.id.group)) ≡ true → IsOver (receiving s m) m.id.group e) → (e : Entry) → is_among entry_eq e (take (learnt q l).base (known_order (facts_in s m.id.group ++ facts_of q))) ≡ true → IsOver (receiving s m) m.id.group e
+pub gone_learnt : (s : State) (m : Message) (q : Placement) (l : Log) → OrderFits (facts_in s m.id.group) (goes_on s m.id.group) (has_passed s m.id.group) l → ((e : Entry) → is_among entry_eq e (take l.base (order_told s m.id.group)) ≡ true → IsOver (receiving s m) m.id.group e) → (e : Entry) → is_among entry_eq e (take (learnt q l).base (known_order (facts_in s m.id.group ++ facts_of q))) ≡ true → IsOver (receiving s m) m.id.group e
 gone_learnt s m q l fits gone e among =
     let g : GroupNo = m.id.group in
     let begins = learn_begins (facts_in s g) (goes_on s g) (has_passed s g) l fits q in
     gone e (sym (ap (λ n. is_among entry_eq e (take n (known_order (facts_in s g ++ facts_of q)))) (learnt_base q l) ∙ ap (is_among entry_eq e) begins) ∙ among)
 
 -- a set-order message
-tells_learns : (s : State) (m : Message) (q : Sequence) (l : Log) → m.body ≡ body.Order q → is_of_view s m.id.group m.id ≡ true → IsNew s m.id.group l m → TellsOrder s m.id.group l → TellsOrder (receiving s m) m.id.group (learnt q l)
+tells_learns : (s : State) (m : Message) (q : Placement) (l : Log) → m.body ≡ body.Order q → is_of_view s m.id.group m.id ≡ true → IsNew s m.id.group l m → TellsOrder s m.id.group l → TellsOrder (receiving s m) m.id.group (learnt q l)
 tells_learns s m q l is current new f =
     let g : GroupNo = m.id.group in
     let at : facts_in (receiving s m) g ≡ facts_in s g ++ facts_of q = facts_push s g m current ∙ ap (λ b. facts_in s g ++ told_by b) is in
@@ -281,7 +281,7 @@ tells_learns s m q l is current new f =
     (gone_learnt s m q l f.fits (gone_received s g m l new f))
 
 -- which processes hold the token is the same
-tokens_learn : (s : State) (m : Message) (q : Sequence) (l : Log) → LogFits s m.id.group l → (k : ℕ) → (hand_here (learnt q l) (local s k)).first ≡ token_of s m.id.group k
+tokens_learn : (s : State) (m : Message) (q : Placement) (l : Log) → LogFits s m.id.group l → (k : ℕ) → (hand_here (learnt q l) (local s k)).first ≡ token_of s m.id.group k
 tokens_learn s m q l f k = elim (cases_Bool (is_pending (s.group g))) [
   | inl waits ↦ ap (λ x. (hand_here x (local s k)).first) (closed_learns (s.closed g) (goes_on s g) (has_passed s g) l (f.closed waits) q) ∙ f.tokens k
   | inr none ↦
@@ -293,12 +293,12 @@ tokens_learn s m q l f k = elim (cases_Bool (is_pending (s.group g))) [
     g = m.id.group
 
 -- one that is closed stays
-closed_stays : (s : State) (m : Message) (q : Sequence) (l : Log) → FitsClosed (s.closed m.id.group) (goes_on s m.id.group) (has_passed s m.id.group) l → FitsClosed ((receiving s m).closed m.id.group) (goes_on (receiving s m) m.id.group) (has_passed (receiving s m) m.id.group) (learnt q l)
+closed_stays : (s : State) (m : Message) (q : Placement) (l : Log) → FitsClosed (s.closed m.id.group) (goes_on s m.id.group) (has_passed s m.id.group) l → FitsClosed ((receiving s m).closed m.id.group) (goes_on (receiving s m) m.id.group) (has_passed (receiving s m) m.id.group) (learnt q l)
 closed_stays s m q l f =
     let g : GroupNo = m.id.group in
     subst (λ x. FitsClosed (s.closed g) (goes_on s g) (has_passed s g) x) (sym (closed_learns (s.closed g) (goes_on s g) (has_passed s g) l f q)) f
 
-log_learns : (s : State) (m : Message) (q : Sequence) (l : Log) → m.body ≡ body.Order q → is_of_view s m.id.group m.id ≡ true → (is_pending (s.group m.id.group) ≡ false → IsNew s m.id.group l m) → LogFits s m.id.group l → LogFits (receiving s m) m.id.group (learnt q l)
+log_learns : (s : State) (m : Message) (q : Placement) (l : Log) → m.body ≡ body.Order q → is_of_view s m.id.group m.id ≡ true → (is_pending (s.group m.id.group) ≡ false → IsNew s m.id.group l m) → LogFits s m.id.group l → LogFits (receiving s m) m.id.group (learnt q l)
 log_learns s m q l is current new f = record {
   tokens = tokens_learn s m q l f;
   own = own_learnt s.here q l f.own;
@@ -537,7 +537,7 @@ logs_view s g n members orders traced later fits h =
 -- An order that is closed
 
 -- with an Install that waits a group's log has the order that the view ends with, and the others' stay
-pub logs_close : (s : State) (g : GroupNo) (p : Pending) (tail : Stretch) (orders : List Log) → is_pending (s.group g) ≡ false → ((h : GroupNo) → LogFits s h (log_of orders h)) → (h : GroupNo) → LogFits (pending_install s g p tail) h (log_of (change_log g (closed_by (is_within p.cut) tail.start tail.ids) orders) h)
+pub logs_close : (s : State) (g : GroupNo) (p : Pending) (tail : Tail) (orders : List Log) → is_pending (s.group g) ≡ false → ((h : GroupNo) → LogFits s h (log_of orders h)) → (h : GroupNo) → LogFits (pending_install s g p tail) h (log_of (change_log g (closed_by (is_within p.cut) tail.start tail.ids) orders) h)
 logs_close s g p tail orders first fits h =
     let close : Log → Log = closed_by (is_within p.cut) tail.start tail.ids in
     let t : State = pending_install s g p tail in

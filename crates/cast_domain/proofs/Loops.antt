@@ -7,14 +7,14 @@ use Rattle.cast_types.specs.Repeat.{iterate}
 use Rattle.cast_domain.specs.declared.domain.Domain.{Domain}
 use Rattle.cast_domain.specs.declared.record.GroupRecord.{GroupRecord}
 use Rattle.cast_types.specs.declared.names.Key.{Key}
-use Rattle.cast_history.specs.Rules.Release.{is_free, let_go}
+use Rattle.cast_rules.specs.Rules.Release.{is_free, let_go}
 use Rattle.cast_domain.specs.Calls.{record_at, keys_passing, release_in, records, resting_records}
-use Rattle.cast_model.specs.declared.config.DomainConfig.{DomainConfig}
+use Rattle.cast_events.specs.declared.config.DomainConfig.{DomainConfig}
 use Rattle.cast_types.specs.declared.names.DomainNo.{DomainNo}
 use Rattle.cast_domain.specs.declared.lent.Lent.{Lent}
 use Rattle.cast_domain.specs.declared.shared.Shared.{Shared}
 use Rattle.cast_domain.specs.Shared.{part_of}
-use Rattle.cast_model.specs.declared.event.Outs.{Outs}
+use Rattle.cast_events.specs.declared.event.Outs.{Outs}
 use Rattle.cast_domain.specs.Records.{Records, Keeps, GivesBack, KeepsBeside, records_of}
 
 pub keeps_then : (a b c : Domain) → Keeps a b → Keeps b c → Keeps a c

@@ -14,7 +14,7 @@ use Rattle.cast_types.proofs.Rising.{rising-with_items}
 use Rattle.cast_message.specs.declared.message.Message.{Message}
 use Rattle.cast_message.specs.declared.message.Received.{Received}
 use Rattle.cast_message.specs.Bodies.{kind_of}
-use Rattle.cast_message.specs.Keeping.{Marked, KeptList, is_kept}
+use Rattle.cast_message.specs.KeptIds.{Marked, KeptList, is_kept}
 use Rattle.cast_message.specs.Receipts.{messages}
 use Rattle.cast_flush.proofs.Gathered.{any_filter, any_map}
 use Rattle.cast_domain.specs.declared.record.GroupRecord.{GroupRecord}

@@ -19,7 +19,7 @@ use Rattle.cast_types.proofs.Orders.{same_group, group_itself, site_itself, uid_
 use Rattle.cast_types.proofs.Rising.{all_kept}
 use Rattle.cast_message.specs.declared.message.Received.{Received}
 use Rattle.cast_stable.specs.Stable.{stable_upto, was_told, is_known_stable}
-use Rattle.cast_stable.specs.Ledger.{upto_in}
+use Rattle.cast_stable.specs.Acks.{upto_in}
 use Rattle.cast_stable.proofs.Meanings.{upto_meant}
 use Rattle.cast_delay.specs.declared.turn.Turn.{Turn}
 use Rattle.cast_delay.specs.declared.turn.Turn.TheVariants.{Holding, Following}
@@ -34,17 +34,17 @@ use Rattle.cast_order.proofs.Lists.{all_first, drop_on}
 use Rattle.cast_order.specs.Log.{Log, length_of, log_of, next_in, next_places, hand_here, known_past, places_by, place_of}
 use Rattle.cast_order.proofs.Meanings.{next_rules as order_next_rules, length_rules, past_rules, assign_rules}
 use Rattle.cast_order.proofs.Hands.{settled_rules}
-use Rattle.cast_history.specs.Rules.Room.{may_order}
-use Rattle.cast_history.specs.History.{history}
-use Rattle.cast_history.specs.Resting.{next_places as resting_places, places_of}
+use Rattle.cast_rules.specs.Rules.Room.{may_order}
+use Rattle.cast_rules.specs.History.{history}
+use Rattle.cast_rules.specs.Resting.{next_places as resting_places, places_of}
 use Rattle.cast_domain.specs.declared.record.GroupRecord.{GroupRecord}
 use Rattle.cast_view.specs.declared.member.Pending.{Pending}
 use Rattle.cast_view.specs.MemberSide.{is_pending, members_of}
 use Rattle.cast_view.specs.Home.{is_empty}
-use Rattle.cast_history.specs.State.{State, local, is_group, gate_of, others_of}
-use Rattle.cast_history.specs.Order.{facts_in, order_told, order_of, order_by, holds, sets_order, token_of, lists_of, is_of_view, abcasts_delivered, unlisted, settled_to, unsettled, has_place, place_to_pass}
-use Rattle.cast_history.specs.Turns.{has_room_for_order, turn_of}
-use Rattle.cast_history.specs.Lawful.{Waits, IsLawful, IsTraced}
+use Rattle.cast_rules.specs.State.{State, local, is_group, gate_of, others_of}
+use Rattle.cast_rules.specs.Order.{facts_in, order_told, order_of, order_by, holds, sets_order, token_of, lists_of, is_of_view, abcasts_delivered, unlisted, settled_to, unsettled, has_place, place_to_pass}
+use Rattle.cast_rules.specs.Turns.{has_room_for_order, turn_of}
+use Rattle.cast_rules.specs.Lawful.{Waits, IsLawful, IsTraced}
 use Rattle.cast_quota.specs.Quotas as quota
 use Rattle.cast_domain.specs.Records.{Records}
 use Rattle.cast_domain.specs.Calls.{place_in, record_at, records, sets_order_at, sets_order_in, settled_in, settled_at, unsettled_at, has_room_at, place_to_pass_of, turn_at, turns_in}

@@ -21,7 +21,7 @@ use Rattle.cast_clock.proofs.Joins.{clock_of-join}
 use Rattle.cast_delay.specs.Ready.{Process, is_member}
 use Rattle.cast_message.specs.declared.message.Message.{Message}
 use Rattle.cast_order.specs.Log.{Log}
-use Rattle.cast_history.specs.State.{State, local, is_received, receiving, set_process}
+use Rattle.cast_rules.specs.State.{State, local, is_received, receiving, set_process}
 use Rattle.cast_domain.specs.Fits.{is_still_kept, IsOver}
 
 -- what is over in one history is over in another, where a log has forgotten something

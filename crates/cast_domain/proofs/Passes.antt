@@ -1,15 +1,15 @@
 -- Passes of the records are passes of what they stand for.
 use Rattle.std.proofs.Common.{◌≡◌, zero, [], refl, sym, subst}
 use Rattle.cast_types.proofs.Iterates.{Led, led_on, led_rests}
-use Rattle.cast_history.specs.State.{State}
-use Rattle.cast_history.specs.Rest.{pass, RestsAt}
-use Rattle.cast_history.specs.Run.{before_event}
+use Rattle.cast_rules.specs.State.{State}
+use Rattle.cast_rules.specs.Rest.{pass, RestsAt}
+use Rattle.cast_rules.specs.Run.{before_event}
 use Rattle.cast_domain.specs.Records.{Records}
 use Rattle.cast_domain.specs.Calls.{records, resting_records}
-use Rattle.cast_history.specs.Rules.Rest as rest
-use Rattle.cast_history.specs.Lawful.{IsLawful}
+use Rattle.cast_rules.specs.Rules.Rest as rest
+use Rattle.cast_rules.specs.Lawful.{IsLawful}
 use Rattle.cast_domain.specs.Fits.{Fits}
-use Rattle.cast_history.proofs.LawfulSteps.{lawful_pass}
+use Rattle.cast_rules.proofs.LawfulSteps.{lawful_pass}
 use Rattle.cast_domain.proofs.Standing.{orders_same}
 use Rattle.cast_domain.proofs.Standstill.{still_pass}
 use Rattle.cast_domain.proofs.Resting.{fits_pass}

@@ -12,17 +12,17 @@ use Rattle.cast_types.specs.Sets.{is_among}
 use Rattle.cast_types.specs.Counts.{CountList}
 use Rattle.cast_types.proofs.Bools.{and_none}
 use Rattle.cast_message.specs.Membership.{Membership, is_members}
-use Rattle.cast_delay.specs.declared.row.Fact.TheVariants as fact
+use Rattle.cast_delay.specs.declared.row.ProcessUpdate.TheVariants as fact
 use Rattle.cast_delay.specs.Ready.{is_member, is_outside}
 use Rattle.cast_delay.specs.Queue.{row_of}
 use Rattle.cast_domain.specs.declared.record.GroupRecord.{GroupRecord}
-use Rattle.cast_history.specs.State.{State, local, serials, is_group, local_members, set_standing}
-use Rattle.cast_history.specs.Entering.{parted, is_put_out, putting_out, passing}
-use Rattle.cast_history.specs.Acts.Act.{Left}
-use Rattle.cast_history.specs.Lawful.{IsLawful}
-use Rattle.cast_history.proofs.Lawful.{lawful_all_parted}
+use Rattle.cast_rules.specs.State.{State, local, serials, is_group, local_members, set_standing}
+use Rattle.cast_rules.specs.Entering.{parted, is_put_out, putting_out, passing}
+use Rattle.cast_rules.specs.Acts.Act.{Left}
+use Rattle.cast_rules.specs.Lawful.{IsLawful}
+use Rattle.cast_rules.proofs.Lawful.{lawful_all_parted}
 use Rattle.cast_domain.specs.Records.{Records}
-use Rattle.cast_domain.specs.Calls.{local_in, serials_in, record_at, standing_of, tell_in, put_out_in, is_put_out_in, put_out_if_in, put_out_all_in, complete_in, pass_in, gone_in, members_in}
+use Rattle.cast_domain.specs.Calls.{local_in, serials_in, record_at, standing_of, tell_in, put_out_in, is_put_out_in, put_out_if_in, put_out_all_in, begin_view_in, pass_in, gone_in, members_in}
 use Rattle.cast_domain.specs.Fits.{Fits}
 use Rattle.cast_domain.proofs.Acting.{quiet_if, quiet_left, logs_quiet}
 use Rattle.cast_domain.proofs.Standing.{member_of_none, fits_told, fits_if, record_there, standing_there, fits_acts}
@@ -139,7 +139,7 @@ pub fits_pass : (r : Records) (s : State) → Fits r s → IsLawful s → (i : �
 fits_pass r s f l i g at listed skips n members request cut typed newer =
     let left : State = putting_out s g skips members in
     let name : (record_at r.groups i).name ≡ g = ap (λ (x : GroupRecord). x.name) (record_there r s f i g at) in
-    subst (λ h. Fits (complete_in (put_out_all_in h skips members r) i n members request) (passing s g skips n members request cut)) (sym name)
+    subst (λ h. Fits (begin_view_in (put_out_all_in h skips members r) i n members request) (passing s g skips n members request cut)) (sym name)
     (fits_complete (put_out_all_in g skips members r) left (fits_put_out_all g skips members r s f) (lawful_all_parted s g (is_put_out s g skips members) l) i g at listed n members request cut typed newer)
 
 -- Who is told

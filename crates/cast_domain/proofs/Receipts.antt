@@ -11,7 +11,7 @@ use Rattle.cast_types.specs.Sources.{is_ended}
 use Rattle.cast_types.proofs.Orders.{same_group, group_itself}
 use Rattle.cast_view.specs.MemberSide.{MemberSide, no_group, members_of}
 use Rattle.cast_view.specs.Sites.{other_sites}
-use Rattle.cast_history.specs.State.{State, set_group, others_of, may_speak}
+use Rattle.cast_rules.specs.State.{State, set_group, others_of, may_speak}
 use Rattle.cast_domain.specs.Fits.{is_live, past_of}
 
 -- what holds of a group holds after a change that leaves it

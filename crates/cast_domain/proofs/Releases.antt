@@ -27,20 +27,20 @@ use Rattle.cast_delay.proofs.Turns.{and_agree}
 use Rattle.cast_stable.proofs.Meanings.{stable_meant}
 use Rattle.cast_domain.specs.declared.record.GroupRecord.{GroupRecord}
 use Rattle.cast_view.specs.MemberSide.{MemberSide, has_view, is_current}
-use Rattle.cast_history.specs.State.{State, local, serials, local_members, gate_of, is_stable, is_delivered, releasing, is_ended, releasing_ended}
-use Rattle.cast_history.specs.Rest.{is_free, let_go}
+use Rattle.cast_rules.specs.State.{State, local, serials, local_members, gate_of, is_stable, is_delivered, releasing, is_ended, releasing_ended}
+use Rattle.cast_rules.specs.Rest.{is_free, let_go}
 use Rattle.cast_domain.specs.Records.{Records}
-use Rattle.cast_history.specs.Rules.Release as release
+use Rattle.cast_rules.specs.Rules.Release as release
 use Rattle.cast_domain.specs.Calls.{place_in, record_at, is_current_in, is_open_in, is_ended_in, release_in, release_all_in, records, resting_records}
-use Rattle.cast_history.specs.Lawful.{IsLawful, IsSpent, AreKept}
+use Rattle.cast_rules.specs.Lawful.{IsLawful, IsSpent, AreKept}
 use Rattle.cast_domain.specs.Fits.{process_named, Fits, is_live, past_of}
-use Rattle.cast_history.proofs.Totals.{In}
+use Rattle.cast_rules.proofs.Totals.{In}
 use Rattle.cast_domain.proofs.Rows.{names_of, serial_of, rise_filter, filter_within, row_found, row_untested, row_ungiven}
 use Rattle.cast_domain.proofs.Over.{keeps_fewer}
 use Rattle.cast_domain.proofs.Standing.{orders_same, record_there, place_some, place_none, process_here, given_later, member_of_none}
 use Rattle.cast_types.proofs.Bools.{neither}
 use Rattle.cast_domain.proofs.Receipts.{live_now}
-use Rattle.cast_stable.specs.Ledger.{is_stable_in}
+use Rattle.cast_stable.specs.Acks.{is_stable_in}
 use Rattle.cast_types.proofs.Contains.{contains_here, contains_later}
 
 -- Who awaits a message

@@ -14,18 +14,18 @@ use Rattle.cast_clock.specs.Times.{entering}
 use Rattle.cast_message.specs.Membership.{Membership}
 use Rattle.cast_delay.specs.declared.offered.Offered.{Offered}
 use Rattle.cast_delay.specs.declared.row.Row.{Row}
-use Rattle.cast_delay.specs.declared.row.Fact.{Fact}
-use Rattle.cast_delay.specs.declared.row.Fact.TheVariants as fact
+use Rattle.cast_delay.specs.declared.row.ProcessUpdate.{ProcessUpdate}
+use Rattle.cast_delay.specs.declared.row.ProcessUpdate.TheVariants as fact
 use Rattle.cast_delay.specs.Rows.{told_row, delivered_row}
 use Rattle.cast_delay.specs.Queue.{change_row, offered_under, after_delivery}
 use Rattle.cast_delay.proofs.Rows.{names_ended}
-use Rattle.cast_model.specs.declared.session.Status.{Status}
-use Rattle.cast_model.specs.declared.session.Status.TheVariants.{Open, Closed, Gone}
-use Rattle.cast_model.specs.Session.{is_open_status, is_gone_status}
+use Rattle.cast_events.specs.declared.session.Status.{Status}
+use Rattle.cast_events.specs.declared.session.Status.TheVariants.{Open, Closed, Gone}
+use Rattle.cast_events.specs.Session.{is_open_status, is_gone_status}
 use Rattle.cast_view.specs.MemberSide.{is_taken_in}
-use Rattle.cast_history.specs.Rules.Commands.{message_sent}
-use Rattle.cast_history.specs.Rules.Release.{is_free, let_go}
-use Rattle.cast_history.proofs.Rules.Follows.{IsInvariant, IsInvariantOfAll}
+use Rattle.cast_rules.specs.Rules.Commands.{message_sent}
+use Rattle.cast_rules.specs.Rules.Release.{is_free, let_go}
+use Rattle.cast_rules.proofs.Rules.Follows.{IsInvariant, IsInvariantOfAll}
 use Rattle.cast_domain.specs.declared.record.SessionRecord.{SessionRecord}
 use Rattle.cast_domain.proofs.Statuses.{found_first}
 use Rattle.cast_domain.specs.Records.{Records}
@@ -118,7 +118,7 @@ module _ (site : SiteNo) (names : List Proc) (gone : ℕ → Bool) where
   abbrev Same : Records → Type 0
   Same = Remain site names gone
 
-  pub remain_tell : (r : Records) → Same r → (p : Proc) (f : Fact) → Same (tell_in r p f)
+  pub remain_tell : (r : Records) → Same r → (p : Proc) (f : ProcessUpdate) → Same (tell_in r p f)
   remain_tell r h p f = (h.0, same_names p (told_row f) (told_keeps f) r.delay.rows ∙ h.1, h.2)
 
   pub remain_fold : {X : Type 0} (f : Records → X → Records) → ((r : Records) → Same r → (x : X) → Same (f r x)) → (xs : List X) (r : Records) → Same r → Same (fold f r xs)

@@ -26,20 +26,20 @@ use Rattle.cast_delay.specs.declared.row.Row.{Row}
 use Rattle.cast_delay.specs.Ready.{first_of, covered, is_member, has_delivered}
 use Rattle.cast_delay.specs.Rows.{standing_in, done_in, awaits_row}
 use Rattle.cast_delay.specs.Queue.{is_awaited}
-use Rattle.cast_delay.specs.Tallies.{counts_in}
+use Rattle.cast_delay.specs.DeliveredCounts.{counts_in}
 use Rattle.cast_delay.proofs.Reached.{reached_most, reached_each}
 use Rattle.cast_message.specs.Receipts.{messages}
 use Rattle.cast_message.specs.Bodies.{kind_of}
-use Rattle.cast_stable.specs.Ledger.{is_received_in, last_received_in}
+use Rattle.cast_stable.specs.Acks.{is_received_in, last_received_in}
 use Rattle.cast_stable.proofs.Lists.{contains_none, contains_cases}
 use Rattle.cast_stable.proofs.Last.{last_most, last_each}
 use Rattle.cast_order.specs.Log.{log_of, waiting_of, whole_kept}
 use Rattle.cast_order.proofs.Meanings.{whole_rules, tail_rules}
 use Rattle.cast_view.specs.Sites.{is_at}
-use Rattle.cast_history.specs.State.{State, no_process, local, serials, gate_of, is_received, may_speak, was_given}
-use Rattle.cast_history.specs.Lawful.{IsLawful}
-use Rattle.cast_history.specs.Order.{is_of_view, facts_in, order_told, holder_here, unlisted}
-use Rattle.cast_history.specs.Reports.{had_here, had_in, unlisted_here, whole_order, tail_of, is_unplaced, kept_list, kept_in, report_in, is_delivered_here, has_delivered_cut, is_missing, missing_in}
+use Rattle.cast_rules.specs.State.{State, no_process, local, serials, gate_of, is_received, may_speak, was_given}
+use Rattle.cast_rules.specs.Lawful.{IsLawful}
+use Rattle.cast_rules.specs.Order.{is_of_view, facts_in, order_told, holder_here, unlisted}
+use Rattle.cast_rules.specs.Reports.{had_here, had_in, unlisted_here, whole_order, tail_of, is_unplaced, kept_list, kept_in, report_in, is_delivered_here, has_delivered_cut, is_missing, missing_in}
 use Rattle.cast_domain.specs.Records.{Records}
 use Rattle.cast_domain.specs.Fits.{Fits, record_for, process_named, TellsOrder, is_live, past_of, goes_on, has_passed}
 use Rattle.cast_domain.specs.Calls.{record_at, holder_in, had_of, tail_in, is_kept_of, report_at, is_awaited_of, is_received_of, has_cut_of, missing_of}

@@ -13,7 +13,7 @@ use Rattle.cast_timer.specs.declared.key.OwedKind.TheVariants.{Ask, Data, Prepar
 use Rattle.cast_timer.specs.declared.key.Side.TheVariants.{Site, Home}
 use Rattle.cast_timer.specs.Owed.{renewed, due_at, kind_rank, key_eq, is_same_message}
 use Rattle.cast_timer.proofs.Owing.{same_key}
-use Rattle.cast_history.specs.Rules.Owing.{frame_of_kind, frame_for, send_for, resend, resend_due}
+use Rattle.cast_rules.specs.Rules.Owing.{frame_of_kind, frame_for, send_for, resend, resend_due}
 use Rattle.cast_domain.specs.Shared.{part_renewing_due}
 use Rattle.cast_domain.specs.Records.{Records}
 use Rattle.cast_domain.specs.Resent.{IsFrameOf}

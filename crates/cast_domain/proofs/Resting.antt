@@ -3,27 +3,27 @@ use Rattle.std.proofs.Common.{◌≡◌, ℕ, zero, suc, true, List, [], ◌∷�
 use Rattle.std.specs.List.{range_with_len}
 use Rattle.std.proofs.lemmas.Bool.{or_left, or_right}
 use Rattle.cast_types.specs.declared.names.GroupNo.{GroupNo}
-use Rattle.cast_history.specs.State.{State}
-use Rattle.cast_history.specs.History.{history}
-use Rattle.cast_history.specs.Resting.{resting}
-use Rattle.cast_history.specs.Lawful.{IsLawful}
-use Rattle.cast_history.specs.Rest.{pass, let_go}
-use Rattle.cast_history.specs.Rules.Rest as rest
-use Rattle.cast_history.proofs.Lawful.{lawful_let_go}
-use Rattle.cast_history.proofs.LawfulSteps.{lawful_deliver_all, lawful_set_order_by}
-use Rattle.cast_history.proofs.Rules.Rest.{FollowsToRest, pass_follows}
+use Rattle.cast_rules.specs.State.{State}
+use Rattle.cast_rules.specs.History.{history}
+use Rattle.cast_rules.specs.Resting.{resting}
+use Rattle.cast_rules.specs.Lawful.{IsLawful}
+use Rattle.cast_rules.specs.Rest.{pass, let_go}
+use Rattle.cast_rules.specs.Rules.Rest as rest
+use Rattle.cast_rules.proofs.Lawful.{lawful_let_go}
+use Rattle.cast_rules.proofs.LawfulSteps.{lawful_deliver_all, lawful_set_order_by}
+use Rattle.cast_rules.proofs.Rules.Rest.{FollowsToRest, pass_follows}
 use Rattle.cast_domain.specs.Records.{Records}
 use Rattle.cast_domain.specs.Calls.{records, resting_records}
 use Rattle.cast_domain.specs.Fits.{Fits}
 use Rattle.cast_domain.proofs.Following.{IsAt}
 use Rattle.cast_domain.proofs.Framing.{StandsIn, there, records_follow_all}
-use Rattle.cast_domain.proofs.Turns.{kept_all, fits_deliver_all}
+use Rattle.cast_domain.proofs.TurnSteps.{kept_all, fits_deliver_all}
 use Rattle.cast_domain.proofs.Rows.{was_given_in}
 use Rattle.cast_domain.proofs.Releases.{fits_let_go}
 use Rattle.cast_domain.proofs.Rounds.{round_settle}
-use Rattle.cast_history.specs.Rules.Interface.{Resting}
-use Rattle.cast_history.specs.Rules.Home.{lead}
-use Rattle.cast_history.specs.Rules.Order.{set_orders}
+use Rattle.cast_rules.specs.Rules.Interface.{Resting}
+use Rattle.cast_rules.specs.Rules.Home.{lead}
+use Rattle.cast_rules.specs.Rules.Order.{set_orders}
 use Rattle.std.specs.Prelude.{if◌then◌else◌, slice_get}
 use Rattle.std.specs.List.{fold}
 use Rattle.std.proofs.lemmas.Option.{none-some, same_Some}
@@ -31,13 +31,13 @@ use Rattle.cast_types.specs.Names.{group_eq}
 use Rattle.cast_types.specs.Sets.{is_among}
 use Rattle.cast_types.proofs.Orders.{group_itself}
 use Rattle.cast_view.specs.declared.member.Pending.{Pending}
-use Rattle.cast_history.specs.State.{is_group}
-use Rattle.cast_history.specs.Reports.{has_delivered_cut, missing_in}
-use Rattle.cast_history.specs.Rules.Release as release
-use Rattle.cast_history.specs.Rules.Flushes.{complete, want_own, complete_or_want, go_on, go_on_all}
-use Rattle.cast_history.specs.Lawful.{Waits}
-use Rattle.cast_history.proofs.Rules.Follows.{choose, each}
-use Rattle.cast_history.proofs.Rules.Flushes.{want_own_follows, complete_follows}
+use Rattle.cast_rules.specs.State.{is_group}
+use Rattle.cast_rules.specs.Reports.{has_delivered_cut, missing_in}
+use Rattle.cast_rules.specs.Rules.Release as release
+use Rattle.cast_rules.specs.Rules.Flushes.{complete, want_own, complete_or_want, go_on, go_on_all}
+use Rattle.cast_rules.specs.Lawful.{Waits}
+use Rattle.cast_rules.proofs.Rules.Follows.{choose, each}
+use Rattle.cast_rules.proofs.Rules.Flushes.{want_own_follows, complete_follows}
 use Rattle.cast_domain.specs.declared.record.GroupRecord.{GroupRecord}
 use Rattle.cast_domain.specs.Calls.{record_at, has_cut_of, holders_in}
 use Rattle.cast_domain.proofs.Standing.{record_there}

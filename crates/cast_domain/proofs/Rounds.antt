@@ -21,9 +21,9 @@ use Rattle.cast_delay.specs.declared.row.Row.{Row}
 use Rattle.cast_delay.specs.Ready.{is_member}
 use Rattle.cast_delay.specs.Rows.{standing_in}
 use Rattle.cast_delay.specs.Queue.{row_of, first_for}
-use Rattle.cast_history.specs.State.{State, serials}
-use Rattle.cast_history.specs.Rules.Release.{let_go}
-use Rattle.cast_history.specs.Rules.Rest.{tell_if, told_of, deliver_first, deliver_all, settle}
+use Rattle.cast_rules.specs.State.{State, serials}
+use Rattle.cast_rules.specs.Rules.Release.{let_go}
+use Rattle.cast_rules.specs.Rules.Rest.{tell_if, told_of, deliver_first, deliver_all, settle}
 use Rattle.cast_domain.specs.Records.{Records}
 use Rattle.cast_domain.specs.Calls.{local_in, serials_in, put_out_in, put_out_if_in, put_out_all_in, take_delivery_in, weight_of, note_weight_in, note_delivered_under, ready_key_in, next_ready_in, turns_in, records, resting_records}
 use Rattle.cast_domain.specs.declared.rest.Weight.TheVariants.{Nothing, Placed, Hands}
@@ -32,7 +32,7 @@ use Rattle.cast_domain.specs.Flags.{changes_over}
 use Rattle.cast_domain.proofs.Flagged.{either_of}
 use Rattle.cast_domain.proofs.Loops.{fold_item}
 use Rattle.cast_domain.proofs.Rows.{names_of, serials_named, row_untested}
-use Rattle.cast_history.proofs.Rules.Rest.{told_if_keeps}
+use Rattle.cast_rules.proofs.Rules.Rest.{told_if_keeps}
 use Rattle.cast_domain.proofs.Remaining.{names_after, Remain, RemainAs, gone_of, remain_as, remain_put_out, all_remain, remain_let_go}
 
 module _ (site : SiteNo) (names : List Proc) (gone : ℕ → Bool) where

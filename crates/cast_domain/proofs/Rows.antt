@@ -10,8 +10,8 @@ use Rattle.cast_types.specs.Names.{site_eq, proc_eq}
 use Rattle.cast_types.proofs.Orders.{proc_itself}
 use Rattle.cast_delay.specs.declared.row.Row.{Row}
 use Rattle.cast_delay.specs.Queue.{row_of}
-use Rattle.cast_history.specs.State.{State, local, was_given}
-use Rattle.cast_history.proofs.Totals.{In}
+use Rattle.cast_rules.specs.State.{State, local, was_given}
+use Rattle.cast_rules.proofs.Totals.{In}
 
 abbrev pub names_of : List Row → List Proc
 names_of rows = map (λ row. row.process) rows

@@ -10,43 +10,43 @@ use Rattle.cast_types.specs.Sources.{source_of}
 use Rattle.cast_clock.specs.Times.{count_in, bumped}
 use Rattle.cast_message.specs.declared.message.Body.TheVariants as body
 use Rattle.cast_message.specs.declared.message.Message.{Message}
-use Rattle.cast_message.specs.Sequence.{Sequence}
+use Rattle.cast_message.specs.Placement.{Placement}
 use Rattle.cast_delay.specs.Ready.{is_member}
 use Rattle.cast_delay.specs.Queue.{row_of}
 use Rattle.cast_order.specs.Log.{next_places}
-use Rattle.cast_history.specs.Rules.Room.{may_order}
-use Rattle.cast_history.specs.History.{history}
-use Rattle.cast_history.specs.Rules.Sending.{send_message, may_raise}
+use Rattle.cast_rules.specs.Rules.Room.{may_order}
+use Rattle.cast_rules.specs.History.{history}
+use Rattle.cast_rules.specs.Rules.Sending.{send_message, may_raise}
 use Rattle.cast_domain.specs.declared.record.GroupRecord.{GroupRecord}
 use Rattle.cast_view.specs.Home.{is_empty}
-use Rattle.cast_history.specs.State.{State, local, noting_sent}
-use Rattle.cast_history.specs.Order.{order_told, unlisted, has_place}
-use Rattle.cast_history.specs.Effects.{next_message, sending}
-use Rattle.cast_history.specs.Rest.{set_order_by, let_go}
-use Rattle.cast_history.proofs.Setting.{may_set_order, set_order_is}
+use Rattle.cast_rules.specs.State.{State, local, noting_sent}
+use Rattle.cast_rules.specs.Order.{order_told, unlisted, has_place}
+use Rattle.cast_rules.specs.Effects.{next_message, sending}
+use Rattle.cast_rules.specs.Rest.{set_order_by, let_go}
+use Rattle.cast_rules.proofs.Setting.{may_set_order, set_order_is}
 use Rattle.cast_domain.specs.Records.{Records}
-use Rattle.cast_history.specs.Rules.Release as release
+use Rattle.cast_rules.specs.Rules.Release as release
 use Rattle.cast_domain.specs.Calls.{standing_of, time_of, records, resting_records, record_at, log_in, learn_in, note_sent_by}
-use Rattle.cast_history.specs.Resting.{places_of}
-use Rattle.cast_history.specs.Rules.Order as order
-use Rattle.cast_history.specs.Lawful.{IsLawful}
+use Rattle.cast_rules.specs.Resting.{places_of}
+use Rattle.cast_rules.specs.Rules.Order as order
+use Rattle.cast_rules.specs.Lawful.{IsLawful}
 use Rattle.cast_domain.specs.Fits.{record_for, Fits}
-use Rattle.cast_history.proofs.Alikes.{alike_sending}
-use Rattle.cast_history.proofs.LawfulSteps.{lawful_order_sent}
+use Rattle.cast_rules.proofs.Alikes.{alike_sending}
+use Rattle.cast_rules.proofs.LawfulSteps.{lawful_order_sent}
 use Rattle.cast_domain.proofs.Logs.{logs_receive}
 use Rattle.cast_domain.proofs.Ordering.{order_room_there, unfrozen_waits, places_there}
 use Rattle.cast_types.proofs.Bools.{and_none}
 use Rattle.cast_domain.proofs.Standing.{record_there, member_row, standing_there, time_there}
 use Rattle.cast_domain.proofs.Releases.{fits_let_go}
-use Rattle.cast_domain.proofs.Commands.{fits_noted, noted_new, next_sound, fits_send_message_with}
-use Rattle.cast_domain.proofs.Turns.{Kept, kept_self, kept_if}
+use Rattle.cast_domain.proofs.CommandSteps.{fits_noted, noted_new, next_sound, fits_send_message_with}
+use Rattle.cast_domain.proofs.TurnSteps.{Kept, kept_self, kept_if}
 use Rattle.cast_domain.proofs.Receipts.{live_now}
-use Rattle.cast_history.proofs.Lawful.{local_speaks}
+use Rattle.cast_rules.proofs.Lawful.{local_speaks}
 
 -- The message
 
 -- a process lists these ids, over a record of the group that is at hand
-abbrev sent_at : Records → Proc → GroupRecord → Sequence → Records
+abbrev sent_at : Records → Proc → GroupRecord → Placement → Records
 sent_at r p x places =
     let times : ClockList = bumped (time_of r.delay p) x.name p in
     let m : Message = record {
@@ -56,7 +56,7 @@ sent_at r p x places =
     } in
     send_message records (note_sent_by r p m) m
 
-fits_places : (r : Records) (s : State) → Fits r s → IsLawful s → (k : ℕ) (g : GroupNo) → is_member ((s.process k).standing g) ≡ true → may_raise (s.process k).time g (local s k) ≡ true → (q : Sequence) → Fits (sent_at r (local s k) (record_for s g) q) (sending s g k (body.Order q))
+fits_places : (r : Records) (s : State) → Fits r s → IsLawful s → (k : ℕ) (g : GroupNo) → is_member ((s.process k).standing g) ≡ true → may_raise (s.process k).time g (local s k) ≡ true → (q : Placement) → Fits (sent_at r (local s k) (record_for s g) q) (sending s g k (body.Order q))
 fits_places r s f l k g member raises q =
     subst (λ x. Fits x (sending s g k (body.Order q))) (sym same)
     (fits_send_message_with (note_sent_by r p m) s1 noted m (next_sound s g k (body.Order q) l member) (live_now s1 (source_of m.id) refl (local_speaks s1 g k)) (learn_in (note_sent_by r p m).orders g (body.Order q))
@@ -90,7 +90,7 @@ fits_places r s f l k g member raises q =
             send_message records (note_sent_by r p x) x
 
 -- six tests, one after another
-choose : (m w o e h y : Bool) (x : Sequence → Records) (z : Sequence → State) (q : Sequence) (r : Records) (s : State) → Fits r s → (m ≡ true → w ≡ true → o ≡ true → e ≡ true → h ≡ true → y ≡ true → Fits (x q) (z q)) → Fits (if m && (w && o) then option_map_or (λ p. if y then x p else r) (if e && h then Some q else None) r else r) (if m && (w && o) then option_map_or (λ p. if y then z p else s) (if e && h then Some q else None) s else s)
+choose : (m w o e h y : Bool) (x : Placement → Records) (z : Placement → State) (q : Placement) (r : Records) (s : State) → Fits r s → (m ≡ true → w ≡ true → o ≡ true → e ≡ true → h ≡ true → y ≡ true → Fits (x q) (z q)) → Fits (if m && (w && o) then option_map_or (λ p. if y then x p else r) (if e && h then Some q else None) r else r) (if m && (w && o) then option_map_or (λ p. if y then z p else s) (if e && h then Some q else None) s else s)
 choose false w o e h y x z q r s f go = f
 choose true false o e h y x z q r s f go = f
 choose true true false e h y x z q r s f go = f
@@ -162,7 +162,7 @@ fits_set_order_by r s f l i g at k =
 
     sets : member ≡ true → unfrozen ≡ true → room ≡ true → some ≡ true → place ≡ true → raised ≡ true → Fits (release.let_go records resting_records (sent_at r p (record_for s g) (places_of s g k))) (let_go (sending s g k (body.Order (places_of s g k))))
     sets a w b c d e =
-        let q : Sequence = places_of s g k in
+        let q : Placement = places_of s g k in
         let may : may_set_order s g k ≡ true = and_from member _ a (and_from unfrozen _ w (and_from room _ b (and_from some _ c (and_from place raised d e)))) in
         fits_let_go (sent_at r p (record_for s g) q) (sending s g k (body.Order q))
         (fits_places r s f l k g a e q)

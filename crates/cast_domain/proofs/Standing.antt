@@ -26,8 +26,8 @@ use Rattle.cast_message.specs.declared.site.SiteFrame.{SiteFrame}
 use Rattle.cast_message.specs.declared.client.Push.{Push}
 use Rattle.cast_message.specs.Membership.{Membership}
 use Rattle.cast_delay.specs.declared.row.Row.{Row}
-use Rattle.cast_delay.specs.declared.row.Fact.{Fact}
-use Rattle.cast_delay.specs.declared.row.Fact.TheVariants as fact
+use Rattle.cast_delay.specs.declared.row.ProcessUpdate.{ProcessUpdate}
+use Rattle.cast_delay.specs.declared.row.ProcessUpdate.TheVariants as fact
 use Rattle.cast_delay.specs.declared.gate.Gate.{Gate}
 use Rattle.cast_delay.specs.Ready.{Process, open_gate, is_outside, has_delivered, is_member}
 use Rattle.cast_delay.specs.Rows.{gate_in, told_row}
@@ -35,7 +35,7 @@ use Rattle.std.specs.FinMap.Entries.{put}
 use Rattle.cast_delay.specs.Queue.{new_row, row_of, change_row, queue_viewing}
 use Rattle.cast_message.specs.declared.message.Received.{Received}
 use Rattle.cast_message.specs.Receipts.{key_eq, message_under}
-use Rattle.cast_stable.specs.Ledger.{new_ledger, told_ledger, received_ledger}
+use Rattle.cast_stable.specs.Acks.{new_ledger, told_ledger, received_ledger}
 use Rattle.cast_stable.specs.Fits.{Fits as AcksFits}
 use Rattle.cast_stable.proofs.Meanings.{new_fits as acks_new_fits, tell_fits as acks_tell_fits, receive_fits as acks_receive_fits}
 use Rattle.cast_delay.specs.Fits.{IsSound, HasNotBegun, FactFits, Fits as QueueFits, set_process as set_named, told as told_of}
@@ -44,7 +44,7 @@ use Rattle.cast_delay.proofs.Rows.{some_row, row_of_some, names_ended}
 use Rattle.cast_delay.proofs.Finds.{find-append_some, find-append_none}
 use Rattle.cast_order.specs.Log.{Log, log_of, but_log, place_of}
 use Rattle.cast_order.proofs.Meanings.{new_fits as order_new_fits}
-use Rattle.cast_model.specs.declared.config.DomainConfig.{DomainConfig}
+use Rattle.cast_events.specs.declared.config.DomainConfig.{DomainConfig}
 use Rattle.cast_domain.specs.declared.record.GroupRecord.{GroupRecord}
 use Rattle.cast_domain.specs.declared.record.SessionRecord.{SessionRecord}
 use Rattle.cast_quota.specs.declared.quotas.Quotas.{Quotas}
@@ -52,23 +52,23 @@ use Rattle.cast_message.specs.declared.client.Push.{Push}
 use Rattle.cast_view.specs.MemberSide.{MemberSide, is_pending, members_of, with_view}
 use Rattle.cast_view.specs.Home.{Home}
 use Rattle.cast_message.specs.declared.client.Push.TheVariants as push
-use Rattle.cast_model.specs.declared.session.Status.TheVariants.{Open, Closed}
-use Rattle.cast_model.specs.Session.{Session, no_session, first_session, is_open, is_gone, pushed_to, closed, taken_from}
+use Rattle.cast_events.specs.declared.session.Status.TheVariants.{Open, Closed}
+use Rattle.cast_events.specs.Session.{Session, no_session, first_session, is_open, is_gone, pushed_to, closed, taken_from}
 use Rattle.cast_types.specs.declared.refusal.Refusal.{Refusal}
 use Rattle.cast_types.specs.declared.limits.TheConstants.{MAX_NUMBER}
 use Rattle.cast_view.specs.MemberSide.{holder_at, members_of, with_view}
-use Rattle.cast_history.specs.Order.{is_of_view, order_told}
+use Rattle.cast_rules.specs.Order.{is_of_view, order_told}
 use Rattle.cast_order.proofs.Hands.{new_hand_fits}
 use Rattle.cast_view.specs.Sites.{other_sites}
-use Rattle.cast_history.specs.State.{State, opening, no_process, local, is_group, gate_for, gate_of, others_of, set_session, set_process, set_group, set_home, set_standing, emitted, was_given, serials, sessions, with_push, pushing, closing, going, taking, receiving, noting_act, noting_sent}
-use Rattle.cast_history.specs.Acts.{Act}
-use Rattle.cast_history.specs.Acts.Act.{Sent}
-use Rattle.cast_history.specs.Step.{opening_next}
-use Rattle.cast_history.specs.Run.{before_event}
+use Rattle.cast_rules.specs.State.{State, opening, no_process, local, is_group, gate_for, gate_of, others_of, set_session, set_process, set_group, set_home, set_standing, emitted, was_given, serials, sessions, with_push, pushing, closing, going, taking, receiving, noting_act, noting_sent}
+use Rattle.cast_rules.specs.Acts.{Act}
+use Rattle.cast_rules.specs.Acts.Act.{Sent}
+use Rattle.cast_rules.specs.Step.{opening_next}
+use Rattle.cast_rules.specs.Run.{before_event}
 use Rattle.cast_domain.specs.Shared.{no_part, part_boxing, part_pushing}
 use Rattle.cast_domain.specs.Records.{Records}
 use Rattle.cast_domain.specs.Calls.{place_among, local_in, place_in, no_record, record_at, standing_of, time_of, send_in, push_in, with_status, close_in, go_in, take_entries_in, tell_in, open_in, learn_in, receive_in, view_in, holding_from, orders_sent}
-use Rattle.cast_history.specs.Lawful.{IsLawful}
+use Rattle.cast_rules.specs.Lawful.{IsLawful}
 use Rattle.cast_domain.specs.Fits.{settled_of, process_named, record_for, tagged, status_in, session_for, is_there, is_live, past_of, LogFits, Fits, goes_on, has_passed}
 use Rattle.cast_domain.proofs.Statuses.{open_remains, status_given, roster, same_roster, set_one, same_status, roster_closed, roster_gone, boxes_set, unused_set, roster_first}
 use Rattle.cast_domain.proofs.Receipts.{group_same, others_told, past_same, live_and_stands}
@@ -76,8 +76,8 @@ use Rattle.cast_domain.proofs.Rows.{row_given}
 use Rattle.cast_domain.proofs.Logs.{IsAlike, log_alike, same_alike, IsNew, logs_receive, logs_view, log_starts}
 use Rattle.cast_domain.proofs.Acting.{logs_sent}
 use Rattle.cast_domain.proofs.Over.{KeepsNoMore, all_stay, over_alike, one_counts_on}
-use Rattle.cast_history.proofs.Rules.Follows.{choose}
-use Rattle.cast_history.proofs.Spots.{update_mapped}
+use Rattle.cast_rules.proofs.Rules.Follows.{choose}
+use Rattle.cast_rules.proofs.Spots.{update_mapped}
 use Rattle.cast_types.proofs.Bools.{same_bools}
 
 -- Choices on both sides
@@ -542,7 +542,7 @@ fits_home r s fits lawful i g at change = record {
 -- Changes of one process
 
 -- a row that is told something is the row of the same process
-pub told_keeps : (f : Fact) (r : Row) → (told_row f r).process ≡ r.process
+pub told_keeps : (f : ProcessUpdate) (r : Row) → (told_row f r).process ≡ r.process
 told_keeps (fact.Standing h s) r = refl
 told_keeps (fact.Time time) r = refl
 
@@ -577,17 +577,17 @@ pub named_set : (s : State) (k : ℕ) (f : Process → Process) → set_named (p
 named_set s k f = ap (λ p. set_named (process_named s) (local s k) (f p)) (process_here s k) ∙ sym (process_set s k (f (s.process k)))
 
 -- a fact changes nothing of what was delivered
-told_delivered : (f : Fact) (p : Process) → (told_of f p).delivered ≡ p.delivered
+told_delivered : (f : ProcessUpdate) (p : Process) → (told_of f p).delivered ≡ p.delivered
 told_delivered (fact.Standing g v) p = refl
 told_delivered (fact.Time t) p = refl
 
 -- a fact that makes nobody a member
-abbrev pub MakesNoMember : Fact → Type 0
+abbrev pub MakesNoMember : ProcessUpdate → Type 0
 MakesNoMember (fact.Standing g v) = is_member v ≡ false
 MakesNoMember (fact.Time t) = Unit {0}
 
 -- it leaves no more members
-told_members : (f : Fact) (p : Process) → MakesNoMember f → (g : GroupNo) → is_member ((told_of f p).standing g) ≡ true → is_member (p.standing g) ≡ true
+told_members : (f : ProcessUpdate) (p : Process) → MakesNoMember f → (g : GroupNo) → is_member ((told_of f p).standing g) ≡ true → is_member (p.standing g) ≡ true
 told_members (fact.Standing h v) p none g = elim (group_eq h g) as (λ b. is_member (if b then v else p.standing g) ≡ true → is_member (p.standing g) ≡ true) [
   | true ↦ λ is. absurd (false≢true (sym none ∙ is))
   | false ↦ λ is. is
@@ -595,7 +595,7 @@ told_members (fact.Standing h v) p none g = elim (group_eq h g) as (λ b. is_mem
 told_members (fact.Time t) p none g = λ is. is
 
 -- a process that was admitted is told of a fact, and the logs tell of that
-pub fits_told_with : (r : Records) (s : State) → Fits r s → (k : ℕ) → IsSome (row_of r.delay.rows (local s k)) → (f : Fact) → FactFits s.config.groups f → ((g : GroupNo) → LogFits (set_process s k (told_of f (s.process k))) g (log_of r.orders g)) → Fits (tell_in r (local s k) f) (set_process s k (told_of f (s.process k)))
+pub fits_told_with : (r : Records) (s : State) → Fits r s → (k : ℕ) → IsSome (row_of r.delay.rows (local s k)) → (f : ProcessUpdate) → FactFits s.config.groups f → ((g : GroupNo) → LogFits (set_process s k (told_of f (s.process k))) g (log_of r.orders g)) → Fits (tell_in r (local s k) f) (set_process s k (told_of f (s.process k)))
 fits_told_with r s fits k row f ok logs = record {
   core = fits.core;
   opened = fits.opened;
@@ -617,7 +617,7 @@ fits_told_with r s fits k row f ok logs = record {
 }
 
 -- a fact that makes nobody a member, and by which the process counts no fewer
-pub fits_told : (r : Records) (s : State) → Fits r s → (k : ℕ) → IsSome (row_of r.delay.rows (local s k)) → (f : Fact) → FactFits s.config.groups f → MakesNoMember f → CountsStill r.orders (local s k) (s.process k).time (told_of f (s.process k)).time → Fits (tell_in r (local s k) f) (set_process s k (told_of f (s.process k)))
+pub fits_told : (r : Records) (s : State) → Fits r s → (k : ℕ) → IsSome (row_of r.delay.rows (local s k)) → (f : ProcessUpdate) → FactFits s.config.groups f → MakesNoMember f → CountsStill r.orders (local s k) (s.process k).time (told_of f (s.process k)).time → Fits (tell_in r (local s k) f) (set_process s k (told_of f (s.process k)))
 fits_told r s fits k row f ok none counts =
     fits_told_with r s fits k row f ok
     (orders_process s k (told_of f (s.process k)) r.orders (told_delivered f (s.process k)) (told_members f (s.process k) none) counts fits.orders)

@@ -17,42 +17,42 @@ use Rattle.cast_message.specs.declared.message.Message.{Message}
 use Rattle.cast_message.specs.Bodies.{kind_of}
 use Rattle.cast_delay.specs.Ready.{Process, is_member, has_delivered}
 use Rattle.cast_delay.specs.Queue.{row_of}
-use Rattle.cast_delay.proofs.Listed.{list_any-append}
+use Rattle.cast_delay.proofs.ListLemmas.{list_any-append}
 use Rattle.cast_delay.proofs.Queues.{delivered_by}
 use Rattle.cast_clock.specs.Times.{join}
 use Rattle.cast_clock.proofs.Entries.{option_cases}
-use Rattle.cast_history.specs.Rules.Rest.{told_of}
+use Rattle.cast_rules.specs.Rules.Rest.{told_of}
 use Rattle.cast_order.specs.Order.{known_order, still_to_list}
-use Rattle.cast_history.specs.History.{history}
+use Rattle.cast_rules.specs.History.{history}
 use Rattle.cast_domain.specs.declared.record.GroupRecord.{GroupRecord}
 use Rattle.cast_types.specs.Names.{named}
 use Rattle.cast_timer.specs.declared.key.OwedKind.TheVariants.{Want}
 use Rattle.cast_delay.specs.Ready.{covered}
 use Rattle.cast_view.specs.MemberSide.{is_pending}
-use Rattle.cast_history.specs.State.{State, local, serials, gate_of, with_delivery, abcasts_with}
-use Rattle.cast_history.specs.Order.{holders, told_by}
-use Rattle.cast_history.specs.Turns.{is_ready_for}
-use Rattle.cast_history.specs.Effects.{sending, next_message}
-use Rattle.cast_history.specs.Rest.{deliver_first, deliver_all, settle, set_order_by, set_order, set_orders, pass, let_go}
-use Rattle.cast_history.proofs.Setting.{may_set_order, set_order_is}
-use Rattle.cast_history.specs.Resting.{resting, places_of}
-use Rattle.cast_history.specs.Lawful.{IsLawful}
+use Rattle.cast_rules.specs.State.{State, local, serials, gate_of, with_delivery, abcasts_with}
+use Rattle.cast_rules.specs.Order.{holders, told_by}
+use Rattle.cast_rules.specs.Turns.{is_ready_for}
+use Rattle.cast_rules.specs.Effects.{sending, next_message}
+use Rattle.cast_rules.specs.Rest.{deliver_first, deliver_all, settle, set_order_by, set_order, set_orders, pass, let_go}
+use Rattle.cast_rules.proofs.Setting.{may_set_order, set_order_is}
+use Rattle.cast_rules.specs.Resting.{resting, places_of}
+use Rattle.cast_rules.specs.Lawful.{IsLawful}
 use Rattle.cast_timer.specs.Owed.{is_owed}
 use Rattle.cast_view.specs.Home.{wants_in}
-use Rattle.cast_history.specs.Rules.Keys.{want_key, message_key}
-use Rattle.cast_history.specs.Rules.Flushes.{go_on_all}
-use Rattle.cast_history.specs.Rules.Home.{lead}
-use Rattle.cast_history.specs.Endings.{total, one_if, left, rank, ranks, undelivered, is_to_come, to_list_by, to_list_in, to_list, to_do, site_unowed, unowed_in, unowed, pendings}
+use Rattle.cast_rules.specs.Rules.Keys.{want_key, message_key}
+use Rattle.cast_rules.specs.Rules.Flushes.{go_on_all}
+use Rattle.cast_rules.specs.Rules.Home.{lead}
+use Rattle.cast_rules.specs.Endings.{total, one_if, left, rank, ranks, undelivered, is_to_come, to_list_by, to_list_in, to_list, to_do, site_unowed, unowed_in, unowed, pendings}
 use Rattle.cast_domain.specs.Records.{Records}
 use Rattle.cast_domain.specs.Fits.{record_for, process_named, Fits}
-use Rattle.cast_history.proofs.Alikes.{Alike, alike_sending}
-use Rattle.cast_history.proofs.Going.{goes_on}
-use Rattle.cast_history.proofs.Telling.{tells_told_if}
-use Rattle.cast_history.proofs.Settles.{alike_delivering, Delivers, delivering_one, delivers, ready_causally, ready_new}
-use Rattle.cast_history.proofs.Spots.{found_passes}
-use Rattle.cast_history.proofs.Rests.{moves_settle, moves_set_orders, moves_lead, moves_pass, never_more}
-use Rattle.cast_history.proofs.Totals.{total_same}
-use Rattle.cast_history.proofs.LawfulSteps.{same_lead}
+use Rattle.cast_rules.proofs.Alikes.{Alike, alike_sending}
+use Rattle.cast_rules.proofs.Going.{goes_on}
+use Rattle.cast_rules.proofs.Telling.{tells_told_if}
+use Rattle.cast_rules.proofs.Settles.{alike_delivering, Delivers, delivering_one, delivers, ready_causally, ready_new}
+use Rattle.cast_rules.proofs.Spots.{found_passes}
+use Rattle.cast_rules.proofs.Rests.{moves_settle, moves_set_orders, moves_lead, moves_pass, never_more}
+use Rattle.cast_rules.proofs.Totals.{total_same}
+use Rattle.cast_rules.proofs.LawfulSteps.{same_lead}
 use Rattle.cast_domain.proofs.Standing.{process_here, member_of_none}
 
 -- What a pass receives comes last

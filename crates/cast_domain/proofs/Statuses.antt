@@ -6,10 +6,10 @@ use Rattle.std.specs.Option.{option_map_or}
 use Rattle.std.proofs.lemmas.Bool.{false≢true, cases_Bool, cases_eq, and_parts, eqb-true, eq-eqb, ne_eqb, or_from, or_left, or_right, false_from_ne_true, ltb-true, leb-true}
 use Rattle.cast_types.specs.Sets.{set_at}
 use Rattle.cast_message.specs.declared.client.Push.{Push}
-use Rattle.cast_model.specs.declared.session.Status.{Status}
-use Rattle.cast_model.specs.declared.session.Status.TheVariants.{Open, Closed, Gone}
-use Rattle.cast_model.specs.Session.{Session, no_session, is_open, is_open_status, is_gone, is_gone_status}
-use Rattle.cast_history.specs.State.{was_given}
+use Rattle.cast_events.specs.declared.session.Status.{Status}
+use Rattle.cast_events.specs.declared.session.Status.TheVariants.{Open, Closed, Gone}
+use Rattle.cast_events.specs.Session.{Session, no_session, is_open, is_open_status, is_gone, is_gone_status}
+use Rattle.cast_rules.specs.State.{was_given}
 use Rattle.cast_domain.specs.declared.record.SessionRecord.{SessionRecord}
 use Rattle.cast_domain.specs.Calls.{with_status}
 use Rattle.cast_domain.specs.Fits.{status_in, session_for, is_there}

@@ -23,18 +23,18 @@ use Rattle.cast_order.proofs.Lists.{all_first, take_on}
 use Rattle.cast_order.proofs.Logs.{log_of_forget_first}
 use Rattle.cast_order.proofs.Meanings.{forget_fits, oldest_rules}
 use Rattle.cast_domain.specs.declared.record.GroupRecord.{GroupRecord}
-use Rattle.cast_history.specs.State.{State, no_process, local, gate_of}
-use Rattle.cast_history.specs.Order.{order_told, facts_in}
-use Rattle.cast_history.specs.Reports.{is_delivered_here}
-use Rattle.cast_history.specs.Lawful.{IsLawful}
-use Rattle.cast_history.proofs.Lawful.{range_all}
+use Rattle.cast_rules.specs.State.{State, no_process, local, gate_of}
+use Rattle.cast_rules.specs.Order.{order_told, facts_in}
+use Rattle.cast_rules.specs.Reports.{is_delivered_here}
+use Rattle.cast_rules.specs.Lawful.{IsLawful}
+use Rattle.cast_rules.proofs.Lawful.{range_all}
 use Rattle.cast_domain.specs.Records.{Records}
 use Rattle.cast_domain.specs.Calls.{standing_of, time_of, log_in, is_awaited_of, is_received_of}
 use Rattle.cast_domain.specs.Trims.{is_counted_of, is_past_of, is_kept_among, is_over_of, count_first, trim_in, trim_all_in}
 use Rattle.cast_domain.specs.Fits.{Fits, LogFits, TellsOrder, IsOver, is_still_kept, record_for, process_named, goes_on, has_passed}
 use Rattle.cast_domain.proofs.Standing.{record_there, standing_there, time_there, process_here, member_row}
 use Rattle.cast_domain.proofs.LogSteps.{none_left}
-use Rattle.cast_domain.proofs.Commands.{any_message}
+use Rattle.cast_domain.proofs.CommandSteps.{any_message}
 use Rattle.cast_domain.proofs.Rows.{row_given}
 use Rattle.cast_domain.proofs.Reports.{received_same, awaited_here}
 

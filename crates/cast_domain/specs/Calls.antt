@@ -29,52 +29,52 @@ use Rattle.cast_message.specs.declared.client.Push.{Push}
 use Rattle.cast_message.specs.declared.client.Push.TheVariants as push
 use Rattle.cast_message.specs.Bodies.{kind_of}
 use Rattle.cast_message.specs.Membership.{Membership}
-use Rattle.cast_message.specs.Stretch.{Stretch}
-use Rattle.cast_message.specs.Sequence.{Sequence}
-use Rattle.cast_message.specs.Keeping.{KeptList}
+use Rattle.cast_message.specs.Tail.{Tail}
+use Rattle.cast_message.specs.Placement.{Placement}
+use Rattle.cast_message.specs.KeptIds.{KeptList}
 use Rattle.cast_flush.specs.declared.report.Report.{Report}
 use Rattle.cast_delay.specs.Ready.{frozen_gate, pending_gate, is_member, first_of, covered}
-use Rattle.cast_delay.specs.Tallies.{counts_in}
+use Rattle.cast_delay.specs.DeliveredCounts.{counts_in}
 use Rattle.cast_delay.specs.declared.turn.Turn.{Turn}
 use Rattle.cast_delay.specs.declared.turn.Turn.TheVariants.{Holding, Following}
 use Rattle.cast_delay.specs.Fits.{offer_of}
 use Rattle.cast_delay.specs.Rows.{standing_in, told_row}
-use Rattle.cast_delay.specs.declared.row.Fact.{Fact}
-use Rattle.cast_delay.specs.declared.row.Fact.TheVariants as fact
+use Rattle.cast_delay.specs.declared.row.ProcessUpdate.{ProcessUpdate}
+use Rattle.cast_delay.specs.declared.row.ProcessUpdate.TheVariants as fact
 use Rattle.cast_delay.specs.Queue.{Queue, new_row, row_of, but_row, change_row, next_key, queue_gating, queue_viewing, queue_delivering, is_awaited, delivered_in, passed_in}
 use Rattle.cast_order.specs.Hand.{Hand, held, handed, told, noted, settled_by}
 use Rattle.cast_order.specs.Log.{Log, log_of, change_log, but_log, learnt, next_in, passed, hand_here, with_hand, next_places, places_by, known_past, length_of, closed_by, whole_kept, tail_start_in, tail_ids_in}
-use Rattle.cast_stable.specs.Ledger.{others_in, last_received_in, is_received_in, has_acked_in, upto_in, is_stable_in, told_ledger, received_ledger, acked_ledger, learnt_ledger}
+use Rattle.cast_stable.specs.Acks.{others_in, last_received_in, is_received_in, has_acked_in, upto_in, is_stable_in, told_ledger, received_ledger, acked_ledger, learnt_ledger}
 use Rattle.cast_timer.specs.declared.key.OwedKey.{OwedKey}
 use Rattle.cast_timer.specs.Owed.{is_owed, due_at}
 use Rattle.cast_message.specs.Receipts.{key_eq, messages, message_under}
 use Rattle.cast_domain.specs.declared.record.GroupRecord.{GroupRecord}
 use Rattle.cast_quota.specs.declared.quotas.QuotaName.{QuotaName}
 use Rattle.cast_quota.specs.Quotas.{with_quota}
-use Rattle.cast_model.specs.declared.limits.TheConstants.{MAX_CASTS}
-use Rattle.cast_model.specs.declared.session.Status.{Status}
-use Rattle.cast_model.specs.declared.session.Status.TheVariants.{Open, Closed}
-use Rattle.cast_model.specs.Session.{is_open_status, is_gone_status}
+use Rattle.cast_events.specs.declared.limits.TheConstants.{MAX_CASTS}
+use Rattle.cast_events.specs.declared.session.Status.{Status}
+use Rattle.cast_events.specs.declared.session.Status.TheVariants.{Open, Closed}
+use Rattle.cast_events.specs.Session.{is_open_status, is_gone_status}
 use Rattle.cast_domain.specs.declared.record.SessionRecord.{SessionRecord}
 use Rattle.cast_view.specs.declared.member.Pending.{Pending}
 use Rattle.cast_view.specs.MemberSide.{MemberSide, no_group, members_of, holder_at, is_current, is_open_to, with_request, with_answer, frozen_side, report_of, with_pending, with_view, is_taken_in}
 use Rattle.cast_view.specs.Sites.{is_at, other_sites}
 use Rattle.cast_view.specs.Home.{HomeMove, first_home, is_empty, moved}
 use Rattle.cast_domain.specs.Shared.{part_boxing, part_pushing, part_taking, part_with, part_without, part_owing, part_renewing, part_paying, part_paying_upto, part_paying_view}
-use Rattle.cast_history.specs.State.{was_given}
-use Rattle.cast_history.specs.Rules.Interface.{Site, Sessions, Resting}
-use Rattle.cast_history.specs.Rules.Rest.{tell_if, told_of}
-use Rattle.cast_history.specs.Rules.Room.{may_order}
-use Rattle.cast_history.specs.Rules.Leaving.{end_session}
-use Rattle.cast_history.specs.Rules.Events.{acted, answered}
-use Rattle.cast_history.specs.Rules.Home.{on_flushed}
-use Rattle.cast_history.specs.Rules.Views.{on_install}
-use Rattle.cast_history.specs.Rules.Flushes.{complete}
-use Rattle.cast_model.specs.declared.event.Event.{Event}
-use Rattle.cast_model.specs.declared.event.Event.TheVariants.{Gone}
-use Rattle.cast_model.specs.declared.event.Taken.{Taken}
-use Rattle.cast_history.specs.Rules.Sending.{may_raise}
-use Rattle.cast_history.specs.Reports.{is_unplaced, kept_list}
+use Rattle.cast_rules.specs.State.{was_given}
+use Rattle.cast_rules.specs.Rules.Interface.{Site, Sessions, Resting}
+use Rattle.cast_rules.specs.Rules.Rest.{tell_if, told_of}
+use Rattle.cast_rules.specs.Rules.Room.{may_order}
+use Rattle.cast_rules.specs.Rules.Leaving.{end_session}
+use Rattle.cast_rules.specs.Rules.Events.{acted, answered}
+use Rattle.cast_rules.specs.Rules.Home.{on_flushed}
+use Rattle.cast_rules.specs.Rules.Views.{on_install}
+use Rattle.cast_rules.specs.Rules.Flushes.{complete}
+use Rattle.cast_events.specs.declared.event.Event.{Event}
+use Rattle.cast_events.specs.declared.event.Event.TheVariants.{Gone}
+use Rattle.cast_events.specs.declared.event.Taken.{Taken}
+use Rattle.cast_rules.specs.Rules.Sending.{may_raise}
+use Rattle.cast_rules.specs.Reports.{is_unplaced, kept_list}
 use Rattle.cast_domain.specs.declared.rest.Delivery.{Delivery}
 use Rattle.cast_domain.specs.declared.rest.Weight.{Weight}
 use Rattle.cast_domain.specs.declared.rest.Weight.TheVariants.{Nothing, Placed, Hands}
@@ -156,7 +156,7 @@ set_quota_in r name value = record r { quotas = with_quota name value r.quotas }
 abbrev pub count_cast_in : Records → Records
 count_cast_in r = record r { casts = min MAX_CASTS (r.casts + 1) }
 
-abbrev pub tell_in : Records → Proc → Fact → Records
+abbrev pub tell_in : Records → Proc → ProcessUpdate → Records
 tell_in r p f = record r { delay = record r.delay { rows = change_row p (told_row f) r.delay.rows } }
 
 -- Owed frames
@@ -224,7 +224,7 @@ abbrev pub move_home_in : Records → ℕ → HomeMove → Records
 move_home_in r i move = record r { groups = update r.groups i (moved_home move) }
 
 -- what a site reports, by the parts of its frame
-abbrev pub reported : CountList → Stretch → KeptList → Report
+abbrev pub reported : CountList → Tail → KeptList → Report
 reported counts tail kept = record { counts = counts; tail = tail; kept = kept }
 
 -- Processes
@@ -240,7 +240,7 @@ abbrev pub settled_in : Records → GroupNo → ℕ → Proc → ℕ
 settled_in r g view p = if is_empty (others_in r.acks g) then MAX_NUMBER else upto_in r.acks (named g view (p, 0))
 
 -- what is kept of a process that sent a set-order message: that it did so, and that the token is handed over, if it is
-abbrev pub sent_hand : ℕ → ℕ → Sequence → Hand → Hand
+abbrev pub sent_hand : ℕ → ℕ → Placement → Hand → Hand
 sent_hand count stable s h =
     let now : Hand = noted count (s.first + length s.ids - 1) stable h in if is_some s.holder then handed now else now
 
@@ -297,8 +297,8 @@ view_in r i n members =
       orders = holding_from (record_at r.groups i).name (holder_at r.site (with_view r.site n members (record_at r.groups i).here)) (but_log (record_at r.groups i).name r.orders);
     }
 
-abbrev pub complete_in : Records → ℕ → ℕ → Membership → ℕ → Records
-complete_in r i n members request =
+abbrev pub begin_view_in : Records → ℕ → ℕ → Membership → ℕ → Records
+begin_view_in r i n members request =
     fold (take_in (record_at r.groups i).name n request) (view_in r i n members) members.list
 
 -- a member of a group is put out
@@ -318,7 +318,7 @@ put_out_all_in g skips members r = fold (put_out_if_in g skips members) r (seria
 
 -- the site passes to the next view of the group at a place
 abbrev pub pass_in : Records → ℕ → Bool → ℕ → Membership → ℕ → Records
-pass_in r i skips n members request = complete_in (put_out_all_in (record_at r.groups i).name skips members r) i n members request
+pass_in r i skips n members request = begin_view_in (put_out_all_in (record_at r.groups i).name skips members r) i n members request
 
 -- who is put out then, and who is a member of a group
 abbrev pub serials_put_out : GroupNo → Bool → Membership → Records → List ℕ
@@ -357,7 +357,7 @@ abbrev pub with_install : Pending → GroupRecord → GroupRecord
 with_install p x = record x { here = with_pending x.here p }
 
 -- the Install of its next view waits, and its order is closed
-abbrev pub pend_in : Records → ℕ → Pending → Stretch → Records
+abbrev pub pend_in : Records → ℕ → Pending → Tail → Records
 pend_in r i p tail =
     let g : GroupNo = (record_at r.groups i).name in
     record r {
@@ -415,7 +415,7 @@ abbrev pub is_unplaced_of : Records → GroupRecord → Option Proc → List Rec
 is_unplaced_of r x holder kept e = is_unplaced (kept_of_view x kept) (whole_kept (log_of r.orders x.name) holder) e
 
 -- the end of the order that a log has
-abbrev pub tail_in : Log → Option Proc → Stretch
+abbrev pub tail_in : Log → Option Proc → Tail
 tail_in l o = record { start = min MAX_POSITION (tail_start_in l o); ids = tail_ids_in l o }
 
 abbrev pub report_at : Records → GroupRecord → Report
@@ -611,14 +611,14 @@ answered_in r e = answered records records_sessions r e
 
 -- Rules of what has many parts, by these
 
-abbrev pub on_flushed_in : Records → ℕ → SiteNo → ℕ → CountList → Stretch → KeptList → Records
+abbrev pub on_flushed_in : Records → ℕ → SiteNo → ℕ → CountList → Tail → KeptList → Records
 on_flushed_in r i from view counts tail kept = on_flushed records r i from view (reported counts tail kept)
 
-abbrev pub on_install_in : Records → ℕ → SiteNo → ℕ → Membership → ℕ → CountList → Stretch → Records
+abbrev pub on_install_in : Records → ℕ → SiteNo → ℕ → Membership → ℕ → CountList → Tail → Records
 on_install_in r i from view members request cut tail = on_install records r i from view members request cut tail
 
-abbrev pub complete_pending_in : Records → ℕ → Membership → ℕ → CountList → Records
-complete_pending_in r i members request cut = complete records r i (pending_of members request cut)
+abbrev pub complete_in : Records → ℕ → Membership → ℕ → CountList → Records
+complete_in r i members request cut = complete records r i (pending_of members request cut)
 
 -- The order of a view
 

@@ -1,6 +1,6 @@
 -- What a copy of a domain is.
 use Rattle.std.specs.Prelude.{◌≡◌}
-use Rattle.cast_model.specs.declared.event.Outs.{Outs}
+use Rattle.cast_events.specs.declared.event.Outs.{Outs}
 use Rattle.cast_domain.specs.declared.domain.Domain.{Domain}
 use Rattle.cast_domain.specs.Records.{is_halted, records_of}
 use Rattle.cast_domain.specs.Shared.{Part}

@@ -26,21 +26,21 @@ use Rattle.cast_order.specs.Fits.{Fits as OrderFits, FitsClosed}
 use Rattle.cast_domain.specs.declared.domain.Domain.{Domain}
 use Rattle.cast_domain.specs.declared.record.GroupRecord.{GroupRecord}
 use Rattle.cast_timer.specs.declared.key.Owed.{Owed}
-use Rattle.cast_model.specs.declared.config.DomainConfig.{DomainConfig}
+use Rattle.cast_events.specs.declared.config.DomainConfig.{DomainConfig}
 use Rattle.cast_domain.specs.declared.record.SessionRecord.{SessionRecord}
 use Rattle.cast_message.specs.declared.client.Push.{Push}
 use Rattle.cast_quota.specs.declared.quotas.Quotas.{Quotas}
-use Rattle.cast_model.specs.declared.session.Status.{Status}
-use Rattle.cast_model.specs.declared.session.Status.TheVariants.{Gone}
-use Rattle.cast_model.specs.Session.{Session, no_session, is_gone, is_gone_status}
+use Rattle.cast_events.specs.declared.session.Status.{Status}
+use Rattle.cast_events.specs.declared.session.Status.TheVariants.{Gone}
+use Rattle.cast_events.specs.Session.{Session, no_session, is_gone, is_gone_status}
 use Rattle.cast_view.specs.MemberSide.{is_pending}
 use Rattle.cast_view.specs.Home.{is_empty}
-use Rattle.cast_history.specs.Lawful.{IsLawful}
-use Rattle.cast_history.specs.State.{State, local, no_process, gate_of, others_of, may_speak, upto, was_given, is_received}
-use Rattle.cast_history.specs.Order.{facts_in, order_told, token_of, abcasts_delivered, lists_of}
-use Rattle.cast_history.specs.Run.{before_event}
+use Rattle.cast_rules.specs.Lawful.{IsLawful}
+use Rattle.cast_rules.specs.State.{State, local, no_process, gate_of, others_of, may_speak, upto, was_given, is_received}
+use Rattle.cast_rules.specs.Order.{facts_in, order_told, token_of, abcasts_delivered, lists_of}
+use Rattle.cast_rules.specs.Run.{before_event}
 use Rattle.cast_domain.specs.Shared.{Part}
-use Rattle.cast_model.specs.Outs.{no_outs}
+use Rattle.cast_events.specs.Outs.{no_outs}
 use Rattle.cast_domain.specs.Records.{Records, records_of}
 
 -- a process by its name
@@ -193,7 +193,7 @@ abbrev pub AreDismissed : Records → Type 0
 AreDismissed r = (k : ℕ) → is_gone_status (status_in r.sessions k) ≡ true → row_of r.delay.rows (record { site = r.site; serial = k }) ≡ None
 
 -- a domain between two steps, with its part of what is shared, stands for a history
-pub record Means (d : Domain) (part : Part) (s : State) : Type 0 where
+pub record Represents (d : Domain) (part : Part) (s : State) : Type 0 where
   pub fits : Fits (records_of d part no_outs) (before_event s)
   pub lawful : IsLawful s
   pub dismissed : AreDismissed (records_of d part no_outs)

@@ -5,13 +5,13 @@ use Rattle.cast_types.specs.declared.names.SiteNo.{SiteNo}
 use Rattle.cast_types.specs.Names.{Entry}
 use Rattle.cast_timer.specs.Owed.{is_owed}
 use Rattle.cast_view.specs.Home.{may_start, may_decide}
-use Rattle.cast_history.specs.Rules.Asking.{is_home}
-use Rattle.cast_history.specs.Rules.Home.{start, want_bodies, wants, lead_group}
-use Rattle.cast_history.specs.Rules.Keys.{want_key}
-use Rattle.cast_history.specs.Rules.Flushes.{own_want_key, go_on, go_on_all}
-use Rattle.cast_history.specs.Rules.Order.{may_list, set_order_by, set_order, set_orders}
-use Rattle.cast_history.specs.Rules.Rest.{deliver_all, settle}
-use Rattle.cast_history.specs.Rules.Sending.{may_raise}
+use Rattle.cast_rules.specs.Rules.Asking.{is_home}
+use Rattle.cast_rules.specs.Rules.Home.{start, want_bodies, wants, lead_group}
+use Rattle.cast_rules.specs.Rules.Keys.{want_key}
+use Rattle.cast_rules.specs.Rules.Flushes.{own_want_key, go_on, go_on_all}
+use Rattle.cast_rules.specs.Rules.Order.{may_list, set_order_by, set_order, set_orders}
+use Rattle.cast_rules.specs.Rules.Rest.{deliver_all, settle}
+use Rattle.cast_rules.specs.Rules.Sending.{may_raise}
 use Rattle.cast_domain.specs.Records.{Records}
 use Rattle.cast_domain.specs.Calls.{local_in, next_ready_in, record_at, records, resting_records, serials_in, time_of}
 

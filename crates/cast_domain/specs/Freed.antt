@@ -3,7 +3,7 @@ use Rattle.std.specs.Prelude.{◌≡◌, true, false, Contains}
 use Rattle.cast_types.specs.declared.names.Key.{Key}
 use Rattle.cast_message.specs.declared.message.Received.{Received}
 use Rattle.cast_store.specs.Ids.{IsKeptOf}
-use Rattle.cast_history.specs.Rules.Release.{is_free}
+use Rattle.cast_rules.specs.Rules.Release.{is_free}
 use Rattle.cast_domain.specs.Records.{Records}
 use Rattle.cast_domain.specs.Calls.{records, resting_records}
 

@@ -8,18 +8,18 @@ use Rattle.cast_types.specs.declared.refusal.Refusal.{Refusal}
 use Rattle.cast_types.specs.Counts.{CountList}
 use Rattle.cast_message.specs.declared.site.SiteFrame.{SiteFrame}
 use Rattle.cast_delay.specs.Queue.{Queue}
-use Rattle.cast_stable.specs.Ledger.{Ledger}
+use Rattle.cast_stable.specs.Acks.{Acks}
 use Rattle.cast_order.specs.Log.{Log}
-use Rattle.cast_model.specs.declared.config.DomainConfig.{DomainConfig}
-use Rattle.cast_history.specs.Rules.Leaving.{Attempt}
+use Rattle.cast_events.specs.declared.config.DomainConfig.{DomainConfig}
+use Rattle.cast_rules.specs.Rules.Leaving.{Attempt}
 use Rattle.cast_domain.specs.declared.domain.Domain.{Domain}
 use Rattle.cast_domain.specs.declared.record.GroupRecord.{GroupRecord}
 use Rattle.cast_domain.specs.declared.record.SessionRecord.{SessionRecord}
 use Rattle.cast_quota.specs.declared.quotas.Quotas.{Quotas}
 use Rattle.cast_message.specs.declared.client.Push.{Push}
-use Rattle.cast_model.specs.declared.event.Outs.{Outs}
+use Rattle.cast_events.specs.declared.event.Outs.{Outs}
 use Rattle.cast_domain.specs.declared.lent.Lent.{Lent}
-use Rattle.cast_model.specs.Outs.{no_outs}
+use Rattle.cast_events.specs.Outs.{no_outs}
 use Rattle.cast_domain.specs.declared.shared.Shared.{Shared}
 use Rattle.cast_domain.specs.Shared.{Part, no_part, part_of, LeavesOthers}
 
@@ -35,7 +35,7 @@ pub record Records : Type 0 where
   pub casts : ℕ
   pub part : Part
   pub delay : Queue
-  pub acks : Ledger
+  pub acks : Acks
   pub orders : List Log
   pub frames : List (DomainNo × SiteNo × SiteFrame)
   pub delivered : List (DomainNo × Proc × Uid)

@@ -2,19 +2,19 @@
 use Rattle.std.specs.Prelude.{◌≡◌, [], Result, Ok}
 use Rattle.cast_types.specs.declared.refusal.Refusal.TheVariants.{Halted}
 use Rattle.cast_domain.specs.declared.domain.Domain.{Domain}
-use Rattle.cast_model.specs.declared.event.Event.{Event}
-use Rattle.cast_model.specs.declared.event.Outs.{Outs}
-use Rattle.cast_model.specs.declared.event.Taken.{Taken}
-use Rattle.cast_model.specs.declared.event.Taken.TheVariants.{Refused}
-use Rattle.cast_history.specs.State.{State}
-use Rattle.cast_history.specs.Run.{IsStep}
-use Rattle.cast_history.specs.Rest.{RestsAt}
+use Rattle.cast_events.specs.declared.event.Event.{Event}
+use Rattle.cast_events.specs.declared.event.Outs.{Outs}
+use Rattle.cast_events.specs.declared.event.Taken.{Taken}
+use Rattle.cast_events.specs.declared.event.Taken.TheVariants.{Refused}
+use Rattle.cast_rules.specs.State.{State}
+use Rattle.cast_rules.specs.Run.{IsStep}
+use Rattle.cast_rules.specs.Rest.{RestsAt}
 use Rattle.cast_domain.specs.Shared.{Part, part_of}
-use Rattle.cast_model.specs.Outs.{outs_then}
+use Rattle.cast_events.specs.Outs.{outs_then}
 use Rattle.cast_domain.specs.Records.{Records, number_of}
 use Rattle.cast_domain.specs.declared.shared.Shared.{Shared}
-use Rattle.cast_history.specs.Lawful.{IsLawful}
-use Rattle.cast_domain.specs.Fits.{Fits, Means, tagged}
+use Rattle.cast_rules.specs.Lawful.{IsLawful}
+use Rattle.cast_domain.specs.Fits.{Fits, Represents, tagged}
 
 -- whatever lawful history the old records stand for, the new ones stand for the one in which it comes to rest
 abbrev pub IsRested : Records → Records → Type 0
@@ -35,12 +35,12 @@ step_outs s =
 pub record IsStepOf (s : State) (e : Event) (answer : Taken) (new : Domain) (part : Part) (before : Outs) (after : Outs) : Type 0 where
   pub end : State
   pub steps : IsStep s e answer end
-  pub means : Means new part end
+  pub means : Represents new part end
   pub outs : after ≡ outs_then before (step_outs end)
 
 -- whatever history the domain stood for, with its part of what is shared before and after
 abbrev pub IsStepped : Domain → Part → Event → Taken → Domain → Part → Outs → Outs → Type 0
-IsStepped old part e answer new next before after = (s : State) → Means old part s → IsStepOf s e answer new next before after
+IsStepped old part e answer new next before after = (s : State) → Represents old part s → IsStepOf s e answer new next before after
 
 -- the same beside all that is shared
 abbrev pub IsSteppedBeside : Domain → Shared → Outs → Event → Domain → Shared → Outs → Taken → Type 0

@@ -1,20 +1,18 @@
-ghost use Rattle.std.specs.Prelude.{◌≡◌, ◌<◌, true, false, None, [], IfSome, IfOk, OnOk, OnErr, length, vec_len};
-ghost use Rattle.cast_history.specs.Rules.Room.{may_receive};
+ghost use Rattle.std.specs.Prelude.{◌<◌, not};
 
-mod copy;
-
-use crate::frames::promised_by_types;
 use crate::lent::Lent;
 use crate::record::{GroupRecord, SessionRecord, place_among};
 use crate::shared::Shared;
-use cast_delay::{Delay, Fact};
+use cast_delay::{Delay, ProcessUpdate};
+use cast_events::{DomainConfig, Event, Moment, Outs, Quotas, Taken};
 use cast_message::SiteFrame;
-use cast_model::{DomainConfig, Event, Moment, Outs, Quotas, Taken};
 use cast_order::Orders;
 use cast_stable::Acks;
 use cast_types::{DomainNo, GroupNo, NoMemory, Proc, Refusal, SiteNo};
 use cast_view::{HomeSide, MemberSide};
 use std::alloc::Global;
+
+mod copy;
 
 /// One domain at one site: one tenant, alone.
 #[derive(Drop)]
@@ -39,19 +37,27 @@ pub struct Domain {
 }
 
 impl Domain {
+    ghost use Rattle.std.specs.Prelude.{◌≡◌, true, false, None, IfSome, IfOk, OnOk, OnErr, vec_len};
     ghost use Rattle.cast_types.specs.Names.{group_cmp};
     ghost use Rattle.cast_types.specs.Rising.{is_rising};
-    ghost use Rattle.cast_history.specs.State.{opening};
-    ghost use Rattle.cast_domain.specs.Records.{number_of, is_halted, IsFor};
-    ghost use Rattle.cast_domain.specs.Shared.{no_part};
-    ghost use Rattle.cast_domain.specs.Fits.{Means};
+    ghost use Rattle.cast_rules.specs.State.{opening};
+    ghost use Rattle.cast_domain.specs.Records.{number_of, is_halted, IsFor, Keeps, records_beside, Makes, MakesAlone, MakesWithOuts};
+    ghost use Rattle.cast_domain.specs.Shared.{no_part, LeavesOthers};
+    ghost use Rattle.cast_domain.specs.Fits.{Represents};
+    ghost use Rattle.cast_events.specs.Events.{domain_of};
+    ghost use Rattle.cast_domain.specs.Stepped.{IsSteppedBeside, IsRefusedBeside};
+    ghost use Rattle.cast_domain.specs.Calls.{place_among, record_at, send_in, tell_in, answered_in};
+    ghost use Rattle.cast_rules.specs.Rules.Home.{want};
+    ghost use Rattle.cast_events.specs.declared.event.Outs.{Outs};
+    ghost use Rattle.cast_rules.specs.Rules.Leaving.{tell};
+    ghost use Rattle.cast_rules.specs.Rules.Release.{let_go};
 
     /// A domain before its first event.
     pub fn new(alloc: Global, site: SiteNo, config: DomainConfig) -> Result<Self, NoMemory>
         ensures number { IfOk result (λ d. number_of d ≡ config.domain) }
         ensures running { IfOk result (λ d. is_halted d ≡ false) }
         ensures placed { IfOk result (λ d. IsFor site config d) }
-        ensures begins { IfOk result (λ d. is_rising group_cmp config.groups ≡ true → Means d no_part (opening site config)) }
+        ensures begins { IfOk result (λ d. is_rising group_cmp config.groups ≡ true → Represents d no_part (opening site config)) }
     {
         let mut groups = Vec::new(alloc);
         for group in config.groups.as_slice() {
@@ -90,16 +96,6 @@ impl Domain {
     {
         self.halted
     }
-}
-
-impl Domain {
-    ghost use Rattle.cast_types.specs.Names.{site_eq};
-    ghost use Rattle.cast_model.specs.Events.{domain_of};
-    ghost use Rattle.cast_domain.specs.Records.{GivesBack, Keeps, KeepsBeside, is_halted, number_of, records_in, records_beside, Makes, MakesAlone, MakesWithOuts};
-    ghost use Rattle.cast_domain.specs.Shared.{LeavesOthers, part_of};
-    ghost use Rattle.cast_history.specs.Lawful.{IsTyped};
-    ghost use Rattle.cast_domain.specs.Stepped.{IsSteppedBeside, IsRefusedBeside};
-    ghost use Rattle.cast_domain.specs.Calls.{acted_in, records, place_among, record_at, send_in, tell_in, answered_in};
 
     /// The process of a session.
     pub(crate) fn process(&self, serial: u32) -> Proc
@@ -127,22 +123,8 @@ impl Domain {
         &self.groups[place]
     }
 
-    // Whether the domain's home is here.
-    pub(crate) fn is_home(&self) -> bool
-        ensures { result ≡ site_eq self.now.site self.now.config.home }
-    {
-        self.site == self.config.home
-    }
-
-    // Whether a site is the one of the domain's home.
-    pub(crate) fn is_from_home(&self, site: SiteNo) -> bool
-        ensures { result ≡ site_eq site self.now.config.home }
-    {
-        site == self.config.home
-    }
-
     // Tells the delay queue of a process.
-    pub(crate) fn tell(&mut self, process: Proc, fact: Fact) -> Result<(), NoMemory>
+    pub(crate) fn tell(&mut self, process: Proc, fact: ProcessUpdate) -> Result<(), NoMemory>
         ensures kept { Keeps self.old self.new }
         ensures made { OnOk result (MakesAlone (λ r. tell_in r process fact) self.old self.new) }
         ensures groups { self.new.groups ≡ self.old.groups }
@@ -156,20 +138,6 @@ impl Domain {
         ensures { OnOk result (MakesWithOuts (λ r. send_in r to frame) self.now outs.old self.now outs.new) }
     {
         outs.send(self.config.domain, to, frame)
-    }
-
-    // How many messages the domain keeps.
-    pub(crate) fn held(&self, lent: &Lent<'_>) -> usize
-        ensures { result ≡ length (part_of self.now.config.domain lent.now.shared.now).kept }
-    {
-        lent.shared.store.held(self.config.domain)
-    }
-
-    // Whether one more message may be received beside those that are kept.
-    pub(crate) fn has_room(&self, lent: &Lent<'_>) -> bool
-        ensures { result ≡ may_receive records (records_in self.now lent.now) }
-    {
-        self.quotas.check_cast(self.held(lent))
     }
 
     /// Makes one step: the event, and then what follows from it until nothing changes. What is sent and delivered is
@@ -222,43 +190,9 @@ impl Domain {
         let taken = self.act(event, &mut lent)?;
         self.let_go(&mut lent);
         self.rest(&mut lent)?;
-        let kept = lent.shared.store.kept(self.config.domain);
+        let kept = lent.shared.store.messages(self.config.domain);
         self.trim_orders(kept);
         outs.append(step)?;
         Ok(taken)
-    }
-
-    // What the event does at once.
-    fn act(&mut self, event: &Event, lent: &mut Lent<'_>) -> Result<Taken, NoMemory>
-        ensures answer { IfOk result (λ t. t ≡ answered_in (records_in self.old lent.old) event.now) }
-        ensures same { (self.new.site ≡ self.old.site) × (self.new.config ≡ self.old.config) × (self.new.halted ≡ self.old.halted) }
-        ensures back { GivesBack self.old.config.domain lent.old lent.new }
-        ensures made { OnOk result (Makes (λ r. acted_in r event.now) self.old lent.old self.new lent.new) }
-        ensures typed { IsTyped event.now }
-    {
-        match event {
-            Event::Open(_) => self.open(lent),
-            Event::Command {
-                serial,
-                command,
-                ..
-            } => self.command(*serial, command, lent),
-            Event::Gone { serial, .. } => self.end_session(*serial, lent),
-            Event::Suspect(_, site) => {
-                self.suspect(*site, lent)?;
-                Ok(Taken::Nothing)
-            }
-            Event::Quota { name, value, .. } => Ok(self.set_quota(*name, *value)),
-            Event::Take { serial, most, .. } => self.take(*serial, *most, lent),
-            Event::Frame(_, from, frame) => {
-                promised_by_types(frame);
-                self.frame(*from, frame, lent)?;
-                Ok(Taken::Nothing)
-            }
-            Event::Tick(millis) => {
-                self.tick(*millis, lent)?;
-                Ok(Taken::Nothing)
-            }
-        }
     }
 }

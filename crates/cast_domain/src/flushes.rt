@@ -1,40 +1,45 @@
-ghost use Rattle.std.specs.Prelude.{◌≡◌, ◌<◌, ◌≤◌, ◌&&◌, ◌||◌, ◌==◌, ◌++◌, true, min, IfOk, OnOk, length, map, take, vec_len};
-ghost use Rattle.std.specs.List.{fold, list_all, list_any};
-ghost use Rattle.cast_types.specs.Names.{entry_cmp, entry_of, group_eq};
-ghost use Rattle.cast_types.specs.Sets.{set_of};
-ghost use Rattle.cast_types.specs.declared.limits.TheConstants.{MAX_PLACED, MAX_POSITION};
-ghost use Rattle.cast_order.specs.Log.{log_of, whole_kept};
-ghost use Rattle.cast_view.specs.Sites.{is_at};
-ghost use Rattle.cast_domain.specs.Flags.{goes_on as goes_on_at, goes_on_some, wants_own_more};
-ghost use Rattle.cast_view.specs.MemberSide.{answers_prepare, verdict_of};
-ghost use Rattle.cast_view.specs.declared.member.Pending.{Pending};
-ghost use Rattle.cast_view.specs.declared.member.Verdict.TheVariants.{Pends};
-ghost use Rattle.cast_history.specs.Reports.{kept_list};
+ghost use Rattle.std.specs.Prelude.{◌≡◌, ◌<◌, OnOk, length, ◌≤◌, ◌&&◌, ◌==◌, min};
+ghost use Rattle.std.specs.List.{list_any};
+ghost use Rattle.cast_types.specs.declared.limits.TheConstants.{MAX_POSITION};
 ghost use Rattle.cast_domain.specs.Calls.{is_kept_of, with_name_of, is_abcast_named};
-ghost use Rattle.cast_history.specs.Rules.Data.{want_no_more};
-ghost use Rattle.cast_history.specs.Rules.Flushes.{complete_or_want, go_on, go_on_all, is_wanted_here, on_prepare, on_wanted, own_want_key, want_own};
+ghost use Rattle.cast_rules.specs.Rules.Home.{start};
 
+use crate::data::is_named;
 use crate::domain::Domain;
-use crate::frames::is_named;
+use crate::keys::message_key;
 use crate::lent::Lent;
-use crate::owing::message_key;
-use crate::record::{GroupRecord, freeze_at, pend_at};
+use crate::record::{GroupRecord, freeze_at, pend_at, report_at};
 use cast_flush::Report;
-use cast_message::{Kept, Members, Message, Received, SiteFrame, Tail};
-use cast_model::Outs;
+use cast_message::{KeptIds, Membership, Message, Received, SiteFrame, Tail};
 use cast_timer::OwedKind;
 use cast_types::limits::{MAX_KEPT, MAX_PLACED, MAX_POSITION};
-use cast_types::{Counts, Listed, NoMemory, Proc, SiteNo, Uid, sorted};
+use cast_types::{Counts, List, NoMemory, Proc, SiteNo, Uid, sorted};
 
 impl Domain {
-    ghost use Rattle.cast_types.specs.Names.{Entry};
-    ghost use Rattle.cast_history.specs.Rules.Asking.{is_from_home};
-    ghost use Rattle.cast_domain.specs.Records.{GivesBack, Keeps, KeepsBeside, records_in, own_records, Makes, MakesAtAnyCut, MakesAlone, StaysUnless, TellsAlone};
-    ghost use Rattle.cast_domain.specs.Calls.{freeze_in, had_of, is_awaited_of, is_received_of, pend_in, record_at, records, report_at, resting_records, tail_in, pending_of, last_sent_of, kept_of_view, is_unplaced_of, has_cut_in, missing_in, added_if, missing_upto, with_unreceived, complete_pending_in};
+    ghost use Rattle.std.specs.Prelude.{true, false, IfOk, vec_len, ◌||◌, ◌++◌, map, take, not, ◌+◌, Some};
+    ghost use Rattle.cast_domain.specs.Records.{GivesBack, Keeps, KeepsBeside, records_in, Makes, MakesAlone, own_records, MakesAtAnyCut, StaysUnless, TellsAlone};
+    ghost use Rattle.cast_domain.specs.Calls.{records, record_at, freeze_in, had_of, is_awaited_of, is_received_of, pend_in, report_at, resting_records, pending_of, last_sent_of, kept_of_view, is_unplaced_of, has_cut_in, missing_in, added_if, missing_upto, with_unreceived, complete_in};
+    ghost use Rattle.std.specs.List.{fold};
+    ghost use Rattle.cast_types.specs.Names.{entry_cmp, entry_of};
+    ghost use Rattle.cast_types.specs.Sets.{set_of};
+    ghost use Rattle.cast_types.specs.declared.limits.TheConstants.{MAX_PLACED};
+    ghost use Rattle.cast_order.specs.Log.{log_of, whole_kept};
+    ghost use Rattle.cast_view.specs.Sites.{is_at};
+    ghost use Rattle.cast_domain.specs.Flags.{goes_on as goes_on_at, goes_on_some, wants_own_more};
+    ghost use Rattle.cast_view.specs.MemberSide.{answers_prepare, verdict_of};
+    ghost use Rattle.cast_view.specs.declared.member.Verdict.TheVariants.{Pends};
+    ghost use Rattle.cast_rules.specs.Reports.{kept_list};
+    ghost use Rattle.cast_rules.specs.Rules.Data.{want_no_more, is_well_formed};
+    ghost use Rattle.cast_rules.specs.Rules.Flushes.{go_on, go_on_all, is_wanted_here, on_prepare, on_wanted, want_own};
+    ghost use Rattle.cast_rules.specs.Rules.Asking.{is_from_home, request};
+    ghost use Rattle.cast_rules.specs.Rules.Home.{wants};
+    ghost use Rattle.cast_rules.specs.Rules.Keys.{message_key};
+    ghost use Rattle.cast_rules.specs.Rules.Owing.{owe};
+    ghost use Rattle.cast_rules.specs.Rules.Release.{let_go};
 
     // Prepare: the home asks what the site has of a view. From the first answer on the group is frozen, and the site answers as
     // often as it is asked, until an Install waits.
-    pub(crate) fn prepared(
+    pub(crate) fn on_prepare(
         &mut self,
         place: usize,
         from: SiteNo,
@@ -88,7 +93,7 @@ impl Domain {
         &mut self,
         place: usize,
         view: u32,
-        members: &Members,
+        members: &Membership,
         request: u32,
         cut: &Counts,
         tail: &Tail,
@@ -115,15 +120,19 @@ impl Domain {
         let holder = self.holder_here(record.name);
         let (start, ids) = self.orders.tail(record.name, holder)?;
         let tail = tail_from(start, ids);
-        let kept = self.kept_of(record, holder, lent.shared.store.kept(self.config.domain))?;
-        record.here.flushed(had.as_slice(), tail, kept)
+        let kept = self.kept_of(
+            record,
+            holder,
+            lent.shared.store.messages(self.config.domain),
+        )?;
+        record.here.flush_report(had.as_slice(), tail, kept)
     }
 
     // How far the messages of each process were delivered here in the view of a group, and the last ones that members here sent.
     fn had(&self, group: &GroupRecord) -> Result<Vec<(Proc, u32)>, NoMemory>
         ensures { IfOk result (λ had. had.items ≡ had_of (own_records self.now) group.now) }
     {
-        let mut had = self.delay.reached(group.name, group.here.number())?;
+        let mut had = self.delay.greatest_counts(group.name, group.here.number())?;
         for member in group.here.members() {
             self.add_sent(group, *member, &mut had)?;
         }
@@ -155,13 +164,13 @@ impl Domain {
         group: &GroupRecord,
         holder: Option<Proc>,
         kept: &[Received],
-    ) -> Result<Kept, NoMemory>
+    ) -> Result<KeptIds, NoMemory>
         ensures { IfOk result (λ list. list ≡ kept_list (kept_of_view group.now kept.now) (whole_kept (log_of self.now.orders group.now.name) holder)) }
     {
         let mut names = self.names_of(group, kept)?;
         names.truncate(MAX_KEPT);
-        let marked = self.marked(group, holder, kept, names.as_slice())?;
-        Ok(Kept::from_entries(marked))
+        let marked = self.mark_names(group, holder, kept, names.as_slice())?;
+        Ok(KeptIds::from_entries(marked))
     }
 
     // The names of kept messages of the view of a group, in order.
@@ -176,7 +185,7 @@ impl Domain {
     }
 
     // Names of messages of the view of a group, each marked where it is an ABCAST for which its order has no place.
-    fn marked(
+    fn mark_names(
         &self,
         group: &GroupRecord,
         holder: Option<Proc>,
@@ -206,7 +215,7 @@ impl Domain {
     }
 
     // Forward: a message that the site wants is received, for which no room is needed.
-    pub(crate) fn forwarded_here(
+    pub(crate) fn on_wanted(
         &mut self,
         place: usize,
         from: SiteNo,
@@ -233,18 +242,10 @@ impl Domain {
     {
         let here = &self.record(place).here;
         let key = message_key(OwedKind::Want, message.id, self.config.home);
-        here.pending().is_some()
+        here.pending_install().is_some()
             && lent.shared.timers.is_owed(self.config.domain, &key)
             && message.id.view == here.number()
             && self.is_well_formed(here.members(), message)
-    }
-
-    // A message is wanted from the home no more.
-    pub(crate) fn want_no_more(&self, id: Uid, lent: &mut Lent<'_>)
-        ensures back { GivesBack self.now.config.domain lent.old lent.new }
-        ensures made { Makes (λ r. want_no_more records r id) self.now lent.old self.now lent.new }
-    {
-        self.pay(&message_key(OwedKind::Want, id, self.config.home), lent);
     }
 
     // Installs that wait are completed, or what the site lacks is wanted, by group. Answers whether anything changed.
@@ -273,7 +274,7 @@ impl Domain {
         if place >= self.groups.len() {
             return Ok(false);
         }
-        let Some(pending) = self.record(place).here.pending() else {
+        let Some(pending) = self.record(place).here.pending_install() else {
             return Ok(false);
         };
         if !self.has_cut(place, &pending.cut) {
@@ -281,23 +282,23 @@ impl Domain {
         }
         let members = pending.members.copy()?;
         let request = pending.request;
-        self.complete_pending(place, &members, request, lent)?;
+        self.complete(place, &members, request, lent)?;
         self.let_go(lent);
         Ok(true)
     }
 
     // The Install of the next view is completed.
-    fn complete_pending(
+    fn complete(
         &mut self,
         place: usize,
-        members: &Members,
+        members: &Membership,
         request: u32,
         lent: &mut Lent<'_>,
     ) -> Result<(), NoMemory>
         requires placed { place < vec_len self.old.groups }
         requires below { (record_at self.old.groups.items place).here.number < 4294967295 }
         ensures stays { KeepsBeside self.old lent.old self.new lent.new }
-        ensures made { OnOk result (MakesAtAnyCut (λ r. complete_pending_in r place members.now request) self.old lent.old self.new lent.new) }
+        ensures made { OnOk result (MakesAtAnyCut (λ r. complete_in r place members.now request) self.old lent.old self.new lent.new) }
     {
         let next = self.record(place).here.number() + 1;
         self.install_view(false, place, self.config.home, next, members, request, lent)?;
@@ -341,7 +342,7 @@ impl Domain {
         ensures still { IfOk result (StaysUnless self.now lent.old self.now lent.new) }
         ensures told { IfOk result (λ changed. changed ≡ list_any (wants_own_more (records_in self.now lent.old) place) (missing_in (records_in self.now lent.old) place cut.now)) }
     {
-        let missing = self.missing(place, cut)?;
+        let missing = self.missing_ids(place, cut)?;
         let changed = self.want_all_missing(place, missing.as_slice(), lent)?;
         Ok(changed)
     }
@@ -397,7 +398,7 @@ impl Domain {
 
     // The first messages of a cut that some member here has not delivered, and that were not received. It looks at those alone that
     // not all have delivered: at most at the kept ones, and at 64 more.
-    fn missing(&self, place: usize, cut: &Counts) -> Result<Vec<(Proc, u32)>, NoMemory>
+    fn missing_ids(&self, place: usize, cut: &Counts) -> Result<Vec<(Proc, u32)>, NoMemory>
         requires { place < vec_len self.now.groups }
         ensures { IfOk result (λ missing. missing.items ≡ missing_in (own_records self.now) place cut.now) }
     {
@@ -509,7 +510,7 @@ fn is_abcast(message: &Message, name: (Proc, u32)) -> bool
 }
 
 // The end of an order, behind so many ids: before it stand no more than there are places.
-fn tail_from(start: usize, ids: Listed<(Proc, u32)>) -> Tail
+fn tail_from(start: usize, ids: List<(Proc, u32)>) -> Tail
     requires { length ids ≤ 512 }
     ensures { result ≡ record { start = min MAX_POSITION start; ids = ids } }
 {

@@ -1,80 +1,37 @@
-ghost use Rattle.std.specs.Prelude.{◌≡◌, ◌<◌, ◌&&◌, not, IfOk, OnOk, vec_len};
-ghost use Rattle.std.specs.List.{find, fold, list_any};
-ghost use Rattle.cast_view.specs.Home.{may_start, may_decide};
-ghost use Rattle.cast_domain.specs.Flags.{leads_in, leads_some, wants_more};
-ghost use Rattle.std.specs.Option.{option_copied};
-ghost use Rattle.cast_types.specs.Names.{entry_eq, entry_of, site_eq, uid_eq};
-ghost use Rattle.cast_history.specs.Rules.Requests.{answer_ask, on_ask};
+ghost use Rattle.std.specs.Prelude.{◌≡◌, ◌<◌, ◌&&◌, ◌==◌};
+ghost use Rattle.cast_types.specs.Names.{entry_of, entry_eq, uid_eq};
 ghost use Rattle.cast_types.specs.Sets.{is_among};
-ghost use Rattle.cast_history.specs.Rules.Home.{announce, decide, drop_want, drop_wants, forwardable, is_of_home, lead, lead_group, on_forward, on_installed, on_want, owe_of_home, prepare, release_site, start, suspect, suspect_in, want, want_bodies, want_eq, wants};
+ghost use Rattle.std.specs.List.{find};
+ghost use Rattle.std.specs.Option.{option_copied};
+ghost use Rattle.cast_rules.specs.Rules.Home.{want_eq, wants};
+ghost use Rattle.cast_rules.specs.Rules.Commands.{body_of};
 
 use crate::domain::Domain;
+use crate::keys::{home_key, want_key};
 use crate::lent::Lent;
-use crate::owing::{home_key, want_key};
-use crate::record::{
-    ask_home_at, body_at, decide_at, installed_at, report_at, start_at, suspect_at,
-};
+use crate::record::{body_at, decide_at, installed_at, report_at, start_at, suspect_at};
 use cast_flush::Report;
-use cast_message::{Change, Kept, Message, SiteFrame, Tail};
-use cast_model::Outs;
+use cast_message::{KeptIds, Message, SiteFrame, Tail};
 use cast_timer::OwedKind;
-use cast_types::{Counts, Listed, NoMemory, Proc, SiteNo, Uid};
+use cast_types::{Counts, List, NoMemory, Proc, SiteNo, Uid};
+use cast_view::is_among;
 
 impl Domain {
-    ghost use Rattle.cast_domain.specs.Records.{GivesBack, Keeps, KeepsBeside, records_in, Makes, MakesWithOuts, StaysUnless, TellsAlone};
-    ghost use Rattle.cast_domain.specs.Calls.{record_at, records, on_flushed_in};
-
-    // Ask: at the home a request is taken in, and answered where it is the next one of its site or was answered before.
-    pub(crate) fn asked_of_home(
-        &mut self,
-        place: usize,
-        from: SiteNo,
-        number: u32,
-        change: Change,
-        process: Proc,
-        outs: &mut Outs,
-    ) -> Result<(), NoMemory>
-        requires { place < vec_len self.old.groups }
-        ensures same { Keeps self.old self.new }
-        ensures made { OnOk result (MakesWithOuts (λ r. on_ask records r place from number change process) self.old outs.old self.new outs.new) }
-    {
-        if !self.is_home() {
-            return Ok(());
-        }
-        let full = ask_home_at(&mut self.groups, place, from, number, change, process)?;
-        self.answer_ask(place, from, number, full, outs)?;
-        Ok(())
-    }
-
-    // Answers a site's request, where it is answered, the group being full or not.
-    fn answer_ask(
-        &self,
-        place: usize,
-        to: SiteNo,
-        number: u32,
-        full: Option<bool>,
-        outs: &mut Outs,
-    ) -> Result<(), NoMemory>
-        requires { place < vec_len self.now.groups }
-        ensures { OnOk result (MakesWithOuts (λ r. answer_ask records r place to number full) self.now outs.old self.now outs.new) }
-    {
-        match full {
-            Some(full) => {
-                let group = self.record(place).name;
-                let frame = SiteFrame::Asked {
-                    group,
-                    number,
-                    full,
-                };
-                self.send(outs, to, frame)?;
-                Ok(())
-            }
-            None => Ok(()),
-        }
-    }
+    ghost use Rattle.std.specs.Prelude.{true, false, None, IfOk, OnOk, vec_len, not, Some};
+    ghost use Rattle.cast_types.specs.Names.{site_eq};
+    ghost use Rattle.cast_domain.specs.Records.{GivesBack, KeepsBeside, records_in, Makes, StaysUnless, TellsAlone};
+    ghost use Rattle.cast_domain.specs.Calls.{records, record_at, report_at, on_flushed_in};
+    ghost use Rattle.std.specs.List.{fold, list_any};
+    ghost use Rattle.cast_rules.specs.Rules.Data.{is_well_formed};
+    ghost use Rattle.cast_view.specs.Home.{may_start, may_decide};
+    ghost use Rattle.cast_domain.specs.Flags.{leads_in, leads_some, wants_more};
+    ghost use Rattle.cast_rules.specs.Rules.Home.{announce, decide, drop_want, drop_wants, forwardable, is_of_home, lead, lead_group, on_forward, on_installed, on_want, owe_of_home, prepare, release_site, start, suspect, suspect_in, want, want_bodies};
+    ghost use Rattle.cast_rules.specs.Rules.Keys.{home_key, want_key};
+    ghost use Rattle.cast_rules.specs.Rules.Owing.{owe};
+    ghost use Rattle.cast_rules.specs.Rules.Views.{install};
 
     // Installed: the home awaits no more that the site installs the view.
-    pub(crate) fn installed(
+    pub(crate) fn on_installed(
         &mut self,
         place: usize,
         from: SiteNo,
@@ -94,14 +51,14 @@ impl Domain {
     }
 
     // Flushed: a site's first report of the view that the home flushes counts, and Prepare is owed to it no more.
-    pub(crate) fn flushed(
+    pub(crate) fn on_flushed(
         &mut self,
         place: usize,
         from: SiteNo,
         view: u32,
         counts: &Counts,
         tail: &Tail,
-        kept: &Kept,
+        kept: &KeptIds,
         lent: &mut Lent<'_>,
     ) -> Result<(), NoMemory>
         requires { place < vec_len self.old.groups }
@@ -215,7 +172,7 @@ impl Domain {
     }
 
     // Forward: a message that the home wants, of the view that it flushes, is wanted no more.
-    pub(crate) fn forwarded(
+    pub(crate) fn on_forward(
         &mut self,
         place: usize,
         message: &Message,
@@ -263,7 +220,7 @@ impl Domain {
     }
 
     // Want: a message is forwarded that came because some sites lack it, or that is kept. A site sends itself none unless it is the home.
-    pub(crate) fn wanted(
+    pub(crate) fn on_want(
         &self,
         place: usize,
         from: SiteNo,
@@ -339,7 +296,7 @@ impl Domain {
     }
 
     // The home starts a flush where something is to change, and owes Prepare. Answers whether it did.
-    fn start(&mut self, place: usize, lent: &mut Lent<'_>) -> Result<bool, NoMemory>
+    pub(crate) fn start(&mut self, place: usize, lent: &mut Lent<'_>) -> Result<bool, NoMemory>
         requires { place < vec_len self.old.groups }
         ensures stays { KeepsBeside self.old lent.old self.new lent.new }
         ensures made { OnOk result (Makes (λ r. start records r place) self.old lent.old self.new lent.new) }
@@ -369,7 +326,7 @@ impl Domain {
     }
 
     // The messages that the home lacks, each with the site that it wants it from.
-    fn wants(&self, place: usize) -> Result<Listed<(SiteNo, (Proc, u32))>, NoMemory>
+    fn wants(&self, place: usize) -> Result<List<(SiteNo, (Proc, u32))>, NoMemory>
         requires { place < vec_len self.now.groups }
         ensures { IfOk result (TellsAlone (λ r. wants records r place) self.now) }
     {
@@ -420,7 +377,7 @@ impl Domain {
     }
 
     // The home decides the next view, where it is due, and owes Install. Answers whether it did.
-    fn decide(&mut self, place: usize, lent: &mut Lent<'_>) -> Result<bool, NoMemory>
+    pub(crate) fn decide(&mut self, place: usize, lent: &mut Lent<'_>) -> Result<bool, NoMemory>
         requires { place < vec_len self.old.groups }
         ensures stays { KeepsBeside self.old lent.old self.new lent.new }
         ensures made { OnOk result (Makes (λ r. decide records r place) self.old lent.old self.new lent.new) }
@@ -438,13 +395,13 @@ impl Domain {
     }
 
     // Owes Prepare to each site whose report the home awaits.
-    fn prepare(&self, place: usize, lent: &mut Lent<'_>) -> Result<(), NoMemory>
+    pub(crate) fn prepare(&self, place: usize, lent: &mut Lent<'_>) -> Result<(), NoMemory>
         requires { place < vec_len self.now.groups }
         ensures back { GivesBack self.now.config.domain lent.old lent.new }
         ensures made { OnOk result (Makes (λ r. prepare records r place) self.now lent.old self.now lent.new) }
     {
         let home = &self.record(place).home;
-        self.owe_of_home(OwedKind::Prepare, place, home.phase().awaited(), lent)?;
+        self.owe_of_home(OwedKind::Prepare, place, home.phase().awaited_sites(), lent)?;
         Ok(())
     }
 
@@ -455,7 +412,12 @@ impl Domain {
         ensures made { OnOk result (Makes (λ r. announce records r place) self.now lent.old self.now lent.new) }
     {
         let home = &self.record(place).home;
-        self.owe_of_home(OwedKind::Install, place, home.phase().waiting(), lent)?;
+        self.owe_of_home(
+            OwedKind::Install,
+            place,
+            home.phase().sites_to_install(),
+            lent,
+        )?;
         Ok(())
     }
 

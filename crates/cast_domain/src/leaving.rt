@@ -1,36 +1,25 @@
-ghost use Rattle.std.specs.Prelude.{◌≡◌, ◌<◌, IfOk, OnOk, vec_len};
-ghost use Rattle.cast_history.specs.Rules.Commands.{leave};
-ghost use Rattle.cast_history.specs.Rules.Leaving.{leave_all, leave_at, leave_group};
+ghost use Rattle.std.specs.Prelude.{◌≡◌, ◌<◌, ◌==◌, map};
+ghost use Rattle.cast_domain.specs.Calls.{with_status, close_in};
 
 use crate::domain::Domain;
 use crate::lent::Lent;
-use cast_delay::Fact;
-use cast_message::Change;
+use crate::record::SessionRecord;
+use cast_delay::ProcessUpdate;
+use cast_events::{Status, Taken};
+use cast_message::{Change, Push};
 use cast_types::limits::MAX_NUMBER;
 use cast_types::{GroupNo, NoMemory, Refusal, Standing};
 
 impl Domain {
-    ghost use Rattle.cast_domain.specs.Records.{KeepsBeside, Makes, Attempts};
-    ghost use Rattle.cast_domain.specs.Calls.{records};
-
-    // Lets a process leave a group, or says why not.
-    pub(crate) fn leave(
-        &mut self,
-        serial: u32,
-        group: GroupNo,
-        lent: &mut Lent<'_>,
-    ) -> Result<Option<Refusal>, NoMemory>
-        ensures stays { KeepsBeside self.old lent.old self.new lent.new }
-        ensures made { IfOk result (Attempts (λ r. leave records r serial group) self.old lent.old self.new lent.new) }
-    {
-        match self.place_of(group) {
-            Some(place) => self.leave_at(place, serial, group, lent),
-            None => Ok(Some(Refusal::NoGroup)),
-        }
-    }
+    ghost use Rattle.std.specs.Prelude.{false, None, IfOk, OnOk, vec_len, Some};
+    ghost use Rattle.cast_domain.specs.Records.{number_of, GivesBack, KeepsBeside, records_in, Makes, Attempts};
+    ghost use Rattle.cast_domain.specs.Calls.{records, answered_in, end_in, go_in, is_full_in, push_in, reason_in};
+    ghost use Rattle.cast_rules.specs.Rules.Commands.{leave};
+    ghost use Rattle.cast_rules.specs.Rules.Leaving.{leave_all, leave_at, leave_group, close_session, tell, tell_open};
+    ghost use Rattle.cast_events.specs.declared.event.Event.TheVariants as event;
 
     // Lets a process leave the group at a place.
-    fn leave_at(
+    pub(crate) fn leave_at(
         &mut self,
         place: usize,
         serial: u32,
@@ -65,12 +54,12 @@ impl Domain {
         ensures len { vec_len self.new.groups ≡ vec_len self.old.groups }
     {
         let process = self.process(serial);
-        let asked = self.record(place).here.asked();
-        self.tell(process, Fact::Standing(group, Standing::Outside))?;
+        let asked = self.record(place).here.request_count();
+        self.tell(process, ProcessUpdate::Standing(group, Standing::Outside))?;
         if asked == MAX_NUMBER {
             return Ok(());
         }
-        self.ask(place, Change::Leave, process, lent)?;
+        self.request(place, Change::Leave, process, lent)?;
         Ok(())
     }
 
@@ -85,5 +74,147 @@ impl Domain {
             self.leave_at(place, serial, group, lent)?;
         }
         Ok(())
+    }
+
+    // Pushes an entry to an open session whose outbox has room for it.
+    fn push_entry(&self, serial: u32, entry: Push, lent: &mut Lent<'_>) -> Result<(), NoMemory>
+        requires { is_full_in (records_in self.now lent.old) serial ≡ false }
+        ensures back { GivesBack self.now.config.domain lent.old lent.new }
+        ensures made { OnOk result (Makes (λ r. push_in r serial entry) self.now lent.old self.now lent.new) }
+    {
+        lent.outs.push(self.config.domain, serial, &entry)?;
+        lent.shared
+            .push(self.config.domain, serial, self.quotas.outbox, entry)?;
+        Ok(())
+    }
+
+    // Tells the program of a session something, if it is open. Where its outbox is full, the session is closed instead.
+    pub(crate) fn push(
+        &mut self,
+        serial: u32,
+        entry: Push,
+        lent: &mut Lent<'_>,
+    ) -> Result<(), NoMemory>
+        ensures stays { KeepsBeside self.old lent.old self.new lent.new }
+        ensures made { OnOk result (Makes (λ r. tell records r serial entry) self.old lent.old self.new lent.new) }
+        ensures len { vec_len self.new.groups ≡ vec_len self.old.groups }
+    {
+        if !self.is_open(serial) {
+            return Ok(());
+        }
+        self.push_open(serial, entry, lent)
+    }
+
+    // The same where it is open.
+    fn push_open(&mut self, serial: u32, entry: Push, lent: &mut Lent<'_>) -> Result<(), NoMemory>
+        ensures stays { KeepsBeside self.old lent.old self.new lent.new }
+        ensures made { OnOk result (Makes (λ r. tell_open records r serial entry) self.old lent.old self.new lent.new) }
+        ensures len { vec_len self.new.groups ≡ vec_len self.old.groups }
+    {
+        if self.is_full(serial, lent) {
+            self.close_session(serial, Refusal::Slow, lent)?;
+            return Ok(());
+        }
+        self.push_entry(serial, entry, lent)?;
+        Ok(())
+    }
+
+    // Closes an open session: its program is told why, and its process leaves all its groups. Where its outbox is full, it was
+    // too slow.
+    pub(crate) fn close_session(
+        &mut self,
+        serial: u32,
+        refusal: Refusal,
+        lent: &mut Lent<'_>,
+    ) -> Result<(), NoMemory>
+        ensures stays { KeepsBeside self.old lent.old self.new lent.new }
+        ensures made { OnOk result (Makes (λ r. close_session records r serial refusal) self.old lent.old self.new lent.new) }
+        ensures len { vec_len self.new.groups ≡ vec_len self.old.groups }
+    {
+        self.close(serial, refusal, lent)?;
+        self.leave_all(serial, lent)?;
+        Ok(())
+    }
+
+    // Closes a session: its program is told why, and nothing after that.
+    pub(crate) fn close(
+        &mut self,
+        serial: u32,
+        refusal: Refusal,
+        lent: &mut Lent<'_>,
+    ) -> Result<(), NoMemory>
+        ensures stays { KeepsBeside self.old lent.old self.new lent.new }
+        ensures made { OnOk result (Makes (λ r. close_in r serial (reason_in r serial refusal)) self.old lent.old self.new lent.new) }
+        ensures len { vec_len self.new.groups ≡ vec_len self.old.groups }
+    {
+        let why = self.reason(serial, refusal, lent);
+        lent.outs
+            .push(self.config.domain, serial, &Push::Closed(why))?;
+        lent.shared.push(
+            self.config.domain,
+            serial,
+            self.quotas.outbox,
+            Push::Closed(why),
+        )?;
+        close_in(&mut self.sessions, serial);
+        Ok(())
+    }
+
+    // Why a session is closed.
+    fn reason(&self, serial: u32, refusal: Refusal, lent: &Lent<'_>) -> Refusal
+        ensures { result ≡ reason_in (records_in self.now lent.now) serial refusal }
+    {
+        if self.is_full(serial, lent) {
+            return Refusal::Slow;
+        }
+        refusal
+    }
+
+    // The program of a session is gone: its process leaves all its groups, and is dismissed, and its outbox is dropped.
+    pub(crate) fn end_session(
+        &mut self,
+        serial: u32,
+        lent: &mut Lent<'_>,
+    ) -> Result<Taken, NoMemory>
+        ensures answer { IfOk result (λ t. t ≡ answered_in (records_in self.old lent.old) (event.Gone (number_of self.old) serial)) }
+        ensures stays { KeepsBeside self.old lent.old self.new lent.new }
+        ensures made { OnOk result (Makes (λ r. end_in r serial) self.old lent.old self.new lent.new) }
+    {
+        if self.is_gone(serial) {
+            return Ok(Taken::Refused(Refusal::NotOpen));
+        }
+        self.go(serial, lent);
+        self.leave_all(serial, lent)?;
+        let process = self.process(serial);
+        self.delay.dismiss(process);
+        Ok(Taken::Nothing)
+    }
+
+    // The program of a session is gone.
+    fn go(&mut self, serial: u32, lent: &mut Lent<'_>)
+        ensures stays { KeepsBeside self.old lent.old self.new lent.new }
+        ensures made { Makes (λ r. go_in r serial) self.old lent.old self.new lent.new }
+        ensures len { vec_len self.new.groups ≡ vec_len self.old.groups }
+    {
+        lent.shared.close_outbox(self.config.domain, serial);
+        self.sessions.retain(|session| session.serial != serial);
+    }
+}
+
+// The session of a serial is closed.
+fn close_in(sessions: &mut Vec<SessionRecord>, serial: u32)
+    ensures { sessions.new.items ≡ map (with_status serial Status.Closed) sessions.old.items }
+{
+    for session in sessions.iter_mut() {
+        close_if(session, serial);
+    }
+}
+
+// The session is closed, if it is that of a serial.
+fn close_if(session: &mut SessionRecord, serial: u32)
+    ensures { session.new ≡ with_status serial Status.Closed session.old }
+{
+    if session.serial == serial {
+        session.status = Status::Closed;
     }
 }

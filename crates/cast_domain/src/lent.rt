@@ -1,5 +1,5 @@
 use crate::shared::Shared;
-use cast_model::Outs;
+use cast_events::Outs;
 
 /// What a domain is lent for a step: what all domains share, and what gathers the frames and deliveries of the step.
 #[derive(Drop)]

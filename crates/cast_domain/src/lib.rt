@@ -1,37 +1,40 @@
 //! One domain at one site: the code of the protocol.
 //!
-//! Promised: a step of the code is a step of the history (`Domain::step`). Take any history that
-//! the domain stands for before an event. After it, the domain stands for one to which the event
-//! leads with the same answer, at rest, and what was sent, delivered and pushed is what that step
-//! sends, delivers and pushes. The parts of other domains stay as they are. A step that runs out
-//! of memory adds nothing and halts the domain, which then answers each event with
-//! `Refused(Halted)`.
-//!
-//! The definitions are in `specs/`. `Records` is what the code keeps and `Shared` its part of
-//! what domains share. `Calls` says exactly what each call does to them, `Fits` when they stand
-//! for a history, `Stepped` what the contract of a step says, `Trims` what is forgotten after a
-//! step, and `Shows` what the console shows. The rules themselves are those of `cast_history`.
+//! Promised: a step of the code is a step of the history (`Domain::step`). Whatever history the
+//! domain stands for before an event, it stands afterwards for one to which the event leads with
+//! the same answer, frames, pushes and deliveries, at rest. The parts of other domains stay as
+//! they are. A step that runs out of memory adds nothing and halts the domain, which then refuses
+//! each event.
 #![tactic(auto)]
 
+mod asking;
+mod commands;
+mod data;
 mod domain;
+mod events;
 mod flushes;
 mod frames;
 mod home;
+mod keys;
 mod leaving;
 mod lent;
 mod order;
 mod owing;
 mod record;
+mod release;
 mod requests;
 mod rest;
+mod room;
+mod sending;
 mod sessions;
 mod shared;
 mod show;
 mod stability;
 mod trim;
+mod turns;
 mod views;
 
-pub use cast_model::{Config, DomainConfig, Event, Outs, QuotaName, Quotas, Status, Taken};
+pub use cast_events::{Config, DomainConfig, Event, Outs, QuotaName, Quotas, Status, Taken};
 pub use domain::Domain;
 pub use shared::Shared;
 pub use show::{GroupShown, Shown};

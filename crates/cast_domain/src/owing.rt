@@ -1,118 +1,28 @@
-ghost use Rattle.std.specs.Prelude.{◌≡◌, ◌<◌, ◌+◌, IfOk, OnOk, vec_len};
-ghost use Rattle.std.specs.List.{fold};
-ghost use Rattle.std.specs.Option.{option_map, option_map_or};
-ghost use Rattle.cast_message.specs.declared.site.SiteFrame.TheVariants as frame;
-ghost use Rattle.cast_view.specs.MemberSide.{first_asking};
-ghost use Rattle.cast_history.specs.Rules.Keys.{ask_key, home_key, id_in, message_key, want_key};
-ghost use Rattle.cast_history.specs.Rules.Owing.{ask_frame, install_frame, frame_for, frame_of_kind, owe, resend_due, send_for, tick, wanted_view};
+ghost use Rattle.std.specs.Prelude.{◌≡◌, ◌<◌, None, IfOk, Some};
+ghost use Rattle.cast_rules.specs.Rules.Owing.{install_frame};
+ghost use Rattle.cast_rules.specs.Rules.Asking.{request};
+ghost use Rattle.cast_rules.specs.Rules.Views.{install};
 
 use crate::domain::Domain;
+use crate::keys::id_in;
 use crate::lent::Lent;
 use cast_message::SiteFrame;
 use cast_timer::{OwedKey, OwedKind, Side};
-use cast_types::{GroupNo, NoMemory, Proc, SiteNo, Uid};
+use cast_types::{GroupNo, NoMemory, SiteNo, Uid};
 use cast_view::{HomeSide, Phase};
 
-/// The first request of a group, owed to the home.
-pub(crate) fn ask_key(group: GroupNo, home: SiteNo) -> OwedKey
-    ensures { result ≡ ask_key group home }
-{
-    OwedKey {
-        kind: OwedKind::Ask,
-        group,
-        proc: Proc {
-            site: SiteNo(0),
-            serial: 0,
-        },
-        count: 0,
-        site: home,
-        side: Side::Site,
-    }
-}
-
-/// A frame of a kind about a group alone, which the home owes to a site.
-pub(crate) fn home_key(kind: OwedKind, group: GroupNo, to: SiteNo) -> OwedKey
-    ensures { result ≡ home_key kind group to }
-{
-    OwedKey {
-        kind,
-        group,
-        proc: Proc {
-            site: SiteNo(0),
-            serial: 0,
-        },
-        count: 0,
-        site: to,
-        side: Side::Home,
-    }
-}
-
-/// A message of a group, by its process and its count, which the home wants from a site.
-pub(crate) fn want_key(group: GroupNo, wanted: (SiteNo, (Proc, u32))) -> OwedKey
-    ensures { result ≡ want_key group wanted }
-{
-    let (site, (proc, count)) = wanted;
-    OwedKey {
-        kind: OwedKind::Want,
-        group,
-        proc,
-        count,
-        site,
-        side: Side::Home,
-    }
-}
-
-// The view that the home decided as a site is to install it, where it is being installed.
-fn install_frame(
-    group: GroupNo,
-    home: &HomeSide,
-    site: SiteNo,
-) -> Result<Option<SiteFrame>, NoMemory>
-    ensures { IfOk result (λ f. f ≡ install_frame group home.now site home.now.phase) }
-{
-    match home.phase() {
-        Phase::Installing { decision, .. } => Ok(Some(SiteFrame::Install {
-            group,
-            view: home.number(),
-            members: home.members().copy()?,
-            request: decision.last_answer(site).number,
-            cut: decision.cut.copy()?,
-            tail: decision.tail.copy()?,
-        })),
-        Phase::Idle | Phase::Gathering { .. } => Ok(None),
-    }
-}
-
-/// A frame of a kind about a message, owed to a site.
-pub(crate) fn message_key(kind: OwedKind, id: Uid, to: SiteNo) -> OwedKey
-    ensures { result ≡ message_key kind id to }
-{
-    OwedKey {
-        kind,
-        group: id.group,
-        proc: id.proc,
-        count: id.count,
-        site: to,
-        side: Side::Site,
-    }
-}
-
-// The message that a key is about, in a view of its group.
-fn id_in(view: u32, key: &OwedKey) -> Uid
-    ensures { result ≡ id_in view key.now }
-{
-    Uid {
-        group: key.group,
-        view,
-        proc: key.proc,
-        count: key.count,
-    }
-}
-
 impl Domain {
+    ghost use Rattle.std.specs.Prelude.{OnOk, vec_len, not, ◌+◌};
     ghost use Rattle.cast_domain.specs.Records.{GivesBack, KeepsBeside, records_in, Makes, TellsAlone};
-    ghost use Rattle.cast_domain.specs.Calls.{message_in, pay_in, record_at, records, send_in};
+    ghost use Rattle.cast_domain.specs.Calls.{records, record_at, send_in, message_in, pay_in};
+    ghost use Rattle.std.specs.List.{fold, find};
+    ghost use Rattle.cast_rules.specs.Rules.Home.{wants};
+    ghost use Rattle.std.specs.Option.{option_map, option_map_or};
+    ghost use Rattle.cast_view.specs.MemberSide.{first_asking};
+    ghost use Rattle.cast_rules.specs.Rules.Keys.{id_in};
+    ghost use Rattle.cast_rules.specs.Rules.Owing.{ask_frame, frame_for, frame_of_kind, owe, resend_due, send_for, tick, wanted_view};
     ghost use Rattle.cast_domain.specs.Resent.{IsFrameOf};
+    ghost use Rattle.cast_message.specs.declared.site.SiteFrame.TheVariants as frame;
 
     // Sends a frame, and owes it from then on, unless it is owed already.
     pub(crate) fn owe(&self, key: OwedKey, lent: &mut Lent<'_>) -> Result<(), NoMemory>
@@ -329,5 +239,26 @@ impl Domain {
             Some(frame) => Ok(Some((key, frame))),
             None => Ok(None),
         }
+    }
+}
+
+// The view that the home decided as a site is to install it, where it is being installed.
+fn install_frame(
+    group: GroupNo,
+    home: &HomeSide,
+    site: SiteNo,
+) -> Result<Option<SiteFrame>, NoMemory>
+    ensures { IfOk result (λ f. f ≡ install_frame group home.now site home.now.phase) }
+{
+    match home.phase() {
+        Phase::Installing { decision, .. } => Ok(Some(SiteFrame::Install {
+            group,
+            view: home.number(),
+            members: home.members().copy()?,
+            request: decision.last_answer(site).number,
+            cut: decision.cut.copy()?,
+            tail: decision.tail.copy()?,
+        })),
+        Phase::Idle | Phase::Gathering { .. } => Ok(None),
     }
 }

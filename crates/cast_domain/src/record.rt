@@ -8,9 +8,9 @@ ghost use Rattle.cast_view.specs.Home.{answer_to, may_decide};
 ghost use Rattle.cast_view.specs.Home.HomeMove.{Asked, Brought, Decided, Installed, Reported, Started, Suspected};
 ghost use Rattle.cast_domain.specs.Calls.{moved_home, record_at, pending_of, with_install};
 
+use cast_events::Status;
 use cast_flush::Report;
-use cast_message::{Change, Members, Message};
-use cast_model::Status;
+use cast_message::{Change, Membership, Message};
 use cast_types::{Counts, GroupNo, NoMemory, Proc, SiteNo};
 use cast_view::{HomeSide, MemberSide};
 use std::alloc::Global;
@@ -112,7 +112,7 @@ pub(crate) fn pend_at(
     groups: &mut Vec<GroupRecord>,
     place: usize,
     number: u32,
-    members: &Members,
+    members: &Membership,
     request: u32,
     cut: &Counts,
 ) -> Result<(), NoMemory>
@@ -133,7 +133,7 @@ pub(crate) fn view_at(
     place: usize,
     site: SiteNo,
     number: u32,
-    members: &Members,
+    members: &Membership,
 ) -> Result<(), NoMemory>
     requires { place < vec_len groups.old }
     ensures items { OnOk result (groups.new.items ≡ update groups.old.items place (λ x. record x { here = with_view site number members.now x.here })) }
@@ -171,7 +171,7 @@ pub(crate) fn installed_at(groups: &mut Vec<GroupRecord>, place: usize, site: Si
     ensures { groups.new.items ≡ update groups.old.items place (moved_home (Installed site number)) }
 {
     let record = &mut groups[place];
-    record.home.installed(site, number);
+    record.home.note_installed(site, number);
 }
 
 /// Takes in at the home of the group of a place what a site reports of a view.

@@ -1,441 +1,164 @@
-ghost use Rattle.std.specs.Prelude.{◌≡◌, ◌<◌, ◌≤◌, ◌+◌, ◌==◌, IfOk, OnOk, Some, None, length, vec_len};
-ghost use Rattle.std.specs.List.{fold};
-ghost use Rattle.cast_history.specs.Rules.Commands.{body_of, cast, cast_at, commanded, join, join_at, pass_at, pass_token, requested};
-ghost use Rattle.cast_model.specs.declared.event.Event.TheVariants as event;
-ghost use Rattle.cast_domain.specs.Calls.{record_at};
-ghost use Rattle.cast_history.specs.Rules.Sending.{send_data, send_message};
-ghost use Rattle.cast_history.specs.Rules.Asking.{ask_home, request};
+ghost use Rattle.std.specs.Prelude.{◌≡◌, false, ◌==◌};
+ghost use Rattle.cast_rules.specs.Rules.Requests.{is_joining_by};
+ghost use Rattle.cast_rules.specs.Rules.Asking.{request};
 
 use crate::domain::Domain;
-use crate::frames::is_named;
+use crate::keys::ask_key;
 use crate::lent::Lent;
-use crate::order::learn;
-use crate::owing::{ask_key, message_key};
-use crate::record::{GroupRecord, ask_at};
-use bytes::Bytes;
-use cast_clock::{ClockFault, Times};
-use cast_delay::Fact;
-use cast_message::{Body, CastKind, Change, Command, Message, Payload, Placement, Request};
-use cast_model::{Outs, Taken};
-use cast_timer::OwedKind;
-use cast_types::limits::{MAX_NUMBER, MAX_PAYLOAD, MAX_POSITION};
-use cast_types::{GroupNo, NoMemory, Proc, Refusal, SiteNo, Stamp, Standing, Uid};
-use std::alloc::AllocError;
+use crate::record::{answer_at, ask_home_at};
+use cast_delay::ProcessUpdate;
+use cast_events::Outs;
+use cast_message::{Change, Push, SiteFrame};
+use cast_types::{NoMemory, Proc, Refusal, SiteNo, Standing};
+use cast_view::PendingRequest;
 
 impl Domain {
-    ghost use Rattle.cast_clock.specs.Times.{view_of};
-    ghost use Rattle.cast_model.specs.declared.event.Outs.{Outs};
-    ghost use Rattle.cast_domain.specs.Records.{GivesBack, KeepsBeside, own_records, records_in, records_of, Makes, Attempts, number_of};
-    ghost use Rattle.cast_domain.specs.Shared.{Part};
-    ghost use Rattle.cast_domain.specs.Calls.{raised_in, records, receive_in, time_of, answered_in, place_to_pass_of};
+    ghost use Rattle.std.specs.Prelude.{◌<◌, None, OnOk, vec_len, ◌&&◌, not, Some};
+    ghost use Rattle.cast_domain.specs.Records.{Keeps, KeepsBeside, Makes, MakesWithOuts};
+    ghost use Rattle.cast_domain.specs.Calls.{records};
+    ghost use Rattle.cast_rules.specs.Rules.Asking.{is_from_home, ask_home};
+    ghost use Rattle.cast_rules.specs.Rules.Requests.{deny, deny_if, on_asked, take_answer, answer_ask, on_ask};
+    ghost use Rattle.cast_rules.specs.Rules.Keys.{ask_key};
+    ghost use Rattle.cast_events.specs.declared.event.Outs.{Outs};
+    ghost use Rattle.cast_rules.specs.Rules.Leaving.{tell};
 
-    // A program does something.
-    pub(crate) fn command(
-        &mut self,
-        serial: u32,
-        command: &Command,
-        lent: &mut Lent<'_>,
-    ) -> Result<Taken, NoMemory>
-        ensures answer { IfOk result (λ t. t ≡ answered_in (records_in self.old lent.old) (event.Command (number_of self.old) serial command.now)) }
-        ensures stays { KeepsBeside self.old lent.old self.new lent.new }
-        ensures made { OnOk result (Makes (λ r. commanded records r serial command.now) self.old lent.old self.new lent.new) }
-    {
-        if !self.is_open(serial) {
-            return Ok(Taken::Refused(Refusal::NotOpen));
-        }
-        match command {
-            Command::Request(request) => self.request(serial, request, lent)?,
-            Command::Bad => self.close_session(serial, Refusal::BadFrame, lent)?,
-        }
-        Ok(Taken::Nothing)
-    }
-
-    // Does what a program asks for, or refuses it, and replies.
-    fn request(
-        &mut self,
-        serial: u32,
-        request: &Request,
-        lent: &mut Lent<'_>,
-    ) -> Result<(), NoMemory>
-        ensures stays { KeepsBeside self.old lent.old self.new lent.new }
-        ensures made { OnOk result (Makes (λ r. requested records r serial request.now) self.old lent.old self.new lent.new) }
-    {
-        match request {
-            Request::Join { group, .. } => {
-                let refusal = self.join(serial, *group, lent)?;
-                self.push(serial, request.reply(refusal), lent)
-            }
-            Request::Leave { group, .. } => {
-                let refusal = self.leave(serial, *group, lent)?;
-                self.push(serial, request.reply(refusal), lent)
-            }
-            Request::Cast {
-                group,
-                kind,
-                payload,
-                ..
-            } => {
-                let refusal = self.cast(serial, *group, *kind, payload, lent)?;
-                self.push(serial, request.reply(refusal), lent)
-            }
-            Request::Pass { group, to, .. } => {
-                let refusal = self.pass_token(serial, *group, *to, lent)?;
-                self.push(serial, request.reply(refusal), lent)
-            }
-        }
-    }
-
-    // Lets a process join a group, or says why not.
-    fn join(
-        &mut self,
-        serial: u32,
-        group: GroupNo,
-        lent: &mut Lent<'_>,
-    ) -> Result<Option<Refusal>, NoMemory>
-        ensures stays { KeepsBeside self.old lent.old self.new lent.new }
-        ensures made { IfOk result (Attempts (λ r. join records r serial group) self.old lent.old self.new lent.new) }
-    {
-        match self.place_of(group) {
-            Some(place) => self.join_at(place, serial, group, lent),
-            None => Ok(Some(Refusal::NoGroup)),
-        }
-    }
-
-    // Lets a process join the group at a place.
-    fn join_at(
+    // Asked: the first request is answered, and the next one is asked. Where the group was full its process is told.
+    pub(crate) fn on_asked(
         &mut self,
         place: usize,
-        serial: u32,
-        group: GroupNo,
+        from: SiteNo,
+        number: u32,
+        full: bool,
         lent: &mut Lent<'_>,
-    ) -> Result<Option<Refusal>, NoMemory>
+    ) -> Result<(), NoMemory>
         requires { place < vec_len self.old.groups }
         ensures stays { KeepsBeside self.old lent.old self.new lent.new }
-        ensures made { IfOk result (Attempts (λ r. join_at records r serial group place) self.old lent.old self.new lent.new) }
+        ensures made { OnOk result (Makes (λ r. on_asked records r place from number full) self.old lent.old self.new lent.new) }
     {
-        let process = self.process(serial);
-        match self.delay.standing(process, group) {
-            Standing::Outside => {}
-            Standing::Joining { .. } | Standing::Member => {
-                return Ok(Some(Refusal::AlreadyMember));
+        match self.record(place).here.first_request() {
+            Some(asking) => {
+                if self.is_from_home(from) && asking.number == number {
+                    self.take_answer(place, lent)?;
+                    self.deny_if(full, place, asking, lent)?;
+                }
+                Ok(())
             }
+            None => Ok(()),
         }
-        let asked = self.record(place).here.asked();
-        if asked == MAX_NUMBER {
-            return Ok(Some(Refusal::HeldFull));
-        }
-        let standing = Standing::Joining {
-            request: asked + 1,
-            heard: self.heard(process, group),
-        };
-        self.tell(process, Fact::Standing(group, standing))?;
-        self.ask(place, Change::Join, process, lent)?;
-        Ok(None)
     }
 
-    // The view of a group in the time of a process.
-    fn heard(&self, process: Proc, group: GroupNo) -> u32
-        ensures { result ≡ view_of (time_of self.now.delay process) group }
+    // Takes the first request off, and asks the next one.
+    pub(crate) fn take_answer(&mut self, place: usize, lent: &mut Lent<'_>) -> Result<(), NoMemory>
+        requires { place < vec_len self.old.groups }
+        ensures stays { KeepsBeside self.old lent.old self.new lent.new }
+        ensures made { OnOk result (Makes (λ r. take_answer records r place) self.old lent.old self.new lent.new) }
+        ensures len { vec_len self.new.groups ≡ vec_len self.old.groups }
     {
-        match self.delay.time(process) {
-            Some(time) => time.view(group),
-            None => 0,
-        }
+        let key = ask_key(self.record(place).name, self.config.home);
+        self.pay(&key, lent);
+        answer_at(&mut self.groups, place);
+        self.ask_home(place, lent)?;
+        Ok(())
     }
 
-    // Queues a request to the home, and asks it at once where it is the only one.
-    pub(crate) fn ask(
+    // The process of a request that was refused is outside, if it still joins by it, and is told.
+    fn deny_if(
+        &mut self,
+        full: bool,
+        place: usize,
+        asking: PendingRequest,
+        lent: &mut Lent<'_>,
+    ) -> Result<(), NoMemory>
+        requires { place < vec_len self.old.groups }
+        ensures stays { KeepsBeside self.old lent.old self.new lent.new }
+        ensures made { OnOk result (Makes (λ r. deny_if records full r place asking) self.old lent.old self.new lent.new) }
+    {
+        if full {
+            self.deny(place, asking, lent)?;
+        }
+        Ok(())
+    }
+
+    fn deny(
         &mut self,
         place: usize,
+        asking: PendingRequest,
+        lent: &mut Lent<'_>,
+    ) -> Result<(), NoMemory>
+        requires { place < vec_len self.old.groups }
+        ensures stays { KeepsBeside self.old lent.old self.new lent.new }
+        ensures made { OnOk result (Makes (λ r. deny records r place asking) self.old lent.old self.new lent.new) }
+    {
+        let group = self.record(place).name;
+        let serial = asking.proc.serial;
+        let process = self.process(serial);
+        if is_joining_by(self.delay.standing(process, group), asking.number) {
+            self.tell(process, ProcessUpdate::Standing(group, Standing::Outside))?;
+            let denied = Push::Denied {
+                group,
+                refusal: Refusal::GroupFull,
+            };
+            self.push(serial, denied, lent)?;
+        }
+        Ok(())
+    }
+
+    // Ask: at the home a request is taken in, and answered where it is the next one of its site or was answered before.
+    pub(crate) fn on_ask(
+        &mut self,
+        place: usize,
+        from: SiteNo,
+        number: u32,
         change: Change,
         process: Proc,
-        lent: &mut Lent<'_>,
+        outs: &mut Outs,
     ) -> Result<(), NoMemory>
-        requires placed { place < vec_len self.old.groups }
-        requires numbered { (record_at self.old.groups.items place).here.asked < 4294967295 }
-        ensures stays { KeepsBeside self.old lent.old self.new lent.new }
-        ensures made { OnOk result (Makes (λ r. request records r place change process) self.old lent.old self.new lent.new) }
-        ensures len { vec_len self.new.groups ≡ vec_len self.old.groups }
+        requires { place < vec_len self.old.groups }
+        ensures same { Keeps self.old self.new }
+        ensures made { OnOk result (MakesWithOuts (λ r. on_ask records r place from number change process) self.old outs.old self.new outs.new) }
     {
-        let is_first = self.record(place).here.requests().is_empty();
-        ask_at(&mut self.groups, place, change, process)?;
-        if is_first {
-            return self.ask_home(place, lent);
-        }
-        Ok(())
-    }
-
-    // The first request of the group at a place, where there is one, is owed to the home.
-    pub(crate) fn ask_home(&self, place: usize, lent: &mut Lent<'_>) -> Result<(), NoMemory>
-        requires { place < vec_len self.now.groups }
-        ensures back { GivesBack self.now.config.domain lent.old lent.new }
-        ensures made { OnOk result (Makes (λ r. ask_home records r place) self.now lent.old self.now lent.new) }
-    {
-        let record = self.record(place);
-        if record.here.requests().is_empty() {
+        if !self.is_home() {
             return Ok(());
         }
-        self.owe(ask_key(record.name, self.config.home), lent)
+        let full = ask_home_at(&mut self.groups, place, from, number, change, process)?;
+        self.answer_ask(place, from, number, full, outs)?;
+        Ok(())
     }
 
-    // Casts for a process, or says why not.
-    fn cast(
-        &mut self,
-        serial: u32,
-        group: GroupNo,
-        kind: CastKind,
-        payload: &Bytes,
-        lent: &mut Lent<'_>,
-    ) -> Result<Option<Refusal>, NoMemory>
-        ensures stays { KeepsBeside self.old lent.old self.new lent.new }
-        ensures made { IfOk result (Attempts (λ r. cast records r serial group kind payload.now) self.old lent.old self.new lent.new) }
-    {
-        match self.place_of(group) {
-            Some(place) => self.cast_at(place, serial, group, kind, payload, lent),
-            None => Ok(Some(Refusal::NoGroup)),
-        }
-    }
-
-    // Casts to the group at this place.
-    fn cast_at(
-        &mut self,
-        at: usize,
-        serial: u32,
-        group: GroupNo,
-        kind: CastKind,
-        payload: &Bytes,
-        lent: &mut Lent<'_>,
-    ) -> Result<Option<Refusal>, NoMemory>
-        requires { at < vec_len self.old.groups }
-        ensures stays { KeepsBeside self.old lent.old self.new lent.new }
-        ensures made { IfOk result (Attempts (λ r. cast_at records r serial group kind payload.now at) self.old lent.old self.new lent.new) }
-    {
-        let process = self.process(serial);
-        if payload.len() > MAX_PAYLOAD {
-            return Ok(Some(Refusal::TooLong));
-        }
-        match self.delay.standing(process, group) {
-            Standing::Member => {}
-            Standing::Outside | Standing::Joining { .. } => {
-                return Ok(Some(Refusal::NotMember));
-            }
-        }
-        if self.record(at).here.is_frozen() {
-            return Ok(Some(Refusal::Flushing));
-        }
-        if self.awaits_own(process, lent) {
-            return Ok(Some(Refusal::OwnAbcast));
-        }
-        if !self.has_room(lent) {
-            return Ok(Some(Refusal::HeldFull));
-        }
-        let Some((time, stamp)) = self.raised(process, group)? else {
-            return Ok(Some(Refusal::HeldFull));
-        };
-        let content = payload_from(payload)?;
-        let message = Message {
-            id: Uid {
-                group,
-                view: self.record(at).here.number(),
-                proc: process,
-                count: time.count(group, process),
-            },
-            times: stamp,
-            body: body_of(kind, content),
-        };
-        self.note_sent(process, time, &message)?;
-        self.send_message(message, lent)?;
-        self.casts = self.casts.saturating_add(1);
-        Ok(None)
-    }
-
-    // Hands the token of a group over for a process, or says why not.
-    fn pass_token(
-        &mut self,
-        serial: u32,
-        group: GroupNo,
-        to: Proc,
-        lent: &mut Lent<'_>,
-    ) -> Result<Option<Refusal>, NoMemory>
-        ensures stays { KeepsBeside self.old lent.old self.new lent.new }
-        ensures made { IfOk result (Attempts (λ r. pass_token records r serial group «to») self.old lent.old self.new lent.new) }
-    {
-        match self.place_of(group) {
-            Some(place) => self.pass_at(place, serial, group, to, lent),
-            None => Ok(Some(Refusal::NoGroup)),
-        }
-    }
-
-    // Hands the token of the group at this place over.
-    fn pass_at(
-        &mut self,
-        at: usize,
-        serial: u32,
-        group: GroupNo,
-        to: Proc,
-        lent: &mut Lent<'_>,
-    ) -> Result<Option<Refusal>, NoMemory>
-        requires { at < vec_len self.old.groups }
-        ensures stays { KeepsBeside self.old lent.old self.new lent.new }
-        ensures made { IfOk result (Attempts (λ r. pass_at records r serial group «to» at) self.old lent.old self.new lent.new) }
-    {
-        let process = self.process(serial);
-        match self.delay.standing(process, group) {
-            Standing::Member => {}
-            Standing::Outside | Standing::Joining { .. } => {
-                return Ok(Some(Refusal::NotMember));
-            }
-        }
-        let kept = self.record(at);
-        if !is_named(to, kept.here.members()) {
-            return Ok(Some(Refusal::NotMember));
-        }
-        if kept.here.is_frozen() {
-            return Ok(Some(Refusal::Flushing));
-        }
-        if self.awaits_own(process, lent) {
-            return Ok(Some(Refusal::OwnAbcast));
-        }
-        if self.orders.first(kept.name, process).is_none() {
-            return Ok(Some(Refusal::NotHolder));
-        }
-        if !self.has_order_room(lent) {
-            return Ok(Some(Refusal::HeldFull));
-        }
-        let Some((time, stamp)) = self.raised(process, group)? else {
-            return Ok(Some(Refusal::HeldFull));
-        };
-        let Some(place) = self.place_to_pass(process, kept) else {
-            return Ok(Some(Refusal::HeldFull));
-        };
-        if to == process {
-            return Ok(None);
-        }
-        let message = Message {
-            id: Uid {
-                group,
-                view: kept.here.number(),
-                proc: process,
-                count: time.count(group, process),
-            },
-            times: stamp,
-            body: Body::Order(Placement::from_parts(
-                place,
-                Vec::new(*self.groups.allocator()),
-                Some(to),
-            )),
-        };
-        self.note_sent(process, time, &message)?;
-        self.send_message(message, lent)?;
-        Ok(None)
-    }
-
-    // The place from which another process would order.
-    fn place_to_pass(&self, process: Proc, kept: &GroupRecord) -> Option<u32>
-        ensures { result ≡ place_to_pass_of (own_records self.now) process kept.now }
-    {
-        let places = self.places_by(kept.name, process);
-        if self.unsettled(process, kept) > 0 || places >= MAX_POSITION as usize {
-            return None;
-        }
-        Some(places as u32 + 1)
-    }
-
-    // The time of a process with one more message of its own, and the stamp that this message bears. None where the
-    // count cannot be raised.
-    pub(crate) fn raised(
+    // Answers a site's request, where it is answered, the group being full or not.
+    fn answer_ask(
         &self,
-        process: Proc,
-        group: GroupNo,
-    ) -> Result<Option<(Times, Stamp)>, NoMemory>
-        ensures { IfOk result (λ r. r ≡ raised_in self.now.delay process group) }
-    {
-        let Some(time) = self.delay.time(process) else {
-            return Ok(None);
-        };
-        if time.count(group, process) == MAX_NUMBER {
-            return Ok(None);
-        }
-        let mut raised = time.copy()?;
-        match raised.bump(group, process) {
-            Ok(()) => {}
-            Err(ClockFault::TooMany) => return Ok(None),
-            Err(ClockFault::NoMemory) => return Err(AllocError),
-        }
-        match raised.stamp()? {
-            Some(stamp) => Ok(Some((raised, stamp))),
-            None => Ok(None),
-        }
-    }
-
-    // Receives an own message here, and sends it to each other site of the view.
-    pub(crate) fn send_message(
-        &mut self,
-        message: Message,
-        lent: &mut Lent<'_>,
+        place: usize,
+        to: SiteNo,
+        number: u32,
+        full: Option<bool>,
+        outs: &mut Outs,
     ) -> Result<(), NoMemory>
-        ensures stays { KeepsBeside self.old lent.old self.new lent.new }
-        ensures made { OnOk result (Makes (λ r. send_message records r message) self.old lent.old self.new lent.new) }
-        ensures len { vec_len self.new.groups ≡ vec_len self.old.groups }
+        requires { place < vec_len self.now.groups }
+        ensures { OnOk result (MakesWithOuts (λ r. answer_ask records r place to number full) self.now outs.old self.now outs.new) }
     {
-        let id = message.id;
-        self.receive(message, lent)?;
-        self.send_data(id, self.acks.others(id.group), lent)?;
-        Ok(())
-    }
-
-    // Sends an own message to sites.
-    fn send_data(&self, id: Uid, sites: &[SiteNo], lent: &mut Lent<'_>) -> Result<(), NoMemory>
-        ensures back { GivesBack self.now.config.domain lent.old lent.new }
-        ensures made { OnOk result (Makes (λ r. fold (send_data records id) r sites.now) self.now lent.old self.now lent.new) }
-    {
-        for site in sites {
-            self.send_data_to(id, *site, lent)?;
+        match full {
+            Some(full) => {
+                let group = self.record(place).name;
+                let frame = SiteFrame::Asked {
+                    group,
+                    number,
+                    full,
+                };
+                self.send(outs, to, frame)?;
+                Ok(())
+            }
+            None => Ok(()),
         }
-        Ok(())
-    }
-
-    // Sends an own message to a site, and owes it until that has acknowledged it, as it may have done before.
-    fn send_data_to(&self, id: Uid, to: SiteNo, lent: &mut Lent<'_>) -> Result<(), NoMemory>
-        ensures back { GivesBack self.now.config.domain lent.old lent.new }
-        ensures made { OnOk result (Makes (λ r. send_data records id r to) self.now lent.old self.now lent.new) }
-    {
-        let key = message_key(OwedKind::Data, id, to);
-        if self.acks.has_acked(to, id) {
-            return self.send_for(&key, lent);
-        }
-        self.owe(key, lent)
-    }
-
-    // Receives a message: it is the last one in order of receipt.
-    pub(crate) fn receive(&mut self, message: Message, lent: &mut Lent<'_>) -> Result<(), NoMemory>
-        ensures stays { KeepsBeside self.old lent.old self.new lent.new }
-        ensures made { OnOk result (Makes (λ r. receive_in r message) self.old lent.old self.new lent.new) }
-        ensures len { vec_len self.new.groups ≡ vec_len self.old.groups }
-    {
-        let key = lent.shared.store.next_key(self.config.domain);
-        self.delay.offer(key, &message)?;
-        self.acks.receive(message.id)?;
-        learn(&mut self.orders, &message)?;
-        lent.shared.put(self.config.domain, message)?;
-        Ok(())
     }
 }
 
-// The body of a cast.
-fn body_of(kind: CastKind, payload: Payload) -> Body
-    ensures { result ≡ body_of kind payload }
+// Whether a process still joins by a request.
+fn is_joining_by(standing: Standing, number: u32) -> bool
+    ensures { result ≡ is_joining_by standing number }
 {
-    match kind {
-        CastKind::Causal => Body::Causal(payload),
-        CastKind::Atomic => Body::Atomic(payload),
+    match standing {
+        Standing::Joining { request, .. } => request == number,
+        Standing::Outside | Standing::Member => false,
     }
-}
-
-// The payload of a message.
-fn payload_from(payload: &Bytes) -> Result<Payload, NoMemory>
-    requires { length payload.now ≤ 16384 }
-    ensures { IfOk result (λ p. p ≡ payload.now) }
-{
-    Ok(Payload::from_bytes(payload.clone()?))
 }

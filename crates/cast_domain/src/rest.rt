@@ -1,14 +1,12 @@
-ghost use Rattle.std.specs.Prelude.{◌≡◌, ◌<◌, IfOk, OnOk, vec_len};
-ghost use Rattle.std.specs.List.{fold};
+ghost use Rattle.std.specs.Prelude.{◌≡◌, ◌<◌, None, IfOk, Some};
 ghost use Rattle.cast_domain.specs.Calls.{delivery_of, weight_of};
-ghost use Rattle.cast_domain.specs.Flags.{delivers_some, has_ready, passes_some};
 ghost use Rattle.cast_domain.specs.declared.rest.Weight.TheVariants.{Hands};
-ghost use Rattle.cast_history.specs.Rules.Rest.{told_of, tell_if, deliver_first, deliver_all, settle, pass};
+ghost use Rattle.cast_rules.specs.Rules.Rest.{told_of};
 
 use crate::domain::Domain;
 use crate::lent::Lent;
+use cast_events::Outs;
 use cast_message::{Body, CastKind, Message, Push};
-use cast_model::Outs;
 use cast_types::{Key, NoMemory, Proc, Uid};
 use std::alloc::AllocError;
 
@@ -31,10 +29,18 @@ pub(crate) struct Delivery {
 }
 
 impl Domain {
+    ghost use Rattle.std.specs.Prelude.{true, false, OnOk, ◌==◌};
     ghost use Rattle.cast_domain.specs.Records.{Keeps, KeepsBeside, records_in, Makes, MakesAlone, MakesWithOuts, StaysUnless};
+    ghost use Rattle.cast_domain.specs.Calls.{records, resting_records, deliver_as, note_weight_in, take_delivery_in};
+    ghost use Rattle.cast_rules.specs.Rules.Flushes.{go_on_all};
+    ghost use Rattle.cast_rules.specs.Rules.Home.{lead, wants};
+    ghost use Rattle.cast_rules.specs.Rules.Order.{set_orders};
+    ghost use Rattle.cast_events.specs.declared.event.Outs.{Outs};
+    ghost use Rattle.cast_domain.specs.Flags.{delivers_some, has_ready, passes_some};
+    ghost use Rattle.cast_rules.specs.Rules.Rest.{tell_if, deliver_first, deliver_all, settle, pass};
     ghost use Rattle.cast_domain.specs.Fits.{AreDismissed};
     ghost use Rattle.cast_domain.specs.Stepped.{IsRested};
-    ghost use Rattle.cast_domain.specs.Calls.{deliver_as, note_weight_in, records, resting_records, take_delivery_in};
+    ghost use Rattle.cast_rules.specs.Rules.Release.{let_go};
 
     // What follows from an event, until nothing changes. No run makes 2^64 passes.
     pub(crate) fn rest(&mut self, lent: &mut Lent<'_>) -> Result<(), NoMemory>
@@ -52,7 +58,7 @@ impl Domain {
 
     // Deliveries by serial; then by group set-order messages; then by group Installs and what the site wants; then by group the
     // home. Answers whether anything changed.
-    fn pass(&mut self, lent: &mut Lent<'_>) -> Result<bool, NoMemory>
+    pub(crate) fn pass(&mut self, lent: &mut Lent<'_>) -> Result<bool, NoMemory>
         ensures stays { KeepsBeside self.old lent.old self.new lent.new }
         ensures made { OnOk result (Makes (pass records resting_records) self.old lent.old self.new lent.new) }
         ensures still { IfOk result (StaysUnless self.old lent.old self.new lent.new) }
@@ -73,7 +79,7 @@ impl Domain {
         ensures told { IfOk result (λ changed. changed ≡ delivers_some (records_in self.old lent.old)) }
     {
         let mut changed = false;
-        for place in 0..self.delay.admitted() {
+        for place in 0..self.delay.admitted_count() {
             if let Some(process) = self.delay.process_at(place) {
                 let delivered = self.deliver_all(process.serial, lent)?;
                 changed = changed | delivered;
@@ -90,7 +96,7 @@ impl Domain {
         ensures told { IfOk result (λ changed. changed ≡ has_ready (records_in self.old lent.old) serial) }
     {
         let mut changed = false;
-        for _turn in 0..self.held(lent) {
+        for _turn in 0..self.held_count(lent) {
             if !self.deliver_first(serial, lent)? {
                 return Ok(changed);
             }
@@ -147,7 +153,7 @@ impl Domain {
         ensures same { Keeps self.old self.new }
         ensures made { OnOk result (MakesWithOuts (λ r. take_delivery_in r process key id) self.old outs.old self.new outs.new) }
     {
-        self.delay.delivered(process, key)?;
+        self.delay.note_delivered(process, key)?;
         outs.delivered.push((self.config.domain, process, id))?;
         Ok(())
     }

@@ -7,7 +7,7 @@ use cast_message::{Message, Push};
 use cast_outbox::{Outboxes, Pushed};
 use cast_store::Store;
 use cast_timer::{OwedKey, Timers};
-use cast_types::{DomainNo, GroupNo, Key, Listed, NoMemory, Refusal};
+use cast_types::{DomainNo, GroupNo, Key, List, NoMemory, Refusal};
 use std::alloc::{AllocError, Global};
 
 /// What the domains of a daemon share: the messages that they keep, the frames that they owe and the outboxes of their
@@ -143,7 +143,7 @@ impl Shared {
         domain: DomainNo,
         serial: u32,
         most: u32,
-    ) -> Result<Listed<Push>, NoMemory>
+    ) -> Result<List<Push>, NoMemory>
         ensures value { IfOk result (λ entries. entries ≡ take most ((part_of domain self.old).outboxes serial)) }
         ensures part { OnOk result (part_of domain self.new ≡ part_taking (part_of domain self.old) serial most) }
         ensures others { LeavesOthers domain self.old self.new }

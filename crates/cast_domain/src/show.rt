@@ -4,7 +4,7 @@ ghost use Rattle.cast_domain.specs.Shows.{group_shown};
 use crate::domain::Domain;
 use crate::record::GroupRecord;
 use crate::shared::Shared;
-use cast_types::{GroupNo, Listed, NoMemory, Proc};
+use cast_types::{GroupNo, List, NoMemory, Proc};
 use std::alloc::Global;
 
 /// What a domain shows of itself.
@@ -31,7 +31,7 @@ pub struct GroupShown {
     /// The member of that view that sets the order of its ABCASTs; `None` where no member is at this site.
     pub holder: Option<Proc>,
     /// In rising order; none where no member is at this site.
-    pub members: Listed<Proc>,
+    pub members: List<Proc>,
     /// Whether a flush of the view has begun here.
     pub frozen: bool,
 }
@@ -55,10 +55,10 @@ impl Domain {
     }
 
     /// What the domain shows of its groups, in their order.
-    pub fn show_groups(&self, alloc: Global) -> Result<Listed<GroupShown>, NoMemory>
+    pub fn show_groups(&self, alloc: Global) -> Result<List<GroupShown>, NoMemory>
         ensures { IfOk result (λ groups. groups ≡ groups_shown self.now) }
     {
-        let mut groups = Listed::new(alloc);
+        let mut groups = List::new(alloc);
         for group in &self.groups {
             groups.push(show_group(alloc, group)?)?;
         }
@@ -76,7 +76,7 @@ fn show_group(alloc: Global, group: &GroupRecord) -> Result<GroupShown, NoMemory
         group: group.name,
         number: here.number(),
         holder: here.holder(),
-        members: Listed::from_vec(members),
+        members: List::from_vec(members),
         frozen: here.is_frozen(),
     })
 }

@@ -1,42 +1,25 @@
-ghost use Rattle.std.specs.Prelude.{◌≡◌, ◌<◌, IfNone, IfSome, OnOk, vec_len};
-ghost use Rattle.std.specs.List.{fold};
-ghost use Rattle.cast_history.specs.Rules.Data.{acknowledge};
-
 use crate::domain::Domain;
+use crate::keys::message_key;
 use crate::lent::Lent;
-use crate::owing::message_key;
+use cast_events::Outs;
 use cast_message::SiteFrame;
-use cast_model::Outs;
 use cast_timer::OwedKind;
-use cast_types::{Key, NoMemory, SiteNo, Uid};
+use cast_types::{NoMemory, SiteNo, Uid};
 use cast_view::is_among;
 
 impl Domain {
-    ghost use Rattle.cast_history.specs.Rules.Release.{is_free, let_go};
-    ghost use Rattle.cast_history.specs.Rules.Stability.{is_used_ack, on_ack, on_stable, tell_more, tell_stable, with_ack};
-    ghost use Rattle.cast_domain.specs.Records.{GivesBack, Keeps, KeepsBeside, records_in, own_records, Makes, MakesWithOuts, TellsAlone};
-    ghost use Rattle.cast_domain.specs.Freed.{AreNotFree, IsFreeKey};
-    ghost use Rattle.cast_domain.specs.Calls.{is_current_in, is_open_in, records, resting_records, release_in};
-
-    // Acknowledges a received message: its site is owed that until it tells that the message is stable.
-    pub(crate) fn acknowledge(
-        &self,
-        to: SiteNo,
-        id: Uid,
-        lent: &mut Lent<'_>,
-    ) -> Result<(), NoMemory>
-        ensures back { GivesBack self.now.config.domain lent.old lent.new }
-        ensures made { OnOk result (Makes (λ r. acknowledge records r to id) self.now lent.old self.now lent.new) }
-    {
-        if self.acks.is_stable(id) {
-            return self.send(lent.outs, to, SiteFrame::Ack(id));
-        }
-        self.owe(message_key(OwedKind::Ack, id, to), lent)
-    }
+    ghost use Rattle.std.specs.Prelude.{◌<◌, OnOk, vec_len, ◌&&◌, ◌==◌, not};
+    ghost use Rattle.cast_domain.specs.Records.{KeepsBeside, Makes, MakesWithOuts, TellsAlone};
+    ghost use Rattle.cast_domain.specs.Calls.{records};
+    ghost use Rattle.std.specs.List.{fold};
+    ghost use Rattle.cast_types.specs.Sets.{is_among};
+    ghost use Rattle.cast_rules.specs.Rules.Keys.{message_key};
+    ghost use Rattle.cast_events.specs.declared.event.Outs.{Outs};
+    ghost use Rattle.cast_rules.specs.Rules.Stability.{is_used_ack, on_ack, on_stable, tell_more, tell_stable, with_ack};
 
     // Ack: another site of the view has an own message, and is owed it no more. Where more messages are stable now, all
     // other sites are told; where that one was stable before, the site was not told and is told again.
-    pub(crate) fn ack(
+    pub(crate) fn on_ack(
         &mut self,
         place: usize,
         from: SiteNo,
@@ -114,7 +97,7 @@ impl Domain {
     }
 
     // Stable: the process's own site tells that its messages up to this one are stable.
-    pub(crate) fn stable(
+    pub(crate) fn on_stable(
         &mut self,
         place: usize,
         from: SiteNo,
@@ -131,62 +114,5 @@ impl Domain {
             self.acks.learn_stable(id)?;
         }
         Ok(())
-    }
-
-    // Lets go of all free messages.
-    pub(crate) fn let_go(&mut self, lent: &mut Lent<'_>)
-        ensures stays { KeepsBeside self.old lent.old self.new lent.new }
-        ensures made { Makes (let_go records resting_records) self.old lent.old self.new lent.new }
-    {
-        while let Some(key) = self.free_key(lent) {
-            self.release(key, lent);
-        }
-    }
-
-    // The key of a free message, where one is free. Of each process's messages only the first one is looked at: where that is
-    // not free, none behind it is.
-    fn free_key(&self, lent: &Lent<'_>) -> Option<Key>
-        ensures some { IfSome result (IsFreeKey (records_in self.now lent.now)) }
-        ensures none { IfNone result (AreNotFree (records_in self.now lent.now)) }
-    {
-        lent.shared
-            .store
-            .first_passing(self.config.domain, |id| self.is_free(id))
-    }
-
-    // Whether a message is of the current view, which is not frozen, stable, and delivered to each member here.
-    fn is_free(&self, id: Uid) -> bool
-        ensures { result ≡ is_free records resting_records (own_records self.now) id }
-    {
-        self.is_open_to(id) && self.acks.may_free(id, self.delay.is_awaited(id))
-    }
-
-    // Whether a message is of the current view of its group, which no flush has frozen.
-    fn is_open_to(&self, id: Uid) -> bool
-        ensures { result ≡ is_open_in (own_records self.now) id }
-    {
-        match self.place_of(id.group) {
-            Some(place) => self.record(place).here.is_open(id.view),
-            None => false,
-        }
-    }
-
-    // Whether a message is of the current view of its group.
-    pub(crate) fn is_current(&self, id: Uid) -> bool
-        ensures { result ≡ is_current_in (own_records self.now) id }
-    {
-        match self.place_of(id.group) {
-            Some(place) => self.record(place).here.is_current(id.view),
-            None => false,
-        }
-    }
-
-    // Keeps the message under a key no longer.
-    pub(crate) fn release(&mut self, key: Key, lent: &mut Lent<'_>)
-        ensures stays { KeepsBeside self.old lent.old self.new lent.new }
-        ensures made { Makes (λ r. release_in r key) self.old lent.old self.new lent.new }
-    {
-        lent.shared.remove(self.config.domain, key);
-        self.delay.forget(key);
     }
 }

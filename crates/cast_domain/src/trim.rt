@@ -1,17 +1,18 @@
-ghost use Rattle.std.specs.Prelude.{◌≡◌, ◌<◌, not, position, vec_len};
+ghost use Rattle.std.specs.Prelude.{◌≡◌, ◌==◌};
 ghost use Rattle.cast_types.specs.Names.{named};
 ghost use Rattle.cast_domain.specs.Trims.{is_kept_among};
 
 use crate::domain::Domain;
-use crate::order::is_member;
 use crate::record::GroupRecord;
+use crate::turns::is_member;
 use cast_message::Received;
-use cast_model::Outs;
 use cast_types::{Proc, Uid};
 
 impl Domain {
-    ghost use Rattle.cast_domain.specs.Records.{Keeps, own_records, MakesAlone};
-    ghost use Rattle.cast_domain.specs.Calls.{record_at};
+    ghost use Rattle.std.specs.Prelude.{◌<◌, true, None, vec_len, ◌&&◌, ◌||◌, not, Some, position};
+    ghost use Rattle.cast_domain.specs.Records.{Keeps, MakesAlone, own_records};
+    ghost use Rattle.cast_domain.specs.Calls.{record_at, is_awaited_of, is_received_of};
+    ghost use Rattle.cast_delay.specs.Ready.{is_member};
     ghost use Rattle.cast_domain.specs.Trims.{count_first, is_counted_of, is_over_of, is_past_of, trim_all_in, trim_in};
 
     // Forgets the oldest ids of each group's order that are over. While few are kept that takes no more than to see so.
@@ -65,7 +66,7 @@ impl Domain {
         ensures { result ≡ is_over_of (own_records self.now) group.now kept.now (proc, count) }
     {
         self.is_received_of(group, proc, count)
-            && !is_kept_among(kept, named(group, proc, count))
+            && !is_kept_among(kept, message_id(group, proc, count))
             && self.is_past(group, proc, count)
     }
 
@@ -91,7 +92,7 @@ impl Domain {
 }
 
 // The name of a message of the view of a group.
-fn named(group: &GroupRecord, proc: Proc, count: u32) -> Uid
+fn message_id(group: &GroupRecord, proc: Proc, count: u32) -> Uid
     ensures { result ≡ named group.now.name group.now.here.number (proc, count) }
 {
     Uid {

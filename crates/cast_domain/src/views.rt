@@ -1,34 +1,151 @@
-ghost use Rattle.std.specs.Prelude.{◌≡◌, ◌<◌, IfOk, OnOk, vec_len};
-ghost use Rattle.cast_delay.specs.Ready.{is_member};
-ghost use Rattle.std.specs.List.{fold, list_any};
+ghost use Rattle.std.specs.Prelude.{◌≡◌, ◌==◌};
+ghost use Rattle.std.specs.List.{list_any};
 ghost use Rattle.cast_view.specs.Sites.{is_at};
-ghost use Rattle.cast_history.specs.Rules.Data.{is_outdated};
-ghost use Rattle.cast_history.specs.Rules.Views.{change_view, enter_and_tell, install, on_out, tell_out, tell_view};
 
+use crate::data::is_named;
 use crate::domain::Domain;
-use crate::frames::is_named;
 use crate::lent::Lent;
-use crate::order::is_member;
-use cast_delay::Fact;
-use cast_message::{Members, Message, Push, Received, SiteFrame, Tail};
-use cast_model::Outs;
+use crate::record::view_at;
+use crate::turns::is_member;
+use cast_clock::Times;
+use cast_delay::ProcessUpdate;
+use cast_message::{Membership, Push, Received, SiteFrame, Tail};
 use cast_types::{Counts, GroupNo, Key, NoMemory, Proc, SiteNo, Standing, Uid};
-use cast_view::Verdict;
+use cast_view::{Verdict, is_taken_in, other_sites};
 
 impl Domain {
-    ghost use Rattle.cast_types.specs.Names.{proc_eq};
-    ghost use Rattle.cast_types.specs.Sets.{is_among};
-    ghost use Rattle.cast_domain.specs.Records.{Keeps, KeepsBeside, own_records, Makes, MakesAtAnyCut, MakesAlone, TellsAlone};
-    ghost use Rattle.cast_domain.specs.Calls.{is_ended_in, is_member_in, is_put_out_in, pass_in, put_out_all_in, put_out_if_in, put_out_in, records, serials_put_out, serials_of_members, keys_passing, on_install_in, local_in, added_if};
+    ghost use Rattle.std.specs.Prelude.{◌<◌, true, false, None, IfOk, OnOk, vec_len, ◌&&◌, ◌||◌, map, not, filter, Some};
+    ghost use Rattle.cast_domain.specs.Records.{Keeps, KeepsBeside, Makes, MakesAlone, own_records, MakesAtAnyCut, TellsAlone};
+    ghost use Rattle.cast_domain.specs.Calls.{records, record_at, added_if, begin_view_in, enter_in, standing_of, take_in, time_of, view_in, holding_from, is_ended_in, is_member_in, is_put_out_in, pass_in, put_out_all_in, put_out_if_in, put_out_in, serials_put_out, serials_of_members, keys_passing, on_install_in, local_in};
+    ghost use Rattle.std.specs.List.{fold};
+    ghost use Rattle.cast_view.specs.declared.member.Verdict.TheVariants.{Pends};
+    ghost use Rattle.cast_rules.specs.Rules.Asking.{is_from_home, request};
+    ghost use Rattle.cast_view.specs.MemberSide.{holder_at, is_taken_in};
+    ghost use Rattle.cast_clock.specs.Times.{entering};
+    ghost use Rattle.cast_delay.specs.Ready.{is_member};
+    ghost use Rattle.cast_rules.specs.Rules.Rest.{pass};
+    ghost use Rattle.cast_rules.specs.Rules.Leaving.{tell};
+    ghost use Rattle.cast_rules.specs.Rules.Views.{change_view, enter_and_tell, install, on_out, tell_out, tell_view};
+
+    // A view is complete: the processes here that it takes in enter it.
+    pub(crate) fn begin_view(
+        &mut self,
+        place: usize,
+        view: u32,
+        members: &Membership,
+        request: u32,
+    ) -> Result<(), NoMemory>
+        requires { place < vec_len self.old.groups }
+        ensures same { Keeps self.old self.new }
+        ensures made { OnOk result (MakesAlone (λ r. begin_view_in r place view members.now request) self.old self.new) }
+    {
+        let group = self.record(place).name;
+        self.take_view(place, view, members)?;
+        self.take_all_in(group, view, members.list(), request)?;
+        Ok(())
+    }
+
+    // The site takes over a view.
+    fn take_view(&mut self, place: usize, view: u32, members: &Membership) -> Result<(), NoMemory>
+        requires { place < vec_len self.old.groups }
+        ensures same { Keeps self.old self.new }
+        ensures made { OnOk result (MakesAlone (λ r. view_in r place view members.now) self.old self.new) }
+    {
+        let group = self.record(place).name;
+        view_at(&mut self.groups, place, self.site, view, members)?;
+        self.delay.note_view(group, view)?;
+        let alloc = *self.groups.allocator();
+        let others = other_sites(alloc, self.site, self.record(place).here.members())?;
+        self.acks.tell(group, view, others)?;
+        self.orders.forget(group);
+        self.hold_from(place, group)
+    }
+
+    // Takes in that the view of the group at a place has a holder, where that is a process here.
+    fn hold_from(&mut self, place: usize, group: GroupNo) -> Result<(), NoMemory>
+        requires { place < vec_len self.old.groups }
+        ensures same { Keeps self.old self.new }
+        ensures made { OnOk result (MakesAlone (λ r. record r { orders = holding_from group (holder_at r.site (record_at r.groups place).here) r.orders }) self.old self.new) }
+    {
+        match self.record(place).here.holder_at(self.site) {
+            Some(holder) => self.orders.hold(group, holder, 1),
+            None => Ok(()),
+        }
+    }
+
+    // Each process here that a view takes in enters it.
+    fn take_all_in(
+        &mut self,
+        group: GroupNo,
+        view: u32,
+        members: &[Proc],
+        request: u32,
+    ) -> Result<(), NoMemory>
+        ensures same { Keeps self.old self.new }
+        ensures made { OnOk result (MakesAlone (λ r. fold (take_in group view request) r members.now) self.old self.new) }
+    {
+        for process in members {
+            self.take_in(*process, group, view, request)?;
+        }
+        Ok(())
+    }
+
+    // A process that a view names enters it, if it is here and is taken in.
+    fn take_in(
+        &mut self,
+        process: Proc,
+        group: GroupNo,
+        view: u32,
+        request: u32,
+    ) -> Result<(), NoMemory>
+        ensures same { Keeps self.old self.new }
+        ensures made { OnOk result (MakesAlone (λ r. take_in group view request r process) self.old self.new) }
+    {
+        if process.site == self.site && self.is_taken_in(process, group, request) {
+            self.enter(process, group, view)?;
+        }
+        Ok(())
+    }
+
+    // Whether a process that a view names is taken in: it is a member, or joins by a request that the home had
+    // applied.
+    fn is_taken_in(&self, process: Proc, group: GroupNo, request: u32) -> bool
+        ensures { result ≡ is_taken_in request (standing_of self.now.delay process group) }
+    {
+        is_taken_in(self.delay.standing(process, group), request)
+    }
+
+    // A process enters a view.
+    fn enter(&mut self, process: Proc, group: GroupNo, view: u32) -> Result<(), NoMemory>
+        ensures same { Keeps self.old self.new }
+        ensures made { OnOk result (MakesAlone (λ r. enter_in group view r process) self.old self.new) }
+    {
+        let entered = self.entry_time(process, group, view)?;
+        self.tell(process, ProcessUpdate::Time(entered))?;
+        self.tell(process, ProcessUpdate::Standing(group, Standing::Member))?;
+        Ok(())
+    }
+
+    // The time of a process that enters a view.
+    fn entry_time(&self, process: Proc, group: GroupNo, view: u32) -> Result<Times, NoMemory>
+        ensures { IfOk result (λ t. t ≡ entering (time_of self.now.delay process) group view) }
+    {
+        let mut entered = match self.delay.time(process) {
+            Some(time) => time.copy()?,
+            None => Times::new(*self.groups.allocator()),
+        };
+        entered.enter(group, view)?;
+        Ok(entered)
+    }
 
     // Install: answered again where the site knows its number; else completed where the site has no view, and where it skips
     // a view. The Install of the next view of a site that has one waits, unless one does.
-    pub(crate) fn install(
+    pub(crate) fn on_install(
         &mut self,
         place: usize,
         from: SiteNo,
         view: u32,
-        members: &Members,
+        members: &Membership,
         request: u32,
         cut: &Counts,
         tail: &Tail,
@@ -65,7 +182,7 @@ impl Domain {
         place: usize,
         from: SiteNo,
         view: u32,
-        members: &Members,
+        members: &Membership,
         request: u32,
         lent: &mut Lent<'_>,
     ) -> Result<(), NoMemory>
@@ -92,7 +209,7 @@ impl Domain {
         ensures made { OnOk result (Makes (λ r. on_out records r place view) self.old lent.old self.new lent.new) }
     {
         if self.record(place).here.number() < view {
-            let nobody = Members::new(*self.groups.allocator());
+            let nobody = Membership::new(*self.groups.allocator());
             self.change_view(true, place, view, &nobody, 0, lent)?;
         }
         Ok(())
@@ -104,7 +221,7 @@ impl Domain {
         skips: bool,
         place: usize,
         view: u32,
-        members: &Members,
+        members: &Membership,
         request: u32,
         lent: &mut Lent<'_>,
     ) -> Result<(), NoMemory>
@@ -125,7 +242,7 @@ impl Domain {
         skips: bool,
         place: usize,
         view: u32,
-        members: &Members,
+        members: &Membership,
         request: u32,
         lent: &mut Lent<'_>,
     ) -> Result<(), NoMemory>
@@ -148,12 +265,12 @@ impl Domain {
         &self,
         group: GroupNo,
         skips: bool,
-        members: &Members,
+        members: &Membership,
     ) -> Result<Vec<u32>, NoMemory>
         ensures { IfOk result (λ out. out.items ≡ serials_put_out group skips members.now (own_records self.now)) }
     {
         let mut out = Vec::new(*self.groups.allocator());
-        for place in 0..self.delay.admitted() {
+        for place in 0..self.delay.admitted_count() {
             if let Some(process) = self.delay.process_at(place) {
                 self.add_put_out(group, skips, members, process.serial, &mut out)?;
             }
@@ -166,7 +283,7 @@ impl Domain {
         &self,
         group: GroupNo,
         skips: bool,
-        members: &Members,
+        members: &Membership,
         serial: u32,
         out: &mut Vec<u32>,
     ) -> Result<(), NoMemory>
@@ -183,7 +300,7 @@ impl Domain {
         ensures { IfOk result (λ here. here.items ≡ serials_of_members (own_records self.now) group) }
     {
         let mut here = Vec::new(*self.groups.allocator());
-        for place in 0..self.delay.admitted() {
+        for place in 0..self.delay.admitted_count() {
             if let Some(process) = self.delay.process_at(place) {
                 self.add_member(group, process.serial, &mut here)?;
             }
@@ -224,7 +341,7 @@ impl Domain {
         &mut self,
         group: GroupNo,
         view: u32,
-        members: &Members,
+        members: &Membership,
         serials: &[u32],
         lent: &mut Lent<'_>,
     ) -> Result<(), NoMemory>
@@ -243,7 +360,7 @@ impl Domain {
         &mut self,
         group: GroupNo,
         view: u32,
-        members: &Members,
+        members: &Membership,
         serial: u32,
         lent: &mut Lent<'_>,
     ) -> Result<(), NoMemory>
@@ -266,7 +383,7 @@ impl Domain {
         skips: bool,
         place: usize,
         view: u32,
-        members: &Members,
+        members: &Membership,
         request: u32,
     ) -> Result<(), NoMemory>
         requires { place < vec_len self.old.groups }
@@ -276,7 +393,7 @@ impl Domain {
     {
         let group = self.record(place).name;
         self.put_out_all(group, skips, members)?;
-        self.complete(place, view, members, request)?;
+        self.begin_view(place, view, members, request)?;
         Ok(())
     }
 
@@ -285,12 +402,12 @@ impl Domain {
         &mut self,
         group: GroupNo,
         skips: bool,
-        members: &Members,
+        members: &Membership,
     ) -> Result<(), NoMemory>
         ensures same { Keeps self.old self.new }
         ensures made { OnOk result (MakesAlone (put_out_all_in group skips members.now) self.old self.new) }
     {
-        for place in 0..self.delay.admitted() {
+        for place in 0..self.delay.admitted_count() {
             if let Some(process) = self.delay.process_at(place) {
                 self.put_out_if(group, skips, members, process.serial)?;
             }
@@ -303,7 +420,7 @@ impl Domain {
         &mut self,
         group: GroupNo,
         skips: bool,
-        members: &Members,
+        members: &Membership,
         serial: u32,
     ) -> Result<(), NoMemory>
         ensures same { Keeps self.old self.new }
@@ -316,7 +433,7 @@ impl Domain {
     }
 
     // Whether a process is a member that a view lacks, or a member where a view was skipped.
-    fn is_put_out(&self, group: GroupNo, skips: bool, members: &Members, serial: u32) -> bool
+    fn is_put_out(&self, group: GroupNo, skips: bool, members: &Membership, serial: u32) -> bool
         ensures { TellsAlone (λ r. is_put_out_in group skips members.now r serial) self.now result }
     {
         let process = self.process(serial);
@@ -330,7 +447,7 @@ impl Domain {
         ensures made { OnOk result (MakesAlone (λ r. put_out_in group r (local_in r serial)) self.old self.new) }
     {
         let process = self.process(serial);
-        self.tell(process, Fact::Standing(group, Standing::Outside))?;
+        self.tell(process, ProcessUpdate::Standing(group, Standing::Outside))?;
         Ok(())
     }
 
@@ -340,7 +457,7 @@ impl Domain {
         ensures stays { KeepsBeside self.old lent.old self.new lent.new }
         ensures made { OnOk result (Makes (λ r. records.release_ended r place) self.old lent.old self.new lent.new) }
     {
-        let ended = self.ended_keys(place, lent.shared.store.kept(self.config.domain))?;
+        let ended = self.ended_keys(place, lent.shared.store.messages(self.config.domain))?;
         for key in ended.as_slice() {
             self.release(*key, lent);
         }
@@ -367,19 +484,10 @@ impl Domain {
         let record = self.record(place);
         id.group == record.name && id.view < record.here.number()
     }
-
-    // Whether a message is of an older view than the one that the group at a place has here, in which its site has no member.
-    pub(crate) fn is_outdated(&self, place: usize, from: SiteNo, message: &Message) -> bool
-        requires { place < vec_len self.now.groups }
-        ensures { TellsAlone (λ r. is_outdated records r place from message.now) self.now result }
-    {
-        let here = &self.record(place).here;
-        here.view().is_some() && message.id.view < here.number() && !is_at(from, here.members())
-    }
 }
 
 // Whether one of these processes is at a site.
-fn is_at(site: SiteNo, members: &[Proc]) -> bool
+pub(crate) fn is_at(site: SiteNo, members: &[Proc]) -> bool
     ensures { result ≡ list_any (is_at site) members.now }
 {
     members.iter().any(|member| member.site == site)

@@ -73,8 +73,8 @@ chain : {K : Type 0} {R : K → K → Ordering} → IsTotalOrder R → (x y z : 
 chain {R = R} o x y z p q = ap is_lt (o.trans x y z (less_is (R x y) p) (less_is (R y z) q))
 
 -- an item above the one before
-abbrev pub Keyed : {K X : Type 0} → (K → K → Ordering) → (K × X → Type 0) → Option K → K × X → Type 0
-Keyed R P last e = P e × IsAbove R last e.0
+abbrev pub SortedMap : {K X : Type 0} → (K → K → Ordering) → (K × X → Type 0) → Option K → K × X → Type 0
+SortedMap R P last e = P e × IsAbove R last e.0
 
 abbrev pub key_of : {K X : Type 0} → K × X → Option K
 key_of e = Some e.0
@@ -103,14 +103,14 @@ module _ {K X : Type 0} (R : K → K → Ordering) (o : IsTotalOrder R) where
   under_head : (k : K) (e : K × X) (es : List (K × X)) → below_all R k (e ∷ es) ≡ true → is_lt (R k e.0) ≡ true
   under_head k e es h = (and_parts (is_lt (R k e.0)) (below_all R k es) h).0
 
-  pub sorted_from : (P : K × X → Type 0) (last : Option K) (es : List (K × X)) → AllFrom (Keyed R P) key_of last es → (is_sorted R es ≡ true) × Under last es × AllByRecursion P es
+  pub sorted_from : (P : K × X → Type 0) (last : Option K) (es : List (K × X)) → AllFrom (SortedMap R P) key_of last es → (is_sorted R es ≡ true) × Under last es × AllByRecursion P es
   sorted_from P None [] h = (refl, tt, tt)
   sorted_from P (Some k) [] h = (refl, refl, tt)
   sorted_from P last (e ∷ es) h =
       let rest = sorted_from P (Some e.0) es h.1 in
       (and_from (below_all R e.0 es) (is_sorted R es) rest.1 rest.0, under_cons last e es h.0.1 rest.1, (h.0.0, rest.2))
 
-  pub keyed_from : (P : K × X → Type 0) (last : Option K) (es : List (K × X)) → is_sorted R es ≡ true → Under last es → AllByRecursion P es → AllFrom (Keyed R P) key_of last es
+  pub keyed_from : (P : K × X → Type 0) (last : Option K) (es : List (K × X)) → is_sorted R es ≡ true → Under last es → AllByRecursion P es → AllFrom (SortedMap R P) key_of last es
   keyed_from P last [] sorted under all = tt
   keyed_from P None (e ∷ es) sorted under all =
       let parts = and_parts (below_all R e.0 es) (is_sorted R es) sorted in

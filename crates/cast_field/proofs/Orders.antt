@@ -8,14 +8,14 @@ use Rattle.std.proofs.lemmas.Bool.{and_parts, and_from, cases_Bool, false≢true
 use Rattle.cast_types.specs.declared.names.Proc.{Proc}
 use Rattle.cast_types.specs.Names.{Entry, entry_cmp}
 use Rattle.cast_types.proofs.Orders.{entry_total}
-use Rattle.cast_message.specs.Stretch.{Stretch, is_stretch}
-use Rattle.cast_message.specs.Sequence.{Sequence, is_sequence}
-use Rattle.cast_message.specs.Keeping.{Marked, KeptList, is_kept}
+use Rattle.cast_message.specs.Tail.{Tail, is_tail}
+use Rattle.cast_message.specs.Placement.{Placement, is_placement}
+use Rattle.cast_message.specs.KeptIds.{Marked, KeptList, is_kept}
 use Rattle.cast_field.specs.Spelling.{byte, short, word, spelled_entry, spelled_new_holder, spelled_sequence, spelled_tail, mark_code, spelled_marked, spelled_kept}
 use Rattle.cast_field.specs.Reading.{◌>>=◌, byte_at, number_at, many, above, proc_at, entry_at, id_at, nothing_of, least_ids, new_holder_at, sequence_at, tail_at, id_above, mark_at, marked_above, id_of, kept_at}
 use Rattle.cast_field.specs.Spelled.{IsFrom, IsEntry, IsNewHolder, ArePlaced, IsTail, IsMarked, AreKept}
 use Rattle.cast_field.proofs.Fields.{bind_ok, ok_is, Took, joined, Takes, Again, byte_takes, byte_again, short_takes, short_again, word_takes, word_again}
-use Rattle.cast_field.proofs.Lists.{AllFrom, many_takes, many_again, above_is, above_again, Keyed, Placed, sorted_from, keyed_from}
+use Rattle.cast_field.proofs.Lists.{AllFrom, many_takes, many_again, above_is, above_again, SortedMap, Placed, sorted_from, keyed_from}
 use Rattle.cast_field.proofs.Parts.{proc_takes, proc_again, entry_takes, entry_again}
 
 -- ---- ids in any order
@@ -41,16 +41,16 @@ id_again last v rest fits = entry_again v rest fits
 
 -- ---- the end of the order
 
-stretch_from : (t : Stretch) → t.start ≤ 4000000000 → length t.ids ≤ 576 → is_stretch t ≡ true
+stretch_from : (t : Tail) → t.start ≤ 4000000000 → length t.ids ≤ 576 → is_tail t ≡ true
 stretch_from t low few = and_from (nat_le t.start 4000000000) (nat_le (length t.ids) 576) (le-leb t.start 4000000000 low) (le-leb (length t.ids) 576 few)
 
-pub stretch_parts : (t : Stretch) → is_stretch t ≡ true → (t.start ≤ 4000000000) × (length t.ids ≤ 576)
+pub stretch_parts : (t : Tail) → is_tail t ≡ true → (t.start ≤ 4000000000) × (length t.ids ≤ 576)
 stretch_parts t h =
     let parts = and_parts (nat_le t.start 4000000000) (nat_le (length t.ids) 576) h in
     (leb-true t.start 4000000000 parts.0, leb-true (length t.ids) 576 parts.1)
 
 -- a tail of at most so many ids
-abbrev pub IsTailOf : ℕ → Stretch → Type 0
+abbrev pub IsTailOf : ℕ → Tail → Type 0
 IsTailOf most t = IsTail t × (length t.ids ≤ most)
 
 pub tail_takes : (most : ℕ) → most ≤ 576 → Takes (tail_at most) spelled_tail (IsTailOf most)
@@ -66,8 +66,8 @@ tail_takes most low bytes x fits e =
     let j1 = joined bytes (word a1.0.0) a1.0.1 (short a2.0.0 ++ flat_map spelled_entry a3.0.0) a3.0.1 t1.parts j2 in
     let whole = j1 ∙ ap (λ (n : ℕ). (word a1.0.0 ++ (short n ++ flat_map spelled_entry a3.0.0)) ++ a3.0.1) (sym t3.holds.0) in
     let few : length a3.0.0 ≤ most = omega (arith, t2.holds.below, t3.holds.0) in
-    let made : Stretch × List ℕ = (record { start = a1.0.0; ids = a3.0.0 }, a3.0.1) in
-    subst (λ (y : Stretch × List ℕ). Took bytes (spelled_tail y.0) y.1 (IsTailOf most y.0)) (ok_is made x a3.2)
+    let made : Tail × List ℕ = (record { start = a1.0.0; ids = a3.0.0 }, a3.0.1) in
+    subst (λ (y : Tail × List ℕ). Took bytes (spelled_tail y.0) y.1 (IsTailOf most y.0)) (ok_is made x a3.2)
     (record { parts = whole; rest_fits = t3.rest_fits; holds = (record { short = stretch_from (record { start = a1.0.0; ids = a3.0.0 }) t1.holds.below (omega (arith, few, low)); ids = ids_known a3.0.0 t3.holds.1 }, few) })
 
 pub tail_again : (most : ℕ) → most < 2 ^ 16 → Again (tail_at most) spelled_tail (IsTailOf most)
@@ -91,7 +91,7 @@ between_parts low high n h =
     record { above = leb-true low n parts.0; below = leb-true n high parts.1 }
 
 -- places of a message that hands over the token, or of one that does not
-abbrev pub ArePlacedBy : Bool → Sequence → Type 0
+abbrev pub ArePlacedBy : Bool → Placement → Type 0
 ArePlacedBy handing s = ArePlaced s × (is_some s.holder ≡ handing)
 
 few_ids : (handing : Bool) (n : ℕ) → IsFrom (least_ids handing) 64 n → ((handing || nat_le 1 n) && nat_le n 64) ≡ true
@@ -102,12 +102,12 @@ few_ids_back : (handing : Bool) (n : ℕ) → ((handing || nat_le 1 n) && nat_le
 few_ids_back true n h = record { above = omega arith; below = leb-true n 64 h }
 few_ids_back false n h = between_parts 1 64 n h
 
-sequence_from : (handing : Bool) (s : Sequence) → IsFrom 1 4000000000 s.first → IsFrom (least_ids handing) 64 (length s.ids) → is_some s.holder ≡ handing → is_sequence s ≡ true
+sequence_from : (handing : Bool) (s : Placement) → IsFrom 1 4000000000 s.first → IsFrom (least_ids handing) 64 (length s.ids) → is_some s.holder ≡ handing → is_placement s ≡ true
 sequence_from handing s first few is =
     and_from (nat_le 1 s.first && nat_le s.first 4000000000) ((is_some s.holder || nat_le 1 (length s.ids)) && nat_le (length s.ids) 64)
     (between 1 4000000000 s.first first) (ap (λ b. (b || nat_le 1 (length s.ids)) && nat_le (length s.ids) 64) is ∙ few_ids handing (length s.ids) few)
 
-pub sequence_parts : (s : Sequence) → is_sequence s ≡ true → IsFrom 1 4000000000 s.first × IsFrom (least_ids (is_some s.holder)) 64 (length s.ids)
+pub sequence_parts : (s : Placement) → is_placement s ≡ true → IsFrom 1 4000000000 s.first × IsFrom (least_ids (is_some s.holder)) 64 (length s.ids)
 sequence_parts s h =
     let parts = and_parts (nat_le 1 s.first && nat_le s.first 4000000000) ((is_some s.holder || nat_le 1 (length s.ids)) && nat_le (length s.ids) 64) h in
     (between_parts 1 4000000000 s.first parts.0, few_ids_back (is_some s.holder) (length s.ids) parts.1)
@@ -151,11 +151,11 @@ sequence_takes handing bytes x fits e =
     let j1 = joined bytes (word a1.0.0) a1.0.1 (byte a2.0.0 ++ behind) a4.0.1 t1.parts j2 in
     let whole = j1 ∙ ap (λ (n : ℕ). (word a1.0.0 ++ (byte n ++ behind)) ++ a4.0.1) (sym t3.holds.0) in
     let size : IsFrom (least_ids handing) 64 (length a3.0.0) = subst (IsFrom (least_ids handing) 64) (sym t3.holds.0) t2.holds in
-    let made : Sequence × List ℕ = (record { first = a1.0.0; ids = a3.0.0; holder = a4.0.0 }, a4.0.1) in
-    subst (λ (y : Sequence × List ℕ). Took bytes (spelled_sequence y.0) y.1 (ArePlacedBy handing y.0)) (ok_is made x a4.2)
+    let made : Placement × List ℕ = (record { first = a1.0.0; ids = a3.0.0; holder = a4.0.0 }, a4.0.1) in
+    subst (λ (y : Placement × List ℕ). Took bytes (spelled_sequence y.0) y.1 (ArePlacedBy handing y.0)) (ok_is made x a4.2)
     (record { parts = whole; rest_fits = t4.rest_fits; holds = (record { short = sequence_from handing made.0 t1.holds size t4.holds.1; ids = ids_known a3.0.0 t3.holds.1; holder = t4.holds.0 }, t4.holds.1) })
 
-pub sequence_again : (v : Sequence) (rest : List ℕ) → ArePlaced v → sequence_at (is_some v.holder) (spelled_sequence v ++ rest) ≡ Ok (v, rest)
+pub sequence_again : (v : Placement) (rest : List ℕ) → ArePlaced v → sequence_at (is_some v.holder) (spelled_sequence v ++ rest) ≡ Ok (v, rest)
 unfolding sequence_at spelled_sequence
 sequence_again v rest fits =
     let known = sequence_parts v fits.short in
@@ -211,7 +211,7 @@ mark_again : Again mark_at (λ (mark : Bool). byte (mark_code mark)) (λ (mark :
 unfolding mark_at
 mark_again v rest fits = rw (byte_again 0 1 (mark_code v) rest (mark_within v), mark_same v) refl
 
-marked_above_takes : (last : Option Entry) → Takes (marked_above last) spelled_marked (Keyed entry_cmp IsMarked last)
+marked_above_takes : (last : Option Entry) → Takes (marked_above last) spelled_marked (SortedMap entry_cmp IsMarked last)
 unfolding marked_above spelled_marked
 marked_above_takes last bytes x fits e =
     let a1 = bind_ok (id_above last bytes) (λ id. mark_at id.1 >>= λ mark. Ok ((id.0, mark.0), mark.1)) x e in
@@ -220,10 +220,10 @@ marked_above_takes last bytes x fits e =
     let t2 = mark_takes a1.0.1 a2.0 t1.rest_fits a2.1 in
     let j1 = joined bytes (spelled_entry a1.0.0) a1.0.1 (byte (mark_code a2.0.0)) a2.0.1 t1.parts t2.parts in
     let made : Marked × List ℕ = ((a1.0.0, a2.0.0), a2.0.1) in
-    subst (λ (y : Marked × List ℕ). Took bytes (spelled_marked y.0) y.1 (Keyed entry_cmp IsMarked last y.0)) (ok_is made x a2.2)
+    subst (λ (y : Marked × List ℕ). Took bytes (spelled_marked y.0) y.1 (SortedMap entry_cmp IsMarked last y.0)) (ok_is made x a2.2)
     (record { parts = j1; rest_fits = t2.rest_fits; holds = (t1.holds.0, t1.holds.1) })
 
-marked_above_again : (last : Option Entry) → Again (marked_above last) spelled_marked (Keyed entry_cmp IsMarked last)
+marked_above_again : (last : Option Entry) → Again (marked_above last) spelled_marked (SortedMap entry_cmp IsMarked last)
 unfolding marked_above spelled_marked
 marked_above_again last v rest fits =
     let regrouped : (spelled_entry v.0 ++ byte (mark_code v.1)) ++ rest ≡ spelled_entry v.0 ++ (byte (mark_code v.1) ++ rest) = append_assoc (spelled_entry v.0) (byte (mark_code v.1)) rest in
@@ -242,7 +242,7 @@ unfolding kept_at spelled_kept
 kept_takes bytes x fits e =
     let a = bind_ok (number_at w16 0 2048 bytes) (λ n. many marked_above id_of n.0 None n.1) x e in
     let t1 = short_takes 0 2048 bytes a.0 fits a.1 in
-    let t2 = many_takes marked_above id_of spelled_marked (Keyed entry_cmp IsMarked) marked_above_takes a.0.0 None a.0.1 x t1.rest_fits a.2 in
+    let t2 = many_takes marked_above id_of spelled_marked (SortedMap entry_cmp IsMarked) marked_above_takes a.0.0 None a.0.1 x t1.rest_fits a.2 in
     let j1 = joined bytes (short a.0.0) a.0.1 (flat_map spelled_marked x.0) x.1 t1.parts t2.parts in
     let known = sorted_from entry_cmp entry_total IsMarked None x.0 t2.holds.1 in
     let few : length x.0 ≤ 2048 = omega (arith, t1.holds.below, t2.holds.0) in
@@ -259,4 +259,4 @@ kept_again v rest fits =
     let regrouped : (short (length v) ++ flat_map spelled_marked v) ++ rest ≡ short (length v) ++ (flat_map spelled_marked v ++ rest) = append_assoc (short (length v)) (flat_map spelled_marked v) rest in
     let size : IsFrom 0 2048 (length v) = record { above = omega arith; below = known.1 } in
     ap kept_at regrouped ∙ rw (short_again 0 2048 (lit< tt) (length v) (flat_map spelled_marked v ++ rest) size)
-    (many_again marked_above id_of spelled_marked (Keyed entry_cmp IsMarked) marked_above_again v None rest (keyed_from entry_cmp entry_total IsMarked None v known.0 tt fits.ids))
+    (many_again marked_above id_of spelled_marked (SortedMap entry_cmp IsMarked) marked_above_again v None rest (keyed_from entry_cmp entry_total IsMarked None v known.0 tt fits.ids))

@@ -19,7 +19,7 @@ use Rattle.cast_field.specs.Spelling.{byte, short, word, spelled_proc, spelled_e
 use Rattle.cast_field.specs.Reading.{◌>>=◌, byte_at, number_at, bytes_at, many, above, domain_at, site_at, group_at, count_at, proc_at, entry_at, uid_at, proc_above, entry_above, process_of, counts_at, group_above, clock_above, group_of, times_at, payload_at}
 use Rattle.cast_field.specs.Spelled.{IsFrom, IsName, IsCount, IsProc, IsEntry, IsUid, AreCounts, IsClock, AreTimes}
 use Rattle.cast_field.proofs.Fields.{bind_ok, ok_is, Took, joined, Takes, Again, byte_takes, byte_again, short_takes, short_again, word_takes, word_again, bytes_take, bytes_again}
-use Rattle.cast_field.proofs.Lists.{many_takes, many_again, above_is, above_again, Keyed, Placed, sorted_from, keyed_from}
+use Rattle.cast_field.proofs.Lists.{many_takes, many_again, above_is, above_again, SortedMap, Placed, sorted_from, keyed_from}
 
 pub domain_takes : Takes domain_at (λ (d : DomainNo). byte d.0) (λ (d : DomainNo). IsFrom 1 255 d.0)
 unfolding domain_at
@@ -157,7 +157,7 @@ pub group_above_again : (last : Option GroupNo) → Again (group_above last) (λ
 unfolding group_above
 group_above_again last v rest fits = rw (group_again v rest fits.0) (above_again group_cmp last (v, rest) fits.1)
 
-pub entry_above_takes : (last : Option Proc) → Takes (entry_above last) (spelled_entry) (Keyed proc_cmp IsEntry last)
+pub entry_above_takes : (last : Option Proc) → Takes (entry_above last) (spelled_entry) (SortedMap proc_cmp IsEntry last)
 unfolding entry_above spelled_entry
 entry_above_takes last bytes x fits e =
     let a1 = bind_ok (proc_above last bytes) (λ proc. count_at proc.1 >>= λ count. Ok ((proc.0, count.0), count.1)) x e in
@@ -166,10 +166,10 @@ entry_above_takes last bytes x fits e =
     let t2 = count_takes a1.0.1 a2.0 t1.rest_fits a2.1 in
     let j1 = joined bytes (spelled_proc (a1.0.0)) a1.0.1 (word (a2.0.0)) a2.0.1 t1.parts t2.parts in
     let made : Entry × List ℕ = ((a1.0.0, a2.0.0), a2.0.1) in
-    subst (λ (y : Entry × List ℕ). Took bytes ((spelled_entry) y.0) y.1 ((Keyed proc_cmp IsEntry last) y.0)) (ok_is made x a2.2)
+    subst (λ (y : Entry × List ℕ). Took bytes ((spelled_entry) y.0) y.1 ((SortedMap proc_cmp IsEntry last) y.0)) (ok_is made x a2.2)
     (record { parts = j1; rest_fits = t2.rest_fits; holds = (record { proc = t1.holds.0; count = t2.holds }, t1.holds.1) })
 
-pub entry_above_again : (last : Option Proc) → Again (entry_above last) (spelled_entry) (Keyed proc_cmp IsEntry last)
+pub entry_above_again : (last : Option Proc) → Again (entry_above last) (spelled_entry) (SortedMap proc_cmp IsEntry last)
 unfolding entry_above spelled_entry
 entry_above_again last v rest fits =
     let regrouped : (spelled_entry) v ++ rest ≡ (spelled_proc (v.0)) ++ ((word (v.1)) ++ rest) = append_assoc (spelled_proc (v.0)) (word (v.1)) rest in
@@ -184,7 +184,7 @@ unfolding counts_at spelled_counts
 counts_takes bytes x fits e =
     let a = bind_ok (byte_at 0 64 bytes) (λ n. many entry_above process_of n.0 None n.1) x e in
     let t1 = byte_takes 0 64 bytes a.0 fits a.1 in
-    let t2 = many_takes entry_above process_of spelled_entry (Keyed proc_cmp IsEntry) entry_above_takes a.0.0 None a.0.1 x t1.rest_fits a.2 in
+    let t2 = many_takes entry_above process_of spelled_entry (SortedMap proc_cmp IsEntry) entry_above_takes a.0.0 None a.0.1 x t1.rest_fits a.2 in
     let j1 = joined bytes (byte a.0.0) a.0.1 (flat_map spelled_entry x.0) x.1 t1.parts t2.parts in
     let known = sorted_from proc_cmp proc_total IsEntry None x.0 t2.holds.1 in
     let few : length x.0 ≤ 64 = omega (arith, t1.holds.below, t2.holds.0) in
@@ -201,9 +201,9 @@ counts_again v rest fits =
     let regrouped : (byte (length v) ++ flat_map spelled_entry v) ++ rest ≡ byte (length v) ++ (flat_map spelled_entry v ++ rest) = append_assoc (byte (length v)) (flat_map spelled_entry v) rest in
     let size : IsFrom 0 64 (length v) = record { above = omega arith; below = known.1 } in
     ap counts_at regrouped ∙ rw (byte_again 0 64 (length v) (flat_map spelled_entry v ++ rest) size)
-    (many_again entry_above process_of spelled_entry (Keyed proc_cmp IsEntry) entry_above_again v None rest (keyed_from proc_cmp proc_total IsEntry None v known.0 tt fits.entries))
+    (many_again entry_above process_of spelled_entry (SortedMap proc_cmp IsEntry) entry_above_again v None rest (keyed_from proc_cmp proc_total IsEntry None v known.0 tt fits.entries))
 
-pub clock_above_takes : (last : Option GroupNo) → Takes (clock_above last) (spelled_clock) (Keyed group_cmp IsClock last)
+pub clock_above_takes : (last : Option GroupNo) → Takes (clock_above last) (spelled_clock) (SortedMap group_cmp IsClock last)
 unfolding clock_above spelled_clock
 clock_above_takes last bytes x fits e =
     let a1 = bind_ok (group_above last bytes) (λ group. count_at group.1 >>= λ view. counts_at view.1 >>= λ counts. Ok ((group.0, record { view = view.0; counts = counts.0 }), counts.1)) x e in
@@ -215,10 +215,10 @@ clock_above_takes last bytes x fits e =
     let j2 = joined a1.0.1 (word (a2.0.0)) a2.0.1 (spelled_counts (a3.0.0)) a3.0.1 t2.parts t3.parts in
     let j1 = joined bytes (short (a1.0.0).0) a1.0.1 (word (a2.0.0) ++ spelled_counts (a3.0.0)) a3.0.1 t1.parts j2 in
     let made : (GroupNo × Clock) × List ℕ = ((a1.0.0, record { view = a2.0.0; counts = a3.0.0 }), a3.0.1) in
-    subst (λ (y : (GroupNo × Clock) × List ℕ). Took bytes ((spelled_clock) y.0) y.1 ((Keyed group_cmp IsClock last) y.0)) (ok_is made x a3.2)
+    subst (λ (y : (GroupNo × Clock) × List ℕ). Took bytes ((spelled_clock) y.0) y.1 ((SortedMap group_cmp IsClock last) y.0)) (ok_is made x a3.2)
     (record { parts = j1; rest_fits = t3.rest_fits; holds = (record { group = t1.holds.0; view = t2.holds; counts = t3.holds }, t1.holds.1) })
 
-pub clock_above_again : (last : Option GroupNo) → Again (clock_above last) (spelled_clock) (Keyed group_cmp IsClock last)
+pub clock_above_again : (last : Option GroupNo) → Again (clock_above last) (spelled_clock) (SortedMap group_cmp IsClock last)
 unfolding clock_above spelled_clock
 clock_above_again last v rest fits =
     let regrouped : (spelled_clock) v ++ rest ≡ (short (v.0).0) ++ ((word (v.1.view)) ++ ((spelled_counts (v.1.counts)) ++ rest)) = append_assoc (short (v.0).0) (word (v.1.view) ++ spelled_counts (v.1.counts)) rest ∙ ap (λ (t : List ℕ). (short (v.0).0) ++ t) (append_assoc (word (v.1.view)) (spelled_counts (v.1.counts)) rest) in
@@ -246,7 +246,7 @@ unfolding times_at spelled_times
 times_takes bytes x fits e =
     let a = bind_ok (byte_at 1 32 bytes) (λ n. many clock_above group_of n.0 None n.1) x e in
     let t1 = byte_takes 1 32 bytes a.0 fits a.1 in
-    let t2 = many_takes clock_above group_of spelled_clock (Keyed group_cmp IsClock) clock_above_takes a.0.0 None a.0.1 x t1.rest_fits a.2 in
+    let t2 = many_takes clock_above group_of spelled_clock (SortedMap group_cmp IsClock) clock_above_takes a.0.0 None a.0.1 x t1.rest_fits a.2 in
     let j1 = joined bytes (byte a.0.0) a.0.1 (flat_map spelled_clock x.0) x.1 t1.parts t2.parts in
     let known = sorted_from group_cmp group_total IsClock None x.0 t2.holds.1 in
     let size : IsFrom 1 32 (length x.0) = subst (IsFrom 1 32) (sym t2.holds.0) t1.holds in
@@ -262,7 +262,7 @@ times_again v rest fits =
     let known = stamp_parts v fits.sorted in
     let regrouped : (byte (length v) ++ flat_map spelled_clock v) ++ rest ≡ byte (length v) ++ (flat_map spelled_clock v ++ rest) = append_assoc (byte (length v)) (flat_map spelled_clock v) rest in
     ap times_at regrouped ∙ rw (byte_again 1 32 (length v) (flat_map spelled_clock v ++ rest) known.1)
-    (many_again clock_above group_of spelled_clock (Keyed group_cmp IsClock) clock_above_again v None rest (keyed_from group_cmp group_total IsClock None v known.0 tt fits.clocks))
+    (many_again clock_above group_of spelled_clock (SortedMap group_cmp IsClock) clock_above_again v None rest (keyed_from group_cmp group_total IsClock None v known.0 tt fits.clocks))
 
 pub payload_takes : Takes payload_at spelled_payload (λ p. length p ≤ 16384)
 unfolding payload_at spelled_payload

@@ -13,9 +13,9 @@ use Rattle.cast_message.specs.declared.message.Body.{Body}
 use Rattle.cast_message.specs.declared.message.Body.TheVariants as body
 use Rattle.cast_message.specs.declared.message.Message.{Message}
 use Rattle.cast_message.specs.Membership.{Membership}
-use Rattle.cast_message.specs.Stretch.{Stretch}
-use Rattle.cast_message.specs.Sequence.{Sequence}
-use Rattle.cast_message.specs.Keeping.{Marked, KeptList}
+use Rattle.cast_message.specs.Tail.{Tail}
+use Rattle.cast_message.specs.Placement.{Placement}
+use Rattle.cast_message.specs.KeptIds.{Marked, KeptList}
 use Rattle.cast_message.specs.Bodies.{kind_of}
 use Rattle.cast_field.specs.Spelling.{byte, short, word, spelled_proc, spelled_entry, spelled_uid, spelled_counts, spelled_clock, spelled_times, spelled_payload, spelled_sequence, kind_code, spelled_body, spelled_message, spelled_new_holder, spelled_holder, spelled_members, spelled_tail, mark_code, spelled_marked, spelled_kept}
 use Rattle.cast_field.specs.Spelled.{AreCounts, IsClock, AreTimes, ArePlaced, IsBody, IsMessage, AreMembers, IsTail, AreKept}
@@ -89,7 +89,7 @@ unfolding spelled_new_holder
 new_holder_size None = omega arith
 new_holder_size (Some p) = omega (arith, proc_size p)
 
-sequence_size : (s : Sequence) → ArePlaced s → length (spelled_sequence s) ≤ 651
+sequence_size : (s : Placement) → ArePlaced s → length (spelled_sequence s) ≤ 651
 unfolding spelled_sequence
 sequence_size s are =
     let few = (sequence_parts s are.short).1.below in
@@ -118,7 +118,7 @@ members_size m are =
     let few = (members_parts m are.sorted).1 in
     omega (arith, length-append (byte (length m.list)) (flat_map spelled_proc m.list ++ spelled_holder m.list m.holder), length-append (flat_map spelled_proc m.list) (spelled_holder m.list m.holder), byte_size (length m.list), procs_size m.list, holder_size m.list m.holder, few)
 
-pub tail_size : (t : Stretch) → IsTail t → length (spelled_tail t) ≤ 5766
+pub tail_size : (t : Tail) → IsTail t → length (spelled_tail t) ≤ 5766
 unfolding spelled_tail
 tail_size t is =
     let few = (stretch_parts t is.short).1 in

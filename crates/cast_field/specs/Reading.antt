@@ -19,9 +19,9 @@ use Rattle.cast_message.specs.declared.message.Body.{Body}
 use Rattle.cast_message.specs.declared.message.Body.TheVariants as body
 use Rattle.cast_message.specs.declared.message.Message.{Message}
 use Rattle.cast_message.specs.Membership.{Membership}
-use Rattle.cast_message.specs.Stretch.{Stretch}
-use Rattle.cast_message.specs.Sequence.{Sequence}
-use Rattle.cast_message.specs.Keeping.{Marked, KeptList}
+use Rattle.cast_message.specs.Tail.{Tail}
+use Rattle.cast_message.specs.Placement.{Placement}
+use Rattle.cast_message.specs.KeptIds.{Marked, KeptList}
 
 infixl 10 ◌>>=◌
 abbrev pub ◌>>=◌ : {A B : Type 0} → Result A FrameFault → (A → Result B FrameFault) → Result B FrameFault
@@ -186,7 +186,7 @@ new_holder_at true bytes = do
 new_holder_at false bytes = Ok (None, bytes)
 
 -- the first place, the ids from it on, and the new holder
-unfoldable pub sequence_at : Bool → Reader Sequence
+unfoldable pub sequence_at : Bool → Reader Placement
 sequence_at handing bytes = do
   first ← number_at w32 1 4000000000 bytes
   n ← byte_at (least_ids handing) 64 first.1
@@ -248,7 +248,7 @@ members_at bytes = do
   Ok (record { list = list.0; holder = holder.0 }, holder.1)
 
 -- the end of an order, with at most so many ids
-unfoldable pub tail_at : ℕ → Reader Stretch
+unfoldable pub tail_at : ℕ → Reader Tail
 tail_at most bytes = do
   start ← number_at w32 0 4000000000 bytes
   n ← number_at w16 0 most start.1

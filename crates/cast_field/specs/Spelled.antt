@@ -12,9 +12,9 @@ use Rattle.cast_message.specs.declared.message.Body.{Body}
 use Rattle.cast_message.specs.declared.message.Body.TheVariants as body
 use Rattle.cast_message.specs.declared.message.Message.{Message}
 use Rattle.cast_message.specs.Membership.{Membership, is_members}
-use Rattle.cast_message.specs.Stretch.{Stretch, is_stretch}
-use Rattle.cast_message.specs.Sequence.{Sequence, is_sequence}
-use Rattle.cast_message.specs.Keeping.{Marked, KeptList, is_kept}
+use Rattle.cast_message.specs.Tail.{Tail, is_tail}
+use Rattle.cast_message.specs.Placement.{Placement, is_placement}
+use Rattle.cast_message.specs.KeptIds.{Marked, KeptList, is_kept}
 
 -- low ≤ n ≤ high
 pub record IsFrom (low high n : ℕ) : Type 0 where
@@ -60,8 +60,8 @@ abbrev pub IsNewHolder : Option Proc → Type 0
 IsNewHolder None = Unit {0}
 IsNewHolder (Some p) = IsProc p
 
-pub record ArePlaced (s : Sequence) : Type 0 where
-  pub short : IsTrue (is_sequence s)
+pub record ArePlaced (s : Placement) : Type 0 where
+  pub short : IsTrue (is_placement s)
   pub ids : AllByRecursion IsEntry s.ids
   pub holder : IsNewHolder s.holder
 
@@ -79,8 +79,8 @@ pub record AreMembers (m : Membership) : Type 0 where
   pub sorted : IsTrue (is_members m)
   pub procs : AllByRecursion IsProc m.list
 
-pub record IsTail (t : Stretch) : Type 0 where
-  pub short : IsTrue (is_stretch t)
+pub record IsTail (t : Tail) : Type 0 where
+  pub short : IsTrue (is_tail t)
   pub ids : AllByRecursion IsEntry t.ids
 
 abbrev pub IsMarked : Marked → Type 0

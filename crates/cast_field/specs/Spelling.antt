@@ -13,9 +13,9 @@ use Rattle.cast_message.specs.declared.message.Body.{Body}
 use Rattle.cast_message.specs.declared.message.Body.TheVariants as body
 use Rattle.cast_message.specs.declared.message.Message.{Message}
 use Rattle.cast_message.specs.Membership.{Membership}
-use Rattle.cast_message.specs.Stretch.{Stretch}
-use Rattle.cast_message.specs.Sequence.{Sequence}
-use Rattle.cast_message.specs.Keeping.{Marked, KeptList}
+use Rattle.cast_message.specs.Tail.{Tail}
+use Rattle.cast_message.specs.Placement.{Placement}
+use Rattle.cast_message.specs.KeptIds.{Marked, KeptList}
 use Rattle.cast_message.specs.Bodies.{kind_of}
 
 unfoldable pub byte : ℕ → List ℕ
@@ -61,7 +61,7 @@ spelled_new_holder None = []
 spelled_new_holder (Some p) = spelled_proc p
 
 -- the first place, how many, the ids, and the new holder
-unfoldable pub spelled_sequence : Sequence → List ℕ
+unfoldable pub spelled_sequence : Placement → List ℕ
 spelled_sequence s = word s.first ++ (byte (length s.ids) ++ (flat_map spelled_entry s.ids ++ spelled_new_holder s.holder))
 
 abbrev pub kind_code : Kind → ℕ
@@ -88,7 +88,7 @@ unfoldable pub spelled_members : Membership → List ℕ
 spelled_members m = byte (length m.list) ++ (flat_map spelled_proc m.list ++ spelled_holder m.list m.holder)
 
 -- how many before them, how many, and the ids
-unfoldable pub spelled_tail : Stretch → List ℕ
+unfoldable pub spelled_tail : Tail → List ℕ
 spelled_tail t = word t.start ++ (short (length t.ids) ++ flat_map spelled_entry t.ids)
 
 abbrev pub mark_code : Bool → ℕ

@@ -5,7 +5,7 @@ ghost use Rattle.cast_field.specs.Reading.{GivesAs, GivesField, above, atomic_at
 use crate::fault::FrameFault;
 use byteorder::{BigEndian, ByteOrder};
 use bytes::Bytes;
-use cast_message::{Body, Kept, Members, Message, Payload, Placement, Tail};
+use cast_message::{Body, KeptIds, Membership, Message, Payload, Placement, Tail};
 use cast_types::limits::{
     MAX_GROUPS, MAX_KEPT, MAX_MEMBERS, MAX_NUMBER, MAX_PAYLOAD, MAX_PLACED, MAX_POSITION,
 };
@@ -416,13 +416,13 @@ fn read_holder<'a>(
 
 /// The members of a view: how many, each above the one before, and the holder by its place.
 #[tactic(auto, unfolding(crate::specs::Reading::members_at))]
-pub fn read_members(alloc: Global, bytes: &[u8]) -> Result<(Members, &[u8]), FrameFault>
+pub fn read_members(alloc: Global, bytes: &[u8]) -> Result<(Membership, &[u8]), FrameFault>
     ensures { GivesField result (members_at bytes.now) }
 {
     let (count, rest) = read_byte(0, MAX_MEMBERS as u8, bytes)?;
     let (list, rest) = read_procs(alloc, count, rest)?;
     let (holder, rest) = read_holder(&list, rest)?;
-    Ok((Members::from_parts(list, holder), rest))
+    Ok((Membership::from_parts(list, holder), rest))
 }
 
 /// The end of an order: how many ids stand before it, how many it has, at most `most`, and the ids.
@@ -490,12 +490,12 @@ fn read_all_marked(
     Ok((entries, rest))
 }
 
-/// Kept messages: how many, and each id above the one before with its mark.
+/// KeptIds messages: how many, and each id above the one before with its mark.
 #[tactic(auto, unfolding(crate::specs::Reading::kept_at))]
-pub fn read_kept(alloc: Global, bytes: &[u8]) -> Result<(Kept, &[u8]), FrameFault>
+pub fn read_kept(alloc: Global, bytes: &[u8]) -> Result<(KeptIds, &[u8]), FrameFault>
     ensures { GivesField result (kept_at bytes.now) }
 {
     let (count, rest) = read_short(0, MAX_KEPT as u16, bytes)?;
     let (entries, rest) = read_all_marked(alloc, count, rest)?;
-    Ok((Kept::from_entries(entries), rest))
+    Ok((KeptIds::from_entries(entries), rest))
 }

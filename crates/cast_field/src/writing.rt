@@ -4,7 +4,7 @@ ghost use Rattle.cast_types.specs.Names.{proc_eq};
 ghost use Rattle.cast_field.specs.Spelling.{kind_code, short, spelled_body, spelled_clock, spelled_counts, spelled_entry, spelled_holder, spelled_kept, spelled_marked, spelled_members, spelled_message, spelled_new_holder, spelled_payload, spelled_proc, spelled_sequence, spelled_tail, spelled_times, spelled_uid, word};
 
 use bytes::{BufMut, BytesMut};
-use cast_message::{Body, Kept, Members, Message, Payload, Placement, Tail};
+use cast_message::{Body, KeptIds, Membership, Message, Payload, Placement, Tail};
 use cast_types::{Clock, Counts, GroupNo, Kind, NoMemory, Proc, Stamp, Uid};
 
 /// A process: its site and its serial.
@@ -190,7 +190,7 @@ fn put_holder(out: &mut BytesMut, members: &[Proc], holder: Option<Proc>) -> Res
 
 /// The members of a view: how many, the members, and the holder by its place.
 #[tactic(auto, unfolding(crate::specs::Spelling::spelled_members, crate::specs::Spelling::byte))]
-pub fn put_members(out: &mut BytesMut, members: &Members) -> Result<(), NoMemory>
+pub fn put_members(out: &mut BytesMut, members: &Membership) -> Result<(), NoMemory>
     ensures { OnOk result (out.new.items ≡ out.old.items ++ spelled_members members.now) }
 {
     let list = members.list();
@@ -230,9 +230,9 @@ fn put_all_marked(out: &mut BytesMut, entries: &[((Proc, u32), bool)]) -> Result
     Ok(())
 }
 
-/// Kept messages: how many, and each id with its mark.
+/// KeptIds messages: how many, and each id with its mark.
 #[tactic(auto, unfolding(crate::specs::Spelling::spelled_kept, crate::specs::Spelling::short))]
-pub fn put_kept(out: &mut BytesMut, kept: &Kept) -> Result<(), NoMemory>
+pub fn put_kept(out: &mut BytesMut, kept: &KeptIds) -> Result<(), NoMemory>
     ensures { OnOk result (out.new.items ≡ out.old.items ++ spelled_kept kept.now) }
 {
     let entries = kept.entries();

@@ -8,7 +8,7 @@ use Rattle.std.proofs.lemmas.List.{take_all, length-take}
 use Rattle.cast_types.specs.Names.{Entry, entry_eq}
 use Rattle.cast_types.specs.Sets.{is_among, apart_from}
 use Rattle.cast_types.specs.Counts.{CountList, is_within}
-use Rattle.cast_message.specs.Stretch.{Stretch}
+use Rattle.cast_message.specs.Tail.{Tail}
 use Rattle.cast_flush.specs.Reports.{Reports}
 use Rattle.cast_flush.specs.Decisions.{end_of, no_stretch, longest, unplaced, added, ids_from}
 use Rattle.cast_flush.specs.Laws.{LongestInWords, OrderIsWhole, OrderIsWithinTheCut}
@@ -16,22 +16,22 @@ use Rattle.cast_flush.proofs.Each.{all_filter, all_take, all_append, length_filt
 use Rattle.cast_types.proofs.Rising.{all_kept}
 
 -- the farther of two
-abbrev farther : Stretch → Stretch → Stretch
+abbrev farther : Tail → Tail → Tail
 farther t u = cond (nat_lt (end_of t) (end_of u)) u t
 
 -- the farthest of a part of an order and those of reports
-abbrev longest_from : Stretch → Reports → Stretch
+abbrev longest_from : Tail → Reports → Tail
 longest_from t reports = fold (λ s r. farther s r.1.tail) t reports
 
 -- the farther of two reaches as far as each
-reaches : (t u : Stretch) → (end_of t ≤ end_of (farther t u)) × (end_of u ≤ end_of (farther t u))
+reaches : (t u : Tail) → (end_of t ≤ end_of (farther t u)) × (end_of u ≤ end_of (farther t u))
 reaches t u =
     cond_both (nat_lt (end_of t) (end_of u)) u t (λ s. (end_of t ≤ end_of s) × (end_of u ≤ end_of s))
     (λ below. let lt = ltb-true (end_of t) (end_of u) below in (omega (arith, lt), omega arith))
     (λ above. let le = ltb-false (end_of t) (end_of u) above in (omega arith, le))
 
 -- the farthest reaches as far as each
-reaches_all : (t : Stretch) (reports : Reports) → (end_of t ≤ end_of (longest_from t reports)) × (list_all (λ r. nat_le (end_of r.1.tail) (end_of (longest_from t reports))) reports ≡ true)
+reaches_all : (t : Tail) (reports : Reports) → (end_of t ≤ end_of (longest_from t reports)) × (list_all (λ r. nat_le (end_of r.1.tail) (end_of (longest_from t reports))) reports ≡ true)
 reaches_all t [] = (omega arith, refl)
 reaches_all t (r ∷ rs) =
     let here = reaches t r.1.tail in
@@ -46,7 +46,7 @@ reaches_all t (r ∷ rs) =
     )
 
 -- the farthest is the first part or that of some report
-from_some : (t : Stretch) (reports : Reports) → (longest_from t reports ≡ t) ⊎ ((i : ℕ) × (option_map (λ r. r.1.tail) (slice_get reports i) ≡ Some (longest_from t reports)))
+from_some : (t : Tail) (reports : Reports) → (longest_from t reports ≡ t) ⊎ ((i : ℕ) × (option_map (λ r. r.1.tail) (slice_get reports i) ≡ Some (longest_from t reports)))
 from_some t [] = inl refl
 from_some t (r ∷ rs) = elim (from_some (farther t r.1.tail) rs) [
   | inr later ↦ inr (suc later.0, later.1)
@@ -61,7 +61,7 @@ pub longest_in_words : LongestInWords
 longest_in_words reports = (from_some no_stretch reports, (reaches_all no_stretch reports).1)
 
 -- the longest has no more ids than each has at most
-few_ids : (n : ℕ) (t : Stretch) (reports : Reports) → length t.ids ≤ n → list_all (λ r. nat_le (length r.1.tail.ids) n) reports ≡ true → length (longest_from t reports).ids ≤ n
+few_ids : (n : ℕ) (t : Tail) (reports : Reports) → length t.ids ≤ n → list_all (λ r. nat_le (length r.1.tail.ids) n) reports ≡ true → length (longest_from t reports).ids ≤ n
 few_ids n t [] few all = few
 few_ids n t (r ∷ rs) few all =
     let parts = and_parts (nat_le (length r.1.tail.ids) n) (list_all (λ s. nat_le (length s.1.tail.ids) n) rs) all in

@@ -9,7 +9,7 @@ use Rattle.cast_types.specs.Names.{Entry, site_eq, entry_eq, entry_cmp}
 use Rattle.cast_types.specs.Sets.{is_among}
 use Rattle.cast_types.specs.Counts.{is_within}
 use Rattle.cast_types.proofs.Orders.{entry_exact, site_itself}
-use Rattle.cast_message.specs.Keeping.{KeptList}
+use Rattle.cast_message.specs.KeptIds.{KeptList}
 use Rattle.cast_flush.specs.declared.report.Report.{Report}
 use Rattle.cast_flush.specs.Reports.{Reports, keeps, all_kept, is_needed}
 use Rattle.cast_flush.specs.Laws.{NeededInWords, KeeperInWords, UnplacedInWords}

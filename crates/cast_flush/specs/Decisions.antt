@@ -5,18 +5,18 @@ use Rattle.cast_types.specs.declared.limits.TheConstants.{MAX_PLACED, MAX_ORDER}
 use Rattle.cast_types.specs.Names.{Entry, entry_eq, entry_cmp}
 use Rattle.cast_types.specs.Sets.{set_of, apart_from}
 use Rattle.cast_types.specs.Counts.{CountList, is_within}
-use Rattle.cast_message.specs.Stretch.{Stretch}
+use Rattle.cast_message.specs.Tail.{Tail}
 use Rattle.cast_flush.specs.Reports.{Reports}
 
 -- how far a part of an order reaches
-abbrev pub end_of : Stretch → ℕ
+abbrev pub end_of : Tail → ℕ
 end_of t = t.start + length t.ids
 
-abbrev pub no_stretch : Stretch
+abbrev pub no_stretch : Tail
 no_stretch = record { start = 0; ids = [] }
 
 -- the order that reaches farthest of those that are reported, and of equal ones that of the least site
-abbrev pub longest : Reports → Stretch
+abbrev pub longest : Reports → Tail
 longest reports = fold (λ t r. if nat_lt (end_of t) (end_of r.1.tail) then r.1.tail else t) no_stretch reports
 
 -- the ABCASTs that some site keeps and knows no place for, by process and count
@@ -37,5 +37,5 @@ ids_behind cut reports order =
 abbrev pub ids_from : CountList → Reports → List Entry
 ids_from cut reports = ids_behind cut reports (longest reports).ids
 
-abbrev pub order_from : CountList → Reports → Stretch
+abbrev pub order_from : CountList → Reports → Tail
 order_from cut reports = record { start = (longest reports).start; ids = take MAX_ORDER (ids_from cut reports) }

@@ -22,7 +22,7 @@ fn end_of(tail: &Tail) -> u64
 }
 
 // The order that reaches farthest of those that are reported, and of equal ones the first. None reaches nowhere.
-fn longest(reports: &[(SiteNo, Report)]) -> Option<&Tail>
+fn longest_tail(reports: &[(SiteNo, Report)]) -> Option<&Tail>
     ensures { unwrap_or (option_copied result) no_stretch ≡ longest reports.now }
 {
     let mut longest = None;
@@ -50,7 +50,7 @@ fn add_unplaced(ids: &mut Vec<(Proc, u32)>, report: &Report) -> Result<(), NoMem
 }
 
 // The ABCASTs that some site keeps and knows no place for.
-fn unplaced(alloc: Global, reports: &[(SiteNo, Report)]) -> Result<Vec<(Proc, u32)>, NoMemory>
+fn unplaced_ids(alloc: Global, reports: &[(SiteNo, Report)]) -> Result<Vec<(Proc, u32)>, NoMemory>
     ensures { IfOk result (λ l. l.items ≡ unplaced reports.now) }
 {
     let mut ids = Vec::new(alloc);
@@ -61,7 +61,11 @@ fn unplaced(alloc: Global, reports: &[(SiteNo, Report)]) -> Result<Vec<(Proc, u3
 }
 
 // Those of them within the cut that an order lacks, at most 64.
-fn added(cut: &Counts, mut unplaced: Vec<(Proc, u32)>, placed: &[(Proc, u32)]) -> Vec<(Proc, u32)>
+fn added_ids(
+    cut: &Counts,
+    mut unplaced: Vec<(Proc, u32)>,
+    placed: &[(Proc, u32)],
+) -> Vec<(Proc, u32)>
     ensures { result.items ≡ take MAX_PLACED (apart_from entry_eq (filter (is_within cut.now) unplaced.items) placed.now) }
 {
     unplaced.retain(|id| is_within(cut, *id));
@@ -88,7 +92,7 @@ fn order_behind(
 {
     let mut ids = Vec::from_slice(alloc, tail.ids())?;
     ids.retain(|id| is_within(cut, *id));
-    let more = added(cut, unplaced(alloc, reports)?, &ids);
+    let more = added_ids(cut, unplaced_ids(alloc, reports)?, &ids);
     ids.extend_from_slice(&more)?;
     ids.truncate(MAX_ORDER);
     Ok(Tail::from_parts(tail.start(), ids))
@@ -103,7 +107,7 @@ pub fn order_from(
 ) -> Result<Tail, NoMemory>
     ensures { IfOk result (λ t. t ≡ order_from cut.now reports.now) }
 {
-    match longest(reports) {
+    match longest_tail(reports) {
         Some(tail) => order_behind(alloc, cut, reports, tail),
         None => order_behind(alloc, cut, reports, &Tail::new(alloc)),
     }

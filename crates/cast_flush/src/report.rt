@@ -1,6 +1,6 @@
 ghost use Rattle.std.specs.Prelude.{◌≡◌, IfOk};
 
-use cast_message::{Kept, Tail};
+use cast_message::{KeptIds, Tail};
 use cast_types::{Counts, NoMemory};
 
 /// What a site reports of the view that is flushed.
@@ -11,7 +11,7 @@ pub struct Report {
     /// The end of the order as the site knows it.
     pub tail: Tail,
     /// The messages that the site keeps, marked where they are ABCASTs without a place.
-    pub kept: Kept,
+    pub kept: KeptIds,
 }
 
 impl Report {

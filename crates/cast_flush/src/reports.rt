@@ -11,7 +11,7 @@ use crate::report::Report;
 use crate::sets::insert_id;
 use cast_message::Message;
 use cast_types::limits::MAX_PLACED;
-use cast_types::{Counts, GroupNo, Listed, NoMemory, Proc, SiteNo, Uid};
+use cast_types::{Counts, GroupNo, List, NoMemory, Proc, SiteNo, Uid};
 use std::alloc::Global;
 
 /// Whether a site has reported.
@@ -132,7 +132,7 @@ fn has_body(group: GroupNo, view: u32, bodies: &[Message], id: (Proc, u32)) -> b
 
 /// The messages of a view within a cut, each a process and a count, that some of the sites keep and others lack and that are
 /// not among those that came, in rising order. `NoMemory` where memory is refused.
-pub fn wanting(
+pub fn wanted_ids(
     alloc: Global,
     group: GroupNo,
     view: u32,
@@ -154,7 +154,7 @@ pub fn wants_of(
     alloc: Global,
     reports: &[(SiteNo, Report)],
     wanting: &[(Proc, u32)],
-) -> Result<Listed<(SiteNo, (Proc, u32))>, NoMemory>
+) -> Result<List<(SiteNo, (Proc, u32))>, NoMemory>
     ensures { IfOk result (λ l. l ≡ filter_map (want_of reports.now) (take MAX_PLACED wanting.now)) }
 {
     let mut wants = Vec::new(alloc);
@@ -163,5 +163,5 @@ pub fn wants_of(
             wants.push((site, *id))?;
         }
     }
-    Ok(Listed::from_vec(wants))
+    Ok(List::from_vec(wants))
 }

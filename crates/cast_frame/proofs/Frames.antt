@@ -20,8 +20,8 @@ use Rattle.cast_message.specs.declared.site.SiteFrame.TheVariants.{Data, Ack, St
 use Rattle.cast_frame.specs.declared.reading.FrameType.{FrameType}
 use Rattle.cast_frame.specs.declared.reading.FrameType.TheVariants as types
 use Rattle.cast_message.specs.Membership.{Membership}
-use Rattle.cast_message.specs.Stretch.{Stretch}
-use Rattle.cast_message.specs.Keeping.{KeptList}
+use Rattle.cast_message.specs.Tail.{Tail}
+use Rattle.cast_message.specs.KeptIds.{KeptList}
 use Rattle.cast_message.specs.Bodies.{hands_over}
 use Rattle.cast_field.specs.Spelling.{byte, short, word, spelled_proc, spelled_counts, spelled_members, spelled_tail, spelled_kept}
 use Rattle.cast_frame.specs.Spelling.{change_code, full_code, frame_code, is_handing, version_code, spelled_fields, spelled_site}
@@ -271,7 +271,7 @@ unfolding prepare_at spelled_fields
 prepare_again g view rest is_group is_view =
     ap prepare_at (append_assoc (short g.0) (word view) rest) ∙ rw (group_again g (word view ++ rest) is_group, count_again view rest is_view) refl
 
-flushed_again : (g : GroupNo) (view : ℕ) (counts : List Entry) (tail : Stretch) (kept : KeptList) (rest : List ℕ) → IsFlushed g view counts tail kept → flushed_at (spelled_fields (Flushed g view counts tail kept) ++ rest) ≡ Ok (Flushed g view counts tail kept, rest)
+flushed_again : (g : GroupNo) (view : ℕ) (counts : List Entry) (tail : Tail) (kept : KeptList) (rest : List ℕ) → IsFlushed g view counts tail kept → flushed_at (spelled_fields (Flushed g view counts tail kept) ++ rest) ≡ Ok (Flushed g view counts tail kept, rest)
 unfolding flushed_at spelled_fields
 flushed_again g view counts tail kept rest fits =
     let r4 : List ℕ = spelled_kept kept ++ rest in
@@ -289,7 +289,7 @@ forward_again : (m : Message) (rest : List ℕ) → IsMessage m → forward_at (
 unfolding forward_at spelled_fields
 forward_again m rest is_message = rw (message_again m rest is_message) refl
 
-install_again : (g : GroupNo) (view : ℕ) (m : Membership) (request : ℕ) (cut : List Entry) (tail : Stretch) (rest : List ℕ) → IsInstall g view m request cut tail → install_at (spelled_fields (Install g view m request cut tail) ++ rest) ≡ Ok (Install g view m request cut tail, rest)
+install_again : (g : GroupNo) (view : ℕ) (m : Membership) (request : ℕ) (cut : List Entry) (tail : Tail) (rest : List ℕ) → IsInstall g view m request cut tail → install_at (spelled_fields (Install g view m request cut tail) ++ rest) ≡ Ok (Install g view m request cut tail, rest)
 unfolding install_at spelled_fields
 install_again g view m request cut tail rest fits =
     let regrouped : spelled_fields (Install g view m request cut tail) ++ rest ≡ (short g.0) ++ ((word view) ++ ((spelled_members m) ++ ((word request) ++ ((spelled_counts cut) ++ ((spelled_tail tail) ++ rest))))) = append_assoc (short g.0) (word view ++ (spelled_members m ++ (word request ++ (spelled_counts cut ++ spelled_tail tail)))) rest ∙ ap (λ (t : List ℕ). (short g.0) ++ t) (append_assoc (word view) (spelled_members m ++ (word request ++ (spelled_counts cut ++ spelled_tail tail))) rest ∙ ap (λ (t : List ℕ). (word view) ++ t) (append_assoc (spelled_members m) (word request ++ (spelled_counts cut ++ spelled_tail tail)) rest ∙ ap (λ (t : List ℕ). (spelled_members m) ++ t) (append_assoc (word request) (spelled_counts cut ++ spelled_tail tail) rest ∙ ap (λ (t : List ℕ). (word request) ++ t) (append_assoc (spelled_counts cut) (spelled_tail tail) rest)))) in

@@ -8,7 +8,7 @@ use bytes::{BufMut, Bytes, BytesMut};
 use cast_field::writing::{
     put_counts, put_kept, put_members, put_message, put_proc, put_tail, put_uid, put_view,
 };
-use cast_message::{Change, Kept, Members, SiteFrame, Tail};
+use cast_message::{Change, KeptIds, Membership, SiteFrame, Tail};
 use cast_types::{Counts, DomainNo, GroupNo, NoMemory, Proc, SiteNo};
 use std::alloc::Global;
 
@@ -103,7 +103,7 @@ fn put_flushed(
     view: u32,
     counts: &Counts,
     tail: &Tail,
-    kept: &Kept,
+    kept: &KeptIds,
 ) -> Result<(), NoMemory>
     ensures { OnOk result (out.new.items ≡ out.old.items ++ spelled_fields (Flushed group view counts.now tail.now kept.now)) }
 {
@@ -120,7 +120,7 @@ fn put_install(
     out: &mut BytesMut,
     group: GroupNo,
     view: u32,
-    members: &Members,
+    members: &Membership,
     request: u32,
     cut: &Counts,
     tail: &Tail,

@@ -1,12 +1,8 @@
-//! The ids of messages, each with the key under which its message is kept.
+//! An index of the ids of messages, each with the key under which its message is kept.
 //!
-//! Promised: an index has a pair of an id and a key from when it is inserted until it is removed, and neither changes
-//! whether it has another. `key_of` gives the least key under an id; `first_behind` the least id whose source stands
-//! behind another source, so that the sources of all ids are gone through with one search for each. Only `insert` and
-//! `copy` take memory; where it is refused nothing changes.
-//!
-//! The definitions are in `specs/Index.antt`: when an index has a pair, which ids stand behind a source, and what the
-//! first of them is; and in `specs/Rises.antt`: what it is for a number of each item to rise.
+//! Promised: the index has a pair from its insertion to its removal. `key_of` returns the least
+//! key of an id, and `first_behind` the least id of a later source, so a walk over all sources
+//! takes one search for each. A call that is refused memory changes nothing.
 #![tactic(auto)]
 
 mod entry;

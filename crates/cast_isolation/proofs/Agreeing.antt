@@ -1,9 +1,9 @@
 -- What a domain gives follows from its configuration and its own events.
 use Rattle.std.proofs.Common.{◌≡◌, List, Ok, map, sym, ap, subst, ◌∙◌}
-use Rattle.cast_model.specs.declared.event.Event.{Event}
-use Rattle.cast_history.specs.State.{opening}
-use Rattle.cast_history.specs.Agreeing.{Outcome, RunsAs}
-use Rattle.cast_history.proofs.Agreeing.{run_is_one}
+use Rattle.cast_events.specs.declared.event.Event.{Event}
+use Rattle.cast_rules.specs.State.{opening}
+use Rattle.cast_rules.specs.Agreeing.{Outcome, RunsAs}
+use Rattle.cast_rules.proofs.Agreeing.{run_is_one}
 use Rattle.cast_isolation.specs.Replays.{by_session, named_answers, own}
 use Rattle.cast_isolation.specs.Laws.{OwnEventsDecide}
 

@@ -7,14 +7,14 @@ use Rattle.std.proofs.Math.Bool.{or-false}
 use Rattle.std.proofs.lemmas.List.{map-append, drop_more}
 use Rattle.std.proofs.lemmas.List.Folds.{list_any-append}
 use Rattle.cast_types.specs.declared.names.DomainNo.{DomainNo}
-use Rattle.cast_model.specs.declared.config.DomainConfig.{DomainConfig}
+use Rattle.cast_events.specs.declared.config.DomainConfig.{DomainConfig}
 use Rattle.cast_domain.specs.declared.domain.Domain.{Domain}
-use Rattle.cast_model.specs.declared.event.Event.{Event}
-use Rattle.cast_model.specs.declared.event.Taken.{Taken}
-use Rattle.cast_model.specs.Events.{domain_of}
+use Rattle.cast_events.specs.declared.event.Event.{Event}
+use Rattle.cast_events.specs.declared.event.Taken.{Taken}
+use Rattle.cast_events.specs.Events.{domain_of}
 use Rattle.cast_domain.specs.Records.{number_of}
-use Rattle.cast_model.specs.declared.log.Fault.{Fault}
-use Rattle.cast_model.specs.declared.log.Fault.TheVariants.{NoMemory, Halted, NoDomain}
+use Rattle.cast_events.specs.declared.log.Fault.{Fault}
+use Rattle.cast_events.specs.declared.log.Fault.TheVariants.{NoMemory, Halted, NoDomain}
 use Rattle.cast_table.specs.Tables.{domain_eq, put_in, by_number, without, picked, IsLeastOf}
 use Rattle.cast_table.specs.Owns.{is_configured}
 use Rattle.cast_table.proofs.Parts.{same_domain, domain_itself}

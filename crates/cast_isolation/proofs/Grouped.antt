@@ -6,7 +6,7 @@ use Rattle.std.proofs.lemmas.List.{append-nil, map-append, replicate_more}
 use Rattle.std.proofs.lemmas.List.Elements.{filter-append}
 use Rattle.std.proofs.lemmas.List.FromFn.{length-map-range_with_len, get_or-map-range_with_len, map-range_with_len_more}
 use Rattle.cast_message.specs.declared.client.Push.{Push}
-use Rattle.cast_history.specs.Run.{entries_for}
+use Rattle.cast_rules.specs.Run.{entries_for}
 use Rattle.cast_isolation.specs.Replays.{last_serial, by_session}
 
 -- Functions over a range of numbers

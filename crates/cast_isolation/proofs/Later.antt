@@ -3,11 +3,11 @@ use Rattle.std.proofs.Common.{◌≡◌, ℕ, ◌+◌, ◌<◌, ◌≤◌, Bool,
 use Rattle.std.specs.List.{AllZip}
 use Rattle.std.proofs.lemmas.Bool.{cases_Bool, ne_eqb, or_parts}
 use Rattle.cast_types.specs.declared.names.DomainNo.{DomainNo}
-use Rattle.cast_model.specs.declared.config.DomainConfig.{DomainConfig}
-use Rattle.cast_model.specs.declared.event.Event.{Event}
-use Rattle.cast_model.specs.declared.event.Taken.{Taken}
-use Rattle.cast_model.specs.Events.{domain_of}
-use Rattle.cast_model.specs.declared.log.Fault.{Fault}
+use Rattle.cast_events.specs.declared.config.DomainConfig.{DomainConfig}
+use Rattle.cast_events.specs.declared.event.Event.{Event}
+use Rattle.cast_events.specs.declared.event.Taken.{Taken}
+use Rattle.cast_events.specs.Events.{domain_of}
+use Rattle.cast_events.specs.declared.log.Fault.{Fault}
 use Rattle.cast_table.specs.Tables.{domain_eq}
 use Rattle.cast_table.specs.Owns.{is_configured}
 use Rattle.cast_isolation.specs.Replays.{Served, is_halted_at, halted_at, served_as, IsTickAnswer, IsNamedAnswer, IsAnswerOf, IsAnswerTo, IsAnswer, AreAnswersFrom}

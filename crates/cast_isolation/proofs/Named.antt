@@ -7,12 +7,12 @@ use Rattle.std.proofs.lemmas.Bool.{false≢true, and_parts, not-true, false_from
 use Rattle.cast_types.specs.declared.names.DomainNo.{DomainNo}
 use Rattle.cast_types.specs.declared.names.SiteNo.{SiteNo}
 use Rattle.cast_domain.specs.declared.domain.Domain.{Domain}
-use Rattle.cast_model.specs.declared.event.Event.{Event}
-use Rattle.cast_model.specs.declared.event.Taken.{Taken}
-use Rattle.cast_model.specs.Events.{domain_of}
+use Rattle.cast_events.specs.declared.event.Event.{Event}
+use Rattle.cast_events.specs.declared.event.Taken.{Taken}
+use Rattle.cast_events.specs.Events.{domain_of}
 use Rattle.cast_domain.specs.Records.{number_of}
-use Rattle.cast_model.specs.declared.log.Fault.{Fault}
-use Rattle.cast_model.specs.declared.log.Fault.TheVariants.{NoMemory}
+use Rattle.cast_events.specs.declared.log.Fault.{Fault}
+use Rattle.cast_events.specs.declared.log.Fault.TheVariants.{NoMemory}
 use Rattle.cast_table.specs.Tables.{domain_eq, IsTurn, Lent}
 use Rattle.cast_table.specs.Owns.{is_configured, are_distinct, names, is_own}
 use Rattle.cast_table.proofs.Parts.{same_domain, domain_itself, domain_flipped}

@@ -4,7 +4,7 @@ use Rattle.std.proofs.lemmas.Bool.{false≢true}
 use Rattle.std.proofs.lemmas.List.{map-append}
 use Rattle.std.proofs.lemmas.List.Elements.{filter-append}
 use Rattle.cast_types.specs.declared.names.DomainNo.{DomainNo}
-use Rattle.cast_model.specs.declared.event.Event.{Event}
+use Rattle.cast_events.specs.declared.event.Event.{Event}
 use Rattle.cast_domain.specs.Fits.{tagged}
 use Rattle.cast_table.specs.Tables.{domain_eq}
 use Rattle.cast_table.specs.Owns.{names, is_own}

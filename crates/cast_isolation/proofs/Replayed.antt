@@ -4,12 +4,12 @@ use Rattle.std.specs.List.{AllZip}
 use Rattle.cast_types.specs.declared.names.DomainNo.{DomainNo}
 use Rattle.cast_types.specs.declared.names.SiteNo.{SiteNo}
 use Rattle.cast_types.proofs.Zips.{zip_length}
-use Rattle.cast_model.specs.declared.config.Config.{Config}
+use Rattle.cast_events.specs.declared.config.Config.{Config}
 use Rattle.cast_domain.specs.declared.domain.Domain.{Domain}
-use Rattle.cast_model.specs.declared.event.Event.{Event}
-use Rattle.cast_model.specs.declared.event.Taken.{Taken}
-use Rattle.cast_model.specs.declared.log.Fault.{Fault}
-use Rattle.cast_model.specs.declared.log.Log.{Log}
+use Rattle.cast_events.specs.declared.event.Event.{Event}
+use Rattle.cast_events.specs.declared.event.Taken.{Taken}
+use Rattle.cast_events.specs.declared.log.Fault.{Fault}
+use Rattle.cast_events.specs.declared.log.Log.{Log}
 use Rattle.cast_table.specs.Owns.{are_distinct, have_rising_groups}
 use Rattle.cast_table.specs.Tables.{Lent, picked}
 use Rattle.cast_table.proofs.Ordered.{distinct_by_number, rising_by_number}

@@ -4,10 +4,10 @@ use Rattle.std.proofs.lemmas.List.{append-nil}
 use Rattle.cast_types.specs.declared.names.SiteNo.{SiteNo}
 use Rattle.cast_message.specs.declared.client.Push.{Push}
 use Rattle.cast_message.specs.declared.site.SiteFrame.{SiteFrame}
-use Rattle.cast_model.specs.declared.event.Event.{Event}
-use Rattle.cast_model.specs.declared.event.Taken.{Taken}
-use Rattle.cast_history.specs.State.{State}
-use Rattle.cast_history.specs.Run.{IsRun, IsStep}
+use Rattle.cast_events.specs.declared.event.Event.{Event}
+use Rattle.cast_events.specs.declared.event.Taken.{Taken}
+use Rattle.cast_rules.specs.State.{State}
+use Rattle.cast_rules.specs.Run.{IsRun, IsStep}
 
 pub run_more : (s : State) (events : List Event) (answers : List Taken) (sent : List (SiteNo × SiteFrame)) (pushed : List (ℕ × Push)) (t : State) (e : Event) (a : Taken) (u : State) → IsRun s events answers sent pushed t → IsStep t e a u → IsRun s (events ++ e ∷ []) (answers ++ a ∷ []) (sent ++ u.frames) (pushed ++ u.pushes) u
 run_more s [] [] sent pushed t e a u run step = (

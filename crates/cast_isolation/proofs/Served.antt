@@ -9,22 +9,22 @@ use Rattle.cast_types.specs.Names.{group_cmp}
 use Rattle.cast_types.specs.Rising.{is_rising}
 use Rattle.cast_message.specs.declared.client.Push.{Push}
 use Rattle.cast_message.specs.declared.site.SiteFrame.{SiteFrame}
-use Rattle.cast_model.specs.declared.config.DomainConfig.{DomainConfig}
+use Rattle.cast_events.specs.declared.config.DomainConfig.{DomainConfig}
 use Rattle.cast_domain.specs.declared.domain.Domain.{Domain}
-use Rattle.cast_model.specs.declared.event.Event.{Event}
-use Rattle.cast_model.specs.declared.event.Outs.{Outs}
-use Rattle.cast_model.specs.declared.event.Taken.{Taken}
+use Rattle.cast_events.specs.declared.event.Event.{Event}
+use Rattle.cast_events.specs.declared.event.Outs.{Outs}
+use Rattle.cast_events.specs.declared.event.Taken.{Taken}
 use Rattle.cast_domain.specs.declared.shared.Shared.{Shared}
-use Rattle.cast_model.specs.Outs.{no_outs}
+use Rattle.cast_events.specs.Outs.{no_outs}
 use Rattle.cast_domain.specs.Records.{number_of, is_halted}
 use Rattle.cast_domain.specs.Shared.{Part, part_of, no_part, LeavesOthers}
-use Rattle.cast_history.specs.State.{State, opening}
-use Rattle.cast_domain.specs.Fits.{Means, tagged}
-use Rattle.cast_history.specs.Run.{IsRun}
+use Rattle.cast_rules.specs.State.{State, opening}
+use Rattle.cast_domain.specs.Fits.{Represents, tagged}
+use Rattle.cast_rules.specs.Run.{IsRun}
 use Rattle.cast_domain.specs.Stepped.{IsStepOf}
-use Rattle.cast_model.specs.declared.log.Fault.{Fault}
-use Rattle.cast_model.specs.declared.log.Fault.TheVariants.{NoMemory, Halted, NoDomain}
-use Rattle.cast_model.specs.declared.log.Given.{Given}
+use Rattle.cast_events.specs.declared.log.Fault.{Fault}
+use Rattle.cast_events.specs.declared.log.Fault.TheVariants.{NoMemory, Halted, NoDomain}
+use Rattle.cast_events.specs.declared.log.Given.{Given}
 use Rattle.cast_table.specs.Tables.{domain_eq, IsNew, IsTurn, Lent, part_in, halted_by}
 use Rattle.cast_table.specs.Owns.{is_configured, have_rising_groups, names, is_own}
 use Rattle.cast_table.proofs.Parts.{domain_flipped, other_unnamed}
@@ -43,7 +43,7 @@ given_with sent pushed d =
 pub record HasServed (here : SiteNo) (events : List Event) (answers : List (Result Taken Fault)) (sent : List (SiteNo × SiteFrame)) (pushed : List (ℕ × Push)) (part : Part) (s : Served) (d : Domain) : Type 0 where
   pub served : IsServed here events answers s (given_with sent pushed d)
   pub told : served.pushed ≡ pushed
-  pub means : s.halt ≡ None → Means d part served.end
+  pub means : s.halt ≡ None → Represents d part served.end
 
 -- the same with what is lent
 abbrev pub HasGiven : SiteNo → List Event → List (Result Taken Fault) → Lent → Served → Domain → Type 0
@@ -76,8 +76,8 @@ keeps_both q before between after one two =
 
 new_given : (here : SiteNo) (c : DomainConfig) (d : Domain) (l : Lent) → l.outs ≡ no_outs → ((q : DomainNo) → part_of q l.shared ≡ no_part) → is_rising group_cmp c.groups ≡ true → IsNew here c d → HasGiven here [] [] l (record { config = c; halt = None }) d
 new_given here c d l none unshared rising new =
-    let means : Means d (part_of c.domain l.shared) (opening here c) =
-    subst (λ p. Means d p (opening here c)) (sym (unshared c.domain)) (new.begins rising) in
+    let means : Represents d (part_of c.domain l.shared) (opening here c) =
+    subst (λ p. Represents d p (opening here c)) (sym (unshared c.domain)) (new.begins rising) in
     record {
       served =
           record {
@@ -171,8 +171,8 @@ turn_number (Err NoDomain) e old new before after turn = absurd turn
 
 module _ (here : SiteNo) (events : List Event) (answers : List (Result Taken Fault)) (e : Event) (s : Served) (old new : Domain) (before after : Lent) (so_far : HasGiven here events answers before s old) where
   -- the domain's part by the name that it is configured under
-  own_means : (t : State) → Means old (part_of s.config.domain before.shared) t → Means old (part_in before old) t
-  own_means t means = subst (λ (n : DomainNo). Means old (part_of n before.shared) t) (sym so_far.served.domain) means
+  own_means : (t : State) → Represents old (part_of s.config.domain before.shared) t → Represents old (part_in before old) t
+  own_means t means = subst (λ (n : DomainNo). Represents old (part_of n before.shared) t) (sym so_far.served.domain) means
 
   -- what a step sends and pushes bears the domain's number
   step_number : (t : State) (taken : Taken) (step : IsStepOf t e taken new (part_in after old) before.outs after.outs) → number_of new ≡ number_of old → step.end.config.domain ≡ s.config.domain
@@ -273,8 +273,8 @@ module _ (here : SiteNo) (events : List Event) (answers : List (Result Taken Fau
       let one : own c.domain events ++ e ∷ [] ≡ own c.domain (events ++ e ∷ []) =
       sym (own_more c.domain events e ∙ ap (λ more. own c.domain events ++ more) (own_one c.domain e its)) in
       let alike = run_length (opening here c) (own c.domain events) was.taken (frames_of c.domain before.outs.frames) was.pushed was.end was.runs in
-      let means : Means new (part_of c.domain after.shared) step.end =
-      subst (λ (n : DomainNo). Means new (part_of n after.shared) step.end) was.domain step.means in
+      let means : Represents new (part_of c.domain after.shared) step.end =
+      subst (λ (n : DomainNo). Represents new (part_of n after.shared) step.end) was.domain step.means in
       record {
         served =
             record {

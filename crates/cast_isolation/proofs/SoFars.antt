@@ -7,16 +7,16 @@ use Rattle.std.proofs.lemmas.List.{append-nil}
 use Rattle.cast_types.proofs.Zips.{zip_length, zip_push}
 use Rattle.cast_types.specs.declared.names.DomainNo.{DomainNo}
 use Rattle.cast_types.specs.declared.names.SiteNo.{SiteNo}
-use Rattle.cast_model.specs.declared.config.Config.{Config}
-use Rattle.cast_model.specs.declared.config.DomainConfig.{DomainConfig}
+use Rattle.cast_events.specs.declared.config.Config.{Config}
+use Rattle.cast_events.specs.declared.config.DomainConfig.{DomainConfig}
 use Rattle.cast_domain.specs.declared.domain.Domain.{Domain}
-use Rattle.cast_model.specs.declared.event.Event.{Event}
-use Rattle.cast_model.specs.declared.event.Taken.{Taken}
-use Rattle.cast_model.specs.Events.{domain_of}
-use Rattle.cast_model.specs.Outs.{no_outs}
+use Rattle.cast_events.specs.declared.event.Event.{Event}
+use Rattle.cast_events.specs.declared.event.Taken.{Taken}
+use Rattle.cast_events.specs.Events.{domain_of}
+use Rattle.cast_events.specs.Outs.{no_outs}
 use Rattle.cast_domain.specs.Shared.{part_of, no_part}
-use Rattle.cast_model.specs.declared.log.Fault.{Fault}
-use Rattle.cast_model.specs.declared.log.Fault.TheVariants.{NoMemory, Halted, NoDomain}
+use Rattle.cast_events.specs.declared.log.Fault.{Fault}
+use Rattle.cast_events.specs.declared.log.Fault.TheVariants.{NoMemory, Halted, NoDomain}
 use Rattle.cast_table.specs.Tables.{domain_eq, by_number, IsNew, IsTurn, IsAppliedAt, IsAppliedTo, IsApplied, IsTicked, AreApplied, AreTurns, Lent, place_named, stopped}
 use Rattle.cast_table.specs.Owns.{is_configured, are_distinct, have_rising_groups}
 use Rattle.cast_table.proofs.Places.{IsNumbered, named_there}

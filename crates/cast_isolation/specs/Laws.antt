@@ -1,11 +1,11 @@
 -- Isolation, said of two replays: a public law.
 use Rattle.std.specs.Prelude.{◌≡◌, List, None, Result}
 use Rattle.cast_types.specs.declared.names.SiteNo.{SiteNo}
-use Rattle.cast_model.specs.declared.config.DomainConfig.{DomainConfig}
-use Rattle.cast_model.specs.declared.event.Event.{Event}
-use Rattle.cast_model.specs.declared.event.Taken.{Taken}
-use Rattle.cast_model.specs.declared.log.Fault.{Fault}
-use Rattle.cast_model.specs.declared.log.Given.{Given}
+use Rattle.cast_events.specs.declared.config.DomainConfig.{DomainConfig}
+use Rattle.cast_events.specs.declared.event.Event.{Event}
+use Rattle.cast_events.specs.declared.event.Taken.{Taken}
+use Rattle.cast_events.specs.declared.log.Fault.{Fault}
+use Rattle.cast_events.specs.declared.log.Given.{Given}
 use Rattle.cast_isolation.specs.Replays.{IsServed, named_answers, own}
 
 -- where two replays have a domain's configuration and its own events alike, and want of memory halted it in neither, it gives the

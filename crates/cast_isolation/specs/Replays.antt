@@ -7,21 +7,21 @@ use Rattle.cast_types.specs.declared.names.SiteNo.{SiteNo}
 use Rattle.cast_types.specs.declared.refusal.Refusal.TheVariants as refusal
 use Rattle.cast_message.specs.declared.client.Push.{Push}
 use Rattle.cast_message.specs.declared.site.SiteFrame.{SiteFrame}
-use Rattle.cast_model.specs.declared.config.Config.{Config}
-use Rattle.cast_model.specs.declared.config.DomainConfig.{DomainConfig}
+use Rattle.cast_events.specs.declared.config.Config.{Config}
+use Rattle.cast_events.specs.declared.config.DomainConfig.{DomainConfig}
 use Rattle.cast_domain.specs.declared.domain.Domain.{Domain}
-use Rattle.cast_model.specs.declared.event.Event.{Event}
-use Rattle.cast_model.specs.declared.event.Outs.{Outs}
-use Rattle.cast_model.specs.declared.event.Taken.{Taken}
-use Rattle.cast_model.specs.declared.event.Taken.TheVariants.{Nothing, Refused}
-use Rattle.cast_model.specs.Events.{domain_of}
+use Rattle.cast_events.specs.declared.event.Event.{Event}
+use Rattle.cast_events.specs.declared.event.Outs.{Outs}
+use Rattle.cast_events.specs.declared.event.Taken.{Taken}
+use Rattle.cast_events.specs.declared.event.Taken.TheVariants.{Nothing, Refused}
+use Rattle.cast_events.specs.Events.{domain_of}
 use Rattle.cast_domain.specs.Records.{number_of, is_halted}
-use Rattle.cast_history.specs.State.{State, opening}
-use Rattle.cast_history.specs.Run.{IsRun, entries_for}
-use Rattle.cast_model.specs.declared.log.Fault.{Fault}
-use Rattle.cast_model.specs.declared.log.Fault.TheVariants.{NoMemory, Halted, NoDomain}
-use Rattle.cast_model.specs.declared.log.Given.{Given}
-use Rattle.cast_model.specs.declared.log.Log.{Log}
+use Rattle.cast_rules.specs.State.{State, opening}
+use Rattle.cast_rules.specs.Run.{IsRun, entries_for}
+use Rattle.cast_events.specs.declared.log.Fault.{Fault}
+use Rattle.cast_events.specs.declared.log.Fault.TheVariants.{NoMemory, Halted, NoDomain}
+use Rattle.cast_events.specs.declared.log.Given.{Given}
+use Rattle.cast_events.specs.declared.log.Log.{Log}
 use Rattle.cast_table.specs.Tables.{domain_eq, IsLeastOf}
 use Rattle.cast_table.specs.Owns.{is_configured, are_distinct, have_rising_groups, names, is_own}
 

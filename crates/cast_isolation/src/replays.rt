@@ -5,10 +5,10 @@ ghost use Rattle.cast_table.specs.Tables.{AreApplied, domain_eq, domains_of, pic
 ghost use Rattle.cast_isolation.specs.Replays.{AddsEntry, AnswersNoDomain, by_session, frames_of, given_of, lacks_memory, of_domain, untagged, SaysReplay};
 
 use cast_domain::Domain;
+use cast_events::{Config, Event, Fault, Given, Log, Outs, Taken};
 use cast_message::{Push, SiteFrame};
-use cast_model::{Config, Event, Fault, Given, Log, Outs, Taken};
 use cast_table::{Table, place_of};
-use cast_types::{DomainNo, Listed, NoMemory, SiteNo};
+use cast_types::{DomainNo, List, NoMemory, SiteNo};
 use std::alloc::{AllocError, Global};
 
 /// Applies events one after another to a daemon that was just started. Until want of memory halts it, each domain answers,
@@ -33,10 +33,10 @@ fn apply_each(
     table: &mut Table,
     events: &[Event],
     outs: &mut Outs,
-) -> Result<Listed<Result<Taken, Fault>>, NoMemory>
+) -> Result<List<Result<Taken, Fault>>, NoMemory>
     ensures { IfOk result (λ all. InTable (AreApplied all events.now) table.old outs.old table.new outs.new) }
 {
-    let mut answers = Listed::new(alloc);
+    let mut answers = List::new(alloc);
     for event in events {
         let answer = table.apply(event, outs);
         if lacks_memory(&answer) {
@@ -60,11 +60,11 @@ fn given_by_all(
     config: &Config,
     table: Table,
     outs: &Outs,
-) -> Result<Listed<Given>, NoMemory>
+) -> Result<List<Given>, NoMemory>
     ensures { IfOk result (λ given. given ≡ map (given_of outs.now) (picked config.now.domains (domains_of table))) }
 {
     let mut domains = table.into_domains();
-    let mut given = Listed::new(alloc);
+    let mut given = List::new(alloc);
     for config in config.domains.as_slice() {
         if let Some(domain) = take_of(&mut domains, config.domain) {
             given.push(given_by(alloc, &domain, outs)?)?;
@@ -101,10 +101,10 @@ fn sent_for(
     alloc: Global,
     number: DomainNo,
     frames: &[(DomainNo, SiteNo, SiteFrame)],
-) -> Result<Listed<(SiteNo, SiteFrame)>, NoMemory>
+) -> Result<List<(SiteNo, SiteFrame)>, NoMemory>
     ensures { IfOk result (λ sent. sent ≡ frames_of number frames.now) }
 {
-    let mut sent = Listed::new(alloc);
+    let mut sent = List::new(alloc);
     for (domain, to, frame) in frames {
         if *domain == number {
             sent.push((*to, frame.copy()?))?;
@@ -118,7 +118,7 @@ fn pushed_for(
     alloc: Global,
     number: DomainNo,
     pushed: &[(DomainNo, u32, Push)],
-) -> Result<Listed<(DomainNo, u32, Push)>, NoMemory>
+) -> Result<List<(DomainNo, u32, Push)>, NoMemory>
     ensures { IfOk result (λ own. own ≡ of_domain number pushed.now) }
 {
     let mut own = Outs::new(alloc);
@@ -133,21 +133,21 @@ fn pushed_for(
 // What was pushed to each session, from serial 1 on, where these entries were pushed for a domain.
 fn by_session(
     alloc: Global,
-    pushed: Listed<(DomainNo, u32, Push)>,
-) -> Result<Listed<Listed<Push>>, NoMemory>
+    pushed: List<(DomainNo, u32, Push)>,
+) -> Result<List<List<Push>>, NoMemory>
     ensures { IfOk result (λ sessions. sessions ≡ by_session (untagged pushed)) }
 {
     let mut sessions = Vec::new(alloc);
     for (_, serial, entry) in pushed.into_vec() {
         add_entry(alloc, &mut sessions, serial, entry)?;
     }
-    Ok(Listed::from_vec(sessions))
+    Ok(List::from_vec(sessions))
 }
 
 // Adds an entry to those of its session.
 fn add_entry(
     alloc: Global,
-    sessions: &mut Vec<Listed<Push>>,
+    sessions: &mut Vec<List<Push>>,
     serial: u32,
     entry: Push,
 ) -> Result<(), NoMemory>
@@ -161,12 +161,12 @@ fn add_entry(
 }
 
 // Adds empty lists until there are so many.
-fn reach(alloc: Global, sessions: &mut Vec<Listed<Push>>, len: usize) -> Result<(), NoMemory>
+fn reach(alloc: Global, sessions: &mut Vec<List<Push>>, len: usize) -> Result<(), NoMemory>
     ensures { OnOk result (sessions.new.items ≡ sessions.old.items ++ replicate (len - length sessions.old.items) []) }
 {
     let missing = len.saturating_sub(sessions.len());
     for _more in 0..missing {
-        sessions.push(Listed::new(alloc))?;
+        sessions.push(List::new(alloc))?;
     }
     Ok(())
 }

@@ -4,9 +4,6 @@
 //! spelling, and counts the calls that failed. When it runs out of memory, it has sent nothing.
 //! `receive_one` hands on the bytes of the first datagram. `LinkFault::Device` occurs only if the
 //! device failed in that call.
-//!
-//! The definitions are in `specs/`: `Wires` has what a wire was given and what waits in it, and
-//! `Links` the datagrams of frames and what the two calls do.
 #![tactic(auto)]
 
 mod link;

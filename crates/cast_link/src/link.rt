@@ -4,11 +4,11 @@ ghost use Rattle.cast_link.specs.Links.{HandsOn, datagram_of, datagrams_of};
 
 use crate::wire::{LinkFault, Wire};
 use bytes::Bytes;
+use cast_events::Outs;
 use cast_frame::encode_site;
 use cast_message::SiteFrame;
-use cast_model::Outs;
 use cast_pool::{Asked, Raw};
-use cast_types::{DomainNo, Listed, NoMemory, SiteNo};
+use cast_types::{DomainNo, List, NoMemory, SiteNo};
 use std::alloc::Global;
 
 /// What became of the frames that were to be sent.

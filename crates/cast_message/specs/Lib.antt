@@ -1,8 +1,8 @@
 pub mod Bodies
 pub mod Receipts
 pub mod Membership
-pub mod Stretch
-pub mod Sequence
-pub mod Keeping
+pub mod Tail
+pub mod Placement
+pub mod KeptIds
 pub mod Fitting
 pub mod Replies

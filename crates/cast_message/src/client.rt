@@ -1,6 +1,6 @@
 ghost use Rattle.std.specs.Prelude.{◌≡◌, IfOk};
 
-use crate::members::Members;
+use crate::membership::Membership;
 use crate::payload::Payload;
 use bytes::Bytes;
 use cast_types::{GroupNo, NoMemory, Proc, Refusal, Uid};
@@ -119,7 +119,7 @@ pub enum Push {
         /// The number of the view, from 1 on.
         view: u32,
         /// The members of the view.
-        members: Members,
+        members: Membership,
     },
     /// A message is delivered.
     Deliver {

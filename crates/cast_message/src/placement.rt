@@ -1,12 +1,12 @@
 ghost use Rattle.std.specs.Prelude.{◌≡◌, IfOk, IsTrue};
-ghost use Rattle.cast_message.specs.Sequence.{is_sequence};
+ghost use Rattle.cast_message.specs.Placement.{is_placement};
 
 use cast_types::{NoMemory, Proc};
 use std::marker::Model;
 
 /// Places of a view's order: the first of them, 1 to 4,000,000,000, and the ids that stand at it and at those after it,
 /// 1 to 64, each a process and a count. They may hand over the token of the view: then they name the process that holds
-/// it from the first place on, and there may be no ids. Contracts see a `Sequence`.
+/// it from the first place on, and there may be no ids. Contracts see a `Placement`.
 #[derive(Drop)]
 pub struct Placement {
     first: u32,
@@ -16,19 +16,19 @@ pub struct Placement {
 
 impl Model for Placement {
     ghost use Rattle.std.specs.Prelude.{IsTrue};
-    ghost use Rattle.cast_message.specs.Sequence.{Sequence, is_sequence};
+    ghost use Rattle.cast_message.specs.Placement.{Placement, is_placement};
 
-    ghost Value = { Sequence };
+    ghost Value = { Placement };
 
     ghost view = { λ p. record { first = p.first; ids = p.ids.items; holder = p.holder } };
 
-    ghost invariant = { λ p. IsTrue (is_sequence (record { first = p.first; ids = p.ids.items; holder = p.holder })) };
+    ghost invariant = { λ p. IsTrue (is_placement (record { first = p.first; ids = p.ids.items; holder = p.holder })) };
 }
 
 impl Placement {
     /// These ids, from this place on, and the process to which the token is handed over, if it is.
     pub fn from_parts(first: u32, ids: Vec<(Proc, u32)>, holder: Option<Proc>) -> Self
-        requires { IsTrue (is_sequence (record { first = first; ids = ids.items; holder = holder })) }
+        requires { IsTrue (is_placement (record { first = first; ids = ids.items; holder = holder })) }
         ensures { result ≡ record { first = first; ids = ids.items; holder = holder } }
     {
         Placement { first, ids, holder }
@@ -37,7 +37,7 @@ impl Placement {
     /// The place of the first id, 1 to 4,000,000,000.
     pub fn first(&self) -> u32
         ensures value { result ≡ self.now.first }
-        ensures valid { IsTrue (is_sequence self.now) }
+        ensures valid { IsTrue (is_placement self.now) }
     {
         self.first
     }
@@ -45,7 +45,7 @@ impl Placement {
     /// The ids in their order, at most 64; where the token is not handed over, at least one.
     pub fn ids(&self) -> &[(Proc, u32)]
         ensures value { result.now ≡ self.now.ids }
-        ensures valid { IsTrue (is_sequence self.now) }
+        ensures valid { IsTrue (is_placement self.now) }
     {
         &self.ids
     }
@@ -53,7 +53,7 @@ impl Placement {
     /// The process to which the token is handed over, if it is: it holds the token from the first place on.
     pub fn holder(&self) -> Option<Proc>
         ensures value { result ≡ self.now.holder }
-        ensures valid { IsTrue (is_sequence self.now) }
+        ensures valid { IsTrue (is_placement self.now) }
     {
         self.holder
     }

@@ -1,8 +1,8 @@
 ghost use Rattle.std.specs.Prelude.{◌≡◌, IfOk};
 ghost use Rattle.cast_message.specs.declared.site.SiteFrame.TheVariants.{Flushed, Install};
 
-use crate::kept::Kept;
-use crate::members::{Members, Tail};
+use crate::kept_ids::KeptIds;
+use crate::membership::{Membership, Tail};
 use crate::message::Message;
 use cast_types::{Counts, GroupNo, NoMemory, Proc, Uid};
 
@@ -62,7 +62,7 @@ pub enum SiteFrame {
         /// The end of the view's order as it is known there, at most 512 ids.
         tail: Tail,
         /// The messages that are kept there.
-        kept: Kept,
+        kept: KeptIds,
     },
     /// The sender wants this message.
     Want(Uid),
@@ -75,7 +75,7 @@ pub enum SiteFrame {
         /// The number of the new view, from 1 on.
         view: u32,
         /// The members of the new view.
-        members: Members,
+        members: Membership,
         /// The number of the request that the view answers, 0 for none.
         request: u32,
         /// How many messages of each process belong to the view before.
@@ -167,7 +167,7 @@ fn copy_flushed(
     view: u32,
     counts: &Counts,
     tail: &Tail,
-    kept: &Kept,
+    kept: &KeptIds,
 ) -> Result<SiteFrame, NoMemory>
     ensures { IfOk result (λ f. f ≡ Flushed group view counts.now tail.now kept.now) }
 {
@@ -184,7 +184,7 @@ fn copy_flushed(
 fn copy_install(
     group: GroupNo,
     view: u32,
-    members: &Members,
+    members: &Membership,
     request: u32,
     cut: &Counts,
     tail: &Tail,

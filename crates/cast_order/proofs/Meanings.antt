@@ -12,7 +12,7 @@ use Rattle.cast_types.specs.declared.limits.TheConstants.{MAX_TAIL, MAX_POSITION
 use Rattle.cast_types.specs.declared.names.Proc.{Proc}
 use Rattle.cast_types.specs.Names.{Entry, proc_cmp}
 use Rattle.cast_types.proofs.Orders.{proc_total, proc_exact, tie_same}
-use Rattle.cast_message.specs.Sequence.{Sequence}
+use Rattle.cast_message.specs.Placement.{Placement}
 use Rattle.cast_order.specs.Order.{Facts, facts_of, id_at, order_from, known_order, ids_to_list, tail_start, next_of}
 use Rattle.cast_order.specs.Log.{Log, length_of, with_facts, place_of, next_in, passed, settled, learnt, waiting_of, tail_start_in, forgot}
 use Rattle.cast_order.specs.Fits.{Fits}
@@ -31,14 +31,14 @@ new_fits g goes_on has_passed = record {
 }
 
 -- an open log takes in a set-order message
-abbrev pub taken_in : Sequence → Log → Log
+abbrev pub taken_in : Placement → Log → Log
 taken_in s l = settled (record l { later = with_facts (length_of l) l.later (facts_of s) })
 
-pub learnt_open : (s : Sequence) (l : Log) → l.closed ≡ false → learnt s l ≡ taken_in s l
+pub learnt_open : (s : Placement) (l : Log) → l.closed ≡ false → learnt s l ≡ taken_in s l
 learnt_open s l still = ap (λ b. if b then l else taken_in s l) still
 
 -- the group of a log that learns stays
-pub learnt_group : (s : Sequence) (l : Log) → (learnt s l).group ≡ l.group
+pub learnt_group : (s : Placement) (l : Log) → (learnt s l).group ≡ l.group
 learnt_group s l = elim l.closed as (λ b. (if b then l else taken_in s l).group ≡ l.group) [ true ↦ refl | false ↦ refl ]
 
 -- Ids that are forgotten
@@ -72,17 +72,17 @@ pub length_rules : LengthIsTheRule
 length_rules facts goes_on has_passed l fits = kept_length (known_order facts) l (fits_kept facts goes_on has_passed l fits)
 
 -- what it takes in was told of the places past those known
-told_past : (facts : Facts) (goes_on : Proc → Bool) (has_passed : Proc → Entry → Bool) (l : Log) → Fits facts goes_on has_passed l → (s : Sequence) → (place : ℕ) → length_of l < place → place ≤ MAX_POSITION → id_at (with_facts (length_of l) l.later (facts_of s)) place ≡ id_at (facts ++ facts_of s) place
+told_past : (facts : Facts) (goes_on : Proc → Bool) (has_passed : Proc → Entry → Bool) (l : Log) → Fits facts goes_on has_passed l → (s : Placement) → (place : ℕ) → length_of l < place → place ≤ MAX_POSITION → id_at (with_facts (length_of l) l.later (facts_of s)) place ≡ id_at (facts ++ facts_of s) place
 told_past facts goes_on has_passed l fits s place low high =
     facts_told (length_of l) l.later (facts_of s) place low high
     ∙ ap (λ o. option_or o (id_at (facts_of s) place)) (fits.later place low high)
     ∙ sym (id_at-append facts (facts_of s) place)
 
 -- what it adds to the order known
-abbrev pub added : Sequence → Log → List Entry
+abbrev pub added : Placement → Log → List Entry
 added s l = order_from (MAX_POSITION - length_of l) (length_of l + 1) (with_facts (length_of l) l.later (facts_of s))
 
-pub order_on : (facts : Facts) (goes_on : Proc → Bool) (has_passed : Proc → Entry → Bool) (l : Log) → Fits facts goes_on has_passed l → (s : Sequence) → known_order facts ++ added s l ≡ known_order (facts ++ facts_of s)
+pub order_on : (facts : Facts) (goes_on : Proc → Bool) (has_passed : Proc → Entry → Bool) (l : Log) → Fits facts goes_on has_passed l → (s : Placement) → known_order facts ++ added s l ≡ known_order (facts ++ facts_of s)
 order_on facts goes_on has_passed l fits s =
     let later = with_facts (length_of l) l.later (facts_of s) in
     let known = known_order facts in
@@ -91,14 +91,14 @@ order_on facts goes_on has_passed l fits s =
     ∙ known_grows facts (facts_of s) later known refl (λ place low high. told_past facts goes_on has_passed l fits s place (omega (arith, same, low)) high)
 
 -- what is forgotten stays what it was as more is learnt
-pub learn_begins : (facts : Facts) (goes_on : Proc → Bool) (has_passed : Proc → Entry → Bool) (l : Log) → Fits facts goes_on has_passed l → (s : Sequence) → take l.base (known_order (facts ++ facts_of s)) ≡ take l.base (known_order facts)
+pub learn_begins : (facts : Facts) (goes_on : Proc → Bool) (has_passed : Proc → Entry → Bool) (l : Log) → Fits facts goes_on has_passed l → (s : Placement) → take l.base (known_order (facts ++ facts_of s)) ≡ take l.base (known_order facts)
 learn_begins facts goes_on has_passed l fits s =
     let le = fits.forgotten in
     ap (take l.base) (sym (order_on facts goes_on has_passed l fits s))
     ∙ take-append-le l.base (known_order facts) (added s l) (omega (arith, le))
 
 -- what it takes in was told of the order
-take_in_fits : (facts : Facts) (goes_on : Proc → Bool) (has_passed : Proc → Entry → Bool) (l : Log) → Fits facts goes_on has_passed l → (s : Sequence) → Fits (facts ++ facts_of s) goes_on has_passed (taken_in s l)
+take_in_fits : (facts : Facts) (goes_on : Proc → Bool) (has_passed : Proc → Entry → Bool) (l : Log) → Fits facts goes_on has_passed l → (s : Placement) → Fits (facts ++ facts_of s) goes_on has_passed (taken_in s l)
 take_in_fits facts goes_on has_passed l fits s =
     let later = with_facts (length_of l) l.later (facts_of s) in
     let now = taken_in s l in

@@ -6,7 +6,7 @@ use Rattle.std.proofs.lemmas.List.{append-nil, length-take, length-drop}
 use Rattle.cast_types.specs.declared.limits.TheConstants.{MAX_PLACED, MAX_POSITION}
 use Rattle.cast_types.specs.declared.names.Proc.{Proc}
 use Rattle.cast_types.specs.Names.{Entry}
-use Rattle.cast_message.specs.Sequence.{is_sequence}
+use Rattle.cast_message.specs.Placement.{is_placement}
 use Rattle.cast_order.specs.Order.{Facts, id_at, order_from, ids_to_list}
 use Rattle.cast_order.specs.Log.{Log, length_of, place_of, next_in, waiting_of, tail_start_in, tail_ids_in}
 use Rattle.cast_order.proofs.Lists.{drop_on}
@@ -35,7 +35,7 @@ tail_are l o start ids at are =
     λ i. (at i, same i)
 
 -- what waits makes places that a message may set
-pub may_set : (waiting : List Entry) (known first : ℕ) (ids : List Entry) → 0 < length waiting → known < MAX_POSITION → first ≡ known + 1 → ids ≡ ids_to_list waiting → is_sequence (record { first = first; ids = ids; holder = None }) ≡ true
+pub may_set : (waiting : List Entry) (known first : ℕ) (ids : List Entry) → 0 < length waiting → known < MAX_POSITION → first ≡ known + 1 → ids ≡ ids_to_list waiting → is_placement (record { first = first; ids = ids; holder = None }) ≡ true
 may_set waiting known first ids some room at are =
     let few : length ids ≡ min MAX_PLACED (length waiting) = ap length are ∙ length-take MAX_PLACED waiting in
     and_from (nat_le 1 first && nat_le first MAX_POSITION) (nat_le 1 (length ids) && nat_le (length ids) MAX_PLACED)

@@ -7,7 +7,7 @@ use Rattle.cast_types.specs.declared.names.GroupNo.{GroupNo}
 use Rattle.cast_types.specs.declared.names.Proc.{Proc}
 use Rattle.cast_types.specs.Names.{Entry, entry_eq, group_eq, proc_eq}
 use Rattle.cast_types.specs.Sets.{is_among}
-use Rattle.cast_message.specs.Sequence.{Sequence}
+use Rattle.cast_message.specs.Placement.{Placement}
 use Rattle.cast_order.specs.Order.{Facts, facts_of, known_order, next_of, Listing, last_upto, still_to_list, settled_places, ids_to_list, place_after, tail_start, tail_ids, closed_order}
 use Rattle.cast_order.specs.Hand.{Hand, new_hand, held, handed, told, placed, noted, settled_by, hand_of, change_hand, hands_rise, FitsHand}
 use Rattle.cast_order.specs.Log.{Log, new_log, length_of, log_of, change_in, change_log, but_log, learnt, next_in, passed, hand_here, with_hand, next_places, known_past, waiting_of, whole_kept, tail_start_in, tail_ids_in, closed_by, oldest_in, forgot}
@@ -21,7 +21,7 @@ NewFits = (g : GroupNo) (goes_on : Proc → Bool) (has_passed : Proc → Entry �
 abbrev pub LearnKeepsMeaning : Type 0
 LearnKeepsMeaning =
     (facts : Facts) (goes_on : Proc → Bool) (has_passed : Proc → Entry → Bool) (l : Log)
-    → Fits facts goes_on has_passed l → (s : Sequence)
+    → Fits facts goes_on has_passed l → (s : Placement)
     → Fits (facts ++ facts_of s) goes_on has_passed (learnt s l)
 
 -- what a process does that orders the view's ABCASTs
@@ -172,7 +172,7 @@ PlaceKeepsOrder = (ids : List Entry) (hands : List Hand) → hands_rise hands �
 -- what joins the order known does so for each
 abbrev pub LearntIsOfAll : Type 0
 LearntIsOfAll =
-    (facts : Facts) (goes_on : Proc → Bool) (has_passed : Proc → Entry → Bool) (l : Log) → Fits facts goes_on has_passed l → (s : Sequence)
+    (facts : Facts) (goes_on : Proc → Bool) (has_passed : Proc → Entry → Bool) (l : Log) → Fits facts goes_on has_passed l → (s : Placement)
     → (ids : List Entry) × (known_order (facts ++ facts_of s) ≡ known_order facts ++ ids) × ((p : Proc) → hand_here (learnt s l) p ≡ placed ids (hand_here l p))
 
 -- the end of the order is told
@@ -185,7 +185,7 @@ CloseEndsTheOrder =
 -- of a closed order nothing is learnt
 abbrev pub ClosedLearnsNothing : Type 0
 ClosedLearnsNothing =
-    (order : List Entry) (goes_on : Proc → Bool) (has_passed : Proc → Entry → Bool) (l : Log) → FitsClosed order goes_on has_passed l → (s : Sequence)
+    (order : List Entry) (goes_on : Proc → Bool) (has_passed : Proc → Entry → Bool) (l : Log) → FitsClosed order goes_on has_passed l → (s : Placement)
     → learnt s l ≡ l
 
 -- a process delivered each of the next n ids of a closed order

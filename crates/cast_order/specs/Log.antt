@@ -7,7 +7,7 @@ use Rattle.cast_types.specs.declared.limits.TheConstants.{MAX_TAIL, MAX_POSITION
 use Rattle.cast_types.specs.declared.names.GroupNo.{GroupNo}
 use Rattle.cast_types.specs.declared.names.Proc.{Proc}
 use Rattle.cast_types.specs.Names.{Entry, proc_cmp, group_eq}
-use Rattle.cast_message.specs.Sequence.{Sequence}
+use Rattle.cast_message.specs.Placement.{Placement}
 use Rattle.cast_order.specs.Order.{Facts, facts_of, id_at, order_from, ids_to_list}
 use Rattle.cast_order.specs.Hand.{Hand, hand_of, change_hand, placed}
 
@@ -86,7 +86,7 @@ settled l =
     }
 
 -- a set-order message is taken in, unless the order is closed
-abbrev pub learnt : Sequence → Log → Log
+abbrev pub learnt : Placement → Log → Log
 learnt s l =
     if l.closed then l else settled (record l { later = with_facts (length_of l) l.later (facts_of s) })
 
@@ -140,7 +140,7 @@ abbrev pub waits_in : Log → Bool
 waits_in l = list_any (λ h. nat_lt 0 (length h.waiting)) l.hands
 
 -- the places that the next set-order message of a process sets, none where nothing waits or no place is left
-abbrev pub next_places : Log → Proc → Option Sequence
+abbrev pub next_places : Log → Proc → Option Placement
 next_places l p =
     if nat_lt 0 (length (hand_here l p).waiting) && nat_lt (length_of l) MAX_POSITION
     then Some (record { first = length_of l + 1; ids = ids_to_list (hand_here l p).waiting; holder = None }) else None

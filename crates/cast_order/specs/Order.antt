@@ -5,14 +5,14 @@ use Rattle.std.specs.Option.{option_map}
 use Rattle.cast_types.specs.declared.limits.TheConstants.{MAX_PLACED, MAX_TAIL, MAX_POSITION}
 use Rattle.cast_types.specs.Names.{Entry, entry_eq}
 use Rattle.cast_types.specs.Sets.{apart_from}
-use Rattle.cast_message.specs.Sequence.{Sequence}
+use Rattle.cast_message.specs.Placement.{Placement}
 
 -- what was told, in order of receipt: an id at a place. Places count from 1
 abbrev pub Facts : Type 0
 Facts = List (ℕ × Entry)
 
 -- what a set-order message tells: the ids at a place and at those after it
-abbrev pub facts_of : Sequence → Facts
+abbrev pub facts_of : Placement → Facts
 facts_of s = enumerate_from s.first s.ids
 
 -- the first id told for a place

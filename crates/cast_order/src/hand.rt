@@ -97,7 +97,7 @@ impl OrderHand {
     }
 
     /// How many places it has settled.
-    pub fn settled(&self, stable: u32) -> usize
+    pub fn settled_places(&self, stable: u32) -> usize
         ensures { result ≡ settled_by stable self.now }
     {
         let before = match self.first {
@@ -115,7 +115,7 @@ impl OrderHand {
     }
 
     /// The ABCASTs that it has to list.
-    pub fn waiting(&self) -> &[(Proc, u32)]
+    pub fn ids_to_list(&self) -> &[(Proc, u32)]
         ensures { result.now ≡ self.now.waiting }
     {
         &self.waiting
@@ -206,7 +206,7 @@ pub(crate) fn place_in(hands: &mut Vec<OrderHand>, ids: &[(Proc, u32)])
 pub(crate) fn some_wait(hands: &[OrderHand]) -> bool
     ensures { result ≡ list_any (λ h. nat_lt 0 (length h.waiting)) hands.now }
 {
-    hands.iter().any(|hand| 0 < hand.waiting().len())
+    hands.iter().any(|hand| 0 < hand.ids_to_list().len())
 }
 
 // Hands, copied.

@@ -13,7 +13,7 @@ use crate::hand::{
 };
 use cast_message::{Placement, Tail};
 use cast_types::limits::{MAX_PLACED, MAX_POSITION, MAX_TAIL};
-use cast_types::{Counts, GroupNo, Keyed, Listed, NoMemory, Proc};
+use cast_types::{Counts, GroupNo, List, NoMemory, Proc, SortedMap};
 use std::alloc::{AllocError, Global};
 use std::marker::Model;
 
@@ -24,7 +24,7 @@ pub struct OrderLog {
     base: u32,
     window: Vec<(Proc, u32)>,
     later: Vec<(usize, (Proc, u32))>,
-    places: Keyed<Proc, usize>,
+    places: SortedMap<Proc, usize>,
     hands: Vec<OrderHand>,
     closed: bool,
 }
@@ -47,7 +47,7 @@ impl OrderLog {
             base: 0,
             window: Vec::new(alloc),
             later: Vec::new(alloc),
-            places: Keyed::new(alloc),
+            places: SortedMap::new(alloc),
             hands: Vec::new(alloc),
             closed: false,
         }
@@ -105,7 +105,8 @@ impl OrderLog {
     pub fn places_by(&self, process: Proc) -> usize
         ensures { result ≡ min 18446744073709551615 (places_by self.now process) }
     {
-        self.length().saturating_add(self.waiting(process).len())
+        self.length()
+            .saturating_add(self.ids_to_list(process).len())
     }
 
     /// Closes the order: it becomes its first ids and those of the tail, all that are kept without ids beyond the cut.
@@ -119,7 +120,7 @@ impl OrderLog {
         keep_within(&mut self.window, cut);
         self.base = self.base.min(start);
         self.later.clear();
-        self.places = Keyed::new(*self.window.allocator());
+        self.places = SortedMap::new(*self.window.allocator());
         self.closed = true;
         Ok(())
     }
@@ -240,21 +241,21 @@ impl OrderLog {
     }
 
     /// How many places it has settled.
-    pub fn settled(&self, process: Proc, stable: u32) -> usize
+    pub fn settled_places(&self, process: Proc, stable: u32) -> usize
         ensures { result ≡ settled_by stable (hand_here self.now process) }
     {
         match hand_among(&self.hands, process) {
-            Some(hand) => hand.settled(stable),
+            Some(hand) => hand.settled_places(stable),
             None => 0,
         }
     }
 
     /// The ABCASTs that it has to list.
-    pub fn waiting(&self, process: Proc) -> &[(Proc, u32)]
+    pub fn ids_to_list(&self, process: Proc) -> &[(Proc, u32)]
         ensures { result.now ≡ (hand_here self.now process).waiting }
     {
         match hand_among(&self.hands, process) {
-            Some(hand) => hand.waiting(),
+            Some(hand) => hand.ids_to_list(),
             None => &[],
         }
     }
@@ -264,20 +265,20 @@ impl OrderLog {
         ensures { result.now ≡ waiting_of self.now holder }
     {
         match holder {
-            Some(process) => self.waiting(process),
+            Some(process) => self.ids_to_list(process),
             None => &[],
         }
     }
 
     /// The ids kept of the order known past so many places.
-    pub fn past(&self, place: usize) -> &[(Proc, u32)]
+    pub fn ids_past(&self, place: usize) -> &[(Proc, u32)]
         ensures { result.now ≡ known_past place self.now }
     {
         past_first(&self.window, place.saturating_sub(self.base as usize))
     }
 
     /// How many ids are forgotten.
-    pub fn forgotten(&self) -> usize
+    pub fn forgotten_count(&self) -> usize
         ensures { result ≡ self.now.base }
     {
         self.base as usize
@@ -287,7 +288,7 @@ impl OrderLog {
     pub fn assign(&self, process: Proc) -> Result<Option<Placement>, NoMemory>
         ensures { IfOk result (λ q. q ≡ next_places self.now process) }
     {
-        let waiting = self.waiting(process);
+        let waiting = self.ids_to_list(process);
         if waiting.is_empty() || MAX_POSITION as usize <= self.length() {
             return Ok(None);
         }
@@ -304,7 +305,7 @@ impl OrderLog {
     }
 
     /// How many ids stand before the tail of the whole order, and its ids, as far as they are kept.
-    pub fn tail(&self, holder: Option<Proc>) -> Result<(usize, Listed<(Proc, u32)>), NoMemory>
+    pub fn tail(&self, holder: Option<Proc>) -> Result<(usize, List<(Proc, u32)>), NoMemory>
         ensures { IfOk result (λ t. t ≡ (tail_start_in self.now holder, tail_ids_in self.now holder)) }
     {
         let waiting = self.waiting_of(holder);
@@ -318,7 +319,7 @@ impl OrderLog {
         let alloc = *self.window.allocator();
         let mut ids = Vec::from_slice(alloc, past_first(&self.window, start - base))?;
         ids.extend_from_slice(past_first(waiting, start.saturating_sub(known)))?;
-        Ok((start, Listed::from_vec(ids)))
+        Ok((start, List::from_vec(ids)))
     }
 }
 

@@ -10,7 +10,7 @@ ghost use Rattle.cast_order.specs.Log.{length_of, log_of, change_in, opened, cha
 use crate::hand::OrderHand;
 use crate::log::OrderLog;
 use cast_message::{Placement, Tail};
-use cast_types::{Counts, GroupNo, Listed, NoMemory, Proc};
+use cast_types::{Counts, GroupNo, List, NoMemory, Proc};
 use std::alloc::Global;
 use std::marker::Model;
 
@@ -21,10 +21,10 @@ pub struct Orders {
 }
 
 impl Model for Orders {
-    ghost use Rattle.std.specs.Prelude.{List};
+    ghost use Rattle.std.specs.Prelude.{List as Items};
     ghost use Rattle.cast_order.specs.Log.{Log};
 
-    ghost Value = { List Log };
+    ghost Value = { Items Log };
 
     ghost view = { λ o. o.logs.items };
 }
@@ -182,41 +182,41 @@ impl Orders {
 
     /// How many places a process here has settled, where its set-order messages up to count `stable` are stable: those
     /// before its first one, and those up to the last one that these messages set. Takes no memory.
-    pub fn settled(&self, group: GroupNo, process: Proc, stable: u32) -> usize
+    pub fn settled_places(&self, group: GroupNo, process: Proc, stable: u32) -> usize
         ensures { result ≡ settled_by stable (hand_here (log_of self.now group) process) }
     {
         match log_in(&self.logs, group) {
-            Some(log) => log.settled(process, stable),
+            Some(log) => log.settled_places(process, stable),
             None => 0,
         }
     }
 
     /// The ABCASTs that a process here delivered and that are not in the order known, in its order. Takes no memory.
-    pub fn waiting(&self, group: GroupNo, process: Proc) -> &[(Proc, u32)]
+    pub fn ids_to_list(&self, group: GroupNo, process: Proc) -> &[(Proc, u32)]
         ensures { result.now ≡ (hand_here (log_of self.now group) process).waiting }
     {
         match log_in(&self.logs, group) {
-            Some(log) => log.waiting(process),
+            Some(log) => log.ids_to_list(process),
             None => &[],
         }
     }
 
     /// The ids of the order known past so many places, but for those that are forgotten. Takes no memory.
-    pub fn past(&self, group: GroupNo, place: usize) -> &[(Proc, u32)]
+    pub fn ids_past(&self, group: GroupNo, place: usize) -> &[(Proc, u32)]
         ensures { result.now ≡ known_past place (log_of self.now group) }
     {
         match log_in(&self.logs, group) {
-            Some(log) => log.past(place),
+            Some(log) => log.ids_past(place),
             None => &[],
         }
     }
 
     /// How many ids of the order known are forgotten. Takes no memory.
-    pub fn forgotten(&self, group: GroupNo) -> usize
+    pub fn forgotten_count(&self, group: GroupNo) -> usize
         ensures { result ≡ (log_of self.now group).base }
     {
         match log_in(&self.logs, group) {
-            Some(log) => log.forgotten(),
+            Some(log) => log.forgotten_count(),
             None => 0,
         }
     }
@@ -248,12 +248,12 @@ impl Orders {
         &self,
         group: GroupNo,
         holder: Option<Proc>,
-    ) -> Result<(usize, Listed<(Proc, u32)>), NoMemory>
+    ) -> Result<(usize, List<(Proc, u32)>), NoMemory>
         ensures { IfOk result (λ t. t ≡ (tail_start_in (log_of self.now group) holder, tail_ids_in (log_of self.now group) holder)) }
     {
         match log_in(&self.logs, group) {
             Some(log) => log.tail(holder),
-            None => Ok((0, Listed::new(*self.logs.allocator()))),
+            None => Ok((0, List::new(*self.logs.allocator()))),
         }
     }
 

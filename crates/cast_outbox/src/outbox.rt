@@ -4,7 +4,7 @@ ghost use Rattle.std.specs.VecDeque.{deque_len, deque_capacity};
 ghost use Rattle.cast_outbox.specs.Pending.{with_entry, told_at};
 
 use cast_message::Push;
-use cast_types::{DomainNo, Listed, NoMemory, Refusal};
+use cast_types::{DomainNo, List, NoMemory, Refusal};
 use std::alloc::Global;
 use std::collections::VecDeque;
 use std::marker::Model;
@@ -98,13 +98,13 @@ impl Outbox {
     }
 
     /// Takes out the first entries, at most so many. `NoMemory` changes nothing.
-    pub(crate) fn take(&mut self, most: u32) -> Result<Listed<Push>, NoMemory>
+    pub(crate) fn take(&mut self, most: u32) -> Result<List<Push>, NoMemory>
         ensures value { IfOk result (λ taken. taken ≡ take most self.old.entries) }
         ensures ok { OnOk result (self.new ≡ record self.old { entries = drop most self.old.entries }) }
         ensures err { OnErr result (self.new ≡ self.old) }
     {
         let taken = take_first(&mut self.entries, most as usize)?;
-        Ok(Listed::from_vec(taken.into_vec()))
+        Ok(List::from_vec(taken.into_vec()))
     }
 
     /// How many entries there are.

@@ -7,7 +7,7 @@ ghost use Rattle.slab.specs.Slab.{get as slot_at, Updates};
 
 use crate::outbox::{Outbox, Pushed};
 use cast_message::Push;
-use cast_types::{DomainNo, Listed, NoMemory};
+use cast_types::{DomainNo, List, NoMemory};
 use indexmap::IndexMap;
 use slab::Slab;
 use std::alloc::Global;
@@ -25,10 +25,10 @@ pub struct Outboxes {
 }
 
 impl Model for Outboxes {
-    ghost use Rattle.std.specs.Prelude.{List, Option};
+    ghost use Rattle.std.specs.Prelude.{List as Items, Option};
     ghost use Rattle.cast_outbox.specs.Pending.{Pending};
 
-    ghost Value = { List (Option Pending) };
+    ghost Value = { Items (Option Pending) };
 
     ghost use Rattle.cast_outbox.specs.Outboxes.{IsNamed};
 
@@ -105,12 +105,7 @@ impl Outboxes {
 
     /// Gives the first entries of an outbox, at most `most`, in their order, and removes them. `NoMemory`: the answer was
     /// refused memory; nothing is removed.
-    pub fn take(
-        &mut self,
-        domain: DomainNo,
-        serial: u32,
-        most: u32,
-    ) -> Result<Listed<Push>, NoMemory>
+    pub fn take(&mut self, domain: DomainNo, serial: u32, most: u32) -> Result<List<Push>, NoMemory>
         ensures value { IfOk result (λ taken. taken ≡ take most (outboxes_in self.old domain serial)) }
         ensures ok { OnOk result (outboxes_in self.new domain ≡ changed_at serial (drop most) (outboxes_in self.old domain)) }
         ensures err { OnErr result (self.new ≡ self.old) }
@@ -118,7 +113,7 @@ impl Outboxes {
     {
         match key_of(&self.names, domain, serial) {
             Some(key) => take_at(&mut self.slots, key, most),
-            None => Ok(Listed::new(*self.names.allocator())),
+            None => Ok(List::new(*self.names.allocator())),
         }
     }
 
@@ -267,7 +262,7 @@ fn push_at(
 }
 
 // Takes the first entries out of the outbox of a key. `NoMemory` changes nothing.
-fn take_at(slots: &mut Slab<Outbox>, key: usize, most: u32) -> Result<Listed<Push>, NoMemory>
+fn take_at(slots: &mut Slab<Outbox>, key: usize, most: u32) -> Result<List<Push>, NoMemory>
     ensures value { IfOk result (λ taken. (x : Pending) → slot_at slots.old key ≡ Some x → taken ≡ take most x.entries) }
     ensures ok { OnOk result ((x : Pending) → slot_at slots.old key ≡ Some x → Updates slots.old slots.new key (Some (with_entries (drop most) x))) }
     ensures err { OnErr result (slots.new.slots ≡ slots.old.slots) }

@@ -7,18 +7,18 @@ use Rattle.cast_types.specs.declared.names.DomainNo.{DomainNo}
 use Rattle.cast_types.specs.declared.names.SiteNo.{SiteNo}
 use Rattle.cast_types.specs.Names.{group_cmp}
 use Rattle.cast_types.specs.Rising.{is_rising}
-use Rattle.cast_model.specs.declared.config.DomainConfig.{DomainConfig}
-use Rattle.cast_model.specs.declared.event.Outs.{Outs}
-use Rattle.cast_model.specs.declared.event.Taken.{Taken}
-use Rattle.cast_model.specs.declared.log.Fault.{Fault}
-use Rattle.cast_model.specs.Outs.{no_outs}
-use Rattle.cast_history.specs.State.{State, opening}
-use Rattle.cast_history.specs.Run.{before_event}
+use Rattle.cast_events.specs.declared.config.DomainConfig.{DomainConfig}
+use Rattle.cast_events.specs.declared.event.Outs.{Outs}
+use Rattle.cast_events.specs.declared.event.Taken.{Taken}
+use Rattle.cast_events.specs.declared.log.Fault.{Fault}
+use Rattle.cast_events.specs.Outs.{no_outs}
+use Rattle.cast_rules.specs.State.{State, opening}
+use Rattle.cast_rules.specs.Run.{before_event}
 use Rattle.cast_domain.specs.declared.domain.Domain.{Domain}
 use Rattle.cast_domain.specs.declared.shared.Shared.{Shared}
 use Rattle.cast_domain.specs.Records.{Records, number_of, is_halted, records_of}
 use Rattle.cast_domain.specs.Shared.{Part, part_of, no_part}
-use Rattle.cast_domain.specs.Fits.{Fits, Means, AreDismissed}
+use Rattle.cast_domain.specs.Fits.{Fits, Represents, AreDismissed}
 use Rattle.cast_domain.specs.Copies.{IsCopyOf as IsDomainCopy}
 use Rattle.cast_table.specs.declared.table.Table.{Table}
 use Rattle.cast_table.specs.Tables.{domains_of, shared_of, lent, by_number, IsNew, SharesNothing, IsApplied, NotesHalts}
@@ -80,7 +80,7 @@ replays_push base trace old new e a before after replays says applied notes =
 -- A copy for the base
 
 -- a copy stands for the same histories
-means_copy : (d copy : Domain) (part : Part) (s : State) → IsDomainCopy d copy → Means d part s → Means copy part s
+means_copy : (d copy : Domain) (part : Part) (s : State) → IsDomainCopy d copy → Represents d part s → Represents copy part s
 means_copy d copy part s is means =
     let same : records_of d part no_outs ≡ records_of copy part no_outs = sym (is.records part no_outs) in
     record {
@@ -138,9 +138,9 @@ new_one here config base now old new first none rising was is =
       number = is.number ∙ sym was.number;
       start = Some (opening here config);
       end = Some (opening here config);
-      begins = (was.running, subst (λ p. Means old p (opening here config)) (sym (first (number_of old))) (was.begins rising));
+      begins = (was.running, subst (λ p. Represents old p (opening here config)) (sym (first (number_of old))) (was.begins rising));
       leads = refl;
-      ends = (is.running, subst (λ p. Means new p (opening here config)) (sym (none (number_of new))) (is.begins rising));
+      ends = (is.running, subst (λ p. Represents new p (opening here config)) (sym (none (number_of new))) (is.begins rising));
     }
 
 all_new : (here : SiteNo) (base now : Shared) → ((d : DomainNo) → part_of d base ≡ no_part) → ((d : DomainNo) → part_of d now ≡ no_part) → (configs : List DomainConfig) (olds news : List Domain) → have_rising_groups configs ≡ true → AllZip (IsNew here) configs olds → AllZip (IsNew here) configs news → AllZip (IsReplayed base [] now) olds news

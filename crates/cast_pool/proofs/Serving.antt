@@ -4,13 +4,13 @@ use Rattle.std.specs.Prelude.{◌==◌, nat_le}
 use Rattle.std.proofs.lemmas.Bool.{false≢true, le-leb, lt-leb, leb-true, eq-eqb, false_from_ne_true, eqb-true}
 use Rattle.cast_types.specs.declared.names.DomainNo.{DomainNo}
 use Rattle.cast_types.specs.declared.refusal.Refusal.TheVariants as refusal
-use Rattle.cast_model.specs.declared.event.Event.{Event}
-use Rattle.cast_model.specs.declared.event.Outs.{Outs}
-use Rattle.cast_model.specs.declared.event.Taken.{Taken}
-use Rattle.cast_model.specs.declared.event.Taken.TheVariants.{Refused}
-use Rattle.cast_model.specs.declared.log.Fault.{Fault}
-use Rattle.cast_model.specs.declared.log.Fault.TheVariants.{NoMemory, Halted, NoDomain}
-use Rattle.cast_model.specs.Outs.{no_outs}
+use Rattle.cast_events.specs.declared.event.Event.{Event}
+use Rattle.cast_events.specs.declared.event.Outs.{Outs}
+use Rattle.cast_events.specs.declared.event.Taken.{Taken}
+use Rattle.cast_events.specs.declared.event.Taken.TheVariants.{Refused}
+use Rattle.cast_events.specs.declared.log.Fault.{Fault}
+use Rattle.cast_events.specs.declared.log.Fault.TheVariants.{NoMemory, Halted, NoDomain}
+use Rattle.cast_events.specs.Outs.{no_outs}
 use Rattle.cast_table.specs.declared.table.Table.{Table}
 use Rattle.cast_table.specs.Tables.{domains_of, lent, IsApplied, IsUnchanged, NotesHalts}
 use Rattle.cast_table.specs.Copies.{IsCopyOf}

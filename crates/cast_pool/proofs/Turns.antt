@@ -3,17 +3,17 @@ use Rattle.std.proofs.Common.{◌≡◌, ◌≢◌, Bool, true, false, ◌||◌,
 use Rattle.std.proofs.lemmas.Bool.{false≢true, or_left}
 use Rattle.cast_types.specs.declared.names.DomainNo.{DomainNo}
 use Rattle.cast_types.specs.declared.refusal.Refusal.TheVariants as refusal
-use Rattle.cast_model.specs.declared.event.Event.{Event}
-use Rattle.cast_model.specs.declared.event.Taken.{Taken}
-use Rattle.cast_model.specs.declared.event.Taken.TheVariants as taken
-use Rattle.cast_model.specs.declared.log.Fault.{Fault}
-use Rattle.cast_model.specs.declared.log.Fault.TheVariants.{NoMemory, Halted, NoDomain}
-use Rattle.cast_history.specs.State.{State}
+use Rattle.cast_events.specs.declared.event.Event.{Event}
+use Rattle.cast_events.specs.declared.event.Taken.{Taken}
+use Rattle.cast_events.specs.declared.event.Taken.TheVariants as taken
+use Rattle.cast_events.specs.declared.log.Fault.{Fault}
+use Rattle.cast_events.specs.declared.log.Fault.TheVariants.{NoMemory, Halted, NoDomain}
+use Rattle.cast_rules.specs.State.{State}
 use Rattle.cast_domain.specs.declared.domain.Domain.{Domain}
 use Rattle.cast_domain.specs.declared.shared.Shared.{Shared}
 use Rattle.cast_domain.specs.Records.{number_of, is_halted}
 use Rattle.cast_domain.specs.Shared.{Part, part_of}
-use Rattle.cast_domain.specs.Fits.{Means}
+use Rattle.cast_domain.specs.Fits.{Represents}
 use Rattle.cast_table.specs.Tables.{domain_eq, IsTurn, Lent, halted_by}
 use Rattle.cast_table.specs.Owns.{names, is_own}
 use Rattle.cast_table.proofs.Parts.{domain_itself, other_unnamed, named_own}

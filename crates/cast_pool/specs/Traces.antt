@@ -3,18 +3,18 @@ use Rattle.std.specs.Prelude.{◌≡◌, ◌≤◌, ℕ, Bool, true, false, List
 use Rattle.std.specs.List.{list_any}
 use Rattle.cast_types.specs.declared.names.DomainNo.{DomainNo}
 use Rattle.cast_types.specs.declared.refusal.Refusal.TheVariants as refusal
-use Rattle.cast_model.specs.declared.event.Event.{Event}
-use Rattle.cast_model.specs.declared.event.Taken.{Taken}
-use Rattle.cast_model.specs.declared.event.Taken.TheVariants as taken
-use Rattle.cast_model.specs.declared.log.Fault.{Fault}
-use Rattle.cast_model.specs.declared.log.Fault.TheVariants as fault
-use Rattle.cast_model.specs.Events.{domain_of}
-use Rattle.cast_history.specs.State.{State}
-use Rattle.cast_history.specs.Run.{IsStep}
+use Rattle.cast_events.specs.declared.event.Event.{Event}
+use Rattle.cast_events.specs.declared.event.Taken.{Taken}
+use Rattle.cast_events.specs.declared.event.Taken.TheVariants as taken
+use Rattle.cast_events.specs.declared.log.Fault.{Fault}
+use Rattle.cast_events.specs.declared.log.Fault.TheVariants as fault
+use Rattle.cast_events.specs.Events.{domain_of}
+use Rattle.cast_rules.specs.State.{State}
+use Rattle.cast_rules.specs.Run.{IsStep}
 use Rattle.cast_domain.specs.declared.domain.Domain.{Domain}
 use Rattle.cast_domain.specs.Records.{is_halted}
 use Rattle.cast_domain.specs.Shared.{Part}
-use Rattle.cast_domain.specs.Fits.{Means}
+use Rattle.cast_domain.specs.Fits.{Represents}
 use Rattle.cast_table.specs.Tables.{domain_eq, IsLeast}
 use Rattle.cast_table.specs.Owns.{names, is_own}
 use Rattle.cast_pool.specs.declared.trail.Noted.{Noted}
@@ -41,7 +41,7 @@ noted_of (Err fault.NoDomain) = None
 
 -- what a domain stands for, with its part of what is shared: a history, or, where want of memory has halted it, none
 abbrev pub StandsFor : Domain → Part → Option State → Type 0
-StandsFor d part (Some s) = (is_halted d ≡ false) × Means d part s
+StandsFor d part (Some s) = (is_halted d ≡ false) × Represents d part s
 StandsFor d part None = is_halted d ≡ true
 
 -- an entry says that a domain was halted at its event

@@ -5,7 +5,7 @@ ghost use Rattle.cast_types.specs.Names.{group_cmp};
 ghost use Rattle.cast_types.specs.Rising.{is_rising};
 ghost use Rattle.cast_table.specs.Owns.{are_distinct, have_rising_groups, is_configured};
 
-use cast_model::{Config, DomainConfig};
+use cast_events::{Config, DomainConfig};
 use cast_types::{DomainNo, GroupNo};
 
 /// Whether a table of this configuration can be kept: no two domains have one number, and each names its groups in rising

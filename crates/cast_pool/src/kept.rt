@@ -6,9 +6,9 @@ ghost use Rattle.cast_pool.specs.Served.{IsDone, IsTrimmed, Serves};
 ghost use Rattle.cast_pool.specs.Tasks.{IsUndecoded, task_of};
 
 use crate::task::{Asked, Outcome, Raw, Task};
-use crate::trail::{Entry, Trail, filled, note_of};
+use crate::trail::{Entry, Trail, fill, note_of};
+use cast_events::{Config, Event, Fault, Outs, Taken};
 use cast_frame::decode_site;
-use cast_model::{Config, Event, Fault, Outs, Taken};
 use cast_table::Table;
 use cast_types::{NoMemory, Refusal};
 use std::alloc::Global;
@@ -116,7 +116,7 @@ impl Done {
 
 impl<L: Ledger> Worked<L> {
     /// How many events it took.
-    pub fn taken(&self) -> u64
+    pub fn event_count(&self) -> u64
         ensures { result ≡ self.now.taken }
     {
         self.taken
@@ -287,7 +287,7 @@ impl<L: Ledger> Kept<L> {
             share,
         } = mine;
         self.book.audit(share);
-        let halted = filled(room.halted, outs.halted.as_slice());
+        let halted = fill(room.halted, outs.halted.as_slice());
         self.trail.add(
             room.base,
             Entry {

@@ -1,18 +1,12 @@
 //! The table that workers share under a lock, the trace of its events, and the workers.
 //!
 //! Promised: whenever the lock is held, the trace leads from what the base stands for to what the
-//! table stands for (`Kept`). For each domain, its events are steps of a daemon that serves it
-//! alone, each with the answer that is kept, until it ran out of memory. Only `Kept::serve_one`
-//! adds to the trace. When the trace has 4,096 events, it copies the table as the new base and
-//! begins the trace anew. Each worker counts its events, and the table counts all. The two are
-//! equal once all shares are joined (`Kept::total`).
+//! table stands for (`Kept`). Only `Kept::serve_one` adds to the trace. At 4,096 events it copies
+//! the table as the new base and begins the trace anew. Each worker counts its events and the
+//! table counts all; the two are equal once all shares are joined (`Kept::total`).
 //!
 //! Not promised: who gets the lock first, that a job arrives or is answered, and the order of
 //! answers.
-//!
-//! The definitions are in `specs/`: `Traces` has what a trace says of each domain, `Kept` what
-//! contracts see of the shared table, `Served` what becomes of a job, and `Tasks` what is to be
-//! done on a request.
 #![tactic(auto)]
 
 pub mod configured;

@@ -1,6 +1,6 @@
 use bytes::Bytes;
+use cast_events::{Event, Fault, Outs, Taken};
 use cast_field::FrameFault;
-use cast_model::{Event, Fault, Outs, Taken};
 use cast_table::Shown;
 use cast_types::DomainNo;
 

@@ -5,9 +5,9 @@ ghost use Rattle.cast_pool.specs.Traces.{noted_of};
 ghost use Rattle.cast_pool.specs.Room.{HasPlace, HasRoom, base_then, count_then, items_then};
 
 use crate::limits::MAX_TRACE;
-use cast_model::{Event, Fault, Taken};
+use cast_events::{Event, Fault, Taken};
 use cast_table::Table;
-use cast_types::{DomainNo, Listed, NoMemory, Refusal};
+use cast_types::{DomainNo, List, NoMemory, Refusal};
 use std::alloc::Global;
 
 /// What an event was answered, as a trace keeps it.
@@ -29,7 +29,7 @@ pub struct Entry {
     pub event: Event,
     pub answer: Noted,
     /// The domains that the event halted, in the order of their numbers.
-    pub halted: Listed<DomainNo>,
+    pub halted: List<DomainNo>,
 }
 
 /// The events that were taken since the trace was trimmed last.
@@ -64,14 +64,14 @@ pub(crate) fn note_of(answer: &Result<Taken, Fault>) -> Option<Noted>
 }
 
 /// The halted domains, in the room that there is for them. Takes no memory.
-pub(crate) fn filled(room: Vec<DomainNo>, halted: &[DomainNo]) -> Listed<DomainNo>
+pub(crate) fn fill(room: Vec<DomainNo>, halted: &[DomainNo]) -> List<DomainNo>
     requires empty { room.items ≡ [] }
     requires room { length halted.now ≤ vec_capacity room }
     ensures { result ≡ halted.now }
 {
     let mut room = room;
     room.extend_from_slice(halted).unwrap();
-    Listed::from_vec(room)
+    List::from_vec(room)
 }
 
 impl Trail {

@@ -16,12 +16,12 @@ use Rattle.cast_message.specs.declared.site.SiteFrame.{SiteFrame}
 use Rattle.cast_message.specs.Membership.{Membership}
 use Rattle.cast_message.specs.Replies.{reply_code}
 use Rattle.cast_frame.specs.Spelling.{spelled_site}
-use Rattle.cast_model.specs.declared.event.Taken.{Taken}
-use Rattle.cast_model.specs.declared.event.Taken.TheVariants as taken
-use Rattle.cast_model.specs.declared.log.Fault.{Fault}
-use Rattle.cast_model.specs.declared.log.Fault.TheVariants as fault
-use Rattle.cast_model.specs.declared.log.Given.{Given}
-use Rattle.cast_model.specs.declared.log.Log.{Log}
+use Rattle.cast_events.specs.declared.event.Taken.{Taken}
+use Rattle.cast_events.specs.declared.event.Taken.TheVariants as taken
+use Rattle.cast_events.specs.declared.log.Fault.{Fault}
+use Rattle.cast_events.specs.declared.log.Fault.TheVariants as fault
+use Rattle.cast_events.specs.declared.log.Given.{Given}
+use Rattle.cast_events.specs.declared.log.Log.{Log}
 
 -- the texts of a list's items, which are numbered from n on
 abbrev pub numbered : {X : Type 0} → (ℕ → X → List ℕ) → ℕ → List X → List ℕ

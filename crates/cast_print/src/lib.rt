@@ -1,8 +1,7 @@
-//! The printed log of a daemon: what it answered, what it pushed to its programs and what it sent to other sites.
+//! The printed log of a daemon: what it answered, pushed and sent.
 //!
-//! Promised: the text that is printed is that of the log (`print`).
-//!
-//! The definition is in `specs/Texts.antt`.
+//! Promised: `print` returns exactly the text of the log. The definition is in
+//! `specs/Texts.antt`.
 #![tactic(auto)]
 
 mod log;

@@ -3,10 +3,10 @@ ghost use Rattle.std.specs.List.{flat_map};
 ghost use Rattle.std.specs.String.{string_bytes};
 ghost use Rattle.cast_print.specs.Texts.{answer_line, frame_line, given_text, halted_text, kind_text, log_text, member_text, members_text, numbered, payload_text, proc_text, push_line, push_text, session_text, uid_text};
 
+use cast_events::{Fault, Given, Log, Taken};
 use cast_frame::encode_site;
-use cast_message::{CastKind, Members, Push, SiteFrame};
-use cast_model::{Fault, Given, Log, Taken};
-use cast_types::{DomainNo, Listed, NoMemory, Proc, Refusal, SiteNo, Uid};
+use cast_message::{CastKind, Membership, Push, SiteFrame};
+use cast_types::{DomainNo, List, NoMemory, Proc, Refusal, SiteNo, Uid};
 use std::alloc::Global;
 
 /// The text of a log at a site: the refused events, and then for each domain its pushes, its frames and whether it
@@ -69,7 +69,7 @@ fn print_sessions(
     alloc: Global,
     text: &mut String,
     domain: DomainNo,
-    sessions: &[Listed<Push>],
+    sessions: &[List<Push>],
 ) -> Result<(), NoMemory>
     ensures { OnOk result (string_bytes text.new ≡ string_bytes text.old ++ numbered (session_text domain) 1 sessions.now) }
 {
@@ -161,7 +161,7 @@ fn print_reply(text: &mut String, tag: u32, refusal: Option<Refusal>) -> Result<
 }
 
 // ` holder 1.1 members 1.1 2.1`
-fn print_members(text: &mut String, members: &Members) -> Result<(), NoMemory>
+fn print_members(text: &mut String, members: &Membership) -> Result<(), NoMemory>
     ensures { OnOk result (string_bytes text.new ≡ string_bytes text.old ++ members_text members.now) }
 {
     if let Some(holder) = members.holder() {

@@ -1,10 +1,7 @@
 //! What a domain may use of its daemon.
 //!
-//! Promised: the tests of `Quotas` are those of its definitions, and `set` gives one quota another value exactly where
-//! that is in its range, and else refuses it and changes nothing. No call takes memory.
-//!
-//! The definitions are in `specs/Quotas.antt`: the range of each quota, the quotas with another value of one, and the
-//! three tests.
+//! Promised: the tests of `Quotas` are those of the definitions. `set` changes one quota exactly
+//! within its range, and otherwise refuses and changes nothing. No call takes memory.
 #![tactic(auto)]
 
 pub mod limits;

@@ -9,7 +9,7 @@ use Rattle.cast_device.specs.Watching.{HasFailedOrStalled}
 use Rattle.cast_device.specs.Writing.{WrotePart}
 use Rattle.cast_script.specs.declared.script.ScriptFault.{ScriptFault}
 use Rattle.cast_script.specs.declared.script.ScriptFault.TheVariants as script
-use Rattle.cast_words.specs.Reasons.{reason_text}
+use Rattle.cast_script.specs.Reasons.{reason_text}
 use Rattle.cast_print.specs.Texts.{line_feed}
 use Rattle.cast_replay.specs.declared.run.RunFault.{RunFault}
 use Rattle.cast_replay.specs.declared.run.RunFault.TheVariants.{Unreadable, BadLine, NoMemory}

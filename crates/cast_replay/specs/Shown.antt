@@ -1,6 +1,6 @@
 -- What is printed of a script.
 use Rattle.std.specs.Prelude.{◌≡◌, ℕ, List, Ok}
-use Rattle.cast_model.specs.declared.log.Log.{Log}
+use Rattle.cast_events.specs.declared.log.Log.{Log}
 use Rattle.cast_isolation.specs.Replays.{IsReplay}
 use Rattle.cast_script.specs.declared.script.Script.{Script}
 use Rattle.cast_script.specs.Readings.{script_of}

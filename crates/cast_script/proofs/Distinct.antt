@@ -10,10 +10,10 @@ use Rattle.cast_types.specs.declared.names.GroupNo.{GroupNo}
 use Rattle.cast_types.specs.declared.names.SiteNo.{SiteNo}
 use Rattle.cast_types.specs.Names.{group_cmp}
 use Rattle.cast_types.specs.Rising.{is_rising}
-use Rattle.cast_model.specs.declared.config.Config.{Config}
-use Rattle.cast_model.specs.declared.config.DomainConfig.{DomainConfig}
-use Rattle.cast_lines.specs.Lines.{IsDomainAt}
-use Rattle.cast_words.specs.Words.{is_configured, rises_from}
+use Rattle.cast_events.specs.declared.config.Config.{Config}
+use Rattle.cast_events.specs.declared.config.DomainConfig.{DomainConfig}
+use Rattle.cast_script.specs.Lines.{IsDomainAt}
+use Rattle.cast_script.specs.Words.{is_configured, rises_from}
 use Rattle.cast_script.specs.Scripts.{HasDomains, are_distinct, have_rising_groups}
 
 -- ---- different numbers

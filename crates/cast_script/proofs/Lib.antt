@@ -1,3 +1,11 @@
+pub mod Results
+pub mod Each
+pub mod Numbers
+pub mod Named
+pub mod Parts
+pub mod Processes
+pub mod Heads
+pub mod LineSpelled
 pub mod Distinct
-pub mod Lines
+pub mod ScriptLines
 pub mod Spelled

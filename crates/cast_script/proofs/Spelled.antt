@@ -3,24 +3,24 @@ use Rattle.std.proofs.Common.{◌≡◌, ◌≢◌, ℕ, ◌<◌, ◌≤◌, tru
 use Rattle.std.specs.List.{AllByRecursion, AllZip}
 use Rattle.std.proofs.lemmas.List.{append-nil}
 use Rattle.cast_types.specs.declared.names.SiteNo.{SiteNo}
-use Rattle.cast_model.specs.declared.config.DomainConfig.{DomainConfig}
-use Rattle.cast_model.specs.declared.event.Event.{Event}
-use Rattle.cast_words.specs.declared.words.Reason.{Reason}
-use Rattle.cast_lines.specs.declared.lines.DomainOrEvent.{DomainOrEvent}
-use Rattle.cast_lines.specs.declared.lines.DomainOrEvent.TheVariants as said
+use Rattle.cast_events.specs.declared.config.DomainConfig.{DomainConfig}
+use Rattle.cast_events.specs.declared.event.Event.{Event}
+use Rattle.cast_script.specs.declared.words.Reason.{Reason}
+use Rattle.cast_script.specs.declared.lines.DomainOrEvent.{DomainOrEvent}
+use Rattle.cast_script.specs.declared.lines.DomainOrEvent.TheVariants as said
 use Rattle.cast_script.specs.declared.script.Script.{Script}
 use Rattle.cast_script.specs.declared.script.ScriptFault.{ScriptFault}
 use Rattle.cast_script.specs.Scripts.{HasDomains, SpellsParts, SpellsScript, are_distinct, used_lines_of}
-use Rattle.cast_lines.specs.Lines.{IsDomainAt, SpellsEvent, SpellsSite, words_of}
-use Rattle.cast_words.specs.Words.{IsBetween, parted}
+use Rattle.cast_script.specs.Lines.{IsDomainAt, SpellsEvent, SpellsSite, words_of}
+use Rattle.cast_script.specs.Words.{IsBetween, parted}
 use Rattle.cast_script.specs.Readings.{GivesAt, Numbered, at_line, domain_or_event_at, domains_on, event_at, events_from, events_on, no_events, script_of, site_at, site_on}
-use Rattle.cast_lines.specs.Readings.{domain_or_event, event_line, site_line}
-use Rattle.cast_words.specs.Readings.{each}
+use Rattle.cast_script.specs.LineReadings.{domain_or_event, event_line, site_line}
+use Rattle.cast_script.specs.WordReadings.{each}
 use Rattle.cast_script.specs.Laws.{ReadIsSpelled, SpelledIsRead}
-use Rattle.cast_words.proofs.Results.{bind_ok, ok_is}
+use Rattle.cast_script.proofs.Results.{bind_ok, ok_is}
 use Rattle.cast_script.proofs.Distinct.{distinct_more, distinct_new}
-use Rattle.cast_script.proofs.Lines.{line_ok, used_from, used_texts}
-use Rattle.cast_lines.proofs.Spelled.{IsNext, site_line_is, site_line_again, domain_or_event_is, domain_again_behind, event_again_behind, event_line_is, event_line_again}
+use Rattle.cast_script.proofs.ScriptLines.{line_ok, used_from, used_texts}
+use Rattle.cast_script.proofs.LineSpelled.{IsNext, site_line_is, site_line_again, domain_or_event_is, domain_again_behind, event_again_behind, event_line_is, event_line_again}
 
 abbrev Spells : List Numbered → List Event → Type 0
 Spells lines events = AllZip (λ line e. SpellsEvent (words_of line) e) (map (λ l. l.1) lines) events

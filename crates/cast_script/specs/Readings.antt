@@ -1,22 +1,22 @@
 -- Reading a script from its bytes: what it says, or the line of its first fault with the reason.
 use Rattle.std.specs.Prelude.{◌≡◌, ℕ, ◌+◌, ◌==◌, if◌then◌else◌, List, [], ◌∷◌, ◌++◌, length, filter, Result, Ok, Err}
 use Rattle.cast_types.specs.declared.names.SiteNo.{SiteNo}
-use Rattle.cast_model.specs.declared.config.DomainConfig.{DomainConfig}
-use Rattle.cast_model.specs.declared.event.Event.{Event}
-use Rattle.cast_words.specs.declared.words.Reason.{Reason}
-use Rattle.cast_words.specs.declared.words.Reason.TheVariants.{Order}
-use Rattle.cast_words.specs.declared.words.LineFault.{LineFault}
-use Rattle.cast_words.specs.declared.words.LineFault.TheVariants as fault
-use Rattle.cast_lines.specs.declared.lines.DomainOrEvent.{DomainOrEvent}
-use Rattle.cast_lines.specs.declared.lines.DomainOrEvent.TheVariants as said
+use Rattle.cast_events.specs.declared.config.DomainConfig.{DomainConfig}
+use Rattle.cast_events.specs.declared.event.Event.{Event}
+use Rattle.cast_script.specs.declared.words.Reason.{Reason}
+use Rattle.cast_script.specs.declared.words.Reason.TheVariants.{Order}
+use Rattle.cast_script.specs.declared.words.LineFault.{LineFault}
+use Rattle.cast_script.specs.declared.words.LineFault.TheVariants as fault
+use Rattle.cast_script.specs.declared.lines.DomainOrEvent.{DomainOrEvent}
+use Rattle.cast_script.specs.declared.lines.DomainOrEvent.TheVariants as said
 use Rattle.cast_script.specs.declared.script.Script.{Script}
 use Rattle.cast_script.specs.declared.script.ScriptFault.{ScriptFault}
 use Rattle.cast_script.specs.declared.script.ScriptFault.TheVariants as script
 use Rattle.cast_script.specs.declared.script.Line.{Line}
 use Rattle.cast_script.specs.Scripts.{is_used}
-use Rattle.cast_words.specs.Words.{parted}
-use Rattle.cast_words.specs.Readings.{◌>>=◌, each}
-use Rattle.cast_lines.specs.Readings.{site_line, domain_or_event, event_line}
+use Rattle.cast_script.specs.Words.{parted}
+use Rattle.cast_script.specs.WordReadings.{◌>>=◌, each}
+use Rattle.cast_script.specs.LineReadings.{site_line, domain_or_event, event_line}
 
 -- what a function returned of lines is what reading gives, unless memory ran out; a fault has the number of its line
 abbrev pub GivesAt : {X : Type 0} → Result X ScriptFault → Result X (ℕ × Reason) → Type 0

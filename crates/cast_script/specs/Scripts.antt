@@ -5,11 +5,11 @@ use Rattle.cast_types.specs.declared.names.SiteNo.{SiteNo}
 use Rattle.cast_types.specs.Names.{group_cmp}
 use Rattle.cast_types.specs.Rising.{is_rising}
 use Rattle.cast_script.specs.declared.script.Script.{Script}
-use Rattle.cast_model.specs.declared.config.DomainConfig.{DomainConfig}
-use Rattle.cast_model.specs.declared.config.Config.{Config}
-use Rattle.cast_model.specs.declared.event.Event.{Event}
-use Rattle.cast_lines.specs.Lines.{IsDomainAt, words_of, SpellsSite, SpellsDomain, SpellsEvent}
-use Rattle.cast_words.specs.Words.{IsBetween, is_configured, parted}
+use Rattle.cast_events.specs.declared.config.DomainConfig.{DomainConfig}
+use Rattle.cast_events.specs.declared.config.Config.{Config}
+use Rattle.cast_events.specs.declared.event.Event.{Event}
+use Rattle.cast_script.specs.Lines.{IsDomainAt, words_of, SpellsSite, SpellsDomain, SpellsEvent}
+use Rattle.cast_script.specs.Words.{IsBetween, is_configured, parted}
 
 -- no two domains have one number
 abbrev pub are_distinct : List DomainConfig → Bool

@@ -1,15 +1,20 @@
 //! Scripts, which say how a daemon is configured and what happens to it.
 //!
-//! Promised: a text is read as the one script that its lines spell within the limits; where they spell none, it is refused
-//! for the first fault of the first line that has one (`parse`, `laws`).
-//!
-//! The definitions are in `specs/`: `Scripts` (what spells what), `Readings` (what a text is read as, from its first line on)
-//! and `Laws` (that the two agree). What words and lines spell, and what they are read as, stands in `cast_words` and
-//! `cast_lines`.
+//! Promised: `parse` reads a text as the one script that its lines spell within the limits, or
+//! reports the first fault of the first line that has one (`laws`). The functions of `words` and
+//! `domain` read a word, and the words that describe a domain, the same way.
 #![tactic(auto)]
 
+pub mod domain;
+mod events;
 pub mod laws;
+mod lines;
 pub mod script;
+pub mod words;
 
-pub use cast_words::Reason;
+pub use domain::{list_words, place_words, quota_words};
 pub use script::{Script, ScriptFault, parse};
+pub use words::{
+    LineFault, Reason, bytes_word, domain_word, group_word, long_number, number, proc_word,
+    quota_name_word, site_word,
+};

@@ -1,14 +1,14 @@
 ghost use Rattle.std.specs.Prelude.{◌≡◌, [], IfOk, filter, map};
-ghost use Rattle.cast_words.specs.Words.{parted, texts};
+ghost use Rattle.cast_script.specs.Words.{parted, texts};
 ghost use Rattle.cast_script.specs.Scripts.{HasDomains, is_used as is_used_text};
 ghost use Rattle.cast_script.specs.Readings.{GivesAt, domain_or_event_at, domains_on, end_after, event_at, events_from, events_on, fault_at, no_events, numbered_line, script_of, site_at, site_on, used_of};
-ghost use Rattle.cast_words.specs.declared.words.Reason.TheVariants.{Order};
+ghost use Rattle.cast_script.specs.declared.words.Reason.TheVariants.{Order};
 ghost use Rattle.cast_script.specs.declared.script.ScriptFault.TheVariants.{At, NoMemory};
 
-use cast_lines::{DomainOrEvent, domain_or_event, event_line, site_line};
-use cast_model::{Config, DomainConfig, Event};
-use cast_types::{Listed, NoMemory, SiteNo};
-use cast_words::{LineFault, Reason};
+use crate::lines::{DomainOrEvent, domain_or_event, event_line, site_line};
+use crate::words::{LineFault, Reason};
+use cast_events::{Config, DomainConfig, Event};
+use cast_types::{List, NoMemory, SiteNo};
 use std::alloc::{AllocError, AllocFailed, Global};
 use thiserror::Error;
 
@@ -16,7 +16,7 @@ use thiserror::Error;
 #[derive(Drop)]
 pub struct Script {
     pub config: Config,
-    pub events: Listed<Event>,
+    pub events: List<Event>,
 }
 
 /// What is wrong with a script.
@@ -105,7 +105,7 @@ fn parse_domains(
 ) -> Result<Script, ScriptFault>
     ensures { GivesAt result (domains_on site end [] (map numbered_line lines.now)) }
 {
-    let mut domains = Listed::new(alloc);
+    let mut domains = List::new(alloc);
     for (index, line) in lines.iter().enumerate() {
         match domain_or_event_at(alloc, line, site, domains.as_slice())? {
             DomainOrEvent::Domain(domain) => domains.push(domain)?,
@@ -122,7 +122,7 @@ fn parse_domains(
 fn eventless(
     alloc: Global,
     site: SiteNo,
-    domains: Listed<DomainConfig>,
+    domains: List<DomainConfig>,
     end: usize,
 ) -> Result<Script, ScriptFault>
     ensures { GivesAt result (no_events site end domains) }
@@ -132,7 +132,7 @@ fn eventless(
     }
     Ok(Script {
         config: Config { site, domains },
-        events: Listed::new(alloc),
+        events: List::new(alloc),
     })
 }
 
@@ -142,7 +142,7 @@ fn parse_events(
     alloc: Global,
     lines: &[Line<'_>],
     site: SiteNo,
-    domains: Listed<DomainConfig>,
+    domains: List<DomainConfig>,
     first: Event,
 ) -> Result<Script, ScriptFault>
     ensures { GivesAt result (events_on site domains first (map numbered_line lines.now)) }
@@ -165,7 +165,7 @@ fn missing(end: usize) -> ScriptFault
 }
 
 // The site of a line.
-#[tactic(auto, using(crate::proofs::Lines::fault_gives), unfolding(crate::specs::Readings::site_at))]
+#[tactic(auto, using(crate::proofs::ScriptLines::fault_gives), unfolding(crate::specs::Readings::site_at))]
 fn site_at(alloc: Global, line: &Line<'_>) -> Result<SiteNo, ScriptFault>
     ensures { GivesAt result (site_at (numbered_line line.now)) }
 {
@@ -176,7 +176,7 @@ fn site_at(alloc: Global, line: &Line<'_>) -> Result<SiteNo, ScriptFault>
 }
 
 // One more domain at this site, or the first event, of a line behind these domains.
-#[tactic(auto, using(crate::proofs::Lines::fault_gives), unfolding(crate::specs::Readings::domain_or_event_at))]
+#[tactic(auto, using(crate::proofs::ScriptLines::fault_gives), unfolding(crate::specs::Readings::domain_or_event_at))]
 fn domain_or_event_at(
     alloc: Global,
     line: &Line<'_>,
@@ -192,7 +192,7 @@ fn domain_or_event_at(
 }
 
 // The event of a line.
-#[tactic(auto, using(crate::proofs::Lines::fault_gives), unfolding(crate::specs::Readings::event_at))]
+#[tactic(auto, using(crate::proofs::ScriptLines::fault_gives), unfolding(crate::specs::Readings::event_at))]
 fn event_at(alloc: Global, line: &Line<'_>) -> Result<Event, ScriptFault>
     ensures { GivesAt result (event_at (numbered_line line.now)) }
 {
@@ -203,14 +203,10 @@ fn event_at(alloc: Global, line: &Line<'_>) -> Result<Event, ScriptFault>
 }
 
 // The first event, and that of each line.
-fn events_from(
-    alloc: Global,
-    first: Event,
-    lines: &[Line<'_>],
-) -> Result<Listed<Event>, ScriptFault>
+fn events_from(alloc: Global, first: Event, lines: &[Line<'_>]) -> Result<List<Event>, ScriptFault>
     ensures { GivesAt result (events_from first (map numbered_line lines.now)) }
 {
-    let mut events = Listed::new(alloc);
+    let mut events = List::new(alloc);
     events.push(first)?;
     for line in lines {
         events.push(event_at(alloc, line)?)?;

@@ -5,7 +5,7 @@ use cast_device::Watched;
 use cast_message::{Command, Push};
 use cast_pool::Asked;
 use cast_session::{InEnd, Sink, pump_in, pump_out};
-use cast_types::{DomainNo, Listed, NoMemory, Refusal};
+use cast_types::{DomainNo, List, NoMemory, Refusal};
 use crossbeam_channel::Receiver;
 use std::alloc::{AllocError, Global};
 use std::io;
@@ -117,7 +117,7 @@ fn run_writer<R: Wait>(
     shared: &Shared<'_>,
     stream: &UnixStream,
     session: Session,
-    batches: &Receiver<Listed<Push>>,
+    batches: &Receiver<List<Push>>,
 ) -> io::Result<()> {
     let mut writer = Watched::new(BufWriter::new(shared.alloc, stream)?);
     for entries in batches.iter(rt) {
@@ -136,7 +136,7 @@ fn write_and_close<R: Wait>(
     shared: &Shared<'_>,
     stream: UnixStream,
     session: Session,
-    batches: Receiver<Listed<Push>>,
+    batches: Receiver<List<Push>>,
 ) {
     let _ = run_writer(rt, shared, &stream, session, &batches);
     shared.desk.lock(rt).end(session);
@@ -164,7 +164,7 @@ fn open<R: Wait>(rt: &R, shared: &Shared<'_>, domain: DomainNo) -> Result<Openin
 #[derive(Drop)]
 struct Admitted {
     turn: Receiver<()>,
-    batches: Receiver<Listed<Push>>,
+    batches: Receiver<List<Push>>,
     writing: UnixStream,
 }
 
@@ -176,7 +176,7 @@ fn admit<R: Wait>(
     session: Session,
 ) -> io::Result<Option<Admitted>> {
     let (to_turn, turn) = crossbeam_channel::bounded::<(), Global>(shared.alloc, 1)?;
-    let (to_writer, batches) = crossbeam_channel::bounded::<Listed<Push>, Global>(shared.alloc, 1)?;
+    let (to_writer, batches) = crossbeam_channel::bounded::<List<Push>, Global>(shared.alloc, 1)?;
     stream.set_write_timeout(Some(Duration::from_secs(PATIENCE)))?;
     let writing = stream.try_clone()?;
     let client = Client::new(to_turn, to_writer, stream.try_clone()?);

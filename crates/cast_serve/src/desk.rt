@@ -1,9 +1,9 @@
 //! Who waits for which answer, which sessions have a Take on the way, and which are still to end.
 use crate::report::Report;
+use cast_events::Event;
 use cast_message::{Command, Push};
-use cast_model::Event;
 use cast_pool::{Asked, Raw};
-use cast_types::{DomainNo, Listed, NoMemory, Refusal};
+use cast_types::{DomainNo, List, NoMemory, Refusal};
 use crossbeam_channel::Sender;
 use std::alloc::{AllocError, Global};
 use std::collections::BTreeMap;
@@ -82,7 +82,7 @@ pub struct Client {
     // Tells its reader to go on. Without it the reader ends.
     turn: Option<Sender<()>>,
     // Hands its writer what was taken.
-    writer: Sender<Listed<Push>>,
+    writer: Sender<List<Push>>,
     // A second handle of its stream.
     stream: UnixStream,
     stage: Stage,
@@ -96,7 +96,7 @@ pub struct Client {
 
 impl Client {
     /// A program of which nothing was taken. Each channel has room for one message, which is the most that lies in it.
-    pub fn new(turn: Sender<()>, writer: Sender<Listed<Push>>, stream: UnixStream) -> Self {
+    pub fn new(turn: Sender<()>, writer: Sender<List<Push>>, stream: UnixStream) -> Self {
         Client {
             turn: Some(turn),
             writer,
@@ -157,7 +157,7 @@ impl Client {
     }
 
     // Its writer gets what was taken. One that cannot get it ends.
-    fn write<R: Wait>(&mut self, rt: &R, entries: Listed<Push>) {
+    fn write<R: Wait>(&mut self, rt: &R, entries: List<Push>) {
         self.stage = Stage::Writing;
         if self.writer.send(rt, entries).is_err() {
             self.end();
@@ -371,7 +371,7 @@ impl Desk {
     }
 
     /// What was taken of a session's outbox goes to its writer.
-    pub fn taken<R: Wait>(&mut self, rt: &R, session: Session, entries: Listed<Push>) {
+    pub fn taken<R: Wait>(&mut self, rt: &R, session: Session, entries: List<Push>) {
         let is_empty = entries.is_empty();
         if let Some(client) = self.clients.get_mut(&session) {
             client.emptied(rt);

@@ -2,8 +2,8 @@
 use crate::client::Shared;
 use crate::desk::{Desk, Opening, Purpose, Seat, Session};
 use crate::report::Report;
+use cast_events::{Fault, Outs, Taken};
 use cast_link::{Wire, send_all};
-use cast_model::{Fault, Outs, Taken};
 use cast_pool::{Done, Outcome};
 use cast_types::{DomainNo, Refusal, SiteNo};
 use crossbeam_channel::Receiver;

@@ -2,11 +2,7 @@
 //!
 //! One reader per program hands its commands to the workers, one at a time. The workers serve
 //! events under the lock of the shared table. A dispatcher sends the frames and distributes the
-//! pushes, and one writer per program writes them. `serve` runs all of this until the console
-//! says `stop`.
-//!
-//! Promised: every call is safe. `cast_pool` says what holds of the table, `cast_session` of a
-//! program's bytes, `cast_link` of datagrams, and `cast_console` of the console.
+//! pushes, and one writer per program writes them. Promised: every call is safe.
 #![tactic(auto)]
 
 mod client;

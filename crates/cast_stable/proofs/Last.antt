@@ -10,7 +10,7 @@ use Rattle.cast_types.specs.Names.{uid_eq, named}
 use Rattle.cast_types.specs.Sets.{is_among}
 use Rattle.cast_types.specs.Sources.{source_of}
 use Rattle.cast_stable.specs.Runs.{Run, contains, greatest}
-use Rattle.cast_stable.specs.Ledger.{Ledger, received_run, last_received_in}
+use Rattle.cast_stable.specs.Acks.{Acks, received_run, last_received_in}
 use Rattle.cast_stable.specs.Fits.{Past, Fits, SaysLast}
 
 -- the greatest number is at least the first and each of the others
@@ -58,17 +58,17 @@ greatest_in r some = elim (greatest_reached r.upto r.above) [
 ]
 
 -- no message of a live source that was received is beyond the last count
-pub last_most : (past : Past) (l : Ledger) → Fits past l → (u : Uid) → past.is_live (source_of u) ≡ true → 0 < u.count → is_among uid_eq u past.received ≡ true → u.count ≤ last_received_in l (source_of u)
+pub last_most : (past : Past) (l : Acks) → Fits past l → (u : Uid) → past.is_live (source_of u) ≡ true → 0 < u.count → is_among uid_eq u past.received ≡ true → u.count ≤ last_received_in l (source_of u)
 last_most past l fits u live positive among =
     greatest_most (received_run l (source_of u)) u.count (fits.receipts u live positive ∙ among)
 
 -- and one with that count was received, unless it is 0
-pub last_each : (past : Past) (l : Ledger) → Fits past l → (s : Source) → past.is_live s ≡ true → 0 < last_received_in l s → is_among uid_eq (named s.group s.view (s.process, last_received_in l s)) past.received ≡ true
+pub last_each : (past : Past) (l : Acks) → Fits past l → (s : Source) → past.is_live s ≡ true → 0 < last_received_in l s → is_among uid_eq (named s.group s.view (s.process, last_received_in l s)) past.received ≡ true
 last_each past l fits s live some =
     sym (fits.receipts (named s.group s.view (s.process, last_received_in l s)) live some) ∙ greatest_in (received_run l s) some
 
 -- what the ledger answers means that
-pub last_means : (l : Ledger) (s : Source) (last : ℕ) → last ≡ last_received_in l s → (past : Past) → Fits past l → past.is_live s ≡ true → SaysLast past.received s last
+pub last_means : (l : Acks) (s : Source) (last : ℕ) → last ≡ last_received_in l s → (past : Past) → Fits past l → past.is_live s ≡ true → SaysLast past.received s last
 last_means l s last is past fits live =
     subst (λ n. SaysLast past.received s n) (sym is)
     (record {

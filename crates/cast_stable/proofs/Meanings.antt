@@ -20,7 +20,7 @@ use Rattle.cast_stable.specs.declared.witness.Witness.{Witness}
 use Rattle.cast_stable.specs.Runs.{no_counts, is_run, contains, inserted}
 use Rattle.cast_stable.specs.Witnesses.{witness_cmp, witness}
 use Rattle.cast_stable.specs.Stable.{Acked, has_acked, stable_upto, was_told, is_known_stable}
-use Rattle.cast_stable.specs.Ledger.{Ledger, others_in, received_run, acked_run, told_count, is_received_in, has_acked_in, least_acked, upto_in, is_stable_among, is_stable_in, new_ledger, told_ledger, received_ledger, acked_ledger, learnt_ledger}
+use Rattle.cast_stable.specs.Acks.{Acks, others_in, received_run, acked_run, told_count, is_received_in, has_acked_in, least_acked, upto_in, is_stable_among, is_stable_in, new_ledger, told_ledger, received_ledger, acked_ledger, learnt_ledger}
 use Rattle.cast_stable.specs.Fits.{Past, Fits}
 use Rattle.cast_stable.proofs.Runs.{and_false, eqb_sym, next_apart, inserted_is, contains_inserted}
 use Rattle.cast_stable.proofs.Witnesses.{witness_total, witness_exact, key_cases, find_acked, put_here, put_elsewhere}
@@ -87,7 +87,7 @@ new_fits here is_live = record {
   learnt = λ u live positive. lt-leb u.count 0 positive;
 }
 
-module _ (past : Past) (l : Ledger) (fits : Fits past l) where
+module _ (past : Past) (l : Acks) (fits : Fits past l) where
   -- a group's new view, in which no more sources are live, and none of the views before it
   pub tell_fits : (g : GroupNo) (number : ℕ) (sites : List SiteNo) (is_live : Source → Bool) → ((x : Source) → is_live x ≡ true → (past.is_live x ≡ true) × (is_ended g number x ≡ false)) → Fits (record past { others = set_at group_eq past.others g sites; is_live = is_live }) (told_ledger l g number sites)
   tell_fits g number sites is_live was = record {
@@ -305,7 +305,7 @@ module _ (past : Past) (l : Ledger) (fits : Fits past l) where
       among (s ∷ sites) = λ i. if site_eq u.proc.site (fits.site i) then nat_le u.count (least_meant u live s sites i) else fits.learnt u live positive i
 
 -- What is read means the same
-module _ (l : Ledger) (u : Uid) where
+module _ (l : Acks) (u : Uid) where
   pub is_received_means : (b : Bool) → b ≡ is_received_in l u → (past : Past) → Fits past l → past.is_live (source_of u) ≡ true → 0 < u.count → b ≡ is_among uid_eq u past.received
   is_received_means b is past fits live positive = is ∙ received_meant past l fits u live positive
 

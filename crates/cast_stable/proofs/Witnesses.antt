@@ -16,7 +16,7 @@ use Rattle.cast_types.proofs.Orders.{site_total, site_exact, tie_self, tie_same,
 use Rattle.cast_types.proofs.Sources.{source_total, source_exact}
 use Rattle.cast_stable.specs.Witnesses.{witness_cmp, witness}
 use Rattle.cast_stable.specs.Runs.{Run}
-use Rattle.cast_stable.specs.Ledger.{acked_but_ended}
+use Rattle.cast_stable.specs.Acks.{acked_but_ended}
 
 pub witness_total : IsTotalOrder witness_cmp
 witness_total = then_total (on_total (λ w. w.source) source_total) (on_total (λ w. w.site) site_total)

@@ -10,7 +10,7 @@ use Rattle.cast_types.specs.Sets.{is_among}
 use Rattle.cast_types.specs.Sources.{source_of}
 use Rattle.cast_stable.specs.Runs.{is_run}
 use Rattle.cast_stable.specs.Stable.{Acked, has_acked, was_told, stable_upto, is_known_stable}
-use Rattle.cast_stable.specs.Ledger.{Ledger, others_in, acked_run, told_count, is_received_in, has_acked_in}
+use Rattle.cast_stable.specs.Acks.{Acks, others_in, acked_run, told_count, is_received_in, has_acked_in}
 
 -- what a site was ever told of: the site itself, the other sites of each group's view, the sources of which a rule may
 -- still ask, and all messages received, acknowledged and told to be stable
@@ -31,7 +31,7 @@ is_stable_by past u = is_known_stable past.here (past.others u.group) past.acks 
 
 -- the ledger tells of that site and of those views and, for counts from 1 on of live sources, of those messages; of other
 -- sources it may have forgotten all
-pub record Fits (past : Past) (l : Ledger) : Type 0 where
+pub record Fits (past : Past) (l : Acks) : Type 0 where
   pub site : l.here ≡ past.here
   pub views : (g : GroupNo) → others_in l g ≡ past.others g
   pub receipts : (u : Uid) → past.is_live (source_of u) ≡ true → 0 < u.count → is_received_in l u ≡ is_among uid_eq u past.received
@@ -40,7 +40,7 @@ pub record Fits (past : Past) (l : Ledger) : Type 0 where
   pub learnt : (u : Uid) → past.is_live (source_of u) ≡ true → 0 < u.count → nat_le u.count (told_count l (source_of u)) ≡ was_told past.told u
 
 -- a fact of each past of which the ledger tells and in which the source is live
-abbrev pub WhileLive : Ledger → Source → (Past → Type 0) → Type 0
+abbrev pub WhileLive : Acks → Source → (Past → Type 0) → Type 0
 WhileLive l s P = (past : Past) → Fits past l → past.is_live s ≡ true → P past
 
 -- no message of the source with a greater count was received, and one with this count was, unless it is 0

@@ -1,6 +1,6 @@
 pub mod Stable
 pub mod Runs
 pub mod Witnesses
-pub mod Ledger
+pub mod Acks
 pub mod Fits
 pub mod Laws

@@ -7,31 +7,31 @@ ghost use Rattle.cast_types.specs.Sources.{source, but_ended, source_of};
 ghost use Rattle.cast_stable.specs.Stable.{has_acked, stable_upto};
 ghost use Rattle.cast_stable.specs.Fits.{upto_by, is_stable_by, WhileLive, SaysLast};
 ghost use Rattle.cast_stable.specs.Runs.{no_counts, contains, inserted};
-ghost use Rattle.cast_stable.specs.Ledger.{new_ledger, others_in, acked_run, acked_but_ended, told_count, told_ledger, received_ledger, acked_ledger, learnt_ledger, is_received_in, last_received_in, has_acked_in, upto_in, is_stable_in};
+ghost use Rattle.cast_stable.specs.Acks.{new_ledger, others_in, acked_run, acked_but_ended, told_count, told_ledger, received_ledger, acked_ledger, learnt_ledger, is_received_in, last_received_in, has_acked_in, upto_in, is_stable_in};
 
 use crate::counted::Counted;
 use crate::witness::Witness;
-use cast_types::{GroupNo, Keyed, Listed, NoMemory, Proc, SiteNo, Source, Uid, source_of};
+use cast_types::{GroupNo, List, NoMemory, Proc, SiteNo, SortedMap, Source, Uid, source_of};
 use std::alloc::Global;
 use std::marker::Model;
 
 /// What a site keeps of who received which message: what it received itself, what other sites acknowledged, and what
-/// it was told to be stable. Contracts see a `Ledger`. What it answers means what happened, for messages of live sources:
+/// it was told to be stable. Contracts see a `Acks`. What it answers means what happened, for messages of live sources:
 /// those of which somebody may still ask.
 #[derive(Drop)]
 pub struct Acks {
     alloc: Global,
     here: SiteNo,
-    others: Keyed<GroupNo, Listed<SiteNo>>,
-    received: Keyed<Source, Counted>,
-    acked: Keyed<Witness, Counted>,
-    told: Keyed<Source, u32>,
+    others: SortedMap<GroupNo, List<SiteNo>>,
+    received: SortedMap<Source, Counted>,
+    acked: SortedMap<Witness, Counted>,
+    told: SortedMap<Source, u32>,
 }
 
 impl Model for Acks {
-    ghost use Rattle.cast_stable.specs.Ledger.{Ledger};
+    ghost use Rattle.cast_stable.specs.Acks.{Acks};
 
-    ghost Value = { Ledger };
+    ghost Value = { Acks };
 
     ghost view = { λ a. record { here = a.here; others = a.others; received = a.received; acked = a.acked; told = a.told } };
 }
@@ -44,10 +44,10 @@ impl Acks {
         Acks {
             alloc,
             here,
-            others: Keyed::new(alloc),
-            received: Keyed::new(alloc),
-            acked: Keyed::new(alloc),
-            told: Keyed::new(alloc),
+            others: SortedMap::new(alloc),
+            received: SortedMap::new(alloc),
+            acked: SortedMap::new(alloc),
+            told: SortedMap::new(alloc),
         }
     }
 
@@ -71,7 +71,7 @@ impl Acks {
         &mut self,
         group: GroupNo,
         number: u32,
-        others: Listed<SiteNo>,
+        others: List<SiteNo>,
     ) -> Result<(), NoMemory>
         ensures ok { OnOk result (self.new ≡ told_ledger self.old group number others) }
         ensures err { OnErr result (self.new ≡ self.old) }
@@ -232,14 +232,14 @@ impl Acks {
 }
 
 // Keeps what is of other groups, or of views from this number on.
-fn end_in<V: Drop>(entries: &mut Keyed<Source, V>, group: GroupNo, number: u32)
+fn end_in<V: Drop>(entries: &mut SortedMap<Source, V>, group: GroupNo, number: u32)
     ensures { entries.new ≡ but_ended group number entries.old }
 {
     entries.retain(|entry| !entry.0.is_ended(group, number));
 }
 
 // Keeps what sites acknowledged of other groups, or of views from this number on.
-fn end_acked_in(entries: &mut Keyed<Witness, Counted>, group: GroupNo, number: u32)
+fn end_acked_in(entries: &mut SortedMap<Witness, Counted>, group: GroupNo, number: u32)
     ensures { entries.new ≡ acked_but_ended group number entries.old }
 {
     entries.retain(|entry| !entry.0.source.is_ended(group, number));
@@ -269,18 +269,18 @@ fn with_count(alloc: Global, run: Option<&Counted>, count: u32) -> Result<Counte
 
 // The sites of each group, copied.
 fn copy_sites(
-    others: &Keyed<GroupNo, Listed<SiteNo>>,
-) -> Result<Keyed<GroupNo, Listed<SiteNo>>, NoMemory>
+    others: &SortedMap<GroupNo, List<SiteNo>>,
+) -> Result<SortedMap<GroupNo, List<SiteNo>>, NoMemory>
     ensures { IfOk result (λ copy. copy ≡ others.now) }
 {
     let copied = copy_site_entries(others.alloc(), others.entries())?;
-    Ok(Keyed::from_entries(copied))
+    Ok(SortedMap::from_entries(copied))
 }
 
 fn copy_site_entries(
     alloc: Global,
-    entries: &[(GroupNo, Listed<SiteNo>)],
-) -> Result<Vec<(GroupNo, Listed<SiteNo>)>, NoMemory>
+    entries: &[(GroupNo, List<SiteNo>)],
+) -> Result<Vec<(GroupNo, List<SiteNo>)>, NoMemory>
     ensures { IfOk result (λ copy. copy.items ≡ entries.now) }
 {
     let mut copied = Vec::with_capacity(alloc, entries.len())?;
@@ -291,11 +291,13 @@ fn copy_site_entries(
 }
 
 // The sets of counts, copied.
-fn copy_counts<K: Copy + Drop>(sets: &Keyed<K, Counted>) -> Result<Keyed<K, Counted>, NoMemory>
+fn copy_counts<K: Copy + Drop>(
+    sets: &SortedMap<K, Counted>,
+) -> Result<SortedMap<K, Counted>, NoMemory>
     ensures { IfOk result (λ copy. copy ≡ sets.now) }
 {
     let copied = copy_count_entries(sets.alloc(), sets.entries())?;
-    Ok(Keyed::from_entries(copied))
+    Ok(SortedMap::from_entries(copied))
 }
 
 fn copy_count_entries<K: Copy + Drop>(

@@ -138,7 +138,7 @@ impl Row {
     }
 
     /// The messages in order of receipt.
-    pub(crate) fn kept(&self) -> &[Received]
+    pub(crate) fn messages(&self) -> &[Received]
         ensures value { result.now ≡ self.now.kept }
         ensures rising { IsTrue (is_rising self.now.next self.now.kept) }
     {

@@ -128,17 +128,17 @@ impl Store {
     pub fn held(&self, domain: DomainNo) -> usize
         ensures { result ≡ length (kept_in self.now domain) }
     {
-        self.kept(domain).len()
+        self.messages(domain).len()
     }
 
     /// The messages that a domain keeps, each with its key, in order of receipt. Their keys rise, and are below the
     /// next one. Takes no memory.
-    pub fn kept(&self, domain: DomainNo) -> &[Received]
+    pub fn messages(&self, domain: DomainNo) -> &[Received]
         ensures value { result.now ≡ kept_in self.now domain }
         ensures rising { IsTrue (is_rising (next_in self.now domain) (kept_in self.now domain)) }
     {
         match row_among(&self.rows, domain) {
-            Some(row) => row.kept(),
+            Some(row) => row.messages(),
             None => &[],
         }
     }

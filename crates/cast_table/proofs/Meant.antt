@@ -11,13 +11,13 @@ use Rattle.cast_domain.specs.declared.record.GroupRecord.{GroupRecord}
 use Rattle.cast_domain.specs.Records.{number_of, is_halted}
 use Rattle.cast_domain.specs.Shared.{Part, part_of}
 use Rattle.cast_domain.specs.Shows.{shown_of, group_shown, groups_shown}
-use Rattle.cast_domain.specs.Fits.{Means, Core, is_there, session_for, record_for}
-use Rattle.cast_history.specs.State.{State}
-use Rattle.cast_history.specs.Run.{before_event}
+use Rattle.cast_domain.specs.Fits.{Represents, Core, is_there, session_for, record_for}
+use Rattle.cast_rules.specs.State.{State}
+use Rattle.cast_rules.specs.Run.{before_event}
 use Rattle.cast_table.specs.declared.table.Table.{Table}
 use Rattle.cast_table.specs.Shows.{shown_at, groups_at, shown_by, groups_by, ShowsHistory, ShowsGroups}
 
-shown_meant : (d : Domain) (part : Part) (s : State) → Means d part s → shown_of d part ≡ shown_by s (is_halted d)
+shown_meant : (d : Domain) (part : Part) (s : State) → Represents d part s → shown_of d part ≡ shown_by s (is_halted d)
 shown_meant d part s means =
     let there = filter (is_there s.session) (range_with_len 1 s.used) in
     let open_now = ap length means.fits.opened.rows ∙ length-map there (session_for s.session) in
@@ -30,7 +30,7 @@ shown_meant d part s means =
       halted = is_halted d;
     }
 
-groups_meant : (d : Domain) (part : Part) (s : State) → Means d part s → groups_shown d ≡ groups_by s
+groups_meant : (d : Domain) (part : Part) (s : State) → Represents d part s → groups_shown d ≡ groups_by s
 groups_meant d part s means =
     ap (map (λ (x : GroupRecord). group_shown x.name x.here)) means.fits.groups ∙ map-map (λ (x : GroupRecord). group_shown x.name x.here) (record_for (before_event s)) s.config.groups
 

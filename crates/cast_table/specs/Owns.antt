@@ -5,9 +5,9 @@ use Rattle.std.specs.List.{list_any, list_all}
 use Rattle.cast_types.specs.declared.names.DomainNo.{DomainNo}
 use Rattle.cast_types.specs.Names.{group_cmp}
 use Rattle.cast_types.specs.Rising.{is_rising}
-use Rattle.cast_model.specs.declared.config.DomainConfig.{DomainConfig}
-use Rattle.cast_model.specs.declared.event.Event.{Event}
-use Rattle.cast_model.specs.Events.{domain_of}
+use Rattle.cast_events.specs.declared.config.DomainConfig.{DomainConfig}
+use Rattle.cast_events.specs.declared.event.Event.{Event}
+use Rattle.cast_events.specs.Events.{domain_of}
 use Rattle.cast_table.specs.Tables.{domain_eq}
 
 -- Configurations

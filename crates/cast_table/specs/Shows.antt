@@ -9,8 +9,8 @@ use Rattle.cast_domain.specs.declared.show.GroupShown.{GroupShown}
 use Rattle.cast_domain.specs.Records.{number_of, is_halted}
 use Rattle.cast_domain.specs.Shared.{part_of}
 use Rattle.cast_domain.specs.Shows.{shown_of, group_shown, groups_shown}
-use Rattle.cast_domain.specs.Fits.{Means}
-use Rattle.cast_history.specs.State.{State, sessions, held}
+use Rattle.cast_domain.specs.Fits.{Represents}
+use Rattle.cast_rules.specs.State.{State, sessions, held}
 use Rattle.cast_table.specs.declared.table.Table.{Table}
 use Rattle.cast_table.specs.Tables.{domain_eq, domains_of}
 
@@ -37,9 +37,9 @@ groups_by s = map (λ g. group_shown g (s.group g)) s.config.groups
 abbrev pub ShowsHistory : DomainNo → Table → Option Shown → Type 0
 ShowsHistory n table shown =
     (d : Domain) (s : State)
-    → domain_at n table ≡ Some d → Means d (part_of (number_of d) table.shared) s → shown ≡ Some (shown_by s (is_halted d))
+    → domain_at n table ≡ Some d → Represents d (part_of (number_of d) table.shared) s → shown ≡ Some (shown_by s (is_halted d))
 
 abbrev pub ShowsGroups : DomainNo → Table → Option (List GroupShown) → Type 0
 ShowsGroups n table groups =
     (d : Domain) (s : State)
-    → domain_at n table ≡ Some d → Means d (part_of (number_of d) table.shared) s → groups ≡ Some (groups_by s)
+    → domain_at n table ≡ Some d → Represents d (part_of (number_of d) table.shared) s → groups ≡ Some (groups_by s)

@@ -7,21 +7,21 @@ use Rattle.cast_types.specs.declared.names.SiteNo.{SiteNo}
 use Rattle.cast_types.specs.declared.refusal.Refusal.TheVariants as refusal
 use Rattle.cast_types.specs.Names.{group_cmp}
 use Rattle.cast_types.specs.Rising.{is_rising}
-use Rattle.cast_model.specs.declared.config.DomainConfig.{DomainConfig}
+use Rattle.cast_events.specs.declared.config.DomainConfig.{DomainConfig}
 use Rattle.cast_domain.specs.declared.domain.Domain.{Domain}
-use Rattle.cast_model.specs.declared.event.Event.{Event}
-use Rattle.cast_model.specs.declared.event.Outs.{Outs}
-use Rattle.cast_model.specs.declared.event.Taken.{Taken}
-use Rattle.cast_model.specs.declared.event.Taken.TheVariants.{Nothing, Refused}
+use Rattle.cast_events.specs.declared.event.Event.{Event}
+use Rattle.cast_events.specs.declared.event.Outs.{Outs}
+use Rattle.cast_events.specs.declared.event.Taken.{Taken}
+use Rattle.cast_events.specs.declared.event.Taken.TheVariants.{Nothing, Refused}
 use Rattle.cast_domain.specs.declared.shared.Shared.{Shared}
-use Rattle.cast_model.specs.Events.{domain_of}
+use Rattle.cast_events.specs.Events.{domain_of}
 use Rattle.cast_domain.specs.Records.{number_of, is_halted, IsFor}
 use Rattle.cast_domain.specs.Shared.{Part, part_of, no_part, LeavesOthers}
-use Rattle.cast_history.specs.State.{opening}
-use Rattle.cast_domain.specs.Fits.{Means}
+use Rattle.cast_rules.specs.State.{opening}
+use Rattle.cast_domain.specs.Fits.{Represents}
 use Rattle.cast_domain.specs.Stepped.{IsStepped}
-use Rattle.cast_model.specs.declared.log.Fault.{Fault}
-use Rattle.cast_model.specs.declared.log.Fault.TheVariants.{NoMemory, Halted, NoDomain}
+use Rattle.cast_events.specs.declared.log.Fault.{Fault}
+use Rattle.cast_events.specs.declared.log.Fault.TheVariants.{NoMemory, Halted, NoDomain}
 use Rattle.cast_table.specs.declared.table.Table.{Table}
 
 abbrev pub domain_eq : DomainNo → DomainNo → Bool
@@ -81,7 +81,7 @@ pub record IsNew (here : SiteNo) (config : DomainConfig) (d : Domain) : Type 0 w
   pub number : number_of d ≡ config.domain
   pub running : is_halted d ≡ false
   pub placed : IsFor here config d
-  pub begins : is_rising group_cmp config.groups ≡ true → Means d no_part (opening here config)
+  pub begins : is_rising group_cmp config.groups ≡ true → Represents d no_part (opening here config)
 
 -- what domains are lent for their steps: what they share, and where they add what they send, deliver and push
 pub record Lent : Type 0 where

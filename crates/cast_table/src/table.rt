@@ -4,14 +4,14 @@ ghost use Rattle.std.specs.Option.{option_copied};
 ghost use Rattle.std.specs.Vec.{vec_capacity};
 ghost use Rattle.cast_domain.specs.Copies.{IsCopyOf as IsDomainCopy};
 ghost use Rattle.cast_domain.specs.Records.{number_of};
-ghost use Rattle.cast_model.specs.Events.{domain_of};
+ghost use Rattle.cast_events.specs.Events.{domain_of};
 ghost use Rattle.cast_table.specs.Tables.{AreTurns, IsApplied, IsAppliedTo, IsLeastOf, IsNew, IsTicked, IsTurn, IsUnchanged, NotesHalts, NotesOne, SharesNothing, answer_in_turn, by_number, domain_eq, domains_of, halted_by, lower, place_above, place_for, place_named, stopped, OnLent, InTable};
 ghost use Rattle.cast_table.specs.Copies.{IsCopyOf};
 ghost use Rattle.cast_table.specs.Shows.{ShowsGroups, ShowsHistory, groups_at, shown_at};
 
 use cast_domain::{Domain, GroupShown, Shared, Shown};
-use cast_model::{Config, Event, Fault, Outs, Taken};
-use cast_types::{DomainNo, Listed, NoMemory};
+use cast_events::{Config, Event, Fault, Outs, Taken};
+use cast_types::{DomainNo, List, NoMemory};
 use std::alloc::Global;
 use std::mem;
 
@@ -86,7 +86,7 @@ impl Table {
         &self,
         alloc: Global,
         number: DomainNo,
-    ) -> Result<Option<Listed<GroupShown>>, NoMemory>
+    ) -> Result<Option<List<GroupShown>>, NoMemory>
         ensures shown { IfOk result (λ groups. groups ≡ groups_at number self.now) }
         ensures meant { IfOk result (ShowsGroups number self.now) }
     {
@@ -122,7 +122,7 @@ impl Table {
         };
         let domain = &mut self.domains[place];
         let taken = turn(domain, &mut self.shared, event, outs, &mut halted);
-        outs.halted = Listed::from_vec(halted);
+        outs.halted = List::from_vec(halted);
         taken
     }
 
@@ -145,7 +145,7 @@ impl Table {
             &mut halted,
         );
         let least = least_of(&halted[noted..]);
-        outs.halted = Listed::from_vec(halted);
+        outs.halted = List::from_vec(halted);
         match least {
             Some(number) => Err(Fault::Halted(number)),
             None => Ok(Taken::Nothing),
@@ -203,12 +203,12 @@ fn halted_with_room(outs: &mut Outs, more: usize) -> Result<Vec<DomainNo>, NoMem
     ensures rest { OnOk result ((outs.new.frames ≡ outs.old.frames) × (outs.new.delivered ≡ outs.old.delivered) × (outs.new.pushed ≡ outs.old.pushed)) }
     ensures err { OnErr result (outs.new ≡ outs.old) }
 {
-    let empty = Listed::new(outs.halted.alloc());
+    let empty = List::new(outs.halted.alloc());
     let mut halted = mem::replace(&mut outs.halted, empty).into_vec();
     match halted.reserve(more) {
         Ok(()) => Ok(halted),
         Err(error) => {
-            outs.halted = Listed::from_vec(halted);
+            outs.halted = List::from_vec(halted);
             Err(error)
         }
     }

@@ -1,16 +1,10 @@
-//! The frames that each domain owes to other sites until they are answered, and when each is due to be sent again.
+//! The frames that each domain owes to other sites, and when each is sent again.
 //!
-//! Promised: the frames that a domain owes are seen as one list, in order of the moments at which they are due and at
-//! one moment in order of their keys; a call for one domain leaves what every other domain owes; `due` gives the keys
-//! of the frames that are due, in that order; a frame is owed until it is paid, alone, with those of lower counts, or with all that a site owes for a view that ended.
-//! `renew_due` owes all frames that are due for one other moment; where many are, without a search for each. Only `owe`,
-//! `renew_due` and `due` take memory. Where it is refused nothing changes, but that `renew_due` may have owed some of the frames
-//! for the new moment.
-//!
-//! A moment is a number of milliseconds. Those in use are at most 2^62 + 60,000, and each `u64` is taken.
-//!
-//! The definitions are in `specs/`: `Owed` (what one domain owes), `Rows` (what all domains owe) and `Laws` (what
-//! owing and paying mean for each frame).
+//! Promised: a domain's owed frames are one list, ordered by due moment and then by key. A call
+//! for one domain leaves what all others owe. A frame is owed until it is paid: alone, with those
+//! of lower counts, or with all of a view that ended. A call that is refused memory changes
+//! nothing, but `renew_due` may have moved some frames. Moments are milliseconds, at most 2^62 +
+//! 60,000 in use.
 #![tactic(auto)]
 
 mod frames;

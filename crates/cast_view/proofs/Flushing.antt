@@ -8,8 +8,8 @@ use Rattle.cast_types.specs.Counts.{CountList}
 use Rattle.cast_message.specs.declared.message.Body.TheVariants as body
 use Rattle.cast_message.specs.declared.message.Message.{Message}
 use Rattle.cast_message.specs.declared.site.Change.TheVariants as change
-use Rattle.cast_message.specs.Keeping.{KeptList}
-use Rattle.cast_message.specs.Stretch.{Stretch}
+use Rattle.cast_message.specs.KeptIds.{KeptList}
+use Rattle.cast_message.specs.Tail.{Tail}
 use Rattle.cast_flush.specs.declared.report.Report.{Report}
 use Rattle.cast_view.specs.declared.phase.Phase.TheVariants.{Installing}
 use Rattle.cast_view.specs.Home.{Home, first_home, answer_to, after_ask, after_suspicion, after_start, after_reply, after_body, wants_in, after_decision, after_installed}
@@ -24,7 +24,7 @@ first_of s = record { site = site s; serial = 1 }
 abbrev group : GroupNo
 group = record { 0 = 1 }
 
-abbrev no_tail : Stretch
+abbrev no_tail : Tail
 no_tail = record { start = 0; ids = [] }
 
 abbrev report : CountList → List Entry → KeptList → Report

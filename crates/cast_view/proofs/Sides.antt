@@ -8,7 +8,7 @@ use Rattle.cast_types.specs.declared.limits.TheConstants.{MAX_NUMBER}
 use Rattle.cast_types.specs.declared.names.Proc.{Proc}
 use Rattle.cast_message.specs.declared.site.Change.{Change}
 use Rattle.cast_message.specs.Membership.{Membership}
-use Rattle.cast_view.specs.declared.member.Asking.{Asking}
+use Rattle.cast_view.specs.declared.member.PendingRequest.{PendingRequest}
 use Rattle.cast_view.specs.MemberSide.{MemberSide, only_view_is_frozen, only_frozen_waits, are_numbered_to, is_sound, with_request, with_answer, with_end}
 
 -- what holds of a group, one by one
@@ -24,11 +24,11 @@ sound_from g frozen waits numbered =
     (and_from (only_frozen_waits g) (are_numbered_to g.asked g.requests) waits numbered)
 
 -- one more request has the next number
-numbered_more : (last : ℕ) (what : Change) (p : Proc) (asks : List Asking) → are_numbered_to last asks ≡ true → are_numbered_to (last + 1) (asks ++ record { number = last + 1; change = what; proc = p } ∷ []) ≡ true
+numbered_more : (last : ℕ) (what : Change) (p : Proc) (asks : List PendingRequest) → are_numbered_to last asks ≡ true → are_numbered_to (last + 1) (asks ++ record { number = last + 1; change = what; proc = p } ∷ []) ≡ true
 numbered_more last what p [] numbered = grind (arith, nat_tests)
 numbered_more last what p (a ∷ rest) numbered =
-    let one : Asking = record { number = last + 1; change = what; proc = p } in
-    let more : List Asking = rest ++ one ∷ [] in
+    let one : PendingRequest = record { number = last + 1; change = what; proc = p } in
+    let more : List PendingRequest = rest ++ one ∷ [] in
     let first = and_parts (nat_lt 0 a.number) ((a.number + length rest == last) && are_numbered_to last rest) numbered in
     let second = and_parts (a.number + length rest == last) (are_numbered_to last rest) first.1 in
     let here : a.number + length more ≡ last + 1 = omega (arith, length-append rest (one ∷ []), eqb-true (a.number + length rest) last second.0) in
@@ -36,7 +36,7 @@ numbered_more last what p (a ∷ rest) numbered =
     (and_from (a.number + length more == last + 1) (are_numbered_to (last + 1) more) (eq-eqb (a.number + length more) (last + 1) here) (numbered_more last what p rest second.1))
 
 -- and the numbers of the others stay when the first one is answered
-numbered_rest : (last : ℕ) (asks : List Asking) → are_numbered_to last asks ≡ true → are_numbered_to last (drop 1 asks) ≡ true
+numbered_rest : (last : ℕ) (asks : List PendingRequest) → are_numbered_to last asks ≡ true → are_numbered_to last (drop 1 asks) ≡ true
 numbered_rest last [] numbered = refl
 numbered_rest last (a ∷ rest) numbered =
     let first = and_parts (nat_lt 0 a.number) ((a.number + length rest == last) && are_numbered_to last rest) numbered in

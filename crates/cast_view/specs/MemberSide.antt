@@ -11,10 +11,10 @@ use Rattle.cast_types.specs.Names.{Entry, site_eq, proc_eq}
 use Rattle.cast_types.specs.Counts.{CountList}
 use Rattle.cast_message.specs.declared.site.Change.{Change}
 use Rattle.cast_message.specs.Membership.{Membership}
-use Rattle.cast_message.specs.Stretch.{Stretch}
-use Rattle.cast_message.specs.Keeping.{KeptList}
+use Rattle.cast_message.specs.Tail.{Tail}
+use Rattle.cast_message.specs.KeptIds.{KeptList}
 use Rattle.cast_flush.specs.declared.report.Report.{Report}
-use Rattle.cast_view.specs.declared.member.Asking.{Asking}
+use Rattle.cast_view.specs.declared.member.PendingRequest.{PendingRequest}
 use Rattle.cast_view.specs.declared.member.Pending.{Pending}
 use Rattle.cast_view.specs.declared.member.Verdict.{Verdict}
 use Rattle.cast_view.specs.declared.member.Verdict.TheVariants.{Again, Skips, Completes, Pends, Ignored}
@@ -31,7 +31,7 @@ pub record MemberSide : Type 0 where
   pub pending : Option Pending
   -- how many requests there were, and those that the home has not answered, in order
   pub asked : ℕ
-  pub requests : List Asking
+  pub requests : List PendingRequest
 
 abbrev pub no_group : MemberSide
 no_group = record { number = 0; view = None; frozen = false; pending = None; asked = 0; requests = [] }
@@ -75,7 +75,7 @@ with_request g what p =
       requests = g.requests ++ record { number = g.asked + 1; change = what; proc = p } ∷ [];
     }
 
-abbrev pub first_asking : List Asking → Option Asking
+abbrev pub first_asking : List PendingRequest → Option PendingRequest
 first_asking [] = None
 first_asking (a ∷ rest) = Some a
 
@@ -106,7 +106,7 @@ counts_by count procs = filter (λ e. nat_lt 0 e.1) (map (λ p. (p, count p)) pr
 
 -- what the site answers: of each member of the view the greatest count of what processes here had, and the end of the
 -- order and the messages that are kept as they are lent
-abbrev pub report_of : MemberSide → List Entry → Stretch → KeptList → Report
+abbrev pub report_of : MemberSide → List Entry → Tail → KeptList → Report
 report_of g had tail kept = record { counts = counts_by (greatest_of had) (members_of g); tail = tail; kept = kept }
 
 -- Install
@@ -160,7 +160,7 @@ only_view_is_frozen g = not g.frozen || has_view g
 abbrev pub only_frozen_waits : MemberSide → Bool
 only_frozen_waits g = not (is_pending g) || (g.frozen && nat_lt g.number MAX_NUMBER)
 
-abbrev pub are_numbered_to : ℕ → List Asking → Bool
+abbrev pub are_numbered_to : ℕ → List PendingRequest → Bool
 are_numbered_to last [] = true
 are_numbered_to last (a ∷ rest) = nat_lt 0 a.number && ((a.number + length rest == last) && are_numbered_to last rest)
 

@@ -7,13 +7,13 @@ ghost use Rattle.cast_flush.specs.Reports.{cut_from, wanting};
 ghost use Rattle.cast_flush.specs.Decisions.{order_from};
 ghost use Rattle.cast_view.specs.Home.{least_of};
 
-use crate::phase::{Answer, Decision, Phase, installing};
+use crate::phase::{Answer, Decision, Phase, install_phase};
 use crate::procs::{Procs, is_listed};
 use crate::sites::{apart_from, insert_site, is_among, sites_and, sites_of};
-use cast_flush::{Report, cut_from, is_complete, order_from, wanting, wants_of};
-use cast_message::{Change, Members, Message};
+use cast_flush::{Report, cut_from, is_complete, order_from, wanted_ids, wants_of};
+use cast_message::{Change, Membership, Message};
 use cast_types::limits::{MAX_MEMBERS, MAX_NUMBER};
-use cast_types::{GroupNo, Keyed, Listed, NoMemory, Proc, SiteNo};
+use cast_types::{GroupNo, List, NoMemory, Proc, SiteNo, SortedMap};
 use std::alloc::Global;
 use std::marker::Model;
 use std::mem;
@@ -23,11 +23,11 @@ use std::mem;
 #[derive(Drop)]
 pub struct HomeSide {
     number: u32,
-    members: Members,
+    members: Membership,
     joins: Procs,
     leavings: Procs,
     suspected: Vec<SiteNo>,
-    answers: Keyed<SiteNo, Answer>,
+    answers: SortedMap<SiteNo, Answer>,
     phase: Phase,
 }
 
@@ -51,11 +51,11 @@ impl HomeSide {
     {
         HomeSide {
             number: 0,
-            members: Members::new(alloc),
+            members: Membership::new(alloc),
             joins: Procs::new(alloc),
             leavings: Procs::new(alloc),
             suspected: Vec::new(alloc),
-            answers: Keyed::new(alloc),
+            answers: SortedMap::new(alloc),
             phase: Phase::Idle,
         }
     }
@@ -83,7 +83,7 @@ impl HomeSide {
     }
 
     /// The members of the last decided view, and its holder.
-    pub fn members(&self) -> &Members
+    pub fn members(&self) -> &Membership
         ensures { result.now ≡ self.now.members }
     {
         &self.members
@@ -179,13 +179,13 @@ impl HomeSide {
     fn is_crowded(&self, process: Proc) -> Result<bool, NoMemory>
         ensures { IfOk result (λ crowded. crowded ≡ is_crowded self.now process) }
     {
-        let mut expected = self.expected()?;
+        let mut expected = self.expected_members()?;
         expected.remove(process);
         Ok(MAX_MEMBERS <= expected.as_slice().len())
     }
 
     // Whom the next views have, when nothing else changes.
-    fn expected(&self) -> Result<Procs, NoMemory>
+    fn expected_members(&self) -> Result<Procs, NoMemory>
         ensures { IfOk result (λ procs. procs ≡ expected self.now) }
     {
         let mut procs = Procs::new(self.joins.alloc());
@@ -261,7 +261,7 @@ impl HomeSide {
     {
         self.mark_suspected(site)?;
         let phase = mem::replace(&mut self.phase, Phase::Idle);
-        self.set_phase(phase.without(site));
+        self.set_phase(phase.without_site(site));
         Ok(())
     }
 
@@ -297,8 +297,8 @@ impl HomeSide {
         let sites = sites_of(alloc, self.members.list())?;
         self.phase = Phase::Gathering {
             awaited: apart_from(sites, &self.suspected),
-            reports: Listed::new(alloc),
-            bodies: Listed::new(alloc),
+            reports: List::new(alloc),
+            bodies: List::new(alloc),
         };
         Ok(true)
     }
@@ -327,7 +327,7 @@ impl HomeSide {
 
     /// The messages that some of the sites lack, once all have reported: the first 64, each a process and a count, with
     /// the least site that has it.
-    pub fn wants(&self, group: GroupNo) -> Result<Listed<(SiteNo, (Proc, u32))>, NoMemory>
+    pub fn wants(&self, group: GroupNo) -> Result<List<(SiteNo, (Proc, u32))>, NoMemory>
         ensures { IfOk result (λ wants. wants ≡ wants_in group self.now self.now.phase) }
     {
         let alloc = self.joins.alloc();
@@ -337,15 +337,15 @@ impl HomeSide {
                 reports,
                 bodies,
             } if is_complete(awaited.as_slice(), reports.as_slice()) => {
-                let ids = self.wanting(group, reports.as_slice(), bodies.as_slice())?;
+                let ids = self.wanted_ids(group, reports.as_slice(), bodies.as_slice())?;
                 wants_of(alloc, reports.as_slice(), &ids)
             }
-            _ => Ok(Listed::new(alloc)),
+            _ => Ok(List::new(alloc)),
         }
     }
 
     // The messages that some of the reporting sites lack and that did not come.
-    fn wanting(
+    fn wanted_ids(
         &self,
         group: GroupNo,
         reports: &[(SiteNo, Report)],
@@ -355,7 +355,7 @@ impl HomeSide {
     {
         let alloc = self.joins.alloc();
         let cut = cut_from(alloc, self.members.list(), reports)?;
-        wanting(alloc, group, self.number, &cut, reports, bodies)
+        wanted_ids(alloc, group, self.number, &cut, reports, bodies)
     }
 
     /// Takes in a message that was wanted, while reports are gathered.
@@ -378,14 +378,14 @@ impl HomeSide {
                 reports,
                 bodies,
             } if is_complete(awaited.as_slice(), reports.as_slice()) => {
-                let ids = self.wanting(group, reports.as_slice(), bodies.as_slice())?;
+                let ids = self.wanted_ids(group, reports.as_slice(), bodies.as_slice())?;
                 Ok(ids.is_empty())
             }
             _ => Ok(false),
         }
     }
 
-    /// Decides the next view, once all sites have reported and no message is wanted, and answers whether it did. Members
+    /// Decides the next view, once all sites have reported and no message is wanted, and answers whether it did. Membership
     /// are those that stay, and the joins that are not at suspected sites, which stay for the view after it. The holder
     /// stays if it was not leaving and is still a member; else it is the least member.
     pub fn decide(&mut self, group: GroupNo) -> Result<bool, NoMemory>
@@ -415,7 +415,7 @@ impl HomeSide {
         let suspected = mem::replace(&mut self.suspected, Vec::new(self.joins.alloc()));
         self.joins.keep_at(&suspected);
         self.leavings = Procs::new(self.joins.alloc());
-        self.members = Members::from_parts(list.into_vec(), holder);
+        self.members = Membership::from_parts(list.into_vec(), holder);
         self.number += 1;
     }
 
@@ -469,7 +469,7 @@ impl HomeSide {
         };
         let decision = self.decision(reports.as_slice())?;
         let waiting = sites_and(self.joins.alloc(), list, awaited.as_slice())?;
-        Ok(installing(waiting, decision, bodies))
+        Ok(install_phase(waiting, decision, bodies))
     }
 
     // What goes with the next view.
@@ -479,7 +479,7 @@ impl HomeSide {
         let alloc = self.joins.alloc();
         let cut = cut_from(alloc, self.members.list(), reports)?;
         let tail = order_from(alloc, &cut, reports)?;
-        let answers = Listed::from_vec(Vec::from_slice(alloc, self.answers.entries())?);
+        let answers = List::from_vec(Vec::from_slice(alloc, self.answers.entries())?);
         Ok(Decision { cut, tail, answers })
     }
 
@@ -491,7 +491,7 @@ impl HomeSide {
     }
 
     /// Takes in that a site has installed a view, and answers whether that was awaited. Takes no memory.
-    pub fn installed(&mut self, site: SiteNo, number: u32) -> bool
+    pub fn note_installed(&mut self, site: SiteNo, number: u32) -> bool
         ensures value { result ≡ takes_installed self.old site number }
         ensures new { self.new ≡ after_installed self.old site number }
     {
@@ -499,7 +499,7 @@ impl HomeSide {
             return false;
         }
         let phase = mem::replace(&mut self.phase, Phase::Idle);
-        self.set_phase(phase.without(site));
+        self.set_phase(phase.without_site(site));
         true
     }
 }

@@ -6,15 +6,15 @@ ghost use Rattle.cast_view.specs.MemberSide.{counts_by, greatest_of, is_taken_in
 
 use crate::sites::local_view;
 use cast_flush::Report;
-use cast_message::{Change, Kept, Members, Tail};
-use cast_types::{Counts, Listed, NoMemory, Proc, SiteNo, Standing};
+use cast_message::{Change, KeptIds, Membership, Tail};
+use cast_types::{Counts, List, NoMemory, Proc, SiteNo, Standing};
 use std::alloc::Global;
 use std::marker::Model;
 use std::mem;
 
 /// A request that the home has not answered.
 #[derive(Clone, Copy, Debug, PartialEq, Eq)]
-pub struct Asking {
+pub struct PendingRequest {
     /// Counts the site's requests of the group from 1.
     pub number: u32,
     pub change: Change,
@@ -26,7 +26,7 @@ pub struct Asking {
 #[derive(Drop)]
 pub struct Pending {
     /// The members of the next view, and its holder.
-    pub members: Members,
+    pub members: Membership,
     /// The number of the site's last request that the home had applied, 0 where none was.
     pub request: u32,
     /// How many messages of each process belong to the view that ends.
@@ -66,11 +66,11 @@ pub enum Verdict {
 #[derive(Drop)]
 pub struct MemberSide {
     number: u32,
-    view: Option<Members>,
+    view: Option<Membership>,
     frozen: bool,
     pending: Option<Pending>,
     asked: u32,
-    requests: Listed<Asking>,
+    requests: List<PendingRequest>,
 }
 
 impl Model for MemberSide {
@@ -99,7 +99,7 @@ impl MemberSide {
             frozen: false,
             pending: None,
             asked: 0,
-            requests: Listed::new(alloc),
+            requests: List::new(alloc),
         }
     }
 
@@ -125,7 +125,7 @@ impl MemberSide {
     }
 
     /// That view, while a member of it is at this site.
-    pub fn view(&self) -> Option<&Members>
+    pub fn view(&self) -> Option<&Membership>
         ensures { option_copied result ≡ self.now.view }
     {
         self.view.as_ref()
@@ -195,7 +195,7 @@ impl MemberSide {
     }
 
     /// The Install that waits. Its number is the one after the site's, which is not the last.
-    pub fn pending(&self) -> Option<&Pending>
+    pub fn pending_install(&self) -> Option<&Pending>
         ensures value { option_copied result ≡ self.now.pending }
         ensures next { IfSome self.now.pending (λ _. self.now.number < MAX_NUMBER) }
         ensures frozen { IfSome self.now.pending (λ _. IsTrue self.now.frozen) }
@@ -204,7 +204,7 @@ impl MemberSide {
     }
 
     /// How many requests there were.
-    pub fn asked(&self) -> u32
+    pub fn request_count(&self) -> u32
         ensures { result ≡ self.now.asked }
     {
         self.asked
@@ -212,7 +212,7 @@ impl MemberSide {
 
     /// The requests that the home has not answered, in order. The first alone has been sent. They are numbered without a
     /// gap.
-    pub fn requests(&self) -> &[Asking]
+    pub fn requests(&self) -> &[PendingRequest]
         ensures value { result.now ≡ self.now.requests }
         ensures numbered { IsTrue (are_numbered_to self.now.asked self.now.requests) }
     {
@@ -220,7 +220,7 @@ impl MemberSide {
     }
 
     /// The request that has been sent to the home.
-    pub fn first_request(&self) -> Option<Asking>
+    pub fn first_request(&self) -> Option<PendingRequest>
         ensures { result ≡ first_asking self.now.requests }
     {
         self.requests.as_slice().first().copied()
@@ -233,7 +233,7 @@ impl MemberSide {
         ensures err { OnErr result (self.new ≡ self.old) }
     {
         let number = self.asked + 1;
-        self.requests.push(Asking {
+        self.requests.push(PendingRequest {
             number,
             change,
             proc,
@@ -249,10 +249,10 @@ impl MemberSide {
         if self.requests.is_empty() {
             return;
         }
-        let none = Listed::new(self.requests.alloc());
+        let none = List::new(self.requests.alloc());
         let mut requests = mem::replace(&mut self.requests, none).into_vec();
         requests.remove(0);
-        self.requests = Listed::from_vec(requests);
+        self.requests = List::from_vec(requests);
     }
 
     /// Whether the home is to be told what the site has of a view: it is the site's view, and no Install waits.
@@ -285,7 +285,12 @@ impl MemberSide {
     /// What the home is told of the view: for each member the greatest count of what processes here had, where that is not
     /// 0. The caller lends the counts that each process of the site, also one that left, delivered of the view, and those
     /// that it sent, in any order; the end of the view's order; and the messages kept of it.
-    pub fn flushed(&self, had: &[(Proc, u32)], tail: Tail, kept: Kept) -> Result<Report, NoMemory>
+    pub fn flush_report(
+        &self,
+        had: &[(Proc, u32)],
+        tail: Tail,
+        kept: KeptIds,
+    ) -> Result<Report, NoMemory>
         ensures { IfOk result (λ report. report ≡ report_of self.now had.now tail kept) }
     {
         let counts = greatest_counts(self.requests.alloc(), self.members(), had)?;
@@ -314,7 +319,7 @@ impl MemberSide {
     pub fn install(
         &mut self,
         number: u32,
-        members: &Members,
+        members: &Membership,
         request: u32,
         cut: &Counts,
     ) -> Result<Verdict, NoMemory>
@@ -337,7 +342,12 @@ impl MemberSide {
 
     /// Completes an Install: the site keeps its view where a member is here. No Install waits, and nothing is frozen.
     /// `NoMemory` changes nothing.
-    pub fn complete(&mut self, here: SiteNo, number: u32, members: &Members) -> Result<(), NoMemory>
+    pub fn complete(
+        &mut self,
+        here: SiteNo,
+        number: u32,
+        members: &Membership,
+    ) -> Result<(), NoMemory>
         ensures ok { OnOk result (self.new ≡ with_view here number members.now self.old) }
         ensures err { OnErr result (self.new ≡ self.old) }
     {
@@ -348,7 +358,7 @@ impl MemberSide {
 
     /// Takes in that a view of this number has no member here, and answers whether that counts: the site has not reached the
     /// number. Then it has reached it, and has no view; else nothing changes. Takes no memory.
-    pub fn out(&mut self, number: u32) -> bool
+    pub fn note_outside(&mut self, number: u32) -> bool
         ensures value { result ≡ is_put_out_by self.old number }
         ensures new { self.new ≡ after_out self.old number }
     {
@@ -360,7 +370,7 @@ impl MemberSide {
     }
 
     // The view has ended: the site has reached this number, and has this view.
-    fn end(&mut self, number: u32, view: Option<Members>)
+    fn end(&mut self, number: u32, view: Option<Membership>)
         ensures { self.new ≡ with_end self.old number view }
     {
         self.number = number;
@@ -414,7 +424,7 @@ fn greatest_counts(alloc: Global, members: &[Proc], had: &[(Proc, u32)]) -> Resu
 }
 
 // The members of a view, copied.
-fn copy_view(view: &Option<Members>) -> Result<Option<Members>, NoMemory>
+fn copy_view(view: &Option<Membership>) -> Result<Option<Membership>, NoMemory>
     ensures { IfOk result (λ copy. copy ≡ view.now) }
 {
     match view {

@@ -7,7 +7,7 @@ ghost use Rattle.cast_view.specs.Home.{answer_in, awaited_of, waiting_of, is_idl
 use crate::sites::{is_among, sites_without};
 use cast_flush::{Report, has_report};
 use cast_message::{Message, Tail};
-use cast_types::{Counts, Listed, NoMemory, SiteNo, sorted};
+use cast_types::{Counts, List, NoMemory, SiteNo, sorted};
 use std::alloc::Global;
 
 /// The last request of a site that was applied.
@@ -40,7 +40,7 @@ pub struct Decision {
     /// The end of the order of the old view.
     pub tail: Tail,
     /// The last request of each site that was applied, in rising order of the sites.
-    pub answers: Listed<(SiteNo, Answer)>,
+    pub answers: List<(SiteNo, Answer)>,
 }
 
 /// How far a flush has come.
@@ -51,20 +51,20 @@ pub enum Phase {
     /// Reports are awaited, and then messages that some of the sites lack.
     Gathering {
         /// The sites that report, in rising order.
-        awaited: Listed<SiteNo>,
+        awaited: List<SiteNo>,
         /// The reports that came, in rising order of the sites.
-        reports: Listed<(SiteNo, Report)>,
+        reports: List<(SiteNo, Report)>,
         /// The messages that came, in order of receipt.
-        bodies: Listed<Message>,
+        bodies: List<Message>,
     },
     /// The next view is decided.
     Installing {
         /// The sites, one at least, that have not installed it yet, in rising order.
-        waiting: Listed<SiteNo>,
+        waiting: List<SiteNo>,
         /// What goes with the new view.
         decision: Decision,
         /// Messages for sites that lack them.
-        bodies: Listed<Message>,
+        bodies: List<Message>,
     },
 }
 
@@ -127,7 +127,7 @@ impl Phase {
     }
 
     /// The sites whose reports are awaited, in rising order; none where no reports are gathered.
-    pub fn awaited(&self) -> &[SiteNo]
+    pub fn awaited_sites(&self) -> &[SiteNo]
         ensures { result.now ≡ awaited_of self.now }
     {
         match self {
@@ -137,7 +137,7 @@ impl Phase {
     }
 
     /// The sites that are still to install the view that is decided, in rising order; none where none is.
-    pub fn waiting(&self) -> &[SiteNo]
+    pub fn sites_to_install(&self) -> &[SiteNo]
         ensures { result.now ≡ waiting_of self.now }
     {
         match self {
@@ -171,7 +171,7 @@ impl Phase {
     }
 
     /// The phase in which nothing is awaited from a site any more. Takes no memory.
-    pub(crate) fn without(self, site: SiteNo) -> Self
+    pub(crate) fn without_site(self, site: SiteNo) -> Self
         ensures { result ≡ phase_without site self }
     {
         match self {
@@ -189,7 +189,7 @@ impl Phase {
                 waiting,
                 decision,
                 bodies,
-            } => installing(sites_without(waiting, site), decision, bodies),
+            } => install_phase(sites_without(waiting, site), decision, bodies),
         }
     }
 
@@ -231,10 +231,10 @@ impl Phase {
 }
 
 /// Installing goes on until no site is waited for.
-pub(crate) fn installing(
-    waiting: Listed<SiteNo>,
+pub(crate) fn install_phase(
+    waiting: List<SiteNo>,
     decision: Decision,
-    bodies: Listed<Message>,
+    bodies: List<Message>,
 ) -> Phase
     ensures { result ≡ installing waiting decision bodies }
 {
@@ -250,16 +250,16 @@ pub(crate) fn installing(
 }
 
 // The reports but for one site's.
-fn reports_without(reports: Listed<(SiteNo, Report)>, site: SiteNo) -> Listed<(SiteNo, Report)>
+fn reports_without(reports: List<(SiteNo, Report)>, site: SiteNo) -> List<(SiteNo, Report)>
     ensures { result ≡ filter (λ r. not (site_eq site r.0)) reports }
 {
     let mut rest = reports.into_vec();
     rest.retain(|report| !(site == report.0));
-    Listed::from_vec(rest)
+    List::from_vec(rest)
 }
 
 // The messages and one more.
-fn with_message(mut bodies: Listed<Message>, message: Message) -> Result<Listed<Message>, NoMemory>
+fn with_message(mut bodies: List<Message>, message: Message) -> Result<List<Message>, NoMemory>
     ensures { IfOk result (λ l. l ≡ bodies ++ message ∷ []) }
 {
     bodies.push(message)?;
@@ -268,23 +268,23 @@ fn with_message(mut bodies: Listed<Message>, message: Message) -> Result<Listed<
 
 // The reports with one of a site.
 fn with_report(
-    reports: Listed<(SiteNo, Report)>,
+    reports: List<(SiteNo, Report)>,
     site: SiteNo,
     report: Report,
-) -> Result<Listed<(SiteNo, Report)>, NoMemory>
+) -> Result<List<(SiteNo, Report)>, NoMemory>
     ensures { IfOk result (λ l. l ≡ put site_cmp site report reports) }
 {
     let mut all = reports.into_vec();
     sorted::put(&mut all, site, report)?;
-    Ok(Listed::from_vec(all))
+    Ok(List::from_vec(all))
 }
 
 // The reports of sites, copied.
-fn copy_reports(reports: &Listed<(SiteNo, Report)>) -> Result<Listed<(SiteNo, Report)>, NoMemory>
+fn copy_reports(reports: &List<(SiteNo, Report)>) -> Result<List<(SiteNo, Report)>, NoMemory>
     ensures { IfOk result (λ copy. copy ≡ reports.now) }
 {
     let copied = copy_report_entries(reports.alloc(), reports.as_slice())?;
-    Ok(Listed::from_vec(copied))
+    Ok(List::from_vec(copied))
 }
 
 fn copy_report_entries(
@@ -301,11 +301,11 @@ fn copy_report_entries(
 }
 
 // Messages, copied.
-fn copy_bodies(bodies: &Listed<Message>) -> Result<Listed<Message>, NoMemory>
+fn copy_bodies(bodies: &List<Message>) -> Result<List<Message>, NoMemory>
     ensures { IfOk result (λ copy. copy ≡ bodies.now) }
 {
     let copied = copy_messages(bodies.alloc(), bodies.as_slice())?;
-    Ok(Listed::from_vec(copied))
+    Ok(List::from_vec(copied))
 }
 
 fn copy_messages(alloc: Global, messages: &[Message]) -> Result<Vec<Message>, NoMemory>

@@ -4,8 +4,8 @@ ghost use Rattle.cast_types.specs.Names.{site_cmp, site_eq};
 ghost use Rattle.cast_types.specs.Sets.{with_item, with_items, without, apart_from, is_among};
 ghost use Rattle.cast_view.specs.Sites.{sites_of, other_sites, is_at, local_view};
 
-use cast_message::Members;
-use cast_types::{Listed, NoMemory, Proc, SiteNo, sorted};
+use cast_message::Membership;
+use cast_types::{List, NoMemory, Proc, SiteNo, sorted};
 use std::alloc::Global;
 
 /// Whether a site is one of these.
@@ -16,14 +16,14 @@ pub fn is_among(site: SiteNo, sites: &[SiteNo]) -> bool
 }
 
 /// The sites of processes, each once, in rising order.
-pub fn sites_of(alloc: Global, processes: &[Proc]) -> Result<Listed<SiteNo>, NoMemory>
+pub fn sites_of(alloc: Global, processes: &[Proc]) -> Result<List<SiteNo>, NoMemory>
     ensures { IfOk result (λ l. l ≡ sites_of processes.now) }
 {
     let mut sites = Vec::new(alloc);
     for process in processes {
         insert_site(&mut sites, process.site)?;
     }
-    Ok(Listed::from_vec(sites))
+    Ok(List::from_vec(sites))
 }
 
 /// The sites of processes but for one site, each once, in rising order.
@@ -31,7 +31,7 @@ pub fn other_sites(
     alloc: Global,
     site: SiteNo,
     processes: &[Proc],
-) -> Result<Listed<SiteNo>, NoMemory>
+) -> Result<List<SiteNo>, NoMemory>
     ensures { IfOk result (λ l. l ≡ other_sites site processes.now) }
 {
     let sites = sites_of(alloc, processes)?;
@@ -39,7 +39,7 @@ pub fn other_sites(
 }
 
 /// A view, where a member of it is at this site.
-pub fn local_view(here: SiteNo, members: &Members) -> Result<Option<Members>, NoMemory>
+pub fn local_view(here: SiteNo, members: &Membership) -> Result<Option<Membership>, NoMemory>
     ensures { IfOk result (λ v. v ≡ local_view here members.now) }
 {
     if has_local(here, members.list()) {
@@ -61,32 +61,32 @@ pub(crate) fn sites_and(
     alloc: Global,
     processes: &[Proc],
     others: &[SiteNo],
-) -> Result<Listed<SiteNo>, NoMemory>
+) -> Result<List<SiteNo>, NoMemory>
     ensures { IfOk result (λ l. l ≡ with_items site_cmp (sites_of processes.now) others.now) }
 {
     let mut sites = sites_of(alloc, processes)?.into_vec();
     for site in others {
         insert_site(&mut sites, *site)?;
     }
-    Ok(Listed::from_vec(sites))
+    Ok(List::from_vec(sites))
 }
 
 /// The sites that are not among the others.
-pub(crate) fn apart_from(sites: Listed<SiteNo>, others: &[SiteNo]) -> Listed<SiteNo>
+pub(crate) fn apart_from(sites: List<SiteNo>, others: &[SiteNo]) -> List<SiteNo>
     ensures { result ≡ apart_from site_eq sites others.now }
 {
     let mut rest = sites.into_vec();
     rest.retain(|site| !is_among(*site, others));
-    Listed::from_vec(rest)
+    List::from_vec(rest)
 }
 
 /// The sites but for one.
-pub(crate) fn sites_without(sites: Listed<SiteNo>, site: SiteNo) -> Listed<SiteNo>
+pub(crate) fn sites_without(sites: List<SiteNo>, site: SiteNo) -> List<SiteNo>
     ensures { result ≡ without site_eq site sites }
 {
     let mut rest = sites.into_vec();
     rest.retain(|other| !(site == *other));
-    Listed::from_vec(rest)
+    List::from_vec(rest)
 }
 
 /// Adds a site to a set that stands in rising order, where it lacks it. `NoMemory` changes nothing.

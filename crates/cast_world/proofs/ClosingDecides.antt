@@ -8,8 +8,8 @@ use Rattle.std.specs.Prelude.{◌++◌, ◌-◌, Bool, Contains, List, Option, [
 use Rattle.cast_flush.specs.Decisions.{added, end_of, longest, no_stretch, order_from, unplaced}
 use Rattle.cast_flush.specs.Reports.{Reports}
 use Rattle.cast_flush.specs.declared.report.Report.{Report}
-use Rattle.cast_history.specs.Reports.{tail_of}
-use Rattle.cast_message.specs.Stretch.{Stretch}
+use Rattle.cast_rules.specs.Reports.{tail_of}
+use Rattle.cast_message.specs.Tail.{Tail}
 use Rattle.cast_message.specs.declared.message.Message.{Message}
 use Rattle.cast_order.specs.Order.{tail_ids, tail_start}
 use Rattle.cast_types.specs.Counts.{CountList, is_within}
@@ -72,14 +72,14 @@ tail_few whole = let rest = drop_length (tail_start whole) whole (start_low (len
 
 -- The longest of reports
 
-abbrev longer : Stretch → SiteNo × Report → Stretch
+abbrev longer : Tail → SiteNo × Report → Tail
 longer t r = if nat_lt (end_of t) (end_of r.1.tail) then r.1.tail else t
 
-abbrev IsLongest : Stretch → Reports → Stretch → Type 0
+abbrev IsLongest : Tail → Reports → Tail → Type 0
 IsLongest first reports t =
     ((t ≡ first) ⊎ ((x : SiteNo × Report) × Contains reports x × (t ≡ x.1.tail))) × (end_of first ≤ end_of t) × ((x : SiteNo × Report) → Contains reports x → end_of x.1.tail ≤ end_of t)
 
-longest_from : (first : Stretch) (reports : Reports) → IsLongest first reports (fold longer first reports)
+longest_from : (first : Tail) (reports : Reports) → IsLongest first reports (fold longer first reports)
 longest_from first [] = (inl refl, omega arith, (λ x c. absurd (omega (arith, c.1))))
 longest_from first (r ∷ reports) = go (nat_lt (end_of first) (end_of r.1.tail)) refl (longest_from (longer first r) reports)
   where
@@ -149,7 +149,7 @@ module _ (choice : Choice) (at : Sites) (order : Orders) (handed : HandOvers) (s
   decided_end = record { whole = longest_is.whole; start = (longest reports).start; added = extra }
 
   start_is : (longest reports).start ≡ tail_start longest_is.whole
-  start_is = ap (λ (s : Stretch). s.start) longest_is.tail ∙ tail_starts longest_is.whole longest_is.few
+  start_is = ap (λ (s : Tail). s.start) longest_is.tail ∙ tail_starts longest_is.whole longest_is.few
 
   pub start_within : (longest reports).start ≤ length longest_is.whole
   start_within = let is = start_is in let low = start_low (length longest_is.whole) in omega (arith, is, low)
@@ -189,11 +189,11 @@ module _ (choice : Choice) (at : Sites) (order : Orders) (handed : HandOvers) (s
   -- the tail that goes with the Installs
   pub decided_tail : order_from cut reports ≡ end_tail cut decided_end
   decided_tail =
-      let ids_are : (longest reports).ids ≡ drop (longest reports).start longest_is.whole = ap (λ (s : Stretch). s.ids) longest_is.tail ∙ ap (λ n. drop n longest_is.whole) (sym start_is) in
+      let ids_are : (longest reports).ids ≡ drop (longest reports).start longest_is.whole = ap (λ (s : Tail). s.ids) longest_is.tail ∙ ap (λ n. drop n longest_is.whole) (sym start_is) in
       let few : length (placed ++ extra) ≤ MAX_ORDER =
       (let parts = length-append placed extra in
       let kept = kept_length (is_within cut) (longest reports).ids in
-      let tail = ap length (ap (λ (s : Stretch). s.ids) longest_is.tail) in
+      let tail = ap length (ap (λ (s : Tail). s.ids) longest_is.tail) in
       let short = tail_few longest_is.whole in
       let more = take_most MAX_PLACED (apart_from entry_eq (filter (is_within cut) (unplaced reports)) placed) in
       omega (arith, parts, kept, tail, short, more)) in

@@ -6,7 +6,7 @@ use Rattle.std.specs.Prelude.{◌&&◌, ◌+◌, ◌++◌, ◌==◌, Bool, Conta
 use Rattle.cast_flush.specs.Decisions.{order_from}
 use Rattle.cast_flush.specs.Reports.{Reports, cut_from}
 use Rattle.cast_flush.specs.declared.report.Report.{Report}
-use Rattle.cast_history.specs.State.{State, set_home}
+use Rattle.cast_rules.specs.State.{State, set_home}
 use Rattle.cast_message.specs.Membership.{Membership}
 use Rattle.cast_message.specs.declared.message.Message.{Message}
 use Rattle.cast_types.specs.Counts.{CountList}

@@ -3,9 +3,9 @@ use Rattle.std.proofs.Common.{ap, arith, inl, inr, subst, sym, ◌∙◌}
 use Rattle.std.proofs.lemmas.Bool.{cases_lt}
 use Rattle.std.proofs.lemmas.List.{append-nil}
 use Rattle.std.specs.Prelude.{◌+◌, ◌<◌, Bool, Contains, List, [], false, if◌then◌else◌, refl, true, ℕ, ◌≡◌, ◌≤◌}
-use Rattle.cast_history.specs.State.{State}
-use Rattle.cast_message.specs.Keeping.{KeptList}
-use Rattle.cast_message.specs.Stretch.{Stretch}
+use Rattle.cast_rules.specs.State.{State}
+use Rattle.cast_message.specs.KeptIds.{KeptList}
+use Rattle.cast_message.specs.Tail.{Tail}
 use Rattle.cast_message.specs.declared.site.SiteFrame.{SiteFrame}
 use Rattle.cast_timer.specs.declared.key.OwedKey.{OwedKey}
 use Rattle.cast_types.specs.Names.{site_eq}
@@ -101,7 +101,7 @@ module _ (home : SiteNo) (w : Network) (a : SiteNo) where
     abbrev pub closing_same : ((g : GroupNo) → number u g ≤ number t g) → (SiteClosing j.0.1 (at u) j.0.3 j.0.4 j.1 i.1 a t → SiteClosing j.0.1 (at u) j.0.3 j.0.4 j.1 i.1 a u) → ClosingNow new u
     closing_same still here = closing_keep skip new t u later i j ext same_up same_grows same_grew stops notes calm still here
 
-    pub reported_same : (s : SiteNo) (g : GroupNo) (v : ℕ) (tail : Stretch) (kept : KeptList) → v ≤ number t g → HasReported i.0.0.1 (at t) i.0.0.3 i.0.0.4 i.0.1 s g v tail kept → HasReported j.0.1 (at u) j.0.3 j.0.4 j.1 s g v tail kept
+    pub reported_same : (s : SiteNo) (g : GroupNo) (v : ℕ) (tail : Tail) (kept : KeptList) → v ≤ number t g → HasReported i.0.0.1 (at t) i.0.0.3 i.0.0.4 i.0.1 s g v tail kept → HasReported j.0.1 (at u) j.0.3 j.0.4 j.1 s g v tail kept
     reported_same = reported_later home w a t u later i.0.0.0 i.0.0.1 j.0.1 i.0.0.2 ext i.0.0.3 j.0.3 i.0.0.4 j.0.4 i.0.1 j.1 same_up same_grows same_grew stops notes calm
 
     abbrev pub came_same : (from : SiteNo) (f : SiteFrame) → Arrived home w a from f → IsClosing j.0.1 (at u) j.0.3 j.0.4 j.1 i.1 from f

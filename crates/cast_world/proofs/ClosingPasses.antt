@@ -3,13 +3,13 @@ use Rattle.std.proofs.Common.{ap, arith, inl, inr, subst, sym, ◌∙◌}
 use Rattle.std.proofs.lemmas.Bool.{and_parts, eqb-true, false≢true, true≢false}
 use Rattle.std.proofs.lemmas.List.{append-nil}
 use Rattle.std.specs.Prelude.{◌+◌, ◌++◌, ◌<◌, Bool, Contains, List, Option, Some, [], false, filter, if◌then◌else◌, is_some, refl, true, unwrap_or, ℕ, ◌∷◌, ◌≡◌, ◌≤◌}
-use Rattle.cast_history.specs.Acts.Act.{Entered, Left}
-use Rattle.cast_history.specs.Entering.{enters, is_put_out, parted, passing, pending_install, putting_out}
-use Rattle.cast_history.specs.Noted.{abcasts_by}
-use Rattle.cast_history.specs.Order.{order_told}
-use Rattle.cast_history.specs.State.{State, local}
+use Rattle.cast_rules.specs.Acts.Act.{Entered, Left}
+use Rattle.cast_rules.specs.Entering.{enters, is_put_out, parted, passing, pending_install, putting_out}
+use Rattle.cast_rules.specs.Noted.{abcasts_by}
+use Rattle.cast_rules.specs.Order.{order_told}
+use Rattle.cast_rules.specs.State.{State, local}
 use Rattle.cast_message.specs.Membership.{Membership}
-use Rattle.cast_message.specs.Stretch.{Stretch}
+use Rattle.cast_message.specs.Tail.{Tail}
 use Rattle.cast_order.specs.Order.{closed_order}
 use Rattle.cast_timer.specs.Owed.{is_of_view}
 use Rattle.cast_types.specs.Counts.{CountList, is_within}
@@ -58,7 +58,7 @@ module _ (home : SiteNo) (w : Network) (a : SiteNo) where
 
   -- An Install comes to wait
 
-  module _ (t : State) (from : SiteNo) (g : GroupNo) (p : Pending) (tail : Stretch) (i : ClosingNow home w a no_key t) (came : Arrived home w a from (frame.Install g ((t.group g).number + 1) p.members p.request p.cut tail))
+  module _ (t : State) (from : SiteNo) (g : GroupNo) (p : Pending) (tail : Tail) (i : ClosingNow home w a no_key t) (came : Arrived home w a from (frame.Install g ((t.group g).number + 1) p.members p.request p.cut tail))
       (current : has_view (t.group g) ≡ true) (waits : is_pending (t.group g) ≡ false) where
     abbrev u : State
     u = pending_install t g p tail

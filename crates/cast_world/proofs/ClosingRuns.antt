@@ -1,26 +1,26 @@
 -- What holds of how views end holds in every network that steps lead to. So who passes from one view to the next delivered the ABCASTs of the
 -- first in the same order.
 use Rattle.cast_types.proofs.Orders.{group_itself, same_site}
-use Rattle.cast_world.proofs.Listed.{abcasts_are_acts}
+use Rattle.cast_world.proofs.ListsAreActs.{abcasts_are_acts}
 use Rattle.std.proofs.Common.{ap, arith, inl, inr, subst, sym, ◌∙◌}
 use Rattle.std.proofs.lemmas.Bool.{eq-eqb, false≢true}
 use Rattle.std.proofs.lemmas.List.Elements.{Contains-append_cases, Contains-append_right, filter-append}
 use Rattle.std.proofs.lemmas.List.{append-nil, length-take-le, map-append, take-append-drop}
 use Rattle.std.specs.List.{flat_map}
 use Rattle.std.specs.Prelude.{◌&&◌, ◌+◌, ◌++◌, Bool, Contains, List, None, Option, Some, [], drop, false, filter, if◌then◌else◌, is_some, length, map, refl, take, true, ℕ, ◌∷◌, ◌≡◌, ◌≤◌}
-use Rattle.cast_history.specs.Acts.{Act}
-use Rattle.cast_history.specs.Acts.Act.{Entered, Sent}
-use Rattle.cast_history.specs.Noted.{abcasts_by}
-use Rattle.cast_history.specs.Order.{told_by}
-use Rattle.cast_history.specs.Run.{after_event, before_event}
-use Rattle.cast_history.specs.State.{State}
+use Rattle.cast_rules.specs.Acts.{Act}
+use Rattle.cast_rules.specs.Acts.Act.{Entered, Sent}
+use Rattle.cast_rules.specs.Noted.{abcasts_by}
+use Rattle.cast_rules.specs.Order.{told_by}
+use Rattle.cast_rules.specs.Run.{after_event, before_event}
+use Rattle.cast_rules.specs.State.{State}
 use Rattle.cast_message.specs.Bodies.{kind_of}
 use Rattle.cast_message.specs.Membership.{Membership}
-use Rattle.cast_message.specs.Stretch.{Stretch}
+use Rattle.cast_message.specs.Tail.{Tail}
 use Rattle.cast_message.specs.declared.message.Message.{Message}
 use Rattle.cast_message.specs.declared.site.SiteFrame.{SiteFrame}
-use Rattle.cast_model.specs.declared.config.DomainConfig.{DomainConfig}
-use Rattle.cast_model.specs.declared.event.Event.{Event}
+use Rattle.cast_events.specs.declared.config.DomainConfig.{DomainConfig}
+use Rattle.cast_events.specs.declared.event.Event.{Event}
 use Rattle.cast_order.specs.Order.{known_order}
 use Rattle.cast_timer.specs.Owed.{is_of_view}
 use Rattle.cast_types.specs.Names.{Entry, entry_of, is_atomic, named, site_eq}
@@ -355,7 +355,7 @@ module _ (home : SiteNo) (w : Network) (all : AllEnded home w) where
       decided_next = (every.sound (record { from = from; to = to; frame = frame.Install g (view + 1) members request cut tail }) sent).0
 
       start_is : tail.start ≡ (all.4 g view).start
-      start_is = ap (λ (z : Stretch). z.start) (every.closed (record { from = from; to = to; frame = frame.Install g (view + 1) members request cut tail }) sent view refl)
+      start_is = ap (λ (z : Tail). z.start) (every.closed (record { from = from; to = to; frame = frame.Install g (view + 1) members request cut tail }) sent view refl)
 
       known_it : (all.4 g view).start ≤ all.3 g view
       known_it = (every.ended g view decided_next).known

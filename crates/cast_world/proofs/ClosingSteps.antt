@@ -6,15 +6,15 @@ use Rattle.std.proofs.lemmas.List.{append-nil}
 use Rattle.std.specs.Prelude.{◌+◌, ◌++◌, ◌==◌, Bool, Contains, List, None, Option, Some, [], false, if◌then◌else◌, refl, true, ℕ, ◌∷◌, ◌≡◌, ◌≤◌}
 use Rattle.cast_clock.specs.Times.{join, view_of}
 use Rattle.cast_delay.specs.Ready.{Process, is_member}
-use Rattle.cast_history.specs.Acts.{Act}
-use Rattle.cast_history.specs.Acts.Act.{Delivered, Left, Sent}
-use Rattle.cast_history.specs.Effects.{next_message}
-use Rattle.cast_history.specs.Entering.{parted}
-use Rattle.cast_history.specs.Owing.{paying_view}
-use Rattle.cast_history.specs.Reports.{report_in}
-use Rattle.cast_history.specs.State.{State, emitted, noting_ack, noting_act, noting_sent, noting_stable, outside, receiving, releasing, set_group, set_session, set_standing, with_delivery}
-use Rattle.cast_history.specs.Step.{opening_next}
-use Rattle.cast_history.specs.Turns.{is_ready_for}
+use Rattle.cast_rules.specs.Acts.{Act}
+use Rattle.cast_rules.specs.Acts.Act.{Delivered, Left, Sent}
+use Rattle.cast_rules.specs.Effects.{next_message}
+use Rattle.cast_rules.specs.Entering.{parted}
+use Rattle.cast_rules.specs.Owing.{paying_view}
+use Rattle.cast_rules.specs.Reports.{report_in}
+use Rattle.cast_rules.specs.State.{State, emitted, noting_ack, noting_act, noting_sent, noting_stable, outside, receiving, releasing, set_group, set_session, set_standing, with_delivery}
+use Rattle.cast_rules.specs.Step.{opening_next}
+use Rattle.cast_rules.specs.Turns.{is_ready_for}
 use Rattle.cast_message.specs.Bodies.{kind_of}
 use Rattle.cast_message.specs.declared.message.Body.{Body}
 use Rattle.cast_message.specs.declared.message.Message.{Message}

@@ -5,14 +5,14 @@ use Rattle.std.proofs.lemmas.Bool.{true≢false}
 use Rattle.std.specs.Prelude.{◌+◌, ◌++◌, Bool, Contains, List, None, Option, Some, [], drop, false, filter, if◌then◌else◌, length, map, refl, true, unwrap_or, ℕ, ◌≡◌, ◌≤◌, ◌⊎◌}
 use Rattle.cast_delay.specs.Ready.{Process}
 use Rattle.cast_flush.specs.declared.report.Report.{Report}
-use Rattle.cast_history.specs.Acts.{Act}
-use Rattle.cast_history.specs.Acts.Act.{Delivered, Entered, Left, Sent}
-use Rattle.cast_history.specs.Noted.{abcasts_by}
-use Rattle.cast_history.specs.Reports.{tail_of}
-use Rattle.cast_history.specs.State.{State, local}
+use Rattle.cast_rules.specs.Acts.{Act}
+use Rattle.cast_rules.specs.Acts.Act.{Delivered, Entered, Left, Sent}
+use Rattle.cast_rules.specs.Noted.{abcasts_by}
+use Rattle.cast_rules.specs.Reports.{tail_of}
+use Rattle.cast_rules.specs.State.{State, local}
 use Rattle.cast_message.specs.Bodies.{kind_of, new_holder}
-use Rattle.cast_message.specs.Keeping.{KeptList}
-use Rattle.cast_message.specs.Stretch.{Stretch}
+use Rattle.cast_message.specs.KeptIds.{KeptList}
+use Rattle.cast_message.specs.Tail.{Tail}
 use Rattle.cast_message.specs.declared.message.Message.{Message}
 use Rattle.cast_message.specs.declared.site.SiteFrame.{SiteFrame}
 use Rattle.cast_order.specs.Order.{closed_order}
@@ -62,7 +62,7 @@ Ends = GroupNo → ℕ → End
 abbrev pub end_ids : CountList → End → List Entry
 end_ids cut e = filter (is_within cut) (drop e.start e.whole) ++ e.added
 
-abbrev pub end_tail : CountList → End → Stretch
+abbrev pub end_tail : CountList → End → Tail
 end_tail cut e = record { start = e.start; ids = end_ids cut e }
 
 -- the order of the view with this end
@@ -99,7 +99,7 @@ pub record HasSaid (choice : Choice) (at : Sites) (order : Orders) (handed : Han
   pub begins : (k : ℕ) → ((at s).process k).standing g ≡ Member → ((at s).group g).number ≡ view → is_pending ((at s).group g) ≡ false → IsPrefix (done_in g view ((at s).abcasts k)) whole
 
 -- and said so, and which ABCASTs without a place it had
-abbrev pub HasReported : Choice → Sites → Orders → HandOvers → Safe → SiteNo → GroupNo → ℕ → Stretch → KeptList → Type 0
+abbrev pub HasReported : Choice → Sites → Orders → HandOvers → Safe → SiteNo → GroupNo → ℕ → Tail → KeptList → Type 0
 HasReported choice at order handed safe s g view tail kept =
     (whole : List Entry) × HasSaid choice at order handed safe s g view whole × (tail ≡ tail_of whole) × ((e : Entry) → Contains kept (e, true) → IsAbcast at g view e)
 
@@ -236,7 +236,7 @@ module _ (home : SiteNo) (w : Network) (a : SiteNo) (t u : State) (later : Later
       begins k true stopped old member current waits = let c = calm g v k stopped member current waits in subst (λ l. IsPrefix l whole) (sym c.3) (old c.0 c.1 c.2)
       begins k false stopped old member current waits = old member current waits
 
-  pub reported_later : (s : SiteNo) (g : GroupNo) (v : ℕ) (tail : Stretch) (kept : KeptList) → v ≤ numbers (at t) home g → HasReported choice (at t) order handed safe s g v tail kept → HasReported more (at u) next given wider s g v tail kept
+  pub reported_later : (s : SiteNo) (g : GroupNo) (v : ℕ) (tail : Tail) (kept : KeptList) → v ≤ numbers (at t) home g → HasReported choice (at t) order handed safe s g v tail kept → HasReported more (at u) next given wider s g v tail kept
   reported_later s g v tail kept le x = (x.0, said_later s g v x.0 le x.1, x.2, λ e c. abcast_later g v e (x.3 e c))
 
   pub end_later : (g : GroupNo) (v : ℕ) (e : End) → v + 1 ≤ numbers (at t) home g → EndHolds choice (at t) order handed safe g v e → EndHolds more (at u) next given wider g v e

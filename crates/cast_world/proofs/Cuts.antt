@@ -3,10 +3,10 @@ use Rattle.std.proofs.Common.{ap, append_assoc, arith, inl, inr, subst, sym, ◌
 use Rattle.std.proofs.lemmas.List.Elements.{Contains-append_left, Contains-append_right, Contains-push_cases}
 use Rattle.std.specs.Prelude.{◌+◌, ◌++◌, ◌<◌, Contains, IsTrue, List, [], refl, ℕ, ◌∷◌, ◌≡◌, ◌≤◌}
 use Rattle.cast_clock.specs.Times.{view_of}
-use Rattle.cast_history.specs.Acts.{Act}
-use Rattle.cast_history.specs.Acts.Act.{Delivered, Entered, Left}
+use Rattle.cast_rules.specs.Acts.{Act}
+use Rattle.cast_rules.specs.Acts.Act.{Delivered, Entered, Left}
 use Rattle.cast_message.specs.declared.message.Message.{Message}
-use Rattle.cast_model.specs.declared.config.DomainConfig.{DomainConfig}
+use Rattle.cast_events.specs.declared.config.DomainConfig.{DomainConfig}
 use Rattle.cast_types.specs.Counts.{CountList, is_within}
 use Rattle.cast_types.specs.Names.{Entry, named}
 use Rattle.cast_types.specs.declared.names.GroupNo.{GroupNo}

@@ -5,17 +5,17 @@ use Rattle.std.proofs.lemmas.List.{append-nil}
 use Rattle.std.specs.Prelude.{◌&&◌, ◌+◌, ◌++◌, ◌==◌, Bool, List, [], cond, false, filter, if◌then◌else◌, refl, true, ℕ, ◌∷◌, ◌≡◌}
 use Rattle.cast_clock.specs.Times.{join, view_of}
 use Rattle.cast_delay.specs.Ready.{Process}
-use Rattle.cast_history.specs.Effects.{next_message}
-use Rattle.cast_history.specs.Entering.{enters, in_view, is_put_out, parted, passing, putting_out}
-use Rattle.cast_history.specs.History.{history}
-use Rattle.cast_history.specs.Rules.Asking.{is_home}
-use Rattle.cast_history.specs.Run.{IsStep, after_event, before_event}
-use Rattle.cast_history.specs.State.{State, local, with_delivery}
+use Rattle.cast_rules.specs.Effects.{next_message}
+use Rattle.cast_rules.specs.Entering.{enters, in_view, is_put_out, parted, passing, putting_out}
+use Rattle.cast_rules.specs.History.{history}
+use Rattle.cast_rules.specs.Rules.Asking.{is_home}
+use Rattle.cast_rules.specs.Run.{IsStep, after_event, before_event}
+use Rattle.cast_rules.specs.State.{State, local, with_delivery}
 use Rattle.cast_message.specs.Membership.{Membership}
 use Rattle.cast_message.specs.declared.message.Message.{Message}
-use Rattle.cast_model.specs.declared.config.DomainConfig.{DomainConfig}
-use Rattle.cast_model.specs.declared.event.Event.{Event}
-use Rattle.cast_model.specs.declared.event.Taken.{Taken}
+use Rattle.cast_events.specs.declared.config.DomainConfig.{DomainConfig}
+use Rattle.cast_events.specs.declared.event.Event.{Event}
+use Rattle.cast_events.specs.declared.event.Taken.{Taken}
 use Rattle.cast_types.specs.Counts.{CountList}
 use Rattle.cast_types.specs.Names.{group_eq, proc_eq, site_eq}
 use Rattle.cast_types.specs.Sets.{set_at}

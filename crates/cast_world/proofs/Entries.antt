@@ -7,13 +7,13 @@ use Rattle.std.proofs.lemmas.List.Elements.{Contains-append_left}
 use Rattle.std.specs.List.{fold}
 use Rattle.std.specs.Prelude.{◌&&◌, ◌++◌, Bool, Contains, List, Some, [], false, if◌then◌else◌, is_some, refl, true, unwrap_or, ℕ, ◌∷◌, ◌≡◌}
 use Rattle.cast_delay.specs.Ready.{is_member}
-use Rattle.cast_history.specs.Acts.{Act}
-use Rattle.cast_history.specs.Acts.Act.{Delivered, Entered, Left, Sent}
-use Rattle.cast_history.specs.Entering.{enters, in_view, is_put_out, passing, putting_out}
-use Rattle.cast_history.specs.History.{history}
-use Rattle.cast_history.specs.Rules.Leaving.{tell}
-use Rattle.cast_history.specs.Rules.Rest.{told_of}
-use Rattle.cast_history.specs.State.{State, local_members, noting_act, noting_sent, outside, serials, with_delivery}
+use Rattle.cast_rules.specs.Acts.{Act}
+use Rattle.cast_rules.specs.Acts.Act.{Delivered, Entered, Left, Sent}
+use Rattle.cast_rules.specs.Entering.{enters, in_view, is_put_out, passing, putting_out}
+use Rattle.cast_rules.specs.History.{history}
+use Rattle.cast_rules.specs.Rules.Leaving.{tell}
+use Rattle.cast_rules.specs.Rules.Rest.{told_of}
+use Rattle.cast_rules.specs.State.{State, local_members, noting_act, noting_sent, outside, serials, with_delivery}
 use Rattle.cast_message.specs.Membership.{Membership}
 use Rattle.cast_message.specs.declared.client.Push.{Push}
 use Rattle.cast_message.specs.declared.message.Body.{Body}

@@ -4,28 +4,28 @@ use Rattle.std.proofs.lemmas.Bool.{and_parts, false≢true}
 use Rattle.std.specs.List.{find, fold}
 use Rattle.std.specs.Prelude.{Bool, Contains, None, List, Option, Some, [], false, if◌then◌else◌, is_some, length, not, refl, true, unwrap_or, ℕ, ◌&&◌, ◌+◌, ◌∷◌, ◌≡◌, ◌⊎◌}
 use Rattle.cast_delay.specs.Ready.{is_member}
-use Rattle.cast_history.specs.Acts.Act.{Delivered}
-use Rattle.cast_history.specs.Effects.{delivering, sending}
-use Rattle.cast_history.specs.History.{history}
-use Rattle.cast_history.specs.Order.{has_place, holders, holds, order_told, unlisted}
-use Rattle.cast_history.specs.Reports.{has_delivered_cut, missing_in}
-use Rattle.cast_history.specs.Rest.{RestsAt, deliver_all, deliver_first, is_free, let_go, pass, set_order, set_order_by, set_orders, settle}
-use Rattle.cast_history.specs.Resting.{next_places, places_of, resting}
-use Rattle.cast_history.specs.Rules.Events.{is_taken, may_open}
-use Rattle.cast_history.specs.Rules.Flushes.{complete, complete_or_want, go_on, go_on_all, own_want_key, want_own}
-use Rattle.cast_history.specs.Rules.Order.{list_places, may_list}
-use Rattle.cast_history.specs.Rules.Rest.{tell_if, told_of}
-use Rattle.cast_history.specs.Rules.Sending.{may_raise}
-use Rattle.cast_history.specs.Run.{after_event, before_event}
-use Rattle.cast_history.specs.State.{State, local, serials, setting_quota, taking, with_delivery}
-use Rattle.cast_history.specs.Step.{acted, opening_next, sessions_given}
-use Rattle.cast_history.specs.Turns.{is_ready_for}
-use Rattle.cast_message.specs.Sequence.{Sequence}
+use Rattle.cast_rules.specs.Acts.Act.{Delivered}
+use Rattle.cast_rules.specs.Effects.{delivering, sending}
+use Rattle.cast_rules.specs.History.{history}
+use Rattle.cast_rules.specs.Order.{has_place, holders, holds, order_told, unlisted}
+use Rattle.cast_rules.specs.Reports.{has_delivered_cut, missing_in}
+use Rattle.cast_rules.specs.Rest.{RestsAt, deliver_all, deliver_first, is_free, let_go, pass, set_order, set_order_by, set_orders, settle}
+use Rattle.cast_rules.specs.Resting.{next_places, places_of, resting}
+use Rattle.cast_rules.specs.Rules.Events.{is_taken, may_open}
+use Rattle.cast_rules.specs.Rules.Flushes.{complete, complete_or_want, go_on, go_on_all, own_want_key, want_own}
+use Rattle.cast_rules.specs.Rules.Order.{list_places, may_list}
+use Rattle.cast_rules.specs.Rules.Rest.{tell_if, told_of}
+use Rattle.cast_rules.specs.Rules.Sending.{may_raise}
+use Rattle.cast_rules.specs.Run.{after_event, before_event}
+use Rattle.cast_rules.specs.State.{State, local, serials, setting_quota, taking, with_delivery}
+use Rattle.cast_rules.specs.Step.{acted, opening_next, sessions_given}
+use Rattle.cast_rules.specs.Turns.{is_ready_for}
+use Rattle.cast_message.specs.Placement.{Placement}
 use Rattle.cast_message.specs.declared.client.Push.{Push}
 use Rattle.cast_message.specs.declared.message.Message.{Message}
 use Rattle.cast_message.specs.declared.site.SiteFrame.{SiteFrame}
-use Rattle.cast_model.specs.Session.{is_gone, taken_from}
-use Rattle.cast_model.specs.declared.event.Event.{Event}
+use Rattle.cast_events.specs.Session.{is_gone, taken_from}
+use Rattle.cast_events.specs.declared.event.Event.{Event}
 use Rattle.cast_quota.specs.Quotas.{is_in_range, with_quota}
 use Rattle.cast_types.specs.declared.names.GroupNo.{GroupNo}
 use Rattle.cast_types.specs.declared.names.SiteNo.{SiteNo}
@@ -40,7 +40,7 @@ use Rattle.cast_world.proofs.Kept.{AcksFreely, Kept, OwedTrue, FullyKept, FullyK
 use Rattle.cast_world.proofs.Telling.{end_session_keeps, owe_keeps, tell_keeps, tick_keeps}
 use Rattle.cast_world.proofs.Tokens.{holds_still}
 use Rattle.cast_message.specs.declared.message.Body.TheVariants as body
-use Rattle.cast_model.specs.declared.event.Event.TheVariants as event
+use Rattle.cast_events.specs.declared.event.Event.TheVariants as event
 
 -- where an event is a frame, it has come
 abbrev pub HasCome : (SiteNo → SiteFrame → Type 0) → Event → Type 0
@@ -100,8 +100,8 @@ module _ (I : State → Type 0) (Between : GroupNo → State → Type 0) (Came :
   settle_keeps s i = keeps_fold I deliver_all (λ r n j. keeps_iterate I (deliver_first n) (deliver_first_keeps n) (length r.got) r j) (serials s) s i
 
   -- the places that a holder sets next are those after the order known here
-  next_are : (s : State) (g : GroupNo) (n : ℕ) (places : Sequence) → next_places s g n ≡ Some places → body.Order places ≡ body.Order (places_of s g n)
-  next_are s g n places e = ap (λ (p : Sequence). body.Order p) (go (not (is_empty (unlisted s g n)) && has_place (order_told s g)) e)
+  next_are : (s : State) (g : GroupNo) (n : ℕ) (places : Placement) → next_places s g n ≡ Some places → body.Order places ≡ body.Order (places_of s g n)
+  next_are s g n places e = ap (λ (p : Placement). body.Order p) (go (not (is_empty (unlisted s g n)) && has_place (order_told s g)) e)
     where
       go : (b : Bool) → (if b then Some (places_of s g n) else None) ≡ Some places → places ≡ places_of s g n
       go true is = sym (ap (λ o. unwrap_or o places) is)

@@ -2,9 +2,9 @@
 use Rattle.std.specs.Prelude.{◌+◌, ◌<◌, Contains, IsTrue, List, Some, true, ℕ, ◌≡◌, ◌≤◌, ◌⊎◌}
 use Rattle.cast_delay.specs.Ready.{Process}
 use Rattle.cast_flush.specs.declared.report.Report.{Report}
-use Rattle.cast_history.specs.Acts.{Act}
-use Rattle.cast_history.specs.Acts.Act.{Delivered, Entered, Left, Sent}
-use Rattle.cast_history.specs.State.{State}
+use Rattle.cast_rules.specs.Acts.{Act}
+use Rattle.cast_rules.specs.Acts.Act.{Delivered, Entered, Left, Sent}
+use Rattle.cast_rules.specs.State.{State}
 use Rattle.cast_message.specs.Membership.{Membership}
 use Rattle.cast_message.specs.declared.message.Message.{Message}
 use Rattle.cast_message.specs.declared.site.SiteFrame.{SiteFrame}

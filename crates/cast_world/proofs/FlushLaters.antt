@@ -1,7 +1,7 @@
 -- What holds of flushes still holds when others have moved and the home has decided more.
 use Rattle.std.proofs.Common.{ap, arith, inl, inr, subst, sym, ◌∙◌}
 use Rattle.std.specs.Prelude.{◌+◌, Contains, IsTrue, refl, ℕ, ◌≡◌, ◌≤◌}
-use Rattle.cast_history.specs.State.{State}
+use Rattle.cast_rules.specs.State.{State}
 use Rattle.cast_message.specs.declared.site.SiteFrame.{SiteFrame}
 use Rattle.cast_types.specs.Counts.{CountList, is_within}
 use Rattle.cast_types.specs.Names.{entry_of}

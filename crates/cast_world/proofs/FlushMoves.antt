@@ -3,10 +3,10 @@ use Rattle.std.proofs.Common.{ap, arith, inl, inr, subst, sym, ◌∙◌}
 use Rattle.std.proofs.lemmas.List.Elements.{Contains-append_left, Contains-push, Contains-push_cases}
 use Rattle.std.specs.Prelude.{◌+◌, ◌++◌, ◌<◌, Bool, Contains, IsTrue, List, [], false, if◌then◌else◌, true, ℕ, ◌∷◌, ◌≡◌, ◌≤◌, ◌⊎◌}
 use Rattle.cast_delay.specs.Ready.{is_member}
-use Rattle.cast_history.specs.Acts.{Act}
-use Rattle.cast_history.specs.Acts.Act.{Delivered, Entered, Left, Sent}
-use Rattle.cast_history.specs.Entering.{all_parted, enters, is_put_out, passing, putting_out}
-use Rattle.cast_history.specs.State.{State, noting_act, noting_sent, outside, receiving, set_group, with_delivery}
+use Rattle.cast_rules.specs.Acts.{Act}
+use Rattle.cast_rules.specs.Acts.Act.{Delivered, Entered, Left, Sent}
+use Rattle.cast_rules.specs.Entering.{all_parted, enters, is_put_out, passing, putting_out}
+use Rattle.cast_rules.specs.State.{State, noting_act, noting_sent, outside, receiving, set_group, with_delivery}
 use Rattle.cast_message.specs.Membership.{Membership}
 use Rattle.cast_message.specs.declared.message.Message.{Message}
 use Rattle.cast_types.specs.Counts.{CountList, is_within}
@@ -30,7 +30,7 @@ parted_old s g goes k m at = go (goes k) at
     go true c = before_left (s.acts k) g m c
     go false c = c
 
--- Keeping to what was told
+-- KeptIds to what was told
 
 -- numbers do not fall, a frozen group stays so in its view, and what is delivered in a frozen group is within the cut
 pub record Flows (choice : Choice) (number : GroupNo → ℕ) (group next : GroupNo → MemberSide) (acts more : ℕ → List Act) : Type 0 where

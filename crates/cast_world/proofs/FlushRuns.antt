@@ -3,15 +3,15 @@ use Rattle.std.proofs.Common.{ap, arith, inl, inr, subst, sym}
 use Rattle.std.proofs.lemmas.Bool.{false≢true}
 use Rattle.std.proofs.lemmas.List.Elements.{Contains-append_cases, Contains-append_right}
 use Rattle.std.specs.Prelude.{◌+◌, ◌++◌, ◌<◌, Bool, Contains, IsTrue, List, None, Option, Some, [], false, if◌then◌else◌, is_some, map, refl, true, ℕ, ◌∷◌, ◌≡◌, ◌≤◌}
-use Rattle.cast_history.specs.Acts.{Act}
-use Rattle.cast_history.specs.Acts.Act.{Delivered, Entered}
-use Rattle.cast_history.specs.Rules.Views.{no_members}
-use Rattle.cast_history.specs.Run.{after_event, before_event}
-use Rattle.cast_history.specs.State.{State}
+use Rattle.cast_rules.specs.Acts.{Act}
+use Rattle.cast_rules.specs.Acts.Act.{Delivered, Entered}
+use Rattle.cast_rules.specs.Rules.Views.{no_members}
+use Rattle.cast_rules.specs.Run.{after_event, before_event}
+use Rattle.cast_rules.specs.State.{State}
 use Rattle.cast_message.specs.declared.message.Message.{Message}
 use Rattle.cast_message.specs.declared.site.SiteFrame.{SiteFrame}
-use Rattle.cast_model.specs.declared.config.DomainConfig.{DomainConfig}
-use Rattle.cast_model.specs.declared.event.Event.{Event}
+use Rattle.cast_events.specs.declared.config.DomainConfig.{DomainConfig}
+use Rattle.cast_events.specs.declared.event.Event.{Event}
 use Rattle.cast_types.specs.Counts.{CountList, is_within}
 use Rattle.cast_types.specs.Names.{entry_of, site_eq}
 use Rattle.cast_types.specs.declared.names.GroupNo.{GroupNo}

@@ -5,15 +5,15 @@ use Rattle.std.proofs.lemmas.List.Elements.{Contains-append_left, Contains-push_
 use Rattle.std.specs.List.{flat_map, list_any}
 use Rattle.std.specs.Prelude.{◌&&◌, ◌+◌, ◌++◌, ◌<◌, ◌==◌, Bool, Contains, IsTrue, List, None, Option, Some, [], false, filter, if◌then◌else◌, is_some, map, not, refl, suc, true, ◌||◌, ℕ, ◌∷◌, ◌≡◌, ◌≤◌}
 use Rattle.cast_delay.specs.Ready.{Process, is_cut_by, is_member, is_open_to, is_outside}
-use Rattle.cast_history.specs.Acts.{Act}
-use Rattle.cast_history.specs.Acts.Act.{Entered, Left, Sent}
-use Rattle.cast_history.specs.Effects.{next_message}
-use Rattle.cast_history.specs.Entering.{all_parted, completing, enters, in_view, parted}
-use Rattle.cast_history.specs.Order.{is_of_view}
-use Rattle.cast_history.specs.Reports.{had_here, had_in, report_in}
-use Rattle.cast_history.specs.State.{State, emitted, gate_of, local, noting_act, noting_sent, outside, receiving, serials, set_group, set_home, set_standing, with_delivery}
-use Rattle.cast_history.specs.Step.{opening_next}
-use Rattle.cast_history.specs.Turns.{is_ready_for}
+use Rattle.cast_rules.specs.Acts.{Act}
+use Rattle.cast_rules.specs.Acts.Act.{Entered, Left, Sent}
+use Rattle.cast_rules.specs.Effects.{next_message}
+use Rattle.cast_rules.specs.Entering.{all_parted, completing, enters, in_view, parted}
+use Rattle.cast_rules.specs.Order.{is_of_view}
+use Rattle.cast_rules.specs.Reports.{had_here, had_in, report_in}
+use Rattle.cast_rules.specs.State.{State, emitted, gate_of, local, noting_act, noting_sent, outside, receiving, serials, set_group, set_home, set_standing, with_delivery}
+use Rattle.cast_rules.specs.Step.{opening_next}
+use Rattle.cast_rules.specs.Turns.{is_ready_for}
 use Rattle.cast_message.specs.Membership.{Membership}
 use Rattle.cast_message.specs.declared.message.Body.{Body}
 use Rattle.cast_message.specs.declared.message.Message.{Message}

@@ -7,15 +7,15 @@ use Rattle.std.specs.Prelude.{◌&&◌, ◌+◌, ◌<◌, ◌==◌, Bool, Contai
 use Rattle.cast_clock.specs.Times.{view_of}
 use Rattle.cast_flush.specs.Reports.{cut_from, has_report, is_complete}
 use Rattle.cast_flush.specs.declared.report.Report.{Report}
-use Rattle.cast_history.specs.Acts.Act.{Entered}
-use Rattle.cast_history.specs.Effects.{next_message}
-use Rattle.cast_history.specs.Entering.{enters, freezing, is_put_out, passing, pending_install, putting_out}
-use Rattle.cast_history.specs.History.{history}
-use Rattle.cast_history.specs.Rules.Asking.{is_home}
-use Rattle.cast_history.specs.State.{State, emitted, local, noting_sent, outside, receiving, releasing, set_group, set_home, set_session, set_standing, with_delivery}
-use Rattle.cast_history.specs.Step.{opening_next}
+use Rattle.cast_rules.specs.Acts.Act.{Entered}
+use Rattle.cast_rules.specs.Effects.{next_message}
+use Rattle.cast_rules.specs.Entering.{enters, freezing, is_put_out, passing, pending_install, putting_out}
+use Rattle.cast_rules.specs.History.{history}
+use Rattle.cast_rules.specs.Rules.Asking.{is_home}
+use Rattle.cast_rules.specs.State.{State, emitted, local, noting_sent, outside, receiving, releasing, set_group, set_home, set_session, set_standing, with_delivery}
+use Rattle.cast_rules.specs.Step.{opening_next}
 use Rattle.cast_message.specs.Membership.{Membership}
-use Rattle.cast_message.specs.Stretch.{Stretch}
+use Rattle.cast_message.specs.Tail.{Tail}
 use Rattle.cast_message.specs.declared.message.Message.{Message}
 use Rattle.cast_message.specs.declared.site.SiteFrame.{SiteFrame}
 use Rattle.cast_types.specs.Counts.{CountList, is_within}
@@ -304,7 +304,7 @@ module _ (home : SiteNo) (w : Network) (a : SiteNo) where
 
     -- its members were decided with it
     chosen_of : (t : State) (g : GroupNo) (skipped : Bool) (n : ℕ) (members : Membership) (request : ℕ) (cut : CountList) → Comes (Arrived home w a) t g skipped n members request cut → (choice : Choice) → GroupAgrees choice g (t.group g) →
-        ((from : SiteNo) (tail : Stretch) → Arrived home w a from (frame.Install g n members request cut tail) → (members ≡ (choice g n).members) × (cut ≡ (choice g n).cut)) →
+        ((from : SiteNo) (tail : Tail) → Arrived home w a from (frame.Install g n members request cut tail) → (members ≡ (choice g n).members) × (cut ≡ (choice g n).cut)) →
         (m : Membership) → local_view t.here members ≡ Some m → m ≡ (choice g n).members
     chosen_of t g skipped n members request cut comes choice agrees truth m e = go (list_any (is_at t.here) members.list) refl e
       where
@@ -353,7 +353,7 @@ module _ (home : SiteNo) (w : Network) (a : SiteNo) where
           ])
 
       well_of : Comes (Arrived home w a) t g skipped n members request cut →
-          ((from : SiteNo) (tail : Stretch) → Arrived home w a from (frame.Install g n members request cut tail) → (members ≡ (choice g n).members) × (cut ≡ (choice g n).cut)) →
+          ((from : SiteNo) (tail : Tail) → Arrived home w a from (frame.Install g n members request cut tail) → (members ≡ (choice g n).members) × (cut ≡ (choice g n).cut)) →
           (j : ℕ) → enters left g members request j ≡ true → (cut ≡ (choice g n).cut) × CutWell (left.acts j) (Entered g n cut)
       well_of (completes p pend all no_skip n_is members_is request_is cut_is) truth j entering =
           let among = (and_parts (is_taken_in request ((left.process j).standing g)) (is_among proc_eq (local t j) members.list) entering).1 in (
@@ -375,7 +375,7 @@ module _ (home : SiteNo) (w : Network) (a : SiteNo) where
       pub passing_agrees : (u : State) → Later t u → Comes (Arrived home w a) t g skipped n members request cut → SiteHolds (at u) home a t → SiteAgrees choice (number u) (at u) a t →
           ((from : SiteNo) (fr : SiteFrame) → Arrived home w a from fr → IsTrueOf choice (number u) (at u) from fr) → SiteAgrees choice (number u) (at u) a (passing t g skipped n members request cut)
       passing_agrees u later comes x y truth =
-          let installed : (from : SiteNo) (tail : Stretch) → Arrived home w a from (frame.Install g n members request cut tail) → (members ≡ (choice g n).members) × (cut ≡ (choice g n).cut) =
+          let installed : (from : SiteNo) (tail : Tail) → Arrived home w a from (frame.Install g n members request cut tail) → (members ≡ (choice g n).members) × (cut ≡ (choice g n).cut) =
           λ from tail came. truth from (frame.Install g n members request cut tail) came in
           view_agrees choice (at u) home a left (all_part_site (at u) home a t x g goes) (all_part_agrees choice (at u) home a t x y g goes) g n members request cut
           (next_of home w a t i.0 u later g skipped n members request cut comes).decided

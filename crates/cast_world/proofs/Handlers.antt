@@ -8,31 +8,31 @@ use Rattle.std.specs.Prelude.{◌&&◌, ◌||◌, ◌+◌, ◌++◌, ◌<◌, �
 use Rattle.cast_clock.specs.Times.{view_of}
 use Rattle.cast_delay.specs.Ready.{is_member, is_outside}
 use Rattle.cast_flush.specs.declared.report.Report.{Report}
-use Rattle.cast_history.specs.Effects.{next_message}
-use Rattle.cast_history.specs.Entering.{freezing, passing}
-use Rattle.cast_history.specs.History.{history}
-use Rattle.cast_history.specs.Order.{holds, place_to_pass}
-use Rattle.cast_history.specs.Owing.{paying, paying_upto}
-use Rattle.cast_history.specs.Reports.{had_here, report_in}
-use Rattle.cast_history.specs.Rules.Asking.{is_from_home, is_home, request}
-use Rattle.cast_history.specs.Rules.Commands.{body_handing, body_of, cast, cast_at, commanded, hand_over, join, join_at, leave, pass_at, pass_token, reply, requested, send_own}
-use Rattle.cast_history.specs.Rules.Data.{acknowledge, is_outdated, is_used, is_well_formed, on_data, use_data, want_no_more}
-use Rattle.cast_history.specs.Rules.Flushes.{flushed_frame, is_wanted_here, on_prepare, on_wanted}
-use Rattle.cast_history.specs.Rules.Frames.{framed, group_of, on_frame}
-use Rattle.cast_history.specs.Rules.Home.{announce, decide, drop_want, drop_wants, forwardable, is_of_home, lead, lead_group, on_flushed, on_forward, on_installed, on_want, owe_of_home, prepare, start, suspect, suspect_in, want, want_bodies, want_eq, wants}
-use Rattle.cast_history.specs.Rules.Keys.{ask_key, home_key, message_key, want_key}
-use Rattle.cast_history.specs.Rules.Leaving.{Attempt, close_session, leave_at}
-use Rattle.cast_history.specs.Rules.Owing.{owe, send_for}
-use Rattle.cast_history.specs.Rules.Requests.{answer_ask, deny, deny_if, is_joining_by, on_ask, on_asked, take_answer}
-use Rattle.cast_history.specs.Rules.Room.{may_order, may_receive, may_take}
-use Rattle.cast_history.specs.Rules.Sending.{may_raise, send_data}
-use Rattle.cast_history.specs.Rules.Stability.{is_used_ack, on_ack, on_stable, tell_more, tell_stable, with_ack}
-use Rattle.cast_history.specs.Rules.Views.{change_view, enter_and_tell, install, no_members, on_install, on_out, tell_out, tell_view}
-use Rattle.cast_history.specs.State.{State, awaits_own, counting_cast, emitted, is_ended, is_group, is_received, is_stable, local, local_members, message_of, noting_sent, others_of, outside, receiving, releasing_ended, set_group, set_home, set_standing, upto}
+use Rattle.cast_rules.specs.Effects.{next_message}
+use Rattle.cast_rules.specs.Entering.{freezing, passing}
+use Rattle.cast_rules.specs.History.{history}
+use Rattle.cast_rules.specs.Order.{holds, place_to_pass}
+use Rattle.cast_rules.specs.Owing.{paying, paying_upto}
+use Rattle.cast_rules.specs.Reports.{had_here, report_in}
+use Rattle.cast_rules.specs.Rules.Asking.{is_from_home, is_home, request}
+use Rattle.cast_rules.specs.Rules.Commands.{body_handing, body_of, cast, cast_at, commanded, hand_over, join, join_at, leave, pass_at, pass_token, reply, requested, send_own}
+use Rattle.cast_rules.specs.Rules.Data.{acknowledge, is_outdated, is_used, is_well_formed, on_data, use_data, want_no_more}
+use Rattle.cast_rules.specs.Rules.Flushes.{flushed_frame, is_wanted_here, on_prepare, on_wanted}
+use Rattle.cast_rules.specs.Rules.Frames.{framed, group_of, on_frame}
+use Rattle.cast_rules.specs.Rules.Home.{announce, decide, drop_want, drop_wants, forwardable, is_of_home, lead, lead_group, on_flushed, on_forward, on_installed, on_want, owe_of_home, prepare, start, suspect, suspect_in, want, want_bodies, want_eq, wants}
+use Rattle.cast_rules.specs.Rules.Keys.{ask_key, home_key, message_key, want_key}
+use Rattle.cast_rules.specs.Rules.Leaving.{Attempt, close_session, leave_at}
+use Rattle.cast_rules.specs.Rules.Owing.{owe, send_for}
+use Rattle.cast_rules.specs.Rules.Requests.{answer_ask, deny, deny_if, is_joining_by, on_ask, on_asked, take_answer}
+use Rattle.cast_rules.specs.Rules.Room.{may_order, may_receive, may_take}
+use Rattle.cast_rules.specs.Rules.Sending.{may_raise, send_data}
+use Rattle.cast_rules.specs.Rules.Stability.{is_used_ack, on_ack, on_stable, tell_more, tell_stable, with_ack}
+use Rattle.cast_rules.specs.Rules.Views.{change_view, enter_and_tell, install, no_members, on_install, on_out, tell_out, tell_view}
+use Rattle.cast_rules.specs.State.{State, awaits_own, counting_cast, emitted, is_ended, is_group, is_received, is_stable, local, local_members, message_of, noting_sent, others_of, outside, receiving, releasing_ended, set_group, set_home, set_standing, upto}
 use Rattle.cast_message.specs.Bodies.{kind_of}
-use Rattle.cast_message.specs.Keeping.{KeptList}
+use Rattle.cast_message.specs.KeptIds.{KeptList}
 use Rattle.cast_message.specs.Membership.{Membership}
-use Rattle.cast_message.specs.Stretch.{Stretch}
+use Rattle.cast_message.specs.Tail.{Tail}
 use Rattle.cast_message.specs.declared.client.CastKind.{CastKind}
 use Rattle.cast_message.specs.declared.client.Command.{Command}
 use Rattle.cast_message.specs.declared.client.Request.{Request}
@@ -40,8 +40,8 @@ use Rattle.cast_message.specs.declared.message.Body.{Body}
 use Rattle.cast_message.specs.declared.message.Message.{Message}
 use Rattle.cast_message.specs.declared.site.Change.{Change}
 use Rattle.cast_message.specs.declared.site.SiteFrame.{SiteFrame}
-use Rattle.cast_model.specs.Session.{is_open}
-use Rattle.cast_model.specs.declared.limits.TheConstants.{MAX_CASTS}
+use Rattle.cast_events.specs.Session.{is_open}
+use Rattle.cast_events.specs.declared.limits.TheConstants.{MAX_CASTS}
 use Rattle.cast_stable.specs.Stable.{has_acked}
 use Rattle.cast_timer.specs.Owed.{is_owed, is_upto}
 use Rattle.cast_types.specs.Counts.{CountList}
@@ -58,7 +58,7 @@ use Rattle.cast_types.specs.declared.refusal.Refusal.TheVariants.{AlreadyMember,
 use Rattle.cast_view.specs.Home.{answer_to, awaited_of, bodies_of, may_decide, may_start, moved, takes_installed, takes_report, waiting_of}
 use Rattle.cast_view.specs.Home.HomeMove.{Asked, Brought, Decided, Installed, Reported, Started, Suspected}
 use Rattle.cast_view.specs.MemberSide.{MemberSide, answers_prepare, counts_by, first_asking, frozen_side, greatest_of, has_view, is_current, is_pending, is_put_out_by, members_of, with_answer}
-use Rattle.cast_view.specs.declared.member.Asking.{Asking}
+use Rattle.cast_view.specs.declared.member.PendingRequest.{PendingRequest}
 use Rattle.cast_view.specs.declared.member.Verdict.{Verdict}
 use Rattle.cast_view.specs.declared.member.Verdict.TheVariants.{Again, Completes, Ignored, Pends, Skips}
 use Rattle.cast_world.proofs.Entries.{agrees_later, members_entered, put_out_left, tell_all_goes_on, tell_all_keeps}
@@ -82,7 +82,7 @@ not_false true e = absurd (false≢true e)
 not_false false e = refl
 
 -- what a site reports of a view stays the same when the view is frozen
-told_tail : State → GroupNo → MemberSide → Stretch
+told_tail : State → GroupNo → MemberSide → Tail
 told_tail s g x = (report_in (record s { group = λ h. x }) g).tail
 
 told_kept : State → GroupNo → MemberSide → KeptList
@@ -270,7 +270,7 @@ module _ (I : State → Type 0) (Between : GroupNo → State → Type 0) (Came :
       answer None = k.homes s g (Asked from number what q) i came
       answer (Some full) = t.emits (set_home s g (moved (Asked from number what q) (s.home g))) from (frame.Asked g number full) (k.homes s g (Asked from number what q) i came) tt tt
 
-  deny_keeps : (s : State) (g : GroupNo) (a : Asking) → I s → I (deny history s g a)
+  deny_keeps : (s : State) (g : GroupNo) (a : PendingRequest) → I s → I (deny history s g a)
   deny_keeps s g a i = keeps_if I (is_joining_by ((s.process a.proc.serial).standing g) a.number) _ s
       (λ _. tell_keeps I t (outside s a.proc.serial g) a.proc.serial (push.Denied g GroupFull) (t.parts s a.proc.serial g i) tt) (λ _. i)
 
@@ -282,11 +282,11 @@ module _ (I : State → Type 0) (Between : GroupNo → State → Type 0) (Came :
   on_asked_keeps : (s : State) (from : SiteNo) (g : GroupNo) (number : ℕ) (full : Bool) → I s → I (on_asked history s g from number full)
   on_asked_keeps s from g number full i = go (first_asking (s.group g).requests)
     where
-      denied : (b : Bool) (a : Asking) → I (deny_if history b (take_answer history s g) g a)
+      denied : (b : Bool) (a : PendingRequest) → I (deny_if history b (take_answer history s g) g a)
       denied true a = deny_keeps (take_answer history s g) g a (take_answer_keeps s g i)
       denied false a = take_answer_keeps s g i
 
-      go : (o : Option Asking) → I (elim o [ Some a ↦ (if is_from_home history s from && (a.number == number) then deny_if history full (take_answer history s g) g a else s) | None ↦ s ])
+      go : (o : Option PendingRequest) → I (elim o [ Some a ↦ (if is_from_home history s from && (a.number == number) then deny_if history full (take_answer history s g) g a else s) | None ↦ s ])
       go (Some a) = keeps_if I (is_from_home history s from && (a.number == number)) (deny_if history full (take_answer history s g) g a) s (λ _. denied full a) (λ _. i)
       go None = i
 
@@ -414,7 +414,7 @@ module _ (I : State → Type 0) (Between : GroupNo → State → Type 0) (Came :
       t.emits (change_view history skipped s g n members request cut) to (frame.Installed g n) (change_view_keeps s g skipped n members request cut i comes) tt tt
 
   -- what a verdict leads to
-  abbrev By : (s : State) (from : SiteNo) (g : GroupNo) (n : ℕ) (members : Membership) (request : ℕ) (cut : CountList) (tail : Stretch) → Verdict → Type 0
+  abbrev By : (s : State) (from : SiteNo) (g : GroupNo) (n : ℕ) (members : Membership) (request : ℕ) (cut : CountList) (tail : Tail) → Verdict → Type 0
   By s from g n members request cut tail v = I (elim v [
     | Again ↦ history.send s from (frame.Installed g n)
     | Skips ↦ install history true s g from n members request cut
@@ -423,7 +423,7 @@ module _ (I : State → Type 0) (Between : GroupNo → State → Type 0) (Came :
     | Ignored ↦ s
   ])
 
-  on_install_keeps : (s : State) (from : SiteNo) (g : GroupNo) (n : ℕ) (members : Membership) (request : ℕ) (cut : CountList) (tail : Stretch) → I s →
+  on_install_keeps : (s : State) (from : SiteNo) (g : GroupNo) (n : ℕ) (members : Membership) (request : ℕ) (cut : CountList) (tail : Tail) → I s →
       Came from (frame.Install g n members request cut tail) → I (on_install history s g from n members request cut tail)
   on_install_keeps s from g n members request cut tail i came = keeps_if I (is_from_home history s from) _ s (λ _. again (nat_le n (s.group g).number) refl) (λ _. i)
     where

@@ -2,13 +2,13 @@
 use Rattle.std.specs.Prelude.{◌+◌, ◌<◌, Contains, List, Some, false, true, ℕ, ◌≡◌, ◌≤◌}
 use Rattle.cast_clock.specs.Times.{view_of}
 use Rattle.cast_delay.specs.Ready.{Process, is_outside}
-use Rattle.cast_history.specs.Acts.{Act}
-use Rattle.cast_history.specs.Acts.Act.{Delivered, Sent}
-use Rattle.cast_history.specs.State.{State}
+use Rattle.cast_rules.specs.Acts.{Act}
+use Rattle.cast_rules.specs.Acts.Act.{Delivered, Sent}
+use Rattle.cast_rules.specs.State.{State}
 use Rattle.cast_message.specs.declared.message.Message.{Message}
 use Rattle.cast_message.specs.declared.site.SiteFrame.{SiteFrame}
-use Rattle.cast_model.specs.Session.{Session, is_open}
-use Rattle.cast_model.specs.declared.config.DomainConfig.{DomainConfig}
+use Rattle.cast_events.specs.Session.{Session, is_open}
+use Rattle.cast_events.specs.declared.config.DomainConfig.{DomainConfig}
 use Rattle.cast_types.specs.Stamps.{ClockList}
 use Rattle.cast_types.specs.declared.names.GroupNo.{GroupNo}
 use Rattle.cast_types.specs.declared.names.SiteNo.{SiteNo}
@@ -17,7 +17,7 @@ use Rattle.cast_types.specs.declared.names.Standing.TheVariants.{Joining, Member
 use Rattle.cast_types.specs.declared.names.Uid.{Uid}
 use Rattle.cast_view.specs.Home.{Home, answer_in, answer_of, bodies_of}
 use Rattle.cast_view.specs.MemberSide.{MemberSide, has_view}
-use Rattle.cast_view.specs.declared.member.Asking.{Asking}
+use Rattle.cast_view.specs.declared.member.PendingRequest.{PendingRequest}
 use Rattle.cast_view.specs.declared.member.Pending.{Pending}
 use Rattle.cast_view.specs.declared.phase.Decision.{Decision}
 use Rattle.cast_view.specs.declared.phase.Phase.TheVariants.{Installing}
@@ -94,7 +94,7 @@ OneHolds at home here used groups group k p acts = OneParts at home here used gr
 pub record GroupHolds (at : Sites) (home s : SiteNo) (g : GroupNo) (group : MemberSide) : Type 0 where
   pub number : IsDecided at home g group.number
   pub pending : (p : Pending) → group.pending ≡ Some p → IsDecided at home g (group.number + 1) × TakesIn (at s).process (at s).group g p.request (group.number + 1)
-  pub requests : (a : Asking) → Contains group.requests a → a.number ≤ ((at s).group g).asked
+  pub requests : (a : PendingRequest) → Contains group.requests a → a.number ≤ ((at s).group g).asked
 
 -- a group at the home: requests that were applied were made; Installs may be sent; bodies are messages that were sent
 pub record HomeHolds (at : Sites) (home : SiteNo) (g : GroupNo) (h : Home) : Type 0 where

@@ -3,11 +3,11 @@ use Rattle.std.proofs.Common.{arith, inl, inr, subst, sym, ◌∙◌}
 use Rattle.std.specs.Prelude.{◌+◌, ◌++◌, Bool, None, Option, Some, [], false, if◌then◌else◌, refl, true, ℕ, ◌∷◌, ◌≡◌}
 use Rattle.cast_clock.specs.Times.{join, view_of}
 use Rattle.cast_delay.specs.Ready.{Process}
-use Rattle.cast_history.specs.Effects.{next_message}
-use Rattle.cast_history.specs.Entering.{is_put_out, passing, putting_out}
-use Rattle.cast_history.specs.Run.{after_event}
-use Rattle.cast_history.specs.State.{State, local, outside, set_process}
-use Rattle.cast_model.specs.declared.event.Event.{Event}
+use Rattle.cast_rules.specs.Effects.{next_message}
+use Rattle.cast_rules.specs.Entering.{is_put_out, passing, putting_out}
+use Rattle.cast_rules.specs.Run.{after_event}
+use Rattle.cast_rules.specs.State.{State, local, outside, set_process}
+use Rattle.cast_events.specs.declared.event.Event.{Event}
 use Rattle.cast_types.specs.Names.{group_eq, site_eq}
 use Rattle.cast_types.specs.Sets.{set_at}
 use Rattle.cast_types.specs.declared.names.SiteNo.{SiteNo}

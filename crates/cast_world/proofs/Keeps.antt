@@ -4,7 +4,7 @@ use Rattle.std.proofs.lemmas.Bool.{false≢true}
 use Rattle.std.specs.List.{find, fold}
 use Rattle.std.specs.Option.{option_map_or}
 use Rattle.std.specs.Prelude.{Bool, Contains, List, None, Option, Some, [], cond, false, if◌then◌else◌, is_some, refl, suc, true, unwrap_or, zero, ℕ, ◌∷◌, ◌≡◌}
-use Rattle.cast_history.specs.State.{State}
+use Rattle.cast_rules.specs.State.{State}
 use Rattle.cast_types.specs.Repeat.{iterate}
 
 pub found_is : {X : Type 0} (p : X → Bool) (xs : List X) (x : X) → find p xs ≡ Some x → (p x ≡ true) × Contains xs x

@@ -3,29 +3,29 @@ use Rattle.std.proofs.Common.{inr}
 use Rattle.std.specs.Prelude.{◌+◌, ◌++◌, ◌<◌, Bool, Contains, List, Some, [], false, true, ℕ, ◌∷◌, ◌≡◌, ◌⊎◌}
 use Rattle.cast_clock.specs.Times.{view_of}
 use Rattle.cast_delay.specs.Ready.{is_member, is_outside}
-use Rattle.cast_history.specs.Effects.{next_message}
-use Rattle.cast_history.specs.Entering.{freezing, passing, pending_install}
-use Rattle.cast_history.specs.History.{history}
-use Rattle.cast_history.specs.Order.{holds, place_to_pass}
-use Rattle.cast_history.specs.Owing.{paying_view}
-use Rattle.cast_history.specs.Reports.{has_delivered_cut, report_in}
-use Rattle.cast_history.specs.Resting.{places_of}
-use Rattle.cast_history.specs.Rules.Asking.{is_home}
-use Rattle.cast_history.specs.Rules.Keys.{id_in}
-use Rattle.cast_history.specs.Rules.Views.{no_members}
-use Rattle.cast_history.specs.Rules.Commands.{body_handing}
-use Rattle.cast_history.specs.State.{State, emitted, is_group, is_received, noting_ack, noting_sent, noting_stable, outside, receiving, releasing, set_group, set_home, set_session, set_standing, with_delivery}
-use Rattle.cast_history.specs.Step.{opening_next}
-use Rattle.cast_history.specs.Turns.{is_ready_for}
+use Rattle.cast_rules.specs.Effects.{next_message}
+use Rattle.cast_rules.specs.Entering.{freezing, passing, pending_install}
+use Rattle.cast_rules.specs.History.{history}
+use Rattle.cast_rules.specs.Order.{holds, place_to_pass}
+use Rattle.cast_rules.specs.Owing.{paying_view}
+use Rattle.cast_rules.specs.Reports.{has_delivered_cut, report_in}
+use Rattle.cast_rules.specs.Resting.{places_of}
+use Rattle.cast_rules.specs.Rules.Asking.{is_home}
+use Rattle.cast_rules.specs.Rules.Keys.{id_in}
+use Rattle.cast_rules.specs.Rules.Views.{no_members}
+use Rattle.cast_rules.specs.Rules.Commands.{body_handing}
+use Rattle.cast_rules.specs.State.{State, emitted, is_group, is_received, noting_ack, noting_sent, noting_stable, outside, receiving, releasing, set_group, set_home, set_session, set_standing, with_delivery}
+use Rattle.cast_rules.specs.Step.{opening_next}
+use Rattle.cast_rules.specs.Turns.{is_ready_for}
 use Rattle.cast_message.specs.Bodies.{kind_of}
 use Rattle.cast_message.specs.Membership.{Membership}
-use Rattle.cast_message.specs.Stretch.{Stretch}
+use Rattle.cast_message.specs.Tail.{Tail}
 use Rattle.cast_message.specs.declared.client.Push.{Push}
 use Rattle.cast_message.specs.declared.message.Body.{Body}
 use Rattle.cast_message.specs.declared.message.Message.{Message}
 use Rattle.cast_message.specs.declared.site.Change.{Change}
 use Rattle.cast_message.specs.declared.site.SiteFrame.{SiteFrame}
-use Rattle.cast_model.specs.Session.{Session, is_open}
+use Rattle.cast_events.specs.Session.{Session, is_open}
 use Rattle.cast_quota.specs.declared.quotas.Quotas.{Quotas}
 use Rattle.cast_stable.specs.Stable.{Acked}
 use Rattle.cast_timer.specs.Owed.{is_of_view, paid, renewed, with_owed}
@@ -43,7 +43,7 @@ use Rattle.cast_types.specs.declared.names.Uid.{Uid}
 use Rattle.cast_view.specs.Home.{HomeMove, answer_in, bodies_of, may_decide, moved}
 use Rattle.cast_view.specs.Home.HomeMove.{Asked, Brought, Decided, Installed, Reported, Started, Suspected}
 use Rattle.cast_view.specs.MemberSide.{has_view, is_pending, members_of, with_answer, with_request}
-use Rattle.cast_view.specs.declared.member.Asking.{Asking}
+use Rattle.cast_view.specs.declared.member.PendingRequest.{PendingRequest}
 use Rattle.cast_view.specs.declared.member.Pending.{Pending}
 use Rattle.cast_view.specs.declared.phase.Decision.{Decision}
 use Rattle.cast_view.specs.declared.phase.Phase.TheVariants.{Installing}
@@ -57,7 +57,7 @@ abbrev pub Says : State → SiteNo → SiteFrame → Type 0
 Says s to (frame.Data m) = Contains s.kept m
 Says s to (frame.Ack u) = Unit {0}
 Says s to (frame.Stable u) = Unit {0}
-Says s to (frame.Ask g number what p) = (a : Asking) × Contains (s.group g).requests a × (a.number ≡ number)
+Says s to (frame.Ask g number what p) = (a : PendingRequest) × Contains (s.group g).requests a × (a.number ≡ number)
 Says s to (frame.Asked g number full) = Unit {0}
 Says s to (frame.Prepare g view) = Unit {0}
 Says s to (frame.Flushed g view counts tail kept) =
@@ -93,9 +93,9 @@ pub data MaySend (s : State) (g : GroupNo) (k : ℕ) (content : Body) : Type 0 w
 pub data Comes (Came : SiteNo → SiteFrame → Type 0) (s : State) (g : GroupNo) (skipped : Bool) (n : ℕ) (members : Membership) (request : ℕ) (cut : CountList) : Type 0 where
   completes : (p : Pending) → (s.group g).pending ≡ Some p → has_delivered_cut s g p.cut ≡ true → skipped ≡ false → n ≡ (s.group g).number + 1 →
       members ≡ p.members → request ≡ p.request → cut ≡ p.cut → Comes Came s g skipped n members request cut
-  installs : (from : SiteNo) (tail : Stretch) → Came from (frame.Install g n members request cut tail) → has_view (s.group g) ≡ false → skipped ≡ false →
+  installs : (from : SiteNo) (tail : Tail) → Came from (frame.Install g n members request cut tail) → has_view (s.group g) ≡ false → skipped ≡ false →
       (s.group g).number < n → Comes Came s g skipped n members request cut
-  skips : (from : SiteNo) (tail : Stretch) → Came from (frame.Install g n members request cut tail) → skipped ≡ true → (s.group g).number < n →
+  skips : (from : SiteNo) (tail : Tail) → Came from (frame.Install g n members request cut tail) → skipped ≡ true → (s.group g).number < n →
       Comes Came s g skipped n members request cut
   ends : (from : SiteNo) → Came from (frame.Out g n) → skipped ≡ true → (s.group g).number < n → members ≡ no_members →
       Comes Came s g skipped n members request cut
@@ -124,7 +124,7 @@ pub record Kept (I : State → Type 0) (Came : SiteNo → SiteFrame → Type 0) 
       m.id.view ≡ (s.group m.id.group).number → is_among proc_eq m.id.proc (members_of (s.group m.id.group)) ≡ true → I (receiving s m)
   pub delivers : (s : State) (k : ℕ) (m : Message) → I s → Contains s.got m → is_ready_for s k m ≡ true → I (with_delivery s k m)
   pub freezes : (s : State) (g : GroupNo) → I s → has_view (s.group g) ≡ true → I (freezing s g)
-  pub pends : (s : State) (from : SiteNo) (g : GroupNo) (p : Pending) (tail : Stretch) → I s →
+  pub pends : (s : State) (from : SiteNo) (g : GroupNo) (p : Pending) (tail : Tail) → I s →
       Came from (frame.Install g ((s.group g).number + 1) p.members p.request p.cut tail) → has_view (s.group g) ≡ true → I (pending_install s g p tail)
   pub passes : (s : State) (g : GroupNo) (skipped : Bool) (n : ℕ) (members : Membership) (request : ℕ) (cut : CountList) → I s →
       Comes Came s g skipped n members request cut → I (passing s g skipped n members request cut)
@@ -200,7 +200,7 @@ pub record FullyKept (I : State → Type 0) (Between : GroupNo → State → Typ
   pub learns : (s : State) (from : SiteNo) (u : Uid) → I s → Came from (frame.Stable u) → I (noting_stable s u)
   pub delivers : (s : State) (k : ℕ) (m : Message) → I s → Contains s.got m → is_ready_for s k m ≡ true → I (with_delivery s k m)
   pub freezes : (s : State) (g : GroupNo) → I s → has_view (s.group g) ≡ true → I (freezing s g)
-  pub pends : (s : State) (from : SiteNo) (g : GroupNo) (p : Pending) (tail : Stretch) → I s →
+  pub pends : (s : State) (from : SiteNo) (g : GroupNo) (p : Pending) (tail : Tail) → I s →
       Came from (frame.Install g ((s.group g).number + 1) p.members p.request p.cut tail) → has_view (s.group g) ≡ true → is_pending (s.group g) ≡ false → I (pending_install s g p tail)
   pub passes : (s : State) (g : GroupNo) (skipped : Bool) (n : ℕ) (members : Membership) (request : ℕ) (cut : CountList) → I s →
       Comes Came s g skipped n members request cut → Between g (passing s g skipped n members request cut)

@@ -64,5 +64,5 @@ pub mod Deliveries
 pub mod Schedules
 pub mod Standing
 pub mod Pushes
-pub mod Listed
+pub mod ListsAreActs
 pub mod Told

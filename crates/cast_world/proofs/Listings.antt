@@ -5,9 +5,9 @@ use Rattle.std.proofs.lemmas.Bool.{and_parts, eqb-true, false_from_ne_true, fals
 use Rattle.std.proofs.lemmas.List.Elements.{filter-append}
 use Rattle.std.proofs.lemmas.List.{append-nil, map-append}
 use Rattle.std.specs.Prelude.{◌++◌, ◌==◌, Bool, Contains, List, [], cond, false, filter, map, not, refl, suc, true, zero, ◌||◌, ℕ, ◌∷◌, ◌≡◌}
-use Rattle.cast_history.specs.Acts.{Act}
-use Rattle.cast_history.specs.Acts.Act.{Delivered, Entered, Left, Sent}
-use Rattle.cast_history.specs.Noted.{abcasts_by}
+use Rattle.cast_rules.specs.Acts.{Act}
+use Rattle.cast_rules.specs.Acts.Act.{Delivered, Entered, Left, Sent}
+use Rattle.cast_rules.specs.Noted.{abcasts_by}
 use Rattle.cast_message.specs.Bodies.{kind_of}
 use Rattle.cast_message.specs.declared.message.Message.{Message}
 use Rattle.cast_order.specs.Order.{still_to_list}

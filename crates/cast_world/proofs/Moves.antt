@@ -5,18 +5,18 @@ use Rattle.std.proofs.lemmas.List.Elements.{Contains-append_left, Contains-push,
 use Rattle.std.specs.Prelude.{◌+◌, ◌++◌, ◌<◌, ◌==◌, Bool, Contains, List, [], false, if◌then◌else◌, not, refl, true, ℕ, ◌∷◌, ◌≡◌, ◌≤◌, ◌⊎◌}
 use Rattle.cast_clock.specs.Times.{count_in, join, view_of}
 use Rattle.cast_delay.specs.Ready.{Process, is_member, is_outside}
-use Rattle.cast_history.specs.Acts.{Act}
-use Rattle.cast_history.specs.Acts.Act.{Delivered, Entered, Left, Sent}
-use Rattle.cast_history.specs.Effects.{next_message}
-use Rattle.cast_history.specs.Entering.{all_parted, completing, enters, in_view, is_put_out, parted, passing, putting_out}
-use Rattle.cast_history.specs.State.{State, emitted, gate_of, local, noting_act, noting_sent, outside, receiving, releasing, set_group, set_home, set_session, set_standing, with_delivery}
-use Rattle.cast_history.specs.Step.{opening_next}
-use Rattle.cast_history.specs.Turns.{is_ready_for, turn_of}
+use Rattle.cast_rules.specs.Acts.{Act}
+use Rattle.cast_rules.specs.Acts.Act.{Delivered, Entered, Left, Sent}
+use Rattle.cast_rules.specs.Effects.{next_message}
+use Rattle.cast_rules.specs.Entering.{all_parted, completing, enters, in_view, is_put_out, parted, passing, putting_out}
+use Rattle.cast_rules.specs.State.{State, emitted, gate_of, local, noting_act, noting_sent, outside, receiving, releasing, set_group, set_home, set_session, set_standing, with_delivery}
+use Rattle.cast_rules.specs.Step.{opening_next}
+use Rattle.cast_rules.specs.Turns.{is_ready_for, turn_of}
 use Rattle.cast_message.specs.Membership.{Membership}
 use Rattle.cast_message.specs.declared.message.Body.{Body}
 use Rattle.cast_message.specs.declared.message.Message.{Message}
 use Rattle.cast_message.specs.declared.site.SiteFrame.{SiteFrame}
-use Rattle.cast_model.specs.Session.{Session, first_session, is_open}
+use Rattle.cast_events.specs.Session.{Session, first_session, is_open}
 use Rattle.cast_types.specs.Counts.{CountList}
 use Rattle.cast_types.specs.Names.{group_eq}
 use Rattle.cast_types.specs.Sets.{set_at}

@@ -4,9 +4,9 @@ use Rattle.std.proofs.lemmas.Bool.{eq-eqb, eqb-true, false_from_ne_true, true≢
 use Rattle.std.specs.Prelude.{◌+◌, ◌++◌, ◌<◌, Bool, Contains, IsTrue, List, [], false, if◌then◌else◌, refl, true, ℕ, ◌∷◌, ◌≡◌, ◌≤◌, ◌≡◌}
 use Rattle.cast_clock.specs.Times.{bumped, count_in, entering, join, view_of}
 use Rattle.cast_delay.specs.Ready.{Process, is_outside}
-use Rattle.cast_history.specs.Acts.{Act}
-use Rattle.cast_history.specs.Acts.Act.{Delivered, Entered, Left, Sent}
-use Rattle.cast_history.specs.Entering.{in_view, parted}
+use Rattle.cast_rules.specs.Acts.{Act}
+use Rattle.cast_rules.specs.Acts.Act.{Delivered, Entered, Left, Sent}
+use Rattle.cast_rules.specs.Entering.{in_view, parted}
 use Rattle.cast_message.specs.declared.message.Message.{Message}
 use Rattle.cast_types.specs.Counts.{CountList, is_within}
 use Rattle.cast_types.specs.Names.{Entry, group_eq, named}

@@ -7,14 +7,14 @@ use Rattle.std.proofs.lemmas.List.{append-nil, length-append, take-append-drop}
 use Rattle.std.specs.List.{enumerate_from}
 use Rattle.std.specs.Prelude.{◌&&◌, ◌+◌, ◌++◌, ◌==◌, Bool, Contains, List, None, Option, Some, [], drop, false, if◌then◌else◌, is_some, length, refl, true, unwrap_or, ℕ, ◌∷◌, ◌≡◌, ◌≤◌, ◌⊎◌}
 use Rattle.cast_delay.specs.Ready.{Process, has_delivered, is_member}
-use Rattle.cast_history.specs.Acts.{Act}
-use Rattle.cast_history.specs.Acts.Act.{Delivered, Sent}
-use Rattle.cast_history.specs.Effects.{next_message}
-use Rattle.cast_history.specs.Noted.{abcasts_by}
-use Rattle.cast_history.specs.Order.{holds, last_place, told_by, unlisted}
-use Rattle.cast_history.specs.Resting.{places_of}
-use Rattle.cast_history.specs.Rules.Commands.{body_handing}
-use Rattle.cast_history.specs.State.{State, local, noting_sent, receiving}
+use Rattle.cast_rules.specs.Acts.{Act}
+use Rattle.cast_rules.specs.Acts.Act.{Delivered, Sent}
+use Rattle.cast_rules.specs.Effects.{next_message}
+use Rattle.cast_rules.specs.Noted.{abcasts_by}
+use Rattle.cast_rules.specs.Order.{holds, last_place, told_by, unlisted}
+use Rattle.cast_rules.specs.Resting.{places_of}
+use Rattle.cast_rules.specs.Rules.Commands.{body_handing}
+use Rattle.cast_rules.specs.State.{State, local, noting_sent, receiving}
 use Rattle.cast_message.specs.Bodies.{kind_of, new_holder}
 use Rattle.cast_message.specs.declared.message.Body.{Body}
 use Rattle.cast_message.specs.declared.message.Message.{Message}

@@ -6,12 +6,12 @@ use Rattle.std.proofs.lemmas.List.{append-nil, length-append, length_push}
 use Rattle.std.proofs.lemmas.List.Elements.{Contains-push}
 use Rattle.std.specs.Prelude.{◌&&◌, ◌+◌, ◌++◌, ◌==◌, Contains, List, Option, Some, [], false, if◌then◌else◌, is_some, length, not, refl, true, unwrap_or, ℕ, ◌∷◌, ◌≡◌, ◌≤◌}
 use Rattle.cast_delay.specs.Ready.{has_delivered, is_causally_ready, is_member, is_open_to}
-use Rattle.cast_history.specs.Acts.Act.{Delivered, Sent}
-use Rattle.cast_history.specs.Noted.{abcasts_by}
-use Rattle.cast_history.specs.Order.{order_of, told_by, token_told}
-use Rattle.cast_history.specs.Rules.Commands.{body_handing}
-use Rattle.cast_history.specs.State.{State, gate_of, local, with_delivery}
-use Rattle.cast_history.specs.Turns.{is_ready_for, turn_of}
+use Rattle.cast_rules.specs.Acts.Act.{Delivered, Sent}
+use Rattle.cast_rules.specs.Noted.{abcasts_by}
+use Rattle.cast_rules.specs.Order.{order_of, told_by, token_told}
+use Rattle.cast_rules.specs.Rules.Commands.{body_handing}
+use Rattle.cast_rules.specs.State.{State, gate_of, local, with_delivery}
+use Rattle.cast_rules.specs.Turns.{is_ready_for, turn_of}
 use Rattle.cast_message.specs.Bodies.{kind_of, new_holder}
 use Rattle.cast_message.specs.declared.message.Message.{Message}
 use Rattle.cast_types.specs.Names.{Entry, entry_of, is_atomic, named, uid_eq}

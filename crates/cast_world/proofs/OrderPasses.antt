@@ -5,12 +5,12 @@ use Rattle.std.proofs.lemmas.Bool.{false_from_ne_true, false≢true}
 use Rattle.std.proofs.lemmas.List.Elements.{Contains-append_left}
 use Rattle.std.specs.Prelude.{◌++◌, ◌<◌, Bool, Contains, None, [], false, if◌then◌else◌, is_some, length, refl, true, unwrap_or, ℕ, ◌∷◌, ◌≡◌, ◌≤◌}
 use Rattle.cast_delay.specs.Ready.{has_delivered}
-use Rattle.cast_history.specs.Acts.{Act}
-use Rattle.cast_history.specs.Acts.Act.{Delivered, Entered, Sent}
-use Rattle.cast_history.specs.Entering.{enters, in_view, is_put_out, passing, putting_out}
-use Rattle.cast_history.specs.Noted.{abcasts_by}
-use Rattle.cast_history.specs.Order.{told_by}
-use Rattle.cast_history.specs.State.{State, local}
+use Rattle.cast_rules.specs.Acts.{Act}
+use Rattle.cast_rules.specs.Acts.Act.{Delivered, Entered, Sent}
+use Rattle.cast_rules.specs.Entering.{enters, in_view, is_put_out, passing, putting_out}
+use Rattle.cast_rules.specs.Noted.{abcasts_by}
+use Rattle.cast_rules.specs.Order.{told_by}
+use Rattle.cast_rules.specs.State.{State, local}
 use Rattle.cast_message.specs.Bodies.{kind_of}
 use Rattle.cast_message.specs.Membership.{Membership}
 use Rattle.cast_message.specs.declared.message.Message.{Message}

@@ -1,18 +1,18 @@
 -- What holds of orders holds in every network that steps lead to. So members that deliver ABCASTs of one view agree.
 use Rattle.cast_types.proofs.Orders.{same_site}
-use Rattle.cast_world.proofs.Listed.{abcasts_are_acts}
+use Rattle.cast_world.proofs.ListsAreActs.{abcasts_are_acts}
 use Rattle.std.proofs.Common.{ap, append_assoc, arith, inl, inr, subst, sym, ◌∙◌}
 use Rattle.std.proofs.lemmas.Bool.{false≢true}
 use Rattle.std.proofs.lemmas.List.Elements.{Contains-append_right, Contains-push_cases}
 use Rattle.std.proofs.lemmas.List.{append-nil, map-append}
 use Rattle.std.specs.Prelude.{◌++◌, Bool, Contains, List, None, Option, Some, [], false, filter, if◌then◌else◌, is_some, map, refl, true, unwrap_or, ℕ, ◌∷◌, ◌≡◌, ◌⊎◌}
-use Rattle.cast_history.specs.Acts.{Act}
-use Rattle.cast_history.specs.Acts.Act.{Delivered, Entered, Left, Sent}
-use Rattle.cast_history.specs.Run.{after_event, before_event}
-use Rattle.cast_history.specs.State.{State, local}
+use Rattle.cast_rules.specs.Acts.{Act}
+use Rattle.cast_rules.specs.Acts.Act.{Delivered, Entered, Left, Sent}
+use Rattle.cast_rules.specs.Run.{after_event, before_event}
+use Rattle.cast_rules.specs.State.{State, local}
 use Rattle.cast_message.specs.declared.message.Message.{Message}
-use Rattle.cast_model.specs.declared.config.DomainConfig.{DomainConfig}
-use Rattle.cast_model.specs.declared.event.Event.{Event}
+use Rattle.cast_events.specs.declared.config.DomainConfig.{DomainConfig}
+use Rattle.cast_events.specs.declared.event.Event.{Event}
 use Rattle.cast_types.specs.Counts.{CountList}
 use Rattle.cast_types.specs.Names.{Entry, named, site_eq}
 use Rattle.cast_types.specs.declared.names.GroupNo.{GroupNo}

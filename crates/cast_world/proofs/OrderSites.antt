@@ -6,11 +6,11 @@ use Rattle.std.proofs.lemmas.List.{length-append}
 use Rattle.std.specs.Prelude.{◌++◌, ◌==◌, Bool, Contains, List, Option, [], cond, false, if◌then◌else◌, is_some, length, refl, true, unwrap_or, ℕ, ◌∷◌, ◌≡◌, ◌≤◌, ◌⊎◌}
 use Rattle.cast_clock.specs.Times.{join}
 use Rattle.cast_delay.specs.Ready.{Process, is_member}
-use Rattle.cast_history.specs.Acts.{Act}
-use Rattle.cast_history.specs.Acts.Act.{Delivered, Left}
-use Rattle.cast_history.specs.Entering.{all_parted, parted}
-use Rattle.cast_history.specs.Noted.{abcasts_by}
-use Rattle.cast_history.specs.State.{State, noting_act, outside, with_delivery}
+use Rattle.cast_rules.specs.Acts.{Act}
+use Rattle.cast_rules.specs.Acts.Act.{Delivered, Left}
+use Rattle.cast_rules.specs.Entering.{all_parted, parted}
+use Rattle.cast_rules.specs.Noted.{abcasts_by}
+use Rattle.cast_rules.specs.State.{State, noting_act, outside, with_delivery}
 use Rattle.cast_message.specs.Bodies.{kind_of, new_holder}
 use Rattle.cast_message.specs.declared.message.Message.{Message}
 use Rattle.cast_types.specs.Names.{Entry, group_eq, is_atomic}

@@ -5,14 +5,14 @@ use Rattle.std.proofs.lemmas.List.Elements.{Contains-append_left, Contains-push_
 use Rattle.std.specs.Prelude.{◌+◌, ◌++◌, Bool, Contains, List, Some, [], false, if◌then◌else◌, is_some, length, refl, true, unwrap_or, ℕ, ◌∷◌, ◌≡◌, ◌≤◌, ◌⊎◌}
 use Rattle.cast_clock.specs.Times.{view_of}
 use Rattle.cast_delay.specs.Ready.{Process, is_member}
-use Rattle.cast_history.specs.Acts.{Act}
-use Rattle.cast_history.specs.Acts.Act.{Delivered, Sent}
-use Rattle.cast_history.specs.Effects.{next_message}
-use Rattle.cast_history.specs.Entering.{passing, pending_install}
-use Rattle.cast_history.specs.Noted.{abcasts_by}
-use Rattle.cast_history.specs.Order.{last_place, told_by}
-use Rattle.cast_history.specs.State.{State, emitted, local, noting_sent, outside, receiving, releasing, set_group, set_home, set_session, set_standing, with_delivery}
-use Rattle.cast_history.specs.Step.{opening_next}
+use Rattle.cast_rules.specs.Acts.{Act}
+use Rattle.cast_rules.specs.Acts.Act.{Delivered, Sent}
+use Rattle.cast_rules.specs.Effects.{next_message}
+use Rattle.cast_rules.specs.Entering.{passing, pending_install}
+use Rattle.cast_rules.specs.Noted.{abcasts_by}
+use Rattle.cast_rules.specs.Order.{last_place, told_by}
+use Rattle.cast_rules.specs.State.{State, emitted, local, noting_sent, outside, receiving, releasing, set_group, set_home, set_session, set_standing, with_delivery}
+use Rattle.cast_rules.specs.Step.{opening_next}
 use Rattle.cast_message.specs.Bodies.{kind_of, new_holder}
 use Rattle.cast_message.specs.Membership.{Membership}
 use Rattle.cast_message.specs.declared.message.Body.{Body}

@@ -6,11 +6,11 @@ use Rattle.std.proofs.lemmas.List.{length-append}
 use Rattle.std.specs.Prelude.{◌&&◌, ◌+◌, ◌++◌, ◌<◌, ◌==◌, Bool, Contains, List, None, Option, Some, [], false, filter, if◌then◌else◌, length, nat_lt, not, refl, true, ◌||◌, ℕ, ◌∷◌, ◌≡◌, ◌≤◌}
 use Rattle.cast_delay.specs.Ready.{has_delivered, has_turn, is_causally_ready, is_cut_by, is_member, is_open_to}
 use Rattle.cast_delay.specs.declared.turn.Turn.TheVariants.{Following, Holding}
-use Rattle.cast_history.specs.History.{history}
-use Rattle.cast_history.specs.Order.{facts_in, has_place, holds, is_of_view, order_by, order_of, order_told, told_by, unlisted, unsettled}
-use Rattle.cast_history.specs.Rules.Room.{may_order}
-use Rattle.cast_history.specs.State.{State, gate_of, local}
-use Rattle.cast_history.specs.Turns.{has_room_for_order, is_ready_for, turn_of}
+use Rattle.cast_rules.specs.History.{history}
+use Rattle.cast_rules.specs.Order.{facts_in, has_place, holds, is_of_view, order_by, order_of, order_told, told_by, unlisted, unsettled}
+use Rattle.cast_rules.specs.Rules.Room.{may_order}
+use Rattle.cast_rules.specs.State.{State, gate_of, local}
+use Rattle.cast_rules.specs.Turns.{has_room_for_order, is_ready_for, turn_of}
 use Rattle.cast_message.specs.Bodies.{kind_of}
 use Rattle.cast_message.specs.declared.message.Body.{Body}
 use Rattle.cast_message.specs.declared.message.Message.{Message}

@@ -2,12 +2,12 @@
 -- Who has the token of the view tells it: first the process that the Install named, and then each to which the token was handed over.
 use Rattle.std.specs.Prelude.{◌+◌, ◌++◌, ◌<◌, Contains, List, None, Option, Some, [], false, filter, is_some, length, map, true, unwrap_or, ℕ, ◌∷◌, ◌≡◌, ◌≤◌, ◌⊎◌}
 use Rattle.cast_delay.specs.Ready.{Process}
-use Rattle.cast_history.specs.Acts.{Act}
-use Rattle.cast_history.specs.Acts.Act.{Delivered, Sent}
-use Rattle.cast_history.specs.Noted.{abcasts_by}
-use Rattle.cast_history.specs.Order.{last_place, told_by}
-use Rattle.cast_history.specs.Rules.Commands.{body_handing}
-use Rattle.cast_history.specs.State.{State}
+use Rattle.cast_rules.specs.Acts.{Act}
+use Rattle.cast_rules.specs.Acts.Act.{Delivered, Sent}
+use Rattle.cast_rules.specs.Noted.{abcasts_by}
+use Rattle.cast_rules.specs.Order.{last_place, told_by}
+use Rattle.cast_rules.specs.Rules.Commands.{body_handing}
+use Rattle.cast_rules.specs.State.{State}
 use Rattle.cast_message.specs.Bodies.{kind_of, new_holder}
 use Rattle.cast_message.specs.declared.message.Message.{Message}
 use Rattle.cast_types.specs.Names.{Entry, entry_of, is_atomic, named}

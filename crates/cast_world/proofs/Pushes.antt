@@ -3,19 +3,19 @@ use Rattle.std.proofs.Common.{arith, inl, inr, subst, sym}
 use Rattle.std.proofs.lemmas.List.{append-nil}
 use Rattle.std.proofs.lemmas.List.Elements.{Contains-append_left, Contains-push_cases}
 use Rattle.std.specs.Prelude.{◌+◌, ◌++◌, Bool, Contains, List, None, Option, Some, [], if◌then◌else◌, false, refl, true, ℕ, ◌∷◌, ◌≡◌}
-use Rattle.cast_history.specs.Acts.{Act}
-use Rattle.cast_history.specs.Acts.Act.{Sent}
-use Rattle.cast_history.specs.Effects.{next_message}
-use Rattle.cast_history.specs.Entering.{passing}
-use Rattle.cast_history.specs.History.{history}
-use Rattle.cast_history.specs.Run.{IsStep, after_event}
-use Rattle.cast_history.specs.Rules.Asking.{is_home}
-use Rattle.cast_history.specs.State.{State, local, noting_sent, outside, receiving, with_delivery}
+use Rattle.cast_rules.specs.Acts.{Act}
+use Rattle.cast_rules.specs.Acts.Act.{Sent}
+use Rattle.cast_rules.specs.Effects.{next_message}
+use Rattle.cast_rules.specs.Entering.{passing}
+use Rattle.cast_rules.specs.History.{history}
+use Rattle.cast_rules.specs.Run.{IsStep, after_event}
+use Rattle.cast_rules.specs.Rules.Asking.{is_home}
+use Rattle.cast_rules.specs.State.{State, local, noting_sent, outside, receiving, with_delivery}
 use Rattle.cast_message.specs.declared.client.Push.{Push}
 use Rattle.cast_message.specs.declared.message.Message.{Message}
-use Rattle.cast_model.specs.declared.config.DomainConfig.{DomainConfig}
-use Rattle.cast_model.specs.declared.event.Event.{Event}
-use Rattle.cast_model.specs.declared.event.Taken.{Taken}
+use Rattle.cast_events.specs.declared.config.DomainConfig.{DomainConfig}
+use Rattle.cast_events.specs.declared.event.Event.{Event}
+use Rattle.cast_events.specs.declared.event.Taken.{Taken}
 use Rattle.cast_types.specs.Names.{site_eq}
 use Rattle.cast_types.specs.declared.names.SiteNo.{SiteNo}
 use Rattle.cast_world.proofs.Acts.{contains_here}

@@ -3,12 +3,12 @@ use Rattle.std.proofs.Common.{ap, arith, inl, inr, subst, sym}
 use Rattle.std.proofs.lemmas.Bool.{and_parts, false≢true, true≢false}
 use Rattle.std.proofs.lemmas.List.Elements.{Contains-append_cases}
 use Rattle.std.specs.Prelude.{◌&&◌, Bool, Contains, List, None, Option, Some, [], false, if◌then◌else◌, is_some, map, refl, slice_get, suc, true, unwrap_or, zero, ℕ, ◌∷◌, ◌≡◌}
-use Rattle.cast_history.specs.Run.{IsStep, after_event, before_event}
-use Rattle.cast_history.specs.State.{State, no_process}
+use Rattle.cast_rules.specs.Run.{IsStep, after_event, before_event}
+use Rattle.cast_rules.specs.State.{State, no_process}
 use Rattle.cast_message.specs.declared.site.SiteFrame.{SiteFrame}
-use Rattle.cast_model.specs.declared.config.DomainConfig.{DomainConfig}
-use Rattle.cast_model.specs.declared.event.Event.{Event}
-use Rattle.cast_model.specs.declared.event.Taken.{Taken}
+use Rattle.cast_events.specs.declared.config.DomainConfig.{DomainConfig}
+use Rattle.cast_events.specs.declared.event.Event.{Event}
+use Rattle.cast_events.specs.declared.event.Taken.{Taken}
 use Rattle.cast_types.specs.Names.{site_eq}
 use Rattle.cast_types.specs.Sets.{is_among}
 use Rattle.cast_types.specs.declared.names.DomainNo.{DomainNo}
@@ -30,7 +30,7 @@ use Rattle.cast_world.specs.Network.{Becomes, Happens, Leads, Network, Reaches, 
 use Rattle.cast_world.specs.declared.step.Happening.{Happening}
 use Rattle.cast_world.specs.declared.step.Packet.{Packet}
 use Rattle.cast_world.specs.declared.step.Step.{Step}
-use Rattle.cast_model.specs.declared.event.Event.TheVariants as event
+use Rattle.cast_events.specs.declared.event.Event.TheVariants as event
 use Rattle.cast_world.specs.declared.step.Happening.TheVariants as happen
 
 pub got_there : {X : Type 0} (xs : List X) (k : ℕ) (x : X) → slice_get xs k ≡ Some x → Contains xs x

@@ -5,12 +5,12 @@ use Rattle.std.proofs.lemmas.List.Elements.{Contains-push_cases}
 use Rattle.std.specs.Prelude.{◌+◌, ◌++◌, ◌<◌, ◌==◌, Bool, Contains, List, [], false, if◌then◌else◌, refl, true, ℕ, ◌∷◌, ◌≡◌, ◌≤◌, ◌≡◌}
 use Rattle.cast_clock.specs.Times.{entering, join, view_of}
 use Rattle.cast_delay.specs.Ready.{Process, is_member}
-use Rattle.cast_history.specs.Acts.{Act}
-use Rattle.cast_history.specs.Acts.Act.{Delivered, Entered, Left, Sent}
-use Rattle.cast_history.specs.Effects.{next_message}
-use Rattle.cast_history.specs.Entering.{all_parted, completing, enters, in_view, is_put_out, parted, putting_out}
-use Rattle.cast_history.specs.State.{State, gate_of, local, noting_act, outside}
-use Rattle.cast_history.specs.Turns.{is_ready_for, turn_of}
+use Rattle.cast_rules.specs.Acts.{Act}
+use Rattle.cast_rules.specs.Acts.Act.{Delivered, Entered, Left, Sent}
+use Rattle.cast_rules.specs.Effects.{next_message}
+use Rattle.cast_rules.specs.Entering.{all_parted, completing, enters, in_view, is_put_out, parted, putting_out}
+use Rattle.cast_rules.specs.State.{State, gate_of, local, noting_act, outside}
+use Rattle.cast_rules.specs.Turns.{is_ready_for, turn_of}
 use Rattle.cast_message.specs.Membership.{Membership}
 use Rattle.cast_message.specs.declared.message.Message.{Message}
 use Rattle.cast_types.specs.Counts.{CountList}

@@ -6,10 +6,10 @@ use Rattle.std.proofs.lemmas.List.{take-append-drop}
 use Rattle.std.specs.List.{flat_map}
 use Rattle.std.specs.Prelude.{◌&&◌, ◌+◌, ◌<◌, Bool, Contains, List, [], drop, false, filter, if◌then◌else◌, length, refl, suc, take, true, unwrap_or, zero, ℕ, ◌∷◌, ◌≡◌, ◌≤◌, ◌⊎◌}
 use Rattle.cast_delay.specs.Ready.{has_delivered}
-use Rattle.cast_history.specs.Acts.{Act}
-use Rattle.cast_history.specs.Acts.Act.{Delivered, Entered, Left, Sent}
-use Rattle.cast_history.specs.Order.{is_of_view, last_place, listed_by, lists_of, order_by, settled_to, token_of, unsettled}
-use Rattle.cast_history.specs.State.{State, is_stable, local}
+use Rattle.cast_rules.specs.Acts.{Act}
+use Rattle.cast_rules.specs.Acts.Act.{Delivered, Entered, Left, Sent}
+use Rattle.cast_rules.specs.Order.{is_of_view, last_place, listed_by, lists_of, order_by, settled_to, token_of, unsettled}
+use Rattle.cast_rules.specs.State.{State, is_stable, local}
 use Rattle.cast_message.specs.Bodies.{kind_of}
 use Rattle.cast_message.specs.declared.message.Message.{Message}
 use Rattle.cast_order.specs.Order.{Listing, last_listed}
@@ -50,16 +50,16 @@ last_of (x ∷ listed) n lt = elim (cases_lt n x.1) [
 -- What a process listed
 
 -- a message that it sent to set the order of a view
-abbrev pub Listed : (Uid → Bool) → List Act → Message → Type 0
-Listed of acts m = Contains acts (Sent m) × (of m.id ≡ true) × (is_order (kind_of m.body) ≡ true)
+abbrev pub IsListed : (Uid → Bool) → List Act → Message → Type 0
+IsListed of acts m = Contains acts (Sent m) × (of m.id ≡ true) × (is_order (kind_of m.body) ≡ true)
 
-listing_of : (of : Uid → Bool) (acts : List Act) (x : ℕ × ℕ) → Contains (flat_map (listed_by of) acts) x → (m : Message) × Listed of acts m × (x.0 ≡ m.id.count) × (x.1 ≡ last_place m.body)
+listing_of : (of : Uid → Bool) (acts : List Act) (x : ℕ × ℕ) → Contains (flat_map (listed_by of) acts) x → (m : Message) × IsListed of acts m × (x.0 ≡ m.id.count) × (x.1 ≡ last_place m.body)
 listing_of of acts x at = let from = in_flat (listed_by of) acts x at in by from.0 from.1 from.2
   where
-    by : (y : Act) → Contains acts y → Contains (listed_by of y) x → (m : Message) × Listed of acts m × (x.0 ≡ m.id.count) × (x.1 ≡ last_place m.body)
+    by : (y : Act) → Contains acts y → Contains (listed_by of y) x → (m : Message) × IsListed of acts m × (x.0 ≡ m.id.count) × (x.1 ≡ last_place m.body)
     by (Sent m) c here = go (of m.id && is_order (kind_of m.body)) refl here
       where
-        go : (b : Bool) → (of m.id && is_order (kind_of m.body)) ≡ b → Contains (if b then (m.id.count, last_place m.body) ∷ [] else []) x → (z : Message) × Listed of acts z × (x.0 ≡ z.id.count) × (x.1 ≡ last_place z.body)
+        go : (b : Bool) → (of m.id && is_order (kind_of m.body)) ≡ b → Contains (if b then (m.id.count, last_place m.body) ∷ [] else []) x → (z : Message) × IsListed of acts z × (x.0 ≡ z.id.count) × (x.1 ≡ last_place z.body)
         go true e in_it = elim (contains_cons (m.id.count, last_place m.body) [] x in_it) [
           | inl same ↦ (let two = and_parts (of m.id) (is_order (kind_of m.body)) e in (m, (c, two.0, two.1), ap (λ (y : ℕ × ℕ). y.0) (sym same), ap (λ (y : ℕ × ℕ). y.1) (sym same)))
           | inr none ↦ absurd (omega (arith, none.1))
@@ -94,7 +94,7 @@ module _ (t : State) (g : GroupNo) (k : ℕ) where
   stable_as n c same e = subst (λ i. is_stable t (named g v (local t k, i)) ≡ true) same e
 
   -- a place is settled before the first one, or by a stable message
-  pub settled_by : (n : ℕ) → n < settled_to t g k → (n + 1 < first) ⊎ ((m : Message) × Listed (is_in g v) (t.acts k) m × (is_stable t (named g v (local t k, m.id.count)) ≡ true) × (n < last_place m.body))
+  pub settled_by : (n : ℕ) → n < settled_to t g k → (n + 1 < first) ⊎ ((m : Message) × IsListed (is_in g v) (t.acts k) m × (is_stable t (named g v (local t k, m.id.count)) ≡ true) × (n < last_place m.body))
   settled_by n lt = elim (cases_lt (n + 1) first) [
     | inl before ↦ inl before
     | inr low ↦ inr (

@@ -5,20 +5,20 @@ use Rattle.std.proofs.lemmas.List.{map-append}
 use Rattle.std.proofs.lemmas.List.Elements.{Contains-push_cases, filter-append}
 use Rattle.std.specs.List.{position_from}
 use Rattle.std.specs.Prelude.{◌&&◌, ◌+◌, ◌++◌, ◌==◌, Bool, Contains, List, None, Some, [], cond, false, filter, if◌then◌else◌, is_some, refl, slice_get, slice_set, suc, true, zero, ◌||◌, ℕ, ◌∷◌, ◌≡◌, ◌≤◌}
-use Rattle.cast_domain.specs.Fits.{Means, tagged}
+use Rattle.cast_domain.specs.Fits.{Represents, tagged}
 use Rattle.cast_domain.specs.Records.{is_halted, number_of}
 use Rattle.cast_domain.specs.Shared.{no_part, part_of}
 use Rattle.cast_domain.specs.Stepped.{IsSteppedBeside}
 use Rattle.cast_domain.specs.declared.domain.Domain.{Domain}
 use Rattle.cast_domain.specs.declared.shared.Shared.{Shared}
-use Rattle.cast_history.specs.State.{State, local, opening}
+use Rattle.cast_rules.specs.State.{State, local, opening}
 use Rattle.cast_message.specs.declared.site.SiteFrame.{SiteFrame}
-use Rattle.cast_model.specs.Outs.{no_outs}
-use Rattle.cast_model.specs.declared.config.Config.{Config}
-use Rattle.cast_model.specs.declared.config.DomainConfig.{DomainConfig}
-use Rattle.cast_model.specs.declared.event.Event.{Event}
-use Rattle.cast_model.specs.declared.event.Outs.{Outs}
-use Rattle.cast_model.specs.declared.event.Taken.{Taken}
+use Rattle.cast_events.specs.Outs.{no_outs}
+use Rattle.cast_events.specs.declared.config.Config.{Config}
+use Rattle.cast_events.specs.declared.config.DomainConfig.{DomainConfig}
+use Rattle.cast_events.specs.declared.event.Event.{Event}
+use Rattle.cast_events.specs.declared.event.Outs.{Outs}
+use Rattle.cast_events.specs.declared.event.Taken.{Taken}
 use Rattle.cast_types.specs.Names.{proc_eq, site_eq}
 use Rattle.cast_types.specs.Sets.{is_among}
 use Rattle.cast_types.specs.declared.names.DomainNo.{DomainNo}
@@ -35,7 +35,7 @@ use Rattle.cast_world.specs.declared.step.Packet.{Packet}
 use Rattle.cast_world.specs.declared.step.Step.{Step}
 use Rattle.cast_world.specs.declared.world.Daemon.{Daemon}
 use Rattle.cast_world.specs.declared.world.World.{World}
-use Rattle.cast_model.specs.declared.event.Event.TheVariants as event
+use Rattle.cast_events.specs.declared.event.Event.TheVariants as event
 
 -- Lists of daemons
 
@@ -175,7 +175,7 @@ module _ (e : Event) (taken : Taken) (old : Daemon) (domain : Domain) (shared : 
         step.steps,
         record {
           running = running stands.running;
-          means = subst (λ n. Means domain (part_of n shared) t) (sym number) step.means;
+          means = subst (λ n. Represents domain (part_of n shared) t) (sym number) step.means;
           placed = did.placed ∙ stands.placed;
           number = ap (λ (c : DomainConfig). c.domain) did.same ∙ stands.number ∙ sym number;
           delivered = λ k.
@@ -326,11 +326,11 @@ delivered_nowhere world p d none w stands = go ((w.at p.site).config.domain.0 ==
 -- The start
 
 -- a daemon that stands for nothing that happened yet
-pub new_stands : (d : Daemon) (s : SiteNo) (config : DomainConfig) → d.site ≡ s → is_halted d.domain ≡ false → number_of d.domain ≡ config.domain → Means d.domain no_part (opening s config) →
+pub new_stands : (d : Daemon) (s : SiteNo) (config : DomainConfig) → d.site ≡ s → is_halted d.domain ≡ false → number_of d.domain ≡ config.domain → Represents d.domain no_part (opening s config) →
     ((n : DomainNo) → part_of n d.shared ≡ no_part) → d.delivered ≡ [] → StandsAt d (opening s config)
 new_stands d s config placed running number means unshared none = record {
   running = running;
-  means = subst (λ part. Means d.domain part (opening s config)) (sym (unshared (number_of d.domain))) means;
+  means = subst (λ part. Represents d.domain part (opening s config)) (sym (unshared (number_of d.domain))) means;
   placed = sym placed;
   number = sym number;
   delivered = λ k. ap (ids_of (record { site = d.site; serial = k })) (sym none);

@@ -3,12 +3,12 @@ use Rattle.std.proofs.Common.{ap, arith, inl, inr, subst, sym, ◌∙◌}
 use Rattle.std.proofs.lemmas.Bool.{eq-eqb, eqb-true, false≢true, true≢false}
 use Rattle.std.specs.Prelude.{◌+◌, ◌<◌, Bool, Contains, IsTrue, List, [], false, if◌then◌else◌, refl, suc, true, ◌||◌, ℕ, ◌∷◌, ◌≡◌, ◌≤◌}
 use Rattle.cast_clock.specs.Times.{view_of}
-use Rattle.cast_history.specs.Effects.{next_message}
-use Rattle.cast_history.specs.Entering.{freezing, passing, pending_install}
-use Rattle.cast_history.specs.History.{history}
-use Rattle.cast_history.specs.Rules.Asking.{is_home}
-use Rattle.cast_history.specs.State.{State, emitted, local, noting_sent, outside, receiving, releasing, set_group, set_home, set_session, set_standing, with_delivery}
-use Rattle.cast_history.specs.Step.{opening_next}
+use Rattle.cast_rules.specs.Effects.{next_message}
+use Rattle.cast_rules.specs.Entering.{freezing, passing, pending_install}
+use Rattle.cast_rules.specs.History.{history}
+use Rattle.cast_rules.specs.Rules.Asking.{is_home}
+use Rattle.cast_rules.specs.State.{State, emitted, local, noting_sent, outside, receiving, releasing, set_group, set_home, set_session, set_standing, with_delivery}
+use Rattle.cast_rules.specs.Step.{opening_next}
 use Rattle.cast_message.specs.Membership.{Membership}
 use Rattle.cast_message.specs.declared.message.Message.{Message}
 use Rattle.cast_message.specs.declared.site.SiteFrame.{SiteFrame}

@@ -6,18 +6,18 @@ use Rattle.std.specs.Option.{option_and_then, option_map, option_map_or}
 use Rattle.std.specs.List.{fold, list_any}
 use Rattle.std.specs.Prelude.{cond, map, nat_le, suc, zero, ◌⊎◌, ◌==◌, Bool, Contains, List, None, Option, Some, [], false, if◌then◌else◌, refl, true, ℕ, ◌∷◌, ◌≡◌}
 use Rattle.cast_delay.specs.Ready.{is_outside}
-use Rattle.cast_history.specs.History.{history}
-use Rattle.cast_history.specs.Owing.{at_moment, next_due, noting_owed, paying}
-use Rattle.cast_history.specs.Rules.Asking.{ask_home, request}
-use Rattle.cast_history.specs.Rules.Keys.{ask_key, id_in}
-use Rattle.cast_history.specs.Rules.Leaving.{Attempt, close_session, end_session, leave_all, leave_at, leave_each, leave_group, tell, tell_open}
-use Rattle.cast_history.specs.Rules.Owing.{ask_frame, frame_for, frame_of_kind, install_frame, owe, resend, send_for, tick}
-use Rattle.cast_history.specs.State.{State, closing, emitted, going, is_filled, is_group, local, message_of, outside, pushing, set_group, set_session, with_push}
+use Rattle.cast_rules.specs.History.{history}
+use Rattle.cast_rules.specs.Owing.{at_moment, next_due, noting_owed, paying}
+use Rattle.cast_rules.specs.Rules.Asking.{ask_home, request}
+use Rattle.cast_rules.specs.Rules.Keys.{ask_key, id_in}
+use Rattle.cast_rules.specs.Rules.Leaving.{Attempt, close_session, end_session, leave_all, leave_at, leave_each, leave_group, tell, tell_open}
+use Rattle.cast_rules.specs.Rules.Owing.{ask_frame, frame_for, frame_of_kind, install_frame, owe, resend, send_for, tick}
+use Rattle.cast_rules.specs.State.{State, closing, emitted, going, is_filled, is_group, local, message_of, outside, pushing, set_group, set_session, with_push}
 use Rattle.cast_message.specs.declared.client.Push.{Push}
 use Rattle.cast_message.specs.declared.message.Message.{Message}
 use Rattle.cast_message.specs.declared.site.Change.{Change}
 use Rattle.cast_message.specs.declared.site.SiteFrame.{SiteFrame}
-use Rattle.cast_model.specs.Session.{Session, closed, is_gone, is_open, no_session, pushed_to}
+use Rattle.cast_events.specs.Session.{Session, closed, is_gone, is_open, no_session, pushed_to}
 use Rattle.cast_timer.specs.Owed.{due_at, due_frames, is_owed, key_eq}
 use Rattle.cast_timer.specs.declared.key.Owed.{Owed}
 use Rattle.cast_timer.specs.declared.key.OwedKey.{OwedKey}
@@ -31,7 +31,7 @@ use Rattle.cast_types.specs.declared.refusal.Refusal.{Refusal}
 use Rattle.cast_types.specs.declared.refusal.Refusal.TheVariants.{NotMember, Slow}
 use Rattle.cast_view.specs.Home.{is_empty}
 use Rattle.cast_view.specs.MemberSide.{first_asking, with_request}
-use Rattle.cast_view.specs.declared.member.Asking.{Asking}
+use Rattle.cast_view.specs.declared.member.PendingRequest.{PendingRequest}
 use Rattle.cast_view.specs.declared.phase.Phase.{Phase}
 use Rattle.cast_view.specs.declared.phase.Phase.TheVariants.{Gathering, Idle, Installing}
 use Rattle.cast_world.proofs.Keeps.{found_is, keeps_fold, keeps_if}
@@ -54,7 +54,7 @@ OnSome P (Some x) = P x
 abbrev Tells : State → SiteNo → SiteFrame → Type 0
 Tells s to f = Says s to f × Adds s f
 
-asks : (s : State) (to : SiteNo) (g : GroupNo) (a : List Asking) → (s.group g).requests ≡ a → OnSome (Tells s to) (option_map (ask_frame g) (first_asking a))
+asks : (s : State) (to : SiteNo) (g : GroupNo) (a : List PendingRequest) → (s.group g).requests ≡ a → OnSome (Tells s to) (option_map (ask_frame g) (first_asking a))
 asks s to g [] e = tt
 asks s to g (a ∷ rest) e = ((a, subst (λ as_listed. Contains as_listed a) (sym e) (0, omega arith, refl), refl), tt)
 

@@ -5,20 +5,20 @@ use Rattle.std.proofs.lemmas.Bool.{false≢true, true≢false}
 use Rattle.std.proofs.lemmas.List.Sums.{fold_push}
 use Rattle.std.specs.List.{fold}
 use Rattle.std.specs.Prelude.{◌++◌, Bool, Contains, List, None, Option, Some, [], false, if◌then◌else◌, is_some, refl, true, unwrap_or, ℕ, ◌∷◌, ◌≡◌, ◌⊎◌}
-use Rattle.cast_history.specs.Acts.{Act}
-use Rattle.cast_history.specs.Acts.Act.{Delivered, Entered, Left, Sent}
-use Rattle.cast_history.specs.Effects.{sending}
-use Rattle.cast_history.specs.History.{history}
-use Rattle.cast_history.specs.Order.{holds, last_place, token_after, token_sent, token_told}
-use Rattle.cast_history.specs.Rest.{let_go, set_order_by}
-use Rattle.cast_history.specs.Resting.{places_of}
-use Rattle.cast_history.specs.Rules.Commands.{body_handing}
-use Rattle.cast_history.specs.Rules.Keys.{message_key}
-use Rattle.cast_history.specs.Rules.Owing.{frame_for, owe, send_for}
-use Rattle.cast_history.specs.Rules.Sending.{send_data}
-use Rattle.cast_history.specs.State.{State, emitted, noting_sent, others_of, receiving}
-use Rattle.cast_history.proofs.Setting.{may_set_order, set_order_is}
-use Rattle.cast_history.specs.Effects.{next_message}
+use Rattle.cast_rules.specs.Acts.{Act}
+use Rattle.cast_rules.specs.Acts.Act.{Delivered, Entered, Left, Sent}
+use Rattle.cast_rules.specs.Effects.{sending}
+use Rattle.cast_rules.specs.History.{history}
+use Rattle.cast_rules.specs.Order.{holds, last_place, token_after, token_sent, token_told}
+use Rattle.cast_rules.specs.Rest.{let_go, set_order_by}
+use Rattle.cast_rules.specs.Resting.{places_of}
+use Rattle.cast_rules.specs.Rules.Commands.{body_handing}
+use Rattle.cast_rules.specs.Rules.Keys.{message_key}
+use Rattle.cast_rules.specs.Rules.Owing.{frame_for, owe, send_for}
+use Rattle.cast_rules.specs.Rules.Sending.{send_data}
+use Rattle.cast_rules.specs.State.{State, emitted, noting_sent, others_of, receiving}
+use Rattle.cast_rules.proofs.Setting.{may_set_order, set_order_is}
+use Rattle.cast_rules.specs.Effects.{next_message}
 use Rattle.cast_message.specs.Bodies.{kind_of, new_holder}
 use Rattle.cast_message.specs.declared.message.Body.{Body}
 use Rattle.cast_message.specs.declared.message.Message.{Message}

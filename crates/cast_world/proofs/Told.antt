@@ -6,7 +6,7 @@ use Rattle.cast_types.specs.declared.names.DomainNo.{DomainNo}
 use Rattle.cast_types.specs.declared.names.Proc.{Proc}
 use Rattle.cast_types.specs.declared.names.Uid.{Uid}
 use Rattle.cast_world.proofs.ClosingRuns.{same_order}
-use Rattle.cast_world.proofs.Listed.{listed_in_order}
+use Rattle.cast_world.proofs.ListsAreActs.{listed_in_order}
 use Rattle.cast_world.proofs.OrderRuns.{orders_agree}
 use Rattle.cast_world.proofs.Same.{same_messages}
 use Rattle.cast_world.specs.Agreement.{delivered_of}

@@ -6,13 +6,13 @@ use Rattle.std.specs.List.{list_any}
 use Rattle.std.specs.Prelude.{◌&&◌, ◌+◌, ◌++◌, ◌<◌, Bool, Contains, IsTrue, List, None, Option, Some, [], drop, false, if◌then◌else◌, is_some, not, refl, true, unwrap_or, ◌||◌, ℕ, ◌∷◌, ◌≡◌, ◌≤◌}
 use Rattle.cast_clock.specs.Times.{view_of}
 use Rattle.cast_delay.specs.Ready.{Process, covered, has_delivered, is_member, is_outside}
-use Rattle.cast_history.specs.Acts.{Act}
-use Rattle.cast_history.specs.Acts.Act.{Entered}
-use Rattle.cast_history.specs.Entering.{all_parted, completing, enters, freezing, in_view, is_put_out, parted, passing, pending_install, putting_out}
-use Rattle.cast_history.specs.Reports.{has_delivered_cut, is_delivered_here}
-use Rattle.cast_history.specs.State.{State, local, local_members, serials, set_group, set_home}
+use Rattle.cast_rules.specs.Acts.{Act}
+use Rattle.cast_rules.specs.Acts.Act.{Entered}
+use Rattle.cast_rules.specs.Entering.{all_parted, completing, enters, freezing, in_view, is_put_out, parted, passing, pending_install, putting_out}
+use Rattle.cast_rules.specs.Reports.{has_delivered_cut, is_delivered_here}
+use Rattle.cast_rules.specs.State.{State, local, local_members, serials, set_group, set_home}
 use Rattle.cast_message.specs.Membership.{Membership}
-use Rattle.cast_message.specs.Stretch.{Stretch}
+use Rattle.cast_message.specs.Tail.{Tail}
 use Rattle.cast_message.specs.declared.message.Message.{Message}
 use Rattle.cast_message.specs.declared.site.Change.{Change}
 use Rattle.cast_message.specs.declared.site.SiteFrame.{SiteFrame}
@@ -27,7 +27,7 @@ use Rattle.cast_types.specs.declared.names.Standing.TheVariants.{Joining, Member
 use Rattle.cast_view.specs.Home.{Home, answer_in, answer_of, bodies_of, decided, decided_list, decided_phase, decision_of, installing, may_decide, may_decide_in}
 use Rattle.cast_view.specs.MemberSide.{MemberSide, frozen_side, has_view, is_taken_in, with_answer, with_end, with_pending, with_request, with_view}
 use Rattle.cast_view.specs.Sites.{is_at, sites_of}
-use Rattle.cast_view.specs.declared.member.Asking.{Asking}
+use Rattle.cast_view.specs.declared.member.PendingRequest.{PendingRequest}
 use Rattle.cast_view.specs.declared.member.Pending.{Pending}
 use Rattle.cast_view.specs.declared.phase.Decision.{Decision}
 use Rattle.cast_view.specs.declared.phase.Phase.{Phase}
@@ -218,13 +218,13 @@ module _ (at : Sites) (home s : SiteNo) (t : State) (x : SiteHolds at home s t) 
     requests = λ a c. elim (Contains-push_cases (t.group g).requests (record { number = (t.group g).asked + 1; change = what; proc = p }) a c) [
       | inl old ↦ (x.groups g).requests a old
       | inr new ↦
-          let number : (t.group g).asked + 1 ≡ a.number = ap (λ (y : Asking). y.number) new in
+          let number : (t.group g).asked + 1 ≡ a.number = ap (λ (y : PendingRequest). y.number) new in
           let is : ((at s).group g).asked ≡ (t.group g).asked + 1 = asked_is (with_request (t.group g) what p) own in
           omega (arith, number, is)
     ];
   }
 
-  later_requests : (as_listed : List Asking) (a : Asking) → Contains (drop 1 as_listed) a → Contains as_listed a
+  later_requests : (as_listed : List PendingRequest) (a : PendingRequest) → Contains (drop 1 as_listed) a → Contains as_listed a
   later_requests [] a c = c
   later_requests (b ∷ rest) a c = contains_more b rest a c
 
@@ -238,7 +238,7 @@ module _ (at : Sites) (home s : SiteNo) (t : State) (x : SiteHolds at home s t) 
   pub freeze_site : SiteHolds at home s (freezing t g)
   freeze_site = group_site at home s t x g (frozen_side (t.group g)) refl refl record { number = (x.groups g).number; pending = (x.groups g).pending; requests = (x.groups g).requests }
 
-  pub pend_site : (p : Pending) (tail : Stretch) → IsDecided at home g ((t.group g).number + 1) →
+  pub pend_site : (p : Pending) (tail : Tail) → IsDecided at home g ((t.group g).number + 1) →
       TakesIn (at s).process (at s).group g p.request ((t.group g).number + 1) → SiteHolds at home s (pending_install t g p tail)
   pend_site p tail decided_it takes = group_site at home s t x g (with_pending (t.group g) p) refl refl record {
     number = (x.groups g).number;

@@ -4,11 +4,11 @@ use Rattle.std.proofs.Common.{ap, arith, inl, inr, subst, sym, ◌∙◌}
 use Rattle.std.proofs.lemmas.Bool.{and_parts, cases_Bool, eq-eqb, eqb-true, false_from_ne_true, false≢true, ltb-false, ltb-true, true≢false}
 use Rattle.std.proofs.lemmas.List.{length-append, length_push}
 use Rattle.std.specs.Prelude.{◌&&◌, ◌+◌, ◌++◌, ◌<◌, ◌==◌, Bool, Contains, List, Some, [], false, if◌then◌else◌, is_some, length, nat_lt, refl, true, ℕ, ◌∷◌, ◌≡◌, ◌≤◌, ◌⊎◌}
-use Rattle.cast_history.specs.Acts.{Act}
-use Rattle.cast_history.specs.Acts.Act.{Delivered, Sent}
-use Rattle.cast_history.specs.Order.{last_place, told_by}
-use Rattle.cast_history.specs.State.{State, local, with_delivery}
-use Rattle.cast_history.specs.Turns.{is_ready_for}
+use Rattle.cast_rules.specs.Acts.{Act}
+use Rattle.cast_rules.specs.Acts.Act.{Delivered, Sent}
+use Rattle.cast_rules.specs.Order.{last_place, told_by}
+use Rattle.cast_rules.specs.State.{State, local, with_delivery}
+use Rattle.cast_rules.specs.Turns.{is_ready_for}
 use Rattle.cast_message.specs.Bodies.{kind_of, new_holder}
 use Rattle.cast_message.specs.declared.message.Message.{Message}
 use Rattle.cast_message.specs.declared.site.SiteFrame.{SiteFrame}

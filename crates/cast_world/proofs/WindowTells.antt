@@ -3,9 +3,9 @@ use Rattle.cast_types.proofs.Orders.{same_site, site_itself}
 use Rattle.std.proofs.Common.{ap, arith, inl, inr, subst, sym, ◌∙◌}
 use Rattle.std.proofs.lemmas.Bool.{cases_lt, le-leb, leb-true}
 use Rattle.std.specs.Prelude.{◌+◌, ◌<◌, Bool, Contains, List, [], false, if◌then◌else◌, length, nat_le, not, refl, true, unwrap_or, ℕ, ◌∷◌, ◌≡◌, ◌≤◌}
-use Rattle.cast_history.specs.Acts.Act.{Sent}
-use Rattle.cast_history.specs.Order.{last_place, settled_to, told_by, unsettled}
-use Rattle.cast_history.specs.State.{State, is_stable, local, others_of}
+use Rattle.cast_rules.specs.Acts.Act.{Sent}
+use Rattle.cast_rules.specs.Order.{last_place, settled_to, told_by, unsettled}
+use Rattle.cast_rules.specs.State.{State, is_stable, local, others_of}
 use Rattle.cast_message.specs.Bodies.{new_holder}
 use Rattle.cast_message.specs.declared.message.Message.{Message}
 use Rattle.cast_stable.specs.Stable.{Acked, is_known_stable, stable_upto, was_told}

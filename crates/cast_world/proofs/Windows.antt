@@ -5,8 +5,8 @@ use Rattle.std.proofs.Common.{arith, inl, inr, subst}
 use Rattle.std.proofs.lemmas.Bool.{and_parts, cases_lt, false≢true}
 use Rattle.std.specs.List.{list_all}
 use Rattle.std.specs.Prelude.{◌&&◌, ◌+◌, ◌<◌, Bool, Contains, List, Some, [], false, if◌then◌else◌, length, refl, suc, true, zero, ◌||◌, ℕ, ◌∷◌, ◌≡◌, ◌≤◌, ◌⊎◌}
-use Rattle.cast_history.specs.Acts.Act.{Sent}
-use Rattle.cast_history.specs.Order.{last_place, told_by}
+use Rattle.cast_rules.specs.Acts.Act.{Sent}
+use Rattle.cast_rules.specs.Order.{last_place, told_by}
 use Rattle.cast_message.specs.Bodies.{new_holder}
 use Rattle.cast_message.specs.declared.message.Message.{Message}
 use Rattle.cast_message.specs.declared.site.SiteFrame.{SiteFrame}

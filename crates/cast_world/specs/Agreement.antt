@@ -1,13 +1,13 @@
 -- How those who share a view agree: who passes from it to the next one, who is within it, and what processes delivered of it, in order.
 use Rattle.std.specs.List.{flat_map, list_any}
 use Rattle.std.specs.Prelude.{◌&&◌, ◌+◌, ◌++◌, ◌==◌, Bool, Contains, List, false, filter, ℕ, ◌∷◌, ◌≡◌}
-use Rattle.cast_history.specs.Acts.{Act}
-use Rattle.cast_history.specs.Acts.Act.{Entered}
-use Rattle.cast_history.specs.Noted.{abcasts_by}
-use Rattle.cast_history.specs.Order.{told_by}
+use Rattle.cast_rules.specs.Acts.{Act}
+use Rattle.cast_rules.specs.Acts.Act.{Entered}
+use Rattle.cast_rules.specs.Noted.{abcasts_by}
+use Rattle.cast_rules.specs.Order.{told_by}
 use Rattle.cast_message.specs.Bodies.{kind_of}
 use Rattle.cast_message.specs.Membership.{Membership}
-use Rattle.cast_message.specs.Stretch.{Stretch}
+use Rattle.cast_message.specs.Tail.{Tail}
 use Rattle.cast_order.specs.Order.{known_order}
 use Rattle.cast_types.specs.Counts.{CountList}
 use Rattle.cast_types.specs.Names.{Entry, group_eq, is_atomic, uid_eq}
@@ -71,11 +71,11 @@ abbrev pub order_at : Network → SiteNo → GroupNo → ℕ → List Entry
 order_at w s g view = known_order (flat_map (λ m. told_by m.body) (filter (λ m. is_in g view m.id) (w.at s).got))
 
 -- an Install of a view was sent, with these members and this end of the order of the view before
-abbrev pub WasInstalled : Network → GroupNo → ℕ → Membership → Stretch → Type 0
+abbrev pub WasInstalled : Network → GroupNo → ℕ → Membership → Tail → Type 0
 WasInstalled w g view members tail =
     (from to : SiteNo) × (request : ℕ) × (cut : CountList)
     × Contains w.sent (record { from = from; to = to; frame = frame.Install g view members request cut tail })
 
 -- a site has a member in a view: an Install of the view names a process of the site
 abbrev pub HasMember : Network → SiteNo → GroupNo → ℕ → Type 0
-HasMember w s g view = (members : Membership) × (tail : Stretch) × (p : Proc) × WasInstalled w g view members tail × Contains members.list p × (p.site ≡ s)
+HasMember w s g view = (members : Membership) × (tail : Tail) × (p : Proc) × WasInstalled w g view members tail × Contains members.list p × (p.site ≡ s)

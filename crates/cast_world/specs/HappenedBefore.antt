@@ -1,7 +1,7 @@
 -- Which messages happened before which, and which are due to a process: by what processes did.
 use Rattle.std.specs.Prelude.{◌+◌, ◌++◌, Contains, IsTrue, List, ◌∷◌, ◌≡◌, ◌⊎◌}
-use Rattle.cast_history.specs.Acts.{Act}
-use Rattle.cast_history.specs.Acts.Act.{Delivered, Entered, Left, Sent}
+use Rattle.cast_rules.specs.Acts.{Act}
+use Rattle.cast_rules.specs.Acts.Act.{Delivered, Entered, Left, Sent}
 use Rattle.cast_message.specs.declared.message.Message.{Message}
 use Rattle.cast_types.specs.Counts.{CountList, is_within}
 use Rattle.cast_types.specs.Names.{entry_of}

@@ -1,15 +1,15 @@
 -- What holds of every list of steps.
 use Rattle.std.specs.Prelude.{◌+◌, ◌++◌, ◌<◌, Contains, IsTrue, List, length, take, ℕ, ◌↔◌, ◌∷◌, ◌≡◌, ◌≤◌, ◌⊎◌}
 use Rattle.cast_clock.specs.Times.{at_most, count_in, view_of}
-use Rattle.cast_history.specs.Acts.{Act}
-use Rattle.cast_history.specs.Acts.Act.{Delivered, Entered, Left, Sent}
-use Rattle.cast_history.specs.Noted.{delivered_by}
-use Rattle.cast_history.specs.Rules.Commands.{body_of}
+use Rattle.cast_rules.specs.Acts.{Act}
+use Rattle.cast_rules.specs.Acts.Act.{Delivered, Entered, Left, Sent}
+use Rattle.cast_rules.specs.Noted.{delivered_by}
+use Rattle.cast_rules.specs.Rules.Commands.{body_of}
 use Rattle.cast_message.specs.Membership.{Membership}
-use Rattle.cast_message.specs.Stretch.{Stretch}
+use Rattle.cast_message.specs.Tail.{Tail}
 use Rattle.cast_message.specs.declared.client.Push.{Push}
 use Rattle.cast_message.specs.declared.message.Message.{Message}
-use Rattle.cast_model.specs.declared.config.DomainConfig.{DomainConfig}
+use Rattle.cast_events.specs.declared.config.DomainConfig.{DomainConfig}
 use Rattle.cast_types.specs.Counts.{CountList, is_within}
 use Rattle.cast_types.specs.Names.{Entry, named}
 use Rattle.cast_types.specs.Stamps.{ClockList}
@@ -103,7 +103,7 @@ OrdersAgree w delivered =
 -- has a member in that view
 abbrev pub StartsAreKnown : Network → Type 0
 StartsAreKnown w =
-    (g : GroupNo) (view : ℕ) (members : Membership) (tail : Stretch) → WasInstalled w g (view + 1) members tail →
+    (g : GroupNo) (view : ℕ) (members : Membership) (tail : Tail) → WasInstalled w g (view + 1) members tail →
     (first : List Entry) × (length first ≡ tail.start) × ((s : SiteNo) → HasMember w s g view → take tail.start (order_at w s g view) ≡ first)
 
 -- what a process delivered is, in order, what its acts say

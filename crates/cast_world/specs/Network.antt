@@ -2,12 +2,12 @@
 -- in any order.
 use Rattle.std.specs.Option.{option_map_or}
 use Rattle.std.specs.Prelude.{◌&&◌, ◌++◌, ◌==◌, Bool, List, None, Option, Some, [], false, if◌then◌else◌, map, slice_get, true, ℕ, ◌∷◌, ◌≡◌}
-use Rattle.cast_history.specs.Run.{IsStep, step_in}
-use Rattle.cast_history.specs.State.{State, opening}
-use Rattle.cast_model.specs.Events.{domain_of}
-use Rattle.cast_model.specs.declared.config.DomainConfig.{DomainConfig}
-use Rattle.cast_model.specs.declared.event.Event.{Event}
-use Rattle.cast_model.specs.declared.event.Taken.{Taken}
+use Rattle.cast_rules.specs.Run.{IsStep, step_in}
+use Rattle.cast_rules.specs.State.{State, opening}
+use Rattle.cast_events.specs.Events.{domain_of}
+use Rattle.cast_events.specs.declared.config.DomainConfig.{DomainConfig}
+use Rattle.cast_events.specs.declared.event.Event.{Event}
+use Rattle.cast_events.specs.declared.event.Taken.{Taken}
 use Rattle.cast_types.specs.Names.{site_eq}
 use Rattle.cast_types.specs.Sets.{is_among, set_at}
 use Rattle.cast_types.specs.declared.names.DomainNo.{DomainNo}
@@ -16,7 +16,7 @@ use Rattle.cast_world.specs.declared.step.Happening.{Happening}
 use Rattle.cast_world.specs.declared.step.Happening.TheVariants.{Local, Sent}
 use Rattle.cast_world.specs.declared.step.Packet.{Packet}
 use Rattle.cast_world.specs.declared.step.Step.{Step}
-use Rattle.cast_model.specs.declared.event.Event.TheVariants as event
+use Rattle.cast_events.specs.declared.event.Event.TheVariants as event
 
 pub record Network : Type 0 where
   pub sites : List SiteNo

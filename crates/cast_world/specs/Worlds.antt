@@ -1,17 +1,17 @@
 -- How daemons, each alone at its site, and the frames that they sent stand for a network.
 use Rattle.std.specs.List.{find, position_from}
 use Rattle.std.specs.Prelude.{◌++◌, ◌==◌, Bool, Contains, List, Option, Some, [], false, filter, if◌then◌else◌, map, true, ℕ, ◌∷◌, ◌≡◌}
-use Rattle.cast_domain.specs.Fits.{Means}
+use Rattle.cast_domain.specs.Fits.{Represents}
 use Rattle.cast_domain.specs.Records.{is_halted, number_of}
 use Rattle.cast_domain.specs.Shared.{no_part, part_of}
 use Rattle.cast_domain.specs.declared.domain.Domain.{Domain}
-use Rattle.cast_history.specs.Run.{IsStep}
-use Rattle.cast_history.specs.State.{State}
+use Rattle.cast_rules.specs.Run.{IsStep}
+use Rattle.cast_rules.specs.State.{State}
 use Rattle.cast_message.specs.declared.site.SiteFrame.{SiteFrame}
-use Rattle.cast_model.specs.declared.config.Config.{Config}
-use Rattle.cast_model.specs.declared.config.DomainConfig.{DomainConfig}
-use Rattle.cast_model.specs.declared.event.Event.{Event}
-use Rattle.cast_model.specs.declared.event.Taken.{Taken}
+use Rattle.cast_events.specs.declared.config.Config.{Config}
+use Rattle.cast_events.specs.declared.config.DomainConfig.{DomainConfig}
+use Rattle.cast_events.specs.declared.event.Event.{Event}
+use Rattle.cast_events.specs.declared.event.Taken.{Taken}
 use Rattle.cast_types.specs.Names.{group_cmp, proc_eq, site_eq}
 use Rattle.cast_types.specs.Rising.{is_rising}
 use Rattle.cast_types.specs.Sets.{is_among}
@@ -52,7 +52,7 @@ ids_of p delivered = map (λ x. x.2) (filter (λ x. proc_eq x.1 p) delivered)
 -- a daemon stands for a history: its domain does, and what its processes delivered is what they delivered there
 pub record StandsAt (d : Daemon) (s : State) : Type 0 where
   pub running : is_halted d.domain ≡ false
-  pub means : Means d.domain (part_of (number_of d.domain) d.shared) s
+  pub means : Represents d.domain (part_of (number_of d.domain) d.shared) s
   pub placed : s.here ≡ d.site
   pub number : s.config.domain ≡ number_of d.domain
   pub delivered : (k : ℕ) → (s.process k).delivered ≡ ids_of (record { site = d.site; serial = k }) d.delivered

@@ -1,5 +1,5 @@
+use cast_events::Event;
 use cast_message::SiteFrame;
-use cast_model::Event;
 use cast_types::SiteNo;
 
 /// A frame on the network.

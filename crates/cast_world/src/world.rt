@@ -5,9 +5,9 @@ ghost use Rattle.cast_world.specs.Worlds.{Acts, Hands, Runs, Serves, ServesAt, T
 
 use crate::step::{Happening, Packet, Step};
 use cast_domain::{Domain, Shared};
+use cast_events::{Config, Event, Outs};
 use cast_message::SiteFrame;
-use cast_model::{Config, Event, Outs};
-use cast_types::{DomainNo, Listed, NoMemory, Proc, SiteNo, Uid};
+use cast_types::{DomainNo, List, NoMemory, Proc, SiteNo, Uid};
 use std::alloc::{AllocError, Global};
 
 /// A daemon that serves one domain alone, at its site, and all that its processes delivered.
@@ -16,7 +16,7 @@ struct Daemon {
     site: SiteNo,
     domain: Domain,
     shared: Shared,
-    delivered: Listed<(DomainNo, Proc, Uid)>,
+    delivered: List<(DomainNo, Proc, Uid)>,
 }
 
 impl Daemon {
@@ -28,7 +28,7 @@ impl Daemon {
             site,
             domain,
             shared: Shared::new(alloc),
-            delivered: Listed::new(alloc),
+            delivered: List::new(alloc),
         }
     }
 
@@ -102,7 +102,7 @@ impl World {
 
     /// The messages that a process of a domain delivered, in order: none where the network has no such domain or process. `NoMemory` also
     /// after `run` answered it.
-    pub fn delivered(&self, domain: DomainNo, process: Proc) -> Result<Listed<Uid>, NoMemory>
+    pub fn delivered(&self, domain: DomainNo, process: Proc) -> Result<List<Uid>, NoMemory>
         ensures ids { IfOk result (TellsDelivered self.now domain process) }
         ensures failed { OnOk result (has_failed self.now ≡ false) }
     {
@@ -111,7 +111,7 @@ impl World {
         }
         match place_of(&self.daemons, process.site) {
             Some(place) => self.daemons[place].ids_of(self.alloc, domain, process),
-            None => Ok(Listed::new(self.alloc)),
+            None => Ok(List::new(self.alloc)),
         }
     }
 
@@ -183,18 +183,13 @@ impl World {
 
 impl Daemon {
     // The messages that a process of a domain delivered, in order.
-    fn ids_of(
-        &self,
-        alloc: Global,
-        domain: DomainNo,
-        process: Proc,
-    ) -> Result<Listed<Uid>, NoMemory>
+    fn ids_of(&self, alloc: Global, domain: DomainNo, process: Proc) -> Result<List<Uid>, NoMemory>
         ensures { IfOk result (λ ids. ids ≡ (if (number_of self.now.domain).0 == domain.0 then ids_of process self.now.delivered else [])) }
     {
         if self.domain.number() == domain {
             ids_of(alloc, self.delivered.as_slice(), process)
         } else {
-            Ok(Listed::new(alloc))
+            Ok(List::new(alloc))
         }
     }
 }
@@ -204,10 +199,10 @@ fn ids_of(
     alloc: Global,
     delivered: &[(DomainNo, Proc, Uid)],
     process: Proc,
-) -> Result<Listed<Uid>, NoMemory>
+) -> Result<List<Uid>, NoMemory>
     ensures { IfOk result (λ ids. ids ≡ ids_of process delivered.now) }
 {
-    let mut ids = Listed::new(alloc);
+    let mut ids = List::new(alloc);
     for (_, by, id) in delivered {
         if *by == process {
             ids.push(*id)?;
@@ -219,7 +214,7 @@ fn ids_of(
 // What a site sends is on the network.
 fn send_all(
     from: SiteNo,
-    frames: Listed<(DomainNo, SiteNo, SiteFrame)>,
+    frames: List<(DomainNo, SiteNo, SiteFrame)>,
     sent: &mut Vec<Packet>,
 ) -> Result<(), NoMemory>
     ensures { OnOk result (sent.new.items ≡ sent.old.items ++ map (λ f. record { from = from; to = f.1; frame = f.2 }) frames) }

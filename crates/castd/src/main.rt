@@ -2,8 +2,7 @@
 //!
 //! `castd serve CONFIG --site N` runs it: programs connect by Unix sockets, daemons exchange
 //! datagrams, and an operator uses lines of standard input. `castd replay FILE` replays a script
-//! and prints what the daemon answers, pushes and sends. `cast_arguments` has the command line,
-//! `cast_serve` the running daemon, and `cast_replay` what is promised of a replay.
+//! and prints what the daemon answers, pushes and sends.
 #![tactic(auto)]
 
 use cast_arguments::{Asked, read_command_line};

@@ -1,8 +1,8 @@
 use Rattle.std.proofs.Common.{map, sym}
 use Rattle.std.proofs.lemmas.Result.{err_from_is_err_and}
 use Rattle.toml.specs.View.{view}
-use Rattle.cast_words.specs.Readings.{each}
-use Rattle.cast_words.proofs.Each.{ends, goes_on, is_done}
+use Rattle.cast_script.specs.WordReadings.{each}
+use Rattle.cast_script.proofs.Each.{ends, goes_on, is_done}
 use Rattle.cast_config.specs.Fields.{number_of}
 use Rattle.cast_config.proofs.fields.all_within.Goals as goal
 

@@ -1,7 +1,7 @@
 use Rattle.std.proofs.Common.{◌≡◌, drop, map}
 use Rattle.toml.specs.View.{view}
-use Rattle.cast_words.specs.Readings.{each}
-use Rattle.cast_words.proofs.Each.{with_front}
+use Rattle.cast_script.specs.WordReadings.{each}
+use Rattle.cast_script.proofs.Each.{with_front}
 use Rattle.cast_config.specs.Fields.{number_of}
 use Rattle.cast_config.proofs.fields.all_within.Given as goal
 

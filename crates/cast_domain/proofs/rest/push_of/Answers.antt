@@ -1,7 +1,7 @@
 use Rattle.std.proofs.Common.{Some, ◌∙◌, sym, ap}
 use Rattle.cast_message.specs.declared.client.CastKind.TheVariants as kinds
 use Rattle.cast_message.specs.declared.client.Push.TheVariants as push
-use Rattle.cast_history.specs.Rules.Rest.{told_of}
+use Rattle.cast_rules.specs.Rules.Rest.{told_of}
 use Rattle.cast_domain.proofs.rest.push_of.Goals as goal
 use Rattle.cast_domain.proofs.rest.push_of.Goals.{in-Causal+in_ok-copy-in-Causal, in-Atomic+in_ok-copy-in-Atomic}
 

@@ -12,9 +12,9 @@ pub returns : goal.returns
 returns c =
     let kept : c.retain.new.self.items ≡ filter (is_within c.args.cut.now) c.in_ok-ids.ids.items = filter_same _ _ _ (λ x b f' k. search rules) _ _ c.retain.ensures.filtered in
     let placed : c.retain.new.self.items ≡ filter (is_within c.args.cut.now) c.args.tail.now.ids = kept ∙ ap (filter (is_within c.args.cut.now)) (c.in_ok-ids.ensures.items ∙ c.ids.ensures.value) in
-    let more : c.added-more.result.items ≡ added c.args.cut.now c.args.reports.now c.retain.new.self.items =
-    c.added-more.ensures
-    ∙ ap (λ (es : List Entry). take 64 (apart_from entry_eq (filter (is_within c.args.cut.now) es) c.deref.result.now)) c.in_ok-unplaced.ensures
+    let more : c.added_ids-more.result.items ≡ added c.args.cut.now c.args.reports.now c.retain.new.self.items =
+    c.added_ids-more.ensures
+    ∙ ap (λ (es : List Entry). take 64 (apart_from entry_eq (filter (is_within c.args.cut.now) es) c.deref.result.now)) c.in_ok-unplaced_ids.ensures
     ∙ ap (added c.args.cut.now c.args.reports.now) c.deref.ensures.value in
     let whole : c.extend_from_slice.new.self.items ≡ c.retain.new.self.items ++ added c.args.cut.now c.args.reports.now c.retain.new.self.items =
     c.in_ok-extend_from_slice.ensures.items ∙ ap (λ (es : List Entry). c.retain.new.self.items ++ es) (c.deref-2.ensures.value ∙ more) in

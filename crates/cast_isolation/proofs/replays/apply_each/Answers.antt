@@ -1,7 +1,7 @@
 use Rattle.std.proofs.Common.{◌≡◌, ◌≢◌, ◌++◌, ◌∷◌, [], Err, take, ◌+◌, refl, sym, ap, subst, ◌∙◌}
 use Rattle.std.proofs.lemmas.Bool.{false≢true}
 use Rattle.std.proofs.lemmas.List.{take_more, take_all}
-use Rattle.cast_model.specs.declared.log.Fault.TheVariants.{NoMemory}
+use Rattle.cast_events.specs.declared.log.Fault.TheVariants.{NoMemory}
 use Rattle.cast_table.specs.Tables.{AreApplied, domains_of, lent}
 use Rattle.cast_isolation.specs.Replays.{lacks_memory}
 use Rattle.cast_isolation.proofs.Each.{applied_more}

@@ -1,7 +1,7 @@
 use Rattle.std.proofs.Common.{◌≡◌, ◌∙◌, ◌++◌, ◌+◌, ◌∷◌, [], drop, map, sym, ap}
 use Rattle.std.specs.Option.{option_to_list}
 use Rattle.std.proofs.lemmas.List.{append-nil, drop_all}
-use Rattle.cast_model.specs.declared.log.Given.{Given}
+use Rattle.cast_events.specs.declared.log.Given.{Given}
 use Rattle.cast_table.specs.Tables.{domains_of, picked}
 use Rattle.cast_isolation.specs.Replays.{given_of}
 use Rattle.cast_isolation.proofs.Back.{picked_more}

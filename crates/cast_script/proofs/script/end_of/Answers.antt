@@ -1,5 +1,5 @@
 use Rattle.std.proofs.Common.{sym, eqb-true}
-use Rattle.cast_script.proofs.Lines.{end_empty, end_full, end_none}
+use Rattle.cast_script.proofs.ScriptLines.{end_empty, end_full, end_none}
 use Rattle.cast_script.proofs.script.end_of.Goals as goal
 use Rattle.cast_script.proofs.script.end_of.Goals.{in_default-via-in-Some+else-is_empty, in_default-via-in_default}
 

@@ -1,9 +1,9 @@
 use Rattle.std.proofs.Common.{[], ◌∷◌, map}
 use Rattle.std.proofs.lemmas.Result.{err_from_is_err_and}
-use Rattle.cast_words.specs.Readings.{each}
+use Rattle.cast_script.specs.WordReadings.{each}
 use Rattle.cast_script.specs.Readings.{event_at, numbered_line}
-use Rattle.cast_words.proofs.Each.{ends, goes_on, is_done, with_front}
-use Rattle.cast_script.proofs.Lines.{fault_ends}
+use Rattle.cast_script.proofs.Each.{ends, goes_on, is_done, with_front}
+use Rattle.cast_script.proofs.ScriptLines.{fault_ends}
 use Rattle.cast_script.proofs.script.events_from.Goals as goal
 
 pub returns-in_err-event_at : goal.returns-in_err-event_at

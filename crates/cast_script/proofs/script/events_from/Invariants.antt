@@ -1,7 +1,7 @@
 use Rattle.std.proofs.Common.{◌≡◌, [], ◌∷◌, drop, map}
-use Rattle.cast_words.specs.Readings.{each}
+use Rattle.cast_script.specs.WordReadings.{each}
 use Rattle.cast_script.specs.Readings.{event_at, numbered_line}
-use Rattle.cast_words.proofs.Each.{with_front}
+use Rattle.cast_script.proofs.Each.{with_front}
 use Rattle.cast_script.proofs.script.events_from.Given as goal
 
 -- what was read, and what is still read

@@ -1,5 +1,5 @@
 use Rattle.std.proofs.Common.{◌≡◌, map}
-use Rattle.cast_words.specs.Words.{parted, texts}
+use Rattle.cast_script.specs.Words.{parted, texts}
 use Rattle.cast_script.specs.Readings.{GivesAt, end_after, numbered_line, script_of, site_on, used_of}
 use Rattle.cast_script.proofs.Spelled.{given_has_domains}
 use Rattle.cast_script.proofs.script.parse.Goals as goal

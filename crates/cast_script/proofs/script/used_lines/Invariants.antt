@@ -1,7 +1,7 @@
 use Rattle.std.proofs.Common.{◌≡◌, ◌+◌, ◌++◌, drop, map}
-use Rattle.cast_words.specs.Words.{texts}
+use Rattle.cast_script.specs.Words.{texts}
 use Rattle.cast_script.specs.Readings.{numbered_line, used_of}
-use Rattle.cast_script.proofs.Lines.{used_from}
+use Rattle.cast_script.proofs.ScriptLines.{used_from}
 use Rattle.cast_script.proofs.script.used_lines.Given as goal
 
 -- what was found, and what is left

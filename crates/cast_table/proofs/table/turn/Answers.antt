@@ -1,6 +1,6 @@
 use Rattle.std.proofs.Common.{◌≡◌, ◌∙◌, true, false, Ok, refl, sym, ap}
-use Rattle.cast_model.specs.declared.event.Outs.{Outs}
-use Rattle.cast_model.specs.declared.event.Taken.TheVariants.{Refused}
+use Rattle.cast_events.specs.declared.event.Outs.{Outs}
+use Rattle.cast_events.specs.declared.event.Taken.TheVariants.{Refused}
 use Rattle.cast_types.specs.declared.refusal.Refusal.TheVariants as refusal
 use Rattle.cast_domain.specs.Records.{is_halted}
 use Rattle.cast_table.specs.Tables.{lending}

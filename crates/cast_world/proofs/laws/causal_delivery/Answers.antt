@@ -1,4 +1,4 @@
-use Rattle.cast_world.proofs.Listed as listed
+use Rattle.cast_world.proofs.ListsAreActs as listed
 use Rattle.cast_world.proofs.Runs as lemma
 use Rattle.cast_world.proofs.laws.causal_delivery.Goals as goal
 

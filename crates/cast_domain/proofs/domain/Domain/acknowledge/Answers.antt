@@ -2,10 +2,10 @@ use Rattle.std.proofs.Common.{◌≡◌, ◌∙◌, sym, ap, true}
 use Rattle.std.specs.Prelude.{if◌then◌else◌}
 use Rattle.std.proofs.lemmas.Result.{on_ok_weaker}
 use Rattle.cast_message.specs.declared.site.SiteFrame.TheVariants as frame
-use Rattle.cast_stable.specs.Ledger.{is_stable_in}
+use Rattle.cast_stable.specs.Acks.{is_stable_in}
 use Rattle.cast_timer.specs.declared.key.OwedKind.TheVariants as kinds
-use Rattle.cast_history.specs.Rules.Keys.{message_key}
-use Rattle.cast_history.specs.Rules.Owing.{owe}
+use Rattle.cast_rules.specs.Rules.Keys.{message_key}
+use Rattle.cast_rules.specs.Rules.Owing.{owe}
 use Rattle.cast_domain.specs.Records.{records_in}
 use Rattle.cast_domain.specs.Calls.{records, send_in}
 use Rattle.cast_domain.proofs.domain.Domain.acknowledge.Goals as goal

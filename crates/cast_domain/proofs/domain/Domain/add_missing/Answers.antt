@@ -1,7 +1,7 @@
 use Rattle.std.proofs.Common.{◌≡◌, ◌≤◌, ◌<◌, ◌+◌, ◌++◌, ◌∙◌, ℕ, Bool, List, not, ◌&&◌, length, take, ap, arith}
 use Rattle.cast_types.specs.Names.{Entry}
 use Rattle.cast_delay.specs.Queue.{least_in}
-use Rattle.cast_model.specs.Outs.{no_outs}
+use Rattle.cast_events.specs.Outs.{no_outs}
 use Rattle.cast_domain.specs.Records.{records_of}
 use Rattle.cast_domain.specs.Shared.{no_part}
 use Rattle.cast_domain.specs.Calls.{is_awaited_of, is_received_of}

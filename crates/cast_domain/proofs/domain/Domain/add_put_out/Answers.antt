@@ -1,5 +1,5 @@
 use Rattle.std.proofs.Common.{◌∙◌, sym, ap}
-use Rattle.cast_model.specs.Outs.{no_outs}
+use Rattle.cast_events.specs.Outs.{no_outs}
 use Rattle.cast_domain.specs.Shared.{no_part}
 use Rattle.cast_domain.proofs.Rounds.{gathered}
 use Rattle.cast_domain.proofs.domain.Domain.add_put_out.Goals as goal

@@ -1,6 +1,6 @@
 use Rattle.std.proofs.Common.{◌∙◌, sym, ap}
 use Rattle.cast_message.specs.declared.site.SiteFrame.TheVariants as frame
-use Rattle.cast_history.specs.Rules.Requests.{answer_ask}
+use Rattle.cast_rules.specs.Rules.Requests.{answer_ask}
 use Rattle.cast_domain.specs.Records.{records_of}
 use Rattle.cast_domain.specs.Calls.{records, send_in}
 use Rattle.cast_domain.proofs.domain.Domain.answer_ask.Goals as goal

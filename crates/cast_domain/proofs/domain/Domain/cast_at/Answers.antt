@@ -2,14 +2,14 @@ use Rattle.std.proofs.Common.{◌≡◌, ◌+◌, ◌∙◌, sym, ap, false, tru
 use Rattle.std.specs.Prelude.{nat_lt}
 use Rattle.std.proofs.lemmas.Bool.Decides.{nat_tests}
 use Rattle.std.proofs.Math.Nat.{min_comm}
-use Rattle.cast_model.specs.declared.limits.TheConstants.{MAX_CASTS}
+use Rattle.cast_events.specs.declared.limits.TheConstants.{MAX_CASTS}
 use Rattle.cast_types.specs.declared.limits.TheConstants.{MAX_PAYLOAD}
 use Rattle.cast_clock.specs.Times.{bumped, count_in}
 use Rattle.cast_message.specs.declared.message.Message.{Message}
-use Rattle.cast_history.specs.Rules.Commands.{body_of}
+use Rattle.cast_rules.specs.Rules.Commands.{body_of}
 use Rattle.cast_delay.specs.Ready.{is_member}
-use Rattle.cast_history.specs.Rules.Room.{may_receive}
-use Rattle.cast_history.specs.Rules.Sending.{send_message, may_raise}
+use Rattle.cast_rules.specs.Rules.Room.{may_receive}
+use Rattle.cast_rules.specs.Rules.Sending.{send_message, may_raise}
 use Rattle.cast_domain.specs.Records.{records_in}
 use Rattle.cast_domain.specs.Calls.{awaits_own_in, count_cast_in, records, note_sent_by, record_at, standing_of, time_of, local_in}
 use Rattle.cast_domain.proofs.Attempts.{sent, cast_made, cast_owned, cast_full, cast_unraised, raised_none, raised_some}

@@ -2,7 +2,7 @@ use Rattle.std.proofs.Common.{◌≡◌, ◌<◌, ◌+◌, ◌-◌, ◌∙◌, t
 use Rattle.std.proofs.lemmas.Bool.{true≢false}
 use Rattle.cast_types.specs.Repeat.{iterate}
 use Rattle.cast_types.proofs.Iterates.{iterate_still}
-use Rattle.cast_history.specs.Rules.Rest.{deliver_first}
+use Rattle.cast_rules.specs.Rules.Rest.{deliver_first}
 use Rattle.cast_domain.specs.Shared.{part_of}
 use Rattle.cast_domain.specs.Records.{records_in}
 use Rattle.cast_domain.specs.Calls.{records, resting_records}
@@ -17,7 +17,7 @@ loop-turn-preserved c =
     let first = deliver_first records resting_records c.args.serial in
     let i = c.loop-turn._turn in
     let n = length (part_of c.args.self.now.config.domain c.args.lent.now.shared.now).kept in
-    let within : i < n = omega (arith, c.held-turn-end.ensures) in
+    let within : i < n = omega (arith, c.held_count-turn-end.ensures) in
     record {
       stays = beside_then c.loop-turn.invariant.stays c.in_ok-deliver_first.ensures.stays;
       left = ap (iterate (n - (i + 1)) first) c.in_ok-deliver_first.ensures.made ∙ turn_more first r i n within ∙ c.loop-turn.invariant.left;
@@ -52,5 +52,5 @@ returns-clause-told c =
     let first = records_in c.args.self.now c.args.lent.now in
     elim c.loop-turn.changed as (λ b. c.loop-turn.changed ≡ b → b ≡ has_ready first c.args.serial) [
       | true ↦ λ e. sym (c.loop-turn.invariant.told e)
-      | false ↦ λ e. sym (none_ready first c.args.serial (omega (arith, c.loop-turn.invariant.none e, c.held-turn-end.ensures)))
+      | false ↦ λ e. sym (none_ready first c.args.serial (omega (arith, c.loop-turn.invariant.none e, c.held_count-turn-end.ensures)))
     ] refl

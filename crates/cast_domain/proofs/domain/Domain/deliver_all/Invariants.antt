@@ -1,6 +1,6 @@
 use Rattle.std.proofs.Common.{◌≡◌, ◌-◌, true, false, length}
 use Rattle.cast_types.specs.Repeat.{iterate}
-use Rattle.cast_history.specs.Rules.Rest.{deliver_first, deliver_all}
+use Rattle.cast_rules.specs.Rules.Rest.{deliver_first, deliver_all}
 use Rattle.cast_domain.specs.Calls.{records, resting_records}
 use Rattle.cast_domain.specs.Records.{KeepsBeside, records_in}
 use Rattle.cast_domain.specs.Flags.{has_ready}

@@ -4,9 +4,9 @@ use Rattle.std.specs.Option.{option_copied, option_map_or}
 use Rattle.cast_types.specs.declared.names.Key.{Key}
 use Rattle.cast_message.specs.declared.message.Message.{Message}
 use Rattle.cast_message.specs.Receipts.{message_under}
-use Rattle.cast_history.specs.Rules.Rest.{tell_if, told_of, deliver}
+use Rattle.cast_rules.specs.Rules.Rest.{tell_if, told_of, deliver}
 use Rattle.cast_domain.specs.Records.{records_in}
-use Rattle.cast_history.specs.Rules.Release as release
+use Rattle.cast_rules.specs.Rules.Release as release
 use Rattle.cast_domain.specs.Calls.{deliver_as, local_in, next_ready_in, note_delivered_under, ready_key_in, records, resting_records}
 use Rattle.cast_domain.proofs.domain.Domain.deliver_first.Goals as goal
 

@@ -3,9 +3,9 @@ use Rattle.std.specs.Prelude.{Bool, if◌then◌else◌}
 use Rattle.cast_types.specs.declared.names.Standing.TheVariants.{Outside}
 use Rattle.cast_types.specs.declared.refusal.Refusal.TheVariants.{GroupFull}
 use Rattle.cast_message.specs.declared.client.Push.TheVariants as push
-use Rattle.cast_delay.specs.declared.row.Fact.TheVariants as fact
-use Rattle.cast_history.specs.Rules.Requests.{is_joining_by}
-use Rattle.cast_history.specs.Rules.Leaving.{tell}
+use Rattle.cast_delay.specs.declared.row.ProcessUpdate.TheVariants as fact
+use Rattle.cast_rules.specs.Rules.Requests.{is_joining_by}
+use Rattle.cast_rules.specs.Rules.Leaving.{tell}
 use Rattle.cast_domain.specs.declared.record.GroupRecord.{GroupRecord}
 use Rattle.cast_domain.specs.Records.{Records, records_in}
 use Rattle.cast_domain.specs.Calls.{local_in, note_outside_in, record_at, records, standing_of, tell_in}

@@ -1,6 +1,6 @@
 use Rattle.std.proofs.Common.{◌∙◌, ap}
 use Rattle.std.specs.List.{fold}
-use Rattle.cast_history.specs.Rules.Home.{drop_want}
+use Rattle.cast_rules.specs.Rules.Home.{drop_want}
 use Rattle.cast_domain.specs.Records.{records_in}
 use Rattle.cast_domain.specs.Calls.{records}
 use Rattle.cast_domain.proofs.domain.Domain.drop_wants.Goals as goal

@@ -1,6 +1,6 @@
 use Rattle.std.proofs.Common.{◌≡◌, ◌∙◌, ap, filter}
 use Rattle.std.specs.List.{fold}
-use Rattle.cast_history.specs.Rules.Views.{tell_out, tell_view}
+use Rattle.cast_rules.specs.Rules.Views.{tell_out, tell_view}
 use Rattle.cast_domain.specs.declared.record.GroupRecord.{GroupRecord}
 use Rattle.cast_domain.specs.Records.{Records, records_in}
 use Rattle.cast_domain.specs.Calls.{gone_in, is_member_in, is_put_out_in, members_in, pass_in, record_at, records, serials_in}

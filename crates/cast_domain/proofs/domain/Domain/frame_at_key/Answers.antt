@@ -2,8 +2,8 @@ use Rattle.std.proofs.Common.{◌∙◌, sym, ap}
 use Rattle.std.specs.Option.{option_map}
 use Rattle.std.proofs.lemmas.Result.{IfOk-weaker}
 use Rattle.cast_message.specs.declared.site.SiteFrame.TheVariants as frame
-use Rattle.cast_history.specs.Rules.Keys.{id_in}
-use Rattle.cast_history.specs.Rules.Owing.{frame_of_kind}
+use Rattle.cast_rules.specs.Rules.Keys.{id_in}
+use Rattle.cast_rules.specs.Rules.Owing.{frame_of_kind}
 use Rattle.cast_domain.specs.Records.{records_in}
 use Rattle.cast_domain.specs.Calls.{message_in, records}
 use Rattle.cast_domain.proofs.domain.Domain.frame_at_key.Goals as goal

@@ -4,7 +4,7 @@ use Rattle.std.proofs.lemmas.Result.{IfOk-weaker}
 use Rattle.cast_message.specs.declared.site.SiteFrame.{SiteFrame}
 use Rattle.cast_timer.specs.declared.key.OwedKey.{OwedKey}
 use Rattle.cast_timer.specs.Owed.{is_same_message}
-use Rattle.cast_history.specs.Rules.Owing.{frame_for}
+use Rattle.cast_rules.specs.Rules.Owing.{frame_for}
 use Rattle.cast_domain.specs.Records.{records_in}
 use Rattle.cast_domain.specs.Calls.{records}
 use Rattle.cast_domain.specs.Resent.{IsFrameOf}

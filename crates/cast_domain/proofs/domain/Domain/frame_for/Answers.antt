@@ -2,7 +2,7 @@ use Rattle.std.proofs.Common.{ℕ, Option, ◌∙◌, sym, ap}
 use Rattle.std.specs.Option.{option_and_then}
 use Rattle.std.proofs.lemmas.Result.{IfOk-weaker}
 use Rattle.cast_domain.specs.Records.{records_in}
-use Rattle.cast_history.specs.Rules.Owing.{frame_of_kind}
+use Rattle.cast_rules.specs.Rules.Owing.{frame_of_kind}
 use Rattle.cast_domain.specs.Calls.{records}
 use Rattle.cast_domain.proofs.domain.Domain.frame_for.Goals as goal
 

@@ -1,7 +1,7 @@
 use Rattle.std.proofs.Common.{◌≡◌, ◌++◌, map, filter, drop}
 use Rattle.cast_types.specs.Sources.{source}
-use Rattle.cast_stable.specs.Ledger.{last_received_in}
-use Rattle.cast_model.specs.Outs.{no_outs}
+use Rattle.cast_stable.specs.Acks.{last_received_in}
+use Rattle.cast_events.specs.Outs.{no_outs}
 use Rattle.cast_view.specs.Sites.{is_at}
 use Rattle.cast_domain.specs.Records.{records_of}
 use Rattle.cast_domain.specs.Shared.{no_part}

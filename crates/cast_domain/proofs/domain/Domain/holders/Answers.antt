@@ -1,6 +1,6 @@
 use Rattle.std.proofs.Common.{◌∙◌, ◌<◌, ◌≤◌, sym, ap, length, subst}
 use Rattle.std.specs.Prelude.{get_or}
-use Rattle.cast_model.specs.Outs.{no_outs}
+use Rattle.cast_events.specs.Outs.{no_outs}
 use Rattle.cast_order.specs.Log.{log_of}
 use Rattle.cast_domain.specs.Shared.{no_part}
 use Rattle.cast_domain.specs.Records.{records_of}

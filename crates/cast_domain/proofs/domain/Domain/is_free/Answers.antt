@@ -1,8 +1,8 @@
 use Rattle.std.proofs.Common.{◌≡◌, ◌∙◌, sym, ap, true, false, not}
 use Rattle.std.specs.Prelude.{◌&&◌}
 use Rattle.cast_delay.specs.Queue.{is_awaited}
-use Rattle.cast_stable.specs.Ledger.{is_stable_in}
-use Rattle.cast_model.specs.Outs.{no_outs}
+use Rattle.cast_stable.specs.Acks.{is_stable_in}
+use Rattle.cast_events.specs.Outs.{no_outs}
 use Rattle.cast_domain.specs.Records.{records_of}
 use Rattle.cast_domain.specs.Shared.{no_part}
 use Rattle.cast_domain.specs.Calls.{is_open_in}

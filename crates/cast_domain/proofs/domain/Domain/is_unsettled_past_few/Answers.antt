@@ -5,7 +5,7 @@ use Rattle.cast_flush.proofs.Each.{length_filter}
 use Rattle.cast_types.specs.Names.{named}
 use Rattle.cast_types.specs.declared.limits.TheConstants.{MAX_UNSETTLED}
 use Rattle.cast_delay.specs.Queue.{delivered_in}
-use Rattle.cast_model.specs.Outs.{no_outs}
+use Rattle.cast_events.specs.Outs.{no_outs}
 use Rattle.cast_order.specs.Log.{Log, known_past, log_of}
 use Rattle.cast_domain.specs.Shared.{no_part}
 use Rattle.cast_domain.specs.Records.{records_of}

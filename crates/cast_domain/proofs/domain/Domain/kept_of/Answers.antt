@@ -2,10 +2,10 @@ use Rattle.std.proofs.Common.{◌≡◌, ◌∙◌, true, Bool, List, map, filte
 use Rattle.std.proofs.lemmas.List.{take-map}
 use Rattle.cast_types.specs.Names.{Entry, entry_cmp, entry_of}
 use Rattle.cast_types.specs.Sets.{set_of}
-use Rattle.cast_message.specs.Keeping.{Marked, KeptList, is_kept}
+use Rattle.cast_message.specs.KeptIds.{Marked, KeptList, is_kept}
 use Rattle.cast_message.specs.Receipts.{messages}
 use Rattle.cast_order.specs.Log.{log_of, whole_kept}
-use Rattle.cast_history.specs.Reports.{is_unplaced}
+use Rattle.cast_rules.specs.Reports.{is_unplaced}
 use Rattle.cast_domain.specs.Calls.{is_kept_of}
 use Rattle.cast_domain.proofs.Marks.{kept_fits}
 use Rattle.cast_domain.proofs.domain.Domain.kept_of.Goals as goal

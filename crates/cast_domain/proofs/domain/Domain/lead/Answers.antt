@@ -1,7 +1,7 @@
 use Rattle.std.proofs.Common.{◌<◌, ◌+◌, ◌-◌, ◌∙◌, ap, vec_len, arith}
 use Rattle.std.specs.List.{fold, range_with_len}
 use Rattle.std.proofs.lemmas.Bool.{or_parts}
-use Rattle.cast_history.specs.Rules.Home.{lead_group}
+use Rattle.cast_rules.specs.Rules.Home.{lead_group}
 use Rattle.cast_domain.specs.Records.{records_in}
 use Rattle.cast_domain.specs.Calls.{records}
 use Rattle.cast_domain.specs.Flags.{leads_in}

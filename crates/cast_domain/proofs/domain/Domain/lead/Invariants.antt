@@ -2,7 +2,7 @@ use Rattle.std.proofs.Common.{◌≡◌, ◌-◌, false, vec_len, length}
 use Rattle.std.specs.Prelude.{◌||◌}
 use Rattle.cast_domain.specs.Flags.{changes_over, leads_in}
 use Rattle.std.specs.List.{fold, range_with_len}
-use Rattle.cast_history.specs.Rules.Home.{lead_group}
+use Rattle.cast_rules.specs.Rules.Home.{lead_group}
 use Rattle.cast_domain.specs.Calls.{records}
 use Rattle.cast_domain.specs.Records.{KeepsBeside, records_in}
 use Rattle.cast_domain.proofs.domain.Domain.lead.Given as goal

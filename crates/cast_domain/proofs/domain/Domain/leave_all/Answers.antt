@@ -1,6 +1,6 @@
 use Rattle.std.proofs.Common.{◌≡◌, ◌<◌, ◌+◌, ◌-◌, ◌∙◌, ap, vec_len, arith}
 use Rattle.std.specs.List.{fold, range_with_len}
-use Rattle.cast_history.specs.Rules.Leaving.{leave_at, leave_each}
+use Rattle.cast_rules.specs.Rules.Leaving.{leave_at, leave_each}
 use Rattle.cast_domain.specs.declared.record.GroupRecord.{GroupRecord}
 use Rattle.cast_domain.specs.Records.{records_in}
 use Rattle.cast_domain.specs.Calls.{records}

@@ -4,8 +4,8 @@ use Rattle.std.proofs.lemmas.Bool.{eq-eqb, ne_eqb}
 use Rattle.cast_types.specs.declared.limits.TheConstants.{MAX_NUMBER}
 use Rattle.cast_types.specs.declared.names.Standing.TheVariants.{Outside}
 use Rattle.cast_message.specs.declared.site.Change.TheVariants as change
-use Rattle.cast_delay.specs.declared.row.Fact.TheVariants as fact
-use Rattle.cast_history.specs.Rules.Asking.{request}
+use Rattle.cast_delay.specs.declared.row.ProcessUpdate.TheVariants as fact
+use Rattle.cast_rules.specs.Rules.Asking.{request}
 use Rattle.cast_domain.specs.declared.record.GroupRecord.{GroupRecord}
 use Rattle.cast_domain.specs.Records.{records_in}
 use Rattle.cast_domain.specs.Calls.{local_in, note_outside_in, record_at, records, tell_in}
@@ -24,7 +24,7 @@ returns-then-asked-clause-made c =
     let told : records_in c.tell.new.self lent ≡ note_outside_in r k g =
     seen_as d c.tell.new.self c.in_ok-tell.ensures.kept lent.shared.now lent.outs.now
     ∙ c.in_ok-tell.ensures.made lent.outs.now r.part ∙ ap (λ q. tell_in r q (fact.Standing g Outside)) p in
-    let asked : c.asked-asked.result ≡ (record_at r.groups i).here.asked = c.asked-asked.ensures ∙ ap (λ (x : GroupRecord). x.here.asked) c.record.ensures in
+    let asked : c.request_count-asked.result ≡ (record_at r.groups i).here.asked = c.request_count-asked.ensures ∙ ap (λ (x : GroupRecord). x.here.asked) c.record.ensures in
     let last : ((record_at r.groups i).here.asked == MAX_NUMBER) ≡ true = eq-eqb (record_at r.groups i).here.asked MAX_NUMBER (sym asked ∙ c.if-asked.true) in
     told ∙ sym (ap (λ b. if b then note_outside_in r k g else request records (note_outside_in r k g) i change.Leave (local_in r k)) last)
 
@@ -40,8 +40,8 @@ returns-clause-made c =
     let told : records_in c.tell.new.self lent ≡ note_outside_in r k g =
     seen_as d c.tell.new.self c.in_ok-tell.ensures.kept lent.shared.now lent.outs.now
     ∙ c.in_ok-tell.ensures.made lent.outs.now r.part ∙ ap (λ q. tell_in r q (fact.Standing g Outside)) p in
-    let asked : c.asked-asked.result ≡ (record_at r.groups i).here.asked = c.asked-asked.ensures ∙ ap (λ (x : GroupRecord). x.here.asked) c.record.ensures in
+    let asked : c.request_count-asked.result ≡ (record_at r.groups i).here.asked = c.request_count-asked.ensures ∙ ap (λ (x : GroupRecord). x.here.asked) c.record.ensures in
     let left : ((record_at r.groups i).here.asked == MAX_NUMBER) ≡ false = ne_eqb (record_at r.groups i).here.asked MAX_NUMBER (λ same. c.if-asked.false (asked ∙ same)) in
-    c.in_ok-ask.ensures.made
+    c.in_ok-request.ensures.made
     ∙ (λ j. request records (told j) i change.Leave (p j))
     ∙ sym (ap (λ b. if b then note_outside_in r k g else request records (note_outside_in r k g) i change.Leave (local_in r k)) left)

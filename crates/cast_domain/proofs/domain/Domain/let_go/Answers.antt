@@ -1,6 +1,6 @@
 use Rattle.std.proofs.Common.{◌≡◌, ◌∙◌, sym, ap, true, length, ◌<◌, subst}
 use Rattle.cast_types.specs.declared.names.Uid.{Uid}
-use Rattle.cast_history.specs.Rules.Release as release
+use Rattle.cast_rules.specs.Rules.Release as release
 use Rattle.cast_domain.specs.Records.{Records, records_in}
 use Rattle.cast_domain.specs.Calls.{records, resting_records}
 use Rattle.cast_domain.proofs.Loops.{beside_then}

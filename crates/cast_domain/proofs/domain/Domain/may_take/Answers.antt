@@ -2,7 +2,7 @@ use Rattle.std.proofs.Common.{◌≡◌, ◌∙◌, sym, ap, false, inl, inr}
 use Rattle.std.specs.Prelude.{if◌then◌else◌}
 use Rattle.cast_types.specs.Names.{is_order}
 use Rattle.cast_message.specs.Bodies.{kind_of}
-use Rattle.cast_history.specs.Rules.Room.{may_order, may_receive}
+use Rattle.cast_rules.specs.Rules.Room.{may_order, may_receive}
 use Rattle.cast_domain.specs.Records.{records_in}
 use Rattle.cast_domain.specs.Calls.{records}
 use Rattle.cast_domain.proofs.domain.Domain.may_take.Goals as goal

@@ -1,11 +1,11 @@
 use Rattle.std.proofs.Common.{◌≡◌, ◌∙◌, [], map, take, refl, sym, ap, subst, arith}
 use Rattle.std.proofs.lemmas.List.{take_all}
-use Rattle.cast_history.specs.State.{opening}
+use Rattle.cast_rules.specs.State.{opening}
 use Rattle.cast_domain.specs.Shared.{no_part}
 use Rattle.cast_domain.specs.Records.{Records}
-use Rattle.cast_history.specs.Run.{before_event}
+use Rattle.cast_rules.specs.Run.{before_event}
 use Rattle.cast_domain.specs.Fits.{Fits, AreDismissed, record_for}
-use Rattle.cast_history.proofs.Lawful.{lawful_opening}
+use Rattle.cast_rules.proofs.Lawful.{lawful_opening}
 use Rattle.cast_domain.proofs.Standing.{fits_before}
 use Rattle.cast_domain.proofs.domain.Domain.new.Goals as goal
 

@@ -1,6 +1,6 @@
 use Rattle.std.proofs.Common.{◌≡◌, map, take}
 use Rattle.cast_domain.specs.Fits.{record_for}
-use Rattle.cast_history.specs.State.{opening}
+use Rattle.cast_rules.specs.State.{opening}
 use Rattle.cast_domain.proofs.domain.Domain.new.Given as goal
 
 -- the records of the groups so far

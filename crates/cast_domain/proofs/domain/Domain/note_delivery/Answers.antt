@@ -20,7 +20,7 @@ returns-clause-made c =
     λ i. record r {
       orders = (
           made
-          ∙ ap (λ n. change_log u.group (passed p n) r.orders) (c.passed-passed.ensures.value ∙ ap (passed_in r.delay p u.group u.view) c.next-ids.ensures)
+          ∙ ap (λ n. change_log u.group (passed p n) r.orders) (c.delivered_prefix-passed.ensures.value ∙ ap (passed_in r.delay p u.group u.view) c.next-ids.ensures)
           ∙ sym (ap (λ b. if b then told_in u.group p (entry_of u) r.orders else change_log u.group (passed p (passed_in r.delay p u.group u.view (next_in (log_of r.orders u.group) p))) r.orders) other)) i;
     })
     c.pass.ensures

@@ -2,7 +2,7 @@ use Rattle.std.proofs.Common.{◌≡◌, [], true, arith, ◌∙◌, sym, ap}
 use Rattle.std.specs.Prelude.{if◌then◌else◌}
 use Rattle.std.proofs.lemmas.Bool.Decides.{nat_tests}
 use Rattle.cast_view.specs.MemberSide.{is_put_out_by}
-use Rattle.cast_history.specs.Rules.Views.{change_view, no_members}
+use Rattle.cast_rules.specs.Rules.Views.{change_view, no_members}
 use Rattle.cast_domain.specs.Records.{records_in}
 use Rattle.cast_domain.specs.Calls.{record_at, records}
 use Rattle.cast_domain.proofs.domain.Domain.on_out.Goals as goal

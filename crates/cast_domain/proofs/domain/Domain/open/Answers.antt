@@ -3,9 +3,9 @@ use Rattle.std.specs.Prelude.{Bool, if◌then◌else◌}
 use Rattle.std.proofs.lemmas.Bool.{and_parts, eq-eqb, false≢true, not-true}
 use Rattle.cast_types.specs.declared.limits.TheConstants.{MAX_NUMBER}
 use Rattle.cast_types.specs.declared.refusal.Refusal.TheVariants.{TooManySessions}
-use Rattle.cast_model.specs.declared.event.Taken.TheVariants.{Opened, Refused}
+use Rattle.cast_events.specs.declared.event.Taken.TheVariants.{Opened, Refused}
 use Rattle.cast_quota.specs.Quotas.{may_open as may_open_by}
-use Rattle.cast_history.specs.Rules.Events.{may_open}
+use Rattle.cast_rules.specs.Rules.Events.{may_open}
 use Rattle.cast_domain.specs.Records.{records_in}
 use Rattle.cast_domain.specs.Calls.{open_in, records, records_sessions}
 use Rattle.cast_domain.proofs.domain.Domain.open.Goals as goal

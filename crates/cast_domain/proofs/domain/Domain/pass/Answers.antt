@@ -1,8 +1,8 @@
 use Rattle.std.proofs.Common.{◌∙◌, ap}
 use Rattle.std.proofs.lemmas.Bool.{or_parts}
-use Rattle.cast_history.specs.Rules.Flushes.{go_on_all}
-use Rattle.cast_history.specs.Rules.Home.{lead}
-use Rattle.cast_history.specs.Rules.Order.{set_orders}
+use Rattle.cast_rules.specs.Rules.Flushes.{go_on_all}
+use Rattle.cast_rules.specs.Rules.Home.{lead}
+use Rattle.cast_rules.specs.Rules.Order.{set_orders}
 use Rattle.std.specs.Prelude.{◌||◌}
 use Rattle.cast_domain.specs.Flags.{goes_on_some, leads_some, orders_some}
 use Rattle.cast_domain.specs.Calls.{records, resting_records}

@@ -10,10 +10,10 @@ use Rattle.cast_message.specs.declared.message.Message.{Message}
 use Rattle.cast_delay.specs.Ready.{is_member}
 use Rattle.cast_order.specs.Log.{hand_here, log_of}
 use Rattle.cast_view.specs.MemberSide.{members_of}
-use Rattle.cast_history.specs.Rules.Room.{may_order}
-use Rattle.cast_history.specs.Rules.Sending.{send_message, may_raise}
-use Rattle.cast_history.specs.Rules.Leaving.{Attempt}
-use Rattle.cast_history.specs.Rules.Commands.{body_handing, hand_over, message_sent, send_own}
+use Rattle.cast_rules.specs.Rules.Room.{may_order}
+use Rattle.cast_rules.specs.Rules.Sending.{send_message, may_raise}
+use Rattle.cast_rules.specs.Rules.Leaving.{Attempt}
+use Rattle.cast_rules.specs.Rules.Commands.{body_handing, hand_over, message_sent, send_own}
 use Rattle.cast_domain.specs.Records.{Records, records_in}
 use Rattle.cast_domain.specs.Calls.{awaits_own_in, local_in, note_sent_by, place_to_pass_of, record_at, records, standing_of, time_of}
 use Rattle.cast_domain.proofs.Attempts.{raised_some}

@@ -2,7 +2,7 @@ use Rattle.std.proofs.Common.{◌≡◌, refl, ap, ◌∙◌}
 use Rattle.std.specs.List.{fold}
 use Rattle.std.proofs.lemmas.Result.{on_ok_weaker}
 use Rattle.cast_timer.specs.Owed.{due_at}
-use Rattle.cast_history.specs.Rules.Owing.{send_for}
+use Rattle.cast_rules.specs.Rules.Owing.{send_for}
 use Rattle.cast_domain.specs.Shared.{Part, part_renewing_due}
 use Rattle.cast_domain.specs.Records.{records_in}
 use Rattle.cast_domain.specs.Calls.{records}

@@ -1,6 +1,6 @@
-use Rattle.cast_history.specs.State.{State}
-use Rattle.cast_history.specs.Rest.{pass}
-use Rattle.cast_history.specs.Lawful.{IsLawful}
+use Rattle.cast_rules.specs.State.{State}
+use Rattle.cast_rules.specs.Rest.{pass}
+use Rattle.cast_rules.specs.Lawful.{IsLawful}
 use Rattle.cast_domain.specs.Fits.{Fits, AreDismissed}
 use Rattle.cast_domain.specs.Records.{KeepsBeside, records_in}
 use Rattle.cast_types.proofs.Iterates.{Led}

@@ -1,6 +1,6 @@
 use Rattle.std.proofs.Common.{◌≡◌}
 use Rattle.std.specs.List.{fold}
-use Rattle.cast_history.specs.Rules.Owing.{send_for}
+use Rattle.cast_rules.specs.Rules.Owing.{send_for}
 use Rattle.cast_domain.specs.Calls.{records}
 use Rattle.cast_domain.specs.Records.{GivesBack, records_in}
 use Rattle.cast_domain.specs.Resent.{IsFrameOf}

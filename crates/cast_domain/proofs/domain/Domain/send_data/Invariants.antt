@@ -1,6 +1,6 @@
 use Rattle.std.proofs.Common.{◌≡◌, drop}
 use Rattle.std.specs.List.{fold}
-use Rattle.cast_history.specs.Rules.Sending.{send_data}
+use Rattle.cast_rules.specs.Rules.Sending.{send_data}
 use Rattle.cast_domain.specs.Calls.{records}
 use Rattle.cast_domain.specs.Records.{GivesBack, records_in}
 use Rattle.cast_domain.proofs.domain.Domain.send_data.Given as goal

@@ -2,7 +2,7 @@ use Rattle.std.proofs.Common.{◌≡◌, ◌∙◌, ap}
 use Rattle.cast_clock.specs.Times.{bumped, count_in}
 use Rattle.cast_message.specs.declared.message.Body.TheVariants as body
 use Rattle.cast_message.specs.declared.message.Message.{Message}
-use Rattle.cast_history.specs.Rules.Sending.{send_message}
+use Rattle.cast_rules.specs.Rules.Sending.{send_message}
 use Rattle.cast_domain.specs.Records.{records_in}
 use Rattle.cast_domain.specs.Calls.{local_in, note_sent_by, record_at, records, time_of}
 use Rattle.cast_domain.proofs.Loops.{seen_as}

@@ -1,26 +1,26 @@
-use Rattle.cast_history.specs.Rest.{let_go}
+use Rattle.cast_rules.specs.Rest.{let_go}
 use Rattle.std.proofs.Common.{rules, ◌≡◌, ◌++◌, ◌∙◌, sym, ap, subst}
-use Rattle.cast_model.specs.declared.config.DomainConfig.{DomainConfig}
-use Rattle.cast_history.specs.Run.{before_event}
-use Rattle.cast_history.specs.Step.{acted}
+use Rattle.cast_events.specs.declared.config.DomainConfig.{DomainConfig}
+use Rattle.cast_rules.specs.Run.{before_event}
+use Rattle.cast_rules.specs.Step.{acted}
 use Rattle.cast_domain.specs.Shared.{part_of}
-use Rattle.cast_model.specs.Outs.{no_outs, outs_then}
+use Rattle.cast_events.specs.Outs.{no_outs, outs_then}
 use Rattle.cast_domain.specs.Records.{records_in, records_of}
 use Rattle.cast_domain.specs.Stepped.{IsStepOf}
 use Rattle.cast_types.specs.declared.names.DomainNo.{DomainNo}
-use Rattle.cast_model.specs.declared.event.Event.{Event}
-use Rattle.cast_model.specs.declared.event.Outs.{Outs}
-use Rattle.cast_model.specs.declared.event.Taken.{Taken}
-use Rattle.cast_history.specs.State.{State}
+use Rattle.cast_events.specs.declared.event.Event.{Event}
+use Rattle.cast_events.specs.declared.event.Outs.{Outs}
+use Rattle.cast_events.specs.declared.event.Taken.{Taken}
+use Rattle.cast_rules.specs.State.{State}
 use Rattle.cast_domain.specs.declared.domain.Domain.{Domain}
 use Rattle.cast_domain.specs.declared.lent.Lent.{Lent}
 use Rattle.cast_domain.specs.declared.shared.Shared.{Shared}
 use Rattle.cast_domain.specs.Calls.{acted_in}
-use Rattle.cast_history.specs.Lawful.{IsLawful}
+use Rattle.cast_rules.specs.Lawful.{IsLawful}
 use Rattle.cast_domain.specs.Fits.{Fits, AreDismissed}
-use Rattle.cast_history.proofs.Lawful.{lawful_before, lawful_let_go}
-use Rattle.cast_history.proofs.LawfulSteps.{lawful_acted, lawful_rests}
-use Rattle.cast_domain.proofs.Events.{fits_acted, answer_acted}
+use Rattle.cast_rules.proofs.Lawful.{lawful_before, lawful_let_go}
+use Rattle.cast_rules.proofs.LawfulSteps.{lawful_acted, lawful_rests}
+use Rattle.cast_domain.proofs.EventSteps.{fits_acted, answer_acted}
 use Rattle.cast_domain.proofs.Passes.{fits_between}
 use Rattle.cast_domain.specs.Trims.{trim_all_in}
 use Rattle.cast_domain.proofs.Dismissals.{dismissed_let_go, dismissed_trim_all}
@@ -63,10 +63,10 @@ returns-clause-steps c s means =
     let rested_records = records_of c.rest.new.self (part_of c.rest.new.self.config.domain lent.shared.now) lent.outs.now in
     let trimmed : Fits (records_of c.trim_orders.new.self (part_of c.rest.new.self.config.domain lent.shared.now) lent.outs.now) t =
     subst (λ x. Fits x t) (sym (c.trim_orders.ensures.made lent.outs.now (part_of c.rest.new.self.config.domain lent.shared.now)))
-    (subst (λ kept. Fits (trim_all_in kept rested_records) t) (sym c.kept-kept.ensures.value) (fits_trim_all rested_records t fits last_lawful)) in
+    (subst (λ kept. Fits (trim_all_in kept rested_records) t) (sym c.messages-kept.ensures.value) (fits_trim_all rested_records t fits last_lawful)) in
     let still : AreDismissed (records_of c.trim_orders.new.self (part_of c.rest.new.self.config.domain lent.shared.now) no_outs) =
     subst AreDismissed (sym (c.trim_orders.ensures.made no_outs (part_of c.rest.new.self.config.domain lent.shared.now)))
-    (dismissed_trim_all c.kept-kept.result.now (records_of c.rest.new.self (part_of c.rest.new.self.config.domain lent.shared.now) no_outs) (c.in_ok-rest.ensures.dismissed after_dismissed)) in
+    (dismissed_trim_all c.messages-kept.result.now (records_of c.rest.new.self (part_of c.rest.new.self.config.domain lent.shared.now) no_outs) (c.in_ok-rest.ensures.dismissed after_dismissed)) in
     let fits_last : Fits (records_of c.trim_orders.new.self (part_of here.config.domain lent.shared.now) lent.outs.now) t =
     subst (λ d. Fits (records_of c.trim_orders.new.self (part_of d lent.shared.now) lent.outs.now) t) same trimmed in
     ended s e _ c.trim_orders.new.self here.config.domain before c.append.new.self lent (search rules) added (record {

@@ -3,11 +3,11 @@ use Rattle.std.specs.Prelude.{◌&&◌}
 use Rattle.cast_clock.specs.Times.{bumped}
 use Rattle.cast_delay.specs.Ready.{is_member}
 use Rattle.cast_order.specs.Log.{log_of, next_places}
-use Rattle.cast_history.specs.Rules.Room.{may_order}
-use Rattle.cast_history.specs.Rules.Sending.{may_raise}
-use Rattle.cast_history.specs.Rules.Order.{may_list}
+use Rattle.cast_rules.specs.Rules.Room.{may_order}
+use Rattle.cast_rules.specs.Rules.Sending.{may_raise}
+use Rattle.cast_rules.specs.Rules.Order.{may_list}
 use Rattle.cast_domain.specs.Records.{Records, records_in}
-use Rattle.cast_history.specs.Rules.Release as release
+use Rattle.cast_rules.specs.Rules.Release as release
 use Rattle.cast_domain.specs.Calls.{records, resting_records, local_in, record_at, standing_of, time_of}
 use Rattle.cast_domain.proofs.Attempts.{places_made, places_none, places_missing, places_unraised, raised_none, raised_some}
 use Rattle.cast_domain.proofs.Loops.{groups_let_go}

@@ -1,7 +1,7 @@
 use Rattle.std.proofs.Common.{◌≡◌, false, drop, vec_len}
 use Rattle.std.specs.Prelude.{◌||◌}
 use Rattle.std.specs.List.{fold}
-use Rattle.cast_history.specs.Rules.Order.{set_order_by}
+use Rattle.cast_rules.specs.Rules.Order.{set_order_by}
 use Rattle.cast_domain.specs.Calls.{records, resting_records}
 use Rattle.cast_domain.specs.Flags.{orders_each}
 use Rattle.cast_domain.specs.Records.{KeepsBeside, records_in}

@@ -2,7 +2,7 @@ use Rattle.std.proofs.Common.{◌≡◌, ◌-◌, false, length, vec_len}
 use Rattle.std.specs.Prelude.{◌||◌}
 use Rattle.cast_domain.specs.Flags.{changes_over, orders_at, orders_some}
 use Rattle.std.specs.List.{fold, range_with_len}
-use Rattle.cast_history.specs.Rules.Order.{set_order, set_orders}
+use Rattle.cast_rules.specs.Rules.Order.{set_order, set_orders}
 use Rattle.cast_domain.specs.Calls.{records, resting_records}
 use Rattle.cast_domain.specs.Records.{KeepsBeside, records_in}
 use Rattle.cast_domain.proofs.domain.Domain.set_orders.Given as goal

@@ -1,7 +1,7 @@
 use Rattle.std.proofs.Common.{◌+◌, ◌∙◌, sym, ap, drop, subst}
 use Rattle.std.specs.List.{fold}
 use Rattle.std.proofs.lemmas.Bool.{or_parts}
-use Rattle.cast_history.specs.Rules.Rest.{deliver_all}
+use Rattle.cast_rules.specs.Rules.Rest.{deliver_all}
 use Rattle.cast_domain.specs.Records.{records_in}
 use Rattle.cast_domain.specs.Calls.{records, resting_records, serials_in}
 use Rattle.std.specs.Prelude.{◌||◌}

@@ -1,6 +1,6 @@
 use Rattle.std.proofs.Common.{◌≡◌, false, drop}
 use Rattle.std.specs.List.{fold}
-use Rattle.cast_history.specs.Rules.Rest.{deliver_all, settle}
+use Rattle.cast_rules.specs.Rules.Rest.{deliver_all, settle}
 use Rattle.cast_domain.specs.Calls.{records, resting_records, serials_in}
 use Rattle.std.specs.Prelude.{◌||◌}
 use Rattle.cast_domain.specs.Flags.{changes_over, delivers_some, has_ready}

@@ -1,6 +1,6 @@
 use Rattle.std.proofs.Common.{◌<◌, ◌+◌, ◌-◌, ◌∙◌, ap, vec_len, arith}
 use Rattle.std.specs.List.{fold, range_with_len}
-use Rattle.cast_history.specs.Rules.Home.{suspect_in}
+use Rattle.cast_rules.specs.Rules.Home.{suspect_in}
 use Rattle.cast_domain.specs.Records.{records_in}
 use Rattle.cast_domain.specs.Calls.{records}
 use Rattle.cast_domain.proofs.Loops.{beside_then, fold_more}

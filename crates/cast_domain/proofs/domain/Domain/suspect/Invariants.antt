@@ -1,6 +1,6 @@
 use Rattle.std.proofs.Common.{◌≡◌, ◌-◌, vec_len, length}
 use Rattle.std.specs.List.{fold, range_with_len}
-use Rattle.cast_history.specs.Rules.Home.{suspect_in}
+use Rattle.cast_rules.specs.Rules.Home.{suspect_in}
 use Rattle.cast_domain.specs.Calls.{records}
 use Rattle.cast_domain.specs.Records.{KeepsBeside, records_in}
 use Rattle.cast_domain.proofs.domain.Domain.suspect.Given as goal

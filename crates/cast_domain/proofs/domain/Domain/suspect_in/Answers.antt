@@ -1,5 +1,5 @@
 use Rattle.std.proofs.Common.{◌∙◌}
-use Rattle.cast_history.specs.Rules.Home.{drop_wants}
+use Rattle.cast_rules.specs.Rules.Home.{drop_wants}
 use Rattle.cast_domain.specs.Records.{records_in}
 use Rattle.cast_domain.specs.Calls.{records}
 use Rattle.cast_domain.proofs.domain.Domain.suspect_in.Goals as goal

@@ -1,6 +1,6 @@
 use Rattle.std.proofs.Common.{◌≡◌, ◌∙◌, ap}
-use Rattle.cast_history.specs.Rules.Keys.{ask_key}
-use Rattle.cast_history.specs.Rules.Asking.{ask_home}
+use Rattle.cast_rules.specs.Rules.Keys.{ask_key}
+use Rattle.cast_rules.specs.Rules.Asking.{ask_home}
 use Rattle.cast_domain.specs.Records.{records_in}
 use Rattle.cast_domain.specs.Calls.{pay_in, record_at, records}
 use Rattle.cast_domain.proofs.domain.Domain.take_answer.Goals as goal

@@ -2,7 +2,7 @@ use Rattle.std.proofs.Common.{◌≡◌, ◌<◌, ◌∙◌, ap, length, arith}
 use Rattle.std.proofs.lemmas.Result.{on_ok_weaker}
 use Rattle.cast_types.specs.Places.{update}
 use Rattle.cast_delay.specs.Queue.{queue_viewing}
-use Rattle.cast_stable.specs.Ledger.{told_ledger}
+use Rattle.cast_stable.specs.Acks.{told_ledger}
 use Rattle.cast_order.specs.Log.{but_log}
 use Rattle.cast_view.specs.MemberSide.{holder_at, members_of, with_view}
 use Rattle.cast_view.specs.Sites.{other_sites}
@@ -25,7 +25,7 @@ returns-clause-made c =
     ap (λ xs. record_at xs i) c.in_ok-view_at.ensures.items ∙ record_at_update (λ x. record x { here = with_view r.site n members x.here }) r.groups i within in
     let others : c.in_ok-others.others ≡ other_sites r.site (members_of (with_view r.site n members (record_at r.groups i).here)) =
     c.in_ok-others.ensures ∙ ap (other_sites r.site) (c.members.ensures.value ∙ ap (λ x. members_of x.here) (c.record-2.ensures ∙ there)) in
-    let mid : Records = record r { groups = c.view_at.new.groups.items; delay = c.view_changed.new.self; acks = c.tell.new.self; orders = c.forget.new.self } in
+    let mid : Records = record r { groups = c.view_at.new.groups.items; delay = c.note_view.new.self; acks = c.tell.new.self; orders = c.forget.new.self } in
     let before : mid ≡ (record r {
       groups = update r.groups i (λ x. record x { here = with_view r.site n members x.here });
       delay = queue_viewing (record_at r.groups i).name n r.delay;
@@ -34,7 +34,7 @@ returns-clause-made c =
     }) =
     (λ j. record r {
       groups = c.in_ok-view_at.ensures.items j;
-      delay = c.in_ok-view_changed.ensures j;
+      delay = c.in_ok-note_view.ensures j;
       acks = c.in_ok-tell.ensures.ok j;
       orders = c.forget.ensures j;
     })

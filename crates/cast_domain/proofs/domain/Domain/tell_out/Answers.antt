@@ -1,7 +1,7 @@
 use Rattle.std.proofs.Common.{◌+◌, ◌∙◌, sym, ap, drop, arith}
 use Rattle.std.specs.List.{fold}
 use Rattle.std.proofs.lemmas.List.{drop_all}
-use Rattle.cast_history.specs.Rules.Views.{tell_out}
+use Rattle.cast_rules.specs.Rules.Views.{tell_out}
 use Rattle.cast_domain.specs.Records.{records_in}
 use Rattle.cast_domain.specs.Calls.{records}
 use Rattle.cast_domain.proofs.Loops.{beside_then, fold_item}

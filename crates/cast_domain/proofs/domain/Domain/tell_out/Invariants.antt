@@ -1,6 +1,6 @@
 use Rattle.std.proofs.Common.{◌≡◌, drop, vec_len}
 use Rattle.std.specs.List.{fold}
-use Rattle.cast_history.specs.Rules.Views.{tell_out}
+use Rattle.cast_rules.specs.Rules.Views.{tell_out}
 use Rattle.cast_domain.specs.Calls.{records}
 use Rattle.cast_domain.specs.Records.{KeepsBeside, records_in}
 use Rattle.cast_domain.proofs.domain.Domain.tell_out.Given as goal

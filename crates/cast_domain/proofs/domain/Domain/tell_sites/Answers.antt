@@ -1,6 +1,6 @@
 use Rattle.std.proofs.Common.{◌∙◌, ◌+◌, ap, drop, arith}
 use Rattle.std.specs.List.{fold}
-use Rattle.cast_history.specs.Rules.Stability.{tell_stable}
+use Rattle.cast_rules.specs.Rules.Stability.{tell_stable}
 use Rattle.cast_domain.specs.Records.{records_of}
 use Rattle.cast_domain.specs.Calls.{records}
 use Rattle.cast_domain.proofs.Loops.{fold_item}

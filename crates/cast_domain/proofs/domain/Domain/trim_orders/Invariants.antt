@@ -1,6 +1,6 @@
 use Rattle.std.proofs.Common.{◌≡◌, ◌-◌, length}
 use Rattle.std.specs.List.{fold, range_with_len}
-use Rattle.cast_model.specs.declared.event.Outs.{Outs}
+use Rattle.cast_events.specs.declared.event.Outs.{Outs}
 use Rattle.cast_domain.specs.Shared.{Part}
 use Rattle.cast_domain.specs.Records.{Keeps, records_of}
 use Rattle.cast_domain.specs.Trims.{trim_in, trim_all_in}

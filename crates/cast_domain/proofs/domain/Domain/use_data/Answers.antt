@@ -1,9 +1,9 @@
 use Rattle.std.proofs.Common.{◌≡◌, ◌∙◌, sym, ap, true, false}
 use Rattle.std.specs.Prelude.{if◌then◌else◌}
 use Rattle.cast_message.specs.declared.site.SiteFrame.TheVariants as frame
-use Rattle.cast_stable.specs.Ledger.{is_received_in}
-use Rattle.cast_history.specs.Rules.Data.{acknowledge, want_no_more}
-use Rattle.cast_history.specs.Rules.Room.{may_take}
+use Rattle.cast_stable.specs.Acks.{is_received_in}
+use Rattle.cast_rules.specs.Rules.Data.{acknowledge, want_no_more}
+use Rattle.cast_rules.specs.Rules.Room.{may_take}
 use Rattle.cast_domain.specs.Records.{Records, records_in}
 use Rattle.cast_domain.specs.Calls.{records, receive_in, send_in}
 use Rattle.cast_domain.proofs.domain.Domain.use_data.Goals as goal

@@ -2,7 +2,7 @@ use Rattle.std.proofs.Common.{◌≡◌, false, drop}
 use Rattle.std.specs.List.{fold, list_any}
 use Rattle.std.specs.Prelude.{◌||◌}
 use Rattle.cast_domain.specs.Flags.{wants_own_more}
-use Rattle.cast_history.specs.Rules.Flushes.{want_own}
+use Rattle.cast_rules.specs.Rules.Flushes.{want_own}
 use Rattle.cast_domain.specs.Calls.{records}
 use Rattle.cast_domain.specs.Records.{GivesBack, records_in}
 use Rattle.cast_domain.proofs.domain.Domain.want_all_missing.Given as goal

@@ -1,7 +1,7 @@
 use Rattle.std.proofs.Common.{◌∙◌, ap}
 use Rattle.std.specs.List.{fold, list_any}
 use Rattle.cast_domain.specs.Flags.{wants_more}
-use Rattle.cast_history.specs.Rules.Home.{want}
+use Rattle.cast_rules.specs.Rules.Home.{want}
 use Rattle.cast_domain.specs.Shared.{part_of}
 use Rattle.cast_domain.specs.Records.{records_in}
 use Rattle.cast_domain.specs.Calls.{records}

@@ -6,7 +6,7 @@ use Rattle.cast_order.proofs.log.OrderLog.assign.Goals as goal
 
 pub from_parts-requires : goal.from_parts-requires
 from_parts-requires c =
-    let waiting : List Entry = c.waiting-waiting.result.now in
+    let waiting : List Entry = c.ids_to_list-waiting.result.now in
     let some : 0 < length waiting = search rules in
     let first = c.length.ensures in
     let again = c.length-2.ensures in

@@ -1,6 +1,6 @@
 use Rattle.std.proofs.Common.{◌≡◌, ◌+◌, ◌++◌, ◌∷◌, [], ◌≤◌, length, sym, ap, subst, ◌∙◌, arith}
-use Rattle.cast_model.specs.declared.event.Outs.{Outs}
-use Rattle.cast_model.specs.Outs.{no_outs}
+use Rattle.cast_events.specs.declared.event.Outs.{Outs}
+use Rattle.cast_events.specs.Outs.{no_outs}
 use Rattle.cast_table.specs.Tables.{IsApplied, NotesHalts, domains_of, lent}
 use Rattle.cast_pool.specs.Kept.{Replays, Seen, events_of, seen}
 use Rattle.cast_pool.specs.Served.{Serves}
@@ -9,8 +9,8 @@ use Rattle.cast_pool.proofs.Halts.{few_halted}
 use Rattle.cast_pool.proofs.Serving.{counts_on, entry_for, next_in, one_more, replays_for, served_added}
 use Rattle.cast_pool.proofs.kept.Kept.serve.Goals as goal
 
-pub filled-halted-requires-clause-room : goal.filled-halted-requires-clause-room
-filled-halted-requires-clause-room g c =
+pub fill-halted-requires-clause-room : goal.fill-halted-requires-clause-room
+fill-halted-requires-clause-room g c =
     let old = c.self.inside.table in
     let new = c.apply-answer.new.self in
     let outs = c.apply-answer.new.outs in
@@ -36,7 +36,7 @@ invariant_of-self-2 g c =
     let notes = subst (λ (o : Outs). NotesHalts a c.args.event (domains_of k.table) (domains_of new) o.halted outs.halted) c.new-outs.ensures c.apply-answer.ensures.halted in
     let says = sym c.in-Some.ensures in
     let next = next_in k.trail.base k.trail.count k.table k.trail.entries.items c.room.new.self base same.1 c.in-Ok.ensures.room.base in
-    let halted = c.filled-halted.ensures ∙ c.as_slice.ensures in
+    let halted = c.fill-halted.ensures ∙ c.as_slice.ensures in
     let items : c.add.new.self.entries.items ≡ items_then base k.trail.entries.items ++ entry_for c.args.event n outs.halted ∷ [] =
     c.add.ensures.items ∙ (λ i. items_then base (same.1 i) ++ entry_for c.args.event n (halted i) ∷ []) in
     let bases : c.add.new.self.base ≡ base_then base k.trail.base = c.add.ensures.base ∙ ap (base_then base) same.0 in
@@ -71,7 +71,7 @@ returns-clause-done g c =
     let notes = subst (λ (o : Outs). NotesHalts a c.args.event (domains_of k.table) (domains_of new) o.halted outs.halted) c.new-outs.ensures c.apply-answer.ensures.halted in
     let says = sym c.in-Some.ensures in
     let next = next_in k.trail.base k.trail.count k.table k.trail.entries.items c.room.new.self base same.1 c.in-Ok.ensures.room.base in
-    let halted = c.filled-halted.ensures ∙ c.as_slice.ensures in
+    let halted = c.fill-halted.ensures ∙ c.as_slice.ensures in
     let items : c.add.new.self.entries.items ≡ items_then base k.trail.entries.items ++ entry_for c.args.event n outs.halted ∷ [] =
     c.add.ensures.items ∙ (λ i. items_then base (same.1 i) ++ entry_for c.args.event n (halted i) ∷ []) in
     let bases : c.add.new.self.base ≡ base_then base k.trail.base = c.add.ensures.base ∙ ap (base_then base) same.0 in

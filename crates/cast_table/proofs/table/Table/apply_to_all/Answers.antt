@@ -1,6 +1,6 @@
 use Rattle.std.proofs.Common.{◌++◌, sym, ap, ◌∙◌}
 use Rattle.std.proofs.lemmas.List.{append-nil}
-use Rattle.cast_model.specs.declared.event.Outs.{Outs}
+use Rattle.cast_events.specs.declared.event.Outs.{Outs}
 use Rattle.cast_table.proofs.Turns.{none_stopped}
 use Rattle.cast_table.proofs.table.Table.apply_to_all.Goals as goal
 

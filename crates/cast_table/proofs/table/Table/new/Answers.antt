@@ -2,7 +2,7 @@ use Rattle.std.proofs.Common.{◌≡◌, ◌++◌, ◌∷◌, [], ◌+◌, take,
 use Rattle.std.specs.List.{AllZip, insert}
 use Rattle.std.proofs.lemmas.List.{take_more, take_all}
 use Rattle.cast_types.specs.declared.names.DomainNo.{DomainNo}
-use Rattle.cast_model.specs.declared.config.DomainConfig.{DomainConfig}
+use Rattle.cast_events.specs.declared.config.DomainConfig.{DomainConfig}
 use Rattle.cast_table.specs.Tables.{IsNew, by_number, place_for}
 use Rattle.cast_table.proofs.Ordered.{put_more}
 use Rattle.cast_table.proofs.table.Table.new.Goals as goal

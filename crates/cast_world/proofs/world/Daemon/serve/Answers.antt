@@ -3,7 +3,7 @@ use Rattle.std.proofs.lemmas.Result.{IfOk-weaker}
 use Rattle.cast_types.specs.declared.names.DomainNo.{DomainNo}
 use Rattle.cast_types.specs.declared.names.Proc.{Proc}
 use Rattle.cast_types.specs.declared.names.Uid.{Uid}
-use Rattle.cast_model.specs.declared.event.Outs.{Outs}
+use Rattle.cast_events.specs.declared.event.Outs.{Outs}
 use Rattle.cast_domain.specs.Stepped.{IsSteppedBeside}
 use Rattle.cast_world.specs.declared.world.Daemon.{Daemon}
 use Rattle.cast_world.specs.Worlds.{Serves}

@@ -5,7 +5,7 @@ use Rattle.std.proofs.lemmas.Result.{IfOk-weaker}
 use Rattle.cast_types.specs.Names.{site_eq}
 use Rattle.cast_domain.specs.Records.{number_of}
 use Rattle.cast_message.specs.declared.site.SiteFrame.{SiteFrame}
-use Rattle.cast_model.specs.declared.event.Event.TheVariants as event
+use Rattle.cast_events.specs.declared.event.Event.TheVariants as event
 use Rattle.cast_world.specs.declared.world.Daemon.{Daemon}
 use Rattle.cast_world.specs.declared.world.World.{World}
 use Rattle.cast_world.specs.declared.step.Packet.{Packet}

@@ -3,12 +3,12 @@ use Rattle.std.specs.List.{slice_get}
 use Rattle.std.proofs.lemmas.List.{take_more, take_all}
 use Rattle.cast_types.specs.Names.{group_cmp}
 use Rattle.cast_types.specs.Rising.{is_rising}
-use Rattle.cast_domain.specs.Fits.{Means}
+use Rattle.cast_domain.specs.Fits.{Represents}
 use Rattle.cast_domain.specs.Records.{is_halted, number_of}
 use Rattle.cast_domain.specs.Shared.{no_part}
-use Rattle.cast_model.specs.declared.config.Config.{Config}
-use Rattle.cast_model.specs.declared.config.DomainConfig.{DomainConfig}
-use Rattle.cast_history.specs.State.{opening}
+use Rattle.cast_events.specs.declared.config.Config.{Config}
+use Rattle.cast_events.specs.declared.config.DomainConfig.{DomainConfig}
+use Rattle.cast_rules.specs.State.{opening}
 use Rattle.cast_world.specs.declared.world.Daemon.{Daemon}
 use Rattle.cast_world.specs.Worlds.{StandsAt}
 use Rattle.cast_world.proofs.Standing.{AreNew, new_none, new_more, new_world, new_stands, only_domain, has_domain}
@@ -36,8 +36,8 @@ loop-config-preserved c = λ config solo.
           let stands : StandsAt d (opening item.site (config item.site)) =
           new_stands d item.site (config item.site) made.0
           (ap is_halted made.1 ∙ domain.running) (ap number_of made.1 ∙ domain.number ∙ ap (λ (x : DomainConfig). x.domain) same)
-          (subst (λ x. Means x no_part (opening item.site (config item.site))) (sym made.1)
-          (subst (λ x. Means w.in_ok-alone.alone no_part (opening item.site x)) same (domain.begins (ap (λ (x : DomainConfig). is_rising group_cmp x.groups) same ∙ alone.1))))
+          (subst (λ x. Represents x no_part (opening item.site (config item.site))) (sym made.1)
+          (subst (λ x. Represents w.in_ok-alone.alone no_part (opening item.site x)) same (domain.begins (ap (λ (x : DomainConfig). is_rising group_cmp x.groups) same ∙ alone.1))))
           made.2 made.3 in
           subst (λ (cs : List Config). AreNew config cs c.match-first.daemons.items) one
           (subst (λ (ds : List Daemon). AreNew config (take i configs ++ item ∷ []) ds) (sym (ap (λ (v : Vec Daemon Global). v.items) w.daemons-is ∙ w.in_ok-push.ensures.items))

@@ -1,6 +1,6 @@
 use Rattle.std.proofs.Common.{take}
 use Rattle.cast_types.specs.declared.names.SiteNo.{SiteNo}
-use Rattle.cast_model.specs.declared.config.DomainConfig.{DomainConfig}
+use Rattle.cast_events.specs.declared.config.DomainConfig.{DomainConfig}
 use Rattle.cast_world.specs.Worlds.{AreSolo}
 use Rattle.cast_world.proofs.Standing.{AreNew}
 use Rattle.cast_world.proofs.world.World.new.Given as goal

@@ -1,0 +1,68 @@
+use crate::domain::Domain;
+use crate::lent::Lent;
+use cast_types::{Key, Uid};
+
+impl Domain {
+    ghost use Rattle.std.specs.Prelude.{◌≡◌, ◌<◌, false, None, IfSome, ◌&&◌, not, Some, IfNone};
+    ghost use Rattle.cast_domain.specs.Records.{Keeps, KeepsBeside, records_in, Makes, own_records};
+    ghost use Rattle.cast_domain.specs.Calls.{records, resting_records, is_current_in, is_open_in, release_in};
+    ghost use Rattle.cast_rules.specs.Rules.Release.{is_free, let_go};
+    ghost use Rattle.cast_domain.specs.Freed.{AreNotFree, IsFreeKey};
+
+    // Lets go of all free messages.
+    pub(crate) fn let_go(&mut self, lent: &mut Lent<'_>)
+        ensures stays { KeepsBeside self.old lent.old self.new lent.new }
+        ensures made { Makes (let_go records resting_records) self.old lent.old self.new lent.new }
+    {
+        while let Some(key) = self.free_key(lent) {
+            self.release(key, lent);
+        }
+    }
+
+    // The key of a free message, where one is free. Of each process's messages only the first one is looked at: where that is
+    // not free, none behind it is.
+    fn free_key(&self, lent: &Lent<'_>) -> Option<Key>
+        ensures some { IfSome result (IsFreeKey (records_in self.now lent.now)) }
+        ensures none { IfNone result (AreNotFree (records_in self.now lent.now)) }
+    {
+        lent.shared
+            .store
+            .first_passing(self.config.domain, |id| self.is_free(id))
+    }
+
+    // Whether a message is of the current view, which is not frozen, stable, and delivered to each member here.
+    fn is_free(&self, id: Uid) -> bool
+        ensures { result ≡ is_free records resting_records (own_records self.now) id }
+    {
+        self.is_open_to(id) && self.acks.may_free(id, self.delay.is_awaited(id))
+    }
+
+    // Whether a message is of the current view of its group, which no flush has frozen.
+    fn is_open_to(&self, id: Uid) -> bool
+        ensures { result ≡ is_open_in (own_records self.now) id }
+    {
+        match self.place_of(id.group) {
+            Some(place) => self.record(place).here.is_open(id.view),
+            None => false,
+        }
+    }
+
+    // Whether a message is of the current view of its group.
+    pub(crate) fn is_current(&self, id: Uid) -> bool
+        ensures { result ≡ is_current_in (own_records self.now) id }
+    {
+        match self.place_of(id.group) {
+            Some(place) => self.record(place).here.is_current(id.view),
+            None => false,
+        }
+    }
+
+    // Keeps the message under a key no longer.
+    pub(crate) fn release(&mut self, key: Key, lent: &mut Lent<'_>)
+        ensures stays { KeepsBeside self.old lent.old self.new lent.new }
+        ensures made { Makes (λ r. release_in r key) self.old lent.old self.new lent.new }
+    {
+        lent.shared.remove(self.config.domain, key);
+        self.delay.forget(key);
+    }
+}

@@ -1,5 +1,0 @@
-use Rattle.cast_history.proofs.Settles.{settles_one, turns_are_enough}
-use Rattle.cast_history.proofs.laws.deliveries_end.Goals as goal
-
-pub returns : goal.returns
-returns c = record { settled = settles_one; turns = turns_are_enough }

@@ -1,5 +1,0 @@
-use Rattle.std.proofs.Common.{rules}
-use Rattle.cast_model.proofs.moment.Moment.reach.Goals as goal
-
-pub returns : goal.returns
-returns c = search rules

@@ -1,0 +1,123 @@
+use crate::messages::{causal, holds, id_of};
+use cast_message::Message;
+use cast_store::Store;
+use cast_types::{DomainNo, Key};
+use std::alloc::Global;
+use std::test::Fail;
+
+const MINE: DomainNo = DomainNo(1);
+
+const THEIRS: DomainNo = DomainNo(2);
+
+// What is done with a store, and what is to be seen of it.
+#[derive(Clone, Copy)]
+enum Step {
+    // A domain keeps a message of this count, under this key.
+    Puts(DomainNo, u32, usize),
+    // The message that a domain keeps under a key is taken out: its count, 0 where there is none.
+    Removes(DomainNo, usize, u32),
+    // All messages of a domain are let go.
+    Drops(DomainNo),
+    // The count of the message that a domain keeps under a key, 0 where there is none.
+    Has(DomainNo, usize, u32),
+    // Whether a domain keeps a message of this count.
+    Finds(DomainNo, u32, bool),
+    // The key of the message that may go first, where those of counts up to this one may.
+    Frees(DomainNo, u32, Option<usize>),
+    // How many messages a domain keeps.
+    Keeps(DomainNo, usize),
+    // The key of what a domain keeps next.
+    Next(DomainNo, usize),
+}
+
+// The key of the message that a domain keeps, none where the message comes back.
+fn put(store: &mut Store, domain: DomainNo, message: Message) -> Option<usize> {
+    match store.put(domain, message) {
+        Ok(Key(key)) => Some(key),
+        Err(_) => None,
+    }
+}
+
+fn count_removed(store: &mut Store, domain: DomainNo, key: usize) -> u32 {
+    match store.remove(domain, Key(key)) {
+        Some(message) => message.id.count,
+        None => 0,
+    }
+}
+
+fn count_under(store: &Store, domain: DomainNo, key: usize) -> u32 {
+    match store.get(domain, Key(key)) {
+        Some(message) => message.id.count,
+        None => 0,
+    }
+}
+
+fn finds(store: &Store, domain: DomainNo, count: u32) -> bool {
+    match store.find(domain, id_of(count)) {
+        Some(message) => message.id == id_of(count),
+        None => false,
+    }
+}
+
+fn frees(store: &Store, domain: DomainNo, most: u32) -> Option<usize> {
+    let Key(key) = store.first_passing(domain, |id| id.count <= most)?;
+    Some(key)
+}
+
+fn keeps(store: &Store, domain: DomainNo, len: usize) -> bool {
+    store.held(domain) == len && store.messages(domain).len() == len
+}
+
+// Does a step, and tells whether the store is as it says.
+fn does(alloc: Global, store: &mut Store, step: Step) -> Result<bool, Fail> {
+    let well = match step {
+        Step::Puts(domain, count, key) => put(store, domain, causal(alloc, count)?) == Some(key),
+        Step::Removes(domain, key, count) => count_removed(store, domain, key) == count,
+        Step::Drops(domain) => {
+            store.drop_domain(domain);
+            true
+        }
+        Step::Has(domain, key, count) => count_under(store, domain, key) == count,
+        Step::Finds(domain, count, is_there) => finds(store, domain, count) == is_there,
+        Step::Frees(domain, most, key) => frees(store, domain, most) == key,
+        Step::Keeps(domain, len) => keeps(store, domain, len),
+        Step::Next(domain, key) => store.next_key(domain) == Key(key),
+    };
+    Ok(well)
+}
+
+// A store becomes in turn as the steps say.
+fn goes(alloc: Global, steps: &[Step]) -> Result<(), Fail> {
+    let mut store = Store::new(alloc);
+    for (place, step) in steps.iter().enumerate() {
+        let well = does(alloc, &mut store, *step)?;
+        holds(place, well)?;
+    }
+    Ok(())
+}
+
+#[test]
+fn messages_are_kept_until_they_are_removed(rt: HostRuntime) -> Result<(), Fail> {
+    goes(
+        rt.alloc(),
+        &[
+            Step::Puts(MINE, 1, 0),
+            Step::Puts(MINE, 2, 1),
+            Step::Puts(THEIRS, 3, 0),
+            Step::Has(MINE, 1, 2),
+            Step::Next(MINE, 2),
+            Step::Finds(MINE, 2, true),
+            Step::Finds(MINE, 3, false),
+            Step::Frees(MINE, 0, None),
+            Step::Frees(MINE, 2, Some(0)),
+            Step::Frees(THEIRS, 2, None),
+            Step::Removes(MINE, 1, 2),
+            Step::Removes(MINE, 1, 0),
+            Step::Keeps(MINE, 1),
+            Step::Puts(MINE, 4, 2),
+            Step::Drops(MINE),
+            Step::Keeps(MINE, 0),
+            Step::Keeps(THEIRS, 1),
+        ],
+    )
+}

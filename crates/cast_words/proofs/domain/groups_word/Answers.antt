@@ -1,7 +1,0 @@
-use Rattle.std.proofs.Common.{rules}
-use Rattle.cast_words.specs.Readings.{checked_groups, groups_of}
-use Rattle.cast_words.proofs.domain.groups_word.Goals as goal
-
-pub returns-then-is_empty : goal.returns-then-is_empty
-unfolding groups_of checked_groups
-returns-then-is_empty c = search rules
