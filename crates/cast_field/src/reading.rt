@@ -490,7 +490,7 @@ fn read_all_marked(
     Ok((entries, rest))
 }
 
-/// KeptIds messages: how many, and each id above the one before with its mark.
+/// Kept messages: how many, and each id above the one before with its mark.
 #[tactic(auto, unfolding(crate::specs::Reading::kept_at))]
 pub fn read_kept(alloc: Global, bytes: &[u8]) -> Result<(KeptIds, &[u8]), FrameFault>
     ensures { GivesField result (kept_at bytes.now) }

@@ -230,7 +230,7 @@ fn put_all_marked(out: &mut BytesMut, entries: &[((Proc, u32), bool)]) -> Result
     Ok(())
 }
 
-/// KeptIds messages: how many, and each id with its mark.
+/// Kept messages: how many, and each id with its mark.
 #[tactic(auto, unfolding(crate::specs::Spelling::spelled_kept, crate::specs::Spelling::short))]
 pub fn put_kept(out: &mut BytesMut, kept: &KeptIds) -> Result<(), NoMemory>
     ensures { OnOk result (out.new.items ≡ out.old.items ++ spelled_kept kept.now) }

@@ -1,6 +1,6 @@
 //! Messages, frames and commands as values.
 //!
-//! Promised by the types: a payload has at most 16,384 bytes. Membership rise, with the holder
+//! Promised by the types: a payload has at most 16,384 bytes. Members rise, with the holder
 //! among them. A tail of an order has at most 576 ids. A placement has 1 to 64 ids, or none if it
 //! hands over the token. The ids of kept messages rise and are at most 2,048. A copy is an equal
 //! value.

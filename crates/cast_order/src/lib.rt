@@ -7,7 +7,7 @@
 //!
 //! Promised: the order is known as far as set-order messages told it without a gap; for each
 //! place the first id told counts. `next` gives what comes next for a process, `assign` the
-//! places that the next set-order message sets, `tail` the last ids, and `settled` how many
+//! places that the next set-order message sets, `tail` the last ids, and `settled_places` how many
 //! places a holder has settled. `close` makes it the order with which the view ends. Calls keep
 //! this (`laws`). If memory is refused to a call that changes the orders, they are of no further
 //! use.

@@ -16,7 +16,7 @@ use std::alloc::Global;
 use std::marker::Model;
 
 /// What a site keeps of who received which message: what it received itself, what other sites acknowledged, and what
-/// it was told to be stable. Contracts see a `Acks`. What it answers means what happened, for messages of live sources:
+/// it was told to be stable. Contracts see the `Acks`. What it answers means what happened, for messages of live sources:
 /// those of which somebody may still ask.
 #[derive(Drop)]
 pub struct Acks {

@@ -385,7 +385,7 @@ impl HomeSide {
         }
     }
 
-    /// Decides the next view, once all sites have reported and no message is wanted, and answers whether it did. Membership
+    /// Decides the next view, once all sites have reported and no message is wanted, and answers whether it did. Members
     /// are those that stay, and the joins that are not at suspected sites, which stay for the view after it. The holder
     /// stays if it was not leaving and is still a member; else it is the least member.
     pub fn decide(&mut self, group: GroupNo) -> Result<bool, NoMemory>

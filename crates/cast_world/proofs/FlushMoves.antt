@@ -30,7 +30,7 @@ parted_old s g goes k m at = go (goes k) at
     go true c = before_left (s.acts k) g m c
     go false c = c
 
--- KeptIds to what was told
+-- A site keeps to what it told
 
 -- numbers do not fall, a frozen group stays so in its view, and what is delivered in a frozen group is within the cut
 pub record Flows (choice : Choice) (number : GroupNo → ℕ) (group next : GroupNo → MemberSide) (acts more : ℕ → List Act) : Type 0 where
