@@ -17,7 +17,7 @@ module _ {K : Type 0} (R : K → K → Ordering) (total : IsTotalOrder R) where
   below_tie : (a b s : K) → R a b ≡ Less → R b s ≡ Equal → R a s ≡ Less
   below_tie a b s less tie = turned s a Greater (sym (total.congr b s a tie) ∙ turned a b Less less)
 
-  lower : (a b s : K) → R a b ≡ Less → (o : Ordering) → R b s ≡ o → ordering_index (R a s) ≤ ordering_index o
+  pub lower : (a b s : K) → R a b ≡ Less → (o : Ordering) → R b s ≡ o → ordering_index (R a s) ≤ ordering_index o
   lower a b s less Less is = omega (arith, ap ordering_index (total.trans a b s less is))
   lower a b s less Equal is = omega (arith, ap ordering_index (below_tie a b s less is))
   lower a b s less Greater is = elim (R a s) as (λ o. ordering_index o ≤ 2) [ Less ↦ omega arith | Equal ↦ omega arith | Greater ↦ omega arith ]

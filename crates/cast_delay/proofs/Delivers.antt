@@ -21,7 +21,7 @@ use Rattle.cast_delay.specs.declared.row.ProcessUpdate.{ProcessUpdate}
 use Rattle.cast_delay.specs.declared.row.ProcessUpdate.TheVariants as fact
 use Rattle.cast_delay.specs.declared.gate.Gate.{Gate}
 use Rattle.cast_delay.specs.Ready.{Process, is_open_to, is_member, has_delivered}
-use Rattle.cast_types.specs.Sources.{source, source_cmp, source_of}
+use Rattle.cast_types.specs.Sources.{source_cmp, source_of}
 use Rattle.cast_delay.specs.Rows.{gate_in, standing_in, done_in, needed, has_past, row_allows, all_allow, is_causally_ready_row, delivered_row, told_row}
 use Rattle.cast_delay.specs.Fits.{HasNotEnded, RowFits, IsSound, told, delivering}
 use Rattle.cast_delay.proofs.ListLemmas.{list_any-append}

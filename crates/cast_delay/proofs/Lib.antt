@@ -4,7 +4,7 @@ pub mod RowMeaning
 pub mod Finds
 pub mod Turns
 pub mod Delivers
-pub mod Rows
+pub mod RowLemmas
 pub mod Reached
 pub mod Queues
 pub mod Words
@@ -13,3 +13,4 @@ pub mod Settled
 pub mod MemberLemmas
 pub mod Sourced
 pub mod Indexed
+pub mod Admitted

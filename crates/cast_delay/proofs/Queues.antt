@@ -43,7 +43,7 @@ use Rattle.cast_delay.proofs.Finds.{found_in, find_agree, find_mapped, never_fou
 use Rattle.cast_delay.proofs.Delivers.{told_fits, delivered_fits, ready_parts}
 use Rattle.cast_delay.proofs.ListLemmas.{list_any-append}
 use Rattle.cast_delay.proofs.Reached.{reaches_later, reaches_ended, reaches_same, reaches_raised, reached_most, reached_each}
-use Rattle.cast_delay.proofs.Rows.{some_row, rows_changed, row_admitted, row_dismissed, stands_later, row_ended, row_of_ended}
+use Rattle.cast_delay.proofs.RowLemmas.{some_row, rows_changed, row_admitted, row_dismissed, stands_later, row_ended, row_of_ended}
 
 no_message : (m : Message) → None ≡ Some m → ⊥
 no_message m e = cc

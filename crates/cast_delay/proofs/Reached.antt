@@ -20,7 +20,7 @@ use Rattle.cast_delay.specs.Ready.{Process, has_delivered}
 use Rattle.cast_delay.specs.DeliveredCounts.{DeliveredCounts, count_at, raised_at, counts_in}
 use Rattle.cast_delay.specs.Fits.{HasNotEnded, Reaches}
 use Rattle.cast_delay.proofs.Finds.{kept_parts}
-use Rattle.cast_delay.proofs.Rows.{count_kept, not_ended}
+use Rattle.cast_delay.proofs.RowLemmas.{count_kept, not_ended}
 
 -- Lists
 

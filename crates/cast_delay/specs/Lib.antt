@@ -2,6 +2,7 @@ pub mod Ready
 pub mod DeliveredCounts
 pub mod Rows
 pub mod Queue
+pub mod Admitted
 pub mod Fits
 pub mod Says
 pub mod Rule

@@ -19,6 +19,7 @@ mod offered;
 mod offers;
 mod queue;
 mod row;
+mod rows;
 mod turn;
 
 pub use delivered_counts::DeliveredCounts;

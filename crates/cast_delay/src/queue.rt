@@ -19,7 +19,8 @@ use crate::delivered_counts::DeliveredCounts;
 use crate::gate::{Gate, copy_gates, frozen_in, number_in};
 use crate::offered::Offered;
 use crate::offers::Offers;
-use crate::row::{ProcessUpdate, Row, copy_rows};
+use crate::row::{ProcessUpdate, Row};
+use crate::rows::Rows;
 use crate::turn::Turn;
 use cast_clock::Times;
 use cast_message::Message;
@@ -38,7 +39,7 @@ pub struct Delay {
     /// view is not the one that stands. None of them is ready for any process, so a question looks at the few behind
     /// them, and where these are many at the next one of each source.
     settled: usize,
-    rows: Vec<Row>,
+    rows: Rows,
     reached: DeliveredCounts,
 }
 
@@ -48,9 +49,9 @@ impl Model for Delay {
 
     ghost Value = { Queue };
 
-    ghost view = { λ d. record { gates = d.gates; offered = d.offered; rows = d.rows.items; reached = d.reached } };
+    ghost view = { λ d. record { gates = d.gates; offered = d.offered; rows = d.rows; reached = d.reached } };
 
-    ghost invariant = { λ d. AreSettled d.gates d.rows.items d.offered d.settled };
+    ghost invariant = { λ d. AreSettled d.gates d.rows d.offered d.settled };
 }
 
 impl Delay {
@@ -62,7 +63,7 @@ impl Delay {
             gates: SortedMap::new(alloc),
             offered: Offers::new(alloc),
             settled: 0,
-            rows: Vec::new(alloc),
+            rows: Rows::new(alloc),
             reached: DeliveredCounts::new(alloc),
         }
     }
@@ -71,12 +72,11 @@ impl Delay {
     pub fn copy(&self) -> Result<Self, NoMemory>
         ensures { IfOk result (λ queue. queue ≡ self.now) }
     {
-        let alloc = *self.rows.allocator();
         Ok(Delay {
             gates: copy_gates(&self.gates)?,
             offered: self.offered.copy()?,
             settled: self.settled,
-            rows: copy_rows(alloc, &self.rows)?,
+            rows: self.rows.copy()?,
             reached: self.reached.copy()?,
         })
     }
@@ -85,23 +85,21 @@ impl Delay {
     pub fn admit(&mut self, process: Proc) -> Result<(), NoMemory>
         ensures { OnOk result (self.new ≡ record self.old { rows = self.old.rows ++ new_row process ∷ [] }) }
     {
-        let alloc = *self.rows.allocator();
-        self.rows.push(Row::new(alloc, process))?;
-        Ok(())
+        self.rows.admit(process)
     }
 
     /// Forgets a process that is in no group. Takes no memory.
     pub fn dismiss(&mut self, process: Proc)
         ensures { self.new ≡ record self.old { rows = filter (λ r. not (proc_eq r.process process)) self.old.rows } }
     {
-        dismiss_in(&mut self.rows, process);
+        self.rows.dismiss(process);
     }
 
     /// How many processes are admitted: those that were, but the dismissed. Takes no memory.
     pub fn admitted_count(&self) -> usize
         ensures { result ≡ length self.now.rows }
     {
-        self.rows.len()
+        self.rows.as_slice().len()
     }
 
     /// The admitted process at a place, in the order in which they were admitted, `None` past the last one. Takes no
@@ -109,7 +107,7 @@ impl Delay {
     pub fn process_at(&self, place: usize) -> Option<Proc>
         ensures { result ≡ option_map (λ r. r.process) (slice_get self.now.rows place) }
     {
-        let row = self.rows.get(place)?;
+        let row = self.rows.as_slice().get(place)?;
         Some(row.process)
     }
 
@@ -119,8 +117,8 @@ impl Delay {
     {
         let settled = despite_fact(fact, self.settled);
         self.settled = 0;
-        tell_in(&mut self.rows, process, fact)?;
-        self.settled = settled_from(&self.gates, &self.offered, &self.rows, settled);
+        self.rows.tell(process, fact)?;
+        self.settled = settled_from(&self.gates, &self.offered, self.rows.as_slice(), settled);
         Ok(())
     }
 
@@ -131,9 +129,9 @@ impl Delay {
     {
         self.settled = 0;
         self.gates.put(group, Gate::new(number))?;
-        end_in(&mut self.rows, group, number);
+        self.rows.end(group, number);
         self.reached.end(group, number);
-        self.settled = settled_from(&self.gates, &self.offered, &self.rows, 0);
+        self.settled = settled_from(&self.gates, &self.offered, self.rows.as_slice(), 0);
         Ok(())
     }
 
@@ -189,7 +187,7 @@ impl Delay {
         ensures value { result ≡ is_awaited self.now.rows id }
         ensures meaning { SaysAwaited self.now id result }
     {
-        awaited_in(&self.rows, id)
+        awaited_at_last(self.rows.as_slice(), id)
     }
 
     /// The least count of a process's messages of a view that each member of the group here has delivered, 4,294,967,295
@@ -197,7 +195,7 @@ impl Delay {
     pub fn least_delivered(&self, group: GroupNo, view: u32, process: Proc) -> u32
         ensures value { result ≡ least_in self.now.rows group view process }
     {
-        least_in(&self.rows, group, view, process)
+        least_in(self.rows.as_slice(), group, view, process)
     }
 
     /// The first message in order of receipt that the process may deliver now, `None` where there is none. The first
@@ -207,7 +205,7 @@ impl Delay {
         ensures value { result ≡ next_key turns.now self.now process }
         ensures meaning { SaysFirstReady self.now process turns.now result }
     {
-        let row = row_in(&self.rows, process)?;
+        let row = self.rows.find(process)?;
         let offered = self
             .offered
             .first_ready(self.settled, turns, &self.gates, row)?;
@@ -220,10 +218,26 @@ impl Delay {
         ensures value { result ≡ may_deliver_in self.now process }
         ensures meaning { SaysMayDeliver self.now process result }
     {
-        match row_in(&self.rows, process) {
+        match self.rows.find(process) {
             Some(row) => self.offered.has_candidate(self.settled, &self.gates, row),
             None => false,
         }
+    }
+
+    /// Whether no message is ready for any process, whatever the turns of groups are, since each of the messages is settled. Takes no
+    /// memory.
+    pub fn is_settled(&self) -> bool
+        ensures { (process : Proc) → SaysMayDeliver self.now process (not result) }
+    {
+        self.settled == self.offered.len()
+    }
+
+    /// Whether a process that was admitted at a place is in no group, so that no message is ready for it. `false` also where it
+    /// was not admitted there. Takes no memory.
+    pub fn is_idle(&self, place: usize, process: Proc) -> bool
+        ensures { SaysMayDeliver self.now process (not result) }
+    {
+        self.rows.is_idle(place, process)
     }
 
     /// Whether the process, which was admitted, has delivered a message of a view that has not ended. Takes no memory.
@@ -231,7 +245,7 @@ impl Delay {
         ensures value { result ≡ delivered_in self.now process id }
         ensures meaning { SaysDelivered self.now process id result }
     {
-        match row_in(&self.rows, process) {
+        match self.rows.find(process) {
             Some(row) => row.has_delivered(id),
             None => false,
         }
@@ -249,7 +263,7 @@ impl Delay {
         ensures value { result ≡ passed_in self.now process group view ids.now }
         ensures meaning { SaysPassed self.now process group view ids.now result }
     {
-        match row_in(&self.rows, process) {
+        match self.rows.find(process) {
             Some(row) => row.delivered_prefix(group, view, ids),
             None => 0,
         }
@@ -259,11 +273,17 @@ impl Delay {
     pub fn note_delivered(&mut self, process: Proc, key: Key) -> Result<(), NoMemory>
         ensures { OnOk result (self.new ≡ queue_delivering process key self.old) }
     {
-        let settled = despite_delivery(&self.rows, &self.offered, process, key, self.settled);
+        let settled = despite_delivery(
+            self.rows.as_slice(),
+            &self.offered,
+            process,
+            key,
+            self.settled,
+        );
         self.settled = 0;
-        deliver_in(&mut self.rows, &self.offered, process, key)?;
+        self.rows.deliver(&self.offered, process, key)?;
         reach_in(&mut self.reached, &self.offered, key)?;
-        self.settled = settled_from(&self.gates, &self.offered, &self.rows, settled);
+        self.settled = settled_from(&self.gates, &self.offered, self.rows.as_slice(), settled);
         Ok(())
     }
 
@@ -281,7 +301,7 @@ impl Delay {
         ensures value { option_copied result ≡ option_map (λ r. r.time) (row_of self.now.rows process) }
         ensures meaning { SaysTime self.now process (λ t. t.now) result }
     {
-        match row_in(&self.rows, process) {
+        match self.rows.find(process) {
             Some(row) => Some(&row.time),
             None => None,
         }
@@ -292,18 +312,11 @@ impl Delay {
         ensures value { result ≡ option_map_or (λ r. standing_in r group) (row_of self.now.rows process) Outside }
         ensures meaning { SaysStanding self.now process group result }
     {
-        match row_in(&self.rows, process) {
+        match self.rows.find(process) {
             Some(row) => row.standing(group),
             None => Standing::Outside,
         }
     }
-}
-
-// The row of a process.
-fn row_in(rows: &[Row], process: Proc) -> Option<&Row>
-    ensures { option_copied result ≡ row_of rows.now process }
-{
-    rows.iter().find(|row| row.process == process)
 }
 
 // Whether a message is settled: no row awaits it, or its view is not the one that stands.
@@ -368,22 +381,16 @@ fn is_next_of(rows: &[Row], process: Proc, id: Uid) -> bool
         || row.delivered_count(id.group, id.view, id.proc) <= id.count)
 }
 
-// Whether some row awaits a message.
-fn awaited_in(rows: &[Row], id: Uid) -> bool
-    ensures { result ≡ is_awaited rows.now id }
-{
-    rows.iter().any(|row| row.awaits(id))
-}
-
-// Whether some row awaits a message, asked from the last row on: processes deliver in the order of their rows, so it is
-// the last ones that await a message while it is being delivered.
+// Whether some row awaits a message. Rows are asked from the last one on: processes deliver in the order of their rows, so it
+// is the last ones that await a message while it is being delivered. Idle ones are passed over without a call.
 fn awaited_at_last(rows: &[Row], id: Uid) -> bool
     ensures { result ≡ is_awaited rows.now id }
 {
     let mut left = rows.len();
     while 0 < left {
         left -= 1;
-        if rows[left].awaits(id) {
+        let row = &rows[left];
+        if !row.is_idle() && row.awaits(id) {
             return true;
         }
     }
@@ -397,54 +404,6 @@ fn least_in(rows: &[Row], group: GroupNo, view: u32, process: Proc) -> u32
     rows.iter().fold(MAX_NUMBER, |least, row| {
         row.lesser(least, group, view, process)
     })
-}
-
-// Keeps the rows of other processes.
-fn dismiss_in(rows: &mut Vec<Row>, process: Proc)
-    ensures { rows.new.items ≡ but_row process rows.old.items }
-{
-    rows.retain(|row| row.process != process);
-}
-
-// Each row forgets what was delivered of a group's views below a number.
-fn end_in(rows: &mut Vec<Row>, group: GroupNo, number: u32)
-    ensures { rows.new.items ≡ map (ended_row group number) rows.old.items }
-{
-    for row in rows.iter_mut() {
-        row.end(group, number);
-    }
-}
-
-// Each row of the process takes in a fact.
-fn tell_in(rows: &mut Vec<Row>, process: Proc, fact: &ProcessUpdate) -> Result<(), NoMemory>
-    ensures { OnOk result (rows.new.items ≡ change_row process (told_row fact.now) rows.old.items) }
-{
-    for row in rows.iter_mut() {
-        if row.process == process {
-            row.tell(fact)?;
-        }
-    }
-    Ok(())
-}
-
-// Each row of the process takes in that it delivered the message under a key.
-fn deliver_in(
-    rows: &mut Vec<Row>,
-    offered: &Offers,
-    process: Proc,
-    key: Key,
-) -> Result<(), NoMemory>
-    ensures { OnOk result (rows.new.items ≡ after_delivery offered.now process key rows.old.items) }
-{
-    let Some(message) = offered.under(key) else {
-        return Ok(());
-    };
-    for row in rows.iter_mut() {
-        if row.process == process {
-            row.deliver(message.id, &message.times)?;
-        }
-    }
-    Ok(())
 }
 
 // Raises what is reached to the message under a key.

@@ -1,4 +1,4 @@
-ghost use Rattle.std.specs.Prelude.{◌≡◌, ℕ, List, OnOk, IfOk, ◌-◌, nat_le, not, unwrap_or};
+ghost use Rattle.std.specs.Prelude.{◌≡◌, ℕ, List, OnOk, IfOk, ◌-◌, ◌==◌, length, nat_le, not, unwrap_or};
 ghost use Rattle.std.specs.List.{list_all, position};
 ghost use Rattle.std.specs.Option.{option_copied};
 ghost use Rattle.cast_types.specs.Names.{named};
@@ -268,6 +268,13 @@ impl Row {
             Some(place) => place,
             None => ids.len(),
         }
+    }
+
+    /// Whether nothing was told of what the process is in any group.
+    pub fn is_idle(&self) -> bool
+        ensures { result ≡ (length self.now.standings == 0) }
+    {
+        self.standings.entries().is_empty()
     }
 
     /// Whether the process is a member of a message's group and has not delivered the message.

@@ -1,4 +1,4 @@
--- Where no process has anything to list, nothing is listed.
+-- Where no process has anything to list, nothing is listed: in one group, and in all.
 use Rattle.std.proofs.Common.{◌≡◌, ℕ, true, false, cond, List, [], ◌∷◌, length, Some, None, unwrap_or, refl, ap, ◌∙◌}
 use Rattle.std.specs.Prelude.{◌+◌, ◌&&◌, ◌||◌, nat_lt, if◌then◌else◌, is_some}
 use Rattle.std.specs.List.{find, fold, list_any}
@@ -11,11 +11,12 @@ use Rattle.cast_types.proofs.Bools.{and_none}
 use Rattle.cast_order.specs.Hand.{Hand, hand_of, new_hand}
 use Rattle.cast_order.specs.Order.{ids_to_list}
 use Rattle.cast_order.specs.Log.{Log, log_of, hand_here, length_of, next_places, waits_in}
-use Rattle.cast_rules.specs.Rules.Order.{list_places, may_list, set_order_by}
+use Rattle.cast_order.proofs.Logs.{none_of}
+use Rattle.cast_rules.specs.Rules.Order.{list_places, may_list, set_order_by, set_order}
 use Rattle.cast_rules.specs.Rules.Sending.{may_raise}
 use Rattle.cast_domain.specs.Records.{Records}
 use Rattle.cast_domain.specs.Calls.{local_in, record_at, records, resting_records, time_of}
-use Rattle.cast_domain.specs.Flags.{lists_some, orders_each}
+use Rattle.cast_domain.specs.Flags.{changes_over, lists_some, orders_at, orders_each}
 
 idle_hand : (hands : List Hand) (p : Proc) → list_any (λ h. nat_lt 0 (length h.waiting)) hands ≡ false → nat_lt 0 (length (hand_of hands p).waiting) ≡ false
 idle_hand [] p none = refl
@@ -55,3 +56,21 @@ idle_told r i (k ∷ ks) none =
     ap (λ b. b || orders_each (set_order_by records resting_records r i k) i ks) (idle_some r i k none)
     ∙ ap (λ t. orders_each t i ks) (idle_set r i k none)
     ∙ idle_told r i ks none
+
+-- In all groups
+
+all_idle : (r : Records) (i : ℕ) → list_any waits_in r.orders ≡ false → IsIdle r i
+all_idle r i none = none_of waits_in (record_at r.groups i).name refl r.orders none
+
+pub idle_groups : (r : Records) (is : List ℕ) → list_any waits_in r.orders ≡ false → fold (set_order records resting_records) r is ≡ r
+idle_groups r [] none = refl
+idle_groups r (i ∷ is) none =
+    ap (λ t. fold (set_order records resting_records) t is) (idle_each r i (resting_records.holders r i) (all_idle r i none))
+    ∙ idle_groups r is none
+
+pub idle_groups_told : (r : Records) (is : List ℕ) → list_any waits_in r.orders ≡ false → changes_over orders_at (set_order records resting_records) r is ≡ false
+idle_groups_told r [] none = refl
+idle_groups_told r (i ∷ is) none =
+    ap (λ b. b || changes_over orders_at (set_order records resting_records) (set_order records resting_records r i) is) (idle_told r i (resting_records.holders r i) (all_idle r i none))
+    ∙ ap (λ t. changes_over orders_at (set_order records resting_records) t is) (idle_each r i (resting_records.holders r i) (all_idle r i none))
+    ∙ idle_groups_told r is none

@@ -11,6 +11,7 @@ pub mod Logs
 pub mod Acting
 pub mod LogSteps
 pub mod Shares
+pub mod Behind
 pub mod Boxes
 pub mod Receipts
 pub mod Rows
@@ -44,3 +45,6 @@ pub mod Reports
 pub mod Trimmed
 pub mod Least
 pub mod Marks
+pub mod Unready
+pub mod Untrimmed
+pub mod Serials

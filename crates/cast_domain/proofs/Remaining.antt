@@ -18,7 +18,7 @@ use Rattle.cast_delay.specs.declared.row.ProcessUpdate.{ProcessUpdate}
 use Rattle.cast_delay.specs.declared.row.ProcessUpdate.TheVariants as fact
 use Rattle.cast_delay.specs.Rows.{told_row, delivered_row}
 use Rattle.cast_delay.specs.Queue.{change_row, offered_under, after_delivery}
-use Rattle.cast_delay.proofs.Rows.{names_ended}
+use Rattle.cast_delay.proofs.RowLemmas.{names_ended}
 use Rattle.cast_events.specs.declared.session.Status.{Status}
 use Rattle.cast_events.specs.declared.session.Status.TheVariants.{Open, Closed, Gone}
 use Rattle.cast_events.specs.Session.{is_open_status, is_gone_status}
@@ -26,7 +26,7 @@ use Rattle.cast_view.specs.MemberSide.{is_taken_in}
 use Rattle.cast_rules.specs.Rules.Commands.{message_sent}
 use Rattle.cast_rules.specs.Rules.Release.{is_free, let_go}
 use Rattle.cast_rules.proofs.Rules.Follows.{IsInvariant, IsInvariantOfAll}
-use Rattle.cast_domain.specs.declared.record.SessionRecord.{SessionRecord}
+use Rattle.cast_domain.specs.GivenSessions.{SessionRecord}
 use Rattle.cast_domain.proofs.Statuses.{found_first}
 use Rattle.cast_domain.specs.Records.{Records}
 use Rattle.cast_domain.specs.Calls.{local_in, serials_in, record_at, standing_of, time_of, with_status, tell_in, enter_in, take_in, view_in, pass_in, is_put_out_in, put_out_in, put_out_if_in, put_out_all_in, release_in, release_all_in, is_ended_in, records, resting_records}

@@ -10,7 +10,7 @@ use Rattle.cast_events.specs.declared.session.Status.{Status}
 use Rattle.cast_events.specs.declared.session.Status.TheVariants.{Open, Closed, Gone}
 use Rattle.cast_events.specs.Session.{Session, no_session, is_open, is_open_status, is_gone, is_gone_status}
 use Rattle.cast_rules.specs.State.{was_given}
-use Rattle.cast_domain.specs.declared.record.SessionRecord.{SessionRecord}
+use Rattle.cast_domain.specs.GivenSessions.{SessionRecord}
 use Rattle.cast_domain.specs.Calls.{with_status}
 use Rattle.cast_domain.specs.Fits.{status_in, session_for, is_there}
 

@@ -55,7 +55,7 @@ use Rattle.cast_events.specs.declared.limits.TheConstants.{MAX_CASTS}
 use Rattle.cast_events.specs.declared.session.Status.{Status}
 use Rattle.cast_events.specs.declared.session.Status.TheVariants.{Open, Closed}
 use Rattle.cast_events.specs.Session.{is_open_status, is_gone_status}
-use Rattle.cast_domain.specs.declared.record.SessionRecord.{SessionRecord}
+use Rattle.cast_domain.specs.GivenSessions.{SessionRecord}
 use Rattle.cast_view.specs.declared.member.Pending.{Pending}
 use Rattle.cast_view.specs.MemberSide.{MemberSide, no_group, members_of, holder_at, is_current, is_open_to, with_request, with_answer, frozen_side, report_of, with_pending, with_view, is_taken_in}
 use Rattle.cast_view.specs.Sites.{is_at, other_sites}

@@ -27,7 +27,7 @@ use Rattle.cast_domain.specs.declared.domain.Domain.{Domain}
 use Rattle.cast_domain.specs.declared.record.GroupRecord.{GroupRecord}
 use Rattle.cast_timer.specs.declared.key.Owed.{Owed}
 use Rattle.cast_events.specs.declared.config.DomainConfig.{DomainConfig}
-use Rattle.cast_domain.specs.declared.record.SessionRecord.{SessionRecord}
+use Rattle.cast_domain.specs.GivenSessions.{SessionRecord}
 use Rattle.cast_message.specs.declared.client.Push.{Push}
 use Rattle.cast_quota.specs.declared.quotas.Quotas.{Quotas}
 use Rattle.cast_events.specs.declared.session.Status.{Status}

@@ -1,3 +1,4 @@
+pub mod GivenSessions
 pub mod Shared
 pub mod Records
 pub mod Calls

@@ -14,7 +14,7 @@ use Rattle.cast_events.specs.declared.config.DomainConfig.{DomainConfig}
 use Rattle.cast_rules.specs.Rules.Leaving.{Attempt}
 use Rattle.cast_domain.specs.declared.domain.Domain.{Domain}
 use Rattle.cast_domain.specs.declared.record.GroupRecord.{GroupRecord}
-use Rattle.cast_domain.specs.declared.record.SessionRecord.{SessionRecord}
+use Rattle.cast_domain.specs.GivenSessions.{SessionRecord}
 use Rattle.cast_quota.specs.declared.quotas.Quotas.{Quotas}
 use Rattle.cast_message.specs.declared.client.Push.{Push}
 use Rattle.cast_events.specs.declared.event.Outs.{Outs}
@@ -48,8 +48,8 @@ records_of d part o =
       site = d.site;
       config = d.config;
       quotas = d.quotas;
-      used = d.used;
-      sessions = d.sessions.items;
+      used = d.sessions.used;
+      sessions = d.sessions.records;
       groups = d.groups.items;
       moment = d.moment;
       casts = d.casts;
@@ -87,7 +87,7 @@ IsFor site config d = (d.site ≡ site) × (d.config ≡ config)
 
 -- no serial is given, and site and configuration stay, and what has halted the domain or not
 pub record Keeps (old : Domain) (new : Domain) : Type 0 where
-  pub used : new.used ≡ old.used
+  pub used : new.sessions.used ≡ old.sessions.used
   pub site : new.site ≡ old.site
   pub config : new.config ≡ old.config
   pub halted : new.halted ≡ old.halted

@@ -12,7 +12,7 @@ use Rattle.cast_domain.specs.Shared.{Part}
 abbrev pub shown_of : Domain → Part → Shown
 shown_of d part =
     record {
-      sessions = length d.sessions.items;
+      sessions = length d.sessions.records;
       held = length part.kept;
       casts = d.casts;
       moment = d.moment;

@@ -1,7 +1,8 @@
 ghost use Rattle.std.specs.Prelude.{◌<◌, not};
 
 use crate::lent::Lent;
-use crate::record::{GroupRecord, SessionRecord, place_among};
+use crate::record::{GroupRecord, place_among};
+use crate::sessions::Sessions;
 use crate::shared::Shared;
 use cast_delay::{Delay, ProcessUpdate};
 use cast_events::{DomainConfig, Event, Moment, Outs, Quotas, Taken};
@@ -22,12 +23,9 @@ pub struct Domain {
     /// What the domain may use now.
     pub(crate) quotas: Quotas,
     pub(crate) moment: Moment,
-    /// How many serials were given. They count from 1.
-    pub(crate) used: u32,
     /// How many casts of programs were accepted.
     pub(crate) casts: u64,
-    /// Those that are not gone, by serial.
-    pub(crate) sessions: Vec<SessionRecord>,
+    pub(crate) sessions: Sessions,
     /// One for each configured group, in their order.
     pub(crate) groups: Vec<GroupRecord>,
     pub(crate) delay: Delay,
@@ -72,9 +70,8 @@ impl Domain {
             quotas: config.quotas,
             config,
             moment: Moment::first(),
-            used: 0,
             casts: 0,
-            sessions: Vec::new(alloc),
+            sessions: Sessions::new(alloc),
             groups,
             delay: Delay::new(alloc),
             acks: Acks::new(alloc, site),
@@ -191,7 +188,7 @@ impl Domain {
         self.let_go(&mut lent);
         self.rest(&mut lent)?;
         let kept = lent.shared.store.messages(self.config.domain);
-        self.trim_orders(kept);
+        self.trim_orders(&kept);
         outs.append(step)?;
         Ok(taken)
     }

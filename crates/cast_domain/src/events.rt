@@ -1,9 +1,8 @@
 use crate::domain::Domain;
 use crate::frames::promised_by_types;
 use crate::lent::Lent;
-use crate::record::SessionRecord;
 use cast_events::limits::MAX_TAKE;
-use cast_events::{Event, QuotaName, Status, Taken};
+use cast_events::{Event, QuotaName, Taken};
 use cast_message::{Command, Push};
 use cast_types::limits::MAX_NUMBER;
 use cast_types::{NoMemory, Refusal};
@@ -62,7 +61,7 @@ impl Domain {
         if !self.may_open() {
             return Ok(Taken::Refused(Refusal::TooManySessions));
         }
-        let serial = self.used + 1;
+        let serial = self.sessions.used() + 1;
         self.open_next(serial, lent)?;
         Ok(Taken::Opened(serial))
     }
@@ -71,27 +70,23 @@ impl Domain {
     fn may_open(&self) -> bool
         ensures { TellsAlone (may_open records records_sessions) self.now result }
     {
-        self.quotas.check_open(self.sessions.len()) && self.used != MAX_NUMBER
+        self.quotas.check_open(self.sessions.len()) && self.sessions.used() != MAX_NUMBER
     }
 
     // Opens the session of the next serial: its outbox begins with the name of its process.
     fn open_next(&mut self, serial: u32, lent: &mut Lent<'_>) -> Result<(), NoMemory>
-        requires { serial ≡ self.old.used + 1 }
+        requires { serial ≡ self.old.sessions.used + 1 }
         ensures same { (self.new.site ≡ self.old.site) × (self.new.config ≡ self.old.config) × (self.new.halted ≡ self.old.halted) }
         ensures back { GivesBack self.old.config.domain lent.old lent.new }
         ensures made { OnOk result (Makes open_in self.old lent.old self.new lent.new) }
     {
         let process = self.process(serial);
         let opened = Push::Opened(process);
-        self.sessions.push(SessionRecord {
-            serial,
-            status: Status::Open,
-        })?;
+        self.sessions.open_next()?;
         self.delay.admit(process)?;
         lent.outs.push(self.config.domain, serial, &opened)?;
         lent.shared
             .begin_outbox(self.config.domain, serial, opened)?;
-        self.used = serial;
         Ok(())
     }
 

@@ -10,7 +10,8 @@ use crate::keys::message_key;
 use crate::lent::Lent;
 use crate::record::{GroupRecord, freeze_at, pend_at, report_at};
 use cast_flush::Report;
-use cast_message::{KeptIds, Membership, Message, Received, SiteFrame, Tail};
+use cast_message::{KeptIds, Membership, Message, SiteFrame, Tail};
+use cast_store::Kept;
 use cast_timer::OwedKind;
 use cast_types::limits::{MAX_KEPT, MAX_PLACED, MAX_POSITION};
 use cast_types::{Counts, List, NoMemory, Proc, SiteNo, Uid, sorted};
@@ -123,7 +124,7 @@ impl Domain {
         let kept = self.kept_of(
             record,
             holder,
-            lent.shared.store.messages(self.config.domain),
+            &lent.shared.store.messages(self.config.domain),
         )?;
         record.here.flush_report(had.as_slice(), tail, kept)
     }
@@ -163,7 +164,7 @@ impl Domain {
         &self,
         group: &GroupRecord,
         holder: Option<Proc>,
-        kept: &[Received],
+        kept: &Kept<'_>,
     ) -> Result<KeptIds, NoMemory>
         ensures { IfOk result (λ list. list ≡ kept_list (kept_of_view group.now kept.now) (whole_kept (log_of self.now.orders group.now.name) holder)) }
     {
@@ -174,12 +175,13 @@ impl Domain {
     }
 
     // The names of kept messages of the view of a group, in order.
-    fn names_of(&self, group: &GroupRecord, kept: &[Received]) -> Result<Vec<(Proc, u32)>, NoMemory>
+    fn names_of(&self, group: &GroupRecord, kept: &Kept<'_>) -> Result<Vec<(Proc, u32)>, NoMemory>
         ensures { IfOk result (λ names. names.items ≡ set_of entry_cmp (map (λ m. entry_of m.id) (kept_of_view group.now kept.now))) }
     {
         let mut names = Vec::new(*self.groups.allocator());
-        for received in kept {
-            add_name(group, &received.message, &mut names)?;
+        for position in 0..kept.len() {
+            let (_, message) = kept.at(position);
+            add_name(group, message, &mut names)?;
         }
         Ok(names)
     }
@@ -189,7 +191,7 @@ impl Domain {
         &self,
         group: &GroupRecord,
         holder: Option<Proc>,
-        kept: &[Received],
+        kept: &Kept<'_>,
         names: &[(Proc, u32)],
     ) -> Result<Vec<((Proc, u32), bool)>, NoMemory>
         ensures { IfOk result (λ marked. marked.items ≡ map (λ e. (e, is_unplaced_of (own_records self.now) group.now holder kept.now e)) names.now) }
@@ -206,7 +208,7 @@ impl Domain {
         &self,
         group: &GroupRecord,
         holder: Option<Proc>,
-        kept: &[Received],
+        kept: &Kept<'_>,
         name: (Proc, u32),
     ) -> bool
         ensures { result ≡ is_unplaced_of (own_records self.now) group.now holder kept.now name }
@@ -488,11 +490,16 @@ fn add_name(
 }
 
 // Whether one of the kept messages of the view of a group is an ABCAST of this name.
-fn is_abcast_among(group: &GroupRecord, kept: &[Received], name: (Proc, u32)) -> bool
+fn is_abcast_among(group: &GroupRecord, kept: &Kept<'_>, name: (Proc, u32)) -> bool
     ensures { result ≡ list_any (λ r. is_kept_of group.now r.message && is_abcast_named name r.message) kept.now }
 {
-    kept.iter()
-        .any(|received| is_kept_abcast(group, &received.message, name))
+    for position in 0..kept.len() {
+        let (_, message) = kept.at(position);
+        if is_kept_abcast(group, message, name) {
+            return true;
+        }
+    }
+    false
 }
 
 // Whether a kept message is of the view of a group, and an ABCAST of this name.

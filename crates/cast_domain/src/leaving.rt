@@ -1,11 +1,10 @@
-ghost use Rattle.std.specs.Prelude.{◌≡◌, ◌<◌, ◌==◌, map};
-ghost use Rattle.cast_domain.specs.Calls.{with_status, close_in};
+ghost use Rattle.std.specs.Prelude.{◌≡◌, ◌<◌, ◌==◌};
+ghost use Rattle.cast_domain.specs.Calls.{close_in};
 
 use crate::domain::Domain;
 use crate::lent::Lent;
-use crate::record::SessionRecord;
 use cast_delay::ProcessUpdate;
-use cast_events::{Status, Taken};
+use cast_events::Taken;
 use cast_message::{Change, Push};
 use cast_types::limits::MAX_NUMBER;
 use cast_types::{GroupNo, NoMemory, Refusal, Standing};
@@ -156,7 +155,7 @@ impl Domain {
             self.quotas.outbox,
             Push::Closed(why),
         )?;
-        close_in(&mut self.sessions, serial);
+        self.sessions.close(serial);
         Ok(())
     }
 
@@ -197,24 +196,6 @@ impl Domain {
         ensures len { vec_len self.new.groups ≡ vec_len self.old.groups }
     {
         lent.shared.close_outbox(self.config.domain, serial);
-        self.sessions.retain(|session| session.serial != serial);
-    }
-}
-
-// The session of a serial is closed.
-fn close_in(sessions: &mut Vec<SessionRecord>, serial: u32)
-    ensures { sessions.new.items ≡ map (with_status serial Status.Closed) sessions.old.items }
-{
-    for session in sessions.iter_mut() {
-        close_if(session, serial);
-    }
-}
-
-// The session is closed, if it is that of a serial.
-fn close_if(session: &mut SessionRecord, serial: u32)
-    ensures { session.new ≡ with_status serial Status.Closed session.old }
-{
-    if session.serial == serial {
-        session.status = Status::Closed;
+        self.sessions.remove(serial);
     }
 }

@@ -64,7 +64,9 @@ impl Domain {
     fn holds_here(&self, hand: &OrderHand) -> bool
         ensures { result ≡ holds_here (own_records self.now) hand.now }
     {
-        hand.first().is_some() && 0 < hand.process.serial && hand.process.serial <= self.used
+        hand.first().is_some()
+            && 0 < hand.process.serial
+            && hand.process.serial <= self.sessions.used()
     }
 
     // How many messages of a process of this site are stable in a view: all in a view of this site alone.
@@ -124,6 +126,9 @@ impl Domain {
         ensures still { IfOk result (StaysUnless self.old lent.old self.new lent.new) }
         ensures told { IfOk result (λ changed. changed ≡ orders_some (records_in self.old lent.old)) }
     {
+        if !self.orders.some_wait() {
+            return Ok(false);
+        }
         let mut changed = false;
         for place in 0..self.groups.len() {
             let set = self.set_order(place, lent)?;

@@ -8,7 +8,6 @@ ghost use Rattle.cast_view.specs.Home.{answer_to, may_decide};
 ghost use Rattle.cast_view.specs.Home.HomeMove.{Asked, Brought, Decided, Installed, Reported, Started, Suspected};
 ghost use Rattle.cast_domain.specs.Calls.{moved_home, record_at, pending_of, with_install};
 
-use cast_events::Status;
 use cast_flush::Report;
 use cast_message::{Change, Membership, Message};
 use cast_types::{Counts, GroupNo, NoMemory, Proc, SiteNo};
@@ -21,13 +20,6 @@ pub(crate) struct GroupRecord {
     pub(crate) name: GroupNo,
     pub(crate) here: MemberSide,
     pub(crate) home: HomeSide,
-}
-
-/// What a domain keeps of a session that is not gone.
-#[derive(Clone, Copy, Debug, PartialEq, Eq)]
-pub struct SessionRecord {
-    pub(crate) serial: u32,
-    pub(crate) status: Status,
 }
 
 impl GroupRecord {

@@ -8,6 +8,8 @@ impl Domain {
     ghost use Rattle.cast_domain.specs.Calls.{records, resting_records, is_current_in, is_open_in, release_in};
     ghost use Rattle.cast_rules.specs.Rules.Release.{is_free, let_go};
     ghost use Rattle.cast_domain.specs.Freed.{AreNotFree, IsFreeKey};
+    ghost use Rattle.cast_delay.specs.Queue.{is_awaited};
+    ghost use Rattle.cast_stable.specs.Acks.{is_stable_in};
 
     // Lets go of all free messages.
     pub(crate) fn let_go(&mut self, lent: &mut Lent<'_>)
@@ -34,7 +36,14 @@ impl Domain {
     fn is_free(&self, id: Uid) -> bool
         ensures { result ≡ is_free records resting_records (own_records self.now) id }
     {
-        self.is_open_to(id) && self.acks.may_free(id, self.delay.is_awaited(id))
+        self.is_open_to(id) && self.is_done_with(id)
+    }
+
+    // Whether a message is stable, and delivered to each member here. Only of a stable one it is asked who awaits it.
+    fn is_done_with(&self, id: Uid) -> bool
+        ensures { result ≡ (is_stable_in self.now.acks id && not (is_awaited self.now.delay.rows id)) }
+    {
+        self.acks.is_stable(id) && self.acks.may_free(id, self.delay.is_awaited(id))
     }
 
     // Whether a message is of the current view of its group, which no flush has frozen.

@@ -71,8 +71,21 @@ impl Domain {
         Ok(settled | ordered | gone_on | led)
     }
 
-    // Each process delivers until nothing is ready for it.
+    // Each process delivers until nothing is ready for it. Where each message is settled, nothing is.
     fn settle(&mut self, lent: &mut Lent<'_>) -> Result<bool, NoMemory>
+        ensures stays { KeepsBeside self.old lent.old self.new lent.new }
+        ensures made { OnOk result (Makes (settle records resting_records) self.old lent.old self.new lent.new) }
+        ensures still { IfOk result (StaysUnless self.old lent.old self.new lent.new) }
+        ensures told { IfOk result (λ changed. changed ≡ delivers_some (records_in self.old lent.old)) }
+    {
+        if self.delay.is_settled() {
+            return Ok(false);
+        }
+        self.settle_each(lent)
+    }
+
+    // One process after the other delivers.
+    fn settle_each(&mut self, lent: &mut Lent<'_>) -> Result<bool, NoMemory>
         ensures stays { KeepsBeside self.old lent.old self.new lent.new }
         ensures made { OnOk result (Makes (settle records resting_records) self.old lent.old self.new lent.new) }
         ensures still { IfOk result (StaysUnless self.old lent.old self.new lent.new) }
@@ -81,11 +94,29 @@ impl Domain {
         let mut changed = false;
         for place in 0..self.delay.admitted_count() {
             if let Some(process) = self.delay.process_at(place) {
-                let delivered = self.deliver_all(process.serial, lent)?;
+                let delivered = self.deliver_at(place, process.serial, lent)?;
                 changed = changed | delivered;
             }
         }
         Ok(changed)
+    }
+
+    // A process that was admitted at a place delivers until nothing is ready for it. Where it is in no group, nothing is.
+    fn deliver_at(
+        &mut self,
+        place: usize,
+        serial: u32,
+        lent: &mut Lent<'_>,
+    ) -> Result<bool, NoMemory>
+        ensures stays { KeepsBeside self.old lent.old self.new lent.new }
+        ensures made { OnOk result (Makes (λ r. deliver_all records resting_records r serial) self.old lent.old self.new lent.new) }
+        ensures still { IfOk result (StaysUnless self.old lent.old self.new lent.new) }
+        ensures told { IfOk result (λ changed. changed ≡ has_ready (records_in self.old lent.old) serial) }
+    {
+        if self.delay.is_idle(place, self.process(serial)) {
+            return Ok(false);
+        }
+        self.deliver_all(serial, lent)
     }
 
     // A process delivers until nothing is ready for it. It delivers no message twice.

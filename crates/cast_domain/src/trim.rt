@@ -5,7 +5,7 @@ ghost use Rattle.cast_domain.specs.Trims.{is_kept_among};
 use crate::domain::Domain;
 use crate::record::GroupRecord;
 use crate::turns::is_member;
-use cast_message::Received;
+use cast_store::Kept;
 use cast_types::{Proc, Uid};
 
 impl Domain {
@@ -16,17 +16,20 @@ impl Domain {
     ghost use Rattle.cast_domain.specs.Trims.{count_first, is_counted_of, is_over_of, is_past_of, trim_all_in, trim_in};
 
     // Forgets the oldest ids of each group's order that are over. While few are kept that takes no more than to see so.
-    pub(crate) fn trim_orders(&mut self, kept: &[Received])
+    pub(crate) fn trim_orders(&mut self, kept: &Kept<'_>)
         ensures same { Keeps self.old self.new }
         ensures made { MakesAlone (trim_all_in kept.now) self.old self.new }
     {
+        if !self.orders.some_are_long() {
+            return;
+        }
         for place in 0..self.groups.len() {
             self.trim_order(place, kept);
         }
     }
 
     // Forgets the oldest ids of the order of the group at a place, those before the first that is not over.
-    fn trim_order(&mut self, place: usize, kept: &[Received])
+    fn trim_order(&mut self, place: usize, kept: &Kept<'_>)
         requires { place < vec_len self.old.groups }
         ensures same { Keeps self.old self.new }
         ensures groups { self.new.groups ≡ self.old.groups }
@@ -38,7 +41,7 @@ impl Domain {
     }
 
     // How many of these ids of the view of the group at a place, the first ones, are over.
-    fn over_first(&self, place: usize, ids: &[(Proc, u32)], kept: &[Received]) -> usize
+    fn over_first(&self, place: usize, ids: &[(Proc, u32)], kept: &Kept<'_>) -> usize
         requires { place < vec_len self.now.groups }
         ensures { result ≡ count_first (is_over_of (own_records self.now) (record_at self.now.groups.items place) kept.now) ids.now }
     {
@@ -53,7 +56,7 @@ impl Domain {
         &self,
         group: &GroupRecord,
         ids: &[(Proc, u32)],
-        kept: &[Received],
+        kept: &Kept<'_>,
     ) -> Option<usize>
         ensures { result ≡ position (λ e. not (is_over_of (own_records self.now) group.now kept.now e)) ids.now }
     {
@@ -62,7 +65,7 @@ impl Domain {
     }
 
     // Whether a message of the view of a group is over: received, kept no longer, and passed by each member here.
-    fn is_over(&self, group: &GroupRecord, proc: Proc, count: u32, kept: &[Received]) -> bool
+    fn is_over(&self, group: &GroupRecord, proc: Proc, count: u32, kept: &Kept<'_>) -> bool
         ensures { result ≡ is_over_of (own_records self.now) group.now kept.now (proc, count) }
     {
         self.is_received_of(group, proc, count)
@@ -104,8 +107,13 @@ fn message_id(group: &GroupRecord, proc: Proc, count: u32) -> Uid
 }
 
 // Whether a message is among those that are kept.
-fn is_kept_among(kept: &[Received], id: Uid) -> bool
+fn is_kept_among(kept: &Kept<'_>, id: Uid) -> bool
     ensures { result ≡ is_kept_among kept.now id }
 {
-    kept.iter().any(|other| other.message.id == id)
+    for position in 0..kept.len() {
+        if kept.id(position) == id {
+            return true;
+        }
+    }
+    false
 }

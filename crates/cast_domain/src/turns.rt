@@ -5,8 +5,9 @@ use crate::domain::Domain;
 use crate::lent::Lent;
 use crate::record::GroupRecord;
 use cast_delay::Turn;
-use cast_message::{Message, Received};
+use cast_message::Message;
 use cast_order::OrderLog;
+use cast_store::Kept;
 use cast_types::limits::{MAX_POSITION, MAX_UNSETTLED};
 use cast_types::{GroupNo, Key, NoMemory, Proc, Standing, Uid};
 
@@ -24,14 +25,20 @@ impl Domain {
     pub(crate) fn awaits_own(&self, process: Proc, lent: &Lent<'_>) -> bool
         ensures { result ≡ awaits_own_in (records_in self.now lent.now) process }
     {
-        self.is_own_among(process, lent.shared.store.messages(self.config.domain))
+        self.is_own_among(process, &lent.shared.store.messages(self.config.domain))
     }
 
     // Whether one of these messages is such an ABCAST.
-    fn is_own_among(&self, process: Proc, kept: &[Received]) -> bool
+    fn is_own_among(&self, process: Proc, kept: &Kept<'_>) -> bool
         ensures { result ≡ list_any (λ x. is_own_in (own_records self.now) process x.message) kept.now }
     {
-        kept.iter().any(|kept| self.is_own(process, &kept.message))
+        for position in 0..kept.len() {
+            let (_, message) = kept.at(position);
+            if self.is_own(process, message) {
+                return true;
+            }
+        }
+        false
     }
 
     // Whether a message is such an ABCAST.
@@ -142,9 +149,10 @@ impl Domain {
     pub(crate) fn places_by(&self, group: GroupNo, process: Proc) -> usize
         ensures { result ≡ min 18446744073709551615 (places_by (log_of self.now.orders group) process) }
     {
-        self.orders
-            .length(group)
-            .saturating_add(self.orders.ids_to_list(group, process).len())
+        match self.orders.log(group) {
+            Some(log) => log.places_by(process),
+            None => 0,
+        }
     }
 
     // How many ids past those places that it has settled a process has delivered.

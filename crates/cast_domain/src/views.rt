@@ -9,7 +9,8 @@ use crate::record::view_at;
 use crate::turns::is_member;
 use cast_clock::Times;
 use cast_delay::ProcessUpdate;
-use cast_message::{Membership, Push, Received, SiteFrame, Tail};
+use cast_message::{Membership, Push, SiteFrame, Tail};
+use cast_store::Kept;
 use cast_types::{Counts, GroupNo, Key, NoMemory, Proc, SiteNo, Standing, Uid};
 use cast_view::{Verdict, is_taken_in, other_sites};
 
@@ -457,7 +458,7 @@ impl Domain {
         ensures stays { KeepsBeside self.old lent.old self.new lent.new }
         ensures made { OnOk result (Makes (λ r. records.release_ended r place) self.old lent.old self.new lent.new) }
     {
-        let ended = self.ended_keys(place, lent.shared.store.messages(self.config.domain))?;
+        let ended = self.ended_keys(place, &lent.shared.store.messages(self.config.domain))?;
         for key in ended.as_slice() {
             self.release(*key, lent);
         }
@@ -465,15 +466,18 @@ impl Domain {
     }
 
     // The keys of those among kept messages.
-    fn ended_keys(&self, place: usize, kept: &[Received]) -> Result<Vec<Key>, NoMemory>
+    fn ended_keys(&self, place: usize, kept: &Kept<'_>) -> Result<Vec<Key>, NoMemory>
         requires { place < vec_len self.now.groups }
         ensures { IfOk result (λ keys. keys.items ≡ keys_passing (is_ended_in (own_records self.now) place) kept.now) }
     {
-        let alloc = *self.groups.allocator();
-        kept.iter()
-            .filter(|kept| self.is_ended(place, kept.message.id))
-            .map(|kept| kept.key)
-            .collect(alloc)
+        let mut ended = Vec::new(*self.groups.allocator());
+        for position in 0..kept.len() {
+            let (key, message) = kept.at(position);
+            if self.is_ended(place, message.id) {
+                ended.push(key)?;
+            }
+        }
+        Ok(ended)
     }
 
     // Whether a message is of a view of the group at a place that has ended.

@@ -1,5 +1,5 @@
 -- The logs of all groups: what one group has while its own or another's changes or goes.
-use Rattle.std.proofs.Common.{◌≡◌, ℕ, ◌+◌, ◌-◌, min, Bool, true, false, cond, not, ◌||◌, List, [], ◌∷◌, ◌++◌, drop, Some, None, unwrap_or, refl, sym, ap, ◌∙◌, inl, inr, arith}
+use Rattle.std.proofs.Common.{◌≡◌, ℕ, ◌+◌, ◌-◌, min, Bool, true, false, cond, not, ◌||◌, List, [], ◌∷◌, ◌++◌, drop, length, Some, None, unwrap_or, refl, sym, ap, ◌∙◌, inl, inr, arith}
 use Rattle.std.specs.Prelude.{if◌then◌else◌}
 use Rattle.std.specs.List.{find, list_any}
 use Rattle.std.specs.Option.{option_or}
@@ -180,3 +180,26 @@ log_of_forget logs g h = elim (cases_Bool (group_eq g h)) [
       ap (λ o. unwrap_or o (new_log h)) (stays g h other logs)
       ∙ ap (λ b. cond b (new_log g) (log_of logs h)) (sym other)
 ]
+
+-- what no log passes the group's own passes neither, also where it has none
+pub none_of : (test : Log → Bool) (g : GroupNo) → test (new_log g) ≡ false → (logs : List Log) → list_any test logs ≡ false → test (log_of logs g) ≡ false
+none_of test g new [] none = new
+none_of test g new (l ∷ logs) none =
+    let parts = or_parts (test l) (list_any test logs) none in
+    elim (group_eq l.group g) as (λ b. test (unwrap_or (cond b (Some l) (find (of_group g) logs)) (new_log g)) ≡ false) [
+      | true ↦ parts.0
+      | false ↦ none_of test g new logs parts.1
+    ]
+
+-- a change that changes nothing
+pub same_in : (g : GroupNo) (f : Log → Log) → ((l : Log) → f l ≡ l) → (logs : List Log) → change_in g f logs ≡ logs
+same_in g f same [] = refl
+same_in g f same (l ∷ logs) =
+    λ i. elim (group_eq l.group g) as (λ b. cond b (f l) l ≡ l) [ true ↦ same l | false ↦ refl ] i ∷ same_in g f same logs i
+
+-- where no id is forgotten the log stays
+pub forgot_none : (l : Log) → forgot 0 l ≡ l
+forgot_none l =
+    let none : min (MAX_POSITION - l.base) (min 0 (length l.window)) ≡ 0 = omega arith in
+    let base : l.base + min (MAX_POSITION - l.base) (min 0 (length l.window)) ≡ l.base = omega (arith, none) in
+    λ i. record l { base = base i; window = drop (none i) l.window }

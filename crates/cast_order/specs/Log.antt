@@ -103,11 +103,13 @@ closed_by is_within start ids l = record {
   closed = true;
 }
 
--- the first of the kept ids, those that may be forgotten: once as many are kept as two tails have, all but those of one. Of a
--- closed order there are none
+-- as many ids are kept as two tails have, of an order that is not closed
+abbrev pub is_long : Log → Bool
+is_long l = not l.closed && nat_le (2 * MAX_TAIL) (length l.window)
+
+-- the first of the kept ids, those that may be forgotten: of a long order all but those of one tail
 abbrev pub oldest_in : Log → List Entry
-oldest_in l =
-    if not l.closed && nat_le (2 * MAX_TAIL) (length l.window) then take (length l.window - MAX_TAIL) l.window else []
+oldest_in l = if is_long l then take (length l.window - MAX_TAIL) l.window else []
 
 -- so many of the kept ids, the first ones, are forgotten, at most all of them, and none past the last place
 abbrev pub forgot : ℕ → Log → Log

@@ -5,7 +5,7 @@ ghost use Rattle.cast_types.specs.Names.{entry_eq};
 ghost use Rattle.cast_types.specs.Sets.{is_among};
 ghost use Rattle.cast_order.specs.Order.{id_at};
 ghost use Rattle.cast_order.specs.Hand.{held, handed, told, noted, settled_by};
-ghost use Rattle.cast_order.specs.Log.{length_of, new_log, oldest_in, with_fact, with_facts, with_next, past, settled, learnt, place_of, next_in, passed, hand_here, with_hand, waits_in, next_places, places_by, known_past, waiting_of, whole_kept, tail_start_in, tail_ids_in, closed_by, forgot};
+ghost use Rattle.cast_order.specs.Log.{is_long, length_of, new_log, oldest_in, with_fact, with_facts, with_next, past, settled, learnt, place_of, next_in, passed, hand_here, with_hand, waits_in, next_places, places_by, known_past, waiting_of, whole_kept, tail_start_in, tail_ids_in, closed_by, forgot};
 
 use crate::hand::{
     OrderHand, copy_hands, hand_among, hand_over_in, hold_in, holds, note_hand, open_hand,
@@ -129,11 +129,17 @@ impl OrderLog {
     pub fn oldest(&self) -> &[(Proc, u32)]
         ensures { result.now ≡ oldest_in self.now }
     {
-        let kept = self.window.len();
-        if self.closed || kept < 2 * MAX_TAIL {
+        if !self.is_long() {
             return &[];
         }
-        first_ids(&self.window, kept - MAX_TAIL)
+        first_ids(&self.window, self.window.len() - MAX_TAIL)
+    }
+
+    /// Whether as many ids are kept as two tails have, of an order that is not closed.
+    pub fn is_long(&self) -> bool
+        ensures { result ≡ is_long self.now }
+    {
+        !self.closed && 2 * MAX_TAIL <= self.window.len()
     }
 
     /// Forgets so many of the kept ids, the first ones, at most all of them.

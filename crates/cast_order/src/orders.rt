@@ -5,7 +5,7 @@ ghost use Rattle.cast_types.specs.Counts.{is_within};
 ghost use Rattle.cast_types.specs.Names.{entry_eq, group_eq};
 ghost use Rattle.cast_types.specs.Sets.{is_among};
 ghost use Rattle.cast_order.specs.Hand.{held, handed, told, noted, settled_by};
-ghost use Rattle.cast_order.specs.Log.{length_of, log_of, change_in, opened, change_log, but_log, learnt, next_in, passed, hand_here, with_hand, waits_in, next_places, known_past, whole_kept, tail_start_in, tail_ids_in, closed_by, oldest_in, forgot};
+ghost use Rattle.cast_order.specs.Log.{is_long, length_of, log_of, change_in, opened, change_log, but_log, learnt, next_in, passed, hand_here, with_hand, waits_in, next_places, known_past, whole_kept, tail_start_in, tail_ids_in, closed_by, oldest_in, forgot};
 
 use crate::hand::OrderHand;
 use crate::log::OrderLog;
@@ -231,6 +231,13 @@ impl Orders {
         }
     }
 
+    /// Whether a process here delivered an ABCAST of any group that is not in the order known. Takes no memory.
+    pub fn some_wait(&self) -> bool
+        ensures { result ≡ list_any waits_in self.now }
+    {
+        self.logs.iter().any(|log| log.waits())
+    }
+
     /// Whether an id has a place in the order known, or waits for one, having been delivered by the holder, if one is here:
     /// of what is not forgotten. Takes no memory.
     pub fn knows(&self, group: GroupNo, holder: Option<Proc>, id: (Proc, u32)) -> bool
@@ -279,6 +286,13 @@ impl Orders {
             Some(log) => log.oldest(),
             None => &[],
         }
+    }
+
+    /// Whether there are ids that may be forgotten of any group's order. Takes no memory.
+    pub fn some_are_long(&self) -> bool
+        ensures { result ≡ list_any is_long self.now }
+    {
+        self.logs.iter().any(|log| log.is_long())
     }
 
     /// Forgets so many of the ids that are kept of a group's order, the first ones, at most all: each process is to have

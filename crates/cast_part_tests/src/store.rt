@@ -64,8 +64,16 @@ fn frees(store: &Store, domain: DomainNo, most: u32) -> Option<usize> {
     Some(key)
 }
 
+// Whether a domain keeps so many messages, each under the key that stands beside it.
 fn keeps(store: &Store, domain: DomainNo, len: usize) -> bool {
-    store.held(domain) == len && store.messages(domain).len() == len
+    let kept = store.messages(domain);
+    for place in 0..kept.len() {
+        let (Key(key), message) = kept.at(place);
+        if count_under(store, domain, key) != message.id.count {
+            return false;
+        }
+    }
+    store.held(domain) == len && kept.len() == len
 }
 
 // Does a step, and tells whether the store is as it says.
@@ -114,10 +122,13 @@ fn messages_are_kept_until_they_are_removed(rt: HostRuntime) -> Result<(), Fail>
             Step::Removes(MINE, 1, 2),
             Step::Removes(MINE, 1, 0),
             Step::Keeps(MINE, 1),
+            Step::Puts(THEIRS, 5, 1),
+            Step::Has(MINE, 1, 0),
+            Step::Has(THEIRS, 1, 5),
             Step::Puts(MINE, 4, 2),
             Step::Drops(MINE),
             Step::Keeps(MINE, 0),
-            Step::Keeps(THEIRS, 1),
+            Step::Keeps(THEIRS, 2),
         ],
     )
 }

@@ -11,14 +11,10 @@ use Rattle.cast_types.specs.Places.{update}
 use Rattle.cast_types.proofs.Updates.{length_update}
 
 -- what stands at the place that is changed
-pub at_update : {X : Type 0} (f : X → X) (xs : List X) (i : ℕ) (d : X) → i < length xs → get_or (update xs i f) i d ≡ f (get_or xs i d)
+at_update : {X : Type 0} (f : X → X) (xs : List X) (i : ℕ) (d : X) → i < length xs → get_or (update xs i f) i d ≡ f (get_or xs i d)
 at_update f [] i d lt = absurd (omega arith)
 at_update f (x ∷ xs) zero d lt = refl
 at_update f (x ∷ xs) (suc i) d lt = at_update f xs i d (omega arith)
-
-pub update-last : {X : Type 0} (f : X → X) (xs : List X) (x : X) → update (xs ++ x ∷ []) (length xs) f ≡ xs ++ f x ∷ []
-update-last f [] x = refl
-update-last f (y ∷ ys) x = ap (λ rest. y ∷ rest) (update-last f ys x)
 
 module _ {X : Type 0} (p : X → Bool) where
   -- the search gives what stands at the first place

@@ -1,4 +1,7 @@
 pub mod Finds
-pub mod Keys
-pub mod Shelves
+pub mod Numbers
 pub mod Ids
+pub mod Lines
+pub mod Stocks
+pub mod Shows
+pub mod Slots

@@ -1,10 +1,9 @@
 -- What contracts see of a store: for each domain that it keeps messages for, these in order of receipt.
-use Rattle.std.specs.Prelude.{ℕ, ◌+◌, Bool, not, ◌&&◌, ◌==◌, List, [], ◌∷◌, ◌++◌, Option, filter}
+use Rattle.std.specs.Prelude.{ℕ, Bool, not, ◌&&◌, ◌==◌, List, [], Option, filter}
 use Rattle.std.specs.List.{find}
 use Rattle.std.specs.Option.{option_map_or}
 use Rattle.cast_types.specs.declared.names.DomainNo.{DomainNo}
 use Rattle.cast_types.specs.declared.names.Key.{Key}
-use Rattle.cast_message.specs.declared.message.Message.{Message}
 use Rattle.cast_message.specs.declared.message.Received.{Received}
 use Rattle.cast_message.specs.Receipts.{key_eq}
 use Rattle.cast_index.specs.Rises.{rises, all_below}
@@ -34,14 +33,6 @@ next_in store d = option_map_or (λ s. s.next) (shelf_of store d) 0
 -- messages but for those under a key
 abbrev pub but_under : Key → List Received → List Received
 but_under key received = filter (λ r. not (key_eq r.key key)) received
-
--- the shelf with one more message, under its next key
-abbrev pub with_message : Message → Shelf → Shelf
-with_message m s = record s { next = s.next + 1; kept = s.kept ++ (record { key = record { 0 = s.next }; message = m }) ∷ [] }
-
--- the shelf without the message under a key
-abbrev pub without_key : Key → Shelf → Shelf
-without_key key s = record s { kept = but_under key s.kept }
 
 -- the number of a message's key
 abbrev pub key_of : Received → ℕ

@@ -6,7 +6,11 @@
 //! refused `put` returns the message and changes nothing.
 #![tactic(auto)]
 
+mod kept;
+mod receipt;
 mod row;
+mod slot;
 mod store;
 
+pub use kept::Kept;
 pub use store::Store;

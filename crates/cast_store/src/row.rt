@@ -1,69 +1,71 @@
-ghost use Rattle.std.specs.Prelude.{◌≡◌, ◌<◌, ◌++◌, ◌∷◌, [], cond, false, get_or, vec_len, IfOk, IfErr, IfNone, IfSome, OnOk, OnErr, IsTrue, true, length};
-ghost use Rattle.std.specs.Option.{option_copied};
+ghost use Rattle.std.specs.Prelude.{◌≡◌, ◌<◌, ◌==◌, ◌++◌, ◌∷◌, [], cond, false, get_or, IfOk, IfErr, IfNone, IfSome, OnOk, OnErr, OnSome, Some, None, IsTrue, true, length};
 ghost use Rattle.std.specs.List.{position, remove};
+ghost use Rattle.std.specs.VecDeque.{deque_len};
 ghost use Rattle.cast_types.specs.declared.names.Key.{Key};
 ghost use Rattle.cast_types.specs.declared.names.Uid.{Uid};
-ghost use Rattle.cast_message.specs.declared.message.Received.{Received};
 ghost use Rattle.cast_index.specs.Index.{has};
 ghost use Rattle.cast_index.specs.Rises.{rises};
-ghost use Rattle.cast_message.specs.Receipts.{key_eq, message_under};
-ghost use Rattle.cast_store.specs.Ids.{IsKeptOf, IsLedBy, is_named, message_of};
-ghost use Rattle.cast_store.specs.Store.{with_message, without_key, key_of, is_rising};
+ghost use Rattle.cast_store.specs.declared.receipt.Receipt.{Receipt};
+ghost use Rattle.cast_store.specs.Lines.{is_named, is_numbered, number_of, slot_of, slot_with, slot_under, with_receipt, without_number, IsFilled, IsLedByReceipts, IsReceivedOf};
+ghost use Rattle.slab.specs.Slab.{get as slot_at};
 
+use crate::receipt::Receipt;
+use crate::slot::Slot;
 use cast_index::Index;
-use cast_message::{Message, Received};
+use cast_message::Message;
 use cast_types::{DomainNo, Key, NoMemory, Uid, source_of};
+use slab::Slab;
 use std::alloc::Global;
+use std::collections::VecDeque;
 use std::marker::Model;
 
-/// What is kept for one domain, in order of receipt.
+/// The receipts of the messages that one domain keeps, in order.
 #[derive(Drop)]
 pub(crate) struct Row {
     domain: DomainNo,
-    /// The number of the next key, above each that was given out.
+    /// The number of the next receipt, above each that was given out.
     next: usize,
-    kept: Vec<Received>,
-    /// The ids of the messages, with their keys.
+    receipts: VecDeque<Receipt>,
+    /// The ids of the messages, with the numbers of their receipts as keys.
     ids: Index,
 }
 
 impl Model for Row {
-    ghost use Rattle.cast_store.specs.Store.{Shelf};
-    ghost use Rattle.cast_store.specs.Ids.{IsInOrder};
+    ghost use Rattle.cast_store.specs.Lines.{Line, IsInOrder};
 
-    ghost Value = { Shelf };
+    ghost Value = { Line };
 
-    ghost view = { λ r. record { domain = r.domain; next = r.next; kept = r.kept.items } };
+    ghost view = { λ r. record { domain = r.domain; next = r.next; receipts = r.receipts.items } };
 
-    ghost invariant = { λ r. IsInOrder r.next r.kept.items r.ids };
+    ghost invariant = { λ r. IsInOrder r.next r.receipts.items r.ids };
 }
 
 impl Row {
-    /// No messages.
+    /// No receipts.
     pub(crate) fn new(alloc: Global, domain: DomainNo) -> Self
-        ensures { result ≡ record { domain = domain; next = 0; kept = [] } }
+        ensures { result ≡ record { domain = domain; next = 0; receipts = [] } }
     {
         Row {
             domain,
             next: 0,
-            kept: Vec::new(alloc),
+            receipts: VecDeque::new(alloc),
             ids: Index::new(alloc),
         }
     }
 
-    /// An equal value, with the same keys.
+    /// An equal value.
     pub(crate) fn copy(&self) -> Result<Self, NoMemory>
         ensures { IfOk result (λ row. row ≡ self.now) }
     {
         Ok(Row {
             domain: self.domain,
             next: self.next,
-            kept: copy_received(*self.kept.allocator(), &self.kept)?,
+            receipts: copy_receipts(&self.receipts)?,
             ids: self.ids.copy()?,
         })
     }
 
-    /// Whose messages these are.
+    /// Whose receipts these are.
     pub(crate) fn domain(&self) -> DomainNo
         ensures { result ≡ self.now.domain }
     {
@@ -77,55 +79,72 @@ impl Row {
         Key(self.next)
     }
 
-    /// Keeps a message under the next key. It comes back, and nothing is changed, where there is no memory or no key is
-    /// left.
-    pub(crate) fn put(&mut self, message: Message) -> Result<Key, Message>
+    /// Keeps a message in a slot of its own, under the next key. It comes back, and nothing is changed, where there is no
+    /// memory or no key is left.
+    pub(crate) fn put(&mut self, slots: &mut Slab<Slot>, message: Message) -> Result<Key, Message>
         ensures key { IfOk result (λ key. key ≡ record { 0 = self.old.next }) }
-        ensures ok { OnOk result (self.new ≡ with_message message self.old) }
-        ensures free { message_under self.old.kept (record { 0 = self.old.next }) ≡ None }
+        ensures ok { OnOk result (self.new ≡ with_receipt slots.old.vacant_key message.id self.old) }
+        ensures filled { OnOk result (IsFilled (slot_with self.old.domain self.old.next message) slots.old slots.new) }
+        ensures free { slot_under self.old.receipts self.old.next ≡ None }
         ensures back { IfErr result (λ back. back ≡ message) }
         ensures err { OnErr result (self.new ≡ self.old) }
+        ensures slots_stay { OnErr result (slots.new.slots ≡ slots.old.slots) }
     {
-        let Some(next) = self.next.checked_add(1) else {
+        let number = self.next;
+        let Some(next) = number.checked_add(1) else {
             return Err(message);
         };
-        let key = Key(self.next);
-        keep(&mut self.kept, &mut self.ids, Received { key, message })?;
+        if slots.reserve(1).is_err() {
+            return Err(message);
+        }
+        let receipt = Receipt {
+            number,
+            slot: slots.vacant_key(),
+            id: message.id,
+        };
+        if add(&mut self.receipts, &mut self.ids, receipt).is_err() {
+            return Err(message);
+        }
+        slots.insert_reserved(Slot {
+            domain: self.domain,
+            number,
+            message,
+        });
         self.next = next;
-        Ok(key)
+        Ok(Key(number))
     }
 
-    /// The message under a key.
-    pub(crate) fn get(&self, key: Key) -> Option<&Message>
-        ensures { option_copied result ≡ message_under self.now.kept key }
+    /// The slot of the message under a key.
+    pub(crate) fn slot_under(&self, key: Key) -> Option<usize>
+        ensures { result ≡ slot_under self.now.receipts key.0 }
     {
-        let place = place_under(&self.kept, key)?;
-        Some(&self.kept[place].message)
+        let place = place_under(&self.receipts, key)?;
+        Some(self.receipts[place].slot)
     }
 
-    /// Takes out the message under a key; `None` changes nothing.
-    pub(crate) fn remove(&mut self, key: Key) -> Option<Message>
-        ensures value { result ≡ message_under self.old.kept key }
-        ensures left { self.new ≡ without_key key self.old }
+    /// Takes out the receipt of the message under a key, and gives its slot; `None` changes nothing.
+    pub(crate) fn remove(&mut self, key: Key) -> Option<usize>
+        ensures value { result ≡ slot_under self.old.receipts key.0 }
+        ensures left { self.new ≡ without_number key.0 self.old }
         ensures none { IfNone result (self.new ≡ self.old) }
     {
-        let place = place_under(&self.kept, key)?;
-        Some(take_out(&mut self.kept, &mut self.ids, place))
+        let place = place_under(&self.receipts, key)?;
+        take_out(&mut self.receipts, &mut self.ids, place)
     }
 
-    /// The first message of an id.
-    pub(crate) fn find(&self, id: Uid) -> Option<&Message>
-        ensures { option_copied result ≡ message_of self.now.kept id }
+    /// The slot of the first message of an id.
+    pub(crate) fn slot_of(&self, id: Uid) -> Option<usize>
+        ensures { result ≡ slot_of self.now.receipts id }
     {
         let key = self.ids.key_of(id)?;
-        self.get(key)
+        self.slot_under(key)
     }
 
     /// The key of a message that passes, none only where of each message's source one with no greater count fails.
     pub(crate) fn first_passing<F: Fn(Uid) -> bool>(&self, passes: F) -> Option<Key>
         requires { F.IsAlwaysCallable passes }
-        ensures some { IfSome result (IsKeptOf (λ id. F.post passes id true) self.now.kept) }
-        ensures none { IfNone result (IsLedBy (λ id. F.post passes id false) self.now.kept) }
+        ensures some { IfSome result (IsReceivedOf (λ id. F.post passes id true) self.now.receipts) }
+        ensures none { IfNone result (IsLedByReceipts (λ id. F.post passes id false) self.now.receipts) }
     {
         let mut after = None;
         while let Some(id) = self.ids.first_behind(after) {
@@ -137,66 +156,62 @@ impl Row {
         None
     }
 
-    /// The messages in order of receipt.
-    pub(crate) fn messages(&self) -> &[Received]
-        ensures value { result.now ≡ self.now.kept }
-        ensures rising { IsTrue (is_rising self.now.next self.now.kept) }
+    /// The receipts, in order.
+    pub(crate) fn receipts(&self) -> &VecDeque<Receipt>
+        ensures value { result.now.items ≡ self.now.receipts }
+        ensures numbered { IsTrue (is_numbered self.now.next self.now.receipts) }
     {
-        &self.kept
+        &self.receipts
     }
 }
 
-// Keeps a message with its id. It comes back where there is no memory, and its id with its key is not in the index then.
-fn keep(kept: &mut Vec<Received>, ids: &mut Index, received: Received) -> Result<(), Message>
-    ensures kept { OnOk result (kept.new.items ≡ kept.old.items ++ received ∷ []) }
-    ensures named { OnOk result ((u : Uid) (k : Key) → has ids.new u k ≡ cond (is_named u k received) true (has ids.old u k)) }
-    ensures back { IfErr result (λ back. back ≡ received.message) }
-    ensures same { OnErr result (kept.new.items ≡ kept.old.items) }
-    ensures unnamed { OnErr result (has ids.old received.message.id received.key ≡ false → (u : Uid) (k : Key) → has ids.new u k ≡ has ids.old u k) }
+// Adds a receipt, and its id. `NoMemory` leaves the receipts, and the index without the id under this number.
+fn add(receipts: &mut VecDeque<Receipt>, ids: &mut Index, receipt: Receipt) -> Result<(), NoMemory>
+    ensures added { OnOk result (receipts.new.items ≡ receipts.old.items ++ receipt ∷ []) }
+    ensures named { OnOk result ((u : Uid) (k : Key) → has ids.new u k ≡ cond (is_named u k receipt) true (has ids.old u k)) }
+    ensures same { OnErr result (receipts.new.items ≡ receipts.old.items) }
+    ensures unnamed { OnErr result (has ids.old receipt.id (record { 0 = receipt.number }) ≡ false → (u : Uid) (k : Key) → has ids.new u k ≡ has ids.old u k) }
 {
-    let id = received.message.id;
-    let key = received.key;
-    if ids.insert(id, key).is_err() {
-        return Err(received.message);
-    }
-    if let Err(refused) = kept.push(received) {
-        ids.remove(id, key);
-        return Err(refused.value.message);
+    let key = Key(receipt.number);
+    ids.insert(receipt.id, key)?;
+    if let Err(refused) = receipts.push_back(receipt) {
+        ids.remove(receipt.id, key);
+        return Err(refused.into());
     }
     Ok(())
 }
 
-// Takes out the message at a place, and its id.
-fn take_out(kept: &mut Vec<Received>, ids: &mut Index, place: usize) -> Message
-    requires { place < vec_len kept.old }
-    ensures value { (r : Received) → result ≡ (get_or kept.old.items place r).message }
-    ensures left { kept.new.items ≡ remove kept.old.items place }
-    ensures unnamed { (r : Received) (u : Uid) (k : Key) → has ids.new u k ≡ cond (is_named u k (get_or kept.old.items place r)) false (has ids.old u k) }
+// Takes out the receipt of a place, and its id, and gives its slot.
+fn take_out(receipts: &mut VecDeque<Receipt>, ids: &mut Index, place: usize) -> Option<usize>
+    requires { place < deque_len receipts.old }
+    ensures value { (r : Receipt) → result ≡ Some (get_or receipts.old.items place r).slot }
+    ensures left { receipts.new.items ≡ remove receipts.old.items place }
+    ensures unnamed { (r : Receipt) (u : Uid) (k : Key) → has ids.new u k ≡ cond (is_named u k (get_or receipts.old.items place r)) false (has ids.old u k) }
 {
-    let Received { key, message } = kept.remove(place);
-    ids.remove(message.id, key);
-    message
+    let receipt = receipts.remove(place)?;
+    ids.remove(receipt.id, Key(receipt.number));
+    Some(receipt.slot)
 }
 
-// Where the message under a key stands.
-fn place_under(kept: &[Received], key: Key) -> Option<usize>
-    requires { rises key_of kept.now ≡ true }
-    ensures place { result ≡ position (λ r. key_eq r.key key) kept.now }
-    ensures within { IfSome result (λ i. i < length kept.now) }
+// Where the receipt of the message under a key stands.
+fn place_under(receipts: &VecDeque<Receipt>, key: Key) -> Option<usize>
+    requires { rises number_of receipts.now.items ≡ true }
+    ensures place { result ≡ position (λ r. r.number == key.0) receipts.now.items }
+    ensures within { IfSome result (λ i. i < deque_len receipts.now) }
 {
-    match kept.binary_search_by_key(&key.0, |received| received.key.0) {
+    match receipts.binary_search_by_key(&key.0, |receipt| receipt.number) {
         Ok(place) => Some(place),
         Err(_) => None,
     }
 }
 
-// Messages with their keys, copied.
-fn copy_received(alloc: Global, kept: &[Received]) -> Result<Vec<Received>, NoMemory>
-    ensures { IfOk result (λ copy. copy.items ≡ kept.now) }
+// Receipts, copied.
+fn copy_receipts(receipts: &VecDeque<Receipt>) -> Result<VecDeque<Receipt>, NoMemory>
+    ensures { IfOk result (λ copy. copy.items ≡ receipts.now.items) }
 {
-    let mut copied = Vec::with_capacity(alloc, kept.len())?;
-    for received in kept {
-        copied.push(received.copy()?)?;
-    }
-    Ok(copied)
+    let (front, back) = receipts.as_slices();
+    let mut copied = Vec::with_capacity(*receipts.allocator(), receipts.len())?;
+    copied.extend_from_slice(front)?;
+    copied.extend_from_slice(back)?;
+    Ok(VecDeque::from_vec(copied))
 }

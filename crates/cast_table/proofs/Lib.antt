@@ -1,4 +1,5 @@
 pub mod Places
+pub mod Numbers
 pub mod Turns
 pub mod Applies
 pub mod Parts

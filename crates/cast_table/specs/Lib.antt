@@ -1,3 +1,4 @@
+pub mod Contents
 pub mod Tables
 pub mod Owns
 pub mod Shows

@@ -1,7 +1,8 @@
 -- What events do to a table of domains: each alone, and one after another.
-use Rattle.std.specs.Prelude.{◌≡◌, ◌≢◌, ◌==◌, nat_le, nat_lt, if◌then◌else◌, ℕ, Bool, true, false, List, [], ◌∷◌, ◌++◌, length, Option, Some, None, unwrap_or, Result, Ok, Err, slice_get, slice_set}
+use Rattle.std.specs.Prelude.{◌≡◌, ◌≢◌, ◌==◌, nat_eq, nat_le, nat_lt, if◌then◌else◌, ℕ, Bool, true, false, List, [], ◌∷◌, ◌++◌, length, Option, Some, None, unwrap_or, Result, Ok, Err, slice_get, slice_set}
 use Rattle.std.specs.Option.{option_to_list}
 use Rattle.std.specs.List.{find, list_any, list_all, position_from}
+use Rattle.indexmap.specs.IndexMap.{IndexMap, get as place_at}
 use Rattle.cast_types.specs.declared.names.DomainNo.{DomainNo}
 use Rattle.cast_types.specs.declared.names.SiteNo.{SiteNo}
 use Rattle.cast_types.specs.declared.refusal.Refusal.TheVariants as refusal
@@ -29,7 +30,7 @@ domain_eq d e = d.0 == e.0
 
 -- the domains of a table, in order
 abbrev pub domains_of : Table → List Domain
-domains_of table = table.domains.items
+domains_of table = table.domains
 
 -- what they share
 abbrev pub shared_of : Table → Shared
@@ -71,6 +72,10 @@ picked (c ∷ configs) domains =
 -- where the first domain of a number stands
 abbrev pub place_named : DomainNo → List Domain → Option ℕ
 place_named number domains = position_from (λ d. domain_eq (number_of d) number) 0 domains
+
+-- each number is kept with the place of its first domain
+abbrev pub ArePlaces : {S : Type 0} → IndexMap ℕ ℕ S → List Domain → Type 0
+ArePlaces places domains = (number : DomainNo) → place_at nat_eq places number.0 ≡ place_named number domains
 
 -- nothing of any domain is among what is shared
 abbrev pub SharesNothing : Table → Type 0

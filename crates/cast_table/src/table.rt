@@ -1,25 +1,42 @@
-ghost use Rattle.std.specs.Prelude.{◌≡◌, ◌≢◌, ◌<◌, ◌≤◌, ◌+◌, ◌++◌, Err, IfOk, IfSome, None, OnErr, OnOk, length, vec_len};
-ghost use Rattle.std.specs.List.{AllZip, find, insert};
+ghost use Rattle.std.specs.Prelude.{◌≡◌, ◌≢◌, ◌<◌, ◌≤◌, ◌+◌, ◌++◌, Err, IfOk, IfSome, None, OnErr, OnOk, length, nat_eq, vec_len};
+ghost use Rattle.std.specs.List.{AllZip, insert};
 ghost use Rattle.std.specs.Option.{option_copied};
 ghost use Rattle.std.specs.Vec.{vec_capacity};
+ghost use Rattle.indexmap.specs.IndexMap.{get as place_at};
 ghost use Rattle.cast_domain.specs.Copies.{IsCopyOf as IsDomainCopy};
 ghost use Rattle.cast_domain.specs.Records.{number_of};
 ghost use Rattle.cast_events.specs.Events.{domain_of};
-ghost use Rattle.cast_table.specs.Tables.{AreTurns, IsApplied, IsAppliedTo, IsLeastOf, IsNew, IsTicked, IsTurn, IsUnchanged, NotesHalts, NotesOne, SharesNothing, answer_in_turn, by_number, domain_eq, domains_of, halted_by, lower, place_above, place_for, place_named, stopped, OnLent, InTable};
+ghost use Rattle.cast_table.specs.Tables.{ArePlaces, AreTurns, IsApplied, IsAppliedTo, IsLeastOf, IsNew, IsTicked, IsTurn, IsUnchanged, NotesHalts, NotesOne, SharesNothing, answer_in_turn, by_number, domains_of, halted_by, lower, place_above, place_for, place_named, stopped, OnLent, InTable};
 ghost use Rattle.cast_table.specs.Copies.{IsCopyOf};
-ghost use Rattle.cast_table.specs.Shows.{ShowsGroups, ShowsHistory, groups_at, shown_at};
+ghost use Rattle.cast_table.specs.Shows.{ShowsGroups, ShowsHistory, domain_at, groups_at, shown_at};
 
 use cast_domain::{Domain, GroupShown, Shared, Shown};
 use cast_events::{Config, Event, Fault, Outs, Taken};
 use cast_types::{DomainNo, List, NoMemory};
+use indexmap::IndexMap;
 use std::alloc::Global;
+use std::marker::Model;
 use std::mem;
 
-/// The domains of a daemon, in the order of their numbers, and what they share.
+/// The domains of a daemon, in the order of their numbers, and what they share. Contracts see both as its `Contents`.
 #[derive(Drop)]
 pub struct Table {
     domains: Vec<Domain>,
+    // Where the first domain of each number stands.
+    places: IndexMap<u8, usize>,
     shared: Shared,
+}
+
+impl Model for Table {
+    ghost use Rattle.cast_table.specs.Contents.{Contents};
+
+    ghost Value = { Contents };
+
+    ghost use Rattle.cast_table.specs.Tables.{ArePlaces};
+
+    ghost view = { λ t. record { domains = t.domains.items; shared = t.shared } };
+
+    ghost invariant = { λ t. ArePlaces t.places t.domains.items };
 }
 
 impl Table {
@@ -33,20 +50,14 @@ impl Table {
             let tenant = Domain::new(alloc, config.site, domain.copy()?)?;
             put_in(&mut domains, tenant)?;
         }
-        Ok(Table {
-            domains,
-            shared: Shared::new(alloc),
-        })
+        Table::of(domains, Shared::new(alloc))
     }
 
     /// A table whose domains keep the same, each with the same part of what is shared.
     pub fn copy(&self) -> Result<Self, NoMemory>
         ensures { IfOk result (λ copy. IsCopyOf self.now copy) }
     {
-        Ok(Table {
-            domains: copy_domains(&self.domains)?,
-            shared: self.shared.copy()?,
-        })
+        Table::of(copy_domains(&self.domains)?, self.shared.copy()?)
     }
 
     /// How many domains there are.
@@ -76,7 +87,7 @@ impl Table {
         ensures shown { result ≡ shown_at number self.now }
         ensures meant { ShowsHistory number self.now result }
     {
-        let domain = first_of(&self.domains, number)?;
+        let domain = self.first_of(number)?;
         Some(domain.show(&self.shared))
     }
 
@@ -90,7 +101,7 @@ impl Table {
         ensures shown { IfOk result (λ groups. groups ≡ groups_at number self.now) }
         ensures meant { IfOk result (ShowsGroups number self.now) }
     {
-        match first_of(&self.domains, number) {
+        match self.first_of(number) {
             Some(domain) => Ok(Some(domain.show_groups(alloc)?)),
             None => Ok(None),
         }
@@ -101,6 +112,25 @@ impl Table {
         ensures { result.items ≡ domains_of self }
     {
         self.domains
+    }
+
+    // A table of these domains, which share this.
+    fn of(domains: Vec<Domain>, shared: Shared) -> Result<Self, NoMemory>
+        ensures { IfOk result (λ table. table ≡ record { domains = domains.items; shared = shared }) }
+    {
+        Ok(Table {
+            places: places_of(&domains)?,
+            domains,
+            shared,
+        })
+    }
+
+    // The first domain of a number.
+    fn first_of(&self, number: DomainNo) -> Option<&Domain>
+        ensures { option_copied result ≡ domain_at number self.now }
+    {
+        let place = place_in(&self.places, number)?;
+        Some(&self.domains[place])
     }
 
     // Makes the step of the first domain of this number, which the event names.
@@ -114,7 +144,7 @@ impl Table {
         ensures unchanged { IsUnchanged result self.old self.new outs.old outs.new }
         ensures halted { NotesOne result number outs.old.halted outs.new.halted }
     {
-        let Some(place) = place_of(&self.domains, number) else {
+        let Some(place) = place_in(&self.places, number) else {
             return Err(Fault::NoDomain);
         };
         let Ok(mut halted) = halted_with_room(outs, 1) else {
@@ -189,11 +219,22 @@ pub fn place_of(domains: &[Domain], number: DomainNo) -> Option<usize>
     domains.iter().position(|domain| domain.number() == number)
 }
 
-// The first domain of a number.
-fn first_of(domains: &[Domain], number: DomainNo) -> Option<&Domain>
-    ensures { option_copied result ≡ find (λ d. domain_eq (number_of d) number) domains.now }
+// Where the first domain of each number stands.
+fn places_of(domains: &Vec<Domain>) -> Result<IndexMap<u8, usize>, NoMemory>
+    ensures { IfOk result (λ places. ArePlaces places domains.now.items) }
 {
-    domains.iter().find(|domain| domain.number() == number)
+    let mut places = IndexMap::with_capacity(*domains.allocator(), domains.len())?;
+    for (place, domain) in domains.iter().enumerate() {
+        places.entry(domain.number().0)?.or_insert(place);
+    }
+    Ok(places)
+}
+
+// Where the first domain of a number stands, by these places.
+fn place_in(places: &IndexMap<u8, usize>, number: DomainNo) -> Option<usize>
+    ensures { result ≡ place_at nat_eq places.now number.0 }
+{
+    places.get(&number.0).copied()
 }
 
 // Takes the halted domains out, with room for so many more. `NoMemory` changes nothing.

@@ -1,28 +1,23 @@
 -- All frames that are due are owed for one moment, one after the other or all at once.
-use Rattle.std.proofs.Common.{◌≡◌, ℕ, suc, Bool, true, false, cond, ◌||◌, List, [], ◌∷◌, Less, Option, Some, None, refl, sym, ap, ◌∙◌, inl, inr, arith}
-use Rattle.std.specs.Prelude.{◌==◌, is_some, map, nat_le, slice_index_or}
-use Rattle.std.specs.List.{list_any, fold, All, AllByRecursion}
-use Rattle.std.specs.List.Sorted.{IsStrictlySortedBy}
+use Rattle.std.proofs.Common.{◌≡◌, ◌<◌, ℕ, Bool, true, false, cond, ◌||◌, List, [], ◌∷◌, length, Less, Option, Some, None, refl, sym, ap, ◌∙◌, inl, inr, arith}
+use Rattle.std.specs.Prelude.{◌==◌, is_some, map, nat_le}
+use Rattle.std.specs.List.{list_any, fold}
 use Rattle.std.specs.Option.{option_map}
 use Rattle.std.specs.Ordering.{is_lt}
-use Rattle.std.specs.Map.{lookup}
-use Rattle.std.specs.BTreeSet.{BTreeSet, IsFromIterResult}
-use Rattle.std.specs.BTreeMap.{is_at}
 use Rattle.std.proofs.lemmas.Bool.{and_parts, and_from, cases_Bool, eq-eqb, false≢true, or_right}
 use Rattle.std.proofs.lemmas.Cmp.{tied_itself}
 use Rattle.std.proofs.lemmas.Option.{none-some, same_Some}
-use Rattle.std.proofs.lemmas.Map.Made.{lookup-map_values}
 use Rattle.cast_types.specs.Rising.{is_rising}
 use Rattle.cast_types.proofs.Rising.{rising_kept, less_is}
 use Rattle.cast_timer.specs.declared.key.OwedKey.{OwedKey}
 use Rattle.cast_timer.specs.declared.key.Owed.{Owed}
 use Rattle.cast_timer.specs.Owed.{owed_cmp, key_eq, is_owed, renewed, due_frames, due_at, all_renewed}
-use Rattle.cast_timer.specs.Index.{frame_eq, has, due_of, IsIndex, renewed_due, renewed_dues}
-use Rattle.cast_timer.specs.contracts.key.OwedOrd.TheImpl as owed
-use Rattle.cast_timer.specs.contracts.key.OwedKeyOrd.TheImpl as keys
-use Rattle.cast_timer.proofs.Derived.{owed_order}
+use Rattle.cast_timer.specs.Rows.{has_key, has_some}
+use Rattle.cast_timer.specs.Index.{frame_eq, has, is_due, IsIndex, renewed_due, moved_to}
 use Rattle.cast_timer.proofs.Orders.{owed_total, before}
-use Rattle.cast_timer.proofs.Index.{same_frame, frame_itself, frame_tests, looked_up, has_kept, index_renewed, owed_by}
+use Rattle.cast_timer.proofs.Owing.{key_itself, turned_key}
+use Rattle.cast_timer.proofs.Rows.{some_by}
+use Rattle.cast_timer.proofs.Index.{same_frame, frame_itself, has_kept, index_renewed, owed_by}
 
 either : (a b : Bool) → (a || b) ≡ true → a ≡ false → b ≡ true
 either true b h other = absurd (false≢true (sym other))
@@ -89,7 +84,7 @@ one_index due os ps index other =
     (λ o there. other.owes o.key o.due (index.told o there))
     (λ o there. index.owes o.key o.due (other.told o there))
 
-index_alike : (due next : OwedKey → Option ℕ) (os : List Owed) → ((q : OwedKey) → next q ≡ due q) → IsIndex due os → IsIndex next os
+pub index_alike : (due next : OwedKey → Option ℕ) (os : List Owed) → ((q : OwedKey) → next q ≡ due q) → IsIndex due os → IsIndex next os
 index_alike due next os is index = record {
   rising = index.rising;
   told = λ o there. is o.key ∙ index.told o there;
@@ -150,74 +145,45 @@ moment now due (Some t) = elim (nat_le t now) as (λ b. Some (cond b due t) ≡ 
   | false ↦ refl
 ]
 
--- the new map has the new one for each key that was due
-new_moments : (now due : ℕ) (es : List (OwedKey × ℕ)) (os : List Owed) → IsIndex (due_of es) os → (q : OwedKey) → due_of (renewed_dues now due es) q ≡ cond (list_any (λ k. key_eq k q) (due_at now os)) (Some due) (due_of es q)
-new_moments now due es os index q =
-    lookup-map_values (renewed_due now due) (key_eq q) es
-    ∙ moment now due (due_of es q)
-    ∙ ap (λ b. cond b (Some due) (due_of es q))
-    (owed_by (λ k. due_still now (due_of es k)) (due_frames now os) (index_due now (due_of es) os index) q ∙ sym (keys_owed (due_frames now os) q))
+-- the keys that are due are those whose moments change
+module _ (now due : ℕ) (old : OwedKey → Option ℕ) (os : List Owed) (index : IsIndex old os) where
+  are_due : (q : OwedKey) → list_any (λ k. key_eq k q) (due_at now os) ≡ is_some (due_still now (old q))
+  are_due q = keys_owed (due_frames now os) q ∙ sym (owed_by (λ k. due_still now (old k)) (due_frames now os) (index_due now old os index) q)
 
--- so the frames of that map are those that are owed once each was renewed in turn
-pub all_at_once : (now due : ℕ) (es : List (OwedKey × ℕ)) (os ps : List Owed) → IsIndex (due_of es) os → IsIndex (due_of (renewed_dues now due es)) ps → ps ≡ all_renewed now due os
-all_at_once now due es os ps index other =
-    one_index (due_of (renewed_dues now due es)) ps (all_renewed now due os) other
-    (index_each due (due_at now os) (due_of es) os index (due_of (renewed_dues now due es)) (new_moments now due es os index))
+  moments : (q : OwedKey) → option_map (renewed_due now due) (old q) ≡ cond (list_any (λ k. key_eq k q) (due_at now os)) (Some due) (old q)
+  moments q = moment now due (old q) ∙ ap (λ b. cond b (Some due) (old q)) (sym (are_due q))
 
--- A set of the frames of a map
+  -- so what is owed is what was owed once each was renewed in turn
+  pub all_moved : (next : OwedKey → Option ℕ) (ps : List Owed) → ((q : OwedKey) → next q ≡ option_map (renewed_due now due) (old q)) → IsIndex next ps → ps ≡ all_renewed now due os
+  all_moved next ps is other =
+      one_index next ps (all_renewed now due os) other
+      (index_each due (due_at now os) old os index next (λ q. is q ∙ moments q))
 
--- the frame of an entry, with f of its moment
-abbrev pub framed : (ℕ → ℕ) → OwedKey × ℕ → Owed
-framed f e = record { due = f e.1; key = e.0 }
+  due_key : (q : OwedKey) → has_key q (due_at now os) ≡ is_some (due_still now (old q))
+  due_key q = ap (λ (f : OwedKey → Bool). list_any f (due_at now os)) (λ i k. turned_key q k i) ∙ are_due q
 
--- the set has the frames that the map tells of
-told_by : (f : ℕ → ℕ) (all es : List (OwedKey × ℕ)) → All (λ e. due_of all e.0 ≡ Some e.1) es → (o : Owed) → has (map (framed f) es) o ≡ true → option_map f (due_of all o.key) ≡ Some o.due
-told_by f all [] found o there = absurd (false≢true there)
-told_by f all (e ∷ es) found o there = elim (cases_Bool (frame_eq o (framed f e))) [
-  | inl this ↦
-      let same : o ≡ framed f e = same_frame o (framed f e) this in
-      ap (λ (p : Owed). option_map f (due_of all p.key)) same
-      ∙ ap (option_map f) (found 0 e (omega arith))
-      ∙ sym (ap (λ (p : Owed). Some p.due) same)
-  | inr other ↦ told_by f all es (λ k d lt. found (suc k) d (omega arith)) o (either (frame_eq o (framed f e)) (has (map (framed f) es) o) there other)
-]
+  -- the keys that are due, moved one by one
+  pub moved_each : (q : OwedKey) → moved_to due (has_key q (due_at now os)) (old q) ≡ option_map (renewed_due now due) (old q)
+  moved_each q = ap (λ b. moved_to due b (old q)) (due_key q) ∙ each (old q)
+    where
+      each : (m : Option ℕ) → moved_to due (is_some (due_still now m)) m ≡ option_map (renewed_due now due) m
+      each None = refl
+      each (Some t) = elim (nat_le t now) as (λ b. moved_to due (is_some (cond b (Some t) None)) (Some t) ≡ Some (cond b due t)) [
+        | true ↦ refl
+        | false ↦ refl
+      ]
 
-owes_by : (f : ℕ → ℕ) (es : List (OwedKey × ℕ)) (key : OwedKey) (t : ℕ) → option_map f (due_of es key) ≡ Some t → has (map (framed f) es) (record { due = t; key = key }) ≡ true
-owes_by f [] key t some = absurd (none-some t some)
-owes_by f (e ∷ es) key t some =
-    let o : Owed = record { due = t; key = key } in
-    let rest = has (map (framed f) es) o in
-    elim (cases_Bool (key_eq key e.0)) [
-      | inl this ↦
-          let at : f e.1 ≡ t = same_Some (f e.1) t (sym (ap (λ b. option_map f (cond b (Some e.1) (due_of es key))) this) ∙ some) in
-          ap (λ b. b || rest) (and_from (t == f e.1) (key_eq key e.0) (eq-eqb t (f e.1) (sym at)) this)
-      | inr other ↦ or_right (frame_eq o (framed f e)) rest (owes_by f es key t (sym (ap (λ b. option_map f (cond b (Some e.1) (due_of es key))) other) ∙ some))
-    ]
+  -- a set of those that are then due at one moment has some, where any is due
+  pub some_due : (ks : List OwedKey) → 0 < length (due_at now os) → ((q : OwedKey) → has_key q ks ≡ is_due due (option_map (renewed_due now due) (old q))) → has_some ks ≡ true
+  some_due ks lt its = by_first (due_at now os) due_key lt
+    where
+      then : (m : Option ℕ) → is_some (due_still now m) ≡ true → is_due due (option_map (renewed_due now due) m) ≡ true
+      then None some = absurd (false≢true some)
+      then (Some t) some = elim (cases_Bool (nat_le t now)) [
+        | inl le ↦ ap (λ b. due == cond b due t) le ∙ eq-eqb due due refl
+        | inr late ↦ absurd (false≢true (sym (ap (λ b. is_some (cond b (Some t) None)) late) ∙ some))
+      ]
 
-found_by : (es : List (OwedKey × ℕ)) → All (λ e. lookup (is_at (keys.cmp-value.it e.0)) es ≡ Some e.1) es → All (λ e. due_of es e.0 ≡ Some e.1) es
-found_by es found k d lt = sym (looked_up (slice_index_or es k d).0 es) ∙ found k d lt
-
-tested : (o : Owed) (os : List Owed) → list_any (is_at (owed.cmp-value.it o)) os ≡ has os o
-tested o os i = list_any (λ p. frame_tests o p i) os
-
-before_sorted : (o : Owed) (os : List Owed) → AllByRecursion (λ p. owed.cmp-value.it o p ≡ Less) os → before o os ≡ true
-before_sorted o [] all = refl
-before_sorted o (p ∷ ps) all = and_from (is_lt (owed_cmp o p)) (before o ps) (ap is_lt (sym (owed_order o p) ∙ all.0)) (before_sorted o ps all.1)
-
-rising_sorted : (os : List Owed) → IsStrictlySortedBy owed.cmp-value.it os → is_rising owed_cmp os ≡ true
-unfolding IsStrictlySortedBy
-rising_sorted [] sorted = refl
-rising_sorted (o ∷ os) sorted = and_from (before o os) (is_rising owed_cmp os) (before_sorted o os sorted.0) (rising_sorted os sorted.1)
-
-pub index_made : (now due : ℕ) (es : List (OwedKey × ℕ)) (set : BTreeSet Owed) → All (λ e. lookup (is_at (keys.cmp-value.it e.0)) es ≡ Some e.1) es → IsFromIterResult owed.cmp-value.it (map (framed (renewed_due now due)) es) set → IsIndex (due_of (renewed_dues now due es)) set.keys
-index_made now due es set found made = record {
-  rising = rising_sorted set.keys made.1;
-  told = λ o there. by_map o.key ∙ told_by (renewed_due now due) es es (found_by es found) o (sym (same o) ∙ there);
-  owes = λ key t some. same (record { due = t; key = key }) ∙ owes_by (renewed_due now due) es key t (sym (by_map key) ∙ some);
-}
-  where
-    by_map : (q : OwedKey) → due_of (renewed_dues now due es) q ≡ option_map (renewed_due now due) (due_of es q)
-    by_map q = lookup-map_values (renewed_due now due) (key_eq q) es
-
-    same : (o : Owed) → has set.keys o ≡ has (map (framed (renewed_due now due)) es) o
-    same o = sym (tested o set.keys) ∙ made.0 o ∙ tested o (map (framed (renewed_due now due)) es)
+      by_first : (js : List OwedKey) → ((q : OwedKey) → has_key q js ≡ is_some (due_still now (old q))) → 0 < length js → has_some ks ≡ true
+      by_first [] same lt = absurd (omega arith)
+      by_first (j ∷ js) same lt = some_by j ks (its j ∙ then (old j) (sym (same j) ∙ ap (λ b. b || has_key j js) (key_itself j)))

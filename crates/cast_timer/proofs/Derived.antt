@@ -1,19 +1,16 @@
--- The derived orders are those of the definitions.
-use Rattle.std.proofs.Common.{◌≡◌, Ordering, List, [], ◌∷◌, refl, ap, ◌∙◌}
+-- The derived order of keys is that of the definitions.
+use Rattle.std.proofs.Common.{◌≡◌, Ordering, refl, ap, ◌∙◌}
 use Rattle.std.specs.Ordering.{nat_cmp, ordering_then}
 use Rattle.cast_types.specs.Names.{group_cmp, proc_cmp, site_cmp}
-use Rattle.cast_types.specs.Sets.{with_item, at_order}
 use Rattle.cast_timer.specs.declared.key.OwedKind.{OwedKind}
 use Rattle.cast_timer.specs.declared.key.OwedKind.TheVariants.{Ask, Data, Prepare, Want, Install, Ack}
 use Rattle.cast_timer.specs.declared.key.Side.{Side}
 use Rattle.cast_timer.specs.declared.key.Side.TheVariants.{Site, Home}
-use Rattle.cast_timer.specs.declared.key.Owed.{Owed}
 use Rattle.cast_timer.specs.declared.key.OwedKey.{OwedKey}
-use Rattle.cast_timer.specs.Owed.{kind_rank, side_rank, key_cmp, owed_cmp}
+use Rattle.cast_timer.specs.Owed.{kind_rank, side_rank, key_cmp}
 use Rattle.cast_timer.specs.contracts.key.OwedKindOrd.TheImpl as kind
 use Rattle.cast_timer.specs.contracts.key.SideOrd.TheImpl as side
 use Rattle.cast_timer.specs.contracts.key.OwedKeyOrd.TheImpl as keys
-use Rattle.cast_timer.specs.contracts.key.OwedOrd.TheImpl as owed
 
 kinds : (a b : OwedKind) → kind.cmp-value.it a b ≡ nat_cmp (kind_rank a) (kind_rank b)
 kinds Ask Ask = refl
@@ -71,16 +68,3 @@ key_order a b =
         (ordering_then (proc_cmp a.proc b.proc)
         (ordering_then (nat_cmp a.count b.count)
         (ordering_then (site_cmp a.site b.site) by_side))))
-
-pub owed_order : (a b : Owed) → owed.cmp-value.it a b ≡ owed_cmp a b
-owed_order a b = ap (ordering_then (nat_cmp a.due b.due)) (key_order a.key b.key)
-
--- so the sets are the same
-pub same_set : {A : Type 0} (R S : A → A → Ordering) → ((a b : A) → R a b ≡ S a b) → (x : A) (xs : List A) → with_item R x xs ≡ with_item S x xs
-same_set R S same x [] = refl
-same_set R S same x (y ∷ ys) =
-    ap (λ (o : Ordering). at_order o (x ∷ y ∷ ys) (y ∷ ys) (y ∷ with_item R x ys)) (same x y)
-    ∙ ap (λ rest. at_order (S x y) (x ∷ y ∷ ys) (y ∷ ys) (y ∷ rest)) (same_set R S same x ys)
-
-pub owed_set : (x : Owed) (xs : List Owed) → with_item owed.cmp-value.it x xs ≡ with_item owed_cmp x xs
-owed_set = same_set owed.cmp-value.it owed_cmp owed_order

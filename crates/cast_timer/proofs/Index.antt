@@ -1,33 +1,27 @@
--- A map of moments goes with the frames that are owed: what is put, taken out and looked up in both says the same.
-use Rattle.std.proofs.Common.{◌≡◌, ℕ, Bool, true, false, not, cond, ◌&&◌, ◌||◌, List, [], ◌∷◌, ◌++◌, filter, Ordering, Less, Equal, Greater, Option, Some, None, refl, sym, ap, ◌∙◌, append_assoc, append-nil, inl, inr, arith}
-use Rattle.std.specs.Prelude.{◌==◌, is_some, length, map, nat_le, ◌<◌, ◌≤◌}
+-- Frames that go with a map of their moments, and what is owed once keys are put in, taken out and looked up.
+use Rattle.std.proofs.Common.{◌≡◌, ℕ, Bool, true, false, not, cond, ◌&&◌, ◌||◌, List, [], ◌∷◌, filter, Ordering, Less, Equal, Greater, Option, Some, None, refl, sym, ap, ◌∙◌, inl, inr, arith}
+use Rattle.std.specs.Prelude.{◌==◌, is_some, nat_le, ◌<◌, ◌≤◌}
 use Rattle.std.specs.List.{list_any, list_all}
-use Rattle.std.specs.Ordering.{is_eq, is_gt, is_le, is_lt, match_ordering, nat_cmp, ordering_then, ordering_reverse}
-use Rattle.std.specs.Set.{remove_key}
+use Rattle.std.specs.Ordering.{is_eq, is_gt, is_le, is_lt, nat_cmp, ordering_then, ordering_reverse}
 use Rattle.std.specs.BTreeMap.{is_at}
 use Rattle.std.specs.BTreeMap.Range.{entries_between, range_contains}
 use Rattle.std.specs.declared.ops.Bound.TheVariants.{Included}
-use Rattle.std.specs.BTreeSet.{insert_key}
 use Rattle.std.specs.Map.{lookup}
-use Rattle.std.proofs.lemmas.Bool.{and_parts, and_from, cases_Bool, eqb-true, eq-eqb, false_from_ne_true, false≢true, leb-true, leb-false, le-leb}
+use Rattle.std.proofs.lemmas.Bool.{and_parts, and_from, cases_Bool, eqb-true, eq-eqb, false_from_ne_true, false≢true, leb-true}
 use Rattle.std.proofs.lemmas.Cmp.{tied_itself, by_ranked, ranked, nat_cmp_total}
-use Rattle.std.proofs.lemmas.Map.Keys.{le_from_not_gt}
 use Rattle.std.proofs.lemmas.Option.{none-some}
-use Rattle.cast_types.specs.Names.{site_cmp, group_cmp, proc_cmp}
 use Rattle.cast_types.proofs.Orders.{group_total, proc_total, site_total}
-use Rattle.cast_types.specs.Sets.{with_item, at_order}
-use Rattle.cast_types.specs.Rising.{is_rising}
+use Rattle.cast_types.specs.Names.{site_cmp, group_cmp, proc_cmp}
+use Rattle.cast_types.specs.Sets.{with_item}
 use Rattle.cast_types.proofs.Rising.{rising-with_item, rising_kept, all_kept}
 use Rattle.cast_timer.specs.declared.key.OwedKey.{OwedKey}
 use Rattle.cast_timer.specs.declared.key.Owed.{Owed}
-use Rattle.cast_timer.specs.Owed.{kind_rank, side_rank, key_cmp, owed_cmp, key_eq, is_owed, paid, is_upto, renewed, due_frames, due_at}
+use Rattle.cast_timer.specs.Owed.{kind_rank, side_rank, key_cmp, owed_cmp, key_eq, is_owed, paid, is_upto, renewed}
 use Rattle.cast_timer.specs.Index.{frame_eq, has, due_of, IsIndex}
-use Rattle.cast_timer.specs.contracts.key.OwedOrd.TheImpl as owed
 use Rattle.cast_timer.specs.contracts.key.OwedKeyOrd.TheImpl as keys
-use Rattle.cast_timer.proofs.Derived.{owed_order, key_order, owed_set}
+use Rattle.cast_timer.proofs.Derived.{key_order}
 use Rattle.cast_timer.proofs.Orders.{owed_total, key_total}
 use Rattle.cast_timer.proofs.Owing.{same_key, key_itself, tied_frame, tied_key, any_with}
-use Rattle.cast_timer.proofs.Renewing.{stays, renewing}
 
 -- frames that test equal are one
 pub same_frame : (a b : Owed) → frame_eq a b ≡ true → a ≡ b
@@ -40,19 +34,11 @@ same_frame a b h =
 pub frame_itself : (a : Owed) → frame_eq a a ≡ true
 frame_itself a = and_from (a.due == a.due) (key_eq a.key a.key) (eq-eqb a.due a.due refl) (key_itself a.key)
 
-equal_frame : (a b : Owed) → a ≡ b → frame_eq a b ≡ true
-equal_frame a b same = ap (frame_eq a) (sym same) ∙ frame_itself a
-
 -- a test by an order is the test of equality
-tests : (o : Ordering) (b : Bool) → (o ≡ Equal → b ≡ true) → (b ≡ true → o ≡ Equal) → is_eq o ≡ b
+pub tests : (o : Ordering) (b : Bool) → (o ≡ Equal → b ≡ true) → (b ≡ true → o ≡ Equal) → is_eq o ≡ b
 tests Less b to from = sym (false_from_ne_true b (λ h. cc (from h)))
 tests Equal b to from = sym (to refl)
 tests Greater b to from = sym (false_from_ne_true b (λ h. cc (from h)))
-
-pub frame_tests : (a b : Owed) → is_at (owed.cmp-value.it a) b ≡ frame_eq a b
-frame_tests a b =
-    ap is_eq (owed_order a b)
-    ∙ tests (owed_cmp a b) (frame_eq a b) (λ tie. equal_frame a b (tied_frame a b tie)) (λ h. ap (owed_cmp a) (sym (same_frame a b h)) ∙ tied_itself owed_total a)
 
 pub key_tests : (a b : OwedKey) → is_at (keys.cmp-value.it a) b ≡ key_eq a b
 key_tests a b =
@@ -63,21 +49,6 @@ key_tests a b =
 pub looked_up : (key : OwedKey) (dues : List (OwedKey × ℕ)) → lookup (is_at (keys.cmp-value.it key)) dues ≡ due_of dues key
 looked_up key [] = refl
 looked_up key (e ∷ es) = λ i. cond (key_tests key e.0 i) (Some e.1) (looked_up key es i)
-
--- and an item goes to its place in a set
-ordered : {A : Type 0} (o : Ordering) (a b c : A) → match_ordering o a b c ≡ at_order o a b c
-ordered Less a b c = refl
-ordered Equal a b c = refl
-ordered Greater a b c = refl
-
-placed : {A : Type 0} (cmp : A → A → Ordering) (x : A) (xs : List A) → insert_key cmp xs x ≡ with_item cmp x xs
-placed cmp x [] = refl
-placed cmp x (y ∷ ys) =
-    ap (λ rest. match_ordering (cmp x y) (x ∷ y ∷ ys) (y ∷ ys) (y ∷ rest)) (placed cmp x ys)
-    ∙ ordered (cmp x y) (x ∷ y ∷ ys) (y ∷ ys) (y ∷ with_item cmp x ys)
-
-pub inserted : (x : Owed) (os : List Owed) → insert_key owed.cmp-value.it os x ≡ with_item owed_cmp x os
-inserted x os = placed owed.cmp-value.it x os ∙ owed_set x os
 
 -- What is among frames
 
@@ -135,47 +106,6 @@ all_stay (o ∷ os) = ap (λ rest. o ∷ rest) (all_stay os)
 pub kept_all : (keep : Owed → Bool) (os : List Owed) → ((o : Owed) → has os o ≡ true → keep o ≡ true) → filter keep os ≡ os
 kept_all keep os stay = kept_alike keep (λ _. true) os stay ∙ all_stay os
 
--- What is taken out of a set
-
-below_all : (x : Owed) (os : List Owed) → list_all (λ o. is_lt (owed_cmp x o)) os ≡ true → filter (λ o. not (frame_eq x o)) os ≡ os
-below_all x [] all = refl
-below_all x (o ∷ os) all =
-    let parts = and_parts (is_lt (owed_cmp x o)) (list_all (λ p. is_lt (owed_cmp x p)) os) all in
-    let other : frame_eq x o ≡ false = false_from_ne_true (frame_eq x o) (λ h. not_less (owed_cmp x o) (ap (owed_cmp x) (sym (same_frame x o h)) ∙ tied_itself owed_total x) parts.0) in
-    ap (λ b. cond (not b) (o ∷ filter (λ p. not (frame_eq x p)) os) (filter (λ p. not (frame_eq x p)) os)) other
-    ∙ ap (λ rest. o ∷ rest) (below_all x os parts.1)
-  where
-    not_less : (r : Ordering) → r ≡ Equal → is_lt r ≡ true → ⊥
-    not_less r tie less = false≢true (sym (ap is_lt tie) ∙ less)
-
-pub removed : (x : Owed) (os : List Owed) → is_rising owed_cmp os ≡ true → remove_key (is_at (owed.cmp-value.it x)) os ≡ filter (λ o. not (frame_eq x o)) os
-removed x [] rising = refl
-removed x (o ∷ os) rising =
-    let parts = and_parts (list_all (λ p. is_lt (owed_cmp o p)) os) (is_rising owed_cmp os) rising in
-    let rest = filter (λ p. not (frame_eq x p)) os in
-    ap (λ b. cond b os (o ∷ remove_key (is_at (owed.cmp-value.it x)) os)) (frame_tests x o)
-    ∙ elim (cases_Bool (frame_eq x o)) [
-      | inl this ↦
-          ap (λ b. cond b os (o ∷ remove_key (is_at (owed.cmp-value.it x)) os)) this
-          ∙ sym (below_all x os (ap (λ (y : Owed). list_all (λ p. is_lt (owed_cmp y p)) os) (same_frame x o this) ∙ parts.0))
-          ∙ sym (ap (λ b. cond (not b) (o ∷ rest) rest) this)
-      | inr other ↦
-          ap (λ b. cond b os (o ∷ remove_key (is_at (owed.cmp-value.it x)) os)) other
-          ∙ ap (λ more. o ∷ more) (removed x os parts.1)
-          ∙ sym (ap (λ b. cond (not b) (o ∷ rest) rest) other)
-    ]
-
--- a frame that is put in and taken out again leaves the rest
-apart_with : (x : Owed) (os : List Owed) → filter (λ o. not (frame_eq x o)) (with_item owed_cmp x os) ≡ filter (λ o. not (frame_eq x o)) os
-apart_with x [] = ap (λ b. cond (not b) (x ∷ []) []) (frame_itself x)
-apart_with x (o ∷ os) =
-    let keep = λ (p : Owed). not (frame_eq x p) in
-    elim (owed_cmp x o) as (λ r. filter (λ p. not (frame_eq x p)) (at_order r (x ∷ o ∷ os) (o ∷ os) (o ∷ with_item owed_cmp x os)) ≡ filter (λ p. not (frame_eq x p)) (o ∷ os)) [
-      | Less ↦ ap (λ b. cond (not b) (x ∷ filter keep (o ∷ os)) (filter keep (o ∷ os))) (frame_itself x)
-      | Equal ↦ refl
-      | Greater ↦ ap (λ rest. cond (keep o) (o ∷ rest) rest) (apart_with x os)
-    ]
-
 -- What keeps a map and the frames together
 
 differs : (a b : ℕ) → a ≡ b → (b == a) ≡ true
@@ -189,27 +119,6 @@ module _ (due : OwedKey → Option ℕ) (os : List Owed) (index : IsIndex due os
   pub lacking : (key : OwedKey) → due key ≡ None → (o : Owed) → has os o ≡ true → key_eq key o.key ≡ false
   lacking key none o there =
       false_from_ne_true (key_eq key o.key) (λ h. none-some o.due (sym none ∙ ap due (same_key key o.key h) ∙ index.told o there))
-
-  pub paid_lacking : (key : OwedKey) → due key ≡ None → paid (key_eq key) os ≡ os
-  paid_lacking key none = kept_all (λ o. not (key_eq key o.key)) os (λ o there. ap not (lacking key none o there))
-
-  -- what the map has is owed at that moment alone
-  alone : (key : OwedKey) (t : ℕ) → due key ≡ Some t → (o : Owed) → has os o ≡ true → key_eq key o.key ≡ true → o.due ≡ t
-  alone key t some o there h = same_some o.due t (due o.key) (index.told o there) (ap due (sym (same_key key o.key h)) ∙ some)
-
-  pub paid_one : (key : OwedKey) (t : ℕ) → due key ≡ Some t → remove_key (is_at (owed.cmp-value.it (record { due = t; key = key }))) os ≡ paid (key_eq key) os
-  paid_one key t some =
-      let x : Owed = record { due = t; key = key } in
-      removed x os index.rising
-      ∙ kept_alike (λ o. not (frame_eq x o)) (λ o. not (key_eq key o.key)) os (λ o there. ap not (just o there (key_eq key o.key) refl))
-    where
-      just : (o : Owed) → has os o ≡ true → (b : Bool) → key_eq key o.key ≡ b → ((t == o.due) && key_eq key o.key) ≡ key_eq key o.key
-      just o there true h = ap (λ c. c && key_eq key o.key) (differs o.due t (alone key t some o there h))
-      just o there false h = none (t == o.due) (key_eq key o.key) h
-        where
-          none : (a b : Bool) → b ≡ false → (a && b) ≡ b
-          none true b h = refl
-          none false b h = sym h
 
   -- whether a key is owed is whether the map has it
   pub owed_by : (key : OwedKey) → is_some (due key) ≡ is_owed os key
@@ -293,66 +202,6 @@ module _ (due : OwedKey → Option ℕ) (os : List Owed) (index : IsIndex due os
           later true b h = refl
           later false b h = h
 
-  -- Frames after one was put in, and the one of its key that was there is taken out
-
-  -- it was owed at no moment
-  pub with_new : (x : Owed) → due x.key ≡ None → with_item owed_cmp x os ≡ renewed os x.key x.due
-  with_new x none = ap (with_item owed_cmp x) (sym (paid_lacking x.key none))
-
-  -- it was owed at the same one
-  pub with_same : (x : Owed) (t : ℕ) → due x.key ≡ Some t → t ≡ x.due → with_item owed_cmp x os ≡ renewed os x.key x.due
-  with_same x t some moment =
-      sym (kept_all (stays x) (with_item owed_cmp x os) (λ o there. stay o (key_eq x.key o.key) refl (sym (has_with x o os) ∙ there)))
-      ∙ renewing x os index.rising
-    where
-      stay : (o : Owed) (b : Bool) → key_eq x.key o.key ≡ b → (frame_eq o x || has os o) ≡ true → stays x o ≡ true
-      stay o false other there = ap (λ b. not b || (o.due == x.due)) other
-      stay o true same there = ap (λ b. not b || (o.due == x.due)) same ∙ elim (cases_Bool (frame_eq o x)) [
-        | inl one ↦ eq-eqb o.due x.due (ap (λ (y : Owed). y.due) (same_frame o x one))
-        | inr other ↦ eq-eqb o.due x.due (alone x.key t some o (sym (ap (λ b. b || has os o) other) ∙ there) same ∙ moment)
-      ]
-
-  -- it was owed at another
-  pub with_other : (x : Owed) (t : ℕ) → due x.key ≡ Some t → (t == x.due) ≡ false → remove_key (is_at (owed.cmp-value.it (record { due = t; key = x.key }))) (with_item owed_cmp x os) ≡ renewed os x.key x.due
-  with_other x t some other =
-      let old : Owed = record { due = t; key = x.key } in
-      removed old (with_item owed_cmp x os) (rising-with_item owed_cmp owed_total x os index.rising)
-      ∙ kept_alike (λ o. not (frame_eq old o)) (stays x) (with_item owed_cmp x os) (λ o there. alike o (key_eq x.key o.key) refl (sym (has_with x o os) ∙ there))
-      ∙ renewing x os index.rising
-    where
-      alike : (o : Owed) (b : Bool) → key_eq x.key o.key ≡ b → (frame_eq o x || has os o) ≡ true → not ((t == o.due) && key_eq x.key o.key) ≡ stays x o
-      alike o false differ there =
-          ap not (none (t == o.due) (key_eq x.key o.key) differ) ∙ sym (ap (λ b. not b || (o.due == x.due)) differ)
-        where
-          none : (a b : Bool) → b ≡ false → (a && b) ≡ false
-          none true b h = h
-          none false b h = refl
-      alike o true same there =
-          ap (λ b. not ((t == o.due) && b)) same
-          ∙ elim (cases_Bool (frame_eq o x)) [
-            | inl one ↦
-                let moment : o.due ≡ x.due = ap (λ (y : Owed). y.due) (same_frame o x one) in
-                ap (λ (n : ℕ). not ((t == n) && true)) moment
-                ∙ ap (λ b. not (b && true)) other
-                ∙ sym (ap (λ b. not b || (o.due == x.due)) same ∙ eq-eqb o.due x.due moment)
-            | inr apart ↦
-                let moment : o.due ≡ t = alone x.key t some o (sym (ap (λ b. b || has os o) apart) ∙ there) same in
-                ap (λ b. not (b && true)) (differs o.due t moment)
-                ∙ sym (ap (λ b. not b || (o.due == x.due)) same ∙ ap (λ (n : ℕ). n == x.due) moment ∙ other)
-          ]
-          ∙ refl
-
-  -- it was put in, and is taken out again
-  pub with_none : (x : Owed) → due x.key ≡ None → remove_key (is_at (owed.cmp-value.it x)) (with_item owed_cmp x os) ≡ os
-  with_none x none =
-      removed x (with_item owed_cmp x os) (rising-with_item owed_cmp owed_total x os index.rising)
-      ∙ apart_with x os
-      ∙ kept_all (λ o. not (frame_eq x o)) os (λ o there. ap not (none_of (x.due == o.due) (key_eq x.key o.key) (lacking x.key none o there)))
-    where
-      none_of : (a b : Bool) → b ≡ false → (a && b) ≡ false
-      none_of true b h = h
-      none_of false b h = refl
-
 -- a key is put in both, in the place of what it had
 pub index_renewed : (due : OwedKey → Option ℕ) (os : List Owed) → IsIndex due os → (x : Owed) (next : OwedKey → Option ℕ) → ((q : OwedKey) → next q ≡ cond (key_eq x.key q) (Some x.due) (due q)) → IsIndex next (renewed os x.key x.due)
 index_renewed due os index x next is =
@@ -381,47 +230,6 @@ paid_unowed key (o ∷ os) none = elim (cases_Bool (key_eq o.key key)) [
       ∙ ap (λ rest. o ∷ rest) (paid_unowed key os (sym (ap (λ b. b || is_owed os key) other) ∙ none))
 ]
 
-not_greater : (r s : Ordering) → is_lt (ordering_then r s) ≡ true → is_gt r ≡ false
-not_greater Less s h = refl
-not_greater Equal s h = refl
-not_greater Greater s h = absurd (false≢true h)
-
--- behind a frame that is not due, none is
-pub none_due : (now : ℕ) (o : Owed) (os : List Owed) → is_rising owed_cmp (o ∷ os) ≡ true → nat_le o.due now ≡ false → due_at now (o ∷ os) ≡ []
-none_due now o os rising late =
-    let parts = and_parts (list_all (λ p. is_lt (owed_cmp o p)) os) (is_rising owed_cmp os) rising in
-    ap (λ b. map (λ (p : Owed). p.key) (cond b (o ∷ due_frames now os) (due_frames now os))) late
-    ∙ ap (λ (ps : List Owed). map (λ (p : Owed). p.key) ps) (behind os parts.0)
-  where
-    later : (p : Owed) → is_lt (owed_cmp o p) ≡ true → nat_le p.due now ≡ false
-    later p less = elim (cases_Bool (nat_le p.due now)) [
-      | inl due ↦ absurd (omega (arith, leb-false o.due now late, leb-true p.due now due, not_later less))
-      | inr after ↦ after
-    ]
-      where
-        not_later : is_lt (owed_cmp o p) ≡ true → o.due ≤ p.due
-        not_later less = le_from_not_gt o.due p.due (not_greater (nat_cmp o.due p.due) (key_cmp o.key p.key) less)
-
-    behind : (ps : List Owed) → list_all (λ p. is_lt (owed_cmp o p)) ps ≡ true → due_frames now ps ≡ []
-    behind [] all = refl
-    behind (p ∷ ps) all =
-        let parts = and_parts (is_lt (owed_cmp o p)) (list_all (λ q. is_lt (owed_cmp o q)) ps) all in
-        ap (λ b. cond b (p ∷ due_frames now ps) (due_frames now ps)) (later p parts.0) ∙ behind ps parts.1
-
--- a frame that is due is given, and the rest after it
-pub one_due : (now : ℕ) (o : Owed) (os : List Owed) (given : List OwedKey) (all : List OwedKey) → o.due ≤ now → given ++ due_at now (o ∷ os) ≡ all → (given ++ o.key ∷ []) ++ due_at now os ≡ all
-one_due now o os given all due is =
-    append_assoc given (o.key ∷ []) (due_at now os)
-    ∙ sym (ap (λ b. given ++ map (λ (p : Owed). p.key) (cond b (o ∷ due_frames now os) (due_frames now os))) (le-leb o.due now due))
-    ∙ is
-
--- where the next is not due, all that is due was given
-pub all_due : (now : ℕ) (os : List Owed) (given all : List OwedKey) → due_at now os ≡ [] → given ++ due_at now os ≡ all → given ≡ all
-all_due now os given all none is = sym (append-nil given) ∙ ap (λ (more : List OwedKey). given ++ more) (sym none) ∙ is
-
-pub not_due : (now due : ℕ) → now < due → nat_le due now ≡ false
-not_due now due lt = false_from_ne_true (nat_le due now) (λ h. absurd (omega (arith, lt, leb-true due now h)))
-
 -- What a map has where keys that pass a test are taken out
 pub looked_kept : (test : OwedKey → Bool) (dues : List (OwedKey × ℕ)) (q : OwedKey) → due_of (filter (λ e. not (test e.0)) dues) q ≡ cond (test q) None (due_of dues q)
 looked_kept test [] q = elim (test q) as (λ b. due_of [] q ≡ cond b None (due_of [] q)) [ true ↦ refl | false ↦ refl ]
@@ -448,9 +256,6 @@ looked_kept test (e ∷ es) q = elim (cases_Bool (key_eq q e.0)) [
     skip : (b : Bool) (rest : List (OwedKey × ℕ)) → key_eq q e.0 ≡ false → due_of (cond (not b) (e ∷ rest) rest) q ≡ due_of rest q
     skip true rest other = refl
     skip false rest other = ap (λ b. cond b (Some e.1) (due_of rest q)) other
-
-pub rising_rest : (o : Owed) (os : List Owed) → is_rising owed_cmp (o ∷ os) ≡ true → is_rising owed_cmp os ≡ true
-rising_rest o os rising = (and_parts (list_all (λ p. is_lt (owed_cmp o p)) os) (is_rising owed_cmp os) rising).1
 
 -- Keys up to one, in the range of a map that has them all
 
@@ -487,9 +292,6 @@ counted : (key : OwedKey) (n m : ℕ) → n ≤ m → is_gt (keys.cmp-value.it (
 counted key n m le =
     ap is_gt (key_order (record key { count = n }) (record key { count = m }) ∙ by_counts key n m)
     ∙ not_above_then (nat_cmp n m) (not_above n m le)
-
-pub from_lowest : (key : OwedKey) → is_gt (keys.cmp-value.it (lowest key) key) ≡ false
-from_lowest key = counted key 0 key.count (omega arith)
 
 at_most : (o : Ordering) → is_gt o ≡ false → is_le o ≡ true
 at_most Less h = refl
@@ -549,47 +351,18 @@ lost test (e ∷ es) q none passes = elim (cases_Bool (key_eq q e.0)) [
     rest true b h = absurd (false≢true (sym h))
     rest false b h = h
 
-module _ (dues : List (OwedKey × ℕ)) (os : List Owed) (index : IsIndex (due_of dues) os) (key : OwedKey) where
-  pub all_owed : list_all (λ e. is_owed os e.0) (between key dues) ≡ true
-  all_owed =
-      (λ i. list_all (λ e. sym (owed_by (due_of dues) os index e.0) i) (between key dues))
-      ∙ all_kept (λ e. is_some (due_of dues e.0)) (λ e. range_contains keys.cmp-value.it (Included (lowest key)) (Included key) e.0) dues (found_in dues dues (λ q some. some))
+module _ (dues : List (OwedKey × ℕ)) (key : OwedKey) where
+  pub all_owed : list_all (λ e. is_some (due_of dues e.0)) (between key dues) ≡ true
+  all_owed = all_kept (λ e. is_some (due_of dues e.0)) (λ e. range_contains keys.cmp-value.it (Included (lowest key)) (Included key) e.0) dues (found_in dues dues (λ q some. some))
 
-  pub none_between : list_any (entry_upto key) (between key dues) ≡ false → paid (is_upto key) os ≡ os
-  none_between none =
-      let nothing = sym (any_kept (entry_upto key) (λ e. range_contains keys.cmp-value.it (Included (lowest key)) (Included key) e.0) dues (λ e. in_range key e.0)) ∙ none in
-      kept_all (λ o. not (is_upto key o.key)) os (λ o there. ap not (false_from_ne_true (is_upto key o.key) (λ h. none-some o.due (sym (lost (is_upto key) dues o.key nothing h) ∙ index.told o there))))
+  pub none_between : list_any (entry_upto key) (between key dues) ≡ false → (q : OwedKey) → is_upto key q ≡ true → due_of dues q ≡ None
+  none_between none q passes =
+      lost (is_upto key) dues q (sym (any_kept (entry_upto key) (λ e. range_contains keys.cmp-value.it (Included (lowest key)) (Included key) e.0) dues (λ e. in_range key e.0)) ∙ none) passes
 
--- Keys that are paid one after another
-
-pub paid_again : (key k : OwedKey) (os : List Owed) → is_upto key k ≡ true → paid (is_upto key) (paid (key_eq k) os) ≡ paid (is_upto key) os
-paid_again key k [] upto = refl
-paid_again key k (o ∷ os) upto = elim (cases_Bool (key_eq k o.key)) [
-  | inl this ↦
-      ap (λ b. paid (is_upto key) (cond (not b) (o ∷ paid (key_eq k) os) (paid (key_eq k) os))) this
-      ∙ paid_again key k os upto
-      ∙ sym (ap (λ b. cond (not b) (o ∷ paid (is_upto key) os) (paid (is_upto key) os)) (ap (is_upto key) (sym (same_key k o.key this)) ∙ upto))
-  | inr other ↦
-      ap (λ b. paid (is_upto key) (cond (not b) (o ∷ paid (key_eq k) os) (paid (key_eq k) os))) other
-      ∙ ap (λ rest. cond (not (is_upto key o.key)) (o ∷ rest) rest) (paid_again key k os upto)
-]
-
-paid_at_most : (k : OwedKey) (os : List Owed) → length (paid (key_eq k) os) ≤ length os
-paid_at_most k [] = omega arith
-paid_at_most k (o ∷ os) = go (not (key_eq k o.key)) (paid_at_most k os)
+-- a key that a map lacks is put in and taken out again
+pub put_back : (due : OwedKey → Option ℕ) (key : OwedKey) (t : ℕ) → due key ≡ None → (q : OwedKey) → cond (key_eq key q) None (cond (key_eq key q) (Some t) (due q)) ≡ due q
+put_back due key t none q = at (key_eq key q) refl
   where
-    go : (b : Bool) → length (paid (key_eq k) os) ≤ length os → length (cond b (o ∷ paid (key_eq k) os) (paid (key_eq k) os)) ≤ length (o ∷ os)
-    go true le = omega (arith, le)
-    go false le = omega (arith, le)
-
-pub paid_fewer : (k : OwedKey) (os : List Owed) → is_owed os k ≡ true → length (paid (key_eq k) os) < length os
-paid_fewer k [] h = absurd (false≢true h)
-paid_fewer k (o ∷ os) h = elim (cases_Bool (key_eq k o.key)) [
-  | inl this ↦ omega (arith, paid_at_most k os, ap (λ b. length (cond (not b) (o ∷ paid (key_eq k) os) (paid (key_eq k) os))) this)
-  | inr other ↦ omega (arith, paid_fewer k os (later h other), ap (λ b. length (cond (not b) (o ∷ paid (key_eq k) os) (paid (key_eq k) os))) other)
-]
-  where
-    later : (key_eq o.key k || is_owed os k) ≡ true → key_eq k o.key ≡ false → is_owed os k ≡ true
-    later there other =
-        let apart : key_eq o.key k ≡ false = false_from_ne_true (key_eq o.key k) (λ e. false≢true (sym other ∙ ap (key_eq k) (same_key o.key k e) ∙ key_itself k)) in
-        sym (ap (λ b. b || is_owed os k) apart) ∙ there
+    at : (b : Bool) → key_eq key q ≡ b → cond b None (cond b (Some t) (due q)) ≡ due q
+    at true same = sym none ∙ ap due (same_key key q same)
+    at false other = refl

@@ -1,7 +1,9 @@
-pub mod Rows
 pub mod Derived
 pub mod Orders
 pub mod Owing
-pub mod Renewing
 pub mod Index
+pub mod Rows
+pub mod Kept
 pub mod AllRenewed
+pub mod Searches
+pub mod Tables

@@ -1,9 +1,9 @@
 -- What owing and paying do to the frames of one key and of others.
-use Rattle.std.proofs.Common.{◌≡◌, ◌≢◌, ℕ, Bool, true, false, not, cond, ◌&&◌, List, [], ◌∷◌, Ordering, Less, Equal, Greater, refl, sym, ap, ◌∙◌, arith}
+use Rattle.std.proofs.Common.{◌≡◌, ◌≢◌, ℕ, Bool, true, false, not, cond, ◌&&◌, List, [], ◌∷◌, Ordering, Less, Equal, Greater, refl, sym, ap, ◌∙◌, inl, inr, arith}
 use Rattle.std.specs.Prelude.{◌==◌, ◌||◌}
 use Rattle.std.specs.List.{list_any}
 use Rattle.std.specs.Ordering.{nat_cmp, ordering_then}
-use Rattle.std.proofs.lemmas.Bool.{and_parts, and_from, or_left, eqb-true, eq-eqb, false_from_ne_true, false≢true}
+use Rattle.std.proofs.lemmas.Bool.{and_parts, and_from, cases_Bool, or_left, eqb-true, eq-eqb, false_from_ne_true, false≢true}
 use Rattle.std.proofs.lemmas.Map.Lookups.{exact_unsigned}
 use Rattle.cast_types.specs.Names.{group_cmp, proc_cmp, site_cmp, group_eq, proc_eq, site_eq}
 use Rattle.cast_types.specs.Sets.{with_item, at_order}
@@ -88,11 +88,17 @@ key_itself a =
 equal_key : (a b : OwedKey) → a ≡ b → key_eq a b ≡ true
 equal_key a b same = ap (key_eq a) (sym same) ∙ key_itself a
 
+pub turned_key : (a b : OwedKey) → key_eq a b ≡ key_eq b a
+turned_key a b = elim (cases_Bool (key_eq a b)) [
+  | inl same ↦ same ∙ sym (equal_key b a (sym (same_key a b same)))
+  | inr other ↦ other ∙ sym (false_from_ne_true (key_eq b a) (λ same. false≢true (sym other ∙ equal_key a b (sym (same_key b a same)))))
+]
+
 other_key : (a b : OwedKey) → a ≢ b → key_eq a b ≡ false
 other_key a b differ = false_from_ne_true (key_eq a b) (λ h. differ (same_key a b h))
 
 -- frames that tie have one key
-both_tie : (r s : Ordering) → ordering_then r s ≡ Equal → (r ≡ Equal) × (s ≡ Equal)
+pub both_tie : (r s : Ordering) → ordering_then r s ≡ Equal → (r ≡ Equal) × (s ≡ Equal)
 both_tie Less s h = absurd (cc)
 both_tie Equal s h = (refl, h)
 both_tie Greater s h = absurd (cc)

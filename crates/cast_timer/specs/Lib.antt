@@ -1,4 +1,4 @@
 pub mod Owed
-pub mod Index
 pub mod Rows
+pub mod Index
 pub mod Laws

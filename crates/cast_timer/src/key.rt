@@ -1,7 +1,7 @@
 ghost use Rattle.std.specs.Prelude.{◌≡◌};
 ghost use Rattle.cast_timer.specs.Owed.{is_of_messages, is_of_view, is_same_message, is_upto};
 
-use cast_types::{GroupNo, Proc, SiteNo};
+use cast_types::{DomainNo, GroupNo, Proc, SiteNo};
 
 /// What kind of frame is owed, in the order in which frames that are due at one moment are sent.
 #[derive(Clone, Copy, Debug, PartialEq, Eq, PartialOrd, Ord)]
@@ -92,4 +92,12 @@ pub struct Owed {
     pub due: u64,
     /// Which frame it is.
     pub key: OwedKey,
+}
+
+/// A moment at which frames of a domain are due. Moments are ordered by time, and at one time by domain.
+#[derive(Clone, Copy, PartialEq, Eq, PartialOrd, Ord)]
+pub(crate) struct Moment {
+    /// In milliseconds.
+    pub(crate) due: u64,
+    pub(crate) domain: DomainNo,
 }

@@ -1,16 +1,14 @@
 -- Daemons stand for a network, through each step.
-use Rattle.std.proofs.Common.{ap, arith, inl, inr, map, subst, sym, ◌∙◌}
+use Rattle.std.proofs.Common.{ap, arith, get_or, inl, inr, map, subst, sym, ◌∙◌}
 use Rattle.std.proofs.lemmas.Bool.{cases_Bool, eq-eqb, eqb-true, false_from_ne_true, false≢true, true≢false}
 use Rattle.std.proofs.lemmas.List.{map-append}
 use Rattle.std.proofs.lemmas.List.Elements.{Contains-push_cases, filter-append}
+use Rattle.std.proofs.lemmas.Option.{get_or_from_slice_get}
 use Rattle.std.specs.List.{position_from}
-use Rattle.std.specs.Prelude.{◌&&◌, ◌+◌, ◌++◌, ◌==◌, Bool, Contains, List, None, Some, [], cond, false, filter, if◌then◌else◌, is_some, refl, slice_get, slice_set, suc, true, zero, ◌||◌, ℕ, ◌∷◌, ◌≡◌, ◌≤◌}
+use Rattle.std.specs.Prelude.{◌&&◌, ◌+◌, ◌++◌, ◌==◌, Bool, Contains, List, None, Ok, Some, [], cond, false, filter, if◌then◌else◌, is_some, refl, slice_get, slice_set, suc, true, zero, ◌||◌, ℕ, ◌∷◌, ◌≡◌, ◌≤◌}
 use Rattle.cast_domain.specs.Fits.{Represents, tagged}
-use Rattle.cast_domain.specs.Records.{is_halted, number_of}
-use Rattle.cast_domain.specs.Shared.{no_part, part_of}
-use Rattle.cast_domain.specs.Stepped.{IsSteppedBeside}
-use Rattle.cast_domain.specs.declared.domain.Domain.{Domain}
-use Rattle.cast_domain.specs.declared.shared.Shared.{Shared}
+use Rattle.cast_domain.specs.Records.{number_of}
+use Rattle.cast_domain.specs.Shared.{part_of}
 use Rattle.cast_rules.specs.State.{State, local, opening}
 use Rattle.cast_message.specs.declared.site.SiteFrame.{SiteFrame}
 use Rattle.cast_events.specs.Outs.{no_outs}
@@ -19,21 +17,25 @@ use Rattle.cast_events.specs.declared.config.DomainConfig.{DomainConfig}
 use Rattle.cast_events.specs.declared.event.Event.{Event}
 use Rattle.cast_events.specs.declared.event.Outs.{Outs}
 use Rattle.cast_events.specs.declared.event.Taken.{Taken}
-use Rattle.cast_types.specs.Names.{proc_eq, site_eq}
+use Rattle.cast_table.specs.Tables.{InTable, IsApplied, domains_of, lent, shared_of}
+use Rattle.cast_types.specs.Names.{group_cmp, proc_eq, site_eq}
+use Rattle.cast_types.specs.Rising.{is_rising}
 use Rattle.cast_types.specs.Sets.{is_among}
 use Rattle.cast_types.specs.declared.names.DomainNo.{DomainNo}
 use Rattle.cast_types.specs.declared.names.Proc.{Proc}
 use Rattle.cast_types.specs.declared.names.SiteNo.{SiteNo}
 use Rattle.cast_types.specs.declared.names.Uid.{Uid}
+use Rattle.cast_world.specs.Ids.{ids_of}
+use Rattle.cast_world.proofs.Alone.{StepsAlone, begins_alone, number_alone, steps_alone}
 use Rattle.cast_world.proofs.Deliveries.{ids_by, step_delivers}
 use Rattle.cast_world.proofs.Keeps.{found_is}
 use Rattle.cast_world.proofs.Runs.{nothing, some_is}
 use Rattle.cast_world.specs.Network.{Becomes, Happens, Leads, Network, event_at, handed, is_local, moved, names, start}
-use Rattle.cast_world.specs.Worlds.{Acts, Hands, Runs, Serves, ServesAt, StandsAt, StandsFor, Takes, daemon_at, daemons_of, delivered_at, has_failed, ids_of, packets_of, place_named, sent_from}
+use Rattle.cast_world.specs.Worlds.{Acts, Hands, IsNew, NamesAt, Runs, Serves, ServesAt, StandsAt, StandsFor, Takes, daemon_at, daemons_of, delivered_at, has_failed, packets_of, place_named, sent_from}
 use Rattle.cast_world.specs.declared.step.Happening.TheVariants.{Local, Sent}
 use Rattle.cast_world.specs.declared.step.Packet.{Packet}
 use Rattle.cast_world.specs.declared.step.Step.{Step}
-use Rattle.cast_world.specs.declared.world.Daemon.{Daemon}
+use Rattle.cast_world.specs.declared.daemon.Daemon.{Daemon}
 use Rattle.cast_world.specs.declared.world.World.{World}
 use Rattle.cast_events.specs.declared.event.Event.TheVariants as event
 
@@ -157,39 +159,46 @@ packets_tagged : (s : SiteNo) (d : DomainNo) (frames : List (SiteNo × SiteFrame
 packets_tagged s d [] = refl
 packets_tagged s d (f ∷ frames) = ap (λ ps. record { from = s; to = f.0; frame = f.1 } ∷ ps) (packets_tagged s d frames)
 
--- a daemon's domain made a step, and its deliveries and frames were added
-module _ (e : Event) (taken : Taken) (old : Daemon) (domain : Domain) (shared : Shared) (outs : Outs) (number : number_of domain ≡ number_of old.domain)
-    (running : is_halted old.domain ≡ false → is_halted domain ≡ false)
-    (steps : is_halted old.domain ≡ false → IsSteppedBeside old.domain old.shared no_outs e domain shared outs taken)
-    (sent more : List Packet) (added : more ≡ sent ++ packets_from old.site outs.frames) where
-  abbrev stepped : Daemon
-  stepped = record { site = old.site; domain = domain; shared = shared; delivered = old.delivered ++ outs.delivered }
+-- a daemon's table took an event of its domain, and its deliveries and frames were added
+module _ (e : Event) (taken : Taken) (old new : Daemon) (outs : Outs) (named : names old.number e ≡ true) (applied : InTable (IsApplied (Ok taken) e) old.table no_outs new.table outs) where
+  -- it did what its domain did
+  did_step : (s : State) (stands : StandsAt old s) → StepsAlone e taken stands.domain (domains_of new.table) (lent old.table no_outs) (lent new.table outs)
+  did_step s stands =
+      let number = number_alone stands.domain [] old.number (subst (λ ds. map number_of ds ≡ old.number ∷ []) stands.served old.alone) in
+      steps_alone e taken stands.domain stands.running (lent old.table no_outs) (lent new.table outs) (domains_of new.table) (ap (λ n. names n e) number ∙ named)
+      (subst (λ ds. IsApplied (Ok taken) e ds (domains_of new.table) (lent old.table no_outs) (lent new.table outs)) stands.served applied)
 
-  pub serves : Serves e old stepped sent more
-  serves s stands =
-      let step = steps stands.running s stands.means in
-      let t : State = step.end in
-      let did = step_delivers s e taken t step.steps in (
-        taken,
-        t,
-        step.steps,
-        record {
-          running = running stands.running;
-          means = subst (λ n. Represents domain (part_of n shared) t) (sym number) step.means;
-          placed = did.placed ∙ stands.placed;
-          number = ap (λ (c : DomainConfig). c.domain) did.same ∙ stands.number ∙ sym number;
-          delivered = λ k.
-              did.delivered k
-              ∙ ap (λ us. us ++ ids_by (local s k) t.deliveries) (stands.delivered k)
-              ∙ ap (λ us. ids_of (record { site = old.site; serial = k }) old.delivered ++ us)
-              (ap (λ x. ids_by (record { site = x; serial = k }) t.deliveries) stands.placed
-              ∙ sym (ids_tagged (record { site = old.site; serial = k }) t.config.domain t.deliveries)
-              ∙ ap (λ (o : Outs). ids_of (record { site = old.site; serial = k }) o.delivered) (sym step.outs))
-              ∙ sym (ids_append (record { site = old.site; serial = k }) old.delivered outs.delivered);
-        },
-        refl,
-        added ∙ ap (λ ps. sent ++ ps) (ap (λ (o : Outs). packets_from old.site o.frames) step.outs ∙ packets_tagged old.site t.config.domain t.frames),
-      )
+  module _ (site : new.site ≡ old.site) (number : new.number ≡ old.number) (delivered : new.delivered ≡ old.delivered ++ outs.delivered)
+      (sent more : List Packet) (added : more ≡ sent ++ packets_from old.site outs.frames) where
+    pub serves : Serves e old new sent more
+    serves s stands =
+        let made = did_step s stands in
+        let step = made.steps s stands.means in
+        let t : State = step.end in
+        let did = step_delivers s e taken t step.steps in (
+          taken,
+          t,
+          step.steps,
+          record {
+            domain = made.domain;
+            served = made.served;
+            running = made.running;
+            means = subst (λ n. Represents made.domain (part_of n (shared_of new.table)) t) (sym made.number) step.means;
+            placed = did.placed ∙ stands.placed ∙ sym site;
+            number = ap (λ (c : DomainConfig). c.domain) did.same ∙ stands.number ∙ sym number;
+            delivered = λ k.
+                did.delivered k
+                ∙ ap (λ us. us ++ ids_by (local s k) t.deliveries) (stands.delivered k)
+                ∙ ap (λ us. ids_of (record { site = old.site; serial = k }) old.delivered ++ us)
+                (ap (λ x. ids_by (record { site = x; serial = k }) t.deliveries) stands.placed
+                ∙ sym (ids_tagged (record { site = old.site; serial = k }) t.config.domain t.deliveries)
+                ∙ ap (λ (o : Outs). ids_of (record { site = old.site; serial = k }) o.delivered) (sym step.outs))
+                ∙ sym (ids_append (record { site = old.site; serial = k }) old.delivered outs.delivered)
+                ∙ (λ i. ids_of (record { site = (sym site) i; serial = k }) ((sym delivered) i));
+          },
+          site,
+          added ∙ ap (λ ps. sent ++ ps) (ap (λ (o : Outs). packets_from old.site o.frames) step.outs ∙ packets_tagged old.site t.config.domain t.frames),
+        )
 
 -- The network
 
@@ -228,6 +237,11 @@ module _ (s : SiteNo) (place : ℕ) (old new : World) (named : place_named s (da
             (sym (ap (λ x. is_among site_eq x w.sites) (sym (sites_same s r e2)) ∙ ap (is_among site_eq s) stands.sites ∙ among_is s (daemons_of old) ∙ ap is_some first.found) ∙ absent))
         idle r k false e2 t w absent stands = stands.idle r k absent
 
+-- what is read at a place stands there
+pub names_at : (place : ℕ) (daemons : List Daemon) (e : Event) (read : Daemon) → read ≡ get_or daemons place read → names read.number e ≡ true → NamesAt place e daemons
+names_at place daemons e read is named d stands =
+    subst (λ (x : Daemon). names x.number e ≡ true) (is ∙ get_or_from_slice_get daemons place d read stands) named
+
 -- what happens at a site
 
 module _ (s : SiteNo) (place : ℕ) (old : World) (named : place_named s (daemons_of old) ≡ Some place) where
@@ -235,21 +249,21 @@ module _ (s : SiteNo) (place : ℕ) (old : World) (named : place_named s (daemon
   at_it = there s (daemons_of old) place named
 
   -- the domain there is the one of the network
-  pub domain_is : (w : Network) → StandsFor old w → (w.at s).config.domain ≡ number_of at_it.daemon.domain
+  pub domain_is : (w : Network) → StandsFor old w → (w.at s).config.domain ≡ at_it.daemon.number
   domain_is w stands = (stands.daemons s at_it.daemon at_it.found).number
 
-  pub acts : (e : Event) (new : World) (number : DomainNo) → number ≡ number_of at_it.daemon.domain → (is_local e && names number e) ≡ true → ServesAt s e old new → Acts s e old new
+  pub acts : (e : Event) (new : World) (number : DomainNo) → number ≡ at_it.daemon.number → (is_local e && names number e) ≡ true → ServesAt s e old new → Acts s e old new
   acts e new number is local_one served w stands =
       let did = served w stands in
       let named_it : (is_local e && names (w.at s).config.domain e) ≡ true = ap (λ d. is_local e && names d e) (domain_is w stands ∙ sym is) ∙ local_one in
       (did.0, subst (λ b. Becomes w s (if b then Some e else None) did.0) (sym named_it) did.1, did.2)
 
-  pub acts_not : (e : Event) (number : DomainNo) → number ≡ number_of at_it.daemon.domain → (is_local e && names number e) ≡ false → Acts s e old old
+  pub acts_not : (e : Event) (number : DomainNo) → number ≡ at_it.daemon.number → (is_local e && names number e) ≡ false → Acts s e old old
   acts_not e number is other w stands =
       let named_it : (is_local e && names (w.at s).config.domain e) ≡ false = ap (λ d. is_local e && names d e) (domain_is w stands ∙ sym is) ∙ other in
       (w, subst (λ b. Becomes w s (if b then Some e else None) w) (sym named_it) refl, stands)
 
-  pub hands : (number : ℕ) (p : Packet) (new : World) (d : DomainNo) → d ≡ number_of at_it.daemon.domain → slice_get (packets_of old) number ≡ Some p → site_eq p.to s ≡ true →
+  pub hands : (number : ℕ) (p : Packet) (new : World) (d : DomainNo) → d ≡ at_it.daemon.number → slice_get (packets_of old) number ≡ Some p → site_eq p.to s ≡ true →
       ServesAt s (event.Frame d p.from p.frame) old new → Hands s number old new
   hands number p new d is there_it to_it served w stands =
       let did = served w stands in
@@ -307,7 +321,7 @@ runs_more steps step old new next runs takes_it w stands =
 -- What a process delivered
 
 pub delivered_there : (world : World) (place : ℕ) (p : Proc) (d : DomainNo) (named : place_named p.site (daemons_of world) ≡ Some place) (w : Network) → StandsFor world w →
-    (if (number_of (there p.site (daemons_of world) place named).daemon.domain).0 == d.0 then ids_of p (there p.site (daemons_of world) place named).daemon.delivered else []) ≡ delivered_at w d p
+    (if (there p.site (daemons_of world) place named).daemon.number.0 == d.0 then ids_of p (there p.site (daemons_of world) place named).daemon.delivered else []) ≡ delivered_at w d p
 delivered_there world place p d named w stands =
     let at = there p.site (daemons_of world) place named in
     let now = stands.daemons p.site at.daemon at.found in
@@ -326,15 +340,18 @@ delivered_nowhere world p d none w stands = go ((w.at p.site).config.domain.0 ==
 -- The start
 
 -- a daemon that stands for nothing that happened yet
-pub new_stands : (d : Daemon) (s : SiteNo) (config : DomainConfig) → d.site ≡ s → is_halted d.domain ≡ false → number_of d.domain ≡ config.domain → Represents d.domain no_part (opening s config) →
-    ((n : DomainNo) → part_of n d.shared ≡ no_part) → d.delivered ≡ [] → StandsAt d (opening s config)
-new_stands d s config placed running number means unshared none = record {
-  running = running;
-  means = subst (λ part. Represents d.domain part (opening s config)) (sym (unshared (number_of d.domain))) means;
-  placed = sym placed;
-  number = sym number;
-  delivered = λ k. ap (ids_of (record { site = d.site; serial = k })) (sym none);
-}
+pub new_stands : (d : Daemon) (s : SiteNo) (config : DomainConfig) → IsNew s config d → is_rising group_cmp config.groups ≡ true → StandsAt d (opening s config)
+new_stands d s config new rising =
+    let begins = begins_alone s config (domains_of d.table) new.domains in
+    record {
+      domain = begins.domain;
+      served = begins.served;
+      running = begins.new.running;
+      means = subst (λ part. Represents begins.domain part (opening s config)) (sym (new.unshared (number_of begins.domain))) (begins.new.begins rising);
+      placed = sym new.placed;
+      number = sym new.number;
+      delivered = λ k. ap (ids_of (record { site = d.site; serial = k })) (sym new.delivered);
+    }
 
 -- daemons of these configurations
 abbrev pub AreNew : (SiteNo → DomainConfig) → List Config → List Daemon → Type 0

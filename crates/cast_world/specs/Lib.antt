@@ -2,4 +2,5 @@ pub mod Network
 pub mod HappenedBefore
 pub mod Agreement
 pub mod Laws
+pub mod Ids
 pub mod Worlds

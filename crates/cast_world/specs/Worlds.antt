@@ -1,9 +1,9 @@
 -- How daemons, each alone at its site, and the frames that they sent stand for a network.
-use Rattle.std.specs.List.{find, position_from}
-use Rattle.std.specs.Prelude.{◌++◌, ◌==◌, Bool, Contains, List, Option, Some, [], false, filter, if◌then◌else◌, map, true, ℕ, ◌∷◌, ◌≡◌}
+use Rattle.std.specs.List.{AllZip, find, position_from}
+use Rattle.std.specs.Prelude.{◌++◌, ◌==◌, Bool, Contains, List, Option, Some, [], false, if◌then◌else◌, map, slice_get, true, ℕ, ◌∷◌, ◌≡◌}
 use Rattle.cast_domain.specs.Fits.{Represents}
 use Rattle.cast_domain.specs.Records.{is_halted, number_of}
-use Rattle.cast_domain.specs.Shared.{no_part, part_of}
+use Rattle.cast_domain.specs.Shared.{part_of}
 use Rattle.cast_domain.specs.declared.domain.Domain.{Domain}
 use Rattle.cast_rules.specs.Run.{IsStep}
 use Rattle.cast_rules.specs.State.{State}
@@ -12,7 +12,8 @@ use Rattle.cast_events.specs.declared.config.Config.{Config}
 use Rattle.cast_events.specs.declared.config.DomainConfig.{DomainConfig}
 use Rattle.cast_events.specs.declared.event.Event.{Event}
 use Rattle.cast_events.specs.declared.event.Taken.{Taken}
-use Rattle.cast_types.specs.Names.{group_cmp, proc_eq, site_eq}
+use Rattle.cast_table.specs.Tables.{IsNew as IsNewDomain, SharesNothing, domains_of, shared_of}
+use Rattle.cast_types.specs.Names.{group_cmp, site_eq}
 use Rattle.cast_types.specs.Rising.{is_rising}
 use Rattle.cast_types.specs.Sets.{is_among}
 use Rattle.cast_types.specs.declared.names.DomainNo.{DomainNo}
@@ -20,12 +21,13 @@ use Rattle.cast_types.specs.declared.names.Proc.{Proc}
 use Rattle.cast_types.specs.declared.names.SiteNo.{SiteNo}
 use Rattle.cast_types.specs.declared.names.Uid.{Uid}
 use Rattle.cast_world.specs.Agreement.{delivered_of}
+use Rattle.cast_world.specs.Ids.{ids_of}
 use Rattle.cast_world.specs.Laws.{HoldsInEveryNetwork, ListsAreInOrder, OrdersAgree, SameMessages, SameOrder}
-use Rattle.cast_world.specs.Network.{AgreeOnHome, Becomes, Happens, Leads, Network, Reaches, event_at, start}
+use Rattle.cast_world.specs.Network.{AgreeOnHome, Becomes, Happens, Leads, Network, Reaches, event_at, names, start}
 use Rattle.cast_world.specs.declared.step.Happening.TheVariants.{Local, Sent}
 use Rattle.cast_world.specs.declared.step.Packet.{Packet}
 use Rattle.cast_world.specs.declared.step.Step.{Step}
-use Rattle.cast_world.specs.declared.world.Daemon.{Daemon}
+use Rattle.cast_world.specs.declared.daemon.Daemon.{Daemon}
 use Rattle.cast_world.specs.declared.world.World.{World}
 
 abbrev pub daemons_of : World → List Daemon
@@ -45,16 +47,14 @@ daemon_at s daemons = find (λ d. site_eq d.site s) daemons
 abbrev pub place_named : SiteNo → List Daemon → Option ℕ
 place_named s daemons = position_from (λ d. site_eq d.site s) 0 daemons
 
--- of these deliveries those of a process
-abbrev pub ids_of : Proc → List (DomainNo × Proc × Uid) → List Uid
-ids_of p delivered = map (λ x. x.2) (filter (λ x. proc_eq x.1 p) delivered)
-
--- a daemon stands for a history: its domain does, and what its processes delivered is what they delivered there
+-- a daemon stands for a history: the only domain of its table does, and what its processes delivered is what they delivered there
 pub record StandsAt (d : Daemon) (s : State) : Type 0 where
-  pub running : is_halted d.domain ≡ false
-  pub means : Represents d.domain (part_of (number_of d.domain) d.shared) s
+  pub domain : Domain
+  pub served : domains_of d.table ≡ domain ∷ []
+  pub running : is_halted domain ≡ false
+  pub means : Represents domain (part_of (number_of domain) (shared_of d.table)) s
   pub placed : s.here ≡ d.site
-  pub number : s.config.domain ≡ number_of d.domain
+  pub number : s.config.domain ≡ d.number
   pub delivered : (k : ℕ) → (s.process k).delivered ≡ ids_of (record { site = d.site; serial = k }) d.delivered
 
 -- daemons stand for a network, each for the history at its site; at other sites nothing is ever delivered
@@ -65,10 +65,13 @@ pub record StandsFor (world : World) (w : Network) : Type 0 where
   pub daemons : (s : SiteNo) (d : Daemon) → daemon_at s (daemons_of world) ≡ Some d → StandsAt d (w.at s)
   pub idle : (s : SiteNo) (k : ℕ) → is_among site_eq s w.sites ≡ false → ((w.at s).process k).delivered ≡ []
 
--- a daemon with this domain at a site, before its first event: nothing is shared, and nothing was delivered
-abbrev pub IsNew : SiteNo → Domain → Daemon → Type 0
-IsNew site domain daemon =
-    (daemon.site ≡ site) × (daemon.domain ≡ domain) × ((d : DomainNo) → part_of d daemon.shared ≡ no_part) × (daemon.delivered ≡ [])
+-- a daemon at a site that serves a domain of this configuration alone, before its first event: nothing is shared, and nothing was delivered
+pub record IsNew (site : SiteNo) (config : DomainConfig) (daemon : Daemon) : Type 0 where
+  pub placed : daemon.site ≡ site
+  pub number : daemon.number ≡ config.domain
+  pub domains : AllZip (IsNewDomain site) (config ∷ []) (domains_of daemon.table)
+  pub unshared : SharesNothing daemon.table
+  pub delivered : daemon.delivered ≡ []
 
 -- each of these configurations has one domain: the one that the site has
 abbrev pub AreSolo : List Config → (SiteNo → DomainConfig) → Type 0
@@ -83,6 +86,10 @@ StandsAtStart configs world =
 -- what a site sends is on the network
 abbrev pub sent_from : SiteNo → List (SiteNo × SiteFrame) → List Packet
 sent_from s frames = map (λ f. record { from = s; to = f.0; frame = f.1 }) frames
+
+-- an event names the domain of the daemon that stands at a place, or none
+abbrev pub NamesAt : ℕ → Event → List Daemon → Type 0
+NamesAt place e daemons = (d : Daemon) → slice_get daemons place ≡ Some d → names d.number e ≡ true
 
 -- whatever history a daemon stood for, it stands for the one that an event leads to, and what is sent is on the network
 abbrev pub Serves : Event → Daemon → Daemon → List Packet → List Packet → Type 0

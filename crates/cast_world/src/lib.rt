@@ -17,6 +17,7 @@
 //! (`laws::answers_agree`).
 #![tactic(auto)]
 
+mod daemon;
 pub mod laws;
 pub mod step;
 pub mod world;

@@ -1,57 +1,12 @@
-ghost use Rattle.std.specs.Prelude.{◌≡◌, ◌++◌, ◌<◌, ◌==◌, [], true, false, Some, IfSome, IfOk, OnOk, OnErr, if◌then◌else◌, length, map, vec_len};
-ghost use Rattle.cast_domain.specs.Records.{number_of};
+ghost use Rattle.std.specs.Prelude.{◌≡◌, ◌<◌, true, false, Some, IfSome, IfOk, OnOk, OnErr, length, vec_len};
 ghost use Rattle.cast_world.specs.Network.{is_local, names};
-ghost use Rattle.cast_world.specs.Worlds.{Acts, Hands, Runs, Serves, ServesAt, Takes, TellsDelivered, has_failed, ids_of, place_named, sent_from, IsNew, StandsAtStart};
+ghost use Rattle.cast_world.specs.Worlds.{Acts, Hands, NamesAt, Runs, ServesAt, Takes, TellsDelivered, has_failed, place_named, StandsAtStart};
 
+use crate::daemon::Daemon;
 use crate::step::{Happening, Packet, Step};
-use cast_domain::{Domain, Shared};
-use cast_events::{Config, Event, Outs};
-use cast_message::SiteFrame;
+use cast_events::{Config, Event};
 use cast_types::{DomainNo, List, NoMemory, Proc, SiteNo, Uid};
 use std::alloc::{AllocError, Global};
-
-/// A daemon that serves one domain alone, at its site, and all that its processes delivered.
-#[derive(Drop)]
-struct Daemon {
-    site: SiteNo,
-    domain: Domain,
-    shared: Shared,
-    delivered: List<(DomainNo, Proc, Uid)>,
-}
-
-impl Daemon {
-    /// A daemon before its first event.
-    fn new(alloc: Global, site: SiteNo, domain: Domain) -> Self
-        ensures { IsNew site domain result }
-    {
-        Daemon {
-            site,
-            domain,
-            shared: Shared::new(alloc),
-            delivered: List::new(alloc),
-        }
-    }
-
-    // The daemon makes the step of an event, and what it sends is on the network.
-    fn serve(
-        &mut self,
-        alloc: Global,
-        event: &Event,
-        sent: &mut Vec<Packet>,
-    ) -> Result<(), NoMemory>
-        ensures { OnOk result (Serves event.now self.old self.new sent.old.items sent.new.items) }
-    {
-        let mut outs = Outs::new(alloc);
-        self.domain.step(&mut self.shared, event, &mut outs)?;
-        let Outs {
-            frames,
-            delivered,
-            ..
-        } = outs;
-        self.delivered.append(delivered)?;
-        send_all(self.site, frames, sent)
-    }
-}
 
 /// Daemons that serve one domain, each alone and at a site of its own, and the network between them, which has every frame ever sent.
 #[derive(Drop)]
@@ -70,8 +25,7 @@ impl World {
         let mut daemons = Vec::new(alloc);
         for config in configs {
             if let Some(domain) = config.domains.as_slice().first() {
-                let alone = Domain::new(alloc, config.site, domain.copy()?)?;
-                daemons.push(Daemon::new(alloc, config.site, alone))?;
+                daemons.push(Daemon::new(alloc, config.site, domain.copy()?)?)?;
             }
         }
         Ok(World {
@@ -144,7 +98,7 @@ impl World {
         requires within { place < vec_len self.old.daemons }
         ensures { OnOk result (Acts site event.now self.old self.new) }
     {
-        let number = self.daemons[place].domain.number();
+        let number = self.daemons[place].number;
         if is_local(event) && names(number, event) {
             self.serve_at(site, place, event)
         } else {
@@ -158,7 +112,7 @@ impl World {
         requires within { place < vec_len self.old.daemons }
         ensures { OnOk result (Hands site number self.old self.new) }
     {
-        let domain = self.daemons[place].domain.number();
+        let domain = self.daemons[place].number;
         let Some(packet) = self.sent.get(number) else {
             return Ok(());
         };
@@ -169,60 +123,17 @@ impl World {
         self.serve_at(site, place, &event)
     }
 
-    // The daemon at a site makes the step of an event.
+    // The daemon at a site makes the step of an event that names its domain, or none.
     fn serve_at(&mut self, site: SiteNo, place: usize, event: &Event) -> Result<(), NoMemory>
         requires named { place_named site self.old.daemons.items ≡ Some place }
         requires within { place < vec_len self.old.daemons }
+        requires own { NamesAt place event.now self.old.daemons.items }
         ensures { OnOk result (ServesAt site event.now self.old self.new) }
     {
         let alloc = self.alloc;
         let daemon = &mut self.daemons[place];
         daemon.serve(alloc, event, &mut self.sent)
     }
-}
-
-impl Daemon {
-    // The messages that a process of a domain delivered, in order.
-    fn ids_of(&self, alloc: Global, domain: DomainNo, process: Proc) -> Result<List<Uid>, NoMemory>
-        ensures { IfOk result (λ ids. ids ≡ (if (number_of self.now.domain).0 == domain.0 then ids_of process self.now.delivered else [])) }
-    {
-        if self.domain.number() == domain {
-            ids_of(alloc, self.delivered.as_slice(), process)
-        } else {
-            Ok(List::new(alloc))
-        }
-    }
-}
-
-// Of these deliveries those of a process.
-fn ids_of(
-    alloc: Global,
-    delivered: &[(DomainNo, Proc, Uid)],
-    process: Proc,
-) -> Result<List<Uid>, NoMemory>
-    ensures { IfOk result (λ ids. ids ≡ ids_of process delivered.now) }
-{
-    let mut ids = List::new(alloc);
-    for (_, by, id) in delivered {
-        if *by == process {
-            ids.push(*id)?;
-        }
-    }
-    Ok(ids)
-}
-
-// What a site sends is on the network.
-fn send_all(
-    from: SiteNo,
-    frames: List<(DomainNo, SiteNo, SiteFrame)>,
-    sent: &mut Vec<Packet>,
-) -> Result<(), NoMemory>
-    ensures { OnOk result (sent.new.items ≡ sent.old.items ++ map (λ f. record { from = from; to = f.1; frame = f.2 }) frames) }
-{
-    for (_, to, frame) in frames.into_vec() {
-        sent.push(Packet { from, to, frame })?;
-    }
-    Ok(())
 }
 
 // Where the first daemon at a site stands.

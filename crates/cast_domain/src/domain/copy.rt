@@ -10,15 +10,14 @@ impl Domain {
     pub fn copy(&self) -> Result<Self, NoMemory>
         ensures { IfOk result (λ copy. IsCopyOf self.now copy) }
     {
-        let alloc = *self.sessions.allocator();
+        let alloc = *self.groups.allocator();
         Ok(Domain {
             site: self.site,
             config: self.config.copy()?,
             quotas: self.quotas,
             moment: self.moment.copy(),
-            used: self.used,
             casts: self.casts,
-            sessions: Vec::from_slice(alloc, &self.sessions)?,
+            sessions: self.sessions.copy()?,
             groups: copy_groups(alloc, &self.groups)?,
             delay: self.delay.copy()?,
             acks: self.acks.copy()?,

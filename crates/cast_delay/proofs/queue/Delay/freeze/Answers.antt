@@ -10,4 +10,4 @@ use Rattle.cast_delay.proofs.queue.Delay.freeze.Goals as goal
 pub invariant_of-self-2 : goal.invariant_of-self-2
 invariant_of-self-2 c =
     let gates : c.put.new.self ≡ put group_cmp c.args.group (frozen_gate (gate_in c.self.inside.gates c.args.group)) c.self.inside.gates = search rules in
-    rw gates (gate_settled c.self.inside.gates c.args.group (frozen_gate (gate_in c.self.inside.gates c.args.group)) refl c.self.inside.rows.items c.self.inside.offered c.self.inside.settled c.self.invariant)
+    rw gates (gate_settled c.self.inside.gates c.args.group (frozen_gate (gate_in c.self.inside.gates c.args.group)) refl c.self.inside.rows c.self.inside.offered c.self.inside.settled c.self.invariant)

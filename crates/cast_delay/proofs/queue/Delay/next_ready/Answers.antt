@@ -10,14 +10,14 @@ returns-in_err-row-clause-meaning c = next_means c.args.turns.now c.args.self.no
 -- none of the settled messages is ready
 pub first_ready-requires-clause-none : goal.first_ready-requires-clause-none
 first_ready-requires-clause-none c =
-    let at : row_of c.self.inside.rows.items c.args.process ≡ Some c.in_ok-row.row.now = search rules in
-    none_settled_ready c.self.inside.gates c.self.inside.rows.items c.args.process c.in_ok-row.row.now at c.self.inside.offered c.self.inside.settled c.self.invariant
+    let at : row_of c.self.inside.rows c.args.process ≡ Some c.in_ok-row.row.now = search rules in
+    none_settled_ready c.self.inside.gates c.self.inside.rows c.args.process c.in_ok-row.row.now at c.self.inside.offered c.self.inside.settled c.self.invariant
 
 -- the first message that is ready for the row is the one for the process
 none : (c : goal.After-from_residual-in_err-offered) → c.from_residual-in_err-offered.result ≡ next_key c.args.turns.now c.args.self.now c.args.process
 none c =
-    let at : row_of c.self.inside.rows.items c.args.process ≡ Some c.in_ok-row.row.now = search rules in
-    let same = next_row (record { gates = c.self.inside.gates; offered = c.self.inside.offered; rows = c.self.inside.rows.items; reached = c.self.inside.reached }) c.args.process c.in_ok-row.row.now at c.args.turns.now in
+    let at : row_of c.self.inside.rows c.args.process ≡ Some c.in_ok-row.row.now = search rules in
+    let same = next_row (record { gates = c.self.inside.gates; offered = c.self.inside.offered; rows = c.self.inside.rows; reached = c.self.inside.reached }) c.args.process c.in_ok-row.row.now at c.args.turns.now in
     search (rules, same)
 
 pub returns-in_err-offered-clause-value : goal.returns-in_err-offered-clause-value
@@ -28,8 +28,8 @@ returns-in_err-offered-clause-meaning c = next_means c.args.turns.now c.args.sel
 
 pub returns-clause-value : goal.returns-clause-value
 returns-clause-value c =
-    let at : row_of c.self.inside.rows.items c.args.process ≡ Some c.in_ok-row.row.now = search rules in
-    let same = next_row (record { gates = c.self.inside.gates; offered = c.self.inside.offered; rows = c.self.inside.rows.items; reached = c.self.inside.reached }) c.args.process c.in_ok-row.row.now at c.args.turns.now in
+    let at : row_of c.self.inside.rows c.args.process ≡ Some c.in_ok-row.row.now = search rules in
+    let same = next_row (record { gates = c.self.inside.gates; offered = c.self.inside.offered; rows = c.self.inside.rows; reached = c.self.inside.reached }) c.args.process c.in_ok-row.row.now at c.args.turns.now in
     search (rules, same)
 
 pub returns-clause-meaning : goal.returns-clause-meaning

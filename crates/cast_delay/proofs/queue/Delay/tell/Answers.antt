@@ -8,6 +8,6 @@ use Rattle.cast_delay.proofs.queue.Delay.tell.Goals as goal
 -- what was settled before the fact is, as far as it is settled despite it
 pub settled_from-self-inside-requires : goal.settled_from-self-inside-requires
 settled_from-self-inside-requires c =
-    let rows : c.deref.result.now ≡ change_row c.args.process (told_row c.args.fact.now) c.self.inside.rows.items = search rules in
+    let rows : c.as_slice.result.now ≡ change_row c.args.process (told_row c.args.fact.now) c.self.inside.rows = search rules in
     let first : c.despite_fact-settled.result ≡ despite_fact c.args.fact.now c.self.inside.settled = search rules in
-    rw (rows, first) (tell_settled c.self.inside.gates c.self.inside.rows.items c.args.process c.args.fact.now c.self.inside.offered c.self.inside.settled c.self.invariant)
+    rw (rows, first) (tell_settled c.self.inside.gates c.self.inside.rows c.args.process c.args.fact.now c.self.inside.offered c.self.inside.settled c.self.invariant)

@@ -13,9 +13,7 @@ returns-then-is_open_to c =
     let d = c.args.self.now in
     let u = c.args.id in
     let open_to : is_open_in (records_of d no_part no_outs) u ≡ true = sym c.is_open_to.ensures ∙ c.if-is_open_to.true in
-    c.may_free.ensures.value
-    ∙ ap (λ b. is_stable_in d.acks u && not b) c.is_awaited.ensures.value
-    ∙ sym (ap (λ b. b && (is_stable_in d.acks u && not (is_awaited d.delay.rows u))) open_to)
+    c.is_done_with.ensures ∙ sym (ap (λ b. b && (is_stable_in d.acks u && not (is_awaited d.delay.rows u))) open_to)
 
 pub returns-else-is_open_to : goal.returns-else-is_open_to
 returns-else-is_open_to c =

@@ -6,7 +6,7 @@ use Rattle.cast_domain.specs.Calls.{is_kept_of}
 use Rattle.cast_domain.proofs.domain.Domain.names_of.Given as goal
 
 -- the names so far with those of the messages that are left are all
-abbrev pub invariant-loop-received : goal.invariant-loop-received
-invariant-loop-received l =
-    with_items entry_cmp l.names.items (map (λ m. entry_of m.id) (filter (is_kept_of l.group) (messages (drop l.received-index l.kept))))
+abbrev pub invariant-loop-position : goal.invariant-loop-position
+invariant-loop-position l =
+    with_items entry_cmp l.names.items (map (λ m. entry_of m.id) (filter (is_kept_of l.group) (messages (drop l.position l.kept))))
     ≡ set_of entry_cmp (map (λ m. entry_of m.id) (filter (is_kept_of l.group) (messages l.kept)))

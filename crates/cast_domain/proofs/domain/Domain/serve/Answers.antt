@@ -66,7 +66,7 @@ returns-clause-steps c s means =
     (subst (λ kept. Fits (trim_all_in kept rested_records) t) (sym c.messages-kept.ensures.value) (fits_trim_all rested_records t fits last_lawful)) in
     let still : AreDismissed (records_of c.trim_orders.new.self (part_of c.rest.new.self.config.domain lent.shared.now) no_outs) =
     subst AreDismissed (sym (c.trim_orders.ensures.made no_outs (part_of c.rest.new.self.config.domain lent.shared.now)))
-    (dismissed_trim_all c.messages-kept.result.now (records_of c.rest.new.self (part_of c.rest.new.self.config.domain lent.shared.now) no_outs) (c.in_ok-rest.ensures.dismissed after_dismissed)) in
+    (dismissed_trim_all c.messages-kept.result (records_of c.rest.new.self (part_of c.rest.new.self.config.domain lent.shared.now) no_outs) (c.in_ok-rest.ensures.dismissed after_dismissed)) in
     let fits_last : Fits (records_of c.trim_orders.new.self (part_of here.config.domain lent.shared.now) lent.outs.now) t =
     subst (λ d. Fits (records_of c.trim_orders.new.self (part_of d lent.shared.now) lent.outs.now) t) same trimmed in
     ended s e _ c.trim_orders.new.self here.config.domain before c.append.new.self lent (search rules) added (record {

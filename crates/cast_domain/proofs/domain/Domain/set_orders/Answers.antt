@@ -1,5 +1,5 @@
-use Rattle.std.proofs.Common.{◌<◌, ◌+◌, ◌-◌, ◌∙◌, ap, length, arith}
-use Rattle.std.specs.List.{fold, range_with_len}
+use Rattle.std.proofs.Common.{◌≡◌, ◌<◌, ◌+◌, ◌-◌, ◌∙◌, ap, length, sym, false, arith}
+use Rattle.std.specs.List.{fold, list_any, range_with_len}
 use Rattle.std.proofs.lemmas.Bool.{or_parts}
 use Rattle.cast_domain.specs.Records.{records_in}
 use Rattle.cast_rules.specs.Rules.Order.{set_order}
@@ -7,6 +7,7 @@ use Rattle.cast_domain.specs.Calls.{records, resting_records}
 use Rattle.cast_domain.specs.Flags.{orders_at}
 use Rattle.cast_domain.proofs.Flagged.{more_changes}
 use Rattle.cast_domain.proofs.Loops.{beside_then, fold_more}
+use Rattle.cast_domain.proofs.Idle.{idle_groups, idle_groups_told}
 use Rattle.cast_domain.proofs.domain.Domain.set_orders.Goals as goal
 
 pub loop-place-preserved : goal.loop-place-preserved
@@ -28,3 +29,14 @@ loop-place-preserved c =
           let parts = or_parts c.loop-place.changed c.in_ok-set.set e in
           c.in_ok-set.ensures.still parts.1 ∙ c.loop-place.invariant.still parts.0;
     }
+
+-- nothing is to be listed
+pub returns-then-not-some_wait-clause-made : goal.returns-then-not-some_wait-clause-made
+returns-then-not-some_wait-clause-made c =
+    let r = records_in c.args.self.now c.args.lent.now in
+    sym (idle_groups r (records.places r) (sym c.some_wait.ensures ∙ c.if-not-some_wait.true))
+
+pub returns-then-not-some_wait-clause-told : goal.returns-then-not-some_wait-clause-told
+returns-then-not-some_wait-clause-told c =
+    let r = records_in c.args.self.now c.args.lent.now in
+    sym (idle_groups_told r (records.places r) (sym c.some_wait.ensures ∙ c.if-not-some_wait.true))

@@ -1,20 +1,23 @@
-use Rattle.std.proofs.Common.{◌≡◌, ◌+◌, refl, rules, ◌∙◌}
+use Rattle.std.proofs.Common.{◌≡◌, ◌+◌, refl, rules, sym, ◌∙◌}
 use Rattle.cast_types.specs.declared.names.Key.{Key}
-use Rattle.cast_message.specs.declared.message.Received.{Received}
-use Rattle.cast_store.proofs.Keys.{rising_push, free_next}
+use Rattle.cast_store.specs.declared.receipt.Receipt.{Receipt}
+use Rattle.cast_store.proofs.Numbers.{numbered_push, free_number}
 use Rattle.cast_store.proofs.Ids.{ids_push, not_named}
+use Rattle.cast_store.proofs.Slots.{when_err, when_ok}
 use Rattle.cast_store.proofs.row.Row.put.Goals as goal
 
 -- where it is kept
 pub invariant_of-self-2 : goal.invariant_of-self-2
 invariant_of-self-2 c =
-    let r : Received = record { key = record { 0 = c.self.inside.next }; message = c.args.message } in
-    let kept = c.self.inside.kept.items in
+    let r : Receipt = record { number = c.self.inside.next; slot = c.vacant_key.result; id = c.args.message.id } in
+    let receipts = c.self.inside.receipts.items in
     let next : c.in-Some.next ≡ c.self.inside.next + 1 = search rules in
-    rw (c.in_ok-keep.ensures.kept, next)
+    let ok = when_ok c.add.result (sym c.is_err-2.ensures.value ∙ c.if-is_err-2.false) c.add.ensures.added in
+    let named = when_ok c.add.result (sym c.is_err-2.ensures.value ∙ c.if-is_err-2.false) c.add.ensures.named in
+    rw (ok, next)
     (record {
-      rising = rising_push c.self.inside.next kept r refl c.self.invariant.rising;
-      ids = ids_push c.self.inside.ids c.keep.new.ids kept r c.self.invariant.ids c.in_ok-keep.ensures.named;
+      numbered = numbered_push c.self.inside.next receipts r refl c.self.invariant.numbered;
+      ids = ids_push c.self.inside.ids c.add.new.ids receipts r c.self.invariant.ids named;
     })
 
 -- where there is no memory
@@ -22,19 +25,24 @@ pub invariant_of-self : goal.invariant_of-self
 invariant_of-self c =
     let key : Key = record { 0 = c.self.inside.next } in
     let id = c.args.message.id in
-    let free = c.self.invariant.ids id key ∙ not_named c.self.inside.next c.self.inside.kept.items id c.self.invariant.rising in
-    rw c.in_err-keep.ensures.same
+    let free = c.self.invariant.ids id key ∙ not_named c.self.inside.next c.self.inside.receipts.items id c.self.invariant.numbered in
+    let same = when_err c.add.result (sym c.is_err-2.ensures.value ∙ c.if-is_err-2.true) c.add.ensures.same in
+    let unnamed = when_err c.add.result (sym c.is_err-2.ensures.value ∙ c.if-is_err-2.true) c.add.ensures.unnamed in
+    rw same
     (record {
-      rising = c.self.invariant.rising;
-      ids = λ u k. c.in_err-keep.ensures.unnamed free u k ∙ c.self.invariant.ids u k;
+      numbered = c.self.invariant.numbered;
+      ids = λ u k. unnamed free u k ∙ c.self.invariant.ids u k;
     })
 
 -- on each way out
-pub returns-clause-free : goal.returns-clause-free
-returns-clause-free c = rw (← c.self.view_is) (free_next c.self.inside.next c.self.inside.kept.items c.self.invariant.rising)
-
-pub returns-in_err-keep-clause-free : goal.returns-in_err-keep-clause-free
-returns-in_err-keep-clause-free c = rw (← c.self.view_is) (free_next c.self.inside.next c.self.inside.kept.items c.self.invariant.rising)
-
 pub returns-in_default-clause-free : goal.returns-in_default-clause-free
-returns-in_default-clause-free c = rw (← c.self.view_is) (free_next c.self.inside.next c.self.inside.kept.items c.self.invariant.rising)
+returns-in_default-clause-free c = rw (← c.self.view_is) (free_number c.self.inside.next c.self.inside.receipts.items c.self.invariant.numbered)
+
+pub returns-then-is_err-clause-free : goal.returns-then-is_err-clause-free
+returns-then-is_err-clause-free c = rw (← c.self.view_is) (free_number c.self.inside.next c.self.inside.receipts.items c.self.invariant.numbered)
+
+pub returns-then-is_err-2-clause-free : goal.returns-then-is_err-2-clause-free
+returns-then-is_err-2-clause-free c = rw (← c.self.view_is) (free_number c.self.inside.next c.self.inside.receipts.items c.self.invariant.numbered)
+
+pub returns-clause-free : goal.returns-clause-free
+returns-clause-free c = rw (← c.self.view_is) (free_number c.self.inside.next c.self.inside.receipts.items c.self.invariant.numbered)

@@ -1,64 +1,68 @@
-use Rattle.std.proofs.Common.{◌≡◌, List, Option, Some, None, ap, sym, subst, ◌∙◌, not, rules, length, ◌<◌}
+use Rattle.std.proofs.Common.{◌≡◌, List, Option, Some, None, ap, sym, subst, ◌∙◌, not, rules}
+use Rattle.std.specs.Prelude.{◌==◌}
 use Rattle.std.specs.Option.{option_map}
 use Rattle.std.specs.List.{find, position, remove}
-use Rattle.cast_message.specs.declared.message.Received.{Received}
-use Rattle.cast_message.specs.Receipts.{key_eq, message_under}
-use Rattle.cast_index.proofs.Rises.{removed_is}
-use Rattle.cast_store.specs.Store.{Shelf, without_key, but_under, key_of, is_rising}
-use Rattle.cast_store.specs.Ids.{HasIdsOf}
+use Rattle.cast_index.proofs.Rises.{removed_is, place_within}
+use Rattle.cast_store.specs.declared.receipt.Receipt.{Receipt}
+use Rattle.cast_store.specs.Lines.{Line, slot_under, without_number, but_number, number_of, is_numbered, HasIdsOf}
 use Rattle.cast_store.proofs.Ids.{ids_remove}
 use Rattle.cast_store.proofs.Finds.{find_place, find_no_place, keep_all}
-use Rattle.cast_store.proofs.Keys.{rising_parts, rising_filter}
+use Rattle.cast_store.proofs.Numbers.{numbered_parts, numbered_filter}
 use Rattle.cast_store.proofs.row.Row.remove.Goals as goal
 
-pub place_under-requires : goal.place_under-requires
-place_under-requires c = rw c.deref.ensures.value (rising_parts c.self.inside.next c.self.inside.kept.items c.self.invariant.rising).0
-
 -- where nothing is under the key
-missing : (c : goal.After-from_residual) → find (λ r. key_eq r.key c.args.key) c.args.self.now.kept ≡ None
+missing : (c : goal.After-from_residual) → find (λ r. r.number == c.args.key.0) c.args.self.now.receipts ≡ None
 missing c =
-    let none : position (λ (r : Received). key_eq r.key c.args.key) c.args.self.now.kept ≡ None = search rules in
-    find_no_place (λ r. key_eq r.key c.args.key) c.args.self.now.kept none
+    let none : position (λ (r : Receipt). r.number == c.args.key.0) c.args.self.now.receipts ≡ None = search rules in
+    find_no_place (λ r. r.number == c.args.key.0) c.args.self.now.receipts none
 
 pub returns-in_err-place-clause-value : goal.returns-in_err-place-clause-value
 returns-in_err-place-clause-value c =
-    let none : message_under c.args.self.now.kept c.args.key ≡ None = ap (λ (o : Option Received). option_map (λ r. r.message) o) (missing c) in
+    let none : slot_under c.args.self.now.receipts c.args.key.0 ≡ None = ap (λ (o : Option Receipt). option_map (λ r. r.slot) o) (missing c) in
     cc
 
 pub returns-in_err-place-clause-left : goal.returns-in_err-place-clause-left
 returns-in_err-place-clause-left c =
-    let all = keep_all (λ r. key_eq r.key c.args.key) c.args.self.now.kept (missing c) in
-    ap (λ (kept : List Received). record c.args.self.now { kept = kept }) (sym all)
+    let all = keep_all (λ r. r.number == c.args.key.0) c.args.self.now.receipts (missing c) in
+    ap (λ (receipts : List Receipt). record c.args.self.now { receipts = receipts }) (sym all)
 
--- where a message is
-found : (c : goal.After-take_out) → position (λ (r : Received). key_eq r.key c.args.key) c.self.inside.kept.items ≡ Some c.in_ok-place.place
+-- where a receipt is
+found : (c : goal.After-take_out) → position (λ (r : Receipt). r.number == c.args.key.0) c.self.inside.receipts.items ≡ Some c.in_ok-place.place
 found c = search rules
 
-left : (c : goal.After-take_out) → c.take_out.new.kept.items ≡ but_under c.args.key c.self.inside.kept.items
+left : (c : goal.After-take_out) → c.take_out.new.receipts.items ≡ but_number c.args.key.0 c.self.inside.receipts.items
 left c =
-    let items : c.take_out.new.kept.items ≡ remove c.self.inside.kept.items c.in_ok-place.place = search rules in
-    items ∙ removed_is key_of c.args.key.0 c.self.inside.kept.items c.in_ok-place.place (rising_parts c.self.inside.next c.self.inside.kept.items c.self.invariant.rising).0 (found c)
+    let items : c.take_out.new.receipts.items ≡ remove c.self.inside.receipts.items c.in_ok-place.place = search rules in
+    items ∙ removed_is number_of c.args.key.0 c.self.inside.receipts.items c.in_ok-place.place (numbered_parts c.self.inside.next c.self.inside.receipts.items c.self.invariant.numbered).0 (found c)
 
 pub invariant_of-self : goal.invariant_of-self
 invariant_of-self c =
     let next = c.self.inside.next in
-    let kept = c.self.inside.kept.items in
+    let receipts = c.self.inside.receipts.items in
     let place = c.in_ok-place.place in
-    let message = c.take_out.result in
-    let d : Received = record { key = c.args.key; message = message } in
+    let d : Receipt = record { number = 0; slot = 0; id = record { group = record { 0 = 0 }; view = 0; proc = record { site = record { 0 = 0 }; serial = 0 }; count = 0 } } in
     record {
-      rising = ap (λ (xs : List Received). is_rising next xs) (left c) ∙ rising_filter (λ r. not (key_eq r.key c.args.key)) next kept c.self.invariant.rising;
+      numbered = ap (λ (xs : List Receipt). is_numbered next xs) (left c) ∙ numbered_filter (λ r. not (r.number == c.args.key.0)) next receipts c.self.invariant.numbered;
       ids = subst (HasIdsOf c.take_out.new.ids) (sym c.take_out.ensures.left)
-          (ids_remove next c.self.inside.ids c.take_out.new.ids kept place d c.self.invariant.rising (subst (λ (xs : List Received). place < length xs) c.deref.ensures.value c.in_ok-place.ensures.within) c.self.invariant.ids (c.take_out.ensures.unnamed d));
+          (ids_remove next c.self.inside.ids c.take_out.new.ids receipts place d c.self.invariant.numbered (place_within number_of c.args.key.0 receipts place (found c)) c.self.invariant.ids (c.take_out.ensures.unnamed d));
     }
 
+-- what stands at the place
+slot : (c : goal.After-take_out) → slot_under c.self.inside.receipts.items c.args.key.0 ≡ c.take_out.result
+slot c =
+    let d : Receipt = record { number = 0; slot = 0; id = record { group = record { 0 = 0 }; view = 0; proc = record { site = record { 0 = 0 }; serial = 0 }; count = 0 } } in
+    ap (λ (o : Option Receipt). option_map (λ r. r.slot) o) (find_place (λ r. r.number == c.args.key.0) c.self.inside.receipts.items c.in_ok-place.place d (found c)) ∙ sym (c.take_out.ensures.value d)
+
 pub returns-clause-value : goal.returns-clause-value
-returns-clause-value c =
-    let d : Received = record { key = c.args.key; message = c.take_out.result } in
-    let message = ap (λ (o : Option Received). option_map (λ r. r.message) o) (find_place (λ r. key_eq r.key c.args.key) c.self.inside.kept.items c.in_ok-place.place d (found c)) in
-    rw (← c.self.view_is) (ap Some (c.take_out.ensures.value d) ∙ sym message)
+returns-clause-value c = rw (← c.self.view_is) (sym (slot c))
 
 pub returns-clause-left : goal.returns-clause-left
 returns-clause-left c =
-    let shelf : List Received → Shelf = λ kept. record { domain = c.self.inside.domain; next = c.self.inside.next; kept = kept } in
-    ap shelf (left c) ∙ ap (without_key c.args.key) c.self.view_is
+    let line : List Receipt → Line = λ receipts. record { domain = c.self.inside.domain; next = c.self.inside.next; receipts = receipts } in
+    ap line (left c) ∙ ap (without_number c.args.key.0) c.self.view_is
+
+-- a receipt that is there has a slot
+pub returns-clause-none : goal.returns-clause-none
+returns-clause-none c =
+    let d : Receipt = record { number = 0; slot = 0; id = record { group = record { 0 = 0 }; view = 0; proc = record { site = record { 0 = 0 }; serial = 0 }; count = 0 } } in
+    rw (c.take_out.ensures.value d) tt

@@ -1,9 +1,11 @@
 use Rattle.std.proofs.Common.{◌≡◌, ◌++◌, ◌∷◌, [], ◌+◌, take, sym, ap, subst, ◌∙◌}
 use Rattle.std.specs.List.{AllZip, insert}
 use Rattle.std.proofs.lemmas.List.{take_more, take_all}
+use Rattle.std.proofs.lemmas.Result.{IfOk-weaker}
 use Rattle.cast_types.specs.declared.names.DomainNo.{DomainNo}
 use Rattle.cast_events.specs.declared.config.DomainConfig.{DomainConfig}
-use Rattle.cast_table.specs.Tables.{IsNew, by_number, place_for}
+use Rattle.cast_table.specs.declared.table.Table.{Table}
+use Rattle.cast_table.specs.Tables.{IsNew, SharesNothing, by_number, domains_of, place_for}
 use Rattle.cast_table.proofs.Ordered.{put_more}
 use Rattle.cast_table.proofs.table.Table.new.Goals as goal
 
@@ -31,6 +33,15 @@ loop-domain-preserved c =
 
 pub returns-clause-domains : goal.returns-clause-domains
 returns-clause-domains c =
-    subst (λ xs. AllZip (IsNew c.args.config.now.site) (by_number xs) c.loop-domain.domains.items)
+    let made : Table = record { domains = c.loop-domain.domains.items; shared = c.new-2.result } in
+    let all : AllZip (IsNew c.args.config.now.site) (by_number c.args.config.now.domains) made.domains =
+    subst (λ xs. AllZip (IsNew c.args.config.now.site) (by_number xs) made.domains)
     (take_all c.loop-domain.domain-index c.as_slice-domain-items.result.now c.loop-domain-test.false ∙ c.as_slice-domain-items.ensures)
-    c.loop-domain.invariant
+    c.loop-domain.invariant in
+    IfOk-weaker c.of.result (λ table. table ≡ made) (λ table. AllZip (IsNew c.args.config.now.site) (by_number c.args.config.now.domains) (domains_of table))
+    (λ table is. subst (λ (t : Table). AllZip (IsNew c.args.config.now.site) (by_number c.args.config.now.domains) (domains_of t)) (sym is) all) c.of.ensures
+
+pub returns-clause-unshared : goal.returns-clause-unshared
+returns-clause-unshared c =
+    let made : Table = record { domains = c.loop-domain.domains.items; shared = c.new-2.result } in
+    IfOk-weaker c.of.result (λ table. table ≡ made) SharesNothing (λ table is. subst SharesNothing (sym is) c.new-2.ensures) c.of.ensures

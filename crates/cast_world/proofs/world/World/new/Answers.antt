@@ -1,19 +1,14 @@
 use Rattle.std.proofs.Common.{Vec, Global, ◌≡◌, ◌++◌, ◌∷◌, [], ◌+◌, ◌∙◌, List, Some, take, ap, refl, subst, sym}
 use Rattle.std.specs.List.{slice_get}
 use Rattle.std.proofs.lemmas.List.{take_more, take_all}
-use Rattle.cast_types.specs.Names.{group_cmp}
-use Rattle.cast_types.specs.Rising.{is_rising}
-use Rattle.cast_domain.specs.Fits.{Represents}
-use Rattle.cast_domain.specs.Records.{is_halted, number_of}
-use Rattle.cast_domain.specs.Shared.{no_part}
 use Rattle.cast_events.specs.declared.config.Config.{Config}
 use Rattle.cast_events.specs.declared.config.DomainConfig.{DomainConfig}
 use Rattle.cast_rules.specs.State.{opening}
-use Rattle.cast_world.specs.declared.world.Daemon.{Daemon}
-use Rattle.cast_world.specs.Worlds.{StandsAt}
+use Rattle.cast_world.specs.declared.daemon.Daemon.{Daemon}
+use Rattle.cast_world.specs.Worlds.{IsNew, StandsAt}
 use Rattle.cast_world.proofs.Standing.{AreNew, new_none, new_more, new_world, new_stands, only_domain, has_domain}
 use Rattle.cast_world.proofs.world.World.new.Goals as goal
-use Rattle.cast_world.proofs.world.World.new.Goals.{in-Some+in_ok-copy+in_ok-alone+in_ok-push, in_default}
+use Rattle.cast_world.proofs.world.World.new.Goals.{in-Some+in_ok-copy+in_ok-new+in_ok-push, in_default}
 
 pub loop-config-init : goal.loop-config-init
 loop-config-init c = λ config solo. subst (λ (ds : List Daemon). AreNew config [] ds) (sym c.new-daemons.ensures.items) (new_none config)
@@ -27,21 +22,15 @@ loop-config-preserved c = λ config solo.
     let alone = solo item (i, c.loop-config-test.true, sym c.config-item.is) in
     let so_far = c.loop-config.invariant config solo in
     elim c.match-first.branch [
-      | in-Some+in_ok-copy+in_ok-alone+in_ok-push w ↦
+      | in-Some+in_ok-copy+in_ok-new+in_ok-push w ↦
           let has : slice_get item.domains 0 ≡ Some w.in-Some.domain.now = ap (λ (xs : List DomainConfig). slice_get xs 0) (sym c.as_slice.ensures) ∙ sym w.in-Some.ensures.value in
           let same : w.in_ok-copy.field-0 ≡ config item.site = w.in_ok-copy.ensures ∙ only_domain item (config item.site) w.in-Some.domain.now alone.0 has in
-          let d : Daemon = w.new-in-Some.result in
-          let made = w.new-in-Some.ensures in
-          let domain = w.in_ok-alone.ensures in
-          let stands : StandsAt d (opening item.site (config item.site)) =
-          new_stands d item.site (config item.site) made.0
-          (ap is_halted made.1 ∙ domain.running) (ap number_of made.1 ∙ domain.number ∙ ap (λ (x : DomainConfig). x.domain) same)
-          (subst (λ x. Represents x no_part (opening item.site (config item.site))) (sym made.1)
-          (subst (λ x. Represents w.in_ok-alone.alone no_part (opening item.site x)) same (domain.begins (ap (λ (x : DomainConfig). is_rising group_cmp x.groups) same ∙ alone.1))))
-          made.2 made.3 in
+          let d : Daemon = w.in_ok-new.field-0 in
+          let made : IsNew item.site (config item.site) d = subst (λ x. IsNew item.site x d) same w.in_ok-new.ensures in
+          let stands : StandsAt d (opening item.site (config item.site)) = new_stands d item.site (config item.site) made alone.1 in
           subst (λ (cs : List Config). AreNew config cs c.match-first.daemons.items) one
           (subst (λ (ds : List Daemon). AreNew config (take i configs ++ item ∷ []) ds) (sym (ap (λ (v : Vec Daemon Global). v.items) w.daemons-is ∙ w.in_ok-push.ensures.items))
-          (new_more config (take i configs) c.loop-config.daemons.items item d so_far made.0 stands))
+          (new_more config (take i configs) c.loop-config.daemons.items item d so_far made.placed stands))
       | in_default w ↦ absurd (has_domain item (config item.site) alone.0 (ap (λ (xs : List DomainConfig). slice_get xs 0) (sym c.as_slice.ensures) ∙ sym w.in_default.ensures.value))
     ]
 
