@@ -1,5 +1,6 @@
 //! Writes the scripts that `castd replay` is measured on: one domain at site 1, whose process 1.1 is a member of group 1 with
-//! 2.1, and whose home at site 9 never hears of it. `replay CASE ROUNDS FILE`, where CASE is one of
+//! 2.1, and whose home at site 9 never hears of it. Its program takes what it is pushed, so that it is never too slow.
+//! `replay CASE ROUNDS FILE`, where CASE is one of
 //!
 //! - `kept-N`: 1.1 casts, a message of 2.1 comes and is said to be stable, site 2 acknowledges the cast of N rounds before, so
 //!   N casts stay kept, and a millisecond passes;
@@ -16,6 +17,8 @@
 //! - `opened-N`: N programs connected and are gone again; in each round 1.1 and 2.1 cast, and both messages become stable;
 //! - `tokens`: 1.1 casts an ABCAST, gives it its place, hands the token over to 2.1 and gets it back, and all four messages become
 //!   stable, all in one view;
+//! - `tenants-N-P`: N domains, each with P programs; in each round the last program of each domain casts and a message of 2.1 comes,
+//!   and both become stable;
 //! - `partition-N`: 1.1 casts N times in a view with a member at each of 14 other sites, none of which answers; in each round all that
 //!   is owed falls due.
 
@@ -31,6 +34,10 @@ const ORDER: u8 = 3;
 
 /// The group in which ABCASTs go one after the other, beside those that wait.
 const PASSING: usize = 32;
+
+/// After so many events of a domain its program takes what it was pushed: an event pushes it at most two entries, and a take gives
+/// at most 64.
+const EVENTS_A_TAKE: usize = 32;
 
 /// How many sites have a member where none answers.
 const PARTED: usize = 15;
@@ -315,6 +322,44 @@ fn token(number: usize) -> Vec<String> {
     ]
 }
 
+/// A frame as it comes to a domain. It is written for domain 1.
+fn to_domain(frame: &str, domain: usize) -> String {
+    let (kind, from) = ("frame 434401".len() + 2, "frame 434401".len() + 4);
+    format!("{}{domain:02x}{}", &frame[..kind], &frame[from..])
+}
+
+/// So many domains, in each of which the last of so many programs is a member, and casts.
+fn tenants(domains: usize, programs: usize, rounds: usize) -> Vec<String> {
+    let caster = (1, programs);
+    let begins = |domain: usize| {
+        let opens = (1..programs).map(move |_| format!("open {domain}"));
+        let joins = joined_to(1, &[caster, (2, 1)]).into_iter().map(move |line| match line.strip_prefix("join 1 1 ") {
+            Some(rest) => format!("join {domain} {programs} {rest}"),
+            None => to_domain(&line, domain),
+        });
+        opens.chain(joins)
+    };
+    let round = |number: usize, domain: usize| {
+        [
+            format!("cast {domain} {programs} {number} 1 {PAYLOAD}"),
+            to_domain(&message(1, 2, number, 0, CAUSAL, &payload()), domain),
+            to_domain(&stable(2, number), domain),
+            to_domain(&format!("{}{}{number:08x}", header(2, 2, 1, 2), member(caster)), domain),
+        ]
+    };
+    let mut events: Vec<String> = (1..=domains).flat_map(begins).collect();
+    for number in 1..=rounds {
+        events.extend((1..=domains).flat_map(|domain| round(number, domain)));
+    }
+    events
+}
+
+/// The events, and the takes of the last program of each domain.
+fn with_takes(events: Vec<String>, domains: usize, programs: usize) -> Vec<String> {
+    let takes: Vec<String> = (1..=domains).map(|domain| format!("take {domain} {programs} 64")).collect();
+    events.chunks(EVENTS_A_TAKE * domains).flat_map(|chunk| chunk.iter().chain(&takes).cloned()).collect()
+}
+
 /// Casts that no site answers, and the moments at which they fall due.
 fn partition(casts: usize, rounds: usize) -> Vec<String> {
     let mut events = vec![
@@ -327,7 +372,7 @@ fn partition(casts: usize, rounds: usize) -> Vec<String> {
     events
 }
 
-/// The lines behind `open 1` of a case.
+/// The lines of a case behind those that open the first program of each domain, without the takes.
 fn events(case: &str, rounds: usize) -> Option<Vec<String>> {
     let by_round = |holder: usize, round: fn(usize) -> Vec<String>| {
         let mut events = joined(1, holder);
@@ -360,11 +405,22 @@ fn events(case: &str, rounds: usize) -> Option<Vec<String>> {
         Some(("opened", many)) => Some(opened(many.parse().ok()?, rounds)),
         Some(("passes", groups)) => Some(passes(groups.parse().ok()?, rounds)),
         Some(("partition", casts)) => Some(partition(casts.parse().ok()?, rounds)),
+        Some(("tenants", _)) => {
+            let (domains, programs) = tenants_of(case)?;
+            Some(tenants(domains, programs, rounds))
+        }
         Some(_) => None,
     }
 }
 
+/// How many domains a case has, and how many programs each of them.
+fn tenants_of(case: &str) -> Option<(usize, usize)> {
+    let (domains, programs) = case.strip_prefix("tenants-")?.split_once('-')?;
+    Some((domains.parse().ok()?, programs.parse().ok()?))
+}
+
 fn script(case: &str, rounds: usize) -> Option<String> {
+    let (domains, programs) = tenants_of(case).unwrap_or((1, 1));
     let last = if case.starts_with("passes") || case.starts_with("groups") { PASSING } else { 1 };
     let groups: Vec<String> = (1..=last).map(|group| group.to_string()).collect();
     let sites: Vec<String> = (1..=PARTED).map(|site| site.to_string()).collect();
@@ -373,11 +429,15 @@ fn script(case: &str, rounds: usize) -> Option<String> {
         Some(("members", _)) => "1,2,3,9".to_string(),
         _ => "1,2,9".to_string(),
     };
-    let mut text = format!(
-        "site 1\ndomain 1 home 9 sites {sites} groups {} quotas 16 1024 4096 {RESEND}\nopen 1\n",
-        groups.join(",")
-    );
-    for line in events(case, rounds)? {
+    let mut text = "site 1\n".to_string();
+    for domain in 1..=domains {
+        writeln!(text, "domain {domain} home 9 sites {sites} groups {} quotas 64 1024 4096 {RESEND}", groups.join(","))
+            .expect("a string takes all that is written");
+    }
+    for domain in 1..=domains {
+        writeln!(text, "open {domain}").expect("a string takes all that is written");
+    }
+    for line in with_takes(events(case, rounds)?, domains, programs) {
         writeln!(text, "{line}").expect("a string takes all that is written");
     }
     Some(text)
@@ -391,7 +451,7 @@ fn main() {
     };
     let Some(text) = text else {
         eprintln!(
-            "replay kept-N|views|holder|follower|sessions|tokens|waiting-N|members-N|groups-N|opened-N|passes-N|partition-N ROUNDS FILE"
+            "replay kept-N|views|holder|follower|sessions|tokens|waiting-N|members-N|groups-N|opened-N|passes-N|tenants-N-P|partition-N ROUNDS FILE"
         );
         process::exit(2);
     };
