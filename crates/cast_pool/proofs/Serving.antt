@@ -36,6 +36,13 @@ same_note a b e = cc
 pub same_seen : (old new : Seen) → new.base ≡ old.base → new.trace ≡ old.trace → new.count ≡ old.count → new.table ≡ old.table → new ≡ old
 same_seen old new base trace count table = λ i. record { base = base i; trace = trace i; count = count i; table = table i }
 
+-- an event that is not taken leaves the table
+pub left_none : (a : Result Taken Fault) (old new : Table) (before after : Outs) → noted_of a ≡ None → IsUnchanged a old new before after → new ≡ old
+left_none (Ok t) old new before after none same = absurd (some_kept (noted_taken t) none)
+left_none (Err NoMemory) old new before after none same = same.0
+left_none (Err (Halted d)) old new before after none same = absurd (some_kept (noted.Halted d) none)
+left_none (Err NoDomain) old new before after none same = same.0
+
 -- The event after the last one that can be counted
 
 pub served_full : (event : Event) (s : Seen) (was : ℕ) → events_of s ≡ 18446744073709551615 → Serves event (Ok (Refused refusal.Halted)) no_outs s s was was

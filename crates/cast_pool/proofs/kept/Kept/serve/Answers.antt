@@ -1,12 +1,12 @@
 use Rattle.std.proofs.Common.{◌≡◌, ◌+◌, ◌++◌, ◌∷◌, [], ◌≤◌, length, sym, ap, subst, ◌∙◌, arith}
 use Rattle.cast_events.specs.declared.event.Outs.{Outs}
 use Rattle.cast_events.specs.Outs.{no_outs}
-use Rattle.cast_table.specs.Tables.{IsApplied, NotesHalts, domains_of, lent}
+use Rattle.cast_table.specs.Tables.{IsApplied, IsUnchanged, NotesHalts, domains_of, lent}
 use Rattle.cast_pool.specs.Kept.{Replays, Seen, events_of, seen}
 use Rattle.cast_pool.specs.Served.{Serves}
 use Rattle.cast_pool.specs.Room.{base_then, count_then, items_then}
 use Rattle.cast_pool.proofs.Halts.{few_halted}
-use Rattle.cast_pool.proofs.Serving.{counts_on, entry_for, next_in, one_more, replays_for, served_added}
+use Rattle.cast_pool.proofs.Serving.{counts_on, entry_for, left_none, next_in, one_more, replays_for, served_added, served_none}
 use Rattle.cast_pool.proofs.kept.Kept.serve.Goals as goal
 
 pub fill-halted-requires-clause-room : goal.fill-halted-requires-clause-room
@@ -84,3 +84,32 @@ returns-clause-done g c =
     subst (λ (s : Seen). Serves c.args.event a outs s left was (was + 1)) c.self.view_is
     (subst (λ (s : Seen). Serves c.args.event a outs old s was (was + 1)) (sym made)
     (served_added c.args.event a n outs old new says applied notes counts base was next))
+
+-- an event that is not taken leaves the table and the trace
+pub invariant_of-self-in_default-note_of : goal.invariant_of-self-in_default-note_of
+invariant_of-self-in_default-note_of g c =
+    let k = c.self.inside in
+    let new = c.apply-answer.new.self in
+    let outs = c.apply-answer.new.outs in
+    let a = c.apply-answer.result in
+    let same = c.room.ensures.same in
+    let none = sym c.note_of.ensures ∙ c.in_default-note_of.is in
+    let unchanged = subst (λ (o : Outs). IsUnchanged a k.table new o outs) c.new-outs.ensures c.apply-answer.ensures.unchanged in
+    let table = left_none a k.table new no_outs outs none unchanged in
+    rw (same.0, same.1, same.2, table) c.self.invariant
+
+pub returns-in_default-note_of-clause-done : goal.returns-in_default-note_of-clause-done
+returns-in_default-note_of-clause-done g c =
+    let k = c.self.inside in
+    let new = c.apply-answer.new.self in
+    let outs = c.apply-answer.new.outs in
+    let a = c.apply-answer.result in
+    let was = c.args.mine.now.taken in
+    let same = c.room.ensures.same in
+    let old = seen k.trail.base k.trail.entries.items k.trail.count k.table in
+    let left = seen c.room.new.self.base c.room.new.self.entries.items c.room.new.self.count new in
+    let none = sym c.note_of.ensures ∙ c.in_default-note_of.is in
+    let applied = subst (λ (o : Outs). IsApplied a c.args.event (domains_of k.table) (domains_of new) (lent k.table o) (lent new outs)) c.new-outs.ensures c.apply-answer.ensures.applied in
+    let unchanged = subst (λ (o : Outs). IsUnchanged a k.table new o outs) c.new-outs.ensures c.apply-answer.ensures.unchanged in
+    let counts = counts_on old (λ e. c.if-events.false (c.events.ensures ∙ ap events_of (sym c.self.view_is) ∙ e)) in
+    subst (λ (s : Seen). Serves c.args.event a outs s left was was) c.self.view_is (served_none c.args.event old counts a outs left was none applied unchanged same.0 same.1 same.2)
