@@ -31,13 +31,13 @@ first_id entries after e first = record {
 }
 
 -- what stands behind a source that stands behind another stands behind that too
-further : (after : Option Source) (id u : Uid) → is_behind after id ≡ true → is_behind (Some (source_of id)) u ≡ true → is_behind after u ≡ true
+pub further : (after : Option Source) (id u : Uid) → is_behind after id ≡ true → is_behind (Some (source_of id)) u ≡ true → is_behind after u ≡ true
 further None id u behind more = refl
 further (Some s) id u behind more =
     ap is_lt (source_total.trans s (source_of id) (source_of u) (less_is (source_cmp s (source_of id)) behind) (less_is (source_cmp (source_of id) (source_of u)) more))
 
 -- no source stands behind itself
-not_itself : (u : Uid) → is_behind (Some (source_of u)) u ≡ false
+pub not_itself : (u : Uid) → is_behind (Some (source_of u)) u ≡ false
 not_itself u = ap is_lt (tied_itself source_total (source_of u))
 
 -- a test that implies another keeps at most as many, and fewer where one that passes the other fails it
@@ -100,24 +100,24 @@ fewer_left entries after e first =
 -- The first entry that a search finds
 
 -- an entry that is among some is one of them
-same_entry : (e : Entry) (u : Uid) (k : Key) → (uid_eq u e.id && (k.0 == e.number)) ≡ true → e ≡ record { id = u; number = k.0 }
+pub same_entry : (e : Entry) (u : Uid) (k : Key) → (uid_eq u e.id && (k.0 == e.number)) ≡ true → e ≡ record { id = u; number = k.0 }
 same_entry e u k h =
     let parts = and_parts (uid_eq u e.id) (k.0 == e.number) h in
     let ids = same_uid u e.id parts.0 in
     let numbers = eqb-true k.0 e.number parts.1 in
     λ i. record { id = sym ids i; number = sym numbers i }
 
-above : (e : Entry) (entries : List Entry) → AllByRecursion (λ y. entry_cmp e y ≡ Less) entries → (u : Uid) (k : Key) → has entries u k ≡ true → is_le (entry_cmp e (record { id = u; number = k.0 })) ≡ true
+pub above : (e : Entry) (entries : List Entry) → AllByRecursion (λ y. entry_cmp e y ≡ Less) entries → (u : Uid) (k : Key) → has entries u k ≡ true → is_le (entry_cmp e (record { id = u; number = k.0 })) ≡ true
 above e [] all u k there = absurd (false≢true there)
 above e (x ∷ xs) all u k there = elim (or_cases (uid_eq u x.id && (k.0 == x.number)) (has xs u k) there) [
   | inl here ↦ ap (λ y. is_le (entry_cmp e y)) (sym (same_entry x u k here)) ∙ ap is_le all.0
   | inr later ↦ above e xs all.1 u k later
 ]
 
-is_among : (e : Entry) (entries : List Entry) → has (e ∷ entries) e.id (record { 0 = e.number }) ≡ true
+pub is_among : (e : Entry) (entries : List Entry) → has (e ∷ entries) e.id (record { 0 = e.number }) ≡ true
 is_among e entries = ap (λ b. b || has entries e.id (record { 0 = e.number })) (and_from (uid_eq e.id e.id) (e.number == e.number) (uid_itself e.id) (eq-eqb e.number e.number refl))
 
-more : (a b : Bool) → b ≡ true → (a || b) ≡ true
+pub more : (a b : Bool) → b ≡ true → (a || b) ≡ true
 more true b h = refl
 more false b h = h
 

@@ -1,5 +1,5 @@
 -- Which ids an index has, each with a key, and in which order they are gone through.
-use Rattle.std.specs.Prelude.{◌≡◌, ◌⊎◌, ◌≤◌, ℕ, ◌+◌, Bool, true, ◌&&◌, ◌==◌, List, length, filter, Option, Some, None}
+use Rattle.std.specs.Prelude.{◌≡◌, ◌⊎◌, ◌≤◌, ℕ, ◌+◌, Bool, true, not, ◌&&◌, ◌==◌, List, length, filter, Option, Some, None}
 use Rattle.std.specs.List.{list_any}
 use Rattle.std.specs.Ordering.{is_le, is_lt, nat_cmp, ordering_then}
 use Rattle.std.specs.declared.cmp.Ordering.{Ordering}
@@ -43,6 +43,18 @@ lowest_past s =
 abbrev pub is_from : Entry → Entry → Bool
 is_from lowest e = is_le (entry_cmp lowest e)
 
+-- the lowest entry that is of a source
+abbrev pub lowest_of : Source → Entry
+lowest_of s = record { id = record { group = s.group; view = s.view; proc = s.process; count = 0 }; number = 0 }
+
+-- whether an entry is below another
+abbrev pub is_below : Entry → Entry → Bool
+is_below bound e = not (is_from bound e)
+
+-- whether an id's source stands not behind another
+abbrev pub is_upto : Source → Uid → Bool
+is_upto s u = not (is_behind (Some s) u)
+
 -- the first of the entries that pass a test
 pub record IsFirstEntry (entries : List Entry) (test : Entry → Bool) (e : Entry) : Type 0 where
   pub there : has entries e.id (record { 0 = e.number }) ≡ true
@@ -54,3 +66,19 @@ pub record IsFirstBehind (entries : List Entry) (after : Option Source) (id : Ui
   pub there : (k : Key) × (has entries id k ≡ true)
   pub behind : is_behind after id ≡ true
   pub least : (u : Uid) (k : Key) → has entries u k ≡ true → is_behind after u ≡ true → ((source_of u ≡ source_of id) × (id.count ≤ u.count)) ⊎ (is_behind (Some (source_of id)) u ≡ true)
+
+-- the last of the entries that pass a test
+pub record IsLastEntry (entries : List Entry) (test : Entry → Bool) (e : Entry) : Type 0 where
+  pub there : has entries e.id (record { 0 = e.number }) ≡ true
+  pub passes : test e ≡ true
+  pub last : (u : Uid) (k : Key) → has entries u k ≡ true → test (record { id = u; number = k.0 }) ≡ true → is_le (entry_cmp (record { id = u; number = k.0 }) e) ≡ true
+
+-- an index has an id of a source with this count
+abbrev pub HasCount : List Entry → Source → ℕ → Type 0
+HasCount entries s count = (u : Uid) × (k : Key) × (has entries u k ≡ true) × (source_of u ≡ s) × (u.count ≡ count)
+
+-- the least and the greatest count of the ids of a source
+pub record IsCountRange (entries : List Entry) (s : Source) (range : ℕ × ℕ) : Type 0 where
+  pub least : HasCount entries s range.0
+  pub greatest : HasCount entries s range.1
+  pub within : (u : Uid) (k : Key) → has entries u k ≡ true → source_of u ≡ s → (range.0 ≤ u.count) × (u.count ≤ range.1)

@@ -1,4 +1,4 @@
-ghost use Rattle.std.specs.Prelude.{◌≡◌, ◌≤◌, ◌<◌, ◌==◌, ◌&&◌, true, false, cond, IfOk, IfSome, IfNone, OnOk, OnErr};
+ghost use Rattle.std.specs.Prelude.{◌≡◌, ◌≢◌, ◌≤◌, ◌<◌, ◌==◌, ◌&&◌, true, false, cond, IfOk, IfSome, IfNone, OnOk, OnErr};
 ghost use Rattle.std.specs.Option.{option_copied};
 ghost use Rattle.std.specs.List.{find};
 ghost use Rattle.std.specs.List.Sorted.{IsStrictlySortedBy};
@@ -6,7 +6,7 @@ ghost use Rattle.cast_types.specs.declared.names.Uid.{Uid};
 ghost use Rattle.cast_types.specs.declared.names.Key.{Key};
 ghost use Rattle.cast_types.specs.Names.{uid_eq};
 ghost use Rattle.cast_types.specs.Sources.{source_of};
-ghost use Rattle.cast_index.specs.Index.{entry_cmp, has, is_pair, is_behind, is_from, left, lowest_past, IsFirstEntry, IsFirstBehind};
+ghost use Rattle.cast_index.specs.Index.{entry_cmp, has, is_below, is_pair, is_behind, is_from, is_upto, left, lowest_of, lowest_past, IsCountRange, IsFirstEntry, IsFirstBehind, IsLastEntry};
 
 use crate::entry::Entry;
 use cast_types::{Key, NoMemory, Proc, Source, Uid, source_of};
@@ -64,6 +64,14 @@ impl Index {
         self.entries.remove(&Entry { id, number: key.0 });
     }
 
+    /// Whether there are no ids. Takes no memory.
+    pub fn is_empty(&self) -> bool
+        ensures empty { result ≡ true → (u : Uid) (k : Key) → has self.now u k ≡ false }
+        ensures some { result ≡ false → (u : Uid) × (k : Key) × (has self.now u k ≡ true) }
+    {
+        self.entries.is_empty()
+    }
+
     /// The least key under an id. Takes no memory.
     pub fn key_of(&self, id: Uid) -> Option<Key>
         ensures some { IfSome result (λ key. (has self.now id key ≡ true) × ((k : Key) → has self.now id k ≡ true → key.0 ≤ k.0)) }
@@ -84,6 +92,19 @@ impl Index {
     {
         let entry = entry_behind(&self.entries, after)?;
         Some(entry.id)
+    }
+
+    /// The least and the greatest count of the ids of a source, `None` where it has none. Takes no memory.
+    pub fn count_range(&self, source: Source) -> Option<(u32, u32)>
+        ensures some { IfSome result (IsCountRange self.now source) }
+        ensures none { IfNone result ((u : Uid) (k : Key) → has self.now u k ≡ true → source_of u ≢ source) }
+    {
+        let least = first_from(&self.entries, lowest_of(source))?;
+        if source_of(least.id) != source {
+            return None;
+        }
+        let greatest = last_upto(&self.entries, source)?;
+        Some((least.id.count, greatest.id.count))
     }
 }
 
@@ -124,6 +145,41 @@ fn found_past(entries: &BTreeSet<Entry>, source: Source) -> Option<&Entry>
     ensures rising { IsStrictlySortedBy entry_cmp entries.now.keys }
 {
     entries.iter().find(|entry| source < source_of(entry.id))
+}
+
+// The last entry of a source that stands not behind another one.
+fn last_upto(entries: &BTreeSet<Entry>, source: Source) -> Option<&Entry>
+    ensures some { IfSome result (λ e. IsLastEntry entries.now.keys (λ x. is_upto source x.id) e.now) }
+    ensures none { IfNone result ((u : Uid) (k : Key) → has entries.now.keys u k ≡ true → is_upto source u ≡ false) }
+{
+    match first_past(entries, source) {
+        Some(bound) => last_below(entries, *bound),
+        None => entries.last(),
+    }
+}
+
+// The last entry below another one.
+fn last_below(entries: &BTreeSet<Entry>, bound: Entry) -> Option<&Entry>
+    ensures some { IfSome result (λ e. IsLastEntry entries.now.keys (is_below bound) e.now) }
+    ensures none { IfNone result ((u : Uid) (k : Key) → has entries.now.keys u k ≡ true → is_below bound (record { id = u; number = k.0 }) ≡ false) }
+{
+    let entry = entries.range(..bound).next_back()?;
+    Some(entry)
+}
+
+// The lowest entry that could be of a source.
+fn lowest_of(source: Source) -> Entry
+    ensures { result ≡ lowest_of source }
+{
+    Entry {
+        id: Uid {
+            group: source.group,
+            view: source.view,
+            proc: source.process,
+            count: 0,
+        },
+        number: 0,
+    }
 }
 
 // The lowest entry that could be of a source behind another one, `None` where that has the greatest serial.

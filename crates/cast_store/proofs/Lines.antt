@@ -1,72 +1,88 @@
--- The line of a domain after one is changed, added or dropped.
-use Rattle.std.proofs.Common.{◌≡◌, ◌≢◌, ℕ, true, false, not, List, [], ◌∷◌, ◌++◌, get_or, Option, Some, None, refl, sym, ap, ◌∙◌}
-use Rattle.std.specs.Prelude.{◌==◌}
-use Rattle.std.specs.List.{filter, position}
-use Rattle.std.proofs.lemmas.Bool.{false_from_ne_true, eqb-true, eq-eqb}
-use Rattle.std.proofs.lemmas.List.Quantifiers.{position-Some}
+-- The lines of all domains: what is seen of them, and one of them changed.
+use Rattle.std.proofs.Common.{◌≡◌, ℕ, zero, suc, ◌+◌, ◌<◌, List, [], ◌∷◌, ◌++◌, cond, get_or, length, replicate, set, Option, Some, None, refl, sym, ap, ◌∙◌, arith}
+use Rattle.std.specs.Option.{option_map}
+use Rattle.std.proofs.lemmas.Bool.{eq-eqb, ne_eqb}
+use Rattle.std.proofs.lemmas.List.{get_or-set_same, get_or-set_other}
 use Rattle.cast_types.specs.declared.names.DomainNo.{DomainNo}
-use Rattle.cast_types.specs.Places.{update}
-use Rattle.cast_store.specs.Lines.{Line, is_line_of, line_of}
-use Rattle.cast_store.proofs.Finds.{find_place, find_no_place, find_update, find_update_no, find_push_yes, find_push_no, find_filter, find_filter_none}
+use Rattle.cast_store.specs.declared.slot.Slot.{Slot}
+use Rattle.cast_store.specs.Store.{shelf_of}
+use Rattle.cast_store.specs.Lines.{Line, line_of, shelf_by, shelves_by, shelves_from, ChangesLine, IsPadded}
 
--- the line of one domain is another, and those of the others stay
-pub record Turned (d : DomainNo) (w : Option Line) (lines lines' : List Line) : Type 0 where
-  pub here : line_of lines' d ≡ w
-  pub others : (e : DomainNo) → e ≢ d → line_of lines' e ≡ line_of lines e
+-- What is seen
 
--- an empty line
-abbrev pub empty : DomainNo → Line
-empty d = record { domain = d; next = 0; receipts = [] }
+module _ (slots : ℕ → Option Slot) (d : DomainNo) where
+  -- none before the first
+  not_before : (n : ℕ) (lines : List (Option Line)) → d.0 < n → shelf_of (shelves_from slots n lines) d ≡ None
+  not_before n [] lt = refl
+  not_before n (None ∷ rest) lt = not_before (n + 1) rest (omega (arith, lt))
+  not_before n (Some l ∷ rest) lt =
+      ap (λ b. cond b (Some (shelf_by slots n l)) (shelf_of (shelves_from slots (n + 1) rest) d)) (ne_eqb n d.0 (λ same. absurd (omega (arith, same, lt))))
+      ∙ not_before (n + 1) rest (omega (arith, lt))
 
--- a line of one domain is of no other
-of_itself : (l : Line) → is_line_of l.domain l ≡ true
-of_itself l = eq-eqb l.domain.0 l.domain.0 refl
+  -- and each other at its number
+  at_number : (n k : ℕ) (lines : List (Option Line)) → d.0 ≡ n + k → shelf_of (shelves_from slots n lines) d ≡ option_map (shelf_by slots d.0) (get_or lines k None)
+  at_number n k [] is = refl
+  at_number n zero (None ∷ rest) is = not_before (n + 1) rest (omega (arith, is))
+  at_number n zero (Some l ∷ rest) is =
+      let here : n ≡ d.0 = omega (arith, is) in
+      ap (λ b. cond b (Some (shelf_by slots n l)) (shelf_of (shelves_from slots (n + 1) rest) d)) (eq-eqb n d.0 here)
+      ∙ ap (λ m. Some (shelf_by slots m l)) here
+  at_number n (suc k) (None ∷ rest) is = at_number (n + 1) k rest (omega (arith, is))
+  at_number n (suc k) (Some l ∷ rest) is =
+      ap (λ b. cond b (Some (shelf_by slots n l)) (shelf_of (shelves_from slots (n + 1) rest) d)) (ne_eqb n d.0 (λ same. absurd (omega (arith, same, is))))
+      ∙ at_number (n + 1) k rest (omega (arith, is))
 
-of_one : (d : DomainNo) (l : Line) → is_line_of d l ≡ true → l.domain ≡ d
-of_one d l here = ap (λ (n : ℕ). record { 0 = n }) (eqb-true l.domain.0 d.0 here)
+  -- a domain's shelf is that of its line
+  pub shelf_seen : (lines : List (Option Line)) → shelf_of (shelves_by slots lines) d ≡ option_map (shelf_by slots d.0) (line_of lines d)
+  shelf_seen lines = at_number 0 d.0 lines (omega arith)
 
-of_no_other : (d e : DomainNo) (l : Line) → e ≢ d → is_line_of d l ≡ true → is_line_of e l ≡ false
-of_no_other d e l differ here = false_from_ne_true (is_line_of e l) (λ there. differ (sym (of_one e l there) ∙ of_one d l here))
+-- a line that was looked up in an equal list
+pub looked_up : {o : Option Line} {lines lines' : List (Option Line)} (d : DomainNo) → lines' ≡ lines → o ≡ line_of lines' d → line_of lines d ≡ o
+looked_up d same is = ap (λ (ls : List (Option Line)). line_of ls d) (sym same) ∙ sym is
 
--- a domain with a line
-pub line_at : (d : DomainNo) (xs : List Line) (i : ℕ) (l : Line) → position (is_line_of d) xs ≡ Some i → line_of xs d ≡ Some (get_or xs i l)
-line_at d xs i l at = find_place (is_line_of d) xs i l at
+-- Places without a line
 
-pub domain_at : (d : DomainNo) (xs : List Line) (i : ℕ) (l : Line) → position (is_line_of d) xs ≡ Some i → (get_or xs i l).domain ≡ d
-domain_at d xs i l at = of_one d (get_or xs i l) (position-Some (is_line_of d) xs i l at).1
+none_there : (n k : ℕ) → get_or (replicate n (let o : Option Line = None in o)) k None ≡ None
+none_there zero k = refl
+none_there (suc n) zero = refl
+none_there (suc n) (suc k) = none_there n k
 
--- and one without
-pub line_absent : (d : DomainNo) (xs : List Line) → position (is_line_of d) xs ≡ None → line_of xs d ≡ None
-line_absent d xs none = find_no_place (is_line_of d) xs none
+line_padded : (lines : List (Option Line)) (n k : ℕ) → get_or (lines ++ replicate n None) k None ≡ get_or lines k None
+line_padded [] n k = none_there n k
+line_padded (x ∷ xs) n zero = refl
+line_padded (x ∷ xs) n (suc k) = line_padded xs n k
 
--- a line changed that stays its domain's
-pub turned_changed : (f : Line → Line) → ((l : Line) → (f l).domain ≡ l.domain) → (d : DomainNo) (xs : List Line) (i : ℕ) (l : Line) → position (is_line_of d) xs ≡ Some i → Turned d (Some (f (get_or xs i l))) xs (update xs i f)
-turned_changed f stays d xs i l at =
-    let place = position-Some (is_line_of d) xs i l at in
-    let x = get_or xs i l in
-    record {
-      here = find_update (is_line_of d) f (λ x. ap (λ (e : DomainNo). e.0 == d.0) (stays x)) xs i l at;
-      others = λ e differ.
-          let other = of_no_other d e x differ place.1 in
-          find_update_no (is_line_of e) f xs i l place.0 other (ap (λ (n : DomainNo). n.0 == e.0) (stays x) ∙ other);
-    }
+none_shown : (slots : ℕ → Option Slot) (first n : ℕ) → shelves_from slots first (replicate n None) ≡ []
+none_shown slots first zero = refl
+none_shown slots first (suc n) = none_shown slots (first + 1) n
 
--- a line added for a domain that has none
-pub turned_pushed : (l : Line) (xs : List Line) → position (is_line_of l.domain) xs ≡ None → Turned l.domain (Some l) xs (xs ++ l ∷ [])
-turned_pushed l xs none = record {
-  here = find_push_yes (is_line_of l.domain) xs l (find_no_place (is_line_of l.domain) xs none) (of_itself l);
-  others = λ e differ. find_push_no (is_line_of e) xs l (of_no_other l.domain e l differ (of_itself l));
+shown_padded : (slots : ℕ → Option Slot) (first n : ℕ) (lines : List (Option Line)) → shelves_from slots first (lines ++ replicate n None) ≡ shelves_from slots first lines
+shown_padded slots first n [] = none_shown slots first n
+shown_padded slots first n (None ∷ rest) = shown_padded slots (first + 1) n rest
+shown_padded slots first n (Some l ∷ rest) = ap (λ shelves. shelf_by slots first l ∷ shelves) (shown_padded slots (first + 1) n rest)
+
+module _ (lines lines' : List (Option Line)) (padded : IsPadded lines lines') where
+  pub padded_line : (d : DomainNo) → line_of lines' d ≡ line_of lines d
+  padded_line d = ap (λ (ls : List (Option Line)). line_of ls d) padded.1 ∙ line_padded lines padded.0 d.0
+
+  pub padded_shelves : (slots : ℕ → Option Slot) → shelves_by slots lines' ≡ shelves_by slots lines
+  padded_shelves slots = ap (shelves_by slots) padded.1 ∙ shown_padded slots 0 padded.0 lines
+
+  -- a line that is changed behind places without one
+  pub padded_changes : (d : DomainNo) (w : Option Line) (lines'' : List (Option Line)) → ChangesLine d w lines' lines'' → ChangesLine d w lines lines''
+  padded_changes d w lines'' changes = record { here = changes.here; others = λ e differ. changes.others e differ ∙ padded_line e }
+
+-- Changes
+
+-- the line at a domain's place is written
+pub changes_set : (d : DomainNo) (w : Option Line) (lines : List (Option Line)) → d.0 < length lines → ChangesLine d w lines (set lines d.0 w)
+changes_set d w lines within = record {
+  here = get_or-set_same lines d.0 w None within;
+  others = λ e differ. get_or-set_other lines d.0 e.0 w None (λ same. differ (ap (λ (n : ℕ). record { 0 = n }) same));
 }
 
--- the lines of a domain dropped
-of_kept : (d : DomainNo) (l : Line) → not (is_line_of d l) ≡ true → is_line_of d l ≡ false
-of_kept d l is = elim (is_line_of d l) as (λ b. not b ≡ true → b ≡ false) [ true ↦ λ h. absurd (cc) | false ↦ λ _. refl ] is
-
-of_dropped : (d : DomainNo) (l : Line) → not (is_line_of d l) ≡ false → is_line_of d l ≡ true
-of_dropped d l is = elim (is_line_of d l) as (λ b. not b ≡ false → b ≡ true) [ true ↦ λ _. refl | false ↦ λ h. absurd (cc) ] is
-
-pub turned_dropped : (d : DomainNo) (xs : List Line) → Turned d None xs (filter (λ l. not (is_line_of d l)) xs)
-turned_dropped d xs = record {
-  here = find_filter_none (is_line_of d) (λ l. not (is_line_of d l)) (of_kept d) xs;
-  others = λ e differ. find_filter (is_line_of e) (λ l. not (is_line_of d l)) (λ l out. of_no_other d e l differ (of_dropped d l out)) xs;
-}
+-- within a list it is all one what stands behind the end
+pub any_default : (lines : List (Option Line)) (i : ℕ) (o : Option Line) → i < length lines → get_or lines i o ≡ get_or lines i None
+any_default [] i o within = absurd (omega (arith, within))
+any_default (x ∷ xs) zero o within = refl
+any_default (x ∷ xs) (suc i) o within = any_default xs i o (omega (arith, within))

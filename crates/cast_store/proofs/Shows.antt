@@ -7,6 +7,7 @@ use Rattle.std.proofs.lemmas.Bool.{cases_Bool}
 use Rattle.std.proofs.lemmas.List.Elements.{filter_map-append}
 use Rattle.cast_types.specs.declared.names.Key.{Key}
 use Rattle.cast_types.specs.declared.names.Uid.{Uid}
+use Rattle.cast_types.specs.declared.source.Source.{Source}
 use Rattle.cast_types.specs.Names.{uid_eq}
 use Rattle.cast_types.specs.Sources.{source_of}
 use Rattle.cast_types.proofs.Contains.{contains_here, contains_later}
@@ -15,9 +16,9 @@ use Rattle.cast_message.specs.Receipts.{key_eq, message_under}
 use Rattle.cast_index.specs.Rises.{rises, all_below}
 use Rattle.cast_store.specs.declared.receipt.Receipt.{Receipt}
 use Rattle.cast_store.specs.declared.slot.Slot.{Slot}
-use Rattle.cast_store.specs.Ids.{IsKeptOf, IsLedBy, message_of}
+use Rattle.cast_store.specs.Ids.{IsKeptOf, IsLedBy, KeepsAbcast, KeepsAbcastRange, KeepsNoAbcast, is_abcast, message_of}
 use Rattle.cast_store.specs.Store.{is_rising, key_of}
-use Rattle.cast_store.specs.Lines.{number_of, is_numbered, slot_under, slot_of, message_in, received_by, kept_by, but_number, IsHeld, IsReceivedOf, IsLedByReceipts}
+use Rattle.cast_store.specs.Lines.{number_of, is_numbered, slot_under, slot_of, message_in, received_by, kept_by, but_number, key_of as receipt_key, HasAbcastRange, HasNoAbcast, IsHeld, IsReceivedOf, IsLedByReceipts}
 
 -- a message with its key
 abbrev pub received : Receipt → Slot → Received
@@ -61,10 +62,10 @@ kept_left slots slots' n (x ∷ xs) still =
 -- Where each slot is taken
 
 module _ (slots : ℕ → Option Slot) where
-  first_held : (x : Receipt) (xs : List Receipt) → IsHeld slots (x ∷ xs) → (s : Slot) × (slots x.slot ≡ Some s) × (s.message.id ≡ x.id) × (kept_by slots (x ∷ xs) ≡ received x s ∷ kept_by slots xs)
+  first_held : (x : Receipt) (xs : List Receipt) → IsHeld slots (x ∷ xs) → (s : Slot) × (slots x.slot ≡ Some s) × (s.message.id ≡ x.id) × (kept_by slots (x ∷ xs) ≡ received x s ∷ kept_by slots xs) × (is_abcast s.message ≡ x.atomic)
   first_held x xs held =
       let s = held x (contains_here x xs) in
-      (s.0, s.1, s.2, ap (λ (o : Option Slot). cons_option (option_map (received x) o) (kept_by slots xs)) s.1)
+      (s.0, s.1, s.2, ap (λ (o : Option Slot). cons_option (option_map (received x) o) (kept_by slots xs)) s.1, s.3)
 
   later_held : (x : Receipt) (xs : List Receipt) → IsHeld slots (x ∷ xs) → IsHeld slots xs
   later_held x xs held r there = held r (contains_later r x xs there)
@@ -138,28 +139,28 @@ module _ (slots : ℕ → Option Slot) where
       ]
 
   -- a receipt's message is kept
-  kept_there : (xs : List Receipt) (r : Receipt) → IsHeld slots xs → Contains xs r → (y : Received) × Contains (kept_by slots xs) y × (y.key ≡ record { 0 = r.number }) × (y.message.id ≡ r.id)
+  kept_there : (xs : List Receipt) (r : Receipt) → IsHeld slots xs → Contains xs r → (y : Received) × Contains (kept_by slots xs) y × (y.key ≡ receipt_key r) × (y.message.id ≡ r.id) × (is_abcast y.message ≡ r.atomic)
   kept_there [] r has (k, lt, at) = absurd (omega (arith, lt))
   kept_there (x ∷ xs) r has (zero, lt, at) =
       let first = first_held x xs has in
-      (received x first.0, subst (λ (ys : List Received). Contains ys (received x first.0)) (sym first.3) (contains_here (received x first.0) (kept_by slots xs)), ap (λ (q : Receipt). record { 0 = q.number }) at, first.2 ∙ ap (λ (q : Receipt). q.id) at)
+      (received x first.0, subst (λ (ys : List Received). Contains ys (received x first.0)) (sym first.3) (contains_here (received x first.0) (kept_by slots xs)), ap (λ (q : Receipt). record { 0 = q.number }) at, first.2 ∙ ap (λ (q : Receipt). q.id) at, first.4 ∙ ap (λ (q : Receipt). q.atomic) at)
   kept_there (x ∷ xs) r has (suc k, lt, at) =
       let first = first_held x xs has in
       let y = kept_there xs r (later_held x xs has) (k, omega (arith, lt), at) in
-      (y.0, subst (λ (ys : List Received). Contains ys y.0) (sym first.3) (contains_later y.0 (received x first.0) (kept_by slots xs) y.1), y.2, y.3)
+      (y.0, subst (λ (ys : List Received). Contains ys y.0) (sym first.3) (contains_later y.0 (received x first.0) (kept_by slots xs) y.1), y.2, y.3, y.4)
 
   -- and what is kept has a receipt
-  receipt_there : (xs : List Receipt) (y : Received) → IsHeld slots xs → Contains (kept_by slots xs) y → (r : Receipt) × Contains xs r × (r.id ≡ y.message.id)
+  receipt_there : (xs : List Receipt) (y : Received) → IsHeld slots xs → Contains (kept_by slots xs) y → (r : Receipt) × Contains xs r × (r.id ≡ y.message.id) × (r.atomic ≡ is_abcast y.message)
   receipt_there [] y has (k, lt, at) = absurd (omega (arith, lt))
   receipt_there (x ∷ xs) y has there =
       let first = first_held x xs has in
-      by first.0 first.2 (λ later. receipt_there xs y (later_held x xs has) later) (subst (λ (ys : List Received). Contains ys y) first.3 there)
+      by first.0 first.2 first.4 (λ later. receipt_there xs y (later_held x xs has) later) (subst (λ (ys : List Received). Contains ys y) first.3 there)
     where
-      by : (s : Slot) → s.message.id ≡ x.id → (Contains (kept_by slots xs) y → (r : Receipt) × Contains xs r × (r.id ≡ y.message.id)) → Contains (received x s ∷ kept_by slots xs) y → (r : Receipt) × Contains (x ∷ xs) r × (r.id ≡ y.message.id)
-      by s its behind (zero, lt, at) = (x, contains_here x xs, sym its ∙ ap (λ (z : Received). z.message.id) at)
-      by s its behind (suc k, lt, at) =
+      by : (s : Slot) → s.message.id ≡ x.id → is_abcast s.message ≡ x.atomic → (Contains (kept_by slots xs) y → (r : Receipt) × Contains xs r × (r.id ≡ y.message.id) × (r.atomic ≡ is_abcast y.message)) → Contains (received x s ∷ kept_by slots xs) y → (r : Receipt) × Contains (x ∷ xs) r × (r.id ≡ y.message.id) × (r.atomic ≡ is_abcast y.message)
+      by s its kind behind (zero, lt, at) = (x, contains_here x xs, sym its ∙ ap (λ (z : Received). z.message.id) at, sym kind ∙ ap (λ (z : Received). is_abcast z.message) at)
+      by s its kind behind (suc k, lt, at) =
           let r = behind (k, omega (arith, lt), at) in
-          (r.0, contains_later r.0 x xs r.1, r.2)
+          (r.0, contains_later r.0 x xs r.1, r.2, r.3)
 
   -- so of what passes and of what fails
   kept_of : (Passes : Uid → Type 0) (xs : List Receipt) (k : Key) → IsHeld slots xs → IsReceivedOf Passes xs k → IsKeptOf Passes (kept_by slots xs) k
@@ -181,3 +182,33 @@ module _ (slots : ℕ → Option Slot) where
   pub led_by_none : (Fails : Uid → Type 0) (xs : List Receipt) (o : Option Key) → IsHeld slots xs → IfNone o (IsLedByReceipts Fails xs) → IfNone o (IsLedBy Fails (kept_by slots xs))
   led_by_none Fails xs None has led = led_by Fails xs has led
   led_by_none Fails xs (Some k) has led = tt
+
+  -- and of the ABCASTs of a source
+  abcast_range : (xs : List Receipt) (s : Source) (range : ℕ × ℕ) → IsHeld slots xs → HasAbcastRange xs s range → KeepsAbcastRange (kept_by slots xs) s range
+  abcast_range xs s range has counts = record {
+    least = kept counts.least.0 counts.least.1 range.0 counts.least.2 counts.least.3 counts.least.4;
+    greatest = kept counts.greatest.0 counts.greatest.1 range.1 counts.greatest.2 counts.greatest.3 counts.greatest.4;
+    within = λ y there is its.
+        let r = receipt_there xs y has there in
+        let both = counts.within r.0 r.1 (r.3 ∙ is) (ap source_of r.2 ∙ its) in
+        let same = ap (λ (u : Uid). u.count) r.2 in
+        (omega (arith, both.0, same), omega (arith, both.1, same));
+  }
+    where
+      kept : (r : Receipt) → Contains xs r → (n : ℕ) → r.atomic ≡ true → source_of r.id ≡ s → r.id.count ≡ n → KeepsAbcast (kept_by slots xs) s n
+      kept r there n is its counts =
+          let y = kept_there xs r has there in
+          (y.0, y.1, y.4 ∙ is, ap source_of y.3 ∙ its, ap (λ (u : Uid). u.count) y.3 ∙ counts)
+
+  pub abcast_range_some : (xs : List Receipt) (s : Source) (o : Option (ℕ × ℕ)) → IsHeld slots xs → IfSome o (HasAbcastRange xs s) → IfSome o (KeepsAbcastRange (kept_by slots xs) s)
+  abcast_range_some xs s None has counts = tt
+  abcast_range_some xs s (Some range) has counts = abcast_range xs s range has counts
+
+  no_abcast : (xs : List Receipt) (s : Source) → IsHeld slots xs → HasNoAbcast xs s → KeepsNoAbcast (kept_by slots xs) s
+  no_abcast xs s has none y there its =
+      let r = receipt_there xs y has there in
+      sym r.3 ∙ none r.0 r.1 (ap source_of r.2 ∙ its)
+
+  pub no_abcast_none : (xs : List Receipt) (s : Source) (o : Option (ℕ × ℕ)) → IsHeld slots xs → IfNone o (HasNoAbcast xs s) → IfNone o (KeepsNoAbcast (kept_by slots xs) s)
+  no_abcast_none xs s None has none = no_abcast xs s has none
+  no_abcast_none xs s (Some range) has none = tt

@@ -11,7 +11,8 @@ use Rattle.cast_types.proofs.Contains.{contains_here, contains_later}
 use Rattle.cast_message.specs.declared.message.Message.{Message}
 use Rattle.cast_store.specs.declared.receipt.Receipt.{Receipt}
 use Rattle.cast_store.specs.declared.slot.Slot.{Slot}
-use Rattle.cast_store.specs.Lines.{slot_under, slot_with, but_number, only, IsStocked}
+use Rattle.cast_store.specs.Ids.{is_abcast}
+use Rattle.cast_store.specs.Lines.{receipt_of, slot_under, slot_with, but_number, only, IsStocked}
 use Rattle.cast_store.proofs.Finds.{find_push_yes, find_filter}
 
 -- Lists
@@ -84,13 +85,13 @@ other_domain d e differ same = true≢false (sym (eq-eqb e.0 d.0 (ap (λ (n : Do
 
 -- a receipt names a slot that is taken for it
 abbrev IsTaken : (ℕ → Option Slot) → DomainNo → Receipt → Type 0
-IsTaken slots d r = (s : Slot) × (slots r.slot ≡ Some s) × (s.domain ≡ d) × (s.number ≡ r.number) × (s.message.id ≡ r.id)
+IsTaken slots d r = (s : Slot) × (slots r.slot ≡ Some s) × (s.domain ≡ d) × (s.number ≡ r.number) × (s.message.id ≡ r.id) × (is_abcast s.message ≡ r.atomic)
 
 module _ (receipts receipts' : DomainNo → List Receipt) (slots slots' : ℕ → Option Slot) (sound : IsStocked receipts slots)
     (d : DomainNo) (rest : (e : DomainNo) → e ≢ d → receipts' e ≡ receipts e) where
   -- a slot that has not changed is taken as it was
   taken_still : (e : DomainNo) (q : Receipt) → Contains (receipts e) q → slots' q.slot ≡ slots q.slot → IsTaken slots' e q
-  taken_still e q there stays = let s = sound.taken e q there in (s.0, stays ∙ s.1, s.2, s.3, s.4)
+  taken_still e q there stays = let s = sound.taken e q there in (s.0, stays ∙ s.1, s.2, s.3, s.4, s.5)
 
   named_still : (key : ℕ) (s : Slot) → slots key ≡ Some s → s.domain ≢ d → slot_under (receipts' s.domain) s.number ≡ Some key
   named_still key s is differ = ap (λ (xs : List Receipt). slot_under xs s.number) (rest s.domain differ) ∙ sound.named key s is
@@ -98,9 +99,9 @@ module _ (receipts receipts' : DomainNo → List Receipt) (slots slots' : ℕ �
   -- a message is added, in a slot that was vacant
   module _ (n key : ℕ) (m : Message) (vacant : slots key ≡ None) (free : slot_under (receipts d) n ≡ None)
       (slot : slots' key ≡ Some (slot_with d n m)) (slots_stay : (other : ℕ) → other ≢ key → slots' other ≡ slots other)
-      (own : receipts' d ≡ receipts d ++ (record { number = n; slot = key; id = m.id }) ∷ []) where
+      (own : receipts' d ≡ receipts d ++ receipt_of n key m ∷ []) where
     abbrev r : Receipt
-    r = record { number = n; slot = key; id = m.id }
+    r = receipt_of n key m
 
     -- no receipt named it
     pub added_still : (e : DomainNo) (q : Receipt) → Contains (receipts e) q → slots' q.slot ≡ slots q.slot
@@ -112,7 +113,7 @@ module _ (receipts receipts' : DomainNo → List Receipt) (slots slots' : ℕ �
           let is = same_domain d e same in
           elim (Contains-push_cases (receipts d) r q (subst (λ (xs : List Receipt). Contains xs q) (ap receipts' is ∙ own) there)) [
             | inl before ↦ subst (λ f. IsTaken slots' f q) (sym is) (taken_still d q before (added_still d q before))
-            | inr last ↦ subst (λ f. IsTaken slots' f q) (sym is) (subst (λ p. IsTaken slots' d p) last (slot_with d n m, slot, refl, refl, refl))
+            | inr last ↦ subst (λ f. IsTaken slots' f q) (sym is) (subst (λ p. IsTaken slots' d p) last (slot_with d n m, slot, refl, refl, refl, refl))
           ]
       | inr differ ↦
           let before = subst (λ (xs : List Receipt). Contains xs q) (rest e (other_domain d e differ)) there in

@@ -1,6 +1,7 @@
 ghost use Rattle.std.specs.Prelude.{◌≡◌, ◌<◌, ◌++◌, [], Some, get_or, length, slice_get};
 ghost use Rattle.std.specs.Option.{option_map};
 ghost use Rattle.cast_store.specs.declared.receipt.Receipt.{Receipt};
+ghost use Rattle.cast_store.specs.Ids.{is_abcast};
 ghost use Rattle.cast_store.specs.Lines.{kept_by, IsHeld};
 ghost use Rattle.slab.specs.Slab.{get as slot_at};
 
@@ -79,6 +80,14 @@ impl<'a> Kept<'a> {
         ensures { option_map (λ r. r.message.id) (slice_get self.now place) ≡ Some result }
     {
         receipt_at(self.front, self.back, place).id
+    }
+
+    /// Whether the message of a place is an ABCAST.
+    pub fn is_atomic(&self, place: usize) -> bool
+        requires { place < length self.now }
+        ensures { option_map (λ r. is_abcast r.message) (slice_get self.now place) ≡ Some result }
+    {
+        receipt_at(self.front, self.back, place).atomic
     }
 }
 

@@ -6,14 +6,14 @@ ghost use Rattle.cast_types.specs.declared.names.Uid.{Uid};
 ghost use Rattle.cast_index.specs.Index.{has};
 ghost use Rattle.cast_index.specs.Rises.{rises};
 ghost use Rattle.cast_store.specs.declared.receipt.Receipt.{Receipt};
-ghost use Rattle.cast_store.specs.Lines.{is_named, is_numbered, number_of, slot_of, slot_with, slot_under, with_receipt, without_number, IsFilled, IsLedByReceipts, IsReceivedOf};
+ghost use Rattle.cast_store.specs.Lines.{is_abcast_named, is_named, is_numbered, key_of, number_of, slot_of, slot_with, slot_under, with_receipt, without_number, HasAbcastRange, HasNoAbcast, IsFilled, IsLedByReceipts, IsReceivedOf};
 ghost use Rattle.slab.specs.Slab.{get as slot_at};
 
 use crate::receipt::Receipt;
+use crate::row_ids::Ids;
 use crate::slot::Slot;
-use cast_index::Index;
 use cast_message::Message;
-use cast_types::{DomainNo, Key, NoMemory, Uid, source_of};
+use cast_types::{DomainNo, Key, NoMemory, Source, Uid, source_of};
 use slab::Slab;
 use std::alloc::Global;
 use std::collections::VecDeque;
@@ -22,12 +22,10 @@ use std::marker::Model;
 /// The receipts of the messages that one domain keeps, in order.
 #[derive(Drop)]
 pub(crate) struct Row {
-    domain: DomainNo,
     /// The number of the next receipt, above each that was given out.
     next: usize,
     receipts: VecDeque<Receipt>,
-    /// The ids of the messages, with the numbers of their receipts as keys.
-    ids: Index,
+    ids: Ids,
 }
 
 impl Model for Row {
@@ -35,21 +33,30 @@ impl Model for Row {
 
     ghost Value = { Line };
 
-    ghost view = { λ r. record { domain = r.domain; next = r.next; receipts = r.receipts.items } };
+    ghost view = { λ r. record { next = r.next; receipts = r.receipts.items } };
 
     ghost invariant = { λ r. IsInOrder r.next r.receipts.items r.ids };
 }
 
+impl Clone for Row {
+    ghost use Rattle.std.specs.Prelude.{◌≡◌};
+
+    ghost is_clone = { λ x y. y ≡ x };
+
+    fn clone(&self) -> Result<Self, NoMemory> {
+        self.copy()
+    }
+}
+
 impl Row {
     /// No receipts.
-    pub(crate) fn new(alloc: Global, domain: DomainNo) -> Self
-        ensures { result ≡ record { domain = domain; next = 0; receipts = [] } }
+    pub(crate) fn new(alloc: Global) -> Self
+        ensures { result ≡ record { next = 0; receipts = [] } }
     {
         Row {
-            domain,
             next: 0,
             receipts: VecDeque::new(alloc),
-            ids: Index::new(alloc),
+            ids: Ids::new(alloc),
         }
     }
 
@@ -58,18 +65,10 @@ impl Row {
         ensures { IfOk result (λ row. row ≡ self.now) }
     {
         Ok(Row {
-            domain: self.domain,
             next: self.next,
             receipts: copy_receipts(&self.receipts)?,
             ids: self.ids.copy()?,
         })
-    }
-
-    /// Whose receipts these are.
-    pub(crate) fn domain(&self) -> DomainNo
-        ensures { result ≡ self.now.domain }
-    {
-        self.domain
     }
 
     /// The next key.
@@ -79,12 +78,17 @@ impl Row {
         Key(self.next)
     }
 
-    /// Keeps a message in a slot of its own, under the next key. It comes back, and nothing is changed, where there is no
+    /// Keeps a message of a domain in a slot of its own, under the next key. It comes back, and nothing is changed, where there is no
     /// memory or no key is left.
-    pub(crate) fn put(&mut self, slots: &mut Slab<Slot>, message: Message) -> Result<Key, Message>
+    pub(crate) fn put(
+        &mut self,
+        slots: &mut Slab<Slot>,
+        domain: DomainNo,
+        message: Message,
+    ) -> Result<Key, Message>
         ensures key { IfOk result (λ key. key ≡ record { 0 = self.old.next }) }
-        ensures ok { OnOk result (self.new ≡ with_receipt slots.old.vacant_key message.id self.old) }
-        ensures filled { OnOk result (IsFilled (slot_with self.old.domain self.old.next message) slots.old slots.new) }
+        ensures ok { OnOk result (self.new ≡ with_receipt slots.old.vacant_key message self.old) }
+        ensures filled { OnOk result (IsFilled (slot_with domain self.old.next message) slots.old slots.new) }
         ensures free { slot_under self.old.receipts self.old.next ≡ None }
         ensures back { IfErr result (λ back. back ≡ message) }
         ensures err { OnErr result (self.new ≡ self.old) }
@@ -101,12 +105,13 @@ impl Row {
             number,
             slot: slots.vacant_key(),
             id: message.id,
+            atomic: message.kind().is_atomic(),
         };
         if add(&mut self.receipts, &mut self.ids, receipt).is_err() {
             return Err(message);
         }
         slots.insert_reserved(Slot {
-            domain: self.domain,
+            domain,
             number,
             message,
         });
@@ -136,7 +141,7 @@ impl Row {
     pub(crate) fn slot_of(&self, id: Uid) -> Option<usize>
         ensures { result ≡ slot_of self.now.receipts id }
     {
-        let key = self.ids.key_of(id)?;
+        let key = self.ids.all.key_of(id)?;
         self.slot_under(key)
     }
 
@@ -147,13 +152,24 @@ impl Row {
         ensures none { IfNone result (IsLedByReceipts (λ id. F.post passes id false) self.now.receipts) }
     {
         let mut after = None;
-        while let Some(id) = self.ids.first_behind(after) {
+        while let Some(id) = self.ids.all.first_behind(after) {
             if passes(id) {
-                return self.ids.key_of(id);
+                return self.ids.all.key_of(id);
             }
             after = Some(source_of(id));
         }
         None
+    }
+
+    /// The least and the greatest count of the ABCASTs of a source, `None` where there is none.
+    pub(crate) fn atomic_counts(&self, source: Source) -> Option<(u32, u32)>
+        ensures some { IfSome result (HasAbcastRange self.now.receipts source) }
+        ensures none { IfNone result (HasNoAbcast self.now.receipts source) }
+    {
+        if self.ids.abcasts.is_empty() {
+            return None;
+        }
+        self.ids.abcasts.count_range(source)
     }
 
     /// The receipts, in order.
@@ -165,31 +181,31 @@ impl Row {
     }
 }
 
-// Adds a receipt, and its id. `NoMemory` leaves the receipts, and the index without the id under this number.
-fn add(receipts: &mut VecDeque<Receipt>, ids: &mut Index, receipt: Receipt) -> Result<(), NoMemory>
+// Adds a receipt, and its id. `NoMemory` leaves the receipts, and all ids but this one under this number.
+fn add(receipts: &mut VecDeque<Receipt>, ids: &mut Ids, receipt: Receipt) -> Result<(), NoMemory>
     ensures added { OnOk result (receipts.new.items ≡ receipts.old.items ++ receipt ∷ []) }
-    ensures named { OnOk result ((u : Uid) (k : Key) → has ids.new u k ≡ cond (is_named u k receipt) true (has ids.old u k)) }
+    ensures named { OnOk result ((u : Uid) (k : Key) → has ids.new.all u k ≡ cond (is_named u k receipt) true (has ids.old.all u k)) }
+    ensures named_abcast { OnOk result ((u : Uid) (k : Key) → has ids.new.abcasts u k ≡ cond (is_abcast_named u k receipt) true (has ids.old.abcasts u k)) }
     ensures same { OnErr result (receipts.new.items ≡ receipts.old.items) }
-    ensures unnamed { OnErr result (has ids.old receipt.id (record { 0 = receipt.number }) ≡ false → (u : Uid) (k : Key) → has ids.new u k ≡ has ids.old u k) }
+    ensures unnamed { OnErr result (has ids.old.all receipt.id (key_of receipt) ≡ false → (u : Uid) (k : Key) → has ids.new.all u k ≡ has ids.old.all u k) }
+    ensures no_abcast { OnErr result (ids.new.abcasts ≡ ids.old.abcasts) }
 {
-    let key = Key(receipt.number);
-    ids.insert(receipt.id, key)?;
-    if let Err(refused) = receipts.push_back(receipt) {
-        ids.remove(receipt.id, key);
-        return Err(refused.into());
-    }
+    receipts.reserve(1)?;
+    ids.insert(receipt)?;
+    receipts.push_back_reserved(receipt);
     Ok(())
 }
 
 // Takes out the receipt of a place, and its id, and gives its slot.
-fn take_out(receipts: &mut VecDeque<Receipt>, ids: &mut Index, place: usize) -> Option<usize>
+fn take_out(receipts: &mut VecDeque<Receipt>, ids: &mut Ids, place: usize) -> Option<usize>
     requires { place < deque_len receipts.old }
     ensures value { (r : Receipt) → result ≡ Some (get_or receipts.old.items place r).slot }
     ensures left { receipts.new.items ≡ remove receipts.old.items place }
-    ensures unnamed { (r : Receipt) (u : Uid) (k : Key) → has ids.new u k ≡ cond (is_named u k (get_or receipts.old.items place r)) false (has ids.old u k) }
+    ensures unnamed { (r : Receipt) (u : Uid) (k : Key) → has ids.new.all u k ≡ cond (is_named u k (get_or receipts.old.items place r)) false (has ids.old.all u k) }
+    ensures no_abcast { (r : Receipt) (u : Uid) (k : Key) → has ids.new.abcasts u k ≡ cond (is_abcast_named u k (get_or receipts.old.items place r)) false (has ids.old.abcasts u k) }
 {
     let receipt = receipts.remove(place)?;
-    ids.remove(receipt.id, Key(receipt.number));
+    ids.remove(receipt);
     Some(receipt.slot)
 }
 

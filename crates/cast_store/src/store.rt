@@ -1,19 +1,17 @@
-ghost use Rattle.std.specs.Prelude.{◌≡◌, ◌≢◌, ◌+◌, ◌<◌, ◌∷◌, ◌++◌, ◌==◌, [], IfOk, IfErr, IfNone, IfSome, OnOk, OnErr, IsTrue, None, true, false, not, filter, get_or, length, map, vec_len};
+ghost use Rattle.std.specs.Prelude.{◌≡◌, ◌≢◌, ◌<◌, ◌+◌, ◌∷◌, ◌++◌, ◌==◌, [], IfOk, IfErr, IfNone, IfSome, OnOk, OnErr, IsTrue, None, Some, true, false, not, filter, length, map, vec_len};
 ghost use Rattle.std.specs.Option.{option_copied, option_map};
-ghost use Rattle.std.specs.List.{position};
 ghost use Rattle.cast_types.specs.declared.names.DomainNo.{DomainNo};
-ghost use Rattle.cast_types.specs.Places.{update};
 ghost use Rattle.cast_message.specs.Receipts.{key_eq, message_under};
-ghost use Rattle.cast_store.specs.Ids.{IsKeptOf, IsLedBy, message_of};
+ghost use Rattle.cast_store.specs.Ids.{IsKeptOf, IsLedBy, KeepsAbcastRange, KeepsNoAbcast, message_of};
 ghost use Rattle.cast_store.specs.Store.{kept_in, next_in, is_rising};
-ghost use Rattle.cast_store.specs.Lines.{Line, is_line_of, line_of, message_in, only, slot_under, slot_with, with_receipt, without_number, IsEmptied, IsFilled};
+ghost use Rattle.cast_store.specs.Lines.{line_of, line_or_empty, message_in, only, receipts_in, receipts_of, slot_under, slot_with, with_receipt, without_number, ChangesLine, IsEmptied, IsFilled, IsPadded};
 ghost use Rattle.slab.specs.Slab.{get as slot_at, Updates};
 
 use crate::kept::Kept;
 use crate::row::Row;
 use crate::slot::Slot;
 use cast_message::Message;
-use cast_types::{DomainNo, Key, NoMemory, Uid};
+use cast_types::{DomainNo, Key, NoMemory, Source, Uid};
 use slab::Slab;
 use std::alloc::Global;
 use std::marker::Model;
@@ -22,8 +20,8 @@ use std::marker::Model;
 /// of the domain's messages with their keys, in order of receipt; and `next_in`: the number of the domain's next key.
 #[derive(Drop)]
 pub struct Store {
-    // Of each domain the receipts of its messages, in order.
-    rows: Vec<Row>,
+    // Of each domain the receipts of its messages, in order, at the place of its number.
+    rows: Vec<Option<Row>>,
     // The messages of all domains.
     slots: Slab<Slot>,
 }
@@ -59,7 +57,7 @@ impl Store {
         ensures { IfOk result (λ store. store ≡ self.now) }
     {
         Ok(Store {
-            rows: copy_rows(*self.rows.allocator(), &self.rows)?,
+            rows: copy_rows(&self.rows)?,
             slots: copy_slots(&self.slots)?,
         })
     }
@@ -75,17 +73,14 @@ impl Store {
         ensures err { OnErr result (self.new ≡ self.old) }
         ensures others { (e : DomainNo) → e ≢ domain → (kept_in self.new e ≡ kept_in self.old e) × (next_in self.new e ≡ next_in self.old e) }
     {
-        match place_among(&self.rows, domain) {
-            Some(place) => put_at(&mut self.rows, &mut self.slots, place, message),
-            None => put_first(&mut self.rows, &mut self.slots, domain, message),
-        }
+        put_in(&mut self.rows, &mut self.slots, domain, message)
     }
 
     /// The message that a domain keeps under a key, `None` where it keeps none there. Takes no memory.
     pub fn get(&self, domain: DomainNo, key: Key) -> Option<&Message>
         ensures { option_copied result ≡ message_under (kept_in self.now domain) key }
     {
-        match row_among(&self.rows, domain) {
+        match row_of(&self.rows, domain) {
             Some(row) => message_in(&self.slots, row.slot_under(key)),
             None => None,
         }
@@ -95,7 +90,7 @@ impl Store {
     pub fn find(&self, domain: DomainNo, id: Uid) -> Option<&Message>
         ensures { option_copied result ≡ message_of (kept_in self.now domain) id }
     {
-        match row_among(&self.rows, domain) {
+        match row_of(&self.rows, domain) {
             Some(row) => message_in(&self.slots, row.slot_of(id)),
             None => None,
         }
@@ -108,8 +103,20 @@ impl Store {
         ensures some { IfSome result (IsKeptOf (λ id. F.post passes id true) (kept_in self.now domain)) }
         ensures none { IfNone result (IsLedBy (λ id. F.post passes id false) (kept_in self.now domain)) }
     {
-        match row_among(&self.rows, domain) {
+        match row_of(&self.rows, domain) {
             Some(row) => row.first_passing(passes),
+            None => None,
+        }
+    }
+
+    /// The least and the greatest count of the ABCASTs of a source that a domain keeps, `None` where it keeps none. Takes no
+    /// memory.
+    pub fn atomic_counts(&self, domain: DomainNo, source: Source) -> Option<(u32, u32)>
+        ensures some { IfSome result (KeepsAbcastRange (kept_in self.now domain) source) }
+        ensures none { IfNone result (KeepsNoAbcast (kept_in self.now domain) source) }
+    {
+        match row_of(&self.rows, domain) {
+            Some(row) => row.atomic_counts(source),
             None => None,
         }
     }
@@ -123,17 +130,14 @@ impl Store {
         ensures none { IfNone result (self.new ≡ self.old) }
         ensures others { (e : DomainNo) → e ≢ domain → (kept_in self.new e ≡ kept_in self.old e) × (next_in self.new e ≡ next_in self.old e) }
     {
-        match place_among(&self.rows, domain) {
-            Some(place) => remove_at(&mut self.rows, &mut self.slots, place, key),
-            None => None,
-        }
+        remove_in(&mut self.rows, &mut self.slots, domain, key)
     }
 
     /// The key of the message that the domain keeps next. Takes no memory.
     pub fn next_key(&self, domain: DomainNo) -> Key
         ensures { result ≡ record { 0 = next_in self.now domain } }
     {
-        match row_among(&self.rows, domain) {
+        match row_of(&self.rows, domain) {
             Some(row) => row.next_key(),
             None => Key(0),
         }
@@ -152,7 +156,7 @@ impl Store {
         ensures value { result ≡ kept_in self.now domain }
         ensures rising { IsTrue (is_rising (next_in self.now domain) (kept_in self.now domain)) }
     {
-        match row_among(&self.rows, domain) {
+        match row_of(&self.rows, domain) {
             Some(row) => Kept::new(row.receipts(), &self.slots),
             None => Kept::empty(&self.slots),
         }
@@ -164,24 +168,16 @@ impl Store {
         ensures next { next_in self.new domain ≡ 0 }
         ensures others { (e : DomainNo) → e ≢ domain → (kept_in self.new e ≡ kept_in self.old e) × (next_in self.new e ≡ next_in self.old e) }
     {
-        drop_rows(&mut self.rows, domain);
+        drop_row(&mut self.rows, domain);
         drop_slots(&mut self.slots, domain);
     }
 }
 
 // The receipts of a domain.
-fn row_among(rows: &[Row], domain: DomainNo) -> Option<&Row>
+fn row_of(rows: &[Option<Row>], domain: DomainNo) -> Option<&Row>
     ensures { option_copied result ≡ line_of rows.now domain }
 {
-    rows.iter().find(|row| row.domain() == domain)
-}
-
-// Where they are.
-fn place_among(rows: &[Row], domain: DomainNo) -> Option<usize>
-    ensures place { result ≡ position (is_line_of domain) rows.now }
-    ensures within { IfSome result (λ i. i < length rows.now) }
-{
-    rows.iter().position(|row| row.domain() == domain)
+    rows.get(usize::from(domain.0))?.as_ref()
 }
 
 // The message in a slot, if there is one.
@@ -192,60 +188,104 @@ fn message_in(slots: &Slab<Slot>, slot: Option<usize>) -> Option<&Message>
     Some(&slot.message)
 }
 
-// Keeps a message for the domain of a place.
-#[tactic(auto, using(cast_types::proofs::Updates::set_update))]
-fn put_at(
-    rows: &mut Vec<Row>,
-    slots: &mut Slab<Slot>,
-    place: usize,
-    message: Message,
-) -> Result<Key, Message>
-    requires { place < vec_len rows.old }
-    ensures key { IfOk result (λ key. (l : Line) → key ≡ record { 0 = (get_or rows.old.items place l).next }) }
-    ensures ok { OnOk result (rows.new.items ≡ update rows.old.items place (with_receipt slots.old.vacant_key message.id)) }
-    ensures filled { OnOk result ((l : Line) → IsFilled (slot_with (get_or rows.old.items place l).domain (get_or rows.old.items place l).next message) slots.old slots.new) }
-    ensures free { (l : Line) → slot_under (get_or rows.old.items place l).receipts (get_or rows.old.items place l).next ≡ None }
-    ensures back { IfErr result (λ back. back ≡ message) }
-    ensures err { OnErr result (rows.new.items ≡ rows.old.items) }
-    ensures slots_stay { OnErr result (slots.new.slots ≡ slots.old.slots) }
-{
-    let row = &mut rows[place];
-    row.put(slots, message)
-}
-
-// Keeps a message for a domain that has no row.
-fn put_first(
-    rows: &mut Vec<Row>,
+// Keeps a message for a domain.
+fn put_in(
+    rows: &mut Vec<Option<Row>>,
     slots: &mut Slab<Slot>,
     domain: DomainNo,
     message: Message,
 ) -> Result<Key, Message>
-    ensures key { IfOk result (λ key. key ≡ record { 0 = 0 }) }
-    ensures ok { OnOk result (rows.new.items ≡ rows.old.items ++ with_receipt slots.old.vacant_key message.id (record { domain = domain; next = 0; receipts = [] }) ∷ []) }
-    ensures filled { OnOk result (IsFilled (slot_with domain 0 message) slots.old slots.new) }
+    ensures key { IfOk result (λ key. key ≡ record { 0 = (line_or_empty (line_of rows.old.items domain)).next }) }
+    ensures ok { OnOk result (ChangesLine domain (Some (with_receipt slots.old.vacant_key message (line_or_empty (line_of rows.old.items domain)))) rows.old.items rows.new.items) }
+    ensures filled { OnOk result (IsFilled (slot_with domain (line_or_empty (line_of rows.old.items domain)).next message) slots.old slots.new) }
+    ensures free { slot_under (line_or_empty (line_of rows.old.items domain)).receipts (line_or_empty (line_of rows.old.items domain)).next ≡ None }
     ensures back { IfErr result (λ back. back ≡ message) }
-    ensures err { OnErr result (rows.new.items ≡ rows.old.items) }
+    ensures err { OnErr result (IsPadded rows.old.items rows.new.items) }
     ensures slots_stay { OnErr result (slots.new.slots ≡ slots.old.slots) }
 {
-    if rows.reserve(1).is_err() {
+    if make_place(rows, domain).is_err() {
         return Err(message);
     }
-    let mut row = Row::new(*rows.allocator(), domain);
-    let key = row.put(slots, message)?;
-    rows.push_reserved(row);
-    Ok(key)
+    let alloc = *rows.allocator();
+    let row = &mut rows[usize::from(domain.0)];
+    put_at(row, slots, alloc, domain, message)
 }
 
-// Takes out a message of the domain of a place.
-#[tactic(auto, using(cast_types::proofs::Updates::set_update))]
-fn remove_at(rows: &mut Vec<Row>, slots: &mut Slab<Slot>, place: usize, key: Key) -> Option<Message>
-    requires { place < vec_len rows.old }
-    ensures value { (l : Line) → result ≡ message_in (slot_at slots.old) (slot_under (get_or rows.old.items place l).receipts key.0) }
-    ensures left { rows.new.items ≡ update rows.old.items place (without_number key.0) }
-    ensures gone { (l : Line) → IsEmptied slots.old slots.new (slot_under (get_or rows.old.items place l).receipts key.0) }
-    ensures none { (l : Line) → slot_under (get_or rows.old.items place l).receipts key.0 ≡ None → rows.new.items ≡ rows.old.items }
+// Keeps a message in the row of a domain, which is a new one where there is none.
+fn put_at(
+    place: &mut Option<Row>,
+    slots: &mut Slab<Slot>,
+    alloc: Global,
+    domain: DomainNo,
+    message: Message,
+) -> Result<Key, Message>
+    ensures key { IfOk result (λ key. key ≡ record { 0 = (line_or_empty place.old).next }) }
+    ensures ok { OnOk result (place.new ≡ Some (with_receipt slots.old.vacant_key message (line_or_empty place.old))) }
+    ensures filled { OnOk result (IsFilled (slot_with domain (line_or_empty place.old).next message) slots.old slots.new) }
+    ensures free { slot_under (line_or_empty place.old).receipts (line_or_empty place.old).next ≡ None }
+    ensures back { IfErr result (λ back. back ≡ message) }
+    ensures err { OnErr result (place.new ≡ place.old) }
+    ensures slots_stay { OnErr result (slots.new.slots ≡ slots.old.slots) }
 {
-    let row = &mut rows[place];
+    match place {
+        Some(row) => row.put(slots, domain, message),
+        None => {
+            let mut row = Row::new(alloc);
+            let key = row.put(slots, domain, message)?;
+            *place = Some(row);
+            Ok(key)
+        }
+    }
+}
+
+// Makes the list long enough for the row of a domain: the places that it gets have none.
+fn make_place(rows: &mut Vec<Option<Row>>, domain: DomainNo) -> Result<(), NoMemory>
+    ensures within { OnOk result (domain.0 < vec_len rows.new) }
+    ensures absent { OnErr result (line_of rows.old.items domain ≡ None) }
+    ensures padded { IsPadded rows.old.items rows.new.items }
+{
+    let place = usize::from(domain.0);
+    if rows.len() <= place {
+        rows.resize_with(place + 1, || None)?;
+    }
+    Ok(())
+}
+
+// Lets go of the receipts of a domain.
+fn drop_row(rows: &mut Vec<Option<Row>>, domain: DomainNo)
+    ensures { ChangesLine domain None rows.old.items rows.new.items }
+{
+    if let Some(row) = rows.get_mut(usize::from(domain.0)) {
+        *row = None;
+    }
+}
+
+// Takes out a message of a domain.
+fn remove_in(
+    rows: &mut Vec<Option<Row>>,
+    slots: &mut Slab<Slot>,
+    domain: DomainNo,
+    key: Key,
+) -> Option<Message>
+    ensures value { result ≡ message_in (slot_at slots.old) (slot_under (receipts_in rows.old.items domain) key.0) }
+    ensures left { ChangesLine domain (option_map (without_number key.0) (line_of rows.old.items domain)) rows.old.items rows.new.items }
+    ensures gone { IsEmptied slots.old slots.new (slot_under (receipts_in rows.old.items domain) key.0) }
+    ensures none { slot_under (receipts_in rows.old.items domain) key.0 ≡ None → rows.new.items ≡ rows.old.items }
+{
+    match rows.get_mut(usize::from(domain.0)) {
+        Some(row) => remove_at(row, slots, key),
+        None => None,
+    }
+}
+
+// Takes out a message of the row of a domain, if there is one.
+fn remove_at(place: &mut Option<Row>, slots: &mut Slab<Slot>, key: Key) -> Option<Message>
+    ensures value { result ≡ message_in (slot_at slots.old) (slot_under (receipts_of place.old) key.0) }
+    ensures left { place.new ≡ option_map (without_number key.0) place.old }
+    ensures gone { IsEmptied slots.old slots.new (slot_under (receipts_of place.old) key.0) }
+    ensures none { slot_under (receipts_of place.old) key.0 ≡ None → place.new ≡ place.old }
+{
+    let row = place.as_mut()?;
     match row.remove(key) {
         Some(slot) => take_out(slots, slot),
         None => None,
@@ -261,13 +301,6 @@ fn take_out(slots: &mut Slab<Slot>, slot: usize) -> Option<Message>
     Some(slot.message)
 }
 
-// Keeps the rows of other domains.
-fn drop_rows(rows: &mut Vec<Row>, domain: DomainNo)
-    ensures { rows.new.items ≡ filter (λ l. not (is_line_of domain l)) rows.old.items }
-{
-    rows.retain(|row| row.domain() != domain);
-}
-
 // Keeps the messages of other domains.
 fn drop_slots(slots: &mut Slab<Slot>, domain: DomainNo)
     ensures { slots.new.slots ≡ map (only (λ s. not (s.domain.0 == domain.0))) slots.old.slots }
@@ -276,14 +309,10 @@ fn drop_slots(slots: &mut Slab<Slot>, domain: DomainNo)
 }
 
 // Rows, copied.
-fn copy_rows(alloc: Global, rows: &[Row]) -> Result<Vec<Row>, NoMemory>
-    ensures { IfOk result (λ copy. copy.items ≡ rows.now) }
+fn copy_rows(rows: &Vec<Option<Row>>) -> Result<Vec<Option<Row>>, NoMemory>
+    ensures { IfOk result (λ copy. copy.items ≡ rows.now.items) }
 {
-    let mut copied = Vec::with_capacity(alloc, rows.len())?;
-    for row in rows {
-        copied.push(row.copy()?)?;
-    }
-    Ok(copied)
+    rows.clone()
 }
 
 // Slots, copied: each message has the key that it had.

@@ -1,14 +1,15 @@
-use Rattle.std.proofs.Common.{◌≡◌, List, Some, None, ap, sym, subst, ◌∙◌}
+use Rattle.std.proofs.Common.{◌≡◌, Some, None, ap, sym, subst, ◌∙◌}
 use Rattle.slab.specs.Slab.{get as slot_at}
-use Rattle.cast_store.specs.Lines.{Line, line_of, kept_by, IsHeld}
+use Rattle.cast_store.specs.Lines.{line_of, kept_by, IsHeld}
 use Rattle.cast_store.specs.Store.{is_rising}
 use Rattle.cast_store.proofs.Shows.{rising_kept}
+use Rattle.cast_store.proofs.Lines.{looked_up}
 use Rattle.cast_store.proofs.Slots.{held_at, kept_seen_at, next_seen_at}
 use Rattle.cast_store.proofs.store.Store.messages.Goals as goal
 
 -- the domain's line
 at : (c : goal.After-receipts) → line_of c.self.inside.rows.items c.args.domain ≡ Some c.in-Some.row.now
-at c = sym (c.in-Some.ensures ∙ ap (λ (rows : List Line). line_of rows c.args.domain) c.deref.ensures.value)
+at c = looked_up c.args.domain c.deref.ensures.value c.in-Some.ensures
 
 pub new-requires : goal.new-requires
 new-requires c =
@@ -34,7 +35,7 @@ returns-in-Some-clause-rising c =
 
 -- and where it has none
 absent : (c : goal.After-empty) → line_of c.self.inside.rows.items c.args.domain ≡ None
-absent c = sym (c.in-None.ensures ∙ ap (λ (rows : List Line). line_of rows c.args.domain) c.deref.ensures.value)
+absent c = looked_up c.args.domain c.deref.ensures.value c.in-None.ensures
 
 pub returns-in-None-clause-value : goal.returns-in-None-clause-value
 returns-in-None-clause-value c =
