@@ -1,5 +1,5 @@
 -- What is told of a process, and what it delivers, its row takes in.
-use Rattle.std.proofs.Common.{◌≡◌, ◌↔◌, ◌⊎◌, ℕ, ◌+◌, ◌-◌, ◌<◌, ◌≤◌, true, false, cond, ◌&&◌, ◌||◌, List, [], ◌∷◌, Option, Some, unwrap_or, refl, sym, ap, subst, ◌∙◌, inl, inr, arith}
+use Rattle.std.proofs.Common.{◌≡◌, ◌↔◌, ◌⊎◌, ℕ, ◌-◌, ◌<◌, ◌≤◌, true, false, cond, ◌&&◌, ◌||◌, List, [], ◌∷◌, Option, Some, unwrap_or, refl, sym, ap, subst, ◌∙◌, inl, inr, arith}
 use Rattle.std.specs.Prelude.{nat_lt, nat_le, ◌==◌, if◌then◌else◌}
 use Rattle.std.specs.Ordering.{eq_by_cmp}
 use Rattle.std.specs.FinMap.Entries.{find, find-put}
@@ -100,10 +100,6 @@ module _ (gates : List (GroupNo × Gate)) (row : Row) (id : Uid) (times : ClockL
       subst (λ w. nat_le (needed id g w (id.proc, id.count)) (done_in row g w id.proc) ≡ true) view
       (subst (λ n. nat_le (needed id g v (id.proc, n)) (done_in row g v id.proc) ≡ true) count found) in
       omega (arith, leb-true (needed id g id.view (id.proc, id.count)) (done_in row g id.view id.proc) own, needed_own id g id.view (id.proc, id.count) (uid_itself id))
-
-  -- so it is the next one of its source
-  pub next_count : id.count ≡ done_in row id.group id.view id.proc + 1
-  next_count = omega (arith, all_before, ready.fresh)
 
 module _ (gate : GroupNo → Gate) (p : Process) (row : Row) (fits : RowFits gate p row) (m : Message) (sound : IsSound m) (gates : List (GroupNo × Gate)) (ready : RowReady gates row m.id m.times) where
   -- what was delivered of the message's sender

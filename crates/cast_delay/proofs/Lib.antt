@@ -11,6 +11,10 @@ pub mod Words
 pub mod Least
 pub mod Settled
 pub mod MemberLemmas
-pub mod Sourced
-pub mod Indexed
+pub mod Behind
+pub mod Orderly
 pub mod Admitted
+pub mod Looks
+pub mod LookedAt
+pub mod Passed
+mod Marks

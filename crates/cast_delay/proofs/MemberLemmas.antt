@@ -1,8 +1,8 @@
 -- What a search in a list says of the list's items, and which is the first where a number of each rises.
-use Rattle.std.proofs.Common.{◌≡◌, ℕ, ◌<◌, ◌≤◌, Bool, true, false, cond, List, [], ◌∷◌, Contains, Some, None, refl, sym, ap, subst, ◌∙◌, inl, inr, arith}
+use Rattle.std.proofs.Common.{◌≡◌, ℕ, ◌<◌, ◌≤◌, Bool, true, cond, List, [], ◌∷◌, Contains, Some, None, sym, ap, subst, ◌∙◌, inl, inr, arith}
 use Rattle.std.specs.Prelude.{nat_lt}
-use Rattle.std.specs.List.{list_any, filter, find}
-use Rattle.std.proofs.lemmas.Bool.{cases_Bool, false≢true, or_cases, or_left, or_right, or_from, ltb-true}
+use Rattle.std.specs.List.{list_any, find}
+use Rattle.std.proofs.lemmas.Bool.{cases_Bool, false≢true, or_cases, or_left, or_right, ltb-true}
 use Rattle.cast_types.proofs.Contains.{contains_here, contains_later}
 use Rattle.cast_index.specs.Rises.{rises}
 use Rattle.cast_index.proofs.Rises.{parts_of}
@@ -24,17 +24,7 @@ module _ {X : Type 0} (t : X → Bool) where
     | inr later ↦ or_right (t y) (list_any t xs) (member_any xs x later passes)
   ]
 
-  pub none_any : (xs : List X) → ((x : X) → Contains xs x → t x ≡ false) → list_any t xs ≡ false
-  none_any [] none = refl
-  none_any (x ∷ xs) none = or_from (t x) (list_any t xs) (none x (contains_here x xs)) (none_any xs (λ y has. none y (contains_later y x xs has)))
-
-  -- none is found where none passes, and then none passes
-  pub find_none : (xs : List X) → ((x : X) → Contains xs x → t x ≡ false) → find t xs ≡ None
-  find_none [] none = refl
-  find_none (x ∷ xs) none =
-      ap (λ b. cond b (Some x) (find t xs)) (none x (contains_here x xs))
-      ∙ find_none xs (λ y has. none y (contains_later y x xs has))
-
+  -- where none is found, none passes
   pub none_found : (xs : List X) → find t xs ≡ None → (x : X) → Contains xs x → t x ≡ true → ⊥
   none_found [] none x has passes = omega (arith, has.1)
   none_found (y ∷ xs) none x has passes = elim (cases_Bool (t y)) [
@@ -57,28 +47,6 @@ module _ {X : Type 0} (t : X → Bool) where
     | inr there ↦
         let rest = found_member xs m (sym (ap (λ b. cond b (Some y) (find t xs)) there) ∙ found) in
         (contains_later m y xs rest.0, rest.1)
-  ]
-
-  -- what is kept of a list
-  pub kept_member : (xs : List X) (x : X) → Contains xs x → t x ≡ true → Contains (filter t xs) x
-  kept_member [] x has passes = absurd (omega (arith, has.1))
-  kept_member (y ∷ xs) x has passes = elim (contains_cases y x xs has) [
-    | inl here ↦ subst (λ b. Contains (cond b (y ∷ filter t xs) (filter t xs)) x) (sym (ap t here ∙ passes)) (subst (λ z. Contains (y ∷ filter t xs) z) here (contains_here y (filter t xs)))
-    | inr later ↦
-        let rest = kept_member xs x later passes in
-        elim (t y) as (λ b. Contains (cond b (y ∷ filter t xs) (filter t xs)) x) [ true ↦ contains_later x y (filter t xs) rest | false ↦ rest ]
-  ]
-
-  pub member_kept : (xs : List X) (x : X) → Contains (filter t xs) x → Contains xs x × (t x ≡ true)
-  member_kept [] x has = absurd (omega (arith, has.1))
-  member_kept (y ∷ xs) x has = elim (cases_Bool (t y)) [
-    | inl here ↦ elim (contains_cases y x (filter t xs) (subst (λ b. Contains (cond b (y ∷ filter t xs) (filter t xs)) x) here has)) [
-      | inl same ↦ (subst (λ z. Contains (y ∷ xs) z) same (contains_here y xs), subst (λ z. t z ≡ true) same here)
-      | inr later ↦ let rest = member_kept xs x later in (contains_later x y xs rest.0, rest.1)
-    ]
-    | inr there ↦
-        let rest = member_kept xs x (subst (λ b. Contains (cond b (y ∷ filter t xs) (filter t xs)) x) there has) in
-        (contains_later x y xs rest.0, rest.1)
   ]
 
 module _ {X : Type 0} (n : X → ℕ) where

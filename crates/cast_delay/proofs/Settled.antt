@@ -1,11 +1,11 @@
 -- Messages that are settled are ready for no row, and stay settled.
-use Rattle.std.proofs.Common.{◌≡◌, ℕ, zero, suc, ◌+◌, ◌<◌, ◌≤◌, Bool, true, false, cond, not, ◌&&◌, ◌||◌, List, [], ◌∷◌, length, take, get_or, filter, Option, Some, None, unwrap_or, refl, sym, ap, subst, ◌∙◌, inl, inr, arith}
+use Rattle.std.proofs.Common.{◌≡◌, ℕ, zero, suc, ◌+◌, ◌<◌, ◌≤◌, Bool, true, false, cond, not, ◌&&◌, ◌||◌, List, [], ◌∷◌, ◌++◌, length, length-append, take, get_or, filter, Option, Some, None, unwrap_or, refl, sym, ap, subst, ◌∙◌, inl, inr, arith}
 use Rattle.std.specs.Prelude.{◌==◌, nat_lt, nat_le, if◌then◌else◌}
 use Rattle.std.specs.List as list
 use Rattle.std.specs.Option.{option_map, option_map_or, option_and_then}
 use Rattle.std.specs.Ordering.{eq_by_cmp}
 use Rattle.std.specs.FinMap.Entries.{find, put, find-put}
-use Rattle.std.proofs.lemmas.Bool.{cases_Bool, false≢true, not-true, not_from_false, and_parts, and_from, or_cases, or_left, or_right, or_parts, eq-eqb, lt-ltb, leb-true, ltb-false, le-ltb}
+use Rattle.std.proofs.lemmas.Bool.{cases_Bool, false≢true, false_from_ne_true, not-true, not_from_false, and_parts, and_from, or_cases, or_left, or_right, or_parts, eq-eqb, lt-ltb, leb-true, ltb-false, le-ltb}
 use Rattle.std.proofs.lemmas.List.Folds.{list_all_more}
 use Rattle.cast_types.specs.declared.names.GroupNo.{GroupNo}
 use Rattle.cast_types.specs.declared.names.Proc.{Proc}
@@ -26,12 +26,14 @@ use Rattle.cast_delay.specs.declared.row.ProcessUpdate.TheVariants as fact
 use Rattle.cast_delay.specs.declared.offered.Offered.{Offered}
 use Rattle.cast_delay.specs.declared.turn.Turn.{Turn}
 use Rattle.cast_delay.specs.Ready.{is_member, open_gate}
-use Rattle.cast_delay.specs.Rows.{gate_in, standing_in, done_in, is_causally_ready_row, awaits_row, delivered_row, told_row}
-use Rattle.cast_delay.specs.Queue.{Queue, next_key, may_deliver_in, row_of, but_row, change_row, first_for, has_candidate, is_awaited, offered_under, after_delivery, but_offered}
-use Rattle.cast_delay.specs.Offers.{none_ready}
+use Rattle.cast_delay.specs.Rows.{gate_in, standing_in, done_in, is_causally_ready_row, is_ready_row, awaits_row, delivered_row, told_row}
+use Rattle.cast_delay.specs.Queue.{Queue, new_row, next_key, may_deliver_in, row_of, but_row, change_row, first_for, has_candidate, is_awaited, offered_under, after_delivery, but_offered}
+use Rattle.cast_delay.specs.Offers.{none_of}
 use Rattle.cast_delay.specs.Settled.{is_settled, AreSettled, despite_fact, is_next_of, despite_delivery}
+use Rattle.cast_delay.proofs.ListLemmas.{list_any-append}
 use Rattle.cast_delay.proofs.Finds.{found_any, put_at_group}
 use Rattle.cast_delay.proofs.Delivers.{ready_parts}
+use Rattle.cast_delay.proofs.Behind.{only_causally}
 
 -- Lists
 
@@ -66,7 +68,7 @@ kept_within keep (x ∷ xs) (suc n) =
 
 module _ (gates : List (GroupNo × Gate)) (rows : List Row) (p : Proc) (row : Row) (at : row_of rows p ≡ Some row) where
   -- what is settled is not causally ready for the row of a process
-  not_ready : (o : Offered) → is_settled gates rows o ≡ true → is_causally_ready_row gates row o.id o.times ≡ false
+  pub not_ready : (o : Offered) → is_settled gates rows o ≡ true → is_causally_ready_row gates row o.id o.times ≡ false
   not_ready o settled = elim (cases_Bool (is_causally_ready_row gates row o.id o.times)) [
     | inr not_so ↦ not_so
     | inl ready ↦
@@ -82,9 +84,14 @@ module _ (gates : List (GroupNo × Gate)) (rows : List Row) (p : Proc) (row : Ro
   ]
 
   -- so none of the first messages is, where these are settled
-  pub none_settled_ready : (offered : List Offered) (n : ℕ) → AreSettled gates rows offered n → none_ready gates row n offered ≡ true
+  pub none_settled_ready : (offered : List Offered) (n : ℕ) → AreSettled gates rows offered n → none_of (λ o. is_causally_ready_row gates row o.id o.times) n offered ≡ true
   none_settled_ready offered n settled =
       all_weaker (is_settled gates rows) (λ o. not (is_causally_ready_row gates row o.id o.times)) (λ o is. not_from_false (is_causally_ready_row gates row o.id o.times) (not_ready o is)) (take n offered) settled.each
+
+  pub none_settled_next : (turns : List (GroupNo × Turn)) (offered : List Offered) (n : ℕ) → AreSettled gates rows offered n → none_of (is_ready_row turns gates row) n offered ≡ true
+  none_settled_next turns offered n settled =
+      all_weaker (is_settled gates rows) (λ o. not (is_ready_row turns gates row o)) (λ o is. not_from_false (is_ready_row turns gates row o) (false_from_ne_true (is_ready_row turns gates row o) (λ ready.
+      false≢true (sym (not_ready o is) ∙ only_causally turns gates row o ready)))) (take n offered) settled.each
 
 -- what a process may deliver is what its row may take
 pub may_deliver_row : (q : Queue) (p : Proc) (row : Row) → row_of q.rows p ≡ Some row → has_candidate q.gates q.offered row ≡ may_deliver_in q p
@@ -118,6 +125,12 @@ settled_still gates later same rows others fewer offered n settled = record {
       | inl other ↦ or_left (not (o.id.view == (gate_in later o.id.group).number)) (not (is_awaited others o.id)) (ap (λ number. not (o.id.view == number)) (same o.id.group) ∙ other)
       | inr none ↦ or_right (not (o.id.view == (gate_in later o.id.group).number)) (not (is_awaited others o.id)) (ap not (fewer o.id (not-true (is_awaited rows o.id) none)))
     ]
+
+-- a process is admitted
+pub admit_settled : (gates : List (GroupNo × Gate)) (rows : List Row) (p : Proc) (offered : List Offered) (n : ℕ) → AreSettled gates rows offered n → AreSettled gates (rows ++ new_row p ∷ []) offered n
+admit_settled gates rows p =
+    settled_still gates gates (λ g. refl) rows (rows ++ new_row p ∷ [])
+    (λ id none. list_any-append (λ (r : Row). awaits_row r id) rows (new_row p ∷ []) ∙ ap (λ b. b || (false || false)) none)
 
 -- a process is dismissed
 none_kept : (keep : Row → Bool) (id : Uid) (rows : List Row) → is_awaited rows id ≡ false → is_awaited (filter keep rows) id ≡ false
@@ -163,7 +176,7 @@ module _ (id : Uid) (times : ClockList) (row : Row) (next : done_in row id.group
             omega (arith, is)
       ]
 
-  awaits_no_more : (u : Uid) → awaits_row row u ≡ false → awaits_row (delivered_row id times row) u ≡ false
+  pub awaits_no_more : (u : Uid) → awaits_row row u ≡ false → awaits_row (delivered_row id times row) u ≡ false
   awaits_no_more u none = elim (cases_Bool (is_member (standing_in row u.group))) [
     | inl member ↦
         let has : nat_lt (done_in row u.group u.view u.proc) u.count ≡ false = sym (ap (λ b. b && nat_lt (done_in row u.group u.view u.proc) u.count) member) ∙ none in
@@ -204,16 +217,16 @@ deliver_settled gates rows offered p key n settled = at (offered_under offered k
     ]
 
 -- a group has another gate with the same number
+pub gate_number : (gates : List (GroupNo × Gate)) (g : GroupNo) (gate : Gate) → gate.number ≡ (gate_in gates g).number → (h : GroupNo) → (gate_in (put group_cmp g gate gates) h).number ≡ (gate_in gates h).number
+gate_number gates g gate same h =
+    ap (λ (x : Gate). x.number) (put_at_group gates g h gate (open_gate 0))
+    ∙ elim (cases_Bool (group_eq g h)) [
+      | inl own ↦ ap (λ b. (if b then gate else gate_in gates h).number) own ∙ same ∙ ap (λ k. (gate_in gates k).number) (same_group g h own)
+      | inr other ↦ ap (λ b. (if b then gate else gate_in gates h).number) other
+    ]
+
 pub gate_settled : (gates : List (GroupNo × Gate)) (g : GroupNo) (gate : Gate) → gate.number ≡ (gate_in gates g).number → (rows : List Row) (offered : List Offered) (n : ℕ) → AreSettled gates rows offered n → AreSettled (put group_cmp g gate gates) rows offered n
-gate_settled gates g gate same rows = settled_still gates (put group_cmp g gate gates) number rows rows (λ id none. none)
-  where
-    number : (h : GroupNo) → (gate_in (put group_cmp g gate gates) h).number ≡ (gate_in gates h).number
-    number h =
-        ap (λ (x : Gate). x.number) (put_at_group gates g h gate (open_gate 0))
-        ∙ elim (cases_Bool (group_eq g h)) [
-          | inl own ↦ ap (λ b. (if b then gate else gate_in gates h).number) own ∙ same ∙ ap (λ k. (gate_in gates k).number) (same_group g h own)
-          | inr other ↦ ap (λ b. (if b then gate else gate_in gates h).number) other
-        ]
+gate_settled gates g gate same rows = settled_still gates (put group_cmp g gate gates) (gate_number gates g gate same) rows rows (λ id none. none)
 
 -- a message is forgotten
 pub forget_settled : (gates : List (GroupNo × Gate)) (rows : List Row) (offered : List Offered) (key : Key) (n : ℕ) → AreSettled gates rows offered n → AreSettled gates rows (but_offered key offered) (length (but_offered key (take n offered)))
@@ -223,3 +236,19 @@ forget_settled gates rows offered key n settled =
       within = kept_within keep offered n;
       each = ap (list.list_all (is_settled gates rows)) (kept_first keep offered n) ∙ all_kept (is_settled gates rows) keep (take n offered) settled.each;
     }
+
+-- a message comes
+pub offer_settled : (gates : List (GroupNo × Gate)) (rows : List Row) (offered : List Offered) (o : Offered) (n : ℕ) → AreSettled gates rows offered n → AreSettled gates rows (offered ++ o ∷ []) n
+offer_settled gates rows offered o n settled = record {
+  within = omega (arith, settled.within, length-append offered (o ∷ []));
+  each = ap (list.list_all (is_settled gates rows)) (take_append offered (o ∷ []) n settled.within) ∙ settled.each;
+}
+  where
+    take_append : (xs ys : List Offered) (m : ℕ) → m ≤ length xs → take m (xs ++ ys) ≡ take m xs
+    take_append xs ys zero within = take_none (xs ++ ys) ∙ sym (take_none xs)
+      where
+        take_none : (zs : List Offered) → take 0 zs ≡ []
+        take_none [] = refl
+        take_none (z ∷ zs) = refl
+    take_append [] ys (suc m) within = absurd (omega (arith, within))
+    take_append (x ∷ xs) ys (suc m) within = ap (λ rest. x ∷ rest) (take_append xs ys m (omega (arith, within)))

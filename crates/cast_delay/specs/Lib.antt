@@ -9,3 +9,4 @@ pub mod Rule
 pub mod Laws
 pub mod Settled
 pub mod Offers
+pub mod Waits

@@ -15,12 +15,14 @@
 mod delivered_counts;
 mod gate;
 pub mod laws;
+mod looked;
 mod offered;
 mod offers;
 mod queue;
 mod row;
 mod rows;
 mod turn;
+mod waits;
 
 pub use delivered_counts::DeliveredCounts;
 pub use gate::Gate;

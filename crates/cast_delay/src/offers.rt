@@ -1,50 +1,42 @@
-ghost use Rattle.std.specs.Prelude.{◌≡◌, ℕ, ◌<◌, ◌≤◌, ◌∷◌, ◌++◌, [], true, false, IfOk, IfSome, OnOk, OnErr, cond, length, take, drop, slice_get, slice_range, slice_index_or, Some};
+ghost use Rattle.std.specs.Prelude.{◌≡◌, ℕ, ◌<◌, ◌≤◌, ◌∷◌, ◌++◌, [], true, IfOk, IfSome, OnOk, OnErr, length, take, slice_get, slice_range, slice_index_or, Some};
 ghost use Rattle.std.specs.VecDeque.{deque_len};
 ghost use Rattle.std.specs.List.{position, remove};
-ghost use Rattle.std.specs.Option.{option_copied, option_map_or};
-ghost use Rattle.cast_types.specs.declared.names.Key.{Key};
-ghost use Rattle.cast_types.specs.declared.names.Uid.{Uid};
+ghost use Rattle.std.specs.Option.{option_copied, option_map};
 ghost use Rattle.cast_message.specs.Receipts.{key_eq};
-ghost use Rattle.cast_index.specs.Index.{has, is_pair};
-ghost use Rattle.cast_index.specs.Rises.{rises};
+ghost use Rattle.cast_index.specs.Rises.{rises, all_below};
 ghost use Rattle.cast_delay.specs.Queue.{first_for, has_candidate, offered_under, but_offered};
 ghost use Rattle.cast_delay.specs.Rows.{is_causally_ready_row, is_ready_row};
-ghost use Rattle.cast_delay.specs.Offers.{key_of, is_regular, none_ready, AreIndexed, AreOrderly, MayCome, next_of, passing, earlier};
+ghost use Rattle.cast_delay.specs.Offers.{key_of, none_of, is_ready_under, is_candidate_under, AreOrderly};
 
 use crate::gate::Gate;
 use crate::offered::Offered;
 use crate::row::Row;
 use crate::turn::Turn;
-use cast_index::Index;
-use cast_types::{GroupNo, Key, NoMemory, SortedMap, Uid, source_of};
+use cast_types::{GroupNo, Key, NoMemory, SortedMap};
 use std::alloc::Global;
 use std::collections::VecDeque;
 use std::marker::Model;
-
-/// So many messages are looked at one by one; where more wait, the next one of each source is looked for.
-const FEW: usize = 16;
 
 /// Messages as the queue holds them, in order of receipt. Contracts see the list.
 #[derive(Drop)]
 pub struct Offers {
     messages: VecDeque<Offered>,
-    /// A number above all keys, as long as the messages are orderly: keys rise in order of receipt, each message names
-    /// itself in its time, and no two have one id. Then a message is found by halving, and one that is ready by source.
+    /// A number above all keys, as long as the messages are orderly: keys rise in order of receipt. Then a message is
+    /// found by halving.
     above: Option<usize>,
-    /// The ids of the messages with their keys, as long as the messages are orderly; after that it is kept up no more.
-    ids: Index,
 }
 
 impl Model for Offers {
     ghost use Rattle.std.specs.Prelude.{List};
     ghost use Rattle.cast_delay.specs.declared.offered.Offered.{Offered};
+    ghost use Rattle.cast_delay.specs.Rows.{is_causally_ready_row, is_ready_row};
     ghost use Rattle.cast_delay.specs.Offers.{AreOrderly};
 
     ghost Value = { List Offered };
 
     ghost view = { λ o. o.messages.items };
 
-    ghost invariant = { λ o. AreOrderly o.above o.ids o.messages.items };
+    ghost invariant = { λ o. AreOrderly o.above o.messages.items };
 }
 
 impl Offers {
@@ -55,7 +47,6 @@ impl Offers {
         Offers {
             messages: VecDeque::new(alloc),
             above: Some(0),
-            ids: Index::new(alloc),
         }
     }
 
@@ -66,7 +57,6 @@ impl Offers {
         Ok(Offers {
             messages: copy_messages(&self.messages)?,
             above: self.above,
-            ids: self.ids.copy()?,
         })
     }
 
@@ -90,16 +80,9 @@ impl Offers {
         ensures ok { OnOk result (self.new ≡ self.old ++ offered ∷ []) }
         ensures err { OnErr result (self.new ≡ self.old) }
     {
-        match above_with(self.above, &self.ids, &offered) {
-            Some(above) => {
-                push_with_id(&mut self.messages, &mut self.ids, offered)?;
-                self.above = Some(above);
-            }
-            None => {
-                self.messages.push_back(offered)?;
-                self.above = None;
-            }
-        }
+        let above = above_with(self.above, offered.key);
+        self.messages.push_back(offered)?;
+        self.above = above;
         Ok(())
     }
 
@@ -113,39 +96,73 @@ impl Offers {
         }
     }
 
-    /// The first message that is ready for a row, where these are the turns of groups and none of the first ones is
-    /// ready.
+    /// A number above all keys, where keys rise in order of receipt.
+    pub fn above(&self) -> Option<usize>
+        ensures { IfSome result (λ top. (rises key_of self.now ≡ true) × (all_below key_of top self.now ≡ true)) }
+    {
+        self.above
+    }
+
+    /// How many messages have keys below a number, where keys rise.
+    pub fn count_below(&self, number: usize) -> usize
+        requires { rises key_of self.now ≡ true }
+        ensures within { result ≤ length self.now }
+        ensures below { all_below key_of number (take result self.now) ≡ true }
+    {
+        self.messages
+            .partition_point(|offered| offered.key.0 < number)
+    }
+
+    /// Whether the message under a key is ready for a row, where these are the turns of groups.
+    pub fn is_ready(
+        &self,
+        key: Key,
+        turns: &[(GroupNo, Turn)],
+        gates: &SortedMap<GroupNo, Gate>,
+        row: &Row,
+    ) -> bool
+        ensures { result ≡ is_ready_under turns.now gates.now row.now self.now key.0 }
+    {
+        match self.under(key) {
+            Some(offered) => row.is_ready(turns, gates, offered),
+            None => false,
+        }
+    }
+
+    /// Whether it is so but for the turns of groups.
+    pub fn is_candidate(&self, key: Key, gates: &SortedMap<GroupNo, Gate>, row: &Row) -> bool
+        ensures { result ≡ is_candidate_under gates.now row.now self.now key.0 }
+    {
+        match self.under(key) {
+            Some(offered) => row.is_causally_ready(gates, offered.id, &offered.times),
+            None => false,
+        }
+    }
+
+    /// The key of the first message that is ready for a row, where these are the turns of groups and none of the first ones
+    /// is ready.
     pub fn first_ready(
         &self,
         first: usize,
         turns: &[(GroupNo, Turn)],
         gates: &SortedMap<GroupNo, Gate>,
         row: &Row,
-    ) -> Option<&Offered>
+    ) -> Option<Key>
         requires within { first ≤ length self.now }
-        requires none { none_ready gates.now row.now first self.now ≡ true }
-        ensures { option_copied result ≡ first_for turns.now gates.now self.now row.now }
+        requires none { none_of (is_ready_row turns.now gates.now row.now) first self.now ≡ true }
+        ensures { result ≡ option_map (λ o. o.key) (first_for turns.now gates.now self.now row.now) }
     {
-        match self.above {
-            Some(_) if FEW < self.messages.len() - first => {
-                first_by_source(&self.messages, &self.ids, turns, gates, row)
-            }
-            _ => first_from(&self.messages, first, turns, gates, row),
-        }
+        let offered = first_from(&self.messages, first, turns, gates, row)?;
+        Some(offered.key)
     }
 
     /// Whether some message is ready for a row but for the turns of groups, where none of the first ones is.
     pub fn has_candidate(&self, first: usize, gates: &SortedMap<GroupNo, Gate>, row: &Row) -> bool
         requires within { first ≤ length self.now }
-        requires none { none_ready gates.now row.now first self.now ≡ true }
+        requires none { none_of (λ o. is_causally_ready_row gates.now row.now o.id o.times) first self.now ≡ true }
         ensures { result ≡ has_candidate gates.now self.now row.now }
     {
-        match self.above {
-            Some(_) if FEW < self.messages.len() - first => {
-                any_by_source(&self.messages, &self.ids, gates, row)
-            }
-            _ => any_from(&self.messages, first, gates, row),
-        }
+        any_from(&self.messages, first, gates, row)
     }
 
     /// Keeps what is under other keys. The result says how many of those are among the first ones. Takes no memory.
@@ -155,160 +172,21 @@ impl Offers {
         ensures first { result ≡ length (but_offered key (take first self.old)) }
     {
         match self.above {
-            Some(_) => forget_found(&mut self.messages, &mut self.ids, key, first),
+            Some(_) => forget_found(&mut self.messages, key, first),
             None => forget_all(&mut self.messages, key, first),
         }
     }
 }
 
-// A number above all keys, also with one message more, where the messages are orderly then.
-fn above_with(above: Option<usize>, ids: &Index, offered: &Offered) -> Option<usize>
-    ensures { IfSome result (λ top. (n : ℕ) × (above ≡ Some n) × MayCome n ids.now offered.now × (offered.now.key.0 < top)) }
+// A number above all keys, also with one more, where they rise then.
+fn above_with(above: Option<usize>, key: Key) -> Option<usize>
+    ensures { IfSome result (λ top. (n : ℕ) × (above ≡ Some n) × (n ≤ key.0) × (key.0 < top)) }
 {
     let least = above?;
-    if offered.key.0 < least || !is_regular(offered) || ids.key_of(offered.id).is_some() {
+    if key.0 < least {
         return None;
     }
-    offered.key.0.checked_add(1)
-}
-
-// Whether a message names itself in its time.
-fn is_regular(offered: &Offered) -> bool
-    ensures { result ≡ is_regular offered.now }
-{
-    let id = offered.id;
-    match offered.times.get(id.group) {
-        Some(clock) => clock.view == id.view && clock.counts.get(id.proc) == id.count,
-        None => id.view == 0 && id.count == 0,
-    }
-}
-
-// Adds a message whose id the index has not. `NoMemory` changes nothing.
-fn push_with_id(
-    messages: &mut VecDeque<Offered>,
-    ids: &mut Index,
-    offered: Offered,
-) -> Result<(), NoMemory>
-    requires { (k : Key) → has ids.old offered.id k ≡ false }
-    ensures ok { OnOk result (messages.new.items ≡ messages.old.items ++ offered ∷ []) }
-    ensures ok_ids { OnOk result ((u : Uid) (k : Key) → has ids.new u k ≡ cond (is_pair offered.id offered.key u k) true (has ids.old u k)) }
-    ensures err { OnErr result (messages.new.items ≡ messages.old.items) }
-    ensures err_ids { OnErr result ((u : Uid) (k : Key) → has ids.new u k ≡ has ids.old u k) }
-{
-    let (id, key) = (offered.id, offered.key);
-    ids.insert(id, key)?;
-    match messages.push_back(offered) {
-        Ok(()) => Ok(()),
-        Err(error) => {
-            ids.remove(id, key);
-            Err(error.into())
-        }
-    }
-}
-
-// The first message that is ready for a row, found by source: of each only the next one can be.
-fn first_by_source<'a>(
-    messages: &'a VecDeque<Offered>,
-    ids: &Index,
-    turns: &[(GroupNo, Turn)],
-    gates: &SortedMap<GroupNo, Gate>,
-    row: &Row,
-) -> Option<&'a Offered>
-    requires { AreIndexed ids.now messages.now.items }
-    ensures { option_copied result ≡ first_for turns.now gates.now messages.now.items row.now }
-{
-    let mut best = None;
-    let mut after = None;
-    while let Some(id) = ids.first_behind(after) {
-        best = earlier(best, ready_next(messages, ids, turns, gates, row, id));
-        after = Some(source_of(id));
-    }
-    best
-}
-
-// Whether some message is ready for a row but for the turns of groups, asked source by source.
-fn any_by_source(
-    messages: &VecDeque<Offered>,
-    ids: &Index,
-    gates: &SortedMap<GroupNo, Gate>,
-    row: &Row,
-) -> bool
-    requires { AreIndexed ids.now messages.now.items }
-    ensures { result ≡ has_candidate gates.now messages.now.items row.now }
-{
-    let mut after = None;
-    while let Some(id) = ids.first_behind(after) {
-        if may_take_next(messages, ids, gates, row, id) {
-            return true;
-        }
-        after = Some(source_of(id));
-    }
-    false
-}
-
-// Of two messages the one with the lesser key.
-fn earlier<'a>(one: Option<&'a Offered>, other: Option<&'a Offered>) -> Option<&'a Offered>
-    ensures { option_copied result ≡ earlier (option_copied one.entry) (option_copied other.entry) }
-{
-    match (one, other) {
-        (Some(first), Some(second)) if second.key.0 < first.key.0 => other,
-        (Some(_), _) => one,
-        (None, _) => other,
-    }
-}
-
-// The message that a row takes next of the source that an id is of, where it is ready.
-fn ready_next<'a>(
-    messages: &'a VecDeque<Offered>,
-    ids: &Index,
-    turns: &[(GroupNo, Turn)],
-    gates: &SortedMap<GroupNo, Gate>,
-    row: &Row,
-    id: Uid,
-) -> Option<&'a Offered>
-    requires { AreIndexed ids.now messages.now.items }
-    ensures { option_copied result ≡ passing (is_ready_row turns.now gates.now row.now) (next_of row.now id messages.now.items) }
-{
-    let offered = next_of(messages, ids, row, id)?;
-    if row.is_ready(turns, gates, offered) {
-        Some(offered)
-    } else {
-        None
-    }
-}
-
-// Whether it is ready but for the turns of groups.
-fn may_take_next(
-    messages: &VecDeque<Offered>,
-    ids: &Index,
-    gates: &SortedMap<GroupNo, Gate>,
-    row: &Row,
-    id: Uid,
-) -> bool
-    requires { AreIndexed ids.now messages.now.items }
-    ensures { result ≡ option_map_or (λ o. is_causally_ready_row gates.now row.now o.id o.times) (next_of row.now id messages.now.items) false }
-{
-    match next_of(messages, ids, row, id) {
-        Some(offered) => row.is_causally_ready(gates, offered.id, &offered.times),
-        None => false,
-    }
-}
-
-// The message that a row takes next of the source that an id is of.
-fn next_of<'a>(
-    messages: &'a VecDeque<Offered>,
-    ids: &Index,
-    row: &Row,
-    id: Uid,
-) -> Option<&'a Offered>
-    requires { AreIndexed ids.now messages.now.items }
-    ensures { option_copied result ≡ next_of row.now id messages.now.items }
-{
-    let count = row
-        .delivered_count(id.group, id.view, id.proc)
-        .checked_add(1)?;
-    let key = ids.key_of(Uid { count, ..id })?;
-    found_under(messages, key)
+    key.0.checked_add(1)
 }
 
 // The first message from a place on that is ready for a row.
@@ -376,17 +254,15 @@ fn first_under(messages: &VecDeque<Offered>, key: Key) -> Option<&Offered>
 
 // Keeps what is under other keys, where the messages are orderly. The result says how many of those are among the first
 // ones.
-fn forget_found(messages: &mut VecDeque<Offered>, ids: &mut Index, key: Key, first: usize) -> usize
-    requires indexed { AreIndexed ids.old messages.old.items }
+fn forget_found(messages: &mut VecDeque<Offered>, key: Key, first: usize) -> usize
+    requires rising { rises key_of messages.old.items ≡ true }
     requires first { first ≤ length messages.old.items }
-    ensures indexed { AreIndexed ids.new messages.new.items }
     ensures items { messages.new.items ≡ but_offered key messages.old.items }
     ensures first { result ≡ length (but_offered key (take first messages.old.items)) }
 {
     let Some(place) = place_under(messages, key) else {
         return first;
     };
-    ids.remove(messages[place].id, key);
     take_out(messages, place);
     if place < first { first - 1 } else { first }
 }

@@ -1,5 +1,6 @@
-ghost use Rattle.std.specs.Prelude.{◌≡◌, ◌<◌, ◌++◌, ◌∷◌, [], IfOk, OnOk, not, length, slice_get, map, filter};
-ghost use Rattle.std.specs.Option.{option_copied, option_map, option_map_or};
+ghost use Rattle.std.specs.Prelude.{◌≡◌, ◌≤◌, ◌<◌, ◌++◌, ◌∷◌, ℕ, [], true, false, IfOk, IfSome, OnOk, Some, not, length, slice_get, map, filter};
+ghost use Rattle.cast_delay.specs.declared.row.Row.{Row};
+ghost use Rattle.std.specs.Option.{option_copied, option_map, option_map_or, option_and_then};
 ghost use Rattle.std.specs.FinMap.Entries.{put};
 ghost use Rattle.cast_types.specs.Names.{proc_eq};
 ghost use Rattle.cast_types.specs.declared.names.GroupNo.{GroupNo};
@@ -8,7 +9,10 @@ ghost use Rattle.cast_types.specs.declared.names.Standing.TheVariants.{Outside};
 ghost use Rattle.cast_message.specs.Receipts.{key_eq};
 ghost use Rattle.cast_delay.specs.declared.turn.Turn.{Turn};
 ghost use Rattle.cast_delay.specs.Ready.{frozen_gate, pending_gate, has_delivered};
-ghost use Rattle.cast_delay.specs.Rows.{ended_row, told_row, standing_in};
+ghost use Rattle.cast_index.specs.Rises.{rises};
+ghost use Rattle.cast_delay.specs.Rows.{ended_row, told_row, standing_in, is_ready_row, is_causally_ready_row};
+ghost use Rattle.cast_delay.specs.Offers.{key_of, none_of};
+ghost use Rattle.cast_delay.specs.Waits.{next_under, looked_of, waits_despite, IsUnseen, IsUnseenBy, AreKnown, AreLookedAt, AreToWake};
 ghost use Rattle.cast_delay.specs.DeliveredCounts.{counts_in};
 ghost use Rattle.cast_delay.specs.Queue.{new_row, row_of, but_row, change_row, first_for, offered_under, next_key, has_candidate, may_deliver_in, delivered_in, passed_in, but_offered, is_awaited, least_in, after_delivery, reached_after, queue_viewing, queue_delivering, queue_gating};
 ghost use Rattle.cast_delay.specs.Fits.{offer_of};
@@ -17,17 +21,22 @@ ghost use Rattle.cast_delay.specs.Says.{SaysAwaited, SaysFirstReady, SaysMayDeli
 
 use crate::delivered_counts::DeliveredCounts;
 use crate::gate::{Gate, copy_gates, frozen_in, number_in};
+use crate::looked::Looked;
 use crate::offered::Offered;
 use crate::offers::Offers;
 use crate::row::{ProcessUpdate, Row};
 use crate::rows::Rows;
 use crate::turn::Turn;
+use crate::waits::Waits;
 use cast_clock::Times;
 use cast_message::Message;
 use cast_types::limits::MAX_NUMBER;
-use cast_types::{Counts, GroupNo, Key, NoMemory, Proc, SortedMap, Source, Standing, Uid};
+use cast_types::{Counts, GroupNo, Key, NoMemory, Proc, SiteNo, SortedMap, Source, Standing, Uid};
 use std::alloc::Global;
 use std::marker::Model;
+
+/// So many messages are looked at one by one; where more wait, it is noted what each waits for.
+const FEW: usize = 16;
 
 /// The delay queue of a domain: messages in order of receipt, and what decides for each local process which of them
 /// it may deliver. Contracts see a `Queue`.
@@ -36,22 +45,23 @@ pub struct Delay {
     gates: SortedMap<GroupNo, Gate>,
     offered: Offers,
     /// How many messages, from the first on, are known to be settled: no process here awaits them any more, or their
-    /// view is not the one that stands. None of them is ready for any process, so a question looks at the few behind
-    /// them, and where these are many at the next one of each source.
+    /// view is not the one that stands. None of them is ready for any process, so a question looks at those behind them
+    /// alone, and of these only at what is not known to wait for others.
     settled: usize,
+    waits: Waits,
     rows: Rows,
     reached: DeliveredCounts,
 }
 
 impl Model for Delay {
     ghost use Rattle.cast_delay.specs.Queue.{Queue};
-    ghost use Rattle.cast_delay.specs.Settled.{AreSettled};
+    ghost use Rattle.cast_delay.specs.Waits.{MayBePassed};
 
     ghost Value = { Queue };
 
     ghost view = { λ d. record { gates = d.gates; offered = d.offered; rows = d.rows; reached = d.reached } };
 
-    ghost invariant = { λ d. AreSettled d.gates d.rows d.offered d.settled };
+    ghost invariant = { λ d. MayBePassed d.gates d.rows d.offered d.settled d.waits };
 }
 
 impl Delay {
@@ -63,6 +73,7 @@ impl Delay {
             gates: SortedMap::new(alloc),
             offered: Offers::new(alloc),
             settled: 0,
+            waits: Waits::new(alloc),
             rows: Rows::new(alloc),
             reached: DeliveredCounts::new(alloc),
         }
@@ -76,6 +87,7 @@ impl Delay {
             gates: copy_gates(&self.gates)?,
             offered: self.offered.copy()?,
             settled: self.settled,
+            waits: Waits::new(self.gates.alloc()),
             rows: self.rows.copy()?,
             reached: self.reached.copy()?,
         })
@@ -92,6 +104,7 @@ impl Delay {
     pub fn dismiss(&mut self, process: Proc)
         ensures { self.new ≡ record self.old { rows = filter (λ r. not (proc_eq r.process process)) self.old.rows } }
     {
+        self.waits.forget(process);
         self.rows.dismiss(process);
     }
 
@@ -117,8 +130,11 @@ impl Delay {
     {
         let settled = despite_fact(fact, self.settled);
         self.settled = 0;
+        let mut waits = self.waits.take();
         self.rows.tell(process, fact)?;
-        self.settled = settled_from(&self.gates, &self.offered, self.rows.as_slice(), settled);
+        forget_told(&mut waits, process, fact);
+        self.waits = waits;
+        self.settled = settled_from(&self.gates, &self.offered, &self.rows, settled);
         Ok(())
     }
 
@@ -128,10 +144,11 @@ impl Delay {
         ensures { OnOk result (self.new ≡ queue_viewing group number self.old) }
     {
         self.settled = 0;
+        self.waits.clear();
         self.gates.put(group, Gate::new(number))?;
         self.rows.end(group, number);
         self.reached.end(group, number);
-        self.settled = settled_from(&self.gates, &self.offered, self.rows.as_slice(), 0);
+        self.settled = settled_from(&self.gates, &self.offered, &self.rows, 0);
         Ok(())
     }
 
@@ -170,6 +187,9 @@ impl Delay {
             atomic: message.kind().is_atomic(),
             times: message.times.copy()?,
         })?;
+        if self.offered.above().is_none() || !self.waits.are_upto(key.0) {
+            self.waits.clear();
+        }
         Ok(())
     }
 
@@ -187,7 +207,7 @@ impl Delay {
         ensures value { result ≡ is_awaited self.now.rows id }
         ensures meaning { SaysAwaited self.now id result }
     {
-        awaited_at_last(self.rows.as_slice(), id)
+        self.rows.is_awaited(id)
     }
 
     /// The least count of a process's messages of a view that each member of the group here has delivered, 4,294,967,295
@@ -198,6 +218,31 @@ impl Delay {
         least_in(self.rows.as_slice(), group, view, process)
     }
 
+    /// Looks at the messages that came since the last call for the process, where these are many, and notes for each what
+    /// it waits for. What is seen of the queue stays the same. It takes memory; without it later calls only take longer.
+    pub fn look(&mut self, process: Proc)
+        ensures { self.new ≡ self.old }
+    {
+        let Some(above) = self.offered.above() else {
+            return;
+        };
+        if self.offered.len() - self.settled <= FEW {
+            self.waits.forget(process);
+            return;
+        }
+        let first = first_unseen_by(&self.waits, &self.offered, self.settled, process);
+        if FEW < self.offered.len() - first {
+            self.waits.look(
+                process,
+                above,
+                first,
+                &self.offered,
+                &self.gates,
+                &self.rows,
+            );
+        }
+    }
+
     /// The first message in order of receipt that the process may deliver now, `None` where there is none. The first
     /// entry for a group in `turns` tells the process's turn there; an ABCAST of a group with none is not delivered.
     /// Takes no memory.
@@ -206,10 +251,14 @@ impl Delay {
         ensures meaning { SaysFirstReady self.now process turns.now result }
     {
         let row = self.rows.find(process)?;
-        let offered = self
-            .offered
-            .first_ready(self.settled, turns, &self.gates, row)?;
-        Some(offered.key)
+        match self.waits.find(process) {
+            Some(looked) => {
+                next_looked(looked, &self.offered, self.settled, turns, &self.gates, row)
+            }
+            None => self
+                .offered
+                .first_ready(self.settled, turns, &self.gates, row),
+        }
     }
 
     /// Whether some message is ready for the process but for the turns of groups: where none is, none is ready for it whatever
@@ -218,9 +267,12 @@ impl Delay {
         ensures value { result ≡ may_deliver_in self.now process }
         ensures meaning { SaysMayDeliver self.now process result }
     {
-        match self.rows.find(process) {
-            Some(row) => self.offered.has_candidate(self.settled, &self.gates, row),
-            None => false,
+        let Some(row) = self.rows.find(process) else {
+            return false;
+        };
+        match self.waits.find(process) {
+            Some(looked) => may_take(looked, &self.offered, self.settled, &self.gates, row),
+            None => self.offered.has_candidate(self.settled, &self.gates, row),
         }
     }
 
@@ -232,12 +284,13 @@ impl Delay {
         self.settled == self.offered.len()
     }
 
-    /// Whether a process that was admitted at a place is in no group, so that no message is ready for it. `false` also where it
-    /// was not admitted there. Takes no memory.
-    pub fn is_idle(&self, place: usize, process: Proc) -> bool
-        ensures { SaysMayDeliver self.now process (not result) }
+    /// The first place from one on, in the order in which processes were admitted, that is not known to be that of a process of this
+    /// site which is in no group, and for which so no message is ready. Takes no memory.
+    pub fn busy_from(&self, site: SiteNo, place: usize) -> usize
+        ensures from { place ≤ result }
+        ensures idle { (i : ℕ) (row : Row) → place ≤ i → i < result → slice_get self.now.rows i ≡ Some row → (row.process.site ≡ site) × SaysMayDeliver self.now row.process false }
     {
-        self.rows.is_idle(place, process)
+        self.rows.busy_from(site, place)
     }
 
     /// Whether the process, which was admitted, has delivered a message of a view that has not ended. Takes no memory.
@@ -280,10 +333,22 @@ impl Delay {
             key,
             self.settled,
         );
+        let next = next_kept(&self.waits, &self.rows, &self.offered, process, key);
         self.settled = 0;
+        let mut waits = self.waits.take();
         self.rows.deliver(&self.offered, process, key)?;
         reach_in(&mut self.reached, &self.offered, key)?;
-        self.settled = settled_from(&self.gates, &self.offered, self.rows.as_slice(), settled);
+        wake_next(
+            &mut waits,
+            process,
+            next,
+            key,
+            &self.offered,
+            &self.gates,
+            &self.rows,
+        );
+        self.waits = waits;
+        self.settled = settled_from(&self.gates, &self.offered, &self.rows, settled);
         Ok(())
     }
 
@@ -320,17 +385,17 @@ impl Delay {
 }
 
 // Whether a message is settled: no row awaits it, or its view is not the one that stands.
-fn is_settled(gates: &SortedMap<GroupNo, Gate>, rows: &[Row], offered: &Offered) -> bool
+fn is_settled(gates: &SortedMap<GroupNo, Gate>, rows: &Rows, offered: &Offered) -> bool
     ensures { result ≡ is_settled gates.now rows.now offered.now }
 {
-    offered.id.view != number_in(gates, offered.id.group) || !awaited_at_last(rows, offered.id)
+    offered.id.view != number_in(gates, offered.id.group) || !rows.is_awaited(offered.id)
 }
 
 // How many messages from the first on are settled, where this many are.
 fn settled_from(
     gates: &SortedMap<GroupNo, Gate>,
     offered: &Offers,
-    rows: &[Row],
+    rows: &Rows,
     first: usize,
 ) -> usize
     requires { AreSettled gates.now rows.now offered.now first }
@@ -344,6 +409,125 @@ fn settled_from(
         settled += 1;
     }
     settled
+}
+
+// How many messages need not be looked at: so many are settled, and those behind them were looked at.
+fn first_unseen(offered: &Offers, settled: usize, looked: &Looked) -> usize
+    requires rising { rises key_of offered.now ≡ true }
+    requires settled { settled ≤ length offered.now }
+    ensures { IsUnseen offered.now settled looked.now result }
+{
+    settled.max(offered.count_below(looked.below))
+}
+
+// So many for a process, of which perhaps nothing is kept.
+fn first_unseen_by(waits: &Waits, offered: &Offers, settled: usize, process: Proc) -> usize
+    requires rising { rises key_of offered.now ≡ true }
+    requires settled { settled ≤ length offered.now }
+    ensures { IsUnseenBy offered.now settled (looked_of waits.now process) result }
+{
+    match waits.find(process) {
+        Some(looked) => first_unseen(offered, settled, looked),
+        None => settled,
+    }
+}
+
+// The key of the first message that is ready for a row, of which this is kept, where so many messages are settled.
+fn next_looked(
+    looked: &Looked,
+    offered: &Offers,
+    settled: usize,
+    turns: &[(GroupNo, Turn)],
+    gates: &SortedMap<GroupNo, Gate>,
+    row: &Row,
+) -> Option<Key>
+    requires rising { rises key_of offered.now ≡ true }
+    requires settled { settled ≤ length offered.now }
+    requires none { none_of (is_ready_row turns.now gates.now row.now) settled offered.now ≡ true }
+    requires known { AreKnown gates.now row.now offered.now looked.now }
+    ensures { result ≡ option_map (λ o. o.key) (first_for turns.now gates.now offered.now row.now) }
+{
+    match looked.first_ready(offered, turns, gates, row) {
+        Some(key) => Some(key),
+        None => {
+            let first = first_unseen(offered, settled, looked);
+            offered.first_ready(first, turns, gates, row)
+        }
+    }
+}
+
+// Whether some message is ready for it but for the turns of groups.
+fn may_take(
+    looked: &Looked,
+    offered: &Offers,
+    settled: usize,
+    gates: &SortedMap<GroupNo, Gate>,
+    row: &Row,
+) -> bool
+    requires rising { rises key_of offered.now ≡ true }
+    requires settled { settled ≤ length offered.now }
+    requires none { none_of (λ o. is_causally_ready_row gates.now row.now o.id o.times) settled offered.now ≡ true }
+    requires known { AreKnown gates.now row.now offered.now looked.now }
+    ensures { result ≡ has_candidate gates.now offered.now row.now }
+{
+    if looked.has_candidate(offered, gates, row) {
+        return true;
+    }
+    let first = first_unseen(offered, settled, looked);
+    offered.has_candidate(first, gates, row)
+}
+
+// The id of the message under a key, where it is the next one of its source for a process.
+fn next_under(rows: &Rows, offered: &Offers, process: Proc, key: Key) -> Option<Uid>
+    ensures { result ≡ next_under rows.now offered.now process key }
+{
+    let row = rows.find(process)?;
+    let id = offered.under(key)?.id;
+    let done = row.delivered_count(id.group, id.view, id.proc);
+    if done < id.count && id.count - done == 1 {
+        Some(id)
+    } else {
+        None
+    }
+}
+
+// So for a process of which something is kept.
+fn next_kept(waits: &Waits, rows: &Rows, offered: &Offers, process: Proc, key: Key) -> Option<Uid>
+    ensures { result ≡ option_and_then (λ l. next_under rows.now offered.now process key) (looked_of waits.now process) }
+{
+    waits.find(process)?;
+    next_under(rows, offered, process, key)
+}
+
+// Takes in that a process delivered the message under a key: that of an id, where it was the next one of its source. Else
+// nothing is left of the process.
+fn wake_next(
+    waits: &mut Waits,
+    process: Proc,
+    next: Option<Uid>,
+    key: Key,
+    offered: &Offers,
+    gates: &SortedMap<GroupNo, Gate>,
+    rows: &Rows,
+)
+    requires some { IfSome next (λ id. AreToWake gates.now rows.now offered.now process id key waits.old) }
+    requires none { AreLookedAt gates.now rows.now offered.now (filter (λ l. not (proc_eq l.process process)) waits.old) }
+    ensures { AreLookedAt gates.now rows.now offered.now waits.new }
+{
+    match next {
+        Some(id) => waits.wake(process, id, key, offered, gates, rows),
+        None => waits.forget(process),
+    }
+}
+
+// Leaves nothing of a process that has taken in a fact that may make it wait for any message.
+fn forget_told(waits: &mut Waits, process: Proc, fact: &ProcessUpdate)
+    ensures { waits.new ≡ waits_despite fact.now process waits.old }
+{
+    match fact {
+        ProcessUpdate::Standing(..) => waits.forget(process),
+        ProcessUpdate::Time(_) => {}
+    }
 }
 
 // How many of so many settled messages are settled still once a process has taken in a fact.
@@ -379,22 +563,6 @@ fn is_next_of(rows: &[Row], process: Proc, id: Uid) -> bool
 {
     rows.iter().all(|row| row.process != process
         || row.delivered_count(id.group, id.view, id.proc) <= id.count)
-}
-
-// Whether some row awaits a message. Rows are asked from the last one on: processes deliver in the order of their rows, so it
-// is the last ones that await a message while it is being delivered. Idle ones are passed over without a call.
-fn awaited_at_last(rows: &[Row], id: Uid) -> bool
-    ensures { result ≡ is_awaited rows.now id }
-{
-    let mut left = rows.len();
-    while 0 < left {
-        left -= 1;
-        let row = &rows[left];
-        if !row.is_idle() && row.awaits(id) {
-            return true;
-        }
-    }
-    false
 }
 
 // The least count of a process's messages of a view that each member of the group has delivered.

@@ -1,4 +1,4 @@
-ghost use Rattle.std.specs.Prelude.{◌≡◌, ℕ, List, OnOk, IfOk, ◌-◌, ◌==◌, length, nat_le, not, unwrap_or};
+ghost use Rattle.std.specs.Prelude.{◌≡◌, ℕ, List, true, OnOk, IfOk, IfSome, ◌-◌, ◌==◌, length, nat_le, not, unwrap_or};
 ghost use Rattle.std.specs.List.{list_all, position};
 ghost use Rattle.std.specs.Option.{option_copied};
 ghost use Rattle.cast_types.specs.Names.{named};
@@ -72,6 +72,7 @@ fn counts_in(clock: Option<&Clock>) -> &[(Proc, u32)]
 impl Row {
     ghost use Rattle.cast_delay.specs.Rows.{standing_in, done_in, needed, has_past, row_allows, all_allow, is_causally_ready_row, is_ready_row, has_delivered_in, passed_by, awaits_row, delivered_row, ended_row, told_row};
     ghost use Rattle.cast_delay.specs.Queue.{new_row, lesser_by};
+    ghost use Rattle.cast_delay.specs.Waits.{awaits_now, holds_back};
 
     /// A process that is in no group.
     pub fn new(alloc: Global, process: Proc) -> Self
@@ -282,6 +283,54 @@ impl Row {
         ensures { result ≡ awaits_row self.now id }
     {
         self.is_member(id.group) && self.delivered_count(id.group, id.view, id.proc) < id.count
+    }
+
+    /// Whether it does so, and the message's view is the one that stands.
+    pub fn awaits_now(&self, gates: &SortedMap<GroupNo, Gate>, id: Uid) -> bool
+        ensures { result ≡ awaits_now gates.now self.now id }
+    {
+        self.awaits(id) && id.view == number_in(gates, id.group)
+    }
+
+    /// The id of a message that is to be delivered to the process before another one, where one is found.
+    pub fn missing_before(&self, gates: &SortedMap<GroupNo, Gate>, offered: &Offered) -> Option<Uid>
+        ensures { IfSome result (λ id. holds_back gates.now self.now offered.now id ≡ true) }
+    {
+        for (group, _) in self.standings.entries() {
+            let missing = self.missing_of(gates, offered, *group);
+            if missing.is_some() {
+                return missing;
+            }
+        }
+        None
+    }
+
+    // That of a message of a group.
+    fn missing_of(
+        &self,
+        gates: &SortedMap<GroupNo, Gate>,
+        offered: &Offered,
+        group: GroupNo,
+    ) -> Option<Uid>
+        ensures { IfSome result (λ id. holds_back gates.now self.now offered.now id ≡ true) }
+    {
+        let clock = offered.times.get(group)?;
+        let view = clock.view;
+        if !self.is_member(group) || view != number_in(gates, group) {
+            return None;
+        }
+        for entry in clock.counts.entries() {
+            let count = needed_count(offered.id, group, view, *entry);
+            if self.delivered_count(group, view, entry.0) < count {
+                return Some(Uid {
+                    group,
+                    view,
+                    proc: entry.0,
+                    count,
+                });
+            }
+        }
+        None
     }
 
     /// Notes that a message was delivered to the process. After `NoMemory` the row may be of no use.

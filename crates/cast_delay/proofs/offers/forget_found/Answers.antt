@@ -1,14 +1,9 @@
-use Rattle.std.proofs.Common.{◌≡◌, ◌∙◌, false, cond, None, sym, rules}
+use Rattle.std.proofs.Common.{◌≡◌, ◌∙◌, None, sym, rules}
 use Rattle.std.specs.List.{position}
 use Rattle.cast_message.specs.Receipts.{key_eq}
-use Rattle.cast_types.specs.declared.names.Key.{Key}
-use Rattle.cast_types.specs.declared.names.Uid.{Uid}
-use Rattle.cast_index.specs.Index.{has, is_pair}
 use Rattle.cast_index.proofs.Rises.{removed_is, one_less, none_less, none_fewer, none_removed}
 use Rattle.cast_delay.specs.declared.offered.Offered.{Offered}
 use Rattle.cast_delay.specs.Offers.{key_of}
-use Rattle.cast_delay.specs.Queue.{but_offered}
-use Rattle.cast_delay.proofs.Indexed.{left_at}
 use Rattle.cast_delay.proofs.offers.forget_found.Goals as goal
 
 -- where nothing is under the key
@@ -24,25 +19,13 @@ returns-in_default-clause-first c =
 
 -- where a message is
 pub returns-then-place-first-clause-items : goal.returns-then-place-first-clause-items
-returns-then-place-first-clause-items c = c.take_out.ensures ∙ removed_is key_of c.args.key.0 c.args.messages.now.items c.in-Some.place c.requires.indexed.rising (search rules)
-
-pub returns-then-place-first-clause-indexed : goal.returns-then-place-first-clause-indexed
-returns-then-place-first-clause-indexed c =
-    let rest : c.take_out.new.messages.items ≡ but_offered c.args.key c.args.messages.now.items = returns-then-place-first-clause-items c in
-    let now : (u : Uid) (k : Key) → has c.remove.new.self u k ≡ cond (is_pair c.index.result.now.id c.args.key u k) false (has c.args.ids.now u k) = search rules in
-    rw rest (left_at c.args.ids.now c.remove.new.self c.args.messages.now.items c.in-Some.place c.index.result.now c.args.key c.requires.indexed (search rules) (search rules) now)
+returns-then-place-first-clause-items c = c.take_out.ensures ∙ removed_is key_of c.args.key.0 c.args.messages.now.items c.in-Some.place c.requires.rising (search rules)
 
 pub returns-else-place-first-clause-items : goal.returns-else-place-first-clause-items
-returns-else-place-first-clause-items c = c.take_out.ensures ∙ removed_is key_of c.args.key.0 c.args.messages.now.items c.in-Some.place c.requires.indexed.rising (search rules)
-
-pub returns-else-place-first-clause-indexed : goal.returns-else-place-first-clause-indexed
-returns-else-place-first-clause-indexed c =
-    let rest : c.take_out.new.messages.items ≡ but_offered c.args.key c.args.messages.now.items = returns-else-place-first-clause-items c in
-    let now : (u : Uid) (k : Key) → has c.remove.new.self u k ≡ cond (is_pair c.index.result.now.id c.args.key u k) false (has c.args.ids.now u k) = search rules in
-    rw rest (left_at c.args.ids.now c.remove.new.self c.args.messages.now.items c.in-Some.place c.index.result.now c.args.key c.requires.indexed (search rules) (search rules) now)
+returns-else-place-first-clause-items c = c.take_out.ensures ∙ removed_is key_of c.args.key.0 c.args.messages.now.items c.in-Some.place c.requires.rising (search rules)
 
 pub returns-then-place-first-clause-first : goal.returns-then-place-first-clause-first
-returns-then-place-first-clause-first c = sym (one_less key_of c.args.key.0 c.args.messages.now.items c.in-Some.place c.args.first c.requires.indexed.rising (search rules) c.if-place-first.true c.requires.first)
+returns-then-place-first-clause-first c = sym (one_less key_of c.args.key.0 c.args.messages.now.items c.in-Some.place c.args.first c.requires.rising (search rules) c.if-place-first.true c.requires.first)
 
 pub returns-else-place-first-clause-first : goal.returns-else-place-first-clause-first
 returns-else-place-first-clause-first c = sym (none_less key_of c.args.key.0 c.args.messages.now.items c.in-Some.place c.args.first (search rules) c.if-place-first.false c.requires.first)

@@ -1,6 +1,9 @@
 use Rattle.cast_delay.proofs.Settled.{forget_settled}
+use Rattle.cast_delay.proofs.Passed.{forget_looked}
 use Rattle.cast_delay.proofs.queue.Delay.forget.Goals as goal
 
 pub invariant_of-self : goal.invariant_of-self
 invariant_of-self c =
-    rw (c.forget-settled.ensures.first, c.forget-settled.ensures.items) (forget_settled c.self.inside.gates c.self.inside.rows c.self.inside.offered c.args.key c.self.inside.settled c.self.invariant)
+    let d = c.self.inside in
+    rw (c.forget-settled.ensures.first, c.forget-settled.ensures.items)
+    (record { settled = forget_settled d.gates d.rows d.offered c.args.key d.settled c.self.invariant.settled; looked = forget_looked d.gates d.rows d.offered c.args.key d.waits c.self.invariant.looked })

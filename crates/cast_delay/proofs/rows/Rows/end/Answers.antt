@@ -1,9 +1,18 @@
 use Rattle.std.proofs.Common.{◌∙◌, refl, ap}
+use Rattle.std.specs.Prelude.{map}
 use Rattle.cast_delay.specs.Rows.{ended_row}
-use Rattle.cast_delay.specs.Admitted.{rise}
+use Rattle.cast_delay.specs.Admitted.{are_of, is_busy, rise}
 use Rattle.cast_delay.proofs.Admitted.{rise_each}
+use Rattle.cast_delay.proofs.Marks.{are_marks_still, are_of_each, marks_each}
 use Rattle.cast_delay.proofs.rows.Rows.end.Goals as goal
 
--- each row is of the process that it was of
+-- each row is of the process that it was of, and of its groups nothing is told
 pub invariant_of-self : goal.invariant_of-self
-invariant_of-self c = λ rising. ap rise c.end_in.ensures ∙ rise_each (ended_row c.args.group c.args.number) (λ r. refl) c.self.inside.rows.items ∙ c.self.invariant rising
+invariant_of-self c =
+    let rows = c.self.inside.rows.items in (
+      λ rising. (
+        ap rise c.end_in.ensures ∙ rise_each (ended_row c.args.group c.args.number) (λ r. refl) rows ∙ (c.self.invariant.0 rising).0,
+        ap (are_of c.self.inside.site) c.end_in.ensures ∙ are_of_each c.self.inside.site (ended_row c.args.group c.args.number) (λ r. refl) rows ∙ (c.self.invariant.0 rising).1,
+      ),
+      are_marks_still rows c.end_in.new.rows.items c.self.inside.marks.items (ap (map is_busy) c.end_in.ensures ∙ marks_each (ended_row c.args.group c.args.number) (λ r. refl) rows) c.self.invariant.1,
+    )
