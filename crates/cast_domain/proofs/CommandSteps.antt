@@ -23,7 +23,6 @@ use Rattle.cast_stable.specs.Acks.{others_in}
 use Rattle.cast_delay.specs.Ready.{is_member, has_delivered, awaits}
 use Rattle.std.specs.Option.{IsSome}
 use Rattle.cast_delay.specs.Queue.{delivered_in, row_of}
-use Rattle.cast_delay.specs.declared.row.ProcessUpdate.TheVariants as fact
 use Rattle.cast_delay.specs.Fits.{IsSound}
 use Rattle.cast_delay.proofs.Queues.{delivered_rules}
 use Rattle.cast_delay.proofs.Turns.{and_agree}

@@ -107,7 +107,7 @@ round_next f r x h i p at =
     there = ap (λ ks. slice_get ks i) (sym (same_serials r x h)) ∙ serial_there x.delay.rows i p at
 
 -- so it is the first of those that are left, and of the steps one changes something: its own, or one of those behind it
-round_items : (r x : Records) → RemainAs r x → (i : ℕ) (p : Proc) → option_map (λ row. row.process) (slice_get x.delay.rows i) ≡ Some p → drop i (serials_in r) ≡ p.serial ∷ drop (i + 1) (serials_in r)
+pub round_items : (r x : Records) → RemainAs r x → (i : ℕ) (p : Proc) → option_map (λ row. row.process) (slice_get x.delay.rows i) ≡ Some p → drop i (serials_in r) ≡ p.serial ∷ drop (i + 1) (serials_in r)
 round_items r x h i p at =
     drop_more (serials_in r) i 0 (slice_get_within (serials_in r) i p.serial there)
     ∙ ap (λ k. k ∷ drop (i + 1) (serials_in r)) (get_or_from_slice_get (serials_in r) i p.serial 0 there)

@@ -1,11 +1,10 @@
 -- Where no order is long nothing of any is forgotten.
-use Rattle.std.proofs.Common.{◌≡◌, ℕ, ◌-◌, false, List, [], ◌∷◌, length, take, refl, sym, ap, ◌∙◌}
+use Rattle.std.proofs.Common.{◌≡◌, ℕ, ◌-◌, false, List, [], ◌∷◌, length, take, refl, ap, ◌∙◌}
 use Rattle.std.specs.Prelude.{if◌then◌else◌}
 use Rattle.std.specs.List.{fold, list_any}
 use Rattle.cast_types.specs.declared.limits.TheConstants.{MAX_TAIL}
-use Rattle.cast_types.specs.Names.{Entry}
 use Rattle.cast_message.specs.declared.message.Received.{Received}
-use Rattle.cast_order.specs.Log.{Log, change_in, forgot, is_long, log_of, oldest_in}
+use Rattle.cast_order.specs.Log.{Log, change_in, forgot, is_long, oldest_in}
 use Rattle.cast_order.proofs.Logs.{forgot_none, none_of, same_in}
 use Rattle.cast_domain.specs.declared.record.GroupRecord.{GroupRecord}
 use Rattle.cast_domain.specs.Records.{Records}

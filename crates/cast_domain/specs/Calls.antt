@@ -220,6 +220,10 @@ note_answer_in r i = record r { groups = update r.groups i (λ x. record x { her
 abbrev pub moved_home : HomeMove → GroupRecord → GroupRecord
 moved_home move x = record x { home = moved move x.home }
 
+-- the home keeps nothing
+abbrev pub with_first_home : GroupRecord → GroupRecord
+with_first_home x = record x { home = first_home }
+
 abbrev pub move_home_in : Records → ℕ → HomeMove → Records
 move_home_in r i move = record r { groups = update r.groups i (moved_home move) }
 

@@ -1,5 +1,5 @@
 -- When a domain's records stand for a history.
-use Rattle.std.specs.Prelude.{◌≡◌, ℕ, ◌≤◌, Bool, not, ◌&&◌, ◌||◌, ◌==◌, true, nat_lt, if◌then◌else◌, List, [], length, map, filter, take, Contains, None, false}
+use Rattle.std.specs.Prelude.{◌≡◌, ℕ, ◌≤◌, Bool, not, ◌&&◌, ◌||◌, ◌==◌, true, nat_lt, if◌then◌else◌, List, length, map, filter, take, Contains, None, false}
 use Rattle.std.specs.Option.{IsSome, option_map_or}
 use Rattle.std.specs.List.{find, list_all, list_any, range_with_len}
 use Rattle.cast_types.specs.declared.names.DomainNo.{DomainNo}

@@ -1,5 +1,5 @@
 -- What contracts see of a domain's sessions: how many serials were given, and those that are not gone, in the order of their serials.
-use Rattle.std.specs.Prelude.{ℕ, ◌+◌, Bool, not, ◌==◌, nat_le, if◌then◌else◌, List, [], ◌∷◌, ◌++◌, filter, map}
+use Rattle.std.specs.Prelude.{ℕ, ◌+◌, Bool, not, ◌==◌, nat_le, if◌then◌else◌, List, [], ◌∷◌, ◌++◌, filter}
 use Rattle.std.specs.List.{list_all}
 use Rattle.cast_events.specs.declared.session.Status.{Status}
 use Rattle.cast_events.specs.declared.session.Status.TheVariants.{Open, Closed}

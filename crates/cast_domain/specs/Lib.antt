@@ -10,3 +10,4 @@ pub mod Shows
 pub mod Copies
 pub mod Freed
 pub mod Flags
+pub mod Own

@@ -1,7 +1,7 @@
 ghost use Rattle.std.specs.Prelude.{◌<◌, not};
 
 use crate::lent::Lent;
-use crate::record::{GroupRecord, place_among};
+use crate::record::{GroupRecord, drop_homes, place_among};
 use crate::sessions::Sessions;
 use crate::shared::Shared;
 use cast_delay::{Delay, ProcessUpdate};
@@ -40,7 +40,8 @@ impl Domain {
     ghost use Rattle.cast_types.specs.Rising.{is_rising};
     ghost use Rattle.cast_rules.specs.State.{opening};
     ghost use Rattle.cast_domain.specs.Records.{number_of, is_halted, IsFor, Keeps, records_beside, Makes, MakesAlone, MakesWithOuts};
-    ghost use Rattle.cast_domain.specs.Shared.{no_part, LeavesOthers};
+    ghost use Rattle.cast_domain.specs.Shared.{no_part, part_of, LeavesOthers};
+    ghost use Rattle.cast_domain.specs.Shows.{groups_shown};
     ghost use Rattle.cast_domain.specs.Fits.{Represents};
     ghost use Rattle.cast_events.specs.Events.{domain_of};
     ghost use Rattle.cast_domain.specs.Stepped.{IsSteppedBeside, IsRefusedBeside};
@@ -138,8 +139,8 @@ impl Domain {
     }
 
     /// Makes one step: the event, and then what follows from it until nothing changes. What is sent and delivered is
-    /// added to `outs`. Of what is `shared` the parts of other domains stay as they are. `NoMemory` halts the domain,
-    /// which from then on answers each event `Refused(Halted)`.
+    /// added to `outs`. Of what is `shared` the parts of other domains stay as they are. `NoMemory` halts the domain: it
+    /// gives back all that it kept, owed and had to push, and from then on answers each event `Refused(Halted)`.
     pub fn step(
         &mut self,
         shared: &mut Shared,
@@ -150,6 +151,7 @@ impl Domain {
         ensures number { number_of self.new ≡ number_of self.old }
         ensures running { is_halted self.old ≡ false → OnOk result (is_halted self.new ≡ false) }
         ensures halts { OnErr result (is_halted self.new ≡ true) }
+        ensures leaves { OnErr result (part_of (number_of self.old) shared.new ≡ no_part) }
         ensures halted { is_halted self.old ≡ true → IsRefusedBeside self.old shared.old outs.old self.new shared.new outs.new result }
         ensures steps { is_halted self.old ≡ false → IfOk result (IsSteppedBeside self.old shared.old outs.old event.now self.new shared.new outs.new) }
         ensures nothing { OnErr result (outs.new ≡ outs.old) }
@@ -161,10 +163,27 @@ impl Domain {
         match self.serve(event, shared, outs) {
             Ok(taken) => Ok(taken),
             Err(error) => {
-                self.halted = true;
+                self.halt(shared);
                 Err(error)
             }
         }
+    }
+
+    // Halts the domain, and lets go of what it has but for what it shows. Takes no memory.
+    fn halt(&mut self, shared: &mut Shared)
+        ensures halts { is_halted self.new ≡ true }
+        ensures config { self.new.config ≡ self.old.config }
+        ensures shows { groups_shown self.new ≡ groups_shown self.old }
+        ensures leaves { part_of self.old.config.domain shared.new ≡ no_part }
+        ensures others { LeavesOthers self.old.config.domain shared.old shared.new }
+    {
+        let alloc = *self.groups.allocator();
+        self.halted = true;
+        self.delay = Delay::new(alloc);
+        self.acks = Acks::new(alloc, self.site);
+        self.orders = Orders::new(alloc);
+        drop_homes(&mut self.groups);
+        shared.drop_domain(self.config.domain);
     }
 
     fn serve(

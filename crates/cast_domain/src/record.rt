@@ -1,4 +1,4 @@
-ghost use Rattle.std.specs.Prelude.{◌≡◌, ◌<◌, true, IfOk, IfSome, OnOk, vec_len, length};
+ghost use Rattle.std.specs.Prelude.{◌≡◌, ◌<◌, true, IfOk, IfSome, OnOk, map, vec_len, length};
 ghost use Rattle.std.specs.List.{position};
 ghost use Rattle.cast_types.specs.Names.{group_eq};
 ghost use Rattle.cast_types.specs.Places.{update};
@@ -6,7 +6,7 @@ ghost use Rattle.cast_view.specs.MemberSide.{answers_prepare, frozen_side, verdi
 ghost use Rattle.cast_view.specs.declared.member.Verdict.TheVariants.{Pends};
 ghost use Rattle.cast_view.specs.Home.{answer_to, may_decide};
 ghost use Rattle.cast_view.specs.Home.HomeMove.{Asked, Brought, Decided, Installed, Reported, Started, Suspected};
-ghost use Rattle.cast_domain.specs.Calls.{moved_home, record_at, pending_of, with_install};
+ghost use Rattle.cast_domain.specs.Calls.{moved_home, record_at, pending_of, with_first_home, with_install};
 
 use cast_flush::Report;
 use cast_message::{Change, Membership, Message};
@@ -47,6 +47,16 @@ pub(crate) fn copy_groups(
         copied.push(group.copy()?)?;
     }
     Ok(copied)
+}
+
+/// Drops what the homes of all groups keep: no view, no changes and no flush.
+pub(crate) fn drop_homes(groups: &mut Vec<GroupRecord>)
+    ensures { groups.new.items ≡ map with_first_home groups.old.items }
+{
+    let alloc = *groups.allocator();
+    for group in groups.iter_mut() {
+        group.home = HomeSide::new(alloc);
+    }
 }
 
 /// Where a group stands.

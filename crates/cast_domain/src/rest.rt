@@ -84,38 +84,35 @@ impl Domain {
         self.settle_each(lent)
     }
 
-    // One process after the other delivers.
+    // One process after the other delivers; those that are in no group are passed over.
     fn settle_each(&mut self, lent: &mut Lent<'_>) -> Result<bool, NoMemory>
         ensures stays { KeepsBeside self.old lent.old self.new lent.new }
         ensures made { OnOk result (Makes (settle records resting_records) self.old lent.old self.new lent.new) }
         ensures still { IfOk result (StaysUnless self.old lent.old self.new lent.new) }
         ensures told { IfOk result (λ changed. changed ≡ delivers_some (records_in self.old lent.old)) }
     {
+        let count = self.delay.admitted_count();
         let mut changed = false;
-        for place in 0..self.delay.admitted_count() {
+        let mut place = self.delay.busy_from(self.site, 0);
+        while place < count {
             if let Some(process) = self.delay.process_at(place) {
-                let delivered = self.deliver_at(place, process.serial, lent)?;
+                let delivered = self.deliver_to(process.serial, lent)?;
                 changed = changed | delivered;
             }
+            place = self.delay.busy_from(self.site, place + 1);
         }
         Ok(changed)
     }
 
-    // A process that was admitted at a place delivers until nothing is ready for it. Where it is in no group, nothing is.
-    fn deliver_at(
-        &mut self,
-        place: usize,
-        serial: u32,
-        lent: &mut Lent<'_>,
-    ) -> Result<bool, NoMemory>
+    // A process looks at the messages that came since, and then delivers until nothing is ready for it.
+    fn deliver_to(&mut self, serial: u32, lent: &mut Lent<'_>) -> Result<bool, NoMemory>
         ensures stays { KeepsBeside self.old lent.old self.new lent.new }
         ensures made { OnOk result (Makes (λ r. deliver_all records resting_records r serial) self.old lent.old self.new lent.new) }
         ensures still { IfOk result (StaysUnless self.old lent.old self.new lent.new) }
         ensures told { IfOk result (λ changed. changed ≡ has_ready (records_in self.old lent.old) serial) }
     {
-        if self.delay.is_idle(place, self.process(serial)) {
-            return Ok(false);
-        }
+        let process = self.process(serial);
+        self.delay.look(process);
         self.deliver_all(serial, lent)
     }
 

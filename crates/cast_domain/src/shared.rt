@@ -151,6 +151,16 @@ impl Shared {
         self.outboxes.take(domain, serial, most)
     }
 
+    // Lets go of all that a domain keeps and owes, and of the outboxes of its sessions. Takes no memory.
+    pub(crate) fn drop_domain(&mut self, domain: DomainNo)
+        ensures part { part_of domain self.new ≡ no_part }
+        ensures others { LeavesOthers domain self.old self.new }
+    {
+        self.store.drop_domain(domain);
+        self.timers.drop_domain(domain);
+        self.outboxes.drop_domain(domain);
+    }
+
     // Drops the outbox of a serial of a domain.
     pub(crate) fn close_outbox(&mut self, domain: DomainNo, serial: u32)
         ensures part { part_of domain self.new ≡ part_boxing (part_of domain self.old) serial [] }

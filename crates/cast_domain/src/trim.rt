@@ -94,8 +94,8 @@ impl Domain {
     }
 }
 
-// The name of a message of the view of a group.
-fn message_id(group: &GroupRecord, proc: Proc, count: u32) -> Uid
+/// The name of a message of the view of a group.
+pub(crate) fn message_id(group: &GroupRecord, proc: Proc, count: u32) -> Uid
     ensures { result ≡ named group.now.name group.now.here.number (proc, count) }
 {
     Uid {

@@ -4,52 +4,63 @@ ghost use Rattle.cast_delay.specs.Ready.{is_member};
 use crate::domain::Domain;
 use crate::lent::Lent;
 use crate::record::GroupRecord;
+use crate::trim::message_id;
 use cast_delay::Turn;
-use cast_message::Message;
 use cast_order::OrderLog;
-use cast_store::Kept;
 use cast_types::limits::{MAX_POSITION, MAX_UNSETTLED};
-use cast_types::{GroupNo, Key, NoMemory, Proc, Standing, Uid};
+use cast_types::{GroupNo, Key, NoMemory, Proc, Source, Standing, Uid};
 
 impl Domain {
-    ghost use Rattle.std.specs.Prelude.{◌<◌, None, IfOk, length, ◌&&◌, ◌||◌, ◌==◌, min, not, nat_lt, filter, Some};
+    ghost use Rattle.std.specs.Prelude.{◌<◌, None, IfOk, length, ◌&&◌, ◌||◌, ◌==◌, min, not, nat_lt, filter, vec_len, Some};
     ghost use Rattle.cast_domain.specs.Records.{records_in, own_records};
-    ghost use Rattle.std.specs.List.{list_any};
+    ghost use Rattle.cast_domain.specs.Own.{AwaitsNoneOf, is_due_in, source_at};
     ghost use Rattle.cast_types.specs.declared.limits.TheConstants.{MAX_POSITION};
     ghost use Rattle.cast_order.specs.Log.{log_of, places_by};
     ghost use Rattle.cast_types.specs.Names.{named};
     ghost use Rattle.cast_delay.specs.Queue.{delivered_in};
-    ghost use Rattle.cast_domain.specs.Calls.{awaits_own_in, is_own_in, ready_key_in, turn_at, turns_in, sets_order_at, waiting_past, has_room_at, settled_at, unsettled_at};
+    ghost use Rattle.cast_domain.specs.Calls.{awaits_own_in, ready_key_in, turn_at, turns_in, sets_order_at, waiting_past, has_room_at, settled_at, unsettled_at};
 
     // Whether a process has not delivered an ABCAST of its own, of the view of a group of which it is a member.
     pub(crate) fn awaits_own(&self, process: Proc, lent: &Lent<'_>) -> bool
         ensures { result ≡ awaits_own_in (records_in self.now lent.now) process }
     {
-        self.is_own_among(process, &lent.shared.store.messages(self.config.domain))
-    }
-
-    // Whether one of these messages is such an ABCAST.
-    fn is_own_among(&self, process: Proc, kept: &Kept<'_>) -> bool
-        ensures { result ≡ list_any (λ x. is_own_in (own_records self.now) process x.message) kept.now }
-    {
-        for position in 0..kept.len() {
-            let (_, message) = kept.at(position);
-            if self.is_own(process, message) {
+        for place in 0..self.groups.len() {
+            if self.awaits_own_at(place, process, lent) {
                 return true;
             }
         }
         false
     }
 
-    // Whether a message is such an ABCAST.
-    fn is_own(&self, process: Proc, message: &Message) -> bool
-        ensures { result ≡ is_own_in (own_records self.now) process message.now }
+    // Whether it has not of the group at a place. It delivers its own in their order: so where it has delivered the least and the
+    // greatest count of those that are kept, it has delivered all.
+    fn awaits_own_at(&self, place: usize, process: Proc, lent: &Lent<'_>) -> bool
+        requires { place < vec_len self.now.groups }
+        ensures some { result ≡ true → awaits_own_in (records_in self.now lent.now) process ≡ true }
+        ensures none { result ≡ false → AwaitsNoneOf (records_in self.now lent.now) process (source_at self.now.groups.items place process) }
     {
-        message.kind().is_atomic()
-            && message.id.proc == process
-            && self.is_current(message.id)
-            && is_member(self.delay.standing(process, message.id.group))
-            && !self.delay.has_delivered(process, message.id)
+        let group = self.record(place);
+        let source = Source {
+            group: group.name,
+            view: group.here.number(),
+            process,
+        };
+        match lent.shared.store.atomic_counts(self.config.domain, source) {
+            Some((least, greatest)) => {
+                self.is_due(message_id(group, process, least))
+                    || self.is_due(message_id(group, process, greatest))
+            }
+            None => false,
+        }
+    }
+
+    // Whether a message is of the view of a group of which its process is a member, and that has not delivered it.
+    fn is_due(&self, id: Uid) -> bool
+        ensures { result ≡ is_due_in (own_records self.now) id }
+    {
+        self.is_current(id)
+            && is_member(self.delay.standing(id.proc, id.group))
+            && !self.delay.has_delivered(id.proc, id)
     }
 
     // The key of the first message that is ready for a process. Its turns are asked for only where some message may be.

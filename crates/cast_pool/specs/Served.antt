@@ -1,5 +1,5 @@
 -- What it is that an event is served: it is applied to the table, and stands at the end of the trace with its answer.
-use Rattle.std.specs.Prelude.{◌≡◌, ℕ, ◌+◌, true, false, if◌then◌else◌, List, [], ◌∷◌, ◌++◌, length, Result, Ok, Err}
+use Rattle.std.specs.Prelude.{◌≡◌, ◌⊎◌, ℕ, ◌+◌, ◌==◌, Bool, true, false, not, if◌then◌else◌, List, [], ◌∷◌, ◌++◌, length, Result, Ok, Err}
 use Rattle.cast_types.specs.declared.refusal.Refusal.TheVariants as refusal
 use Rattle.cast_events.specs.declared.event.Event.{Event}
 use Rattle.cast_events.specs.declared.event.Outs.{Outs}
@@ -31,6 +31,17 @@ pub record IsTrimmed (old : Seen) (new : Seen) : Type 0 where
   pub trace : new.trace ≡ []
   pub count : new.count ≡ events_of old
   pub table : new.table ≡ old.table
+
+-- whether what came of a job is that an event halted a domain
+abbrev pub halts : Outcome → Bool
+halts (Answered answer outs) = not (length outs.halted == 0)
+halts (Shown shown) = false
+halts (Undecoded fault) = false
+
+-- where that is so the trace may have been trimmed, and else nothing has changed
+abbrev pub IsTrimmedOr : Bool → Seen → Seen → Type 0
+IsTrimmedOr true old new = IsTrimmed old new ⊎ (new ≡ old)
+IsTrimmedOr false old new = new ≡ old
 
 -- an event is applied to the table with this answer, stands at the end of the trace, which was trimmed before where that was
 -- due, and is one more that its worker took

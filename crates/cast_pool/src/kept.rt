@@ -2,7 +2,7 @@
 ghost use Rattle.std.specs.Prelude.{◌≡◌, ◌+◌, ◌<◌, ◌≤◌, ◌^◌, [], true, Ok, IfOk, OnOk, OnErr, IfErr, length};
 ghost use Rattle.cast_table.specs.Owns.{are_distinct, have_rising_groups};
 ghost use Rattle.cast_pool.specs.Kept.{Replays, Seen, events_of};
-ghost use Rattle.cast_pool.specs.Served.{IsDone, IsTrimmed, Serves};
+ghost use Rattle.cast_pool.specs.Served.{IsDone, IsTrimmed, IsTrimmedOr, Serves, halts};
 ghost use Rattle.cast_pool.specs.Tasks.{IsUndecoded, task_of};
 
 use crate::task::{Asked, Outcome, Raw, Task};
@@ -309,6 +309,16 @@ impl<L: Ledger> Kept<L> {
         let base = self.table.copy()?;
         self.trail.trim(base);
         Ok(())
+    }
+
+    /// Lets go of what a domain kept, where the job halted one: trims the trace, since its base and its events hold that too. Where
+    /// memory is refused, nothing is changed, and it goes when the trace is trimmed next.
+    pub fn let_go(&mut self, done: &Done)
+        ensures { IsTrimmedOr (halts done.now.outcome) self.old self.new }
+    {
+        if done.outcome.halts() {
+            let _ = self.trim();
+        }
     }
 
     /// How many events were taken, where all shares were joined into one: as many as their holders took.

@@ -1,3 +1,6 @@
+ghost use Rattle.std.specs.Prelude.{◌≡◌};
+ghost use Rattle.cast_pool.specs.Served.{halts};
+
 use bytes::Bytes;
 use cast_events::{Event, Fault, Outs, Taken};
 use cast_field::FrameFault;
@@ -43,4 +46,16 @@ pub enum Outcome {
     Shown(Option<Shown>),
     /// The bytes are no frame, for the first of its faults, or there was no memory to read them.
     Undecoded(FrameFault),
+}
+
+impl Outcome {
+    /// Whether an event halted a domain.
+    pub fn halts(&self) -> bool
+        ensures { result ≡ halts self.now }
+    {
+        match self {
+            Outcome::Answered(_, outs) => !outs.halted.as_slice().is_empty(),
+            Outcome::Shown(_) | Outcome::Undecoded(_) => false,
+        }
+    }
 }

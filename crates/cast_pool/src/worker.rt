@@ -1,7 +1,7 @@
 //! A worker: it takes what comes by a channel, and decodes and sends outside the lock.
 ghost use Rattle.std.specs.Prelude.{◌≡◌, ◌<◌};
 
-use crate::kept::{Done, Kept, Worked, decode};
+use crate::kept::{Done, Job, Kept, Worked, decode};
 use crate::task::Raw;
 use crossbeam_channel::{Receiver, Sender};
 use std::alloc::Global;
@@ -33,7 +33,7 @@ impl Gate for Open {
 }
 
 /// Serves what comes until no more can come, and gives the worker's share of the count back. What cannot be sent is dropped. The lock
-/// is held for `Kept::serve_one` alone.
+/// is held for `Kept::serve_one`, and for `Kept::let_go` where that halted a domain.
 pub fn work<L: Ledger, R: Wait, G: Gate>(
     rt: &R,
     alloc: Global,
@@ -55,7 +55,7 @@ pub fn work<L: Ledger, R: Wait, G: Gate>(
         let done = match decode(alloc, raw) {
             Ok(job) => {
                 gate.decoded(number);
-                let done = kept.lock(rt).serve_one(&mut mine, job);
+                let done = serve(&mut kept.lock(rt), &mut mine, job);
                 gate.served(number);
                 done
             }
@@ -65,4 +65,14 @@ pub fn work<L: Ledger, R: Wait, G: Gate>(
         gate.done(number);
     }
     mine
+}
+
+// Serves a job, and lets go of what a domain kept that it halted.
+fn serve<L: Ledger>(kept: &mut Kept<L>, mine: &mut Worked<L>, job: Job) -> Done
+    requires { 0 < mine.old.parts }
+    ensures { mine.new.parts ≡ mine.old.parts }
+{
+    let done = kept.serve_one(mine, job);
+    kept.let_go(&done);
+    done
 }

@@ -34,7 +34,11 @@ fn answer_line<L: Ledger, R: Wait, W: Write>(
 {
     let Answer { text, done } = {
         let mut kept = kept.lock(rt);
-        answer(alloc, &mut kept, mine, line)
+        let answer = answer(alloc, &mut kept, mine, line);
+        if let Some(done) = &answer.done {
+            kept.let_go(done);
+        }
+        answer
     };
     if let Some(done) = done {
         let _ = dones.send(rt, done);

@@ -120,12 +120,14 @@ pub record IsTaken (old : Domain) (event : Event) (taken : Taken) (new : Domain)
   pub refuses : is_halted old ≡ true → (taken ≡ Refused refusal.Halted) × (new ≡ old) × (after ≡ before)
   pub others : LeavesOthers (number_of old) before.shared after.shared
 
--- a domain finds no memory in its step: it is halted and noted, and nothing is sent, delivered or pushed
+-- a domain finds no memory in its step: it is halted and noted, nothing is sent, delivered or pushed, and of what is shared nothing is left to
+-- it
 pub record IsHalting (old : Domain) (new : Domain) (before : Lent) (after : Lent) : Type 0 where
   pub number : number_of new ≡ number_of old
   pub ran : is_halted old ≡ false
   pub stops : is_halted new ≡ true
   pub outs : after.outs ≡ record (before.outs) { halted = before.outs.halted ++ number_of old ∷ [] }
+  pub leaves : part_of (number_of old) after.shared ≡ no_part
   pub others : LeavesOthers (number_of old) before.shared after.shared
 
 -- what an event does to a domain whose turn it is

@@ -1,10 +1,11 @@
 -- What a process delivered is, in order, what its acts say that it delivered; and so are the ABCASTs among that.
-use Rattle.cast_delay.proofs.MemberLemmas.{member_any, none_any}
+use Rattle.cast_delay.proofs.MemberLemmas.{member_any}
 use Rattle.cast_types.proofs.Orders.{same_uid, uid_itself}
 use Rattle.std.proofs.Common.{ap, subst, sym, ◌∙◌}
 use Rattle.std.proofs.lemmas.Bool.{and_parts, false_from_ne_true, true≢false}
 use Rattle.std.proofs.lemmas.List.{append-nil}
-use Rattle.std.specs.Prelude.{◌&&◌, ◌+◌, ◌++◌, ◌==◌, Bool, Contains, List, None, Option, Some, [], cond, false, filter, if◌then◌else◌, refl, true, ℕ, ◌∷◌, ◌≡◌}
+use Rattle.std.specs.Prelude.{◌&&◌, ◌||◌, ◌+◌, ◌++◌, ◌==◌, Bool, Contains, List, None, Option, Some, [], cond, false, filter, if◌then◌else◌, refl, true, ℕ, ◌∷◌, ◌≡◌}
+use Rattle.std.specs.List.{list_any}
 use Rattle.cast_clock.specs.Times.{join, view_of}
 use Rattle.cast_delay.specs.Ready.{Process, is_member}
 use Rattle.cast_rules.specs.Acts.{Act}
@@ -44,6 +45,11 @@ use Rattle.cast_world.specs.HappenedBefore.{StandsBefore, acts_of}
 use Rattle.cast_world.specs.Laws.{AllAbcastsAreActs, AllListsAreActs, AllListsAreInOrder, IsBefore}
 use Rattle.cast_world.specs.Network.{Becomes, Happens, Leads, Network, event_of, start}
 use Rattle.cast_world.specs.declared.step.Step.{Step}
+
+-- where each of a list fails a test, none passes
+none_any : {X : Type 0} (t : X → Bool) (xs : List X) → ((x : X) → Contains xs x → t x ≡ false) → list_any t xs ≡ false
+none_any t [] none = refl
+none_any t (x ∷ xs) none = ap (λ b. b || list_any t xs) (none x (contains_here [] xs x)) ∙ none_any t xs (λ y has. none y (contains_more x xs y has))
 
 delivered_append : (xs ys : List Act) → delivered_by (xs ++ ys) ≡ delivered_by xs ++ delivered_by ys
 delivered_append [] ys = refl

@@ -1,12 +1,10 @@
-use Rattle.std.proofs.Common.{◌∙◌, ap}
-use Rattle.std.specs.List.{list_any}
-use Rattle.cast_events.specs.Outs.{no_outs}
-use Rattle.cast_domain.specs.Records.{records_of}
-use Rattle.cast_domain.specs.Shared.{no_part}
-use Rattle.cast_domain.specs.Calls.{is_own_in}
+use Rattle.std.proofs.Common.{◌≡◌, length, sym, rules, arith}
+use Rattle.cast_domain.specs.Records.{records_in}
+use Rattle.cast_domain.proofs.Own.{none_awaited}
 use Rattle.cast_domain.proofs.domain.Domain.awaits_own.Goals as goal
 
 pub returns : goal.returns
 returns c =
-    let r = records_of c.args.self.now no_part no_outs in
-    c.is_own_among.ensures ∙ ap (list_any (λ x. is_own_in r c.args.process x.message)) c.messages.ensures.value
+    let groups = c.args.self.now.groups in
+    let all : length groups.items ≡ c.loop-place.place = search rules in
+    sym (none_awaited (records_in c.args.self.now c.args.lent.now) c.args.process (λ i within. c.loop-place.invariant i (omega (arith, within, all))))

@@ -1,5 +1,5 @@
-use Rattle.std.proofs.Common.{◌≡◌, ◌<◌, ◌+◌, ◌-◌, ◌∙◌, ap, length, sym, false, arith}
-use Rattle.std.specs.List.{fold, list_any, range_with_len}
+use Rattle.std.proofs.Common.{◌<◌, ◌+◌, ◌-◌, ◌∙◌, ap, length, sym, arith}
+use Rattle.std.specs.List.{fold, range_with_len}
 use Rattle.std.proofs.lemmas.Bool.{or_parts}
 use Rattle.cast_domain.specs.Records.{records_in}
 use Rattle.cast_rules.specs.Rules.Order.{set_order}

@@ -1,4 +1,4 @@
-use Rattle.std.proofs.Common.{◌≡◌, ◌∙◌, List, None, true, sym}
+use Rattle.std.proofs.Common.{◌≡◌, None, true, sym}
 use Rattle.std.proofs.lemmas.Bool.{not_from_true}
 use Rattle.cast_types.specs.declared.names.Proc.{Proc}
 use Rattle.cast_domain.specs.Records.{records_in}

@@ -3,6 +3,3 @@ use Rattle.cast_domain.proofs.domain.Domain.step.Goals as goal
 
 pub returns-then-self-clause-halted : goal.returns-then-self-clause-halted
 returns-then-self-clause-halted c halted = (refl, refl, refl, refl)
-
-pub returns-in-Err-clause-halts : goal.returns-in-Err-clause-halts
-returns-in-Err-clause-halts c = refl

@@ -1,4 +1,4 @@
-use Rattle.std.proofs.Common.{◌≡◌, ◌∙◌, ◌+◌, ◌++◌, ◌∷◌, [], ap, rules, arith}
+use Rattle.std.proofs.Common.{◌≡◌, ◌∙◌, ◌+◌, ◌++◌, ◌∷◌, [], ap, arith}
 use Rattle.std.specs.Prelude.{map}
 use Rattle.cast_events.specs.declared.session.Status.TheVariants.{Open}
 use Rattle.cast_domain.specs.GivenSessions.{are_given, record_of}

@@ -1,4 +1,4 @@
-use Rattle.std.proofs.Common.{◌≡◌, ◌∙◌, ap}
+use Rattle.std.proofs.Common.{◌∙◌, ap}
 use Rattle.std.specs.Prelude.{map}
 use Rattle.cast_domain.specs.GivenSessions.{are_given, record_of}
 use Rattle.cast_domain.proofs.Serials.{given_without, seen_without}
