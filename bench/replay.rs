@@ -11,6 +11,8 @@
 //! - `passes-N`: N groups wait for messages that nobody sent; then one message lets so many ABCASTs as there are rounds go, each
 //!   only once the place of the one before is told;
 //! - `waiting-N`: in each round N messages of 2.1 come in reverse order, and are said to be stable;
+//! - `lost-N`: in each round N messages, each of another process and group, wait for one of 2.1, which comes last; all are said to be
+//!   stable;
 //! - `members-N`: a view of N members, of which all but 1.1 are at sites 2 and 3; in each round each of these casts, after all that was
 //!   cast, and its message is said to be stable;
 //! - `groups-N`: so in N groups of four members, with stamps that name all groups;
@@ -292,6 +294,35 @@ fn spread(groups: usize, members: &[Member], rounds: usize) -> Vec<String> {
     events
 }
 
+/// Each message is of another process in one of the groups, and names the next message of 2.1 in group 1, which comes behind them.
+fn lost(many: usize, rounds: usize) -> Vec<String> {
+    let members = members(63, 2);
+    let others: Vec<Member> = members.iter().copied().filter(|it| it.0 != 1 && *it != (2, 1)).collect();
+    let mut events: Vec<String> = (1..=many.div_ceil(others.len())).flat_map(|group| joined_to(group, &members)).collect();
+    let clock = |group: usize, counts: &[String]| format!("{group:04x}00000002{:02x}{}", counts.len(), counts.concat());
+    for round in 1..=rounds {
+        let missing = format!("{}{round:08x}", member((2, 1)));
+        let mut stables = Vec::new();
+        for place in 0..many {
+            let (group, sender) = (1 + place / others.len(), others[place % others.len()]);
+            let name = format!("{}{round:08x}", member(sender));
+            let clocks = if group == 1 {
+                let mut counts = [missing.clone(), name.clone()];
+                counts.sort();
+                vec![clock(1, &counts)]
+            } else {
+                vec![clock(1, &[missing.clone()]), clock(group, &[name.clone()])]
+            };
+            events.push(format!("{}{name}{CAUSAL:02x}{:02x}{}{}", header(1, sender.0, group, 2), clocks.len(), clocks.concat(), payload()));
+            stables.push(format!("{}{name}", header(3, sender.0, group, 2)));
+        }
+        events.push(message(1, 2, round, 0, CAUSAL, &payload()));
+        events.push(stable(2, round));
+        events.extend(stables);
+    }
+    events
+}
+
 /// Programs that were here, and then casts that become stable.
 fn opened(programs: usize, rounds: usize) -> Vec<String> {
     let mut events = joined(1, 1);
@@ -400,6 +431,7 @@ fn events(case: &str, rounds: usize) -> Option<Vec<String>> {
             events.extend((1..=rounds).flat_map(|number| waiting(number, many)));
             Some(events)
         }
+        Some(("lost", many)) => Some(lost(many.parse().ok()?, rounds)),
         Some(("members", many)) => Some(spread(1, &members(many.parse::<usize>().ok()? - 1, 2), rounds)),
         Some(("groups", many)) => Some(spread(many.parse().ok()?, &members(3, 1), rounds)),
         Some(("opened", many)) => Some(opened(many.parse().ok()?, rounds)),
@@ -421,7 +453,8 @@ fn tenants_of(case: &str) -> Option<(usize, usize)> {
 
 fn script(case: &str, rounds: usize) -> Option<String> {
     let (domains, programs) = tenants_of(case).unwrap_or((1, 1));
-    let last = if case.starts_with("passes") || case.starts_with("groups") { PASSING } else { 1 };
+    let has_groups = ["passes", "groups", "lost"].iter().any(|it| case.starts_with(it));
+    let last = if has_groups { PASSING } else { 1 };
     let groups: Vec<String> = (1..=last).map(|group| group.to_string()).collect();
     let sites: Vec<String> = (1..=PARTED).map(|site| site.to_string()).collect();
     let sites = match case.split_once('-') {
@@ -451,7 +484,7 @@ fn main() {
     };
     let Some(text) = text else {
         eprintln!(
-            "replay kept-N|views|holder|follower|sessions|tokens|waiting-N|members-N|groups-N|opened-N|passes-N|tenants-N-P|partition-N ROUNDS FILE"
+            "replay kept-N|views|holder|follower|sessions|tokens|waiting-N|lost-N|members-N|groups-N|opened-N|passes-N|tenants-N-P|partition-N ROUNDS FILE"
         );
         process::exit(2);
     };

@@ -1,6 +1,6 @@
 use crate::messages::{SENDER, holds, id_of};
 use cast_index::Index;
-use cast_types::{Key, Proc, Uid, source_of};
+use cast_types::{Key, Proc, Source, Uid, source_of};
 use std::alloc::Global;
 use std::test::Fail;
 
@@ -37,4 +37,22 @@ fn ids_are_found_and_sources_are_gone_through(rt: HostRuntime) -> Result<(), Fai
     holds(4, index.key_of(id_of(2)) == Some(Key(4)))?;
     let copy = index.copy()?;
     holds(5, copy.key_of(of_next(1)) == Some(Key(0)))
+}
+
+#[test]
+fn the_counts_of_a_source_are_found(rt: HostRuntime) -> Result<(), Fail> {
+    let mut index = four(rt.alloc())?;
+    let sender = source_of(id_of(1));
+    let last = Source {
+        process: Proc {
+            serial: u32::MAX,
+            ..SENDER
+        },
+        ..sender
+    };
+    holds(0, index.count_range(sender) == Some((1, 2)))?;
+    holds(1, index.count_range(source_of(of_next(1))) == Some((1, 1)))?;
+    holds(2, index.count_range(last).is_none())?;
+    index.remove(id_of(1), Key(5));
+    holds(3, index.count_range(sender) == Some((2, 2)))
 }

@@ -35,3 +35,5 @@ mod store;
 mod timer;
 #[cfg(test)]
 mod types;
+#[cfg(test)]
+mod waiting;

@@ -1,7 +1,7 @@
-use crate::messages::{causal, holds, id_of};
+use crate::messages::{atomic, causal, holds, id_of};
 use cast_message::Message;
 use cast_store::Store;
-use cast_types::{DomainNo, Key};
+use cast_types::{DomainNo, Key, source_of};
 use std::alloc::Global;
 use std::test::Fail;
 
@@ -14,6 +14,8 @@ const THEIRS: DomainNo = DomainNo(2);
 enum Step {
     // A domain keeps a message of this count, under this key.
     Puts(DomainNo, u32, usize),
+    // And an ABCAST.
+    PutsAtomic(DomainNo, u32, usize),
     // The message that a domain keeps under a key is taken out: its count, 0 where there is none.
     Removes(DomainNo, usize, u32),
     // All messages of a domain are let go.
@@ -24,6 +26,8 @@ enum Step {
     Finds(DomainNo, u32, bool),
     // The key of the message that may go first, where those of counts up to this one may.
     Frees(DomainNo, u32, Option<usize>),
+    // The least and the greatest count of the ABCASTs that a domain keeps of the sender.
+    Counts(DomainNo, Option<(u32, u32)>),
     // How many messages a domain keeps.
     Keeps(DomainNo, usize),
     // The key of what a domain keeps next.
@@ -64,12 +68,18 @@ fn frees(store: &Store, domain: DomainNo, most: u32) -> Option<usize> {
     Some(key)
 }
 
-// Whether a domain keeps so many messages, each under the key that stands beside it.
+fn atomic_counts(store: &Store, domain: DomainNo) -> Option<(u32, u32)> {
+    store.atomic_counts(domain, source_of(id_of(0)))
+}
+
+// Whether a domain keeps so many messages, each under the key that stands beside it, and of the kind that is noted.
 fn keeps(store: &Store, domain: DomainNo, len: usize) -> bool {
     let kept = store.messages(domain);
     for place in 0..kept.len() {
         let (Key(key), message) = kept.at(place);
-        if count_under(store, domain, key) != message.id.count {
+        if count_under(store, domain, key) != message.id.count
+            || kept.is_atomic(place) != message.kind().is_atomic()
+        {
             return false;
         }
     }
@@ -80,6 +90,9 @@ fn keeps(store: &Store, domain: DomainNo, len: usize) -> bool {
 fn does(alloc: Global, store: &mut Store, step: Step) -> Result<bool, Fail> {
     let well = match step {
         Step::Puts(domain, count, key) => put(store, domain, causal(alloc, count)?) == Some(key),
+        Step::PutsAtomic(domain, count, key) => {
+            put(store, domain, atomic(alloc, count)?) == Some(key)
+        }
         Step::Removes(domain, key, count) => count_removed(store, domain, key) == count,
         Step::Drops(domain) => {
             store.drop_domain(domain);
@@ -88,6 +101,7 @@ fn does(alloc: Global, store: &mut Store, step: Step) -> Result<bool, Fail> {
         Step::Has(domain, key, count) => count_under(store, domain, key) == count,
         Step::Finds(domain, count, is_there) => finds(store, domain, count) == is_there,
         Step::Frees(domain, most, key) => frees(store, domain, most) == key,
+        Step::Counts(domain, counts) => atomic_counts(store, domain) == counts,
         Step::Keeps(domain, len) => keeps(store, domain, len),
         Step::Next(domain, key) => store.next_key(domain) == Key(key),
     };
@@ -129,6 +143,36 @@ fn messages_are_kept_until_they_are_removed(rt: HostRuntime) -> Result<(), Fail>
             Step::Drops(MINE),
             Step::Keeps(MINE, 0),
             Step::Keeps(THEIRS, 2),
+        ],
+    )
+}
+
+#[test]
+fn the_counts_of_abcasts_are_kept(rt: HostRuntime) -> Result<(), Fail> {
+    goes(
+        rt.alloc(),
+        &[
+            Step::Counts(MINE, None),
+            Step::Puts(MINE, 1, 0),
+            Step::Counts(MINE, None),
+            Step::PutsAtomic(MINE, 4, 1),
+            Step::Counts(MINE, Some((4, 4))),
+            Step::PutsAtomic(MINE, 2, 2),
+            Step::Puts(MINE, 5, 3),
+            Step::PutsAtomic(MINE, 3, 4),
+            Step::PutsAtomic(THEIRS, 7, 0),
+            Step::Counts(MINE, Some((2, 4))),
+            Step::Counts(THEIRS, Some((7, 7))),
+            Step::Keeps(MINE, 5),
+            Step::Removes(MINE, 1, 4),
+            Step::Counts(MINE, Some((2, 3))),
+            Step::Removes(MINE, 0, 1),
+            Step::Removes(MINE, 2, 2),
+            Step::Removes(MINE, 4, 3),
+            Step::Counts(MINE, None),
+            Step::Keeps(MINE, 1),
+            Step::Drops(THEIRS),
+            Step::Counts(THEIRS, None),
         ],
     )
 }
