@@ -3,13 +3,13 @@ ghost use Rattle.std.specs.List.{flat_map, position, position_or_len};
 ghost use Rattle.cast_types.specs.Names.{proc_eq};
 ghost use Rattle.cast_field.specs.Spelling.{kind_code, short, spelled_body, spelled_clock, spelled_counts, spelled_entry, spelled_holder, spelled_kept, spelled_marked, spelled_members, spelled_message, spelled_new_holder, spelled_payload, spelled_proc, spelled_sequence, spelled_tail, spelled_times, spelled_uid, word};
 
-use bytes::{BufMut, BytesMut};
+use bytes::BufMut;
 use cast_message::{Body, KeptIds, Membership, Message, Payload, Placement, Tail};
 use cast_types::{Clock, Counts, GroupNo, Kind, NoMemory, Proc, Stamp, Uid};
 
 /// A process: its site and its serial.
 #[tactic(auto, unfolding(crate::specs::Spelling::spelled_proc, crate::specs::Spelling::short, crate::specs::Spelling::word))]
-pub fn put_proc(out: &mut BytesMut, proc: Proc) -> Result<(), NoMemory>
+pub fn put_proc(out: &mut Vec<u8>, proc: Proc) -> Result<(), NoMemory>
     ensures { OnOk result (out.new.items ≡ out.old.items ++ spelled_proc proc) }
 {
     out.put_u16(proc.site.0)?;
@@ -18,7 +18,7 @@ pub fn put_proc(out: &mut BytesMut, proc: Proc) -> Result<(), NoMemory>
 }
 
 #[tactic(auto, unfolding(crate::specs::Spelling::spelled_entry, crate::specs::Spelling::word))]
-fn put_entry(out: &mut BytesMut, entry: (Proc, u32)) -> Result<(), NoMemory>
+fn put_entry(out: &mut Vec<u8>, entry: (Proc, u32)) -> Result<(), NoMemory>
     ensures { OnOk result (out.new.items ≡ out.old.items ++ spelled_entry entry) }
 {
     put_proc(out, entry.0)?;
@@ -28,7 +28,7 @@ fn put_entry(out: &mut BytesMut, entry: (Proc, u32)) -> Result<(), NoMemory>
 
 /// The name of a message: group, view, process, count.
 #[tactic(auto, unfolding(crate::specs::Spelling::spelled_uid, crate::specs::Spelling::short, crate::specs::Spelling::word))]
-pub fn put_uid(out: &mut BytesMut, id: Uid) -> Result<(), NoMemory>
+pub fn put_uid(out: &mut Vec<u8>, id: Uid) -> Result<(), NoMemory>
     ensures { OnOk result (out.new.items ≡ out.old.items ++ spelled_uid id) }
 {
     out.put_u16(id.group.0)?;
@@ -38,7 +38,7 @@ pub fn put_uid(out: &mut BytesMut, id: Uid) -> Result<(), NoMemory>
     Ok(())
 }
 
-fn put_entries(out: &mut BytesMut, entries: &[(Proc, u32)]) -> Result<(), NoMemory>
+fn put_entries(out: &mut Vec<u8>, entries: &[(Proc, u32)]) -> Result<(), NoMemory>
     ensures { OnOk result (out.new.items ≡ out.old.items ++ flat_map spelled_entry entries.now) }
 {
     for entry in entries {
@@ -49,7 +49,7 @@ fn put_entries(out: &mut BytesMut, entries: &[(Proc, u32)]) -> Result<(), NoMemo
 
 /// Counts: how many, and each process with its count.
 #[tactic(auto, unfolding(crate::specs::Spelling::spelled_counts, crate::specs::Spelling::byte))]
-pub fn put_counts(out: &mut BytesMut, counts: &Counts) -> Result<(), NoMemory>
+pub fn put_counts(out: &mut Vec<u8>, counts: &Counts) -> Result<(), NoMemory>
     ensures { OnOk result (out.new.items ≡ out.old.items ++ spelled_counts counts.now) }
 {
     out.put_u8(counts.len() as u8)?;
@@ -58,7 +58,7 @@ pub fn put_counts(out: &mut BytesMut, counts: &Counts) -> Result<(), NoMemory>
 }
 
 #[tactic(auto, unfolding(crate::specs::Spelling::spelled_clock, crate::specs::Spelling::short, crate::specs::Spelling::word))]
-fn put_clock(out: &mut BytesMut, group: GroupNo, clock: &Clock) -> Result<(), NoMemory>
+fn put_clock(out: &mut Vec<u8>, group: GroupNo, clock: &Clock) -> Result<(), NoMemory>
     ensures { OnOk result (out.new.items ≡ out.old.items ++ spelled_clock (group, clock.now)) }
 {
     out.put_u16(group.0)?;
@@ -67,7 +67,7 @@ fn put_clock(out: &mut BytesMut, group: GroupNo, clock: &Clock) -> Result<(), No
     Ok(())
 }
 
-fn put_clocks(out: &mut BytesMut, clocks: &[(GroupNo, Clock)]) -> Result<(), NoMemory>
+fn put_clocks(out: &mut Vec<u8>, clocks: &[(GroupNo, Clock)]) -> Result<(), NoMemory>
     ensures { OnOk result (out.new.items ≡ out.old.items ++ flat_map spelled_clock clocks.now) }
 {
     for (group, clock) in clocks {
@@ -77,7 +77,7 @@ fn put_clocks(out: &mut BytesMut, clocks: &[(GroupNo, Clock)]) -> Result<(), NoM
 }
 
 #[tactic(auto, unfolding(crate::specs::Spelling::spelled_times, crate::specs::Spelling::byte))]
-fn put_times(out: &mut BytesMut, times: &Stamp) -> Result<(), NoMemory>
+fn put_times(out: &mut Vec<u8>, times: &Stamp) -> Result<(), NoMemory>
     ensures { OnOk result (out.new.items ≡ out.old.items ++ spelled_times times.now) }
 {
     let clocks = times.clocks();
@@ -87,7 +87,7 @@ fn put_times(out: &mut BytesMut, times: &Stamp) -> Result<(), NoMemory>
 }
 
 #[tactic(auto, unfolding(crate::specs::Spelling::spelled_payload, crate::specs::Spelling::short))]
-fn put_payload(out: &mut BytesMut, payload: &Payload) -> Result<(), NoMemory>
+fn put_payload(out: &mut Vec<u8>, payload: &Payload) -> Result<(), NoMemory>
     ensures { OnOk result (out.new.items ≡ out.old.items ++ spelled_payload payload.now) }
 {
     out.put_u16(payload.len() as u16)?;
@@ -96,7 +96,7 @@ fn put_payload(out: &mut BytesMut, payload: &Payload) -> Result<(), NoMemory>
 }
 
 #[tactic(auto, unfolding(crate::specs::Spelling::spelled_new_holder))]
-fn put_new_holder(out: &mut BytesMut, holder: Option<Proc>) -> Result<(), NoMemory>
+fn put_new_holder(out: &mut Vec<u8>, holder: Option<Proc>) -> Result<(), NoMemory>
     ensures { OnOk result (out.new.items ≡ out.old.items ++ spelled_new_holder holder) }
 {
     match holder {
@@ -106,7 +106,7 @@ fn put_new_holder(out: &mut BytesMut, holder: Option<Proc>) -> Result<(), NoMemo
 }
 
 #[tactic(auto, unfolding(crate::specs::Spelling::spelled_sequence, crate::specs::Spelling::byte, crate::specs::Spelling::word))]
-fn put_placement(out: &mut BytesMut, placement: &Placement) -> Result<(), NoMemory>
+fn put_placement(out: &mut Vec<u8>, placement: &Placement) -> Result<(), NoMemory>
     ensures { OnOk result (out.new.items ≡ out.old.items ++ spelled_sequence placement.now) }
 {
     let ids = placement.ids();
@@ -118,7 +118,7 @@ fn put_placement(out: &mut BytesMut, placement: &Placement) -> Result<(), NoMemo
 }
 
 #[tactic(auto, unfolding(crate::specs::Spelling::spelled_body))]
-fn put_body(out: &mut BytesMut, body: &Body) -> Result<(), NoMemory>
+fn put_body(out: &mut Vec<u8>, body: &Body) -> Result<(), NoMemory>
     ensures { OnOk result (out.new.items ≡ out.old.items ++ spelled_body body.now) }
 {
     match body {
@@ -141,7 +141,7 @@ fn code_of_kind(kind: Kind) -> u8
 /// A message: its name, its kind, its times and what it holds. In a set-order message that hands over the token of its
 /// view the new holder stands behind the ids.
 #[tactic(auto, unfolding(crate::specs::Spelling::spelled_message, crate::specs::Spelling::byte))]
-pub fn put_message(out: &mut BytesMut, message: &Message) -> Result<(), NoMemory>
+pub fn put_message(out: &mut Vec<u8>, message: &Message) -> Result<(), NoMemory>
     ensures { OnOk result (out.new.items ≡ out.old.items ++ spelled_message message.now) }
 {
     put_uid(out, message.id)?;
@@ -151,7 +151,7 @@ pub fn put_message(out: &mut BytesMut, message: &Message) -> Result<(), NoMemory
     Ok(())
 }
 
-fn put_procs(out: &mut BytesMut, procs: &[Proc]) -> Result<(), NoMemory>
+fn put_procs(out: &mut Vec<u8>, procs: &[Proc]) -> Result<(), NoMemory>
     ensures { OnOk result (out.new.items ≡ out.old.items ++ flat_map spelled_proc procs.now) }
 {
     for proc in procs {
@@ -175,7 +175,7 @@ fn place_of(members: &[Proc], holder: Proc) -> usize
 }
 
 #[tactic(auto, unfolding(crate::specs::Spelling::spelled_holder, crate::specs::Spelling::byte))]
-fn put_holder(out: &mut BytesMut, members: &[Proc], holder: Option<Proc>) -> Result<(), NoMemory>
+fn put_holder(out: &mut Vec<u8>, members: &[Proc], holder: Option<Proc>) -> Result<(), NoMemory>
     requires { length members.now ≤ 64 }
     ensures { OnOk result (out.new.items ≡ out.old.items ++ spelled_holder members.now holder) }
 {
@@ -190,7 +190,7 @@ fn put_holder(out: &mut BytesMut, members: &[Proc], holder: Option<Proc>) -> Res
 
 /// The members of a view: how many, the members, and the holder by its place.
 #[tactic(auto, unfolding(crate::specs::Spelling::spelled_members, crate::specs::Spelling::byte))]
-pub fn put_members(out: &mut BytesMut, members: &Membership) -> Result<(), NoMemory>
+pub fn put_members(out: &mut Vec<u8>, members: &Membership) -> Result<(), NoMemory>
     ensures { OnOk result (out.new.items ≡ out.old.items ++ spelled_members members.now) }
 {
     let list = members.list();
@@ -202,7 +202,7 @@ pub fn put_members(out: &mut BytesMut, members: &Membership) -> Result<(), NoMem
 
 /// The end of an order: how many ids stand before it, how many it has, and the ids.
 #[tactic(auto, unfolding(crate::specs::Spelling::spelled_tail, crate::specs::Spelling::short, crate::specs::Spelling::word))]
-pub fn put_tail(out: &mut BytesMut, tail: &Tail) -> Result<(), NoMemory>
+pub fn put_tail(out: &mut Vec<u8>, tail: &Tail) -> Result<(), NoMemory>
     ensures { OnOk result (out.new.items ≡ out.old.items ++ spelled_tail tail.now) }
 {
     let ids = tail.ids();
@@ -213,7 +213,7 @@ pub fn put_tail(out: &mut BytesMut, tail: &Tail) -> Result<(), NoMemory>
 }
 
 #[tactic(auto, unfolding(crate::specs::Spelling::spelled_marked, crate::specs::Spelling::byte))]
-fn put_marked(out: &mut BytesMut, marked: ((Proc, u32), bool)) -> Result<(), NoMemory>
+fn put_marked(out: &mut Vec<u8>, marked: ((Proc, u32), bool)) -> Result<(), NoMemory>
     ensures { OnOk result (out.new.items ≡ out.old.items ++ spelled_marked marked) }
 {
     put_entry(out, marked.0)?;
@@ -221,7 +221,7 @@ fn put_marked(out: &mut BytesMut, marked: ((Proc, u32), bool)) -> Result<(), NoM
     Ok(())
 }
 
-fn put_all_marked(out: &mut BytesMut, entries: &[((Proc, u32), bool)]) -> Result<(), NoMemory>
+fn put_all_marked(out: &mut Vec<u8>, entries: &[((Proc, u32), bool)]) -> Result<(), NoMemory>
     ensures { OnOk result (out.new.items ≡ out.old.items ++ flat_map spelled_marked entries.now) }
 {
     for entry in entries {
@@ -232,7 +232,7 @@ fn put_all_marked(out: &mut BytesMut, entries: &[((Proc, u32), bool)]) -> Result
 
 /// Kept messages: how many, and each id with its mark.
 #[tactic(auto, unfolding(crate::specs::Spelling::spelled_kept, crate::specs::Spelling::short))]
-pub fn put_kept(out: &mut BytesMut, kept: &KeptIds) -> Result<(), NoMemory>
+pub fn put_kept(out: &mut Vec<u8>, kept: &KeptIds) -> Result<(), NoMemory>
     ensures { OnOk result (out.new.items ≡ out.old.items ++ spelled_kept kept.now) }
 {
     let entries = kept.entries();
@@ -243,7 +243,7 @@ pub fn put_kept(out: &mut BytesMut, kept: &KeptIds) -> Result<(), NoMemory>
 
 /// A view: its group and its number.
 #[tactic(auto, unfolding(crate::specs::Spelling::short, crate::specs::Spelling::word))]
-pub fn put_view(out: &mut BytesMut, group: GroupNo, view: u32) -> Result<(), NoMemory>
+pub fn put_view(out: &mut Vec<u8>, group: GroupNo, view: u32) -> Result<(), NoMemory>
     ensures { OnOk result (out.new.items ≡ out.old.items ++ (short group.0 ++ word view)) }
 {
     out.put_u16(group.0)?;

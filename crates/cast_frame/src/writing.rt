@@ -4,7 +4,7 @@ ghost use Rattle.cast_field.specs.Spelling.{short, word};
 ghost use Rattle.cast_frame.specs.Spelling.{change_code, frame_code, full_code, is_handing, spelled_fields, spelled_site, version_code};
 
 use crate::header::{HANDING_VERSION, MAGIC, VERSION};
-use bytes::{BufMut, Bytes, BytesMut};
+use bytes::{BufMut, Bytes};
 use cast_field::writing::{
     put_counts, put_kept, put_members, put_message, put_proc, put_tail, put_uid, put_view,
 };
@@ -71,7 +71,7 @@ fn code_of_frame(frame: &SiteFrame) -> u8
 
 #[tactic(auto, unfolding(crate::specs::Spelling::spelled_fields, cast_field::specs::Spelling::byte, cast_field::specs::Spelling::short, cast_field::specs::Spelling::word))]
 fn put_ask(
-    out: &mut BytesMut,
+    out: &mut Vec<u8>,
     group: GroupNo,
     number: u32,
     change: Change,
@@ -87,7 +87,7 @@ fn put_ask(
 }
 
 #[tactic(auto, unfolding(crate::specs::Spelling::spelled_fields, cast_field::specs::Spelling::byte, cast_field::specs::Spelling::short, cast_field::specs::Spelling::word))]
-fn put_asked(out: &mut BytesMut, group: GroupNo, number: u32, full: bool) -> Result<(), NoMemory>
+fn put_asked(out: &mut Vec<u8>, group: GroupNo, number: u32, full: bool) -> Result<(), NoMemory>
     ensures { OnOk result (out.new.items ≡ out.old.items ++ spelled_fields (Asked group number full)) }
 {
     out.put_u16(group.0)?;
@@ -98,7 +98,7 @@ fn put_asked(out: &mut BytesMut, group: GroupNo, number: u32, full: bool) -> Res
 
 #[tactic(auto, unfolding(crate::specs::Spelling::spelled_fields, cast_field::specs::Spelling::short, cast_field::specs::Spelling::word))]
 fn put_flushed(
-    out: &mut BytesMut,
+    out: &mut Vec<u8>,
     group: GroupNo,
     view: u32,
     counts: &Counts,
@@ -117,7 +117,7 @@ fn put_flushed(
 
 #[tactic(auto, unfolding(crate::specs::Spelling::spelled_fields, cast_field::specs::Spelling::short, cast_field::specs::Spelling::word))]
 fn put_install(
-    out: &mut BytesMut,
+    out: &mut Vec<u8>,
     group: GroupNo,
     view: u32,
     members: &Membership,
@@ -137,7 +137,7 @@ fn put_install(
 }
 
 #[tactic(auto, unfolding(crate::specs::Spelling::spelled_fields))]
-fn put_fields(out: &mut BytesMut, frame: &SiteFrame) -> Result<(), NoMemory>
+fn put_fields(out: &mut Vec<u8>, frame: &SiteFrame) -> Result<(), NoMemory>
     ensures { OnOk result (out.new.items ≡ out.old.items ++ spelled_fields frame.now) }
 {
     match frame {
@@ -187,12 +187,12 @@ pub fn encode_site(
 ) -> Result<Bytes, NoMemory>
     ensures { IfOk result (λ b. b ≡ spelled_site domain site frame.now) }
 {
-    let mut out = BytesMut::with_capacity(alloc, USUAL_LEN)?;
+    let mut out = Vec::with_capacity(alloc, USUAL_LEN)?;
     out.put_u16(MAGIC)?;
     out.put_u8(code_of_version(frame))?;
     out.put_u8(code_of_frame(frame))?;
     out.put_u8(domain.0)?;
     out.put_u16(site.0)?;
     put_fields(&mut out, frame)?;
-    Ok(out.freeze()?)
+    Ok(Bytes::from_vec(out)?)
 }
