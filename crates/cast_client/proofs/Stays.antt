@@ -2,7 +2,7 @@
 use Rattle.std.proofs.Common.{◌≡◌, ℕ, ◌-◌, ◌<◌, ◌≤◌, Bool, true, false, cond, ltb, leb, ◌&&◌, List, ◌++◌, length, take, drop, Result, Ok, Err, refl, sym, ap, ◌∙◌, arith, inl, inr}
 use Rattle.std.specs.Int.{w32, from_be_bytes}
 use Rattle.std.proofs.lemmas.Bool.{cases_lt, lt-ltb, le-ltb, ltb-false}
-use Rattle.std.proofs.lemmas.List.{length-append, take-append-le}
+use Rattle.std.proofs.lemmas.List.{length-append, length-take, take-append-drop, take-append-le}
 use Rattle.cast_field.specs.declared.fault.FrameFault.{FrameFault}
 use Rattle.cast_field.specs.declared.fault.FrameFault.TheVariants.{Length, Range}
 use Rattle.cast_message.specs.declared.client.ClientFrame.{ClientFrame}
@@ -136,6 +136,20 @@ pub frame_stays : FrameStays
 frame_stays bytes more f n e =
     let there = frame_is_there bytes f n e in
     of_frame bytes more n there.long there.says ∙ (whole_stays bytes more n there.whole ∙ frame_of bytes n (Ok (Frame f n)) there.long there.says e)
+
+-- a frame stands there by its own bytes alone
+pub frame_alone : (bytes : List ℕ) (f : ClientFrame) (n : ℕ) → client_of bytes ≡ Ok (Frame f n) → client_of (take n bytes) ≡ Ok (Frame f n)
+frame_alone bytes f n e =
+    let there = frame_is_there bytes f n e in
+    let least = (length_fits bytes n there.says).least in
+    let front = take n bytes in
+    let rest = drop n bytes in
+    let joined : front ++ rest ≡ bytes = take-append-drop n bytes in
+    let whole : n ≤ length front = omega (arith, length-take n bytes, there.whole) in
+    let long : 4 ≤ length front = omega (arith, whole, least) in
+    let says : length_at front ≡ Ok n = sym (length_stays front rest long) ∙ (ap length_at joined ∙ there.says) in
+    let frame = frame_of bytes n (Ok (Frame f n)) there.long there.says e in
+    long_front front long ∙ rw says (sym (whole_stays front rest n whole) ∙ (ap (λ (l : List ℕ). frame_of_length l n) joined ∙ frame))
 
 pub fault_stays : FaultStays
 fault_stays bytes more e is =

@@ -6,7 +6,7 @@ ghost use Rattle.cast_client.specs.Spelling.{cast_code, push_code, request_code,
 ghost use Rattle.cast_field.specs.Spelling.{byte, short, spelled_members, spelled_uid, word};
 
 use crate::front::MIN_CLIENT_FRAME;
-use bytes::{BufMut, Bytes, BytesMut};
+use bytes::{BufMut, Bytes};
 use cast_field::writing::{put_members, put_proc, put_uid, put_view};
 use cast_message::{CastKind, ClientFrame, Membership, Payload, Push, Request};
 use cast_types::{GroupNo, NoMemory, Refusal, Uid};
@@ -97,12 +97,12 @@ fn len_of_push(push: &Push) -> usize
 
 // The front of a frame of this type, whose parts have so many bytes.
 #[tactic(auto, unfolding(cast_field::specs::Spelling::byte, cast_field::specs::Spelling::word))]
-fn front_of_frame(alloc: Global, code: u8, parts: usize) -> Result<BytesMut, NoMemory>
+fn front_of_frame(alloc: Global, code: u8, parts: usize) -> Result<Vec<u8>, NoMemory>
     requires { parts ≤ 19995 }
     ensures { IfOk result (λ b. b.items ≡ word (5 + parts) ++ byte code) }
 {
     let len = MIN_CLIENT_FRAME + parts;
-    let mut out = BytesMut::with_capacity(alloc, len)?;
+    let mut out = Vec::with_capacity(alloc, len)?;
     out.put_u32(len as u32)?;
     out.put_u8(code)?;
     Ok(out)
@@ -110,7 +110,7 @@ fn front_of_frame(alloc: Global, code: u8, parts: usize) -> Result<BytesMut, NoM
 
 #[tactic(auto, unfolding(cast_field::specs::Spelling::byte, cast_field::specs::Spelling::short, cast_field::specs::Spelling::word))]
 fn put_cast(
-    out: &mut BytesMut,
+    out: &mut Vec<u8>,
     tag: u32,
     group: GroupNo,
     kind: CastKind,
@@ -126,7 +126,7 @@ fn put_cast(
 }
 
 #[tactic(auto, unfolding(crate::specs::Spelling::spelled_request, cast_field::specs::Spelling::short, cast_field::specs::Spelling::word))]
-fn put_request(out: &mut BytesMut, request: &Request) -> Result<(), NoMemory>
+fn put_request(out: &mut Vec<u8>, request: &Request) -> Result<(), NoMemory>
     ensures { OnOk result (out.new.items ≡ out.old.items ++ spelled_request request.now) }
 {
     match request {
@@ -152,7 +152,7 @@ fn put_request(out: &mut BytesMut, request: &Request) -> Result<(), NoMemory>
 
 #[tactic(auto, unfolding(cast_field::specs::Spelling::byte))]
 fn put_deliver(
-    out: &mut BytesMut,
+    out: &mut Vec<u8>,
     id: Uid,
     kind: CastKind,
     payload: &Payload,
@@ -166,7 +166,7 @@ fn put_deliver(
 }
 
 #[tactic(auto, unfolding(crate::specs::Spelling::spelled_push, cast_field::specs::Spelling::byte, cast_field::specs::Spelling::short, cast_field::specs::Spelling::word))]
-fn put_push(out: &mut BytesMut, push: &Push) -> Result<(), NoMemory>
+fn put_push(out: &mut Vec<u8>, push: &Push) -> Result<(), NoMemory>
     ensures { OnOk result (out.new.items ≡ out.old.items ++ spelled_push push.now) }
 {
     match push {
@@ -201,7 +201,7 @@ pub fn encode_request(alloc: Global, request: &Request) -> Result<Bytes, NoMemor
 {
     let mut out = front_of_frame(alloc, code_of_request(request), len_of_request(request))?;
     put_request(&mut out, request)?;
-    Ok(out.freeze()?)
+    Ok(Bytes::from_vec(out)?)
 }
 
 /// The one spelling of a push, of 5 to 20,000 bytes. `NoMemory` comes where an allocation was refused.
@@ -211,7 +211,20 @@ pub fn encode_push(alloc: Global, push: &Push) -> Result<Bytes, NoMemory>
 {
     let mut out = front_of_frame(alloc, code_of_push(push), len_of_push(push))?;
     put_push(&mut out, push)?;
-    Ok(out.freeze()?)
+    Ok(Bytes::from_vec(out)?)
+}
+
+/// Adds the one spelling of a push behind other bytes. `NoMemory` comes where an allocation was refused; then a beginning of
+/// the spelling may have been added.
+#[tactic(auto, unfolding(crate::specs::Spelling::spelled_client, cast_field::specs::Spelling::byte, cast_field::specs::Spelling::word))]
+pub fn add_push(out: &mut Vec<u8>, push: &Push) -> Result<(), NoMemory>
+    ensures { OnOk result (out.new.items ≡ out.old.items ++ spelled_client (client.Push push.now)) }
+{
+    let len = MIN_CLIENT_FRAME + len_of_push(push);
+    out.reserve(len)?;
+    out.put_u32(len as u32)?;
+    out.put_u8(code_of_push(push))?;
+    put_push(out, push)
 }
 
 /// The one spelling of a frame between a program and its daemon, of 5 to 20,000 bytes where its numbers are in their
