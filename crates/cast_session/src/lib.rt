@@ -1,12 +1,13 @@
 //! The byte streams between a daemon and its programs, seen from both ends.
 //!
 //! Promised: `pump_in` hands on the commands of a reader's bytes, in order and each once, and
-//! says what ended them. `pump_out` and `write_command` write frames one after the other.
-//! `read_push` reads the first push and no byte after it. If a call ends early, its contract says
-//! how far it got. How the bytes are cut does not matter (`laws`).
+//! says what ended them. `pump_out` and `write_command` write frames one after the other, and
+//! `spell_out` spells pushes for one write. `read_push` reads the first push and no byte after it.
+//! If a call ends early, its contract says how far it got. How the bytes are cut does not matter
+//! (`laws`).
 //!
 //! Only tested: `pump_in` reads nothing behind a frame before it has handed the frame on, and no
-//! call of a writer gets bytes of two frames.
+//! call of a writer by `pump_out` gets bytes of two frames.
 #![tactic(auto)]
 
 mod client;
@@ -19,5 +20,5 @@ mod sink;
 pub use cast_device::{PATIENCE, Watched};
 pub use client::{PushFault, read_push, write_command};
 pub use incoming::{InEnd, pump_in};
-pub use outgoing::{OutFault, pump_out};
+pub use outgoing::{OutFault, pump_out, spell_out};
 pub use sink::Sink;
