@@ -3,7 +3,8 @@ ghost use Rattle.std.specs.Prelude.{◌<◌, Some};
 use cast_field::FrameFault;
 use cast_message::{CastKind, ClientFrame, Command, Push, Request};
 use cast_session::{
-    InEnd, OutFault, PushFault, Sink, Watched, pump_in, pump_out, read_push, write_command,
+    InEnd, OutFault, PushFault, Sink, Watched, pump_in, pump_out, read_push, spell_out,
+    write_command,
 };
 use cast_types::{GroupNo, NoMemory, Proc, SiteNo};
 use std::alloc::{AllocError, Global};
@@ -269,16 +270,24 @@ fn commands_in_any_pieces(rt: HostRuntime) {
 
 // How many bytes each call asked for, where the reader gives all that it is asked for.
 fn asked(alloc: Global, bytes: &[u8]) -> Vec<usize> {
-    let mut reader = Pieces::watched(alloc, bytes, 25);
-    let mut sink = Taken::new(alloc, 9);
+    let mut reader = Pieces::watched(alloc, bytes, 99_999);
+    let mut sink = Taken::new(alloc, 455);
     pump_in(alloc, &mut reader, &mut sink);
     reader.device.asked
 }
 
 #[test]
-fn no_more_is_asked_for_than_is_wanting(rt: HostRuntime) {
+fn what_is_there_is_read_at_once(rt: HostRuntime) {
     let asked = asked(rt.alloc(), &COMMANDS);
-    assert!(rt; asked.as_slice() == [4, 7, 4, 10, 4].as_slice());
+    assert!(rt; asked.as_slice() == [4096, 4096].as_slice());
+}
+
+#[test]
+fn a_room_that_was_filled_grows(rt: HostRuntime) -> Result<(), Fail> {
+    let bytes = repeated(rt.alloc(), &COMMANDS[..11], 455)?;
+    let asked = asked(rt.alloc(), &bytes);
+    assert!(rt; asked.as_slice() == [4096, 32_764, 32_768].as_slice());
+    Ok(())
 }
 
 // Whether only the first command is handed on of each of these beginnings.
@@ -296,17 +305,38 @@ fn a_command_that_is_cut_is_dropped(rt: HostRuntime) {
     assert!(rt; drop_the_cut_one(rt.alloc(), &[11, 13, 15, 24]));
 }
 
-// A reader of both commands that fails, or is interrupted, at its fourth call.
-fn failing<'a>(alloc: Global, interrupts: bool) -> Watched<Pieces<'a>> {
-    let mut reader = Pieces::watched(alloc, &COMMANDS, 25);
-    reader.device.fails_at = 3;
+// A reader of both commands, in pieces of so many bytes, that fails, or is interrupted, at its second call.
+fn failing<'a>(alloc: Global, step: usize, interrupts: bool) -> Watched<Pieces<'a>>
+    requires { 0 < step }
+{
+    let mut reader = Pieces::watched(alloc, &COMMANDS, step);
+    reader.device.fails_at = 1;
     reader.device.interrupts = interrupts;
     reader
 }
 
+// What was handed on of a first piece of so many bytes, where the second call of `read` fails.
+fn of_first_piece(alloc: Global, step: usize) -> (InEnd, Taken)
+    requires { 0 < step }
+{
+    let mut sink = Taken::new(alloc, 9);
+    let end = pump_in(alloc, &mut failing(alloc, step, false), &mut sink);
+    (end, sink)
+}
+
+#[test]
+fn each_frame_that_was_read_is_handed_on_before_the_next_read(rt: HostRuntime) {
+    let (part_end, part) = of_first_piece(rt.alloc(), 10);
+    let (one_end, one) = of_first_piece(rt.alloc(), 13);
+    let (both_end, both) = of_first_piece(rt.alloc(), 25);
+    assert!(rt; part_end == InEnd::ReadFault && part.commands.is_empty());
+    assert!(rt; one_end == InEnd::ReadFault && is_join_alone(&one.commands));
+    assert!(rt; both_end == InEnd::ReadFault && are_both(&both.commands));
+}
+
 #[test]
 fn a_reader_that_fails(rt: HostRuntime) {
-    let mut reader = failing(rt.alloc(), false);
+    let mut reader = failing(rt.alloc(), 13, false);
     let mut sink = Taken::new(rt.alloc(), 9);
     let end = pump_in(rt.alloc(), &mut reader, &mut sink);
     assert!(rt; end == InEnd::ReadFault && reader.has_failed() && is_join_alone(&sink.commands));
@@ -314,7 +344,7 @@ fn a_reader_that_fails(rt: HostRuntime) {
 
 #[test]
 fn an_interrupted_read_is_made_again(rt: HostRuntime) {
-    let mut reader = failing(rt.alloc(), true);
+    let mut reader = failing(rt.alloc(), 13, true);
     let mut sink = Taken::new(rt.alloc(), 9);
     let end = pump_in(rt.alloc(), &mut reader, &mut sink);
     assert!(rt; end == InEnd::End && !reader.has_failed() && are_both(&sink.commands));
@@ -334,8 +364,7 @@ fn a_length_below_that_of_a_frame(rt: HostRuntime) {
     let mut reader = Pieces::watched(rt.alloc(), &[0, 0, 0, 4, 1, 1], 9);
     let mut sink = Taken::new(rt.alloc(), 9);
     let end = pump_in(rt.alloc(), &mut reader, &mut sink);
-    let is_bad = end == InEnd::Bad(FrameFault::Length) && is_bad_alone(&sink.commands);
-    assert!(rt; is_bad && reader.device.left.len() == 2);
+    assert!(rt; end == InEnd::Bad(FrameFault::Length) && is_bad_alone(&sink.commands));
 }
 
 // How a pump of these bytes ends where the sink has room for so many commands.
@@ -350,6 +379,14 @@ fn a_sink_without_memory(rt: HostRuntime) {
     let commands = ended_with_room(alloc, &COMMANDS, 1);
     let bad = ended_with_room(alloc, &PUSHES, 0);
     assert!(rt; commands == InEnd::NoMemory && bad == InEnd::NoMemory);
+}
+
+#[test]
+fn nothing_is_read_behind_a_sink_without_memory(rt: HostRuntime) {
+    let mut reader = Pieces::watched(rt.alloc(), &COMMANDS, 25);
+    let mut sink = Taken::new(rt.alloc(), 1);
+    let end = pump_in(rt.alloc(), &mut reader, &mut sink);
+    assert!(rt; end == InEnd::NoMemory && reader.calls() == 1 && is_join_alone(&sink.commands));
 }
 
 // A writer that takes at most so many bytes a call, and fails at the call of this number.
@@ -374,6 +411,15 @@ fn pushes_go_out_one_by_one(rt: HostRuntime) {
     let well = puts_both_out(alloc, 25, &[11, 10])
         && puts_both_out(alloc, 3, &[11, 8, 5, 2, 10, 7, 4, 1]);
     assert!(rt; well);
+}
+
+#[test]
+fn pushes_are_spelled_for_one_write(rt: HostRuntime) -> Result<(), Fail> {
+    let mut out = PUSHES[..11].to_vec(rt.alloc())?;
+    spell_out(&mut out, &two_pushes())?;
+    let (before, spelled) = out.as_slice().split_at(out.len().min(11));
+    assert!(rt; before == &PUSHES[..11] && spelled == PUSHES.as_slice());
+    Ok(())
 }
 
 #[test]

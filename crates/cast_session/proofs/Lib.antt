@@ -4,3 +4,4 @@ pub mod Pushes
 pub mod Calls
 pub mod Pumping
 pub mod ReadingPush
+pub mod Room

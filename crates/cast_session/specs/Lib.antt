@@ -5,3 +5,5 @@ pub mod Turns
 pub mod Outgoing
 pub mod Pushes
 pub mod Laws
+pub mod Ahead
+pub mod Handing

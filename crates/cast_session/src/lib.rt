@@ -6,10 +6,11 @@
 //! If a call ends early, its contract says how far it got. How the bytes are cut does not matter
 //! (`laws`).
 //!
-//! Only tested: `pump_in` reads nothing behind a frame before it has handed the frame on, and no
+//! Only tested: `pump_in` hands on each whole frame that it has read before it reads on, and no
 //! call of a writer by `pump_out` gets bytes of two frames.
 #![tactic(auto)]
 
+mod ahead;
 mod client;
 mod frames;
 mod incoming;
