@@ -77,6 +77,10 @@ own_records d = records_of d no_part no_outs
 abbrev pub number_of : Domain → DomainNo
 number_of d = d.config.domain
 
+-- what it may use now
+abbrev pub quotas_of : Domain → Quotas
+quotas_of d = d.quotas
+
 -- want of memory has halted the domain
 abbrev pub is_halted : Domain → Bool
 is_halted d = d.halted

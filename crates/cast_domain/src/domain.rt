@@ -39,7 +39,7 @@ impl Domain {
     ghost use Rattle.cast_types.specs.Names.{group_cmp};
     ghost use Rattle.cast_types.specs.Rising.{is_rising};
     ghost use Rattle.cast_rules.specs.State.{opening};
-    ghost use Rattle.cast_domain.specs.Records.{number_of, is_halted, IsFor, Keeps, records_beside, Makes, MakesAlone, MakesWithOuts};
+    ghost use Rattle.cast_domain.specs.Records.{number_of, quotas_of, is_halted, IsFor, Keeps, records_beside, Makes, MakesAlone, MakesWithOuts};
     ghost use Rattle.cast_domain.specs.Shared.{no_part, part_of, LeavesOthers};
     ghost use Rattle.cast_domain.specs.Shows.{groups_shown};
     ghost use Rattle.cast_domain.specs.Fits.{Represents};
@@ -86,6 +86,13 @@ impl Domain {
         ensures { result ≡ number_of self.now }
     {
         self.config.domain
+    }
+
+    /// What the domain may use now.
+    pub fn quotas(&self) -> Quotas
+        ensures { result ≡ quotas_of self.now }
+    {
+        self.quotas
     }
 
     /// Whether want of memory has halted the domain.

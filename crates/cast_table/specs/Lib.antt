@@ -3,3 +3,4 @@ pub mod Tables
 pub mod Owns
 pub mod Shows
 pub mod Copies
+pub mod Backlogs

@@ -2,11 +2,14 @@
 //!
 //! Promised: an event that names a domain is a step of that domain alone, and a tick is a step of
 //! every domain that runs. A halted domain refuses every event (`Table::apply`). `Table::show`
-//! and `Table::groups` show a domain as whatever history it stands for.
+//! and `Table::groups` show a domain as whatever history it stands for. `Table::backlog` tells
+//! how far a domain is behind with the messages that it keeps.
 #![tactic(auto)]
 
+mod backlog;
 pub mod table;
 
+pub use backlog::Backlog;
 pub use cast_domain::{GroupShown, Shown};
 pub use cast_events::{Config, DomainConfig, Event, Fault, Outs, Quotas, Taken};
 pub use table::{Table, place_of};

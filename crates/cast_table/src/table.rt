@@ -8,8 +8,10 @@ ghost use Rattle.cast_domain.specs.Records.{number_of};
 ghost use Rattle.cast_events.specs.Events.{domain_of};
 ghost use Rattle.cast_table.specs.Tables.{ArePlaces, AreTurns, IsApplied, IsAppliedTo, IsLeastOf, IsNew, IsTicked, IsTurn, IsUnchanged, NotesHalts, NotesOne, SharesNothing, answer_in_turn, by_number, domains_of, halted_by, lower, place_above, place_for, place_named, stopped, OnLent, InTable};
 ghost use Rattle.cast_table.specs.Copies.{IsCopyOf};
+ghost use Rattle.cast_table.specs.Backlogs.{backlog_at};
 ghost use Rattle.cast_table.specs.Shows.{ShowsGroups, ShowsHistory, domain_at, groups_at, shown_at};
 
+use crate::backlog::{Backlog, oldest_in};
 use cast_domain::{Domain, GroupShown, Shared, Shown};
 use cast_events::{Config, Event, Fault, Outs, Taken};
 use cast_types::{DomainNo, List, NoMemory};
@@ -105,6 +107,20 @@ impl Table {
             Some(domain) => Ok(Some(domain.show_groups(alloc)?)),
             None => Ok(None),
         }
+    }
+
+    /// How far the first domain of a number is behind with the messages that it keeps. `None` where no domain has the number.
+    /// Takes no memory.
+    pub fn backlog(&self, number: DomainNo) -> Option<Backlog>
+        ensures { result ≡ backlog_at number self.now }
+    {
+        let first = self.first_of(number)?;
+        let name = first.number();
+        Some(Backlog {
+            limit: first.quotas().held,
+            oldest: oldest_in(&self.shared, name),
+            next: self.shared.store.next_key(name),
+        })
     }
 
     /// Its domains, in the order of their numbers.
