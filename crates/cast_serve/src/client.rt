@@ -1,244 +1,216 @@
-//! A program that is served: its reader, and its writer.
-use crate::desk::{BATCH, Client, Desk, Opening, Purpose, Seat, Session};
-use crate::report::Report;
-use cast_device::Watched;
-use cast_message::{Command, Push};
-use cast_pool::Asked;
-use cast_session::{InEnd, Sink, pump_in, pump_out};
-use cast_types::{DomainNo, List, NoMemory, Refusal};
-use crossbeam_channel::Receiver;
-use std::alloc::{AllocError, Global};
-use std::io;
-use std::io::{BufReader, BufWriter, Read, Write};
+//! A program that is served, and its pen.
+//!
+//! The pen of a program is the right to take the entries of its session and to write to its stream. At most one thread has it. So
+//! entries are written in the order of the outbox, and no two Takes of a session run at once. A thread that would have to wait for
+//! the program passes the pen to the program's writer, with what is still to be written.
+use cast_types::DomainNo;
 use std::net::Shutdown;
 use std::os::unix::net::UnixStream;
-use std::rt::Clock;
-use std::sync::{Mutex, Wait};
-use std::thread::{Scope, Threads};
-use std::time::Duration;
+use std::sync::{Condvar, Mutex, Wait};
 
-// For how many seconds a program may take no byte of what it is told. Then its stream is closed.
-const PATIENCE: u64 = 30;
+/// The session of a program.
+#[derive(Clone, Copy, Debug, PartialEq, Eq, PartialOrd, Ord)]
+pub struct Session {
+    pub domain: DomainNo,
+    pub serial: u32,
+}
 
-/// What the threads of a daemon share.
+/// Bytes that were taken for a program, and are not all written.
 #[derive(Drop)]
-pub struct Shared<'a> {
-    pub alloc: Global,
-    pub desk: &'a Mutex<Desk>,
+pub struct Unwritten {
+    pub bytes: Vec<u8>,
+    /// How many of them are written.
+    pub written: usize,
+    /// The last of them tell the program that its session ends. After them the stream is closed.
+    pub is_last: bool,
+    /// The outbox may have more entries.
+    pub is_more: bool,
 }
 
-impl Shared<'_> {
-    /// Asks something of the workers. False where it was refused.
-    pub fn submit<R: Wait>(&self, rt: &R, purpose: Purpose, asked: Asked) -> bool {
-        self.desk.lock(rt).submit(rt, purpose, asked)
-    }
-
-    /// Says something to the operator.
-    pub fn report<R: Wait>(&self, rt: &R, what: Report) {
-        self.desk.lock(rt).report(rt, what);
-    }
-}
-
-// Hands the commands of a session to the workers, each once the one before has its answer.
+/// What a program's writer has to do. It has the pen meanwhile.
 #[derive(Drop)]
-struct Handing<'a, R: Wait> {
-    rt: &'a R,
-    shared: &'a Shared<'a>,
-    session: Session,
-    turn: &'a Receiver<()>,
+pub enum Task {
+    /// Take what the outbox has, and write it.
+    Take,
+    /// Write these bytes first.
+    Write(Unwritten),
 }
 
-impl<R: Wait> Sink for Handing<'_, R> {
-    fn take(&mut self, command: Command) -> Result<(), NoMemory> {
-        let is_asked = self
-            .shared
-            .desk
-            .lock(self.rt)
-            .command(self.rt, self.session, command);
-        if is_asked && self.turn.recv(self.rt).is_ok() {
-            Ok(())
-        } else {
-            Err(AllocError)
+// Who has the pen, and what is to be done with it.
+#[derive(Drop)]
+struct Pen {
+    // A thread has it.
+    is_taken: bool,
+    // Since the outbox was taken last, the session was pushed to.
+    is_wanted: bool,
+    // Nothing more is written.
+    is_over: bool,
+    // The program's reader waits for a Take.
+    is_awaited: bool,
+    // How often the outbox was taken, or the pen became free. It may wrap.
+    turns: u64,
+    // What the writer has to do next.
+    task: Option<Task>,
+}
+
+/// A program that is served.
+#[derive(Drop)]
+pub struct Client {
+    pub session: Session,
+    pub stream: UnixStream,
+    pen: Mutex<Pen>,
+    // There is a task, or nothing more is written.
+    has_task: Condvar,
+    // The outbox was taken, the pen became free, or nothing more is written.
+    has_turned: Condvar,
+}
+
+impl Client {
+    /// A program to which nothing was written. The pen is free.
+    pub fn new(session: Session, stream: UnixStream) -> Self {
+        let pen = Pen {
+            is_taken: false,
+            is_wanted: false,
+            is_over: false,
+            is_awaited: false,
+            turns: 0,
+            task: None,
+        };
+        Client {
+            session,
+            stream,
+            pen: Mutex::new(pen),
+            has_task: Condvar::new(),
+            has_turned: Condvar::new(),
         }
     }
-}
 
-// Reads on until the stream is closed: bytes were no frame, and the program is still to be told so.
-fn wait_for_close(stream: &UnixStream) {
-    let mut reader = stream;
-    let mut room = [0; 512];
-    for _ in 0..u64::MAX {
-        match reader.read(&mut room) {
-            Ok(0) | Err(_) => break,
-            Ok(_) => {}
+    /// Takes the pen. False if another thread has it, which then takes the outbox once more, or if nothing more is written.
+    pub fn claim<R: Wait>(&self, rt: &R) -> bool {
+        let mut pen = self.pen.lock(rt);
+        if pen.is_over {
+            return false;
+        }
+        if pen.is_taken {
+            pen.is_wanted = true;
+            return false;
+        }
+        pen.is_taken = true;
+        pen.is_wanted = false;
+        true
+    }
+
+    /// Whether nothing more is written.
+    pub fn is_over<R: Wait>(&self, rt: &R) -> bool {
+        self.pen.lock(rt).is_over
+    }
+
+    /// The outbox was taken, and what it had is written. True if the session was pushed to since: then the pen is kept, and else it is
+    /// free.
+    pub fn goes_on<R: Wait>(&self, rt: &R) -> bool {
+        let mut pen = self.pen.lock(rt);
+        let is_wanted = pen.is_wanted && !pen.is_over;
+        pen.is_taken = is_wanted;
+        if is_wanted {
+            pen.is_wanted = false;
+        }
+        self.turn(&mut pen);
+        is_wanted
+    }
+
+    /// Frees the pen after a Take that found no memory. The next tick wants another.
+    pub fn gives_up<R: Wait>(&self, rt: &R) {
+        let mut pen = self.pen.lock(rt);
+        pen.is_wanted = true;
+        pen.is_taken = false;
+        self.turn(&mut pen);
+    }
+
+    /// The outbox was taken, and what it had is still to be written.
+    pub fn was_taken<R: Wait>(&self, rt: &R) {
+        let mut pen = self.pen.lock(rt);
+        self.turn(&mut pen);
+    }
+
+    // Lets the reader go on that waits.
+    fn turn(&self, pen: &mut Pen) {
+        pen.turns = pen.turns.wrapping_add(1);
+        if pen.is_awaited {
+            self.has_turned.notify_all();
         }
     }
-}
 
-// Hands on what a program writes, until its stream ends.
-fn run_reader<R: Wait>(
-    rt: &R,
-    shared: &Shared<'_>,
-    stream: &UnixStream,
-    session: Session,
-    turn: &Receiver<()>,
-) -> io::Result<()> {
-    let mut reader = Watched::new(BufReader::new(shared.alloc, stream)?);
-    let mut sink = Handing {
-        rt,
-        shared,
-        session,
-        turn,
-    };
-    if let InEnd::Bad(_) = pump_in(shared.alloc, &mut reader, &mut sink) {
-        wait_for_close(stream);
+    /// Passes the pen to the writer, with a task.
+    pub fn pass<R: Wait>(&self, rt: &R, task: Task) {
+        let mut pen = self.pen.lock(rt);
+        pen.task = Some(task);
+        self.turn(&mut pen);
+        drop(pen);
+        self.has_task.notify_one();
     }
-    Ok(())
-}
 
-// Whether a program is told that its session ends.
-fn ends(entries: &[Push]) -> bool {
-    entries.iter().any(|entry| matches!(entry, Push::Closed(_)))
-}
-
-// Writes entries, gathered into as few writes as they need. Answers whether the stream is still of use.
-fn write_entries<W: Write + Drop>(
-    alloc: Global,
-    writer: &mut Watched<BufWriter<W>>,
-    entries: &[Push],
-) -> bool {
-    let is_out = pump_out(alloc, writer, entries).is_ok() && writer.device.flush().is_ok();
-    is_out && !ends(entries)
-}
-
-// Writes what was taken for a program, until nothing can come any more or the stream is of no use.
-fn run_writer<R: Wait>(
-    rt: &R,
-    shared: &Shared<'_>,
-    stream: &UnixStream,
-    session: Session,
-    batches: &Receiver<List<Push>>,
-) -> io::Result<()> {
-    let mut writer = Watched::new(BufWriter::new(shared.alloc, stream)?);
-    for entries in batches.iter(rt) {
-        if !write_entries(shared.alloc, &mut writer, entries.as_slice()) {
-            break;
+    /// The session was pushed to: who has the pen takes the outbox once more. If the pen is free, the writer gets it.
+    pub fn call<R: Wait>(&self, rt: &R) {
+        let mut pen = self.pen.lock(rt);
+        if pen.is_over {
+            return;
         }
-        let is_full = entries.len() >= BATCH as usize;
-        shared.desk.lock(rt).written(rt, session, is_full);
+        if pen.is_taken {
+            pen.is_wanted = true;
+            return;
+        }
+        pen.is_taken = true;
+        pen.is_wanted = false;
+        pen.task = Some(Task::Take);
+        drop(pen);
+        self.has_task.notify_one();
     }
-    Ok(())
-}
 
-// The whole of a writer's thread: at its end the stream is closed, and the program's reader ends.
-fn write_and_close<R: Wait>(
-    rt: &R,
-    shared: &Shared<'_>,
-    stream: UnixStream,
-    session: Session,
-    batches: Receiver<List<Push>>,
-) {
-    let _ = run_writer(rt, shared, &stream, session, &batches);
-    shared.desk.lock(rt).end(session);
-}
-
-// Tells a program that it has no session.
-fn refuse(alloc: Global, stream: &UnixStream, refusal: Refusal) {
-    let mut writer = Watched::new(stream);
-    let _ = pump_out(alloc, &mut writer, &[Push::Closed(refusal)]);
-}
-
-// Asks for a session, and waits for it.
-fn open<R: Wait>(rt: &R, shared: &Shared<'_>, domain: DomainNo) -> Result<Opening, NoMemory> {
-    let (to, opened) = crossbeam_channel::bounded::<Opening, Global>(shared.alloc, 1)?;
-    if !shared.desk.lock(rt).open(rt, domain, to) {
-        return Ok(Opening::Lost);
+    /// Whether the last Take found no memory.
+    pub fn is_missed<R: Wait>(&self, rt: &R) -> bool {
+        let pen = self.pen.lock(rt);
+        pen.is_wanted && !pen.is_taken && !pen.is_over
     }
-    match opened.recv(rt) {
-        Ok(opening) => Ok(opening),
-        Err(_) => Ok(Opening::Lost),
-    }
-}
 
-// What the reader of a session keeps: its stream, and its turns.
-#[derive(Drop)]
-struct Admitted {
-    turn: Receiver<()>,
-    batches: Receiver<List<Push>>,
-    writing: UnixStream,
-}
-
-// Lets a program in under its session. `None` where the daemon stops.
-fn admit<R: Wait>(
-    rt: &R,
-    shared: &Shared<'_>,
-    stream: &UnixStream,
-    session: Session,
-) -> io::Result<Option<Admitted>> {
-    let (to_turn, turn) = crossbeam_channel::bounded::<(), Global>(shared.alloc, 1)?;
-    let (to_writer, batches) = crossbeam_channel::bounded::<List<Push>, Global>(shared.alloc, 1)?;
-    stream.set_write_timeout(Some(Duration::from_secs(PATIENCE)))?;
-    let writing = stream.try_clone()?;
-    let client = Client::new(to_turn, to_writer, stream.try_clone()?);
-    if !shared.desk.lock(rt).add(session, client)? {
-        return Ok(None);
-    }
-    Ok(Some(Admitted {
-        turn,
-        batches,
-        writing,
-    }))
-}
-
-// Serves a program that has a session: a second thread writes, and this one reads.
-fn serve_session<'s, 'e, R: Threads + Wait + Clock + Sync>(
-    scope: &'s Scope<'s, &'e ()>,
-    rt: &'e R,
-    shared: &'e Shared<'e>,
-    stream: &UnixStream,
-    session: Session,
-) -> io::Result<()> {
-    let Some(admitted) = admit(rt, shared, stream, session)? else {
-        return Ok(());
-    };
-    let Admitted {
-        turn,
-        batches,
-        writing,
-    } = admitted;
-    let is_started = scope
-        .spawn(move || write_and_close(rt, shared, writing, session, batches))
-        .is_ok();
-    if is_started {
-        shared.desk.lock(rt).want(rt, session);
-        let _ = run_reader(rt, shared, stream, session, &turn);
-    } else {
-        shared.report(rt, Report::NotServed(session.domain));
-    }
-    Ok(())
-}
-
-/// Serves a program that connected to a domain, from its session's begin to its end.
-pub fn run_client<'s, 'e, R: Threads + Wait + Clock + Sync>(
-    scope: &'s Scope<'s, &'e ()>,
-    rt: &'e R,
-    shared: &'e Shared<'e>,
-    stream: UnixStream,
-    domain: DomainNo,
-) {
-    match open(rt, shared, domain) {
-        Ok(Opening::Opened(seat)) => {
-            if serve_session(scope, rt, shared, &stream, seat.session).is_err() {
-                shared.report(rt, Report::NotServed(domain));
+    /// Waits until the outbox was taken so many times, the pen is free, or nothing more is written. False in the last case.
+    pub fn wait<R: Wait>(&self, rt: &R, times: u64) -> bool {
+        let mut pen = self.pen.lock(rt);
+        let first = pen.turns;
+        for _ in rt.forever() {
+            if pen.is_over || !pen.is_taken || pen.turns.wrapping_sub(first) >= times {
+                break;
             }
-            shared.desk.lock(rt).leave(rt, seat);
+            pen.is_wanted = true;
+            pen.is_awaited = true;
+            pen = self.has_turned.wait(rt, pen);
         }
-        Ok(Opening::Refused(refusal)) => refuse(shared.alloc, &stream, refusal),
-        Ok(Opening::Lost) | Err(_) => {
-            if !shared.desk.lock(rt).is_stopping() {
-                shared.report(rt, Report::NotServed(domain));
-            }
-        }
+        pen.is_awaited = false;
+        !pen.is_over
     }
-    let _ = stream.shutdown(Shutdown::Both);
+
+    /// What the writer has to do next. Waits for it. `None` if nothing more is written.
+    pub fn next_task<R: Wait>(&self, rt: &R) -> Option<Task> {
+        let mut pen = self.pen.lock(rt);
+        for _ in rt.forever() {
+            if pen.is_over {
+                return None;
+            }
+            let task = pen.task.take();
+            if task.is_some() {
+                return task;
+            }
+            pen = self.has_task.wait(rt, pen);
+        }
+        None
+    }
+
+    /// Closes the stream, so that nothing more is written, and wakes the threads that wait.
+    pub fn close<R: Wait>(&self, rt: &R) {
+        let mut pen = self.pen.lock(rt);
+        pen.is_over = true;
+        drop(pen);
+        let _ = self.stream.shutdown(Shutdown::Both);
+        self.has_task.notify_all();
+        self.has_turned.notify_all();
+    }
 }

@@ -1,32 +1,17 @@
-//! Who waits for which answer, which sessions have a Take on the way, and which are still to end.
+//! Which programs are served, what is asked of the workers, and which sessions are still to end.
+use crate::client::{Client, Session};
 use crate::report::Report;
 use cast_events::Event;
-use cast_message::{Command, Push};
 use cast_pool::{Asked, Raw};
-use cast_types::{DomainNo, List, NoMemory, Refusal};
+use cast_types::{DomainNo, NoMemory, Refusal};
 use crossbeam_channel::Sender;
 use std::alloc::{AllocError, Global};
 use std::collections::BTreeMap;
-use std::net::Shutdown;
-use std::os::unix::net::UnixStream;
-use std::sync::Wait;
-
-// So many answers of one session may lie untaken before its reader waits.
-const UNTAKEN: u32 = 32;
-
-/// Most entries that one Take of a session asks for.
-pub const BATCH: u32 = 64;
-
-/// The session of a program.
-#[derive(Clone, Copy, Debug, PartialEq, Eq, PartialOrd, Ord)]
-pub struct Session {
-    pub domain: DomainNo,
-    pub serial: u32,
-}
+use std::sync::{Arc, Wait};
 
 /// A session that was opened, and the number under which it was asked for. Its end is handed in under the same number.
 #[derive(Clone, Copy, Debug, PartialEq, Eq)]
-pub struct Seat {
+pub struct Opened {
     pub session: Session,
     pub number: u64,
 }
@@ -35,7 +20,7 @@ pub struct Seat {
 #[derive(Clone, Copy, Debug, PartialEq, Eq)]
 pub enum Opening {
     /// It has one.
-    Opened(Seat),
+    Opened(Opened),
     Refused(Refusal),
     /// Memory ran out.
     Lost,
@@ -46,23 +31,10 @@ pub enum Opening {
 pub enum Purpose {
     /// The thread of a new program of a domain waits for its session.
     Open(DomainNo, Sender<Opening>),
-    /// The reader of a session waits for its command's answer.
-    Command(Session),
-    /// The outbox of a session is to be taken.
-    Take(Session),
     /// A session is to end.
     Gone,
     /// Nobody waits.
     Other,
-}
-
-/// Where the Take of a session stands. At most one is on the way.
-#[derive(Clone, Copy, Debug, PartialEq, Eq)]
-pub enum Stage {
-    Idle,
-    Taking,
-    /// The session's writer has what was taken.
-    Writing,
 }
 
 // How far a session is from its end.
@@ -76,92 +48,34 @@ enum End {
     Asked(Session),
 }
 
-/// A program that is served.
-#[derive(Drop)]
-pub struct Client {
-    // Tells its reader to go on. Without it the reader ends.
-    turn: Option<Sender<()>>,
-    // Hands its writer what was taken.
-    writer: Sender<List<Push>>,
-    // A second handle of its stream.
-    stream: UnixStream,
-    stage: Stage,
-    is_wanted: bool,
-    untaken: u32,
-    // Its reader waits, though its command has its answer.
-    is_held: bool,
-    // Its stream is of no more use.
-    is_ended: bool,
+// How often something happened that an operator has to know. It is reported the first time, the tenth, the hundredth, and so on.
+#[derive(Clone, Copy)]
+struct Count {
+    so_far: u64,
+    next_report: u64,
 }
 
-impl Client {
-    /// A program of which nothing was taken. Each channel has room for one message, which is the most that lies in it.
-    pub fn new(turn: Sender<()>, writer: Sender<List<Push>>, stream: UnixStream) -> Self {
-        Client {
-            turn: Some(turn),
-            writer,
-            stream,
-            stage: Stage::Idle,
-            is_wanted: false,
-            untaken: 0,
-            is_held: false,
-            is_ended: false,
+impl Count {
+    // It has not happened.
+    fn new() -> Self {
+        Count {
+            so_far: 0,
+            next_report: 1,
         }
     }
 
-    // Whether a Take may be handed in.
-    fn is_free(&self) -> bool {
-        self.stage == Stage::Idle && !self.is_ended
-    }
-
-    // Lets its reader go on, which waits for that. One that cannot be told ends.
-    fn go_on<R: Wait>(&mut self, rt: &R) {
-        let is_told = match &self.turn {
-            Some(turn) => turn.send(rt, ()).is_ok(),
-            None => false,
-        };
-        if !is_told {
-            self.end();
+    // It happened so many times more. Answers the whole number if that is to be reported.
+    fn add(&mut self, more: u64) -> Option<u64> {
+        self.so_far = self.so_far.saturating_add(more);
+        if self.so_far < self.next_report {
+            return None;
         }
-    }
-
-    // Its stream is closed. A reader that is held ends at once, one that waits for its command's answer at that answer, and
-    // any other at the end of the stream.
-    fn end(&mut self) {
-        self.is_ended = true;
-        let _ = self.stream.shutdown(Shutdown::Both);
-        if self.is_held {
-            drop(self.turn.take());
+        for _ in 0..20u8 {
+            if self.next_report <= self.so_far {
+                self.next_report = self.next_report.saturating_mul(10);
+            }
         }
-    }
-
-    // A command has its answer: its reader may go on, unless too many answers lie untaken.
-    fn answered<R: Wait>(&mut self, rt: &R) {
-        self.untaken = self.untaken.saturating_add(1);
-        if self.is_ended {
-            drop(self.turn.take());
-        } else if self.untaken >= UNTAKEN {
-            self.is_held = true;
-        } else {
-            self.go_on(rt);
-        }
-    }
-
-    // Nothing lies untaken: a reader that is held may go on.
-    fn emptied<R: Wait>(&mut self, rt: &R) {
-        self.untaken = 0;
-        if self.is_held {
-            self.is_held = false;
-            self.go_on(rt);
-        }
-    }
-
-    // Its writer gets what was taken. One that cannot get it ends.
-    fn write<R: Wait>(&mut self, rt: &R, entries: List<Push>) {
-        self.stage = Stage::Writing;
-        if self.writer.send(rt, entries).is_err() {
-            self.end();
-        }
+        Some(self.so_far)
     }
 }
 
@@ -171,69 +85,68 @@ pub struct Desk {
     jobs: Option<Sender<Raw>>,
     last: u64,
     waiting: BTreeMap<u64, Purpose>,
+    // The number of the tick that is on the way; 0 if none is.
+    tick: u64,
     // The sessions that are not gone, by the numbers under which they were asked for.
     ends: BTreeMap<u64, End>,
-    clients: BTreeMap<Session, Client>,
+    clients: BTreeMap<Session, Arc<Client, Global>>,
     reports: Option<Sender<Report>>,
     is_stopping: bool,
-    undecoded: u64,
+    // Datagrams that are no frame, or found no memory.
+    unread: Count,
+    // Datagrams that the system refused, or found no memory.
+    unsent: Count,
 }
 
 impl Desk {
-    /// Nobody waits. What is asked goes out by the first channel, and what an operator has to know by the second.
+    /// No program is served. Jobs go out by the first channel, and what an operator has to know by the second. Neither may wait for
+    /// room: what finds none is refused.
     pub fn new(alloc: Global, jobs: Sender<Raw>, reports: Sender<Report>) -> Self {
         Desk {
             jobs: Some(jobs),
             reports: Some(reports),
             last: 0,
             waiting: BTreeMap::new(alloc),
+            tick: 0,
             ends: BTreeMap::new(alloc),
             clients: BTreeMap::new(alloc),
             is_stopping: false,
-            undecoded: 0,
+            unread: Count::new(),
+            unsent: Count::new(),
         }
     }
 
-    /// Asks something of the workers. What comes of it finds the purpose. False where it was refused: the daemon stops, or
-    /// memory ran out.
-    pub fn submit<R: Wait>(&mut self, rt: &R, purpose: Purpose, asked: Asked) -> bool {
-        let Ok(number) = self.register(purpose) else {
-            return false;
-        };
-        let is_sent = self.send(rt, number, asked);
-        if !is_sent {
-            drop(self.waiting.remove(&number));
-        }
-        is_sent
-    }
-
-    // Asks something under a number.
-    fn send<R: Wait>(&self, rt: &R, number: u64, asked: Asked) -> bool {
+    // Asks an event of the workers under a number. False if it was refused: the daemon stops, or too many are on the way.
+    fn send<R: Wait>(&self, rt: &R, number: u64, event: Event) -> bool {
+        let asked = Asked::Event(event);
         match &self.jobs {
-            Some(jobs) => jobs.send(rt, Raw { number, asked }).is_ok(),
+            Some(jobs) => jobs.try_send(rt, Raw { number, asked }).is_ok(),
             None => false,
         }
     }
 
-    // A number, from 1 on, whose answer finds this purpose.
-    fn register(&mut self, purpose: Purpose) -> Result<u64, NoMemory> {
+    // A number, from 1 on, that nothing else was asked under.
+    fn number(&mut self) -> Result<u64, NoMemory> {
         let number = self.last.checked_add(1).ok_or(AllocError)?;
         self.last = number;
-        if let Purpose::Other = purpose {
-            return Ok(number);
-        }
+        Ok(number)
+    }
+
+    // A number whose answer finds this purpose.
+    fn register(&mut self, purpose: Purpose) -> Result<u64, NoMemory> {
+        let number = self.number()?;
         self.waiting.insert(number, purpose)?;
         Ok(number)
     }
 
-    /// Asks for a session in a domain. False where that was refused. Room for what its end needs is made here, so that the end
-    /// takes no memory but that of its job.
+    /// Asks for a session in a domain. False if that was refused. Room for what its end needs is made here, so that the end takes no
+    /// memory.
     pub fn open<R: Wait>(&mut self, rt: &R, domain: DomainNo, to: Sender<Opening>) -> bool {
         let Ok(number) = self.register(Purpose::Open(domain, to)) else {
             return false;
         };
         let is_asked = self.ends.insert(number, End::Ahead).is_ok()
-            && self.send(rt, number, Asked::Event(Event::Open(domain)));
+            && self.send(rt, number, Event::Open(domain));
         if !is_asked {
             drop(self.waiting.remove(&number));
             drop(self.ends.remove(&number));
@@ -241,23 +154,25 @@ impl Desk {
         is_asked
     }
 
-    /// Hands in a command of a session. False where it was refused, or the session's stream is of no more use.
-    pub fn command<R: Wait>(&mut self, rt: &R, session: Session, command: Command) -> bool {
-        let is_served = match self.clients.get(&session) {
-            Some(client) => !client.is_ended,
-            None => false,
+    /// Asks that the domains are told the time, unless they are being told it.
+    pub fn tick<R: Wait>(&mut self, rt: &R, millis: u64) {
+        if self.tick != 0 {
+            return;
+        }
+        let Ok(number) = self.number() else {
+            return;
         };
-        let Session { domain, serial } = session;
-        let asked = Asked::Event(Event::Command {
-            domain,
-            serial,
-            command,
-        });
-        is_served && self.submit(rt, Purpose::Command(session), asked)
+        if self.send(rt, number, Event::Tick(millis)) {
+            self.tick = number;
+        }
     }
 
-    /// The purpose of what was asked under a number.
+    /// The purpose of what was asked under a number, which has its answer.
     pub fn purpose(&mut self, number: u64) -> Purpose {
+        if number == self.tick {
+            self.tick = 0;
+            return Purpose::Other;
+        }
         match self.waiting.remove(&number) {
             Some(purpose) => purpose,
             None if self.ends.get(&number).is_some() => Purpose::Gone,
@@ -269,29 +184,30 @@ impl Desk {
     pub fn opened<R: Wait>(&mut self, rt: &R, number: u64, to: &Sender<Opening>, opening: Opening) {
         let is_told = to.send(rt, opening).is_ok();
         match opening {
-            Opening::Opened(seat) => {
+            Opening::Opened(opened) => {
                 if !is_told {
-                    self.leave(rt, seat);
+                    self.leave(rt, opened);
                 }
             }
             Opening::Refused(_) | Opening::Lost => drop(self.ends.remove(&number)),
         }
     }
 
-    /// Lets a program in. False where the daemon stops.
-    pub fn add(&mut self, session: Session, client: Client) -> Result<bool, NoMemory> {
+    /// Lets a program in. False if the daemon stops.
+    pub fn add(&mut self, client: Arc<Client, Global>) -> Result<bool, NoMemory> {
         if self.is_stopping {
             return Ok(false);
         }
+        let session = client.session;
         self.clients.insert(session, client)?;
         Ok(true)
     }
 
-    /// Forgets a program, so that its writer ends, and hands in that its session ends.
-    pub fn leave<R: Wait>(&mut self, rt: &R, seat: Seat) {
-        drop(self.clients.remove(&seat.session));
-        if let Some(end) = self.ends.get_mut(&seat.number) {
-            *end = End::Due(seat.session);
+    /// Forgets a program, and hands in that its session ends.
+    pub fn leave<R: Wait>(&mut self, rt: &R, opened: Opened) {
+        drop(self.clients.remove(&opened.session));
+        if let Some(end) = self.ends.get_mut(&opened.number) {
+            *end = End::Due(opened.session);
         }
         self.hand_in_ends(rt);
     }
@@ -308,7 +224,7 @@ impl Desk {
                     serial: session.serial,
                 });
                 let number = *number;
-                if jobs.send(rt, Raw { number, asked }).is_ok() {
+                if jobs.try_send(rt, Raw { number, asked }).is_ok() {
                     *end = End::Asked(session);
                 }
             }
@@ -326,117 +242,52 @@ impl Desk {
         }
     }
 
-    /// The stream of a program is of no more use: it is closed, and its reader ends.
-    pub fn end(&mut self, session: Session) {
-        if let Some(client) = self.clients.get_mut(&session) {
-            client.end();
+    /// The program of a session. `None` also if memory ran out.
+    pub fn client(&self, session: Session) -> Option<Arc<Client, Global>> {
+        let client = self.clients.get(&session)?;
+        Arc::try_clone(client).ok()
+    }
+
+    /// A session was pushed to: its outbox is to be taken.
+    pub fn call<R: Wait>(&self, rt: &R, session: Session) {
+        if let Some(client) = self.clients.get(&session) {
+            client.call(rt);
         }
     }
 
-    /// There is something in the outbox of a session. A Take is handed in, or will be once what was taken is written.
-    pub fn want<R: Wait>(&mut self, rt: &R, session: Session) {
-        let is_free = match self.clients.get_mut(&session) {
-            Some(client) => {
-                client.is_wanted = true;
-                client.is_free()
-            }
-            None => false,
-        };
-        if is_free {
-            self.take(rt, session);
-        }
-    }
-
-    // Hands in a Take of a session that has none on the way.
-    fn take<R: Wait>(&mut self, rt: &R, session: Session) {
-        let asked = Asked::Event(Event::Take {
-            domain: session.domain,
-            serial: session.serial,
-            most: BATCH,
-        });
-        if self.submit(rt, Purpose::Take(session), asked) {
-            if let Some(client) = self.clients.get_mut(&session) {
-                client.stage = Stage::Taking;
-                client.is_wanted = false;
-            }
-        }
-    }
-
-    /// A command of a session has its answer: its reader may go on, unless too many answers lie untaken or its stream is of no
-    /// more use.
-    pub fn answered<R: Wait>(&mut self, rt: &R, session: Session) {
-        if let Some(client) = self.clients.get_mut(&session) {
-            client.answered(rt);
-        }
-    }
-
-    /// What was taken of a session's outbox goes to its writer.
-    pub fn taken<R: Wait>(&mut self, rt: &R, session: Session, entries: List<Push>) {
-        let is_empty = entries.is_empty();
-        if let Some(client) = self.clients.get_mut(&session) {
-            client.emptied(rt);
-            if !is_empty {
-                client.write(rt, entries);
-            }
-        }
-        if is_empty {
-            self.written(rt, session, false);
-        }
-    }
-
-    /// The writer of a session has written what it was handed, or there was nothing to write. There is more where a Take was full.
-    pub fn written<R: Wait>(&mut self, rt: &R, session: Session, is_more: bool) {
-        let is_wanted = match self.clients.get_mut(&session) {
-            Some(client) => {
-                client.stage = Stage::Idle;
-                client.is_wanted = client.is_wanted || is_more;
-                client.is_wanted && client.is_free()
-            }
-            None => false,
-        };
-        if is_wanted {
-            self.take(rt, session);
-        }
-    }
-
-    /// A Take found no memory: the next tick hands in another.
-    pub fn untaken(&mut self, session: Session) {
-        if let Some(client) = self.clients.get_mut(&session) {
-            client.stage = Stage::Idle;
-            client.is_wanted = true;
-        }
-    }
-
-    /// The first session behind this one whose outbox is to be taken, though no Take of it is on the way: one was lost for want of
-    /// memory.
-    pub fn next_missed(&self, after: Option<Session>) -> Option<Session> {
+    /// The next program behind this one whose outbox is to be taken: of all programs, or of those whose last Take found no memory.
+    pub fn next_client<R: Wait>(
+        &self,
+        rt: &R,
+        behind: Option<Session>,
+        all: bool,
+    ) -> Option<Arc<Client, Global>> {
         for (session, client) in self.clients.iter() {
-            if is_behind(*session, after) && client.is_wanted && client.is_free() {
-                return Some(*session);
+            if Some(*session) > behind && (all || client.is_missed(rt)) {
+                return Arc::try_clone(client).ok();
             }
         }
         None
     }
 
-    /// The next session that has a program, behind this one.
-    pub fn next_session(&self, after: Option<Session>) -> Option<Session> {
-        for (session, _) in self.clients.iter() {
-            if is_behind(*session, after) {
-                return Some(*session);
-            }
+    /// Counts a datagram that is no frame, or found no memory.
+    pub fn count_unread<R: Wait>(&mut self, rt: &R) {
+        if let Some(count) = self.unread.add(1) {
+            self.report(rt, Report::Unread(count));
         }
-        None
     }
 
-    /// Counts bytes that are no frame.
-    pub fn count_undecoded(&mut self) {
-        self.undecoded = self.undecoded.saturating_add(1);
+    /// Counts datagrams that the system refused, or that found no memory.
+    pub fn count_unsent<R: Wait>(&mut self, rt: &R, more: u64) {
+        if let Some(count) = self.unsent.add(more) {
+            self.report(rt, Report::Unsent(count));
+        }
     }
 
-    /// Says something to the operator. It is lost where the daemon stops, or where there is no memory for it.
+    /// Tells the operator something. It is lost if the daemon stops, or if much else waits to be told.
     pub fn report<R: Wait>(&self, rt: &R, what: Report) {
         if let Some(reports) = &self.reports {
-            let _ = reports.send(rt, what);
+            let _ = reports.try_send(rt, what);
         }
     }
 
@@ -445,21 +296,13 @@ impl Desk {
         self.is_stopping
     }
 
-    /// Ends every reader, and lets no program in. What was asked is still served.
-    pub fn stop(&mut self) {
+    /// Ends the threads of every program, and lets no program in. What was asked is still served.
+    pub fn stop<R: Wait>(&mut self, rt: &R) {
         self.is_stopping = true;
         drop(self.jobs.take());
         drop(self.reports.take());
-        for client in self.clients.values_mut() {
-            client.end();
+        for client in self.clients.values() {
+            client.close(rt);
         }
-    }
-}
-
-// Whether a session stands behind another, or there is no other.
-fn is_behind(session: Session, other: Option<Session>) -> bool {
-    match other {
-        Some(other) => other < session,
-        None => true,
     }
 }

@@ -1,8 +1,10 @@
 //! The running daemon: sockets, datagrams, console, and the threads that connect them.
 //!
-//! One reader per program hands its commands to the workers, one at a time. The workers serve
-//! events under the lock of the shared table. A dispatcher sends the frames and distributes the
-//! pushes, and one writer per program writes them. Promised: every call is safe.
+//! The thread that reads a program's stream serves its commands, one at a time, and the receiver
+//! serves the datagrams. Each serves under the lock of the shared table, sends the frames outside
+//! it, and writes what programs are pushed if no other thread does. A writer for each program
+//! writes what they would have to wait for. Workers serve ticks and the begin and end of sessions,
+//! and a dispatcher passes on what comes of those. Promised: every call is safe.
 #![tactic(auto)]
 
 mod client;
@@ -10,7 +12,15 @@ mod console;
 mod desk;
 mod dispatch;
 mod file;
+mod output;
+mod pace;
+mod program;
+mod reader;
+mod receiver;
 mod report;
+mod server;
+mod shared;
+mod sockets;
 mod threads;
 mod udp;
 

@@ -13,8 +13,10 @@ pub enum Report {
     NotServed(DomainNo),
     /// No more programs can connect to the domain for now: accepting one failed.
     NotAccepting(DomainNo),
-    /// Frames could not be sent for want of memory. Most are sent again.
-    NotSent,
+    /// So many datagrams came that are no frame, or that found no memory.
+    Unread(u64),
+    /// So many datagrams were not sent: the system refused them, or they found no memory. Most frames are sent again.
+    Unsent(u64),
     /// The socket of the datagrams failed.
     LinkFailed,
 }
@@ -34,7 +36,8 @@ fn put_line<E: Write>(err: &mut E, what: Report) {
             let number = domain.0;
             writeln!(err, "castd: domain {number}: no program can connect")
         }
-        Report::NotSent => writeln!(err, "castd: frames were not sent: no memory"),
+        Report::Unread(count) => writeln!(err, "castd: datagrams that could not be read: {count}"),
+        Report::Unsent(count) => writeln!(err, "castd: datagrams that could not be sent: {count}"),
         Report::LinkFailed => writeln!(err, "castd: datagrams cannot be received"),
     };
 }

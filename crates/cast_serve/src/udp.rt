@@ -1,33 +1,84 @@
 //! The wire between sites: a UDP socket, with one frame in each datagram.
 use bytes::Bytes;
-use cast_config::SiteAddress;
 use cast_link::{LinkFault, Wire};
-use cast_types::SiteNo;
+use cast_types::{NoMemory, SiteNo};
+use libc::net as c;
 use std::alloc::Global;
-use std::net::UdpSocket;
+use std::net::{SocketAddr, UdpSocket};
+use std::os::fd::AsRawFd;
 
 // The most bytes that a datagram can have.
 const MOST: usize = 65_536;
+
+// How many bytes of datagrams the socket is asked to hold.
+const WANTED_ROOM: u32 = 4_194_304;
+
+// How many bytes it holds if the system does not say.
+const LEAST_ROOM: u32 = 65_536;
+
+/// A site, and where its datagrams go.
+#[derive(Clone, Copy, Debug)]
+pub struct Peer {
+    pub site: SiteNo,
+    pub address: SocketAddr,
+}
+
+/// Asks for room for datagrams that wait to be received, and answers how many bytes the socket holds now. The system may give less
+/// than is asked for.
+pub fn widen(socket: &UdpSocket) -> u64 {
+    let mut value = [0u8; 16];
+    value[..4].copy_from_slice(&WANTED_ROOM.to_ne_bytes());
+    let mut len = 4;
+    let status = unsafe {
+        let _ = c::setsockopt(socket.as_raw_fd(), c::SOL_SOCKET, c::SO_RCVBUF, &value, 4);
+        c::getsockopt(
+            socket.as_raw_fd(),
+            c::SOL_SOCKET,
+            c::SO_RCVBUF,
+            &mut value,
+            &mut len,
+        )
+    };
+    if status < 0 {
+        return u64::from(LEAST_ROOM);
+    }
+    let found = u32::from_ne_bytes([value[0], value[1], value[2], value[3]]);
+    // Linux tells twice the room that datagrams have.
+    u64::from(found.max(LEAST_ROOM)) / 2
+}
 
 /// An end of the own socket.
 #[derive(Drop)]
 pub struct Udp<'a> {
     alloc: Global,
     socket: &'a UdpSocket,
-    addresses: &'a [SiteAddress],
+    peers: &'a [Peer],
     room: Vec<u8>,
     failures: u64,
 }
 
 impl<'a> Udp<'a> {
-    /// An end that sends to the sites at these addresses. Takes no memory until it receives.
-    pub fn new(alloc: Global, socket: &'a UdpSocket, addresses: &'a [SiteAddress]) -> Self {
+    /// An end that sends to these sites. Takes no memory until it receives.
+    pub fn new(alloc: Global, socket: &'a UdpSocket, peers: &'a [Peer]) -> Self {
         Udp {
             alloc,
             socket,
-            addresses,
+            peers,
             room: Vec::new(alloc),
             failures: 0,
+        }
+    }
+
+    /// A datagram that waits to be received. `None` if there is none, or the call failed. A datagram that finds no memory is lost.
+    pub fn receive_now(&mut self) -> Result<Option<Bytes>, NoMemory> {
+        let fd = self.socket.as_raw_fd();
+        let count = unsafe { c::recv(fd, self.room.as_mut_slice(), c::MSG_DONTWAIT) };
+        let Ok(count) = usize::try_from(count) else {
+            return Ok(None);
+        };
+        match self.room.get(..count) {
+            Some(bytes) => Ok(Some(Bytes::copy_from_slice(self.alloc, bytes)?)),
+            None => Ok(None),
         }
     }
 }
@@ -36,8 +87,8 @@ impl Wire for Udp<'_> {
     ghost failed = { λ w. w.failures };
 
     fn send(&mut self, to: SiteNo, bytes: &[u8]) -> bool {
-        let is_sent = match self.addresses.iter().find(|listed| listed.site == to) {
-            Some(listed) => self.socket.send_to(bytes, listed.address.as_str()).is_ok(),
+        let is_sent = match self.peers.iter().find(|peer| peer.site == to) {
+            Some(peer) => self.socket.send_to(bytes, peer.address).is_ok(),
             None => false,
         };
         if !is_sent {

@@ -21,14 +21,18 @@ pub fn path_of(alloc: Global, test: u16) -> io::Result<String> {
     Ok(format!(in alloc; "cast_daemon_tests_{test}.sock")?)
 }
 
-// The set-up of a daemon with these domains, each with the path of its socket, and with the port of a test.
-fn setup_with(alloc: Global, test: u16, domains: &[(u8, &str)]) -> io::Result<Setup> {
-    let port = 7390 + test % 100;
-    let mut text = format!(in alloc; "[[site]]\nnumber = 1\naddress = \"127.0.0.1:{port}\"\n")?;
+/// The port of the daemon of a test.
+pub fn port_of(test: u16) -> u16 {
+    7390 + test % 100
+}
+
+// The set-up of a daemon at this address, with these domains, each with the path of its socket.
+fn setup_with(alloc: Global, address: &str, domains: &[(u8, &str)]) -> io::Result<Setup> {
+    let mut text = format!(in alloc; "[[site]]\nnumber = 1\naddress = \"{address}\"\n")?;
     for (domain, path) in domains {
         write!(
             text,
-            "[[domain]]\nnumber = {domain}\nhome = 1\nsites = [1]\ngroups = [1]\nsocket = \"{path}\"\n"
+            "[[domain]]\nnumber = {domain}\nhome = 1\nsites = [1]\ngroups = [1, 2]\nsocket = \"{path}\"\n"
         )?;
     }
     match read(alloc, text.as_str(), SiteNo(1)) {
@@ -37,17 +41,35 @@ fn setup_with(alloc: Global, test: u16, domains: &[(u8, &str)]) -> io::Result<Se
     }
 }
 
-/// The set-up of the daemon of a test, so that several run side by side.
+// The address of the daemon of a test, so that several run side by side.
+fn address_of(alloc: Global, test: u16) -> io::Result<String> {
+    let port = port_of(test);
+    Ok(format!(in alloc; "127.0.0.1:{port}")?)
+}
+
+/// The set-up of the daemon of a test.
 pub fn setup_of(alloc: Global, test: u16) -> io::Result<Setup> {
     let path = path_of(alloc, test)?;
-    setup_with(alloc, test, &[(1, path.as_str())])
+    let address = address_of(alloc, test)?;
+    setup_with(alloc, address.as_str(), &[(1, path.as_str())])
+}
+
+/// The set-up of the daemon of a test whose address is no address.
+pub fn setup_of_nowhere(alloc: Global, test: u16) -> io::Result<Setup> {
+    let path = path_of(alloc, test)?;
+    setup_with(alloc, "nowhere", &[(1, path.as_str())])
 }
 
 /// The set-up of the daemon of a test with a second domain, whose socket has the path of another test.
 pub fn setup_of_two(alloc: Global, test: u16, second: u16) -> io::Result<Setup> {
     let path = path_of(alloc, test)?;
     let also = path_of(alloc, second)?;
-    setup_with(alloc, test, &[(1, path.as_str()), (2, also.as_str())])
+    let address = address_of(alloc, test)?;
+    setup_with(
+        alloc,
+        address.as_str(),
+        &[(1, path.as_str()), (2, also.as_str())],
+    )
 }
 
 /// What came of a daemon.
@@ -58,6 +80,24 @@ pub struct Ran {
     pub err: Vec<u8>,
 }
 
+/// Runs the daemon of a set-up over this console. What the operator has to know goes to the log.
+pub fn logged<R, G>(
+    rt: &R,
+    alloc: Global,
+    setup: &Setup,
+    console: BufReader<UnixStream>,
+    log: G,
+) -> Ran
+where
+    R: Threads + Wait + Clock + Net + Files + Sync,
+    G: Write + Send + Drop,
+{
+    let mut out = Vec::new(alloc);
+    let mut err = Vec::new(alloc);
+    let status = serve(rt, alloc, setup, 2, console, &mut out, &mut err, log);
+    Ran { status, out, err }
+}
+
 /// Runs the daemon of a set-up over this console.
 pub fn served<R: Threads + Wait + Clock + Net + Files + Sync>(
     rt: &R,
@@ -65,19 +105,7 @@ pub fn served<R: Threads + Wait + Clock + Net + Files + Sync>(
     setup: &Setup,
     console: BufReader<UnixStream>,
 ) -> Ran {
-    let mut out = Vec::new(alloc);
-    let mut err = Vec::new(alloc);
-    let status = serve(
-        rt,
-        alloc,
-        setup,
-        2,
-        console,
-        &mut out,
-        &mut err,
-        Vec::new(alloc),
-    );
-    Ran { status, out, err }
+    logged(rt, alloc, setup, console, Vec::new(alloc))
 }
 
 /// Runs the daemon of a set-up over this console, which is also where it answers.

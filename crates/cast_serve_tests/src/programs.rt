@@ -4,7 +4,7 @@ use cast_message::Push;
 use cast_session::read_push;
 use std::alloc::Global;
 use std::io::{BufReader, Write};
-use std::net::Net;
+use std::net::{Net, Shutdown, UdpSocket};
 use std::os::unix::net::UnixStream;
 use std::rt::Clock;
 use std::time::Duration;
@@ -13,7 +13,19 @@ use std::{io, thread};
 // Join of group 1 under tag 7, and a cast of two bytes under tag 8.
 const JOIN: [u8; 11] = [0, 0, 0, 11, 1, 0, 0, 0, 7, 0, 1];
 
+// Join of group 2.
+const JOIN_OTHER: [u8; 11] = [0, 0, 0, 11, 1, 0, 0, 0, 7, 0, 2];
+
 const CAST: [u8; 14] = [0, 0, 0, 14, 3, 0, 0, 0, 8, 0, 1, 1, 104, 105];
+
+// How many numbered casts a program writes at once.
+const NUMBERED: u8 = 100;
+
+// How many casts a program writes that takes no answer.
+const FLOOD: u32 = 2_000;
+
+// How many datagrams are sent that are no frames.
+const GARBAGE: u32 = 10_000;
 
 // The head of a cast of 16,384 bytes.
 const LARGE_CAST: [u8; 12] = [0, 0, 64, 12, 3, 0, 0, 0, 8, 0, 1, 1];
@@ -38,11 +50,18 @@ pub enum Scene {
     CastsAtOnce,
     /// A second one joins and reads nothing, and the first casts until it is alone.
     ReadsNothing,
+    /// A second one joins another group, and each makes a hundred numbered casts at once: a letter more for each, `y` if its replies
+    /// and its deliveries come in the order of its casts.
+    CastsInOrder,
+    /// One joins and casts three times, and then closes its end for writing: up to the end of what it is pushed.
+    HalfClosed,
+    /// Ten thousand datagrams that are no frames come to this port, and then the first casts.
+    Garbage(u16),
 }
 
 /// A program's end of its stream.
 #[derive(Drop)]
-struct Program {
+pub struct Program {
     alloc: Global,
     stream: UnixStream,
     reader: Watched<BufReader<UnixStream>>,
@@ -120,6 +139,67 @@ impl Program {
         self.say(&JOIN)?;
         self.hear(3, all)
     }
+
+    // Writes numbered casts to a group at once. Each has its number as its tag and as its payload.
+    fn cast_numbered(&self, group: u8) -> io::Result<()> {
+        let mut bytes = Vec::new(self.alloc);
+        for number in 0..NUMBERED {
+            bytes.extend_from_slice(&[0, 0, 0, 13, 3, 0, 0, 0, number, 0, group, 1, number])?;
+        }
+        self.say(&bytes)
+    }
+
+    // Whether the replies and the deliveries of numbered casts come in their order.
+    fn hears_in_order(&mut self) -> bool {
+        let mut replies: u8 = 0;
+        let mut deliveries: u8 = 0;
+        for _ in 0..2 * u32::from(NUMBERED) {
+            match read_push(self.alloc, &mut self.reader) {
+                Ok(Some(Push::Reply { tag, refusal: None })) if tag == u32::from(replies) => {
+                    replies = replies.saturating_add(1);
+                }
+                Ok(Some(Push::Deliver { payload, .. }))
+                    if payload.as_slice() == [deliveries].as_slice() => {
+                    deliveries = deliveries.saturating_add(1);
+                }
+                _ => return false,
+            }
+        }
+        replies == NUMBERED && deliveries == NUMBERED
+    }
+}
+
+// Two programs of two groups make numbered casts at once.
+fn cast_in_order(first: &mut Program, second: &mut Program, all: &mut Vec<u8>) -> io::Result<()> {
+    first.cast_numbered(1)?;
+    second.cast_numbered(2)?;
+    for program in [first, second] {
+        let letter = if program.hears_in_order() { b'y' } else { b'n' };
+        all.push(letter)?;
+    }
+    Ok(())
+}
+
+// Sends datagrams to a port that are no frames.
+fn send_garbage<R: Net>(rt: &R, port: u16) -> io::Result<()> {
+    let socket = UdpSocket::bind(rt, "127.0.0.1:0")?;
+    for _ in 0..GARBAGE {
+        // The system may have no room for one.
+        let _ = socket.send_to(b"garbage".as_slice(), ("127.0.0.1", port));
+    }
+    Ok(())
+}
+
+/// A program that joins, casts two thousand times, and takes no answer to that.
+pub fn flood<R: Net + Clock>(rt: &R, alloc: Global, path: &str) -> io::Result<Program> {
+    let mut program = Program::new(rt, alloc, path)?;
+    program.join(&mut Vec::new(alloc))?;
+    let mut bytes = Vec::new(alloc);
+    for _ in 0..FLOOD {
+        bytes.extend_from_slice(&CAST)?;
+    }
+    program.say(&bytes)?;
+    Ok(program)
 }
 
 // How often a letter stands in these.
@@ -202,9 +282,20 @@ pub fn play<R: Net + Clock>(
     let mut all = Vec::new(alloc);
     let mut first = Program::new(rt, alloc, path)?;
     first.join(&mut all)?;
-    if let Scene::Casts = scene {
+    if let Scene::Garbage(port) = scene {
+        send_garbage(rt, port)?;
+    }
+    if let Scene::Casts | Scene::Garbage(_) = scene {
         first.say(&CAST)?;
         first.hear(2, &mut all)?;
+        return Ok(all);
+    }
+    if let Scene::HalfClosed = scene {
+        for _ in 0..3u8 {
+            first.say(&CAST)?;
+        }
+        first.stream.shutdown(Shutdown::Write)?;
+        first.hear(7, &mut all)?;
         return Ok(all);
     }
     let mut second = Program::new(rt, alloc, path)?;
@@ -225,7 +316,12 @@ pub fn play<R: Net + Clock>(
             first.hear(1, &mut all)?;
             cast_until_view(alloc, &mut first, &mut all)?;
         }
-        Scene::Casts => {}
+        Scene::CastsInOrder => {
+            second.say(&JOIN_OTHER)?;
+            second.hear(3, &mut all)?;
+            cast_in_order(&mut first, &mut second, &mut all)?;
+        }
+        Scene::Casts | Scene::HalfClosed | Scene::Garbage(_) => {}
     }
     Ok(all)
 }

@@ -1,11 +1,12 @@
 use crate::daemon::{
-    Ran, answering, path_of, run_unbound, say_stop, served, setup_of, setup_of_two,
+    Ran, answering, logged, path_of, port_of, run_unbound, say_stop, served, setup_of,
+    setup_of_nowhere, setup_of_two,
 };
 use crate::faulty::Faulty;
 use crate::operator::Operator;
-use crate::programs::{Scene, crash, play};
+use crate::programs::{Program, Scene, crash, flood, play};
 use std::alloc::Global;
-use std::io::BufReader;
+use std::io::{BufRead, BufReader};
 use std::net::Net;
 use std::os::unix::net::{UnixListener, UnixStream};
 use std::rt::Clock;
@@ -13,12 +14,14 @@ use std::test::Fail;
 use std::{fs, io, thread};
 
 // What the programs of each scene are pushed, in letters.
-const SCENES: [(Scene, &str); 5] = [
+const SCENES: [(Scene, &str); 7] = [
     (Scene::Casts, "ORVRD"),
     (Scene::NoFrame([0, 0, 0, 4]), "ORVO1.RD"),
     (Scene::NoFrame([0, 0, 0x4e, 0x21]), "ORVO1.RD"),
     (Scene::CastsAtOnce, "ORVORVVddd"),
     (Scene::ReadsNothing, "ORVORVVV"),
+    (Scene::CastsInOrder, "ORVORVyy"),
+    (Scene::HalfClosed, "ORVRDRDRD."),
 ];
 
 // A daemon ended in order.
@@ -150,5 +153,66 @@ fn no_file_stays_where_a_socket_cannot_be_bound(rt: HostRuntime) -> Result<(), F
         b"castd: socket: cast_daemon_tests_6.sock\n".as_slice()
     );
     assert!(rt; first.is_err() && second.is_err());
+    Ok(())
+}
+
+#[test]
+fn an_address_that_is_none_is_named(rt: HostRuntime) -> Result<(), Fail> {
+    let ran = run_unbound(&rt, rt.alloc(), &setup_of_nowhere(rt.alloc(), 7)?)?;
+    assert_eq!(rt; ran.status, 7);
+    assert_eq!(rt; ran.err.as_slice(), b"castd: socket: nowhere\n".as_slice());
+    Ok(())
+}
+
+#[test]
+fn garbage_is_counted_and_does_no_harm(rt: HostRuntime) -> Result<(), Fail> {
+    let alloc = rt.alloc();
+    let rt = &rt;
+    let path = path_of(alloc, 8)?;
+    let setup = setup_of(alloc, 8)?;
+    let setup = &setup;
+    let (typed, console) = UnixStream::pair(rt)?;
+    let (heard, log) = UnixStream::pair(rt)?;
+    let console = BufReader::new(alloc, console)?;
+    let (pushed, ran) = thread::join(
+        rt,
+        move || -> io::Result<Vec<u8>> {
+            let pushed = play(rt, alloc, path.as_str(), Scene::Garbage(port_of(8)));
+            say_stop(&typed);
+            pushed
+        },
+        move || logged(rt, alloc, setup, console, log),
+    );
+    let mut line = Vec::new(alloc);
+    BufReader::new(alloc, heard)?.read_until(b'\n', &mut line)?;
+    assert_eq!(*rt; pushed?.as_slice(), b"ORVRD".as_slice());
+    assert_eq!(*rt;
+        line.as_slice(),
+        b"castd: datagrams that could not be read: 1\n".as_slice()
+    );
+    assert!(*rt; is_in_order(&ran));
+    Ok(())
+}
+
+#[test]
+fn a_daemon_under_load_stops(rt: HostRuntime) -> Result<(), Fail> {
+    let alloc = rt.alloc();
+    let rt = &rt;
+    let path = path_of(alloc, 9)?;
+    let setup = setup_of(alloc, 9)?;
+    let setup = &setup;
+    let (typed, console) = UnixStream::pair(rt)?;
+    let console = BufReader::new(alloc, console)?;
+    let (program, ran) = thread::join(
+        rt,
+        move || -> io::Result<Program> {
+            let program = flood(rt, alloc, path.as_str());
+            say_stop(&typed);
+            program
+        },
+        move || served(rt, alloc, setup, console),
+    );
+    assert!(*rt; program.is_ok());
+    assert!(*rt; is_in_order(&ran));
     Ok(())
 }

@@ -5,10 +5,10 @@ use cast_types::NoMemory;
 use std::alloc::Global;
 use std::io::{ErrorKind, Read};
 
-/// Bytes of the room of a program that sends little.
+/// Bytes of the room at first, which are enough for a program that sends little.
 const FIRST_ROOM: usize = 4096;
 
-/// Most bytes that are read ahead: more than any frame has.
+/// Bytes of the room in the end: more than any frame has.
 pub const ROOM: usize = 32_768;
 
 /// What one call of `read` came to.
@@ -24,7 +24,7 @@ pub enum Filled {
 
 /// The bytes that were read and not handed on, at the front of the room for them.
 ///
-/// The room belongs to the session and is made once. It grows when a call of `read` has filled it.
+/// The room belongs to the session. It is made before the first call of `read`, and grows once, after a call has filled it.
 #[derive(Drop)]
 pub struct Ahead {
     room: Vec<u8>,

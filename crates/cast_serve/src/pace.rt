@@ -1,0 +1,197 @@
+//! How far the programs of a domain may run ahead of its other sites.
+//!
+//! A site has room for a limited number of messages of a domain. What follows a message that was lost on the way waits there, and
+//! takes room, until the lost one is sent again; if there is no room then, it is refused each time. A message is kept at each site that
+//! has received it until all have. So a site that lets few casts follow the oldest message that it keeps leaves the others room for
+//! the one that they lack. A cast that would be one too many waits until messages are released, but not for long: a site that is
+//! lost, and that nobody suspects, must not stop a program.
+use cast_events::DomainConfig;
+use cast_pool::Kept;
+use cast_types::DomainNo;
+use std::alloc::Global;
+use std::collections::VecDeque;
+use std::rt::Clock;
+use std::sync::atomic::{AtomicU64, Ordering};
+use std::sync::ledger::Ledger;
+use std::sync::{Condvar, Mutex, Wait};
+use std::time::{Duration, Instant};
+
+// For how many milliseconds a cast waits at most.
+const PATIENCE: u64 = 250;
+
+// What a datagram takes of the room of a socket, beside its bytes.
+const OVERHEAD: u64 = 1_024;
+
+// No cast waits.
+const NONE: u64 = u64::MAX;
+
+/// Which time the readers were woken, as a reader saw it that waits.
+#[derive(Clone, Copy, Debug, PartialEq, Eq)]
+pub struct Turn(u64);
+
+/// When a cast began to wait.
+#[derive(Clone, Copy)]
+pub struct Patience(Option<Instant>);
+
+impl Patience {
+    /// A cast that begins to wait now.
+    pub fn new<R: Clock>(rt: &R) -> Self {
+        Patience(Instant::now(rt).ok())
+    }
+
+    /// For how long it waits at most from now on. Without a clock it does not wait.
+    pub fn left<R: Clock>(&self, rt: &R) -> Duration {
+        let all = Duration::from_millis(PATIENCE);
+        let Some(start) = self.0 else {
+            return Duration::ZERO;
+        };
+        match start.elapsed(rt) {
+            Ok(elapsed) => all.saturating_sub(elapsed),
+            Err(_) => Duration::ZERO,
+        }
+    }
+}
+
+// The casts that were served here last, each by the number of its message, and who waits.
+#[derive(Drop)]
+struct Casts {
+    latest: VecDeque<u64>,
+    turn: u64,
+    is_over: bool,
+}
+
+/// How far the programs of a domain may run ahead.
+#[derive(Drop)]
+pub struct Pace {
+    pub domain: DomainNo,
+    // How many sites the domain has, at least 2.
+    sites: usize,
+    // How many bytes of datagrams the socket of a site holds.
+    room: u64,
+    // Readers wait until the oldest message that is kept has this key.
+    awaited: AtomicU64,
+    casts: Mutex<Casts>,
+    has_turned: Condvar,
+}
+
+// How many casts of each of so many sites may follow the oldest message that it keeps. All sites together then take half of the room
+// that one has, and the other half is for messages that set their order.
+fn window_of(limit: u32, sites: usize) -> usize {
+    let parts = sites.saturating_add(1).saturating_mul(2);
+    (limit as usize).checked_div(parts).unwrap_or(0).max(1)
+}
+
+impl Pace {
+    /// The pace of a domain, over sockets that have room for so many bytes of datagrams.
+    pub fn new(alloc: Global, config: &DomainConfig, room: u64) -> Self {
+        let casts = Casts {
+            latest: VecDeque::new(alloc),
+            turn: 0,
+            is_over: false,
+        };
+        Pace {
+            domain: config.domain,
+            sites: config.sites.len().max(2),
+            room,
+            awaited: AtomicU64::new(NONE),
+            casts: Mutex::new(casts),
+            has_turned: Condvar::new(),
+        }
+    }
+
+    // How many casts may follow the oldest message that is kept, if the next has so many bytes: fewer where long ones would not find
+    // room in the sockets.
+    fn window(&self, limit: u32, len: usize) -> usize {
+        let each = (len as u64).saturating_mul(2).saturating_add(OVERHEAD);
+        let others = (self.sites as u64).saturating_sub(1);
+        let fitting = self
+            .room
+            .checked_div(each.saturating_mul(others))
+            .unwrap_or(0);
+        (fitting.max(2) as usize).min(window_of(limit, self.sites))
+    }
+
+    /// The key that the next message gets.
+    pub fn next<L: Ledger>(&self, kept: &Kept<L>) -> u64 {
+        match kept.table().backlog(self.domain) {
+            Some(backlog) => backlog.next.0 as u64,
+            None => 0,
+        }
+    }
+
+    /// Whether a cast of so many bytes has to wait, and for which turn.
+    pub fn turn<L: Ledger, R: Wait>(&self, rt: &R, kept: &Kept<L>, len: usize) -> Option<Turn> {
+        let backlog = kept.table().backlog(self.domain)?;
+        let oldest = backlog.oldest?.0 as u64;
+        let window = self.window(backlog.limit, len);
+        let casts = self.casts.lock(rt);
+        let first = casts.latest.len().checked_sub(window)?;
+        if casts.is_over || *casts.latest.get(first)? <= oldest {
+            return None;
+        }
+        let awaited = *casts.latest.get(first + window / 4)?;
+        self.awaited.fetch_min(awaited, Ordering::SeqCst);
+        Some(Turn(casts.turn))
+    }
+
+    /// Notes that a cast was served, before which the next message had this key. A cast that was refused is no message.
+    pub fn note<L: Ledger, R: Wait>(&self, rt: &R, kept: &Kept<L>, before: u64) {
+        let Some(backlog) = kept.table().backlog(self.domain) else {
+            return;
+        };
+        if backlog.next.0 as u64 <= before {
+            return;
+        }
+        let mut casts = self.casts.lock(rt);
+        for _ in window_of(backlog.limit, self.sites)..=casts.latest.len() {
+            let _ = casts.latest.pop_front();
+        }
+        let _ = casts.latest.push_back(before);
+    }
+
+    /// Whether readers wait, and may go on.
+    pub fn is_due<L: Ledger>(&self, kept: &Kept<L>) -> bool {
+        let awaited = self.awaited.load(Ordering::SeqCst);
+        if awaited == NONE {
+            return false;
+        }
+        match kept.table().backlog(self.domain) {
+            Some(backlog) => match backlog.oldest {
+                Some(oldest) => oldest.0 as u64 >= awaited,
+                None => true,
+            },
+            None => true,
+        }
+    }
+
+    /// Wakes the readers that wait.
+    pub fn wake<R: Wait>(&self, rt: &R) {
+        let mut casts = self.casts.lock(rt);
+        casts.turn = casts.turn.wrapping_add(1);
+        self.awaited.store(NONE, Ordering::SeqCst);
+        drop(casts);
+        self.has_turned.notify_all();
+    }
+
+    /// Wakes the readers if any wait.
+    pub fn wake_any<R: Wait>(&self, rt: &R) {
+        if self.awaited.load(Ordering::SeqCst) != NONE {
+            self.wake(rt);
+        }
+    }
+
+    /// Ends all waiting.
+    pub fn end<R: Wait>(&self, rt: &R) {
+        self.casts.lock(rt).is_over = true;
+        self.wake(rt);
+    }
+
+    /// Waits until the readers are woken the next time, at most for so long.
+    pub fn wait<R: Wait + Clock>(&self, rt: &R, turn: Turn, most: Duration) {
+        let casts = self.casts.lock(rt);
+        if casts.turn == turn.0 && !casts.is_over {
+            let (casts, _) = self.has_turned.wait_timeout(rt, casts, most);
+            drop(casts);
+        }
+    }
+}

@@ -1,0 +1,124 @@
+//! The threads of a program, from its session's begin to its end.
+use crate::client::{Client, Session, Task};
+use crate::desk::{Opened, Opening};
+use crate::reader::{Reader, run_reader};
+use crate::report::Report;
+use crate::server::Server;
+use crate::shared::Shared;
+use cast_device::Watched;
+use cast_message::Push;
+use cast_session::pump_out;
+use cast_types::{DomainNo, NoMemory, Refusal};
+use std::alloc::Global;
+use std::io;
+use std::net::Shutdown;
+use std::os::unix::net::UnixStream;
+use std::rt::Clock;
+use std::sync::ledger::Ledger;
+use std::sync::{Arc, Mutex, Wait};
+use std::thread::{Scope, Threads};
+use std::time::Duration;
+
+// For how many seconds a program may take no byte of what it is told. Then its stream is closed.
+const PATIENCE: u64 = 30;
+
+// Writes what others leave to be written, until nothing more is written.
+fn run_writer<L: Ledger, R: Wait>(rt: &R, client: Arc<Client, Global>, server: Server<'_, L>) {
+    let mut server = server;
+    for _ in rt.forever() {
+        match client.next_task(rt) {
+            None => break,
+            Some(Task::Take) => server.write(rt, &client, true),
+            Some(Task::Write(unwritten)) => server.write_rest(rt, &client, unwritten),
+        }
+    }
+}
+
+// Tells a program that it has no session.
+fn refuse(alloc: Global, stream: &UnixStream, refusal: Refusal) {
+    let mut writer = Watched::new(stream);
+    let _ = pump_out(alloc, &mut writer, &[Push::Closed(refusal)]);
+}
+
+// Asks for a session, and waits for it.
+fn open<L: Ledger, R: Wait>(
+    rt: &R,
+    shared: &Shared<'_, L>,
+    domain: DomainNo,
+) -> Result<Opening, NoMemory> {
+    let (to, opened) = crossbeam_channel::bounded::<Opening, Global>(shared.alloc, 1)?;
+    if !shared.desk.lock(rt).open(rt, domain, to) {
+        return Ok(Opening::Lost);
+    }
+    match opened.recv(rt) {
+        Ok(opening) => Ok(opening),
+        Err(_) => Ok(Opening::Lost),
+    }
+}
+
+/// What a thread needs to serve events. An error if there is no share of the count for it.
+pub fn server_of<'a, L: Ledger, R: Wait>(
+    rt: &R,
+    shared: &'a Shared<'a, L>,
+) -> io::Result<Server<'a, L>> {
+    match shared.spare.lock(rt).share() {
+        Some(share) => Ok(Server::new(shared, share)),
+        None => Err(io::Error::from(io::ErrorKind::OutOfMemory)),
+    }
+}
+
+// Serves a program that has a session: this thread reads, and a second one writes what the others would wait for.
+fn serve_session<'s, 'e, L: Ledger + Send + Sync, R: Threads + Wait + Clock + Sync>(
+    scope: &'s Scope<'s, &'e ()>,
+    rt: &'e R,
+    shared: &'e Shared<'e, L>,
+    stream: UnixStream,
+    session: Session,
+) -> io::Result<()> {
+    stream.set_write_timeout(Some(Duration::from_secs(PATIENCE)))?;
+    let client = Arc::new(shared.alloc, Client::new(session, stream))?;
+    let writing = Arc::try_clone(&client)?;
+    let reading = server_of(rt, shared)?;
+    let server = server_of(rt, shared)?;
+    if !shared.desk.lock(rt).add(Arc::try_clone(&client)?)? {
+        return Ok(());
+    }
+    let is_started = scope.spawn(move || run_writer(rt, writing, server)).is_ok();
+    let ended = if is_started {
+        let reader = Mutex::new(Reader::new(reading, &*client));
+        run_reader(rt, shared.alloc, &client, &reader);
+        Ok(())
+    } else {
+        Err(io::Error::from(io::ErrorKind::OutOfMemory))
+    };
+    client.close(rt);
+    ended
+}
+
+/// Serves a program that connected to a domain, from its session's begin to its end.
+pub fn run_program<'s, 'e, L: Ledger + Send + Sync, R: Threads + Wait + Clock + Sync>(
+    scope: &'s Scope<'s, &'e ()>,
+    rt: &'e R,
+    shared: &'e Shared<'e, L>,
+    stream: UnixStream,
+    domain: DomainNo,
+) {
+    match open(rt, shared, domain) {
+        Ok(Opening::Opened(opened)) => {
+            let Opened { session, number: _ } = opened;
+            if serve_session(scope, rt, shared, stream, session).is_err() {
+                shared.report(rt, Report::NotServed(domain));
+            }
+            shared.desk.lock(rt).leave(rt, opened);
+        }
+        Ok(Opening::Refused(refusal)) => {
+            refuse(shared.alloc, &stream, refusal);
+            let _ = stream.shutdown(Shutdown::Both);
+        }
+        Ok(Opening::Lost) | Err(_) => {
+            if !shared.is_stopping(rt) {
+                shared.report(rt, Report::NotServed(domain));
+            }
+        }
+    }
+}

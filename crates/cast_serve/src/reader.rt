@@ -1,0 +1,259 @@
+//! The reader of a program: it serves the program's commands, and writes what they push.
+use crate::client::{Client, Session};
+use crate::pace::{Pace, Patience};
+use crate::server::{Came, Server, session_of};
+use cast_device::Watched;
+use cast_events::{Event, Fault, Outs, Taken};
+use cast_message::{Command, Request};
+use cast_pool::{Asked, Job};
+use cast_session::{InEnd, Sink, pump_in};
+use cast_types::{NoMemory, Refusal};
+use std::alloc::{AllocError, Global};
+use std::io;
+use std::io::Read;
+use std::os::unix::net::UnixStream;
+use std::rt::Clock;
+use std::sync::ledger::Ledger;
+use std::sync::{Mutex, Wait};
+
+// So many answers of a session may lie in its outbox before its reader waits.
+const UNTAKEN: u32 = 32;
+
+// How often at most the outbox is taken after the end of what a program writes, while the program takes what it is told.
+const LAST_TAKES: u64 = 16;
+
+/// What the reader of a program knows.
+#[derive(Drop)]
+pub struct Reader<'a, L: Ledger> {
+    server: Server<'a, L>,
+    client: &'a Client,
+    // What its domain's casts wait for, if the domain has other sites.
+    pace: Option<&'a Pace>,
+    // How many answers were not taken.
+    untaken: u32,
+    // Its own commands pushed to it since it took the outbox last.
+    is_pushed: bool,
+    // What came of the last command. Its frames are still to be sent.
+    unsent: Option<Outs>,
+    // The other sessions that its commands pushed to, and that were not called.
+    pushed: Vec<Session>,
+}
+
+impl<'a, L: Ledger> Reader<'a, L> {
+    /// The reader of a program that wrote nothing.
+    pub fn new(server: Server<'a, L>, client: &'a Client) -> Self {
+        let domain = client.session.domain;
+        let pace = server
+            .shared
+            .paces
+            .iter()
+            .find(|pace| pace.domain == domain);
+        let pushed = Vec::new(server.shared.alloc);
+        Reader {
+            server,
+            client,
+            pace,
+            untaken: 0,
+            is_pushed: true,
+            unsent: None,
+            pushed,
+        }
+    }
+
+    // Serves a cast of so many bytes once its program may make it.
+    fn cast<R: Wait + Clock>(&mut self, rt: &R, job: Job, pace: &Pace, len: usize) -> Came {
+        let (mut job, mut turn) = match self.server.cast(rt, job, pace, Some(len)) {
+            Ok(came) => return came,
+            Err(back) => back,
+        };
+        let patience = Patience::new(rt);
+        self.flush(rt);
+        for _ in rt.forever() {
+            let left = patience.left(rt);
+            pace.wait(rt, turn, left);
+            let asks = if left.is_zero() { None } else { Some(len) };
+            match self.server.cast(rt, job, pace, asks) {
+                Ok(came) => return came,
+                Err(back) => (job, turn) = back,
+            }
+        }
+        unreachable!()
+    }
+
+    // Serves the event of a command.
+    fn serve_event<R: Wait + Clock>(&mut self, rt: &R, event: Event, len: Option<usize>) -> Came {
+        match (self.pace, len) {
+            (Some(pace), Some(len)) => match self.server.job(rt, Asked::Event(event)) {
+                Some(job) => self.cast(rt, job, pace, len),
+                None => (Err(Fault::NoMemory), Outs::new(self.server.shared.alloc)),
+            },
+            _ => self.server.serve(rt, event),
+        }
+    }
+
+    // Serves a command. False if the stream is of no more use.
+    fn serve<R: Wait + Clock>(&mut self, rt: &R, command: Command) -> bool {
+        let len = match &command {
+            Command::Request(Request::Cast { payload, .. }) => Some(payload.len()),
+            _ => None,
+        };
+        self.send_frames(rt);
+        if self.client.is_over(rt) {
+            return false;
+        }
+        let Session { domain, serial } = self.client.session;
+        let event = Event::Command {
+            domain,
+            serial,
+            command,
+        };
+        let (answer, outs) = self.serve_event(rt, event, len);
+        self.note(rt, &outs);
+        self.unsent = Some(outs);
+        if let Ok(Taken::Refused(Refusal::Halted)) | Err(_) = answer {
+            self.client.close(rt);
+            self.flush(rt);
+            return false;
+        }
+        self.go_on(rt)
+    }
+
+    // A command was answered. Waits if too many answers were not taken. False if the stream is of no more use.
+    fn go_on<R: Wait>(&mut self, rt: &R) -> bool {
+        self.untaken = self.untaken.saturating_add(1);
+        if self.untaken < UNTAKEN {
+            return true;
+        }
+        self.flush(rt);
+        if self.untaken < UNTAKEN {
+            return true;
+        }
+        self.untaken = 0;
+        self.client.wait(rt, 1)
+    }
+
+    // Remembers the sessions that a command pushed to.
+    fn note<R: Wait>(&mut self, rt: &R, outs: &Outs) {
+        for push in outs.pushed.as_slice() {
+            let session = session_of(push);
+            if session == self.client.session {
+                self.is_pushed = true;
+            } else if !self.pushed.contains(&session) && self.pushed.push(session).is_err() {
+                self.server.shared.desk.lock(rt).call(rt, session);
+            }
+        }
+    }
+
+    // Has the outboxes of the other sessions taken that were pushed to.
+    fn call_others<R: Wait>(&mut self, rt: &R) {
+        if self.pushed.is_empty() {
+            return;
+        }
+        {
+            let desk = self.server.shared.desk.lock(rt);
+            for session in self.pushed.as_slice() {
+                desk.call(rt, *session);
+            }
+        }
+        self.pushed.clear();
+    }
+
+    // Sends the frames of the last command.
+    fn send_frames<R: Wait>(&mut self, rt: &R) {
+        if let Some(outs) = self.unsent.take() {
+            self.server.send(rt, &outs);
+        }
+    }
+
+    // Writes what the commands pushed to the program, unless another thread does so, and sends the frames of the last command. They
+    // go first if the command delivered nothing.
+    fn flush<R: Wait>(&mut self, rt: &R) {
+        let is_frame_first = match &self.unsent {
+            Some(outs) => outs.delivered.is_empty(),
+            None => false,
+        };
+        if is_frame_first {
+            self.send_frames(rt);
+        }
+        if self.is_pushed || self.untaken >= UNTAKEN {
+            self.is_pushed = false;
+            if self.client.claim(rt) {
+                self.untaken = 0;
+                self.server.write(rt, self.client, false);
+            }
+        }
+        self.call_others(rt);
+        self.send_frames(rt);
+    }
+}
+
+// Serves the commands of a program.
+#[derive(Drop)]
+struct Serving<'a, 'b, L: Ledger, R: Wait + Clock> {
+    rt: &'b R,
+    reader: &'b Mutex<Reader<'a, L>>,
+}
+
+impl<L: Ledger, R: Wait + Clock> Sink for Serving<'_, '_, L, R> {
+    fn take(&mut self, command: Command) -> Result<(), NoMemory> {
+        if self.reader.lock(self.rt).serve(self.rt, command) {
+            Ok(())
+        } else {
+            Err(AllocError)
+        }
+    }
+}
+
+// The stream of a program. Before it is read, what the commands before pushed is written.
+#[derive(Drop)]
+struct Flushing<'a, 'b, L: Ledger, R: Wait> {
+    rt: &'b R,
+    reader: &'b Mutex<Reader<'a, L>>,
+    stream: &'b UnixStream,
+}
+
+impl<L: Ledger, R: Wait> Read for Flushing<'_, '_, L, R> {
+    fn read(&mut self, room: &mut [u8]) -> io::Result<usize> {
+        self.reader.lock(self.rt).flush(self.rt);
+        let mut stream = self.stream;
+        stream.read(room)
+    }
+}
+
+// Reads on until the stream is closed: bytes were no frame, and the program is still to be told so.
+fn wait_for_close(stream: &UnixStream) {
+    let mut reader = stream;
+    let mut room = [0; 512];
+    for _ in 0..u64::MAX {
+        match reader.read(&mut room) {
+            Ok(0) | Err(_) => break,
+            Ok(_) => {}
+        }
+    }
+}
+
+/// Serves what a program writes, until its stream ends or is of no more use. What it was pushed by then is written, as long as the
+/// program takes it.
+pub fn run_reader<L: Ledger, R: Wait + Clock>(
+    rt: &R,
+    alloc: Global,
+    client: &Client,
+    reader: &Mutex<Reader<'_, L>>,
+) {
+    let source = Flushing {
+        rt,
+        reader,
+        stream: &client.stream,
+    };
+    let mut source = Watched::new(source);
+    let mut sink = Serving { rt, reader };
+    let end = pump_in(alloc, &mut source, &mut sink);
+    reader.lock(rt).flush(rt);
+    match end {
+        InEnd::Bad(_) => wait_for_close(&client.stream),
+        InEnd::End => {
+            let _ = client.wait(rt, LAST_TAKES);
+        }
+        InEnd::ReadFault | InEnd::NoMemory => {}
+    }
+}

@@ -1,0 +1,212 @@
+//! The receiver: it serves the datagrams that come.
+use crate::client::Session;
+use crate::report::Report;
+use crate::server::{Server, session_of};
+use crate::shared::Shared;
+use cast_events::Outs;
+use cast_link::{LinkFault, Wire, receive_one};
+use cast_message::SiteFrame;
+use cast_pool::Asked;
+use cast_types::{DomainNo, List, SiteNo};
+use std::rt::Clock;
+use std::sync::Wait;
+use std::sync::ledger::Ledger;
+use std::time::Duration;
+use std::{mem, thread};
+
+// How many milliseconds the receiver waits after a call of the system failed, so that it does not turn in place.
+const PAUSE: u64 = 10;
+
+// So many datagrams are served at most before what they pushed is written.
+const GATHERED: u32 = 32;
+
+// For so many sessions the receiver writes what datagrams pushed. The writers of the others do it themselves.
+const DIRECT: usize = 2;
+
+// A frame of a domain for a site.
+type Outgoing = (DomainNo, SiteNo, SiteFrame);
+
+// What the receiver knows of the datagrams that it gathers.
+#[derive(Drop)]
+struct Receiver<'a, L: Ledger> {
+    server: Server<'a, L>,
+    // The sessions that they pushed to, and for which it writes.
+    pushed: Vec<Session>,
+    // Their Stables. They wait, since a later one says all that an earlier one does.
+    stables: Vec<Outgoing>,
+}
+
+// Whether a frame is a Stable.
+fn is_stable(frame: &Outgoing) -> bool {
+    matches!(frame.2, SiteFrame::Stable(_))
+}
+
+// Whether a Stable says all that another one does to the same site.
+fn says_all(new: &Outgoing, old: &Outgoing) -> bool {
+    if old.0 != new.0 || old.1 != new.1 {
+        return false;
+    }
+    match (&old.2, &new.2) {
+        (SiteFrame::Stable(old), SiteFrame::Stable(new)) => {
+            old.group == new.group
+                && old.view == new.view
+                && old.proc == new.proc
+                && old.count <= new.count
+        }
+        _ => false,
+    }
+}
+
+impl<L: Ledger> Receiver<'_, L> {
+    // Sends the frames of an event. Its Stables wait.
+    fn send<R: Wait>(&mut self, rt: &R, outs: Outs) {
+        if !outs.frames.as_slice().iter().any(is_stable) {
+            self.server.send(rt, &outs);
+            return;
+        }
+        let Outs {
+            frames,
+            halted,
+            delivered,
+            pushed,
+        } = outs;
+        let mut others = List::new(self.server.shared.alloc);
+        for frame in frames.into_vec() {
+            let is_kept = if is_stable(&frame) {
+                self.keep_stable(frame)
+            } else {
+                others.push(frame).is_ok()
+            };
+            if !is_kept {
+                self.server.shared.desk.lock(rt).count_unsent(rt, 1);
+            }
+        }
+        let others = Outs {
+            frames: others,
+            halted,
+            delivered,
+            pushed,
+        };
+        self.server.send(rt, &others);
+    }
+
+    // Has a Stable wait, in place of one of which it says all. False if there is no memory for it.
+    fn keep_stable(&mut self, frame: Outgoing) -> bool {
+        let found = self.stables.iter().position(|old| says_all(&frame, old));
+        match found {
+            Some(index) if index < self.stables.len() => {
+                self.stables[index] = frame;
+                true
+            }
+            _ => self.stables.push(frame).is_ok(),
+        }
+    }
+
+    // Sends the Stables that wait.
+    fn send_stables<R: Wait>(&mut self, rt: &R) {
+        if self.stables.is_empty() {
+            return;
+        }
+        let alloc = self.server.shared.alloc;
+        let mut outs = Outs::new(alloc);
+        outs.frames = List::from_vec(mem::replace(&mut self.stables, Vec::new(alloc)));
+        self.server.send(rt, &outs);
+    }
+
+    // Remembers the sessions that a datagram pushed to, or has their outboxes taken.
+    fn note<R: Wait>(&mut self, rt: &R, outs: &Outs) {
+        for push in outs.pushed.as_slice() {
+            let session = session_of(push);
+            let is_noted = self.pushed.contains(&session);
+            if !is_noted && (self.pushed.len() >= DIRECT || self.pushed.push(session).is_err()) {
+                self.server.shared.desk.lock(rt).call(rt, session);
+            }
+        }
+    }
+
+    // Serves a datagram.
+    fn serve<R: Wait>(&mut self, rt: &R, datagram: Asked) {
+        if let Some(outs) = self.server.serve_datagram(rt, datagram) {
+            self.note(rt, &outs);
+            self.send(rt, outs);
+        }
+    }
+
+    // Serves the datagrams that wait, and answers whether there may be more.
+    fn serve_waiting<R: Wait>(&mut self, rt: &R) -> bool {
+        for _ in 1..GATHERED {
+            match self.server.wire.receive_now() {
+                Ok(Some(bytes)) => self.serve(rt, Asked::Datagram(bytes)),
+                Ok(None) => return false,
+                Err(_) => self.server.shared.desk.lock(rt).count_unread(rt),
+            }
+        }
+        true
+    }
+
+    // Serves a datagram and those that wait behind it, then writes what they pushed, and sends their Stables. Answers whether there
+    // may be more.
+    fn serve_all<R: Wait>(&mut self, rt: &R, first: Asked) -> bool {
+        self.serve(rt, first);
+        let is_more = self.serve_waiting(rt);
+        self.write_pushed(rt);
+        self.send_stables(rt);
+        is_more
+    }
+
+    // Writes what was pushed to the sessions that are remembered.
+    fn write_pushed<R: Wait>(&mut self, rt: &R) {
+        for _ in 0..DIRECT {
+            let Some(session) = self.pushed.pop() else {
+                break;
+            };
+            let client = self.server.shared.desk.lock(rt).client(session);
+            if let Some(client) = client {
+                if client.claim(rt) {
+                    self.server.write(rt, &client, false);
+                }
+            }
+        }
+    }
+}
+
+/// Serves the datagrams that come, until the daemon stops.
+pub fn run_receiver<L: Ledger, R: Wait + Clock>(
+    rt: &R,
+    shared: &Shared<'_, L>,
+    server: Server<'_, L>,
+) {
+    let mut receiver = Receiver {
+        server,
+        pushed: Vec::new(shared.alloc),
+        stables: Vec::new(shared.alloc),
+    };
+    let mut is_failing = false;
+    for _ in rt.forever() {
+        if receiver.server.wire.failures() == u64::MAX {
+            break;
+        }
+        match receive_one(&mut receiver.server.wire, 0) {
+            Ok(raw) => {
+                is_failing = false;
+                if receiver.serve_all(rt, raw.asked) && shared.is_stopping(rt) {
+                    break;
+                }
+            }
+            Err(LinkFault::NoMemory) => {
+                shared.desk.lock(rt).count_unread(rt);
+                thread::sleep(rt, Duration::from_millis(PAUSE));
+            }
+            Err(LinkFault::Device) => {
+                if shared.is_stopping(rt) {
+                    break;
+                }
+                if !is_failing {
+                    shared.report(rt, Report::LinkFailed);
+                }
+                is_failing = true;
+                thread::sleep(rt, Duration::from_millis(PAUSE));
+            }
+        }
+    }
+}

@@ -1,0 +1,340 @@
+//! A thread that serves events: under the table's lock for each, and sends the frames outside it.
+ghost use Rattle.std.specs.Prelude.{◌≡◌, ◌<◌};
+
+use crate::client::{Client, Session, Task, Unwritten};
+use crate::output::{Written, has_end, write_now, write_whole};
+use crate::pace::{Pace, Turn};
+use crate::report::Report;
+use crate::shared::{CountShare, Shared};
+use crate::udp::Udp;
+use cast_events::{Event, Fault, Outs, Taken};
+use cast_link::{Wire, send_all};
+use cast_message::Push;
+use cast_pool::{Asked, Done, Job, Kept, Outcome, Raw, decode};
+use cast_session::spell_out;
+use cast_types::{DomainNo, List, Refusal};
+use std::alloc::Global;
+use std::mem;
+use std::sync::Wait;
+use std::sync::ledger::Ledger;
+
+/// Most entries that one Take of a session asks for.
+pub const BATCH: u32 = 64;
+
+// So often a thread takes an outbox in a row that is not the program's writer. Then the writer goes on.
+const ROUNDS: u32 = 4;
+
+// So many bytes of room are kept for what is to be written.
+const ROOM: usize = 65_536;
+
+/// An answer, and what came of its event.
+pub type Came = (Result<Taken, Fault>, Outs);
+
+/// What a thread needs to serve events.
+#[derive(Drop)]
+pub struct Server<'a, L: Ledger> {
+    pub shared: &'a Shared<'a, L>,
+    share: CountShare<L>,
+    pub wire: Udp<'a>,
+    // The bytes of entries that are to be written.
+    room: Vec<u8>,
+}
+
+/// The session that an entry was pushed to.
+pub fn session_of(push: &(DomainNo, u32, Push)) -> Session {
+    Session {
+        domain: push.0,
+        serial: push.1,
+    }
+}
+
+// The answer of a job, and what came of its event.
+fn came_of(alloc: Global, done: Done) -> Came {
+    let (_, outcome) = done.parts();
+    match outcome {
+        Outcome::Answered(answer, outs) => (answer, outs),
+        Outcome::Shown(_) | Outcome::Undecoded(_) => (Err(Fault::NoMemory), Outs::new(alloc)),
+    }
+}
+
+// The place of the first pace whose readers may go on.
+fn first_due<L: Ledger>(paces: &[Pace], kept: &Kept<L>) -> usize {
+    for index in 0..paces.len() {
+        if paces[index].is_due(kept) {
+            return index;
+        }
+    }
+    paces.len()
+}
+
+// Does a job, and answers the place of the pace whose readers may go on.
+fn serve_and_look<L: Ledger>(
+    kept: &mut Kept<L>,
+    share: &mut CountShare<L>,
+    job: Job,
+    paces: &[Pace],
+) -> (Done, usize) {
+    let done = share.serve(kept, job);
+    let due = first_due(paces, kept);
+    (done, due)
+}
+
+// Does the job of a cast, unless its program has to wait: then the job comes back.
+fn cast_and_look<L: Ledger, R: Wait>(
+    rt: &R,
+    kept: &mut Kept<L>,
+    share: &mut CountShare<L>,
+    job: Job,
+    pace: &Pace,
+    asks: Option<usize>,
+) -> Result<Done, (Job, Turn)> {
+    if let Some(len) = asks
+        && let Some(turn) = pace.turn(rt, kept, len)
+    {
+        return Err((job, turn));
+    }
+    let before = pace.next(kept);
+    let done = share.serve(kept, job);
+    pace.note(rt, kept, before);
+    Ok(done)
+}
+
+impl<'a, L: Ledger> Server<'a, L> {
+    /// A thread that has this share of the count.
+    pub fn new(shared: &'a Shared<'a, L>, share: CountShare<L>) -> Self {
+        Server {
+            shared,
+            share,
+            wire: Udp::new(shared.alloc, shared.udp, shared.peers),
+            room: Vec::new(shared.alloc),
+        }
+    }
+
+    /// The job of what is asked. `None` for bytes that are no frame, which are counted.
+    pub fn job<R: Wait>(&self, rt: &R, asked: Asked) -> Option<Job> {
+        match decode(self.shared.alloc, Raw { number: 0, asked }) {
+            Ok(job) => Some(job),
+            Err(_) => {
+                self.shared.desk.lock(rt).count_unread(rt);
+                None
+            }
+        }
+    }
+
+    // Does a job, and lets the readers go on that waited for what it released.
+    fn do_job<R: Wait>(&mut self, rt: &R, job: Job) -> Came {
+        let (done, due) = {
+            let mut kept = self.shared.kept.lock(rt);
+            serve_and_look(&mut kept, &mut self.share, job, self.shared.paces)
+        };
+        if let Some(pace) = self.shared.paces.get(due) {
+            pace.wake(rt);
+        }
+        came_of(self.shared.alloc, done)
+    }
+
+    /// Does the job of a cast at a pace. If a cast of so many bytes has to wait, the job comes back, with the turn to wait for.
+    pub fn cast<R: Wait>(
+        &mut self,
+        rt: &R,
+        job: Job,
+        pace: &Pace,
+        asks: Option<usize>,
+    ) -> Result<Came, (Job, Turn)> {
+        let served = {
+            let mut kept = self.shared.kept.lock(rt);
+            cast_and_look(rt, &mut kept, &mut self.share, job, pace, asks)
+        };
+        match served {
+            Ok(done) => Ok(came_of(self.shared.alloc, done)),
+            Err(back) => Err(back),
+        }
+    }
+
+    /// Serves a datagram. `None` if its bytes are no frame.
+    pub fn serve_datagram<R: Wait>(&mut self, rt: &R, datagram: Asked) -> Option<Outs> {
+        let job = self.job(rt, datagram)?;
+        let (_, outs) = self.do_job(rt, job);
+        Some(outs)
+    }
+
+    /// Serves an event.
+    pub fn serve<R: Wait>(&mut self, rt: &R, event: Event) -> Came {
+        match self.job(rt, Asked::Event(event)) {
+            Some(job) => self.do_job(rt, job),
+            None => (Err(Fault::NoMemory), Outs::new(self.shared.alloc)),
+        }
+    }
+
+    /// Sends the frames of an event, and tells the operator which domains it halted.
+    pub fn send<R: Wait>(&mut self, rt: &R, outs: &Outs) {
+        self.send_frames(rt, outs);
+        for domain in outs.halted.as_slice() {
+            self.shared.note_halt();
+            self.shared.report(rt, Report::Halted(*domain));
+        }
+    }
+
+    // Sends the frames of an event, if there is room to count one more failure of each.
+    fn send_frames<R: Wait>(&mut self, rt: &R, outs: &Outs) {
+        let count = outs.frames.len() as u64;
+        if count == 0 || count >= u64::MAX - self.wire.failures() {
+            return;
+        }
+        match send_all(self.shared.alloc, &mut self.wire, self.shared.own, outs) {
+            Ok(sent) if sent.lost == 0 => {}
+            Ok(sent) => self.shared.desk.lock(rt).count_unsent(rt, sent.lost),
+            Err(_) => self.shared.desk.lock(rt).count_unsent(rt, count),
+        }
+    }
+
+    /// Sends the frames of an event, and has the outboxes taken that it pushed to.
+    pub fn finish<R: Wait>(&mut self, rt: &R, outs: &Outs) {
+        self.send(rt, outs);
+        let pushed = outs.pushed.as_slice();
+        if pushed.is_empty() {
+            return;
+        }
+        let desk = self.shared.desk.lock(rt);
+        let mut last = None;
+        for push in pushed {
+            let session = session_of(push);
+            if last != Some(session) {
+                desk.call(rt, session);
+            }
+            last = Some(session);
+        }
+    }
+
+    // Lets go of much room.
+    fn shrink(&mut self) {
+        if self.room.capacity() > ROOM {
+            self.room = Vec::new(self.shared.alloc);
+        }
+    }
+
+    // Writes what was spelled. False if the pen was passed on, or the stream is of no use.
+    fn put<R: Wait>(
+        &mut self,
+        rt: &R,
+        client: &Client,
+        is_last: bool,
+        is_more: bool,
+        may_wait: bool,
+    ) -> bool {
+        let is_out = match write_now(&client.stream, self.room.as_slice()) {
+            Written::All => true,
+            Written::Failed => false,
+            Written::Part(written) => {
+                let bytes = mem::replace(&mut self.room, Vec::new(self.shared.alloc));
+                let unwritten = Unwritten {
+                    bytes,
+                    written,
+                    is_last,
+                    is_more,
+                };
+                if !may_wait {
+                    client.pass(rt, Task::Write(unwritten));
+                    return false;
+                }
+                return self.put_rest(rt, client, unwritten);
+            }
+        };
+        self.shrink();
+        if !is_out || is_last {
+            client.close(rt);
+            return false;
+        }
+        true
+    }
+
+    // Writes what is unwritten, and waits where it has to. False if the stream is of no use.
+    fn put_rest<R: Wait>(&mut self, rt: &R, client: &Client, unwritten: Unwritten) -> bool {
+        client.was_taken(rt);
+        let from = unwritten.written.min(unwritten.bytes.len());
+        if !write_whole(&client.stream, &unwritten.bytes[from..]) || unwritten.is_last {
+            client.close(rt);
+            return false;
+        }
+        true
+    }
+
+    /// As the writer of a program, writes what another thread left unwritten, and then what there is more.
+    pub fn write_rest<R: Wait>(&mut self, rt: &R, client: &Client, unwritten: Unwritten) {
+        let is_more = unwritten.is_more;
+        if self.put_rest(rt, client, unwritten) && (is_more || client.goes_on(rt)) {
+            self.write(rt, client, true);
+        }
+    }
+
+    // Takes the outbox of a session once, and writes what it had. `None` if the pen is gone, else whether there may be more.
+    fn take<R: Wait>(&mut self, rt: &R, client: &Client, may_wait: bool) -> Option<bool> {
+        let Session { domain, serial } = client.session;
+        let event = Event::Take {
+            domain,
+            serial,
+            most: BATCH,
+        };
+        let (answer, outs) = self.serve(rt, event);
+        self.send(rt, &outs);
+        match answer {
+            Ok(Taken::Entries(entries)) => self.put_entries(rt, client, entries, may_wait),
+            Ok(Taken::Refused(Refusal::Halted)) => {
+                client.close(rt);
+                None
+            }
+            Err(_) => {
+                client.gives_up(rt);
+                None
+            }
+            _ => Some(false),
+        }
+    }
+
+    // Writes entries that were taken.
+    fn put_entries<R: Wait>(
+        &mut self,
+        rt: &R,
+        client: &Client,
+        entries: List<Push>,
+        may_wait: bool,
+    ) -> Option<bool> {
+        if entries.is_empty() {
+            return Some(false);
+        }
+        let is_more = entries.len() >= BATCH as usize;
+        let is_last = has_end(entries.as_slice());
+        self.room.clear();
+        if spell_out(&mut self.room, entries.as_slice()).is_err() {
+            client.close(rt);
+            return None;
+        }
+        if self.put(rt, client, is_last, is_more, may_wait) {
+            Some(is_more)
+        } else {
+            None
+        }
+    }
+
+    /// With the pen of a program, takes its outbox until that is empty, and writes what it had. If that would wait, or goes on for
+    /// long, the pen is passed to the program's writer, unless this is the writer.
+    pub fn write<R: Wait>(&mut self, rt: &R, client: &Client, is_writer: bool) {
+        let mut rounds: u32 = 0;
+        for _ in rt.forever() {
+            if rounds >= ROUNDS && !is_writer {
+                client.pass(rt, Task::Take);
+                break;
+            }
+            match self.take(rt, client, is_writer) {
+                None => break,
+                Some(true) => {}
+                Some(false) => {
+                    if !client.goes_on(rt) {
+                        break;
+                    }
+                }
+            }
+            rounds = rounds.saturating_add(1);
+        }
+    }
+}

@@ -1,0 +1,106 @@
+//! What the threads of a daemon share.
+ghost use Rattle.std.specs.Prelude.{◌≡◌, ◌<◌};
+
+use crate::desk::Desk;
+use crate::pace::Pace;
+use crate::report::Report;
+use crate::udp::Peer;
+use cast_pool::{Done, Job, Kept, Worked};
+use cast_types::SiteNo;
+use std::alloc::Global;
+use std::net::UdpSocket;
+use std::sync::atomic::{AtomicU64, Ordering};
+use std::sync::ledger::Ledger;
+use std::sync::{Mutex, Wait};
+
+/// A thread's share of the count of events. A thread needs one to serve events.
+#[derive(Drop)]
+pub struct CountShare<L: Ledger> {
+    pub worked: Worked<L>,
+    ghost some: { 0 < worked.parts },
+}
+
+impl<L: Ledger> CountShare<L> {
+    /// A share that has a part of the ledger.
+    pub fn new(worked: Worked<L>) -> Self
+        requires { 0 < worked.parts }
+    {
+        CountShare { worked }
+    }
+
+    /// Does a job, and lets go of what a domain kept that it halted.
+    pub fn serve(&mut self, kept: &mut Kept<L>, job: Job) -> Done {
+        let done = kept.serve_one(&mut self.worked, job);
+        kept.let_go(&done);
+        done
+    }
+}
+
+/// The part of the count that no thread has.
+#[derive(Drop)]
+pub struct SpareCount<L: Ledger> {
+    worked: Worked<L>,
+    left: u64,
+    ghost left_is: { worked.parts ≡ left },
+}
+
+impl<L: Ledger> SpareCount<L> {
+    /// So many parts.
+    pub fn new(worked: Worked<L>, left: u64) -> Self
+        requires { worked.parts ≡ left }
+    {
+        SpareCount { worked, left }
+    }
+
+    /// A share for one more thread. `None` if no parts are left for it.
+    pub fn share(&mut self) -> Option<CountShare<L>> {
+        let SpareCount { worked, left } = self;
+        if *left < 2 {
+            return None;
+        }
+        let share = worked.split();
+        *left -= 1;
+        Some(CountShare::new(share))
+    }
+}
+
+/// What the threads of a daemon share.
+#[derive(Drop)]
+pub struct Shared<'a, L: Ledger> {
+    pub alloc: Global,
+    pub desk: &'a Mutex<Desk>,
+    pub kept: &'a Mutex<Kept<L>>,
+    pub spare: &'a Mutex<SpareCount<L>>,
+    pub udp: &'a UdpSocket,
+    pub peers: &'a [Peer],
+    /// Of each domain that has other sites.
+    pub paces: &'a [Pace],
+    /// Not 0 if a domain was halted since the ticker trimmed the trace last.
+    pub halts: &'a AtomicU64,
+    pub own: SiteNo,
+}
+
+impl<L: Ledger> Shared<'_, L> {
+    /// Tells the operator something.
+    pub fn report<R: Wait>(&self, rt: &R, what: Report) {
+        self.desk.lock(rt).report(rt, what);
+    }
+
+    /// Notes that a domain was halted.
+    pub fn note_halt(&self) {
+        self.halts.store(1, Ordering::SeqCst);
+    }
+
+    /// Trims the trace if a domain was halted, since the trace holds what the domain kept. If there is no memory for that yet, it
+    /// is still to be done.
+    pub fn trim_after_halt<R: Wait>(&self, rt: &R) {
+        if self.halts.swap(0, Ordering::SeqCst) != 0 && self.kept.lock(rt).trim().is_err() {
+            self.note_halt();
+        }
+    }
+
+    /// Whether the daemon stops.
+    pub fn is_stopping<R: Wait>(&self, rt: &R) -> bool {
+        self.desk.lock(rt).is_stopping()
+    }
+}

@@ -1,0 +1,170 @@
+//! The sockets of a daemon: one for datagrams, and one for the programs of each domain.
+use crate::udp::Peer;
+use cast_config::{DomainSocket, Setup, SiteAddress};
+use cast_types::{DomainNo, SiteNo};
+use std::alloc::Global;
+use std::net::{Net, Shutdown, SocketAddr, ToSocketAddrs, UdpSocket};
+use std::os::fd::OwnedFd;
+use std::os::unix::net::{UnixListener, UnixStream};
+use std::rt::Files;
+use std::{fs, io};
+
+/// The socket of a domain.
+#[derive(Drop)]
+pub struct Listening {
+    pub domain: DomainNo,
+    pub listener: UnixListener,
+    // A second handle of the listener. Once that is shut down, each accept fails at once.
+    stopper: UnixStream,
+}
+
+/// The sockets of a daemon.
+#[derive(Drop)]
+pub struct Sockets {
+    pub udp: UdpSocket,
+    pub listening: Vec<Listening>,
+}
+
+/// Why the sockets of a daemon cannot be used.
+#[derive(Clone, Copy, Debug, PartialEq, Eq)]
+pub enum SocketFault<'a> {
+    /// This address cannot be resolved or bound, or this path cannot be bound.
+    Name(&'a str),
+    NoMemory,
+}
+
+impl Sockets {
+    /// Wakes the threads that wait for a socket, and removes the files of the sockets.
+    pub fn stop<R: Files>(&self, rt: &R, paths: &[DomainSocket]) {
+        for listening in self.listening.as_slice() {
+            let _ = listening.stopper.shutdown(Shutdown::Both);
+        }
+        if let Ok(udp) = self.udp.try_clone() {
+            // It has no peer, so that this fails, and wakes the receiver all the same.
+            let _ = UnixStream::from(OwnedFd::from(udp)).shutdown(Shutdown::Both);
+        }
+        remove_files(rt, paths);
+    }
+}
+
+/// Removes the files of sockets.
+pub fn remove_files<R: Files>(rt: &R, paths: &[DomainSocket]) {
+    for socket in paths {
+        let _ = fs::remove_file(rt, socket.path.as_str());
+    }
+}
+
+// The first address that a name stands for.
+fn resolve<'a, R: Net>(rt: &R, name: &'a str) -> Result<SocketAddr, SocketFault<'a>> {
+    match name.to_socket_addrs(rt) {
+        Ok(found) => {
+            let mut found = found;
+            match found.next() {
+                Some(address) => Ok(address),
+                None => Err(SocketFault::Name(name)),
+            }
+        }
+        Err(error) if error.kind() == io::ErrorKind::OutOfMemory => Err(SocketFault::NoMemory),
+        Err(_) => Err(SocketFault::Name(name)),
+    }
+}
+
+/// The sites with their addresses, or the first address that cannot be resolved.
+pub fn resolve_all<'a, R: Net>(
+    rt: &R,
+    alloc: Global,
+    addresses: &'a [SiteAddress],
+) -> Result<Vec<Peer>, SocketFault<'a>> {
+    let mut peers = Vec::new(alloc);
+    for listed in addresses {
+        let peer = Peer {
+            site: listed.site,
+            address: resolve(rt, listed.address.as_str())?,
+        };
+        if peers.push(peer).is_err() {
+            return Err(SocketFault::NoMemory);
+        }
+    }
+    Ok(peers)
+}
+
+// The address of a site, as the configuration has it.
+fn address_of(addresses: &[SiteAddress], site: SiteNo) -> &str {
+    match addresses.iter().find(|listed| listed.site == site) {
+        Some(listed) => listed.address.as_str(),
+        None => "",
+    }
+}
+
+// Makes the socket of a domain.
+fn listen<R: Net + Files>(rt: &R, socket: &DomainSocket) -> io::Result<Listening> {
+    let listener = UnixListener::bind(rt, socket.path.as_str())?;
+    let stopper = UnixStream::from(OwnedFd::from(listener.try_clone()?));
+    Ok(Listening {
+        domain: socket.domain,
+        listener,
+        stopper,
+    })
+}
+
+// Whether nothing is at a path.
+fn is_vacant<R: Files>(rt: &R, path: &str) -> bool {
+    match fs::symlink_metadata(rt, path) {
+        Ok(_) => false,
+        Err(error) => error.kind() == io::ErrorKind::NotFound,
+    }
+}
+
+// Binds the socket of a domain. False where it cannot be bound: then a file that was made for it is removed, and one that was
+// there stays.
+fn bind_one<R: Net + Files>(rt: &R, socket: &DomainSocket, listening: &mut Vec<Listening>) -> bool {
+    let path = socket.path.as_str();
+    if !is_vacant(rt, path) {
+        return false;
+    }
+    let is_bound = match listen(rt, socket) {
+        Ok(one) => listening.push(one).is_ok(),
+        // Another program was faster, and the file is its own.
+        Err(error) if error.kind() == io::ErrorKind::AddrInUse => return false,
+        Err(_) => false,
+    };
+    if !is_bound {
+        let _ = fs::remove_file(rt, path);
+    }
+    is_bound
+}
+
+// Binds the sockets of the domains. At the first that cannot be bound, those before it are given up, and its path is answered.
+fn bind_all<'a, R: Net + Files>(
+    rt: &R,
+    alloc: Global,
+    paths: &'a [DomainSocket],
+) -> Result<Vec<Listening>, SocketFault<'a>> {
+    let mut listening = Vec::new(alloc);
+    for (index, socket) in paths.iter().enumerate() {
+        if !bind_one(rt, socket, &mut listening) {
+            remove_files(rt, &paths[..index]);
+            return Err(SocketFault::Name(socket.path.as_str()));
+        }
+    }
+    Ok(listening)
+}
+
+/// Binds the sockets of a daemon, or answers the name of the first that cannot be bound.
+pub fn bind<'a, R: Net + Files>(
+    rt: &R,
+    alloc: Global,
+    setup: &'a Setup,
+    peers: &[Peer],
+) -> Result<Sockets, SocketFault<'a>> {
+    let own = setup.config.site;
+    let name = address_of(setup.addresses.as_slice(), own);
+    let Some(peer) = peers.iter().find(|peer| peer.site == own) else {
+        return Err(SocketFault::Name(name));
+    };
+    let Ok(udp) = UdpSocket::bind(rt, peer.address) else {
+        return Err(SocketFault::Name(name));
+    };
+    let listening = bind_all(rt, alloc, setup.sockets.as_slice())?;
+    Ok(Sockets { udp, listening })
+}
