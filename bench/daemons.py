@@ -1,0 +1,131 @@
+"""Daemons, and programs that load them: what bench/serve and tools/soak share."""
+import os
+import select
+import shutil
+import subprocess
+import time
+
+HERE = os.path.dirname(os.path.realpath(__file__))
+PATH = f"{os.environ.get('PATH', os.defpath)}:/usr/sbin:/sbin"
+# Seconds within which a daemon serves, and a program is a member or has said what it measured.
+PATIENCE = 60
+
+
+class Failed(Exception):
+    """What could not be done, and why."""
+
+
+def need(*names):
+    """Fails where the machine lacks one of these commands."""
+    missing = [it for it in names if shutil.which(it, path=PATH) is None]
+    if missing:
+        raise Failed(f"not on this machine: {', '.join(missing)}")
+
+
+def compiled(folder, name, *words):
+    """The file that a C program or library is compiled into."""
+    made = f"{folder}/{name}"
+    flags = ["-std=c11", "-O2", "-Wall", "-Wextra", "-D_POSIX_C_SOURCE=200809L"]
+    ran = subprocess.run(["cc", *flags, "-o", made, *words], cwd=HERE, stderr=subprocess.PIPE, text=True, check=False)
+    if ran.returncode:
+        errors = [it for it in ran.stderr.splitlines() if "error" in it or "cannot find" in it]
+        raise Failed(f"{name} cannot be compiled: {errors[0] if errors else ran.stderr.strip()}")
+    return made
+
+
+class Process:
+    """A process that is written lines, and of which lines are read. It is killed where this one ends."""
+
+    def __init__(self, words, folder, **how):
+        self.complaints = open(f"{folder}/complaints-{time.monotonic_ns()}", "w+", encoding="utf-8", errors="replace")
+        pipes = {"stdin": subprocess.PIPE, "stdout": subprocess.PIPE, "stderr": self.complaints, "bufsize": 0}
+        self.name, self.bytes = os.path.basename(words[0]), b""
+        self.process = subprocess.Popen(["setpriv", "--pdeathsig", "KILL", *how.pop("inside", []), *words], **pipes, **how)
+
+    def say(self, text):
+        try:
+            self.process.stdin.write(text.encode())
+        except BrokenPipeError:
+            self.fail("has ended")
+
+    def line(self, seconds):
+        """The next line that it writes, without its end. Fails where none comes in time."""
+        end = time.monotonic() + seconds
+        while b"\n" not in self.bytes:
+            if not select.select([self.process.stdout], [], [], max(0, end - time.monotonic()))[0]:
+                self.fail(f"wrote nothing for {seconds:.0f} s")
+            more = os.read(self.process.stdout.fileno(), 65536)
+            if not more:
+                self.process.wait()
+                self.fail(f"ended with {self.process.returncode}")
+            self.bytes += more
+        line, _, self.bytes = self.bytes.partition(b"\n")
+        return line.decode()
+
+    def fail(self, what):
+        self.complaints.seek(0)
+        raise Failed(f"{self.name} {what}. {self.complaints.read().strip()}".strip())
+
+    def memory(self):
+        """Resident, in KiB."""
+        with open(f"/proc/{self.process.pid}/status", encoding="utf-8") as file:
+            return next(int(it.split()[1]) for it in file if it.startswith("VmRSS:"))
+
+    def seconds(self):
+        """Of processor time so far."""
+        with open(f"/proc/{self.process.pid}/stat", encoding="utf-8") as file:
+            words = file.read().rsplit(")", 1)[1].split()
+        return (int(words[11]) + int(words[12])) / os.sysconf("SC_CLK_TCK")
+
+    def kill(self):
+        self.process.kill()
+        self.process.wait()
+        for it in (self.process.stdin, self.process.stdout, self.complaints):
+            it.close()
+
+
+class Castd(Process):
+    """A daemon of one domain with one group. `addresses` says by which each site is reached from here."""
+
+    CONFIG = "[[domain]]\nnumber = 1\nhome = 1\nsites = {sites}\ngroups = [1]\nsocket = {socket}\nsessions = 64\nheld = 1024\noutbox = 4096\n"
+
+    def __init__(self, program, folder, site, addresses, **how):
+        self.path, config = f"{folder}/{site}.sock", f"{folder}/{site}.conf"
+        with open(config, "w", encoding="utf-8") as file:
+            for number, address in addresses.items():
+                file.write(f'[[site]]\nnumber = {number}\naddress = "{address}"\n')
+            file.write(self.CONFIG.format(sites=list(addresses), socket=f'"{self.path}"'))
+        super().__init__([program, "serve", config, "--site", str(site)], folder, **how)
+        try:
+            if self.line(PATIENCE) != "ready":
+                self.fail("does not serve")
+        except Failed:
+            self.kill()
+            raise
+
+    def stop(self):
+        """How many seconds go by from `stop` to its end."""
+        begun = time.monotonic()
+        self.say("stop\n")
+        try:
+            self.process.wait(PATIENCE)
+        except subprocess.TimeoutExpired:
+            self.fail(f"did not stop within {PATIENCE} s")
+        return time.monotonic() - begun
+
+
+class Member(Process):
+    """A program of bench/load.c."""
+
+    def __init__(self, program, folder, path, order, members, senders, place, size, in_flight, seconds, *more, **how):
+        numbers = [str(it) for it in (members, senders, place, size, in_flight, seconds)]
+        super().__init__([program, path, order, *numbers, *more], folder, **how)
+
+    def wait_for_view(self):
+        if self.line(PATIENCE) != "ready":
+            self.fail("did not join")
+
+    def result(self, seconds):
+        """What it measured, by name."""
+        line = self.line(seconds)
+        return {name: float(value) for name, value in (word.split("=") for word in line.split())}
