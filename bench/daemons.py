@@ -22,6 +22,13 @@ def need(*names):
         raise Failed(f"not on this machine: {', '.join(missing)}")
 
 
+def runnable(path):
+    """The whole path of a program. Fails where it is none."""
+    if not os.access(path, os.X_OK) or os.path.isdir(path):
+        raise Failed(f"{path} is no program")
+    return os.path.realpath(path)
+
+
 def compiled(folder, name, *words):
     """The file that a C program or library is compiled into."""
     made = f"{folder}/{name}"
