@@ -79,10 +79,21 @@ class Process:
             return next(int(it.split()[1]) for it in file if it.startswith("VmRSS:"))
 
     def seconds(self):
-        """Of processor time so far."""
-        with open(f"/proc/{self.process.pid}/stat", encoding="utf-8") as file:
-            words = file.read().rsplit(")", 1)[1].split()
-        return (int(words[11]) + int(words[12])) / os.sysconf("SC_CLK_TCK")
+        """Of processor time that its threads took so far."""
+        found = 0
+        for thread in os.listdir(f"/proc/{self.process.pid}/task"):
+            with open(f"/proc/{self.process.pid}/task/{thread}/schedstat", encoding="utf-8") as file:
+                found += int(file.read().split()[0])
+        return found / 1e9
+
+    def time_to_end(self):
+        """How many seconds it takes to end, which it was told to."""
+        begun = time.monotonic()
+        try:
+            self.process.wait(PATIENCE)
+        except subprocess.TimeoutExpired:
+            self.fail(f"did not end within {PATIENCE} s")
+        return time.monotonic() - begun
 
     def kill(self):
         self.process.kill()
@@ -111,14 +122,9 @@ class Castd(Process):
             raise
 
     def stop(self):
-        """How many seconds go by from `stop` to its end."""
-        begun = time.monotonic()
+        """Seconds from `stop` to its end."""
         self.say("stop\n")
-        try:
-            self.process.wait(PATIENCE)
-        except subprocess.TimeoutExpired:
-            self.fail(f"did not stop within {PATIENCE} s")
-        return time.monotonic() - begun
+        return self.time_to_end()
 
 
 class Member(Process):

@@ -10,9 +10,11 @@ enum group_result { GROUP_DONE, GROUP_LATER, GROUP_FAILED };
 void on_delivery(const void *message, size_t length);
 void on_view(size_t members);
 
-/* Connects to the daemon, by the path of a socket where it has one, and joins the group. Casts are then ordered totally, or causally where
- * the system can do with less. */
-enum group_result group_join(const char *path, int is_total);
+/* Connects to the daemon, by the path of a socket where it has one. */
+enum group_result group_connect(const char *path);
+
+/* Joins the group. Casts are then ordered totally, or causally where the system can do with less. */
+enum group_result group_join(int is_total);
 
 /* Casts a message of at most 16 KiB. GROUP_LATER where the system has no room for it now. */
 enum group_result group_cast(const void *message, size_t length);

@@ -110,9 +110,11 @@ static enum group_result take_in(void) {
     return GROUP_DONE;
 }
 
-enum group_result group_join(const char *path, int is_total) {
+enum group_result group_connect(const char *path) { return castd_open(&session, path) ? GROUP_FAILED : GROUP_DONE; }
+
+enum group_result group_join(int is_total) {
     kind = is_total ? CASTD_ATOMIC : CASTD_CAUSAL;
-    return castd_open(&session, path) || castd_join(&session, GROUP) ? GROUP_FAILED : GROUP_DONE;
+    return castd_join(&session, GROUP) ? GROUP_FAILED : GROUP_DONE;
 }
 
 /* An ABCAST waits until the own one before it is delivered: the daemon would refuse it. */

@@ -33,15 +33,20 @@ static void wait_a_turn(void) {
     nanosleep(&turn, NULL);
 }
 
-enum group_result group_join(const char *path, int is_total) {
+enum group_result group_connect(const char *path) {
     cpg_callbacks_t calls = {.cpg_deliver_fn = delivered, .cpg_confchg_fn = changed};
+    cs_error_t error = CS_ERR_TRY_AGAIN;
+    (void)path;
+    for (int turn = 0; turn < MOST_TURNS && (error = cpg_initialize(&handle, &calls)) != CS_OK; turn++) wait_a_turn();
+    return error == CS_OK && cpg_fd_get(handle, &fd) == CS_OK ? GROUP_DONE : GROUP_FAILED;
+}
+
+enum group_result group_join(int is_total) {
     struct cpg_name group = {.length = 4, .value = "load"};
     cs_error_t error = CS_ERR_TRY_AGAIN;
-    (void)path, (void)is_total;
-    for (int turn = 0; turn < MOST_TURNS && (error = cpg_initialize(&handle, &calls)) != CS_OK; turn++) wait_a_turn();
-    if (error != CS_OK) return GROUP_FAILED;
+    (void)is_total;
     for (int turn = 0; turn < MOST_TURNS && (error = cpg_join(handle, &group)) == CS_ERR_TRY_AGAIN; turn++) wait_a_turn();
-    return error == CS_OK && cpg_fd_get(handle, &fd) == CS_OK ? GROUP_DONE : GROUP_FAILED;
+    return error == CS_OK ? GROUP_DONE : GROUP_FAILED;
 }
 
 enum group_result group_cast(const void *message, size_t length) {

@@ -2,16 +2,16 @@
  *
  *   load PATH ORDER MEMBERS SENDERS PLACE SIZE IN_FLIGHT SECONDS [each]
  *
- * joins, by the socket PATH, and once the view has so many MEMBERS says `ready` and waits for a line of standard input. Then the members of the
- * places 1 to SENDERS cast messages of SIZE bytes, ordered as ORDER says, `causal` or `total`: as many as keep so many IN_FLIGHT, which are
- * those that were not yet delivered to their sender, for so many SECONDS. With `each` a member says once a second how many messages came in it
- * (`came N`). Once all has come that was cast it writes one line,
+ * connects by the socket PATH and joins, unless MEMBERS is 0. Once the view has so many MEMBERS it says `ready` and waits for a line of standard
+ * input. Then the members of the places 1 to SENDERS cast messages of SIZE bytes, ordered as ORDER says, `causal` or `total`: as many as keep so
+ * many IN_FLIGHT, which are those that were not yet delivered to their sender, for so many SECONDS. With `each` a member says once a second how
+ * many messages came in it (`came N`). Once all has come that was cast it writes one line,
  *
  *   delivered=N rate=N p50=T p99=T
  *
  * with the messages a second, until the last or for SECONDS if that is longer, and the times in microseconds from the cast to the delivery here,
- * the median and that within which 99 of 100 are. All members run on one machine, so one clock serves all. Then it stays until standard input ends.
- * It ends with 1 where the daemon is gone, or something is still wanting 20 seconds after the last cast. */
+ * the median and that within which 99 of 100 are. All members run on one machine, so one clock serves all. Then it stays until standard input
+ * ends. It ends with 1 where the daemon is gone, or something is still wanting 20 seconds after the last cast. */
 #include "group.h"
 
 #include <poll.h>
@@ -97,14 +97,15 @@ static int is_told(void) {
 }
 
 static void join(const char *path, int is_total) {
-    if (group_join(path, is_total) == GROUP_FAILED) fail("the group cannot be joined");
+    if (group_connect(path) == GROUP_FAILED) fail("there is no daemon");
+    if (members > 0 && group_join(is_total) == GROUP_FAILED) fail("the group cannot be joined");
     double end = now() + PATIENCE * 1e6;
     while (viewed < members) {
         dispatch(100);
         if (now() > end) fail("the members did not come");
     }
     puts("ready");
-    while (!is_told()) dispatch(1);
+    while (!is_told()) dispatch(members > 0 ? 1 : 1000);
     if (getchar() == EOF) exit(0);
 }
 
