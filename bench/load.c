@@ -153,7 +153,8 @@ static void report(void) {
     size_t count = delivered < MOST_TIMES ? delivered : MOST_TIMES;
     qsort(times, count, sizeof *times, by_size);
     double taken = last - begun > seconds * 1e6 ? last - begun : seconds * 1e6;
-    printf("delivered=%zu rate=%.0f p50=%.1f p99=%.1f\n", delivered, delivered * 1e6 / taken, count ? times[count / 2] : 0.0, count ? times[count * 99 / 100] : 0.0);
+    double median = count > 0 ? times[count / 2] : 0, most = count > 0 ? times[count * 99 / 100] : 0;
+    printf("delivered=%zu rate=%.0f p50=%.1f p99=%.1f\n", delivered, delivered * 1e6 / taken, median, most);
 }
 
 int main(int count, char **words) {
