@@ -16,7 +16,7 @@ use toml::Table;
 #[derive(Drop)]
 pub struct SiteAddress {
     pub site: SiteNo,
-    /// `host:port`, as it stands there: it is resolved when it is bound or sent to.
+    /// `host:port`, as it stands there: it is resolved when the daemon starts.
     pub address: Text,
 }
 

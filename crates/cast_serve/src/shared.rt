@@ -92,11 +92,13 @@ impl<L: Ledger> Shared<'_, L> {
     }
 
     /// Trims the trace if a domain was halted, since the trace holds what the domain kept. If there is no memory for that yet, it
-    /// is still to be done.
-    pub fn trim_after_halt<R: Wait>(&self, rt: &R) {
-        if self.halts.swap(0, Ordering::SeqCst) != 0 && self.kept.lock(rt).trim().is_err() {
+    /// is still to be done. Answers whether a domain was halted.
+    pub fn trim_after_halt<R: Wait>(&self, rt: &R) -> bool {
+        let is_halted = self.halts.swap(0, Ordering::SeqCst) != 0;
+        if is_halted && self.kept.lock(rt).trim().is_err() {
             self.note_halt();
         }
+        is_halted
     }
 
     /// Whether the daemon stops.

@@ -33,8 +33,9 @@ use std::{io, thread};
 // After how many milliseconds the domains are told the time again.
 const TICK: u64 = 20;
 
-// After how many ticks more all outboxes are taken: once a second. At each tick those are whose Take found no memory.
-const TICKS_TO_ALL: u32 = 49;
+// After how many ticks more all outboxes are taken: every ten seconds. They are also after a domain was halted, whose programs learn so
+// by that. At each tick those are whose Take found no memory.
+const TICKS_TO_ALL: u32 = 499;
 
 // How many milliseconds a thread waits after a call of the system failed, so that it does not turn in place.
 const PAUSE: u64 = 10;
@@ -111,8 +112,8 @@ fn run_ticker<L: Ledger, R: Wait + Clock>(rt: &R, server: Server<'_, L>) -> io::
         let millis = u64::try_from(start.elapsed(rt)?.as_millis()).unwrap_or(u64::MAX);
         shared.desk.lock(rt).tick(rt, millis);
         shared.desk.lock(rt).hand_in_ends(rt);
-        shared.trim_after_halt(rt);
-        take_outboxes(rt, &mut server, until_all == 0);
+        let is_halted = shared.trim_after_halt(rt);
+        take_outboxes(rt, &mut server, is_halted || until_all == 0);
         until_all = if until_all == 0 {
             TICKS_TO_ALL
         } else {

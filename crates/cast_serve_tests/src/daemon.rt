@@ -32,7 +32,7 @@ fn setup_with(alloc: Global, address: &str, domains: &[(u8, &str)]) -> io::Resul
     for (domain, path) in domains {
         write!(
             text,
-            "[[domain]]\nnumber = {domain}\nhome = 1\nsites = [1]\ngroups = [1, 2]\nsocket = \"{path}\"\n"
+            "[[domain]]\nnumber = {domain}\nhome = 1\nsites = [1]\ngroups = [1]\nsocket = \"{path}\"\n"
         )?;
     }
     match read(alloc, text.as_str(), SiteNo(1)) {

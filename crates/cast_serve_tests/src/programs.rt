@@ -13,9 +13,6 @@ use std::{io, thread};
 // Join of group 1 under tag 7, and a cast of two bytes under tag 8.
 const JOIN: [u8; 11] = [0, 0, 0, 11, 1, 0, 0, 0, 7, 0, 1];
 
-// Join of group 2.
-const JOIN_OTHER: [u8; 11] = [0, 0, 0, 11, 1, 0, 0, 0, 7, 0, 2];
-
 const CAST: [u8; 14] = [0, 0, 0, 14, 3, 0, 0, 0, 8, 0, 1, 1, 104, 105];
 
 // How many numbered casts a program writes at once.
@@ -50,8 +47,8 @@ pub enum Scene {
     CastsAtOnce,
     /// A second one joins and reads nothing, and the first casts until it is alone.
     ReadsNothing,
-    /// A second one joins another group, and each makes a hundred numbered casts at once: a letter more for each, `y` if its replies
-    /// and its deliveries come in the order of its casts.
+    /// A second one joins, and each makes a hundred numbered casts at once: a letter more for each, `y` if its replies, and the
+    /// deliveries of either's casts to it, come in the order of the casts.
     CastsInOrder,
     /// One joins and casts three times, and then closes its end for writing: up to the end of what it is pushed.
     HalfClosed,
@@ -140,43 +137,70 @@ impl Program {
         self.hear(3, all)
     }
 
-    // Writes numbered casts to a group at once. Each has its number as its tag and as its payload.
-    fn cast_numbered(&self, group: u8) -> io::Result<()> {
+    // Writes numbered casts at once. Each has its number as its tag, and that of the program and its own as its payload.
+    fn cast_numbered(&self, program: u8) -> io::Result<()> {
         let mut bytes = Vec::new(self.alloc);
         for number in 0..NUMBERED {
-            bytes.extend_from_slice(&[0, 0, 0, 13, 3, 0, 0, 0, number, 0, group, 1, number])?;
+            bytes.extend_from_slice(&[0, 0, 0, 14, 3, 0, 0, 0, number, 0, 1, 1, program, number])?;
         }
         self.say(&bytes)
     }
 
-    // Whether the replies and the deliveries of numbered casts come in their order.
+    // Whether its replies, the deliveries of program 1 and those of program 2 each come in the order of the casts.
     fn hears_in_order(&mut self) -> bool {
-        let mut replies: u8 = 0;
-        let mut deliveries: u8 = 0;
-        for _ in 0..2 * u32::from(NUMBERED) {
-            match read_push(self.alloc, &mut self.reader) {
-                Ok(Some(Push::Reply { tag, refusal: None })) if tag == u32::from(replies) => {
-                    replies = replies.saturating_add(1);
-                }
-                Ok(Some(Push::Deliver { payload, .. }))
-                    if payload.as_slice() == [deliveries].as_slice() => {
-                    deliveries = deliveries.saturating_add(1);
-                }
-                _ => return false,
+        let mut heard = [0u8; 3];
+        for _ in 0..3 * u32::from(NUMBERED) {
+            let Ok(Some(push)) = read_push(self.alloc, &mut self.reader) else {
+                return false;
+            };
+            if !counts_on(&mut heard, &push) {
+                return false;
             }
         }
-        replies == NUMBERED && deliveries == NUMBERED
+        heard.as_slice() == [NUMBERED; 3].as_slice()
     }
 }
 
-// Two programs of two groups make numbered casts at once.
+// Which program cast what a push is about, and the number of its cast. Replies count as those of program 0.
+fn number_of(push: &Push) -> Option<(u8, u8)> {
+    match push {
+        Push::Reply { tag, refusal: None } => {
+            let number = u8::try_from(*tag).ok()?;
+            Some((0, number))
+        }
+        Push::Deliver { payload, .. } => match payload.as_slice() {
+            [program, number] => Some((*program, *number)),
+            _ => None,
+        },
+        _ => None,
+    }
+}
+
+// Counts a push. False where it is not the next one of its program.
+fn counts_on(heard: &mut [u8; 3], push: &Push) -> bool {
+    let Some((program, number)) = number_of(push) else {
+        return false;
+    };
+    match heard.get_mut(usize::from(program)) {
+        Some(next) if *next == number => {
+            *next = number.saturating_add(1);
+            true
+        }
+        _ => false,
+    }
+}
+
+// The letter of an answer.
+fn yes_or_no(answer: bool) -> u8 {
+    if answer { b'y' } else { b'n' }
+}
+
+// Two programs of one group make numbered casts at once.
 fn cast_in_order(first: &mut Program, second: &mut Program, all: &mut Vec<u8>) -> io::Result<()> {
     first.cast_numbered(1)?;
     second.cast_numbered(2)?;
-    for program in [first, second] {
-        let letter = if program.hears_in_order() { b'y' } else { b'n' };
-        all.push(letter)?;
-    }
+    all.push(yes_or_no(first.hears_in_order()))?;
+    all.push(yes_or_no(second.hears_in_order()))?;
     Ok(())
 }
 
@@ -317,8 +341,8 @@ pub fn play<R: Net + Clock>(
             cast_until_view(alloc, &mut first, &mut all)?;
         }
         Scene::CastsInOrder => {
-            second.say(&JOIN_OTHER)?;
-            second.hear(3, &mut all)?;
+            second.join(&mut all)?;
+            first.hear(1, &mut all)?;
             cast_in_order(&mut first, &mut second, &mut all)?;
         }
         Scene::Casts | Scene::HalfClosed | Scene::Garbage(_) => {}

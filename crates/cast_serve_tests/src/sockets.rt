@@ -20,7 +20,7 @@ const SCENES: [(Scene, &str); 7] = [
     (Scene::NoFrame([0, 0, 0x4e, 0x21]), "ORVO1.RD"),
     (Scene::CastsAtOnce, "ORVORVVddd"),
     (Scene::ReadsNothing, "ORVORVVV"),
-    (Scene::CastsInOrder, "ORVORVyy"),
+    (Scene::CastsInOrder, "ORVORVVyy"),
     (Scene::HalfClosed, "ORVRDRDRD."),
 ];
 
