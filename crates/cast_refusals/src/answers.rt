@@ -51,11 +51,6 @@ impl Answers {
         self.verdict = self.verdict.then(verdict);
     }
 
-    /// There was no memory outside the call that is judged.
-    pub fn miss(&mut self) {
-        self.verdict = self.verdict.then(Verdict::Elsewhere);
-    }
-
     /// What is said of the answers to these events, where the table is now so.
     pub fn judge(
         &self,
