@@ -8,7 +8,7 @@ use Rattle.cast_pool.specs.declared.task.Asked.{Asked}
 use Rattle.cast_pool.specs.declared.task.Asked.TheVariants as asked
 use Rattle.cast_pool.specs.declared.task.Raw.{Raw}
 use Rattle.cast_link.specs.declared.wire.LinkFault.{LinkFault}
-use Rattle.cast_link.specs.Wires.{TakesFirst}
+use Rattle.cast_link.specs.Wires.{TakesFirst, ReceivesNone}
 
 -- a frame of a domain from a site, for another: the other site, and the bytes
 abbrev pub datagram_of : SiteNo → DomainNo × SiteNo × SiteFrame → SiteNo × List ℕ
@@ -23,8 +23,8 @@ AsksFor (asked.Datagram bytes) expected = bytes ≡ expected
 AsksFor (asked.Event event) expected = ⊥
 AsksFor (asked.Show d) expected = ⊥
 
--- the datagram that was first is handed on under this number
+-- the datagram that was first is handed on under this number, or none is received
 abbrev pub HandsOn : Option (List (List ℕ)) → Option (List (List ℕ)) → ℕ → Result Raw LinkFault → Type 0
 HandsOn old new number (Ok raw) =
     (raw.number ≡ number) × ((bytes : List ℕ) × AsksFor raw.asked bytes × TakesFirst old new bytes)
-HandsOn old new number (Err fault) = ⊤
+HandsOn old new number (Err fault) = ReceivesNone old new fault

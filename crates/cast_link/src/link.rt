@@ -1,5 +1,5 @@
 ghost use Rattle.std.specs.Prelude.{◌≡◌, ◌+◌, ◌<◌, ◌^◌, IfOk, OnOk, OnErr, Err, length, map};
-ghost use Rattle.cast_link.specs.Wires.{AddsAll};
+ghost use Rattle.cast_link.specs.Wires.{AddsAll, Stays};
 ghost use Rattle.cast_link.specs.Links.{HandsOn, datagram_of, datagrams_of};
 
 use crate::wire::{LinkFault, Wire};
@@ -51,6 +51,7 @@ fn datagrams_of(
 fn send_each<W: Wire>(wire: &mut W, datagrams: &[(SiteNo, Bytes)]) -> Sent
     requires { W.failed wire.old + length datagrams.now < 2 ^ 64 }
     ensures given { AddsAll (W.given wire.old) (W.given wire.new) datagrams.now }
+    ensures waiting { Stays (W.waiting wire.old) (W.waiting wire.new) }
     ensures counted { result.sent + result.lost ≡ length datagrams.now }
     ensures lost { W.failed wire.new ≡ W.failed wire.old + result.lost }
 {
@@ -75,6 +76,8 @@ pub fn send_all<W: Wire>(
 ) -> Result<Sent, NoMemory>
     requires { W.failed wire.old + length outs.now.frames < 2 ^ 64 }
     ensures given { OnOk result (AddsAll (W.given wire.old) (W.given wire.new) (datagrams_of own outs.now.frames)) }
+    // It receives nothing.
+    ensures waiting { Stays (W.waiting wire.old) (W.waiting wire.new) }
     ensures counted { IfOk result (λ s. s.sent + s.lost ≡ length outs.now.frames) }
     // Each that is lost is a call that failed.
     ensures lost { IfOk result (λ s. W.failed wire.new ≡ W.failed wire.old + s.lost) }
@@ -84,10 +87,12 @@ pub fn send_all<W: Wire>(
     Ok(send_each(wire, &datagrams))
 }
 
-/// Hands on the datagram that is first, under this number. `Device` comes only where the wire failed.
+/// Hands on the datagram that is first, under this number. `Device` comes only where the wire failed, and leaves what waits as it
+/// is. Nothing is sent.
 pub fn receive_one<W: Wire>(wire: &mut W, number: u64) -> Result<Raw, LinkFault>
     requires { W.failed wire.old + 1 < 2 ^ 64 }
     ensures handed { HandsOn (W.waiting wire.old) (W.waiting wire.new) number result }
+    ensures given { Stays (W.given wire.old) (W.given wire.new) }
     ensures device { result ≡ Err LinkFault.Device → W.failed wire.new ≡ W.failed wire.old + 1 }
     ensures ok { OnOk result (W.failed wire.new ≡ W.failed wire.old) }
     ensures memory { result ≡ Err LinkFault.NoMemory → W.failed wire.new ≡ W.failed wire.old }

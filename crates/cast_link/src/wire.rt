@@ -1,7 +1,7 @@
 ghost use Rattle.std.specs.Prelude.{◌≡◌, ◌+◌, ◌<◌, ◌^◌, if◌then◌else◌, List, ℕ, None, OnOk, Err};
 ghost use Rattle.std.specs.declared.option.Option.{Option};
 ghost use Rattle.cast_types.specs.declared.names.SiteNo.{SiteNo};
-ghost use Rattle.cast_link.specs.Wires.{Adds, Receives};
+ghost use Rattle.cast_link.specs.Wires.{Adds, Receives, Stays};
 ghost use Rattle.cast_link.specs.declared.wire.LinkFault.TheVariants as faults;
 
 use bytes::Bytes;
@@ -43,12 +43,14 @@ pub trait Wire {
     fn send(&mut self, to: SiteNo, bytes: &[u8]) -> bool
         requires { failed self.old + 1 < 2 ^ 64 }
         ensures given { Adds (given self.old) (given self.new) (to, bytes.now) }
+        ensures waiting { Stays (waiting self.old) (waiting self.new) }
         ensures failed { failed self.new ≡ (if result then failed self.old else failed self.old + 1) };
 
     /// The datagram that is first. Waits for one, where the device does.
     fn receive(&mut self) -> Result<Bytes, LinkFault>
         requires { failed self.old + 1 < 2 ^ 64 }
         ensures received { Receives (waiting self.old) (waiting self.new) result }
+        ensures given { Stays (given self.old) (given self.new) }
         ensures device { result ≡ Err LinkFault.Device → failed self.new ≡ failed self.old + 1 }
         ensures ok { OnOk result (failed self.new ≡ failed self.old) }
         ensures memory { result ≡ Err LinkFault.NoMemory → failed self.new ≡ failed self.old };

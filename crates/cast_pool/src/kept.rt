@@ -90,6 +90,15 @@ pub fn decode(alloc: Global, raw: Raw) -> Result<Job, Done>
     }
 }
 
+impl Job {
+    /// What is to be done.
+    pub fn task(&self) -> &Task
+        ensures { result.now ≡ self.now.task }
+    {
+        &self.task
+    }
+}
+
 impl Done {
     /// The number that was asked.
     pub fn number(&self) -> u64

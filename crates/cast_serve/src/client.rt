@@ -29,7 +29,7 @@ pub struct Unwritten {
 
 /// What a program's writer has to do. It has the pen meanwhile.
 #[derive(Drop)]
-pub enum Task {
+pub enum WriterTask {
     /// Take what the outbox has, and write it.
     Take,
     /// Write these bytes first.
@@ -50,7 +50,7 @@ struct Pen {
     // How often the outbox was taken, or the pen became free. It may wrap.
     turns: u64,
     // What the writer has to do next.
-    task: Option<Task>,
+    task: Option<WriterTask>,
 }
 
 /// A program that is served.
@@ -141,7 +141,7 @@ impl Client {
     }
 
     /// Passes the pen to the writer, with a task.
-    pub fn pass<R: Wait>(&self, rt: &R, task: Task) {
+    pub fn pass<R: Wait>(&self, rt: &R, task: WriterTask) {
         let mut pen = self.pen.lock(rt);
         pen.task = Some(task);
         self.turn(&mut pen);
@@ -161,7 +161,7 @@ impl Client {
         }
         pen.is_taken = true;
         pen.is_wanted = false;
-        pen.task = Some(Task::Take);
+        pen.task = Some(WriterTask::Take);
         drop(pen);
         self.has_task.notify_one();
     }
@@ -189,7 +189,7 @@ impl Client {
     }
 
     /// What the writer has to do next. Waits for it. `None` if nothing more is written.
-    pub fn next_task<R: Wait>(&self, rt: &R) -> Option<Task> {
+    pub fn next_task<R: Wait>(&self, rt: &R) -> Option<WriterTask> {
         let mut pen = self.pen.lock(rt);
         for _ in rt.forever() {
             if pen.is_over {

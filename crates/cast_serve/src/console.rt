@@ -1,6 +1,7 @@
 //! The operator's lines.
 ghost use Rattle.std.specs.Prelude.{◌≡◌, ◌<◌};
 
+use crate::shared::Turnstile;
 use cast_console::{Answer, Line, LineFault, answer, parse};
 use cast_pool::{Done, Kept, Worked};
 use crossbeam_channel::Sender;
@@ -24,6 +25,7 @@ fn answer_line<L: Ledger, R: Wait, W: Write>(
     rt: &R,
     alloc: Global,
     kept: &Mutex<Kept<L>>,
+    turnstile: &Turnstile,
     mine: &mut Worked<L>,
     line: &str,
     dones: &Sender<Done>,
@@ -33,11 +35,14 @@ fn answer_line<L: Ledger, R: Wait, W: Write>(
     ensures { mine.new.parts ≡ mine.old.parts }
 {
     let Answer { text, done } = {
+        let _way = turnstile.way.lock(rt);
+        turnstile.close();
         let mut kept = kept.lock(rt);
         let answer = answer(alloc, &mut kept, mine, line);
         if let Some(done) = &answer.done {
             kept.let_go(done);
         }
+        turnstile.open();
         answer
     };
     if let Some(done) = done {
@@ -90,6 +95,7 @@ pub fn run_console<L: Ledger, R: Wait + Clock, B: BufRead + Drop, W: Write>(
     rt: &R,
     alloc: Global,
     kept: &Mutex<Kept<L>>,
+    turnstile: &Turnstile,
     mine: Worked<L>,
     console: B,
     dones: Sender<Done>,
@@ -104,7 +110,7 @@ pub fn run_console<L: Ledger, R: Wait + Clock, B: BufRead + Drop, W: Write>(
         match read_line(alloc, &mut console) {
             Typed::Line(line) => match text_of(line.as_slice()) {
                 Some(line) => {
-                    answer_line(rt, alloc, kept, &mut mine, line, &dones, out);
+                    answer_line(rt, alloc, kept, turnstile, &mut mine, line, &dones, out);
                     if parse(line) == Ok(Line::Stop) {
                         return;
                     }

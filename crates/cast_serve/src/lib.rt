@@ -23,6 +23,7 @@ mod shared;
 mod sockets;
 mod threads;
 mod udp;
+mod unacknowledged;
 
 pub use file::serve_file;
 pub use threads::serve;

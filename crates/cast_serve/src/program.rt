@@ -1,5 +1,5 @@
 //! The threads of a program, from its session's begin to its end.
-use crate::client::{Client, Session, Task};
+use crate::client::{Client, Session, WriterTask};
 use crate::desk::{Opened, Opening};
 use crate::reader::{Reader, run_reader};
 use crate::report::Report;
@@ -28,8 +28,8 @@ fn run_writer<L: Ledger, R: Wait>(rt: &R, client: Arc<Client, Global>, server: S
     for _ in rt.forever() {
         match client.next_task(rt) {
             None => break,
-            Some(Task::Take) => server.write(rt, &client, true),
-            Some(Task::Write(unwritten)) => server.write_rest(rt, &client, unwritten),
+            Some(WriterTask::Take) => server.write(rt, &client, true),
+            Some(WriterTask::Write(unwritten)) => server.write_rest(rt, &client, unwritten),
         }
     }
 }

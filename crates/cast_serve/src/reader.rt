@@ -161,6 +161,7 @@ impl<'a, L: Ledger> Reader<'a, L> {
     // Sends the frames of the last command.
     fn send_frames<R: Wait>(&mut self, rt: &R) {
         if let Some(outs) = self.unsent.take() {
+            self.server.note_messages(rt, &outs);
             self.server.send(rt, &outs);
         }
     }

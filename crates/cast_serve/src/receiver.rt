@@ -60,6 +60,7 @@ fn says_all(new: &Outgoing, old: &Outgoing) -> bool {
 impl<L: Ledger> Receiver<'_, L> {
     // Sends the frames of an event. Its Stables wait.
     fn send<R: Wait>(&mut self, rt: &R, outs: Outs) {
+        self.server.note_messages(rt, &outs);
         if !outs.frames.as_slice().iter().any(is_stable) {
             self.server.send(rt, &outs);
             return;

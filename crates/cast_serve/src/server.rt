@@ -1,7 +1,7 @@
 //! A thread that serves events: under the table's lock for each, and sends the frames outside it.
 ghost use Rattle.std.specs.Prelude.{◌≡◌, ◌<◌};
 
-use crate::client::{Client, Session, Task, Unwritten};
+use crate::client::{Client, Session, Unwritten, WriterTask};
 use crate::output::{Written, has_end, write_now, write_whole};
 use crate::pace::{Pace, Turn};
 use crate::report::Report;
@@ -9,10 +9,10 @@ use crate::shared::{CountShare, Shared};
 use crate::udp::Udp;
 use cast_events::{Event, Fault, Outs, Taken};
 use cast_link::{Wire, send_all};
-use cast_message::Push;
-use cast_pool::{Asked, Done, Job, Kept, Outcome, Raw, decode};
+use cast_message::{Push, SiteFrame};
+use cast_pool::{Asked, Done, Job, Kept, Outcome, Raw, Task, decode};
 use cast_session::spell_out;
-use cast_types::{DomainNo, List, Refusal};
+use cast_types::{DomainNo, List, Refusal, SiteNo, Uid};
 use std::alloc::Global;
 use std::mem;
 use std::sync::Wait;
@@ -99,6 +99,14 @@ fn cast_and_look<L: Ledger, R: Wait>(
     Ok(done)
 }
 
+// What a frame acknowledges, if it does, in which domain and from which site.
+fn acknowledged_by(job: &Job) -> Option<(DomainNo, SiteNo, Uid)> {
+    match job.task() {
+        Task::Serve(Event::Frame(domain, site, SiteFrame::Ack(id))) => Some((*domain, *site, *id)),
+        _ => None,
+    }
+}
+
 impl<'a, L: Ledger> Server<'a, L> {
     /// A thread that has this share of the count.
     pub fn new(shared: &'a Shared<'a, L>, share: CountShare<L>) -> Self {
@@ -123,6 +131,7 @@ impl<'a, L: Ledger> Server<'a, L> {
 
     // Does a job, and lets the readers go on that waited for what it released.
     fn do_job<R: Wait>(&mut self, rt: &R, job: Job) -> Came {
+        self.shared.turnstile.pass(rt);
         let (done, due) = {
             let mut kept = self.shared.kept.lock(rt);
             serve_and_look(&mut kept, &mut self.share, job, self.shared.paces)
@@ -141,6 +150,7 @@ impl<'a, L: Ledger> Server<'a, L> {
         pace: &Pace,
         asks: Option<usize>,
     ) -> Result<Came, (Job, Turn)> {
+        self.shared.turnstile.pass(rt);
         let served = {
             let mut kept = self.shared.kept.lock(rt);
             cast_and_look(rt, &mut kept, &mut self.share, job, pace, asks)
@@ -151,10 +161,17 @@ impl<'a, L: Ledger> Server<'a, L> {
         }
     }
 
-    /// Serves a datagram. `None` if its bytes are no frame.
+    /// Serves a datagram. `None` if its bytes are no frame. After an acknowledgement, what seems to be lost is sent again.
     pub fn serve_datagram<R: Wait>(&mut self, rt: &R, datagram: Asked) -> Option<Outs> {
         let job = self.job(rt, datagram)?;
+        let acknowledged = acknowledged_by(&job);
         let (_, outs) = self.do_job(rt, job);
+        if let Some((domain, site, id)) = acknowledged
+            && let Some(unacknowledged) = self.shared.unacknowledged(domain, site)
+        {
+            let again = unacknowledged.acknowledge(rt, id);
+            self.send_frames(rt, &again);
+        }
         Some(outs)
     }
 
@@ -163,6 +180,17 @@ impl<'a, L: Ledger> Server<'a, L> {
         match self.job(rt, Asked::Event(event)) {
             Some(job) => self.do_job(rt, job),
             None => (Err(Fault::NoMemory), Outs::new(self.shared.alloc)),
+        }
+    }
+
+    /// Remembers the messages that are to be sent, until they are acknowledged.
+    pub fn note_messages<R: Wait>(&self, rt: &R, outs: &Outs) {
+        for (domain, site, frame) in outs.frames.as_slice() {
+            if let SiteFrame::Data(message) = frame
+                && let Some(unacknowledged) = self.shared.unacknowledged(*domain, *site)
+            {
+                unacknowledged.note(rt, message);
+            }
         }
     }
 
@@ -234,7 +262,7 @@ impl<'a, L: Ledger> Server<'a, L> {
                     is_more,
                 };
                 if !may_wait {
-                    client.pass(rt, Task::Write(unwritten));
+                    client.pass(rt, WriterTask::Write(unwritten));
                     return false;
                 }
                 return self.put_rest(rt, client, unwritten);
@@ -322,7 +350,7 @@ impl<'a, L: Ledger> Server<'a, L> {
         let mut rounds: u32 = 0;
         for _ in rt.forever() {
             if rounds >= ROUNDS && !is_writer {
-                client.pass(rt, Task::Take);
+                client.pass(rt, WriterTask::Take);
                 break;
             }
             match self.take(rt, client, is_writer) {

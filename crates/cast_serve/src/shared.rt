@@ -5,8 +5,9 @@ use crate::desk::Desk;
 use crate::pace::Pace;
 use crate::report::Report;
 use crate::udp::Peer;
+use crate::unacknowledged::Unacknowledged;
 use cast_pool::{Done, Job, Kept, Worked};
-use cast_types::SiteNo;
+use cast_types::{DomainNo, SiteNo};
 use std::alloc::Global;
 use std::net::UdpSocket;
 use std::sync::atomic::{AtomicU64, Ordering};
@@ -64,6 +65,43 @@ impl<L: Ledger> SpareCount<L> {
     }
 }
 
+/// Lets the console at the table before the threads that serve. Where many events come, these take the lock again and again before a thread
+/// that was woken for it.
+#[derive(Drop)]
+pub struct Turnstile {
+    // Not 0 if the console waits for the table, or has it.
+    is_closed: AtomicU64,
+    /// The console has this meanwhile.
+    pub way: Mutex<()>,
+}
+
+impl Turnstile {
+    /// The console does not wait.
+    pub fn new() -> Self {
+        Turnstile {
+            is_closed: AtomicU64::new(0),
+            way: Mutex::new(()),
+        }
+    }
+
+    /// Waits while the console waits for the table or has it.
+    pub fn pass<R: Wait>(&self, rt: &R) {
+        if self.is_closed.load(Ordering::SeqCst) != 0 {
+            drop(self.way.lock(rt));
+        }
+    }
+
+    /// The console wants the table. The threads that serve wait from now on.
+    pub fn close(&self) {
+        self.is_closed.store(1, Ordering::SeqCst);
+    }
+
+    /// The console has done with the table.
+    pub fn open(&self) {
+        self.is_closed.store(0, Ordering::SeqCst);
+    }
+}
+
 /// What the threads of a daemon share.
 #[derive(Drop)]
 pub struct Shared<'a, L: Ledger> {
@@ -75,6 +113,9 @@ pub struct Shared<'a, L: Ledger> {
     pub peers: &'a [Peer],
     /// Of each domain that has other sites.
     pub paces: &'a [Pace],
+    /// Of each domain and each of its other sites.
+    pub unacknowledged: &'a [Unacknowledged],
+    pub turnstile: &'a Turnstile,
     /// Not 0 if a domain was halted since the ticker trimmed the trace last.
     pub halts: &'a AtomicU64,
     pub own: SiteNo,
@@ -99,6 +140,13 @@ impl<L: Ledger> Shared<'_, L> {
             self.note_halt();
         }
         is_halted
+    }
+
+    /// What a site was sent of a domain, and has not acknowledged.
+    pub fn unacknowledged(&self, domain: DomainNo, site: SiteNo) -> Option<&Unacknowledged> {
+        self.unacknowledged
+            .iter()
+            .find(|one| one.domain == domain && one.site == site)
     }
 
     /// Whether the daemon stops.

@@ -10,13 +10,14 @@ use crate::program::{run_program, server_of};
 use crate::receiver::run_receiver;
 use crate::report::{Report, run_reporter};
 use crate::server::Server;
-use crate::shared::{CountShare, Shared, SpareCount};
+use crate::shared::{CountShare, Shared, SpareCount, Turnstile};
 use crate::sockets::{Listening, SocketFault, Sockets, bind, remove_files, resolve_all};
 use crate::udp::{Peer, widen};
+use crate::unacknowledged::Unacknowledged;
 use cast_config::{DomainSocket, Setup};
 use cast_events::DomainConfig;
 use cast_pool::{Done, Kept, Open, Raw, Worked, can_keep, work};
-use cast_types::NoMemory;
+use cast_types::{NoMemory, SiteNo};
 use crossbeam_channel::{Receiver, Sender};
 use std::alloc::Global;
 use std::io::{BufRead, Write};
@@ -112,6 +113,10 @@ fn run_ticker<L: Ledger, R: Wait + Clock>(rt: &R, server: Server<'_, L>) -> io::
         let millis = u64::try_from(start.elapsed(rt)?.as_millis()).unwrap_or(u64::MAX);
         shared.desk.lock(rt).tick(rt, millis);
         shared.desk.lock(rt).hand_in_ends(rt);
+        for unacknowledged in shared.unacknowledged {
+            let again = unacknowledged.tick(rt);
+            server.send(rt, &again);
+        }
         let is_halted = shared.trim_after_halt(rt);
         take_outboxes(rt, &mut server, is_halted || until_all == 0);
         until_all = if until_all == 0 {
@@ -252,7 +257,12 @@ where
         Ok(dones) => match share_of(rt, &ground.shared) {
             Ok(share) => {
                 let CountShare { worked } = share;
-                run_console(rt, alloc, ground.shared.kept, worked, console, dones, out);
+                let Shared {
+                    kept,
+                    turnstile,
+                    ..
+                } = &ground.shared;
+                run_console(rt, alloc, kept, turnstile, worked, console, dones, out);
                 Ok(())
             }
             Err(error) => Err(error),
@@ -301,6 +311,23 @@ fn paces_of(alloc: Global, domains: &[DomainConfig], room: u64) -> Result<Vec<Pa
     Ok(paces)
 }
 
+// What other sites are sent and do not acknowledge: nothing of any domain yet.
+fn unacknowledged_of(
+    alloc: Global,
+    own: SiteNo,
+    domains: &[DomainConfig],
+) -> Result<Vec<Unacknowledged>, NoMemory> {
+    let mut all = Vec::new(alloc);
+    for domain in domains {
+        for site in domain.sites.as_slice() {
+            if *site != own {
+                all.push(Unacknowledged::new(alloc, domain.domain, *site))?;
+            }
+        }
+    }
+    Ok(all)
+}
+
 // Runs a daemon over its sockets, until the console says `stop`.
 fn run<L, R, B, W, E>(
     rt: &R,
@@ -336,6 +363,12 @@ where
     let halts = AtomicU64::new(0);
     let room = widen(&sockets.udp);
     let paces = paces_of(alloc, setup.config.domains.as_slice(), room)?;
+    let unacknowledged = unacknowledged_of(
+        alloc,
+        setup.config.site,
+        setup.config.domains.as_slice(),
+    )?;
+    let turnstile = Turnstile::new();
     let ground = Ground {
         shared: Shared {
             alloc,
@@ -345,6 +378,8 @@ where
             udp: &sockets.udp,
             peers,
             paces: paces.as_slice(),
+            unacknowledged: unacknowledged.as_slice(),
+            turnstile: &turnstile,
             halts: &halts,
             own: setup.config.site,
         },

@@ -35,7 +35,12 @@ fn setup_with(alloc: Global, address: &str, domains: &[(u8, &str)]) -> io::Resul
             "[[domain]]\nnumber = {domain}\nhome = 1\nsites = [1]\ngroups = [1]\nsocket = \"{path}\"\n"
         )?;
     }
-    match read(alloc, text.as_str(), SiteNo(1)) {
+    setup_from(alloc, text.as_str())
+}
+
+// The set-up that a text is.
+fn setup_from(alloc: Global, text: &str) -> io::Result<Setup> {
+    match read(alloc, text, SiteNo(1)) {
         Ok(setup) => Ok(setup),
         Err(_) => Err(io::Error::from(io::ErrorKind::InvalidInput)),
     }
@@ -52,6 +57,29 @@ pub fn setup_of(alloc: Global, test: u16) -> io::Result<Setup> {
     let path = path_of(alloc, test)?;
     let address = address_of(alloc, test)?;
     setup_with(alloc, address.as_str(), &[(1, path.as_str())])
+}
+
+/// The port of the other site of a test.
+pub fn other_port_of(test: u16) -> u16 {
+    7290 + test % 100
+}
+
+/// The set-up of the daemon of a test with a second site, which is sent nothing again for a minute by the rules.
+pub fn setup_of_two_sites(alloc: Global, test: u16) -> io::Result<Setup> {
+    let path = path_of(alloc, test)?;
+    let (near, far) = (port_of(test), other_port_of(test));
+    let mut text = String::new(alloc);
+    for (site, port) in [(1u8, near), (2, far)] {
+        write!(
+            text,
+            "[[site]]\nnumber = {site}\naddress = \"127.0.0.1:{port}\"\n"
+        )?;
+    }
+    write!(
+        text,
+        "[[domain]]\nnumber = 1\nhome = 1\nsites = [1, 2]\ngroups = [1]\nresend = 60000\nsocket = \"{path}\"\n"
+    )?;
+    setup_from(alloc, text.as_str())
 }
 
 /// The set-up of the daemon of a test whose address is no address.

@@ -2,8 +2,8 @@
 //!
 //! `configs` and `console` test the texts of configuration and console. `gates`, `rows`, `trims`
 //! and `workers` test the shared table: exact counts, no decoding or sending under the lock, and
-//! trims. `daemon`, `programs`, `operator`, `faulty` and `sockets` test programs at a running
-//! daemon, including ones that misbehave or crash.
+//! trims. `daemon`, `programs`, `operator`, `site`, `faulty` and `sockets` test a running daemon:
+//! programs, including ones that misbehave or crash, the console, and datagrams.
 #![tactic(auto)]
 
 #[cfg(test)]
@@ -22,6 +22,8 @@ mod operator;
 mod programs;
 #[cfg(test)]
 mod rows;
+#[cfg(test)]
+mod site;
 #[cfg(test)]
 mod sockets;
 #[cfg(test)]

@@ -1,4 +1,5 @@
 //! The programs of a test: what they write, and what they are pushed, a letter for each push.
+use crate::site::Site;
 use cast_device::Watched;
 use cast_message::Push;
 use cast_session::read_push;
@@ -294,6 +295,32 @@ pub fn crash<R: Net + Clock>(rt: &R, alloc: Global, path: &str, programs: u32) -
         let _ = program.say(&bytes);
     }
     Ok(())
+}
+
+/// A program joins, a member at another site joins it, and the program casts four times, of which the other site acknowledges all but the
+/// first. Answers the first message as it was sent first, and what is sent of messages behind the acknowledgements.
+pub fn lose_first<R: Net + Clock>(
+    rt: &R,
+    alloc: Global,
+    path: &str,
+    site: &Site,
+) -> io::Result<(Vec<u8>, Vec<u8>)> {
+    let mut all = Vec::new(alloc);
+    let mut program = Program::new(rt, alloc, path)?;
+    program.join(&mut all)?;
+    site.enter()?;
+    program.hear(1, &mut all)?;
+    for _ in 0..4u8 {
+        program.say(&CAST)?;
+    }
+    let first = site.hear_data()?;
+    for _ in 0..3u8 {
+        site.hear_data()?;
+    }
+    for count in 2..5u8 {
+        site.acknowledge(count)?;
+    }
+    Ok((first, site.hear_data()?))
 }
 
 /// Plays a scene, and answers the letters of what its programs were pushed.

@@ -1,10 +1,11 @@
 use crate::daemon::{
     Ran, answering, logged, path_of, port_of, run_unbound, say_stop, served, setup_of,
-    setup_of_nowhere, setup_of_two,
+    setup_of_nowhere, setup_of_two, setup_of_two_sites,
 };
 use crate::faulty::Faulty;
 use crate::operator::Operator;
-use crate::programs::{Program, Scene, crash, flood, play};
+use crate::programs::{Program, Scene, crash, flood, lose_first, play};
+use crate::site::Site;
 use std::alloc::Global;
 use std::io::{BufRead, BufReader};
 use std::net::Net;
@@ -213,6 +214,31 @@ fn a_daemon_under_load_stops(rt: HostRuntime) -> Result<(), Fail> {
         move || served(rt, alloc, setup, console),
     );
     assert!(*rt; program.is_ok());
+    assert!(*rt; is_in_order(&ran));
+    Ok(())
+}
+
+#[test]
+fn a_message_that_seems_lost_is_sent_again(rt: HostRuntime) -> Result<(), Fail> {
+    let alloc = rt.alloc();
+    let rt = &rt;
+    let path = path_of(alloc, 10)?;
+    let setup = setup_of_two_sites(alloc, 10)?;
+    let setup = &setup;
+    let site = Site::new(rt, alloc, 10)?;
+    let (typed, console) = UnixStream::pair(rt)?;
+    let console = BufReader::new(alloc, console)?;
+    let (heard, ran) = thread::join(
+        rt,
+        move || -> io::Result<(Vec<u8>, Vec<u8>)> {
+            let heard = lose_first(rt, alloc, path.as_str(), &site);
+            say_stop(&typed);
+            heard
+        },
+        move || served(rt, alloc, setup, console),
+    );
+    let (first, again) = heard?;
+    assert_eq!(*rt; first.as_slice(), again.as_slice());
     assert!(*rt; is_in_order(&ran));
     Ok(())
 }

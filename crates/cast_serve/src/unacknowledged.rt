@@ -1,0 +1,190 @@
+//! The messages that another site was sent and has not acknowledged.
+//!
+//! The rules send a message once more after `resend`, which is long beside the time that an acknowledgement takes, and what depends on a
+//! lost message waits meanwhile. A site that acknowledges later messages, and not this one, has most likely not received it. So it is sent
+//! again at once: this is the fast retransmit of TCP (Allman, Paxson and Blanton, "TCP Congestion Control", RFC 5681). The rules cannot tell
+//! it from a network that delivers a datagram twice.
+use cast_events::Outs;
+use cast_message::{Message, SiteFrame};
+use cast_types::{DomainNo, List, NoMemory, SiteNo, Uid};
+use std::alloc::Global;
+use std::collections::VecDeque;
+use std::sync::{Mutex, Wait};
+
+// A message is sent again once so many later ones were acknowledged.
+const LATER: u32 = 3;
+
+// It is sent again once so many ticks went by.
+const LATE: u64 = 2;
+
+// So often it is sent again at most. Then it is left to the rules, as it is after so many ticks.
+const REPEATS: u32 = 3;
+
+const FORGOTTEN: u64 = 10;
+
+// So many messages are remembered for each site, the latest.
+const MOST: usize = 1_024;
+
+// At a tick so many are sent again for each site, the earliest. A site that lacks one may have all behind it, and a site that is slow is
+// not to get all twice.
+const AT_A_TICK: usize = 8;
+
+// A message that was sent.
+#[derive(Drop)]
+struct Sent {
+    message: Message,
+    // When it was sent last.
+    tick: u64,
+    // How many of those that were sent later were acknowledged.
+    later: u32,
+    // How often it was sent again.
+    repeats: u32,
+}
+
+// What a site was sent, in the order in which it was sent last.
+#[derive(Drop)]
+struct Flight {
+    sent: VecDeque<Sent>,
+    tick: u64,
+}
+
+impl Flight {
+    // Remembers a message that is sent.
+    fn note(&mut self, message: Message) {
+        if self.sent.len() >= MOST {
+            drop(self.sent.pop_front());
+        }
+        let _ = self.sent.push_back(Sent {
+            message,
+            tick: self.tick,
+            later: 0,
+            repeats: 0,
+        });
+    }
+
+    // Takes the message at a place, to be sent again, and remembers it as the latest. `None` if there is no memory for that: then it is left
+    // to the rules.
+    fn take(&mut self, place: usize) -> Option<Message> {
+        let mut sent = self.sent.remove(place)?;
+        let copy = sent.message.copy().ok()?;
+        sent.repeats = sent.repeats.saturating_add(1);
+        if sent.repeats < REPEATS {
+            sent.later = 0;
+            sent.tick = self.tick;
+            let _ = self.sent.push_back(sent);
+        }
+        Some(copy)
+    }
+
+    // The place of the first message of so many that is to be sent again, since enough later ones were acknowledged.
+    fn first_lost(&self, most: usize) -> Option<usize> {
+        self.sent
+            .iter()
+            .take(most)
+            .position(|sent| sent.later >= LATER)
+    }
+
+    // A message was acknowledged. Answers how many were sent before it and were not.
+    fn acknowledge(&mut self, id: Uid) -> usize {
+        let Some(place) = self.sent.iter().position(|sent| sent.message.id == id) else {
+            return 0;
+        };
+        drop(self.sent.remove(place));
+        for sent in self.sent.iter_mut().take(place) {
+            sent.later = sent.later.saturating_add(1);
+        }
+        place
+    }
+
+    // Forgets what is left to the rules.
+    fn forget(&mut self) {
+        for _ in 0..self.sent.len() {
+            match self.sent.front() {
+                Some(first) if self.tick.saturating_sub(first.tick) >= FORGOTTEN => {
+                    drop(self.sent.pop_front());
+                }
+                _ => break,
+            }
+        }
+    }
+
+    // Whether the message that was sent first is late.
+    fn is_late(&self) -> bool {
+        match self.sent.front() {
+            Some(first) => self.tick.saturating_sub(first.tick) >= LATE,
+            None => false,
+        }
+    }
+}
+
+/// The messages of a domain that a site was sent, and has not acknowledged.
+#[derive(Drop)]
+pub struct Unacknowledged {
+    alloc: Global,
+    pub domain: DomainNo,
+    pub site: SiteNo,
+    flight: Mutex<Flight>,
+}
+
+impl Unacknowledged {
+    /// No message was sent.
+    pub fn new(alloc: Global, domain: DomainNo, site: SiteNo) -> Self {
+        let flight = Flight {
+            sent: VecDeque::new(alloc),
+            tick: 0,
+        };
+        Unacknowledged {
+            alloc,
+            domain,
+            site,
+            flight: Mutex::new(flight),
+        }
+    }
+
+    /// Remembers a message that is about to be sent. If there is no memory for it, it is left to the rules.
+    pub fn note<R: Wait>(&self, rt: &R, message: &Message) {
+        if let Ok(message) = message.copy() {
+            self.flight.lock(rt).note(message);
+        }
+    }
+
+    // Adds the frame of a message that is to be sent again. One that finds no memory is left to the rules.
+    fn add(&self, outs: &mut Outs, message: Message) {
+        let _ = outs
+            .frames
+            .push((self.domain, self.site, SiteFrame::Data(message)));
+    }
+
+    /// Notes that the site acknowledged a message. Answers the frames that are to be sent again.
+    pub fn acknowledge<R: Wait>(&self, rt: &R, id: Uid) -> Outs {
+        let mut outs = Outs::new(self.alloc);
+        let mut flight = self.flight.lock(rt);
+        let earlier = flight.acknowledge(id);
+        for _ in 0..earlier {
+            let Some(place) = flight.first_lost(earlier) else {
+                break;
+            };
+            if let Some(message) = flight.take(place) {
+                self.add(&mut outs, message);
+            }
+        }
+        outs
+    }
+
+    /// Notes that time goes by. Answers the frames that are to be sent again.
+    pub fn tick<R: Wait>(&self, rt: &R) -> Outs {
+        let mut outs = Outs::new(self.alloc);
+        let mut flight = self.flight.lock(rt);
+        flight.tick = flight.tick.saturating_add(1);
+        flight.forget();
+        for _ in 0..AT_A_TICK {
+            if !flight.is_late() {
+                break;
+            }
+            if let Some(message) = flight.take(0) {
+                self.add(&mut outs, message);
+            }
+        }
+        outs
+    }
+}
