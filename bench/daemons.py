@@ -1,7 +1,8 @@
-"""Daemons, and programs that load them: what bench/serve and tools/soak share."""
+"""Daemons, and programs that load them: what the scripts of bench/ and tools/ share."""
 import os
 import select
 import shutil
+import socket
 import subprocess
 import time
 
@@ -27,6 +28,13 @@ def runnable(path):
     if not os.access(path, os.X_OK) or os.path.isdir(path):
         raise Failed(f"{path} is no program")
     return os.path.realpath(path)
+
+
+def free_port():
+    """A port of this host that no datagrams come to."""
+    with socket.socket(socket.AF_INET, socket.SOCK_DGRAM) as it:
+        it.bind(("127.0.0.1", 0))
+        return it.getsockname()[1]
 
 
 def compiled(folder, name, *words):

@@ -1,5 +1,8 @@
 /* Refuses memory, for a program that is run with this library preloaded: of its requests since the signal SIGUSR1 that of the number
- * REFUSE_REQUEST, from 1 on. At SIGUSR2 it writes how many there were since then to the file REFUSE_COUNT, in 8 bytes. */
+ * REFUSE_REQUEST, from 1 on. Each further SIGUSR1 counts anew, and the number is one more. At SIGUSR2 it writes how many requests there were
+ * since then to the file REFUSE_COUNT, in 8 bytes. What is granted comes from the library behind this one. */
+#define _GNU_SOURCE
+#include <dlfcn.h>
 #include <errno.h>
 #include <fcntl.h>
 #include <signal.h>
@@ -9,18 +12,14 @@
 #include <stdlib.h>
 #include <unistd.h>
 
-extern void *__libc_malloc(size_t);
-extern void *__libc_calloc(size_t, size_t);
-extern void *__libc_realloc(void *, size_t);
-extern void *__libc_memalign(size_t, size_t);
-
 static _Atomic int counts;
-static _Atomic uint64_t requests;
-static uint64_t refused;
+static _Atomic uint64_t requests, refused;
 static int file = -1;
 
 static void start(int number) {
     (void)number;
+    requests = 0;
+    if (counts) refused++;
     counts = 1;
 }
 
@@ -45,18 +44,38 @@ static int is_refused(void) {
     return 1;
 }
 
-void *malloc(size_t size) { return is_refused() ? NULL : __libc_malloc(size); }
+typedef void *grant(size_t);
+typedef void *grant_two(size_t, size_t);
+typedef void *grant_again(void *, size_t);
+typedef int grant_aligned(void **, size_t, size_t);
 
-void *calloc(size_t count, size_t size) { return is_refused() ? NULL : __libc_calloc(count, size); }
+/* The function of this name in the library behind this one. */
+static void *behind(void *_Atomic *found, const char *name) {
+    if (*found == NULL) *found = dlsym(RTLD_NEXT, name);
+    return *found;
+}
 
-void *realloc(void *block, size_t size) { return is_refused() ? NULL : __libc_realloc(block, size); }
+void *malloc(size_t size) {
+    static void *_Atomic found;
+    return is_refused() ? NULL : ((grant *)behind(&found, "malloc"))(size);
+}
 
-void *aligned_alloc(size_t alignment, size_t size) { return is_refused() ? NULL : __libc_memalign(alignment, size); }
+void *calloc(size_t count, size_t size) {
+    static void *_Atomic found;
+    return is_refused() ? NULL : ((grant_two *)behind(&found, "calloc"))(count, size);
+}
+
+void *realloc(void *block, size_t size) {
+    static void *_Atomic found;
+    return is_refused() ? NULL : ((grant_again *)behind(&found, "realloc"))(block, size);
+}
+
+void *aligned_alloc(size_t alignment, size_t size) {
+    static void *_Atomic found;
+    return is_refused() ? NULL : ((grant_two *)behind(&found, "aligned_alloc"))(alignment, size);
+}
 
 int posix_memalign(void **block, size_t alignment, size_t size) {
-    if (is_refused()) return ENOMEM;
-    void *made = __libc_memalign(alignment, size);
-    if (made == NULL) return ENOMEM;
-    *block = made;
-    return 0;
+    static void *_Atomic found;
+    return is_refused() ? ENOMEM : ((grant_aligned *)behind(&found, "posix_memalign"))(block, alignment, size);
 }

@@ -27,10 +27,12 @@ TakesFirst None new x = ⊤
 TakesFirst (Some old) None x = ⊥
 TakesFirst (Some old) (Some new) x = old ≡ x ∷ new
 
--- no datagram is received. Where the device failed, what waits is what waited; where there is no memory, the first may be lost.
+-- no datagram is received. Where the device failed, what waits is what waited; where there was no memory, the first may be lost
 abbrev pub ReceivesNone : Option (List (List ℕ)) → Option (List (List ℕ)) → LinkFault → Type 0
-ReceivesNone old new Device = Stays old new
-ReceivesNone old new NoMemory = Stays old new ⊎ ((bytes : List ℕ) × TakesFirst old new bytes)
+ReceivesNone None new fault = ⊤
+ReceivesNone (Some old) None fault = ⊥
+ReceivesNone (Some old) (Some new) Device = new ≡ old
+ReceivesNone (Some old) (Some new) NoMemory = (new ≡ old) ⊎ ((bytes : List ℕ) × (old ≡ bytes ∷ new))
 
 -- what was received is the datagram that was first
 abbrev pub Receives : Option (List (List ℕ)) → Option (List (List ℕ)) → Result (List ℕ) LinkFault → Type 0

@@ -326,7 +326,7 @@ fn of_first_piece(alloc: Global, step: usize) -> (InEnd, Taken)
 
 #[test]
 fn each_frame_that_was_read_is_handed_on_before_the_next_read(rt: HostRuntime) {
-    let (part_end, part) = of_first_piece(rt.alloc(), 10);
+    let (part_end, part) = of_first_piece(rt.alloc(), 6);
     let (one_end, one) = of_first_piece(rt.alloc(), 13);
     let (both_end, both) = of_first_piece(rt.alloc(), 25);
     assert!(rt; part_end == InEnd::ReadFault && part.commands.is_empty());

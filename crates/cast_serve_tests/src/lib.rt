@@ -2,8 +2,9 @@
 //!
 //! `configs` and `console` test the texts of configuration and console. `gates`, `rows`, `trims`
 //! and `workers` test the shared table: exact counts, no decoding or sending under the lock, and
-//! trims. `daemon`, `programs`, `operator`, `site`, `faulty` and `sockets` test a running daemon:
-//! programs, including ones that misbehave or crash, the console, and datagrams.
+//! trims. `wires` tests datagrams over a wire that fails. `daemon`, `programs`, `operator`, `site`,
+//! `faulty` and `sockets` test a running daemon: programs, including ones that misbehave or crash,
+//! the console, and another site.
 #![tactic(auto)]
 
 #[cfg(test)]
@@ -28,5 +29,7 @@ mod site;
 mod sockets;
 #[cfg(test)]
 mod trims;
+#[cfg(test)]
+mod wires;
 #[cfg(test)]
 mod workers;

@@ -19,6 +19,9 @@ const CAST: [u8; 14] = [0, 0, 0, 14, 3, 0, 0, 0, 8, 0, 1, 1, 104, 105];
 // How many numbered casts a program writes at once.
 const NUMBERED: u8 = 100;
 
+// How often it does so. A daemon in which two threads take the entries of one session at once mixes them up only now and then.
+const ROUNDS: u32 = 100;
+
 // How many casts a program writes that takes no answer.
 const FLOOD: u32 = 2_000;
 
@@ -48,8 +51,8 @@ pub enum Scene {
     CastsAtOnce,
     /// A second one joins and reads nothing, and the first casts until it is alone.
     ReadsNothing,
-    /// A second one joins, and each makes a hundred numbered casts at once: a letter more for each, `y` if its replies, and the
-    /// deliveries of either's casts to it, come in the order of the casts.
+    /// A second one joins, and each makes a hundred numbered casts at once, a hundred times: a letter more for each, `y` if its
+    /// replies, and the deliveries of either's casts to it, come in the order of the casts.
     CastsInOrder,
     /// One joins and casts three times, and then closes its end for writing: up to the end of what it is pushed.
     HalfClosed,
@@ -196,12 +199,20 @@ fn yes_or_no(answer: bool) -> u8 {
     if answer { b'y' } else { b'n' }
 }
 
-// Two programs of one group make numbered casts at once.
+// Two programs of one group make numbered casts at once, round by round.
 fn cast_in_order(first: &mut Program, second: &mut Program, all: &mut Vec<u8>) -> io::Result<()> {
-    first.cast_numbered(1)?;
-    second.cast_numbered(2)?;
-    all.push(yes_or_no(first.hears_in_order()))?;
-    all.push(yes_or_no(second.hears_in_order()))?;
+    let (mut first_does, mut second_does) = (true, true);
+    for _ in 0..ROUNDS {
+        first.cast_numbered(1)?;
+        second.cast_numbered(2)?;
+        first_does &= first.hears_in_order();
+        second_does &= second.hears_in_order();
+        if !first_does || !second_does {
+            break;
+        }
+    }
+    all.push(yes_or_no(first_does))?;
+    all.push(yes_or_no(second_does))?;
     Ok(())
 }
 

@@ -62,6 +62,7 @@ pub mod ClosingSteps
 pub mod ClosingRuns
 pub mod Deliveries
 pub mod Schedules
+pub mod Counterexamples
 pub mod Alone
 pub mod Standing
 pub mod Pushes

@@ -39,31 +39,31 @@ use Rattle.cast_message.specs.declared.site.SiteFrame.TheVariants as frame
 abbrev domain : DomainNo
 domain = record { 0 = 1 }
 
-abbrev site : ℕ → SiteNo
+abbrev pub site : ℕ → SiteNo
 site n = record { 0 = n }
 
-abbrev group : ℕ → GroupNo
+abbrev pub group : ℕ → GroupNo
 group n = record { 0 = n }
 
-abbrev proc : ℕ → ℕ → Proc
+abbrev pub proc : ℕ → ℕ → Proc
 proc s k = record { site = site s; serial = k }
 
-abbrev uid : ℕ → ℕ → Proc → ℕ → Uid
+abbrev pub uid : ℕ → ℕ → Proc → ℕ → Uid
 uid g v p n = record { group = group g; view = v; proc = p; count = n }
 
 abbrev does : ℕ → Event → Step
 does s e = record { site = site s; what = Local e }
 
-abbrev hand : ℕ → ℕ → Step
+abbrev pub hand : ℕ → ℕ → Step
 hand s k = record { site = site s; what = Sent k }
 
 abbrev opens : ℕ → Step
 opens s = does s (event.Open domain)
 
-abbrev joins : ℕ → ℕ → Step
+abbrev pub joins : ℕ → ℕ → Step
 joins s g = does s (event.Command domain 1 (command.Request (Join 7 (group g))))
 
-abbrev casts : ℕ → ℕ → Step
+abbrev pub casts : ℕ → ℕ → Step
 casts s g = does s (event.Command domain 1 (command.Request (Cast 8 (group g) kind.Causal [])))
 
 abbrev abcasts : ℕ → ℕ → Step
@@ -72,7 +72,7 @@ abcasts s g = does s (event.Command domain 1 (command.Request (Cast 8 (group g) 
 abbrev passes : ℕ → ℕ → Proc → Step
 passes s g to = does s (event.Command domain 1 (command.Request (Pass 9 (group g) to)))
 
-abbrev suspects : ℕ → ℕ → Step
+abbrev pub suspects : ℕ → ℕ → Step
 suspects s t = does s (event.Suspect domain (site t))
 
 -- hands every frame from the i-th on to its site, in order, and those that are sent meanwhile
@@ -92,7 +92,7 @@ abbrev begun : List SiteNo → List GroupNo → Network
 begun sites groups = start sites (λ s. config sites groups)
 
 -- what the first process of a site delivered
-abbrev delivered : Network → ℕ → List Uid
+abbrev pub delivered : Network → ℕ → List Uid
 delivered w s = ((w.at (site s)).process 1).delivered
 
 -- what its program was told at the last event of the site
@@ -105,28 +105,28 @@ delivered_abcasts w s view = abcasts_in w (proc s 1) (group 1) view
 
 -- Who passes a view and who is within one, by the places of their entries
 
-is_leaving : Act → Bool
+unfoldable pub is_leaving : Act → Bool
 is_leaving (Sends m) = false
 is_leaving (Delivered m) = false
 is_leaving (Entered g view cut) = false
 is_leaving (Left g) = true
 
-never_left : (g : GroupNo) (acts : List Act) → list_any is_leaving acts ≡ false → NeverLeft g acts
+pub never_left : (g : GroupNo) (acts : List Act) → list_any is_leaving acts ≡ false → NeverLeft g acts
 unfolding is_leaving
 never_left g acts none at = true≢false (sym (member_any is_leaving acts (Left g) at refl) ∙ none)
 
 -- what stands behind a place
-abbrev behind : ℕ → List Act → List Act
+abbrev pub behind : ℕ → List Act → List Act
 behind n [] = []
 behind zero (x ∷ acts) = acts
 behind (suc n) (x ∷ acts) = behind n acts
 
-split_at : (acts : List Act) (n : ℕ) (x : Act) → slice_get acts n ≡ Some x → (a : List Act) × (acts ≡ a ++ x ∷ behind n acts)
+pub split_at : (acts : List Act) (n : ℕ) (x : Act) → slice_get acts n ≡ Some x → (a : List Act) × (acts ≡ a ++ x ∷ behind n acts)
 split_at [] n x e = absurd (false≢true (ap is_some e))
 split_at (y ∷ acts) zero x e = ([], ap (λ z. z ∷ acts) (ap (λ o. unwrap_or o y) e))
 split_at (y ∷ acts) (suc n) x e = let rest = split_at acts n x e in (y ∷ rest.0, ap (λ l. y ∷ l) rest.1)
 
-passes_at : (w : Network) (p : Proc) (g : GroupNo) (view : ℕ) (before cut : CountList) (n k : ℕ) →
+pub passes_at : (w : Network) (p : Proc) (g : GroupNo) (view : ℕ) (before cut : CountList) (n k : ℕ) →
     slice_get (acts_of w p) n ≡ Some (Entered g view before) → slice_get (behind n (acts_of w p)) k ≡ Some (Entered g (view + 1) cut) →
     list_any is_leaving (acts_of w p) ≡ false → Passes w p g view
 passes_at w p g view before cut n k first second none =
@@ -154,7 +154,7 @@ within_at w p g view cut n entered none current waits =
 -- Two sites in views of two groups: what comes before a message of one group may be of the other
 
 -- 1.1 and 2.1 are in both groups
-both : Network
+unfoldable pub both : Network
 both =
     let sites : List SiteNo = site 1 ∷ site 2 ∷ [] in
     through (through (through (begun sites (group 1 ∷ group 2 ∷ [])) (opens 1 ∷ joins 1 1 ∷ joins 1 2 ∷ [])) (opens 2 ∷ joins 2 1 ∷ [])) (joins 2 2 ∷ [])
@@ -174,7 +174,7 @@ crossed_delivered = refl
 
 -- Three sites in one view of group 1
 
-three : Network
+unfoldable pub three : Network
 three =
     let sites : List SiteNo = site 1 ∷ site 2 ∷ site 3 ∷ [] in
     through (through (through (begun sites (group 1 ∷ [])) (opens 1 ∷ joins 1 1 ∷ [])) (opens 2 ∷ joins 2 1 ∷ [])) (opens 3 ∷ joins 3 1 ∷ [])
@@ -419,7 +419,7 @@ handed_passes_there = passes_at handed (proc 2 1) (group 1) 3 [] ((proc 1 1, 1) 
 -- A joining process does not deliver past the view that it will enter
 
 -- 1.1 is in group 1 alone, and 1.1 and 3.1 are in group 2
-pair : Network
+unfoldable pub pair : Network
 pair =
     let sites : List SiteNo = site 1 ∷ site 3 ∷ [] in
     through (through (through (begun sites (group 1 ∷ group 2 ∷ [])) (opens 1 ∷ joins 1 1 ∷ [])) (joins 1 2 ∷ [])) (opens 3 ∷ joins 3 2 ∷ [])
