@@ -23,6 +23,9 @@ pub struct Listening {
 pub struct Sockets {
     pub udp: UdpSocket,
     pub listening: Vec<Listening>,
+    // A second handle of the socket for datagrams. Once that is shut down, each receive fails at once. It has no peer, so the call fails,
+    // and wakes the receiver all the same. It is made when the daemon starts: at its end there may be no descriptor to spare.
+    stopper: UnixStream,
 }
 
 /// Why the sockets of a daemon cannot be used.
@@ -39,10 +42,7 @@ impl Sockets {
         for listening in self.listening.as_slice() {
             let _ = listening.stopper.shutdown(Shutdown::Both);
         }
-        if let Ok(udp) = self.udp.try_clone() {
-            // It has no peer, so that this fails, and wakes the receiver all the same.
-            let _ = UnixStream::from(OwnedFd::from(udp)).shutdown(Shutdown::Both);
-        }
+        let _ = self.stopper.shutdown(Shutdown::Both);
         remove_files(rt, paths);
     }
 }
@@ -150,6 +150,13 @@ fn bind_all<'a, R: Net + Files>(
     Ok(listening)
 }
 
+// Binds the socket for datagrams, with a second handle of it.
+fn bind_udp<R: Net>(rt: &R, address: SocketAddr) -> io::Result<(UdpSocket, UnixStream)> {
+    let udp = UdpSocket::bind(rt, address)?;
+    let stopper = UnixStream::from(OwnedFd::from(udp.try_clone()?));
+    Ok((udp, stopper))
+}
+
 /// Binds the sockets of a daemon, or answers the name of the first that cannot be bound.
 pub fn bind<'a, R: Net + Files>(
     rt: &R,
@@ -162,9 +169,13 @@ pub fn bind<'a, R: Net + Files>(
     let Some(peer) = peers.iter().find(|peer| peer.site == own) else {
         return Err(SocketFault::Name(name));
     };
-    let Ok(udp) = UdpSocket::bind(rt, peer.address) else {
+    let Ok((udp, stopper)) = bind_udp(rt, peer.address) else {
         return Err(SocketFault::Name(name));
     };
     let listening = bind_all(rt, alloc, setup.sockets.as_slice())?;
-    Ok(Sockets { udp, listening })
+    Ok(Sockets {
+        udp,
+        listening,
+        stopper,
+    })
 }

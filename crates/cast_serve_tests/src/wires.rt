@@ -37,20 +37,21 @@ impl Memory {
             failures: 0,
         }
     }
+}
 
-    // Whether this call fails.
-    fn fails(&mut self) -> bool {
-        let call = self.calls;
-        self.calls = call.saturating_add(1);
-        call == self.fails_at
-    }
+// Counts a call, and answers whether it is that of this number.
+fn is_call(calls: &mut u32, number: u32) -> bool {
+    let call = *calls;
+    *calls = call.saturating_add(1);
+    call == number
 }
 
 impl Wire for Memory {
     ghost failed = { λ w. w.failures };
 
     fn send(&mut self, _to: SiteNo, bytes: &[u8]) -> bool {
-        let is_taken = !self.fails() && self.given.extend_from_slice(bytes).is_ok();
+        let is_taken = !is_call(&mut self.calls, self.fails_at)
+            && self.given.extend_from_slice(bytes).is_ok();
         if !is_taken {
             self.failures += 1;
         }
@@ -58,7 +59,7 @@ impl Wire for Memory {
     }
 
     fn receive(&mut self) -> Result<Bytes, LinkFault> {
-        if self.fails() {
+        if is_call(&mut self.calls, self.fails_at) {
             self.failures += 1;
             return Err(LinkFault::Device);
         }
