@@ -86,12 +86,12 @@ class Process:
         with open(f"/proc/{self.process.pid}/status", encoding="utf-8") as file:
             return next(int(it.split()[1]) for it in file if it.startswith("VmRSS:"))
 
-    def seconds(self):
-        """Of processor time that its threads took so far."""
+    def seconds(self, of=0):
+        """Of processor time that its threads took so far; or by 1, for which they waited for a processor."""
         found = 0
         for thread in os.listdir(f"/proc/{self.process.pid}/task"):
             with open(f"/proc/{self.process.pid}/task/{thread}/schedstat", encoding="utf-8") as file:
-                found += int(file.read().split()[0])
+                found += int(file.read().split()[of])
         return found / 1e9
 
     def time_to_end(self):
@@ -120,7 +120,7 @@ class Castd(Process):
         with open(config, "w", encoding="utf-8") as file:
             for number, address in addresses.items():
                 file.write(f'[[site]]\nnumber = {number}\naddress = "{address}"\n')
-            file.write(self.CONFIG.format(sites=list(addresses), socket=f'"{self.path}"'))
+            file.write(self.CONFIG.format(sites=list(addresses), socket=f'"{self.path}"', folder=folder))
         super().__init__([program, "serve", config, "--site", str(site)], folder, **how)
         try:
             if self.line(PATIENCE) != "ready":

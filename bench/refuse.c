@@ -1,6 +1,7 @@
 /* Refuses memory, for a program that is run with this library preloaded: of its requests since the signal SIGUSR1 that of the number
  * REFUSE_REQUEST, from 1 on. Each further SIGUSR1 counts anew, and the number is one more. At SIGUSR2 it writes how many requests there were
- * since then to the file REFUSE_COUNT, in 8 bytes. What is granted comes from the library behind this one. */
+ * since then to the file REFUSE_COUNT, in 8 bytes. What is granted comes from the library behind this one. Where REFUSE_EACH is given, each
+ * of so many requests is refused instead, from SIGUSR1 to SIGUSR2. */
 #define _GNU_SOURCE
 #include <dlfcn.h>
 #include <errno.h>
@@ -14,6 +15,7 @@
 
 static _Atomic int counts;
 static _Atomic uint64_t requests, refused;
+static uint64_t each;
 static int file = -1;
 
 static void start(int number) {
@@ -26,20 +28,24 @@ static void start(int number) {
 static void report(int number) {
     uint64_t found = requests;
     (void)number;
-    if (pwrite(file, &found, sizeof found, 0) < 0) _exit(1);
+    if (each) counts = 0;
+    else if (pwrite(file, &found, sizeof found, 0) < 0) _exit(1);
 }
 
 __attribute__((constructor)) static void begin(void) {
-    const char *request = getenv("REFUSE_REQUEST"), *path = getenv("REFUSE_COUNT");
+    const char *request = getenv("REFUSE_REQUEST"), *of = getenv("REFUSE_EACH"), *path = getenv("REFUSE_COUNT");
     struct sigaction at_start = {.sa_handler = start, .sa_flags = SA_RESTART}, at_report = {.sa_handler = report, .sa_flags = SA_RESTART};
     refused = request ? strtoull(request, NULL, 10) : 0;
+    each = of ? strtoull(of, NULL, 10) : 0;
     if (path) file = open(path, O_WRONLY | O_CREAT | O_CLOEXEC, 0600);
     sigaction(SIGUSR1, &at_start, NULL);
     sigaction(SIGUSR2, &at_report, NULL);
 }
 
 static int is_refused(void) {
-    if (!counts || atomic_fetch_add(&requests, 1) + 1 != refused) return 0;
+    if (!counts) return 0;
+    uint64_t request = atomic_fetch_add(&requests, 1) + 1;
+    if (each ? request % each : request != refused) return 0;
     errno = ENOMEM;
     return 1;
 }
