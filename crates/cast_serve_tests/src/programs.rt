@@ -251,18 +251,13 @@ fn count(letters: &[u8], letter: u8) -> u8 {
 }
 
 // A first program casts a hundred times at once.
-fn cast_at_once(
-    alloc: Global,
-    first: &mut Program,
-    second: &mut Program,
-    all: &mut Vec<u8>,
-) -> io::Result<()> {
-    let mut bytes = Vec::new(alloc);
+fn cast_at_once(first: &mut Program, second: &mut Program, all: &mut Vec<u8>) -> io::Result<()> {
+    let mut bytes = Vec::new(first.alloc);
     for _ in 0..100u32 {
         bytes.extend_from_slice(&CAST)?;
     }
     first.say(&bytes)?;
-    let mut theirs = Vec::new(alloc);
+    let mut theirs = Vec::new(first.alloc);
     first.hear(200, &mut theirs)?;
     all.push(count(&theirs, b'R'))?;
     all.push(count(&theirs, b'D'))?;
@@ -273,8 +268,8 @@ fn cast_at_once(
 }
 
 // A program makes large casts, until the next view.
-fn cast_until_view(alloc: Global, program: &mut Program, all: &mut Vec<u8>) -> io::Result<()> {
-    let mut bytes = Vec::new(alloc);
+fn cast_until_view(program: &mut Program, all: &mut Vec<u8>) -> io::Result<()> {
+    let mut bytes = Vec::new(program.alloc);
     bytes.extend_from_slice(&LARGE_CAST)?;
     for _ in 0..LARGEST {
         bytes.push(0)?;
@@ -334,6 +329,79 @@ pub fn lose_first<R: Net + Clock>(
     Ok((first, site.hear_data()?))
 }
 
+// A program casts, and hears the reply and the delivery.
+fn cast(program: &mut Program, all: &mut Vec<u8>) -> io::Result<()> {
+    program.say(&CAST)?;
+    program.hear(2, all)
+}
+
+// A program casts three times, closes its end for writing, and hears all up to the end.
+fn cast_and_close(program: &mut Program, all: &mut Vec<u8>) -> io::Result<()> {
+    for _ in 0..3u8 {
+        program.say(&CAST)?;
+    }
+    program.stream.shutdown(Shutdown::Write)?;
+    program.hear(7, all)
+}
+
+// A second program writes bytes that are no frame, and the first casts.
+fn write_no_frame(
+    first: &mut Program,
+    second: &mut Program,
+    bytes: &[u8],
+    all: &mut Vec<u8>,
+) -> io::Result<()> {
+    second.say(bytes)?;
+    second.hear(3, all)?;
+    cast(first, all)
+}
+
+// A second program joins, and the first hears of it.
+fn join_too(first: &mut Program, second: &mut Program, all: &mut Vec<u8>) -> io::Result<()> {
+    second.join(all)?;
+    first.hear(1, all)
+}
+
+// Plays what a scene has of two programs, of which the first has joined.
+fn play_both(
+    scene: Scene,
+    first: &mut Program,
+    second: &mut Program,
+    all: &mut Vec<u8>,
+) -> io::Result<()> {
+    if let Scene::NoFrame(bytes) = scene {
+        return write_no_frame(first, second, &bytes, all);
+    }
+    join_too(first, second, all)?;
+    match scene {
+        Scene::CastsAtOnce => cast_at_once(first, second, all),
+        Scene::ReadsNothing => cast_until_view(first, all),
+        _ => cast_in_order(first, second, all),
+    }
+}
+
+// Plays a scene once its first program has joined.
+fn play_on<R: Net + Clock>(
+    rt: &R,
+    path: &str,
+    scene: Scene,
+    first: &mut Program,
+    all: &mut Vec<u8>,
+) -> io::Result<()> {
+    match scene {
+        Scene::Casts => cast(first, all),
+        Scene::HalfClosed => cast_and_close(first, all),
+        Scene::Garbage(port) => {
+            send_garbage(rt, port)?;
+            cast(first, all)
+        }
+        _ => {
+            let mut second = Program::new(rt, first.alloc, path)?;
+            play_both(scene, first, &mut second, all)
+        }
+    }
+}
+
 /// Plays a scene, and answers the letters of what its programs were pushed.
 pub fn play<R: Net + Clock>(
     rt: &R,
@@ -344,46 +412,6 @@ pub fn play<R: Net + Clock>(
     let mut all = Vec::new(alloc);
     let mut first = Program::new(rt, alloc, path)?;
     first.join(&mut all)?;
-    if let Scene::Garbage(port) = scene {
-        send_garbage(rt, port)?;
-    }
-    if let Scene::Casts | Scene::Garbage(_) = scene {
-        first.say(&CAST)?;
-        first.hear(2, &mut all)?;
-        return Ok(all);
-    }
-    if let Scene::HalfClosed = scene {
-        for _ in 0..3u8 {
-            first.say(&CAST)?;
-        }
-        first.stream.shutdown(Shutdown::Write)?;
-        first.hear(7, &mut all)?;
-        return Ok(all);
-    }
-    let mut second = Program::new(rt, alloc, path)?;
-    match scene {
-        Scene::NoFrame(bytes) => {
-            second.say(&bytes)?;
-            second.hear(3, &mut all)?;
-            first.say(&CAST)?;
-            first.hear(2, &mut all)?;
-        }
-        Scene::CastsAtOnce => {
-            second.join(&mut all)?;
-            first.hear(1, &mut all)?;
-            cast_at_once(alloc, &mut first, &mut second, &mut all)?;
-        }
-        Scene::ReadsNothing => {
-            second.join(&mut all)?;
-            first.hear(1, &mut all)?;
-            cast_until_view(alloc, &mut first, &mut all)?;
-        }
-        Scene::CastsInOrder => {
-            second.join(&mut all)?;
-            first.hear(1, &mut all)?;
-            cast_in_order(&mut first, &mut second, &mut all)?;
-        }
-        Scene::Casts | Scene::HalfClosed | Scene::Garbage(_) => {}
-    }
+    play_on(rt, path, scene, &mut first, &mut all)?;
     Ok(all)
 }
