@@ -12,8 +12,10 @@ mod link;
 mod pump;
 mod replay;
 mod scenes;
+mod serve;
 mod sights;
 mod tenants;
+mod tick;
 mod verdict;
 
 use anyhow::{Context, Result, bail};

@@ -1,7 +1,7 @@
 //! The scenes by their names.
 use crate::growths::Pause;
 use crate::verdict::Verdict;
-use crate::{apply, config, console, copy, link, pump, replay};
+use crate::{apply, config, console, copy, link, pump, replay, serve, tick};
 use cast_types::NoMemory;
 use std::alloc::Global;
 
@@ -10,6 +10,8 @@ use std::alloc::Global;
 pub enum Scene {
     Replay,
     Apply,
+    Tick,
+    Serve,
     Copy,
     Pump,
     Config,
@@ -18,9 +20,11 @@ pub enum Scene {
 }
 
 /// The scenes, each with its name.
-pub const SCENES: [(&str, Scene); 7] = [
+pub const SCENES: [(&str, Scene); 9] = [
     ("replay", Scene::Replay),
     ("apply", Scene::Apply),
+    ("tick", Scene::Tick),
+    ("serve", Scene::Serve),
     ("copy", Scene::Copy),
     ("pump", Scene::Pump),
     ("config", Scene::Config),
@@ -39,6 +43,8 @@ fn judged(alloc: Global, scene: Scene, pause: &mut Pause) -> Result<Verdict, NoM
     match scene {
         Scene::Replay => replay::run(alloc, pause),
         Scene::Apply => apply::run(alloc, pause),
+        Scene::Tick => tick::run(alloc, pause),
+        Scene::Serve => serve::run(alloc, pause),
         Scene::Copy => copy::run(alloc, pause),
         Scene::Pump => pump::run(alloc, pause),
         Scene::Config => config::run(alloc, pause),

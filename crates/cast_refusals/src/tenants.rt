@@ -69,17 +69,28 @@ pub fn script(alloc: Global) -> Result<Script, NoMemory> {
     script_of(alloc, SCRIPT)
 }
 
+// Applies an event, and adds what comes of it. `NoMemory` where it found none.
+fn apply(table: &mut Table, event: &Event, all: &mut Outs) -> Result<(), NoMemory> {
+    let mut outs = Outs::new(all.frames.alloc());
+    match table.apply(event, &mut outs) {
+        Ok(_) => all.append(outs),
+        Err(_) => Err(AllocError),
+    }
+}
+
+// Applies events, and adds what comes of them. `NoMemory` where one of them found none.
+fn apply_all(table: &mut Table, events: &[Event], all: &mut Outs) -> Result<(), NoMemory> {
+    for event in events {
+        apply(table, event, all)?;
+    }
+    Ok(())
+}
+
 /// The table behind the events of a script, and what came of them. `NoMemory` where one of them found none.
 pub fn applied(alloc: Global, script: &Script) -> Result<(Table, Outs), NoMemory> {
     let mut table = Table::new(alloc, &script.config)?;
     let mut all = Outs::new(alloc);
-    for event in script.events.as_slice() {
-        let mut outs = Outs::new(alloc);
-        if table.apply(event, &mut outs).is_err() {
-            return Err(AllocError);
-        }
-        all.append(outs)?;
-    }
+    apply_all(&mut table, script.events.as_slice(), &mut all)?;
     Ok((table, all))
 }
 

@@ -20,7 +20,7 @@ const CAST: [u8; 14] = [0, 0, 0, 14, 3, 0, 0, 0, 8, 0, 1, 1, 104, 105];
 const NUMBERED: u8 = 100;
 
 // How often it does so. A daemon in which two threads take the entries of one session at once mixes them up only now and then.
-const ROUNDS: u32 = 100;
+const ROUNDS: u32 = 20;
 
 // How many casts a program writes that takes no answer.
 const FLOOD: u32 = 2_000;
@@ -51,7 +51,7 @@ pub enum Scene {
     CastsAtOnce,
     /// A second one joins and reads nothing, and the first casts until it is alone.
     ReadsNothing,
-    /// A second one joins, and each makes a hundred numbered casts at once, a hundred times: a letter more for each, `y` if its
+    /// A second one joins, and each makes a hundred numbered casts at once, twenty times: a letter more for each, `y` if its
     /// replies, and the deliveries of either's casts to it, come in the order of the casts.
     CastsInOrder,
     /// One joins and casts three times, and then closes its end for writing: up to the end of what it is pushed.
@@ -303,8 +303,8 @@ pub fn crash<R: Net + Clock>(rt: &R, alloc: Global, path: &str, programs: u32) -
     Ok(())
 }
 
-/// A program joins, a member at another site joins it, and the program casts four times, of which the other site acknowledges all but the
-/// first. Answers the first message as it was sent first, and what is sent of messages behind the acknowledgements.
+/// A program joins, a member at another site joins it, and the program casts four times. The other site acknowledges each message but the
+/// first. Answers the first message as it is sent first, and as it is sent again.
 pub fn lose_first<R: Net + Clock>(
     rt: &R,
     alloc: Global,
@@ -320,13 +320,8 @@ pub fn lose_first<R: Net + Clock>(
         program.say(&CAST)?;
     }
     let first = site.hear_data()?;
-    for _ in 0..3u8 {
-        site.hear_data()?;
-    }
-    for count in 2..5u8 {
-        site.acknowledge(count)?;
-    }
-    Ok((first, site.hear_data()?))
+    let again = site.acknowledge_others(&first)?;
+    Ok((first, again))
 }
 
 // A program casts, and hears the reply and the delivery.

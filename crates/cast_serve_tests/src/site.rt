@@ -3,6 +3,7 @@ use crate::daemon::{other_port_of, port_of};
 use std::alloc::Global;
 use std::io;
 use std::net::{Net, UdpSocket};
+use std::ops::Range;
 use std::time::Duration;
 
 // For how many seconds a test waits for a datagram.
@@ -23,6 +24,11 @@ const ASK: [u8; 20] = [
 
 // Site 2 has installed view 2 of group 1.
 const INSTALLED: [u8; 13] = [0x43, 0x44, 1, 11, 1, 0, 2, 0, 1, 0, 0, 0, 2];
+
+// What comes in an Ack of site 2 before the id, and where the id stands in it and in a Data.
+const ACK_HEAD: [u8; 7] = [0x43, 0x44, 1, 2, 1, 0, 2];
+
+const ID: Range<usize> = 7..23;
 
 /// The second site of a test.
 #[derive(Drop)]
@@ -77,10 +83,23 @@ impl Site {
         self.hear(DATA)
     }
 
-    /// Acknowledges the message of 1.1 in view 2 with this count.
-    pub fn acknowledge(&self, count: u8) -> io::Result<()> {
-        self.say(&[
-            0x43, 0x44, 1, 2, 1, 0, 2, 0, 1, 0, 0, 0, 2, 0, 1, 0, 0, 0, 1, 0, 0, 0, count,
-        ])
+    // Acknowledges a message, whose id stands in both frames at the same place.
+    fn acknowledge(&self, data: &[u8]) -> io::Result<()> {
+        let mut ack = Vec::new(self.alloc);
+        ack.extend_from_slice(&ACK_HEAD)?;
+        ack.extend_from_slice(data.get(ID).unwrap_or(&[]))?;
+        self.say(&ack)
+    }
+
+    /// Acknowledges the messages that are sent to the site, up to this one, which is answered.
+    pub fn acknowledge_others(&self, data: &[u8]) -> io::Result<Vec<u8>> {
+        for _ in 0..OTHERS {
+            let next = self.hear_data()?;
+            if next.as_slice() == data {
+                return Ok(next);
+            }
+            self.acknowledge(&next)?;
+        }
+        Err(io::Error::from(io::ErrorKind::TimedOut))
     }
 }
