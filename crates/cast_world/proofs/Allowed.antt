@@ -6,7 +6,7 @@ use Rattle.std.proofs.lemmas.Map.Views.{tells_apart}
 use Rattle.std.specs.FinMap.Entries.{find}
 use Rattle.std.specs.List.{list_all, list_any, range_with_len}
 use Rattle.std.specs.Ordering.{eq_by_cmp}
-use Rattle.std.specs.Prelude.{◌+◌, ◌<◌, ◌==◌, Bool, Contains, List, [], cond, false, filter, map, not, refl, suc, true, zero, ◌||◌, ℕ, ◌∷◌, ◌≡◌, ◌≤◌}
+use Rattle.std.specs.Prelude.{◌+◌, ◌<◌, ◌==◌, Bool, Contains, List, [], cond, false, filter, map, not, refl, suc, take, true, zero, ◌||◌, ℕ, ◌∷◌, ◌≡◌, ◌≤◌}
 use Rattle.cast_clock.specs.Times.{clock_of, count_in, has_room, join, view_of}
 use Rattle.cast_delay.specs.Ready.{Process, covered, first_of, group_allows, has_delivered, has_turn, is_causally_ready, is_member, is_open_to, is_outside, is_ready, past_in}
 use Rattle.cast_delay.specs.declared.gate.Gate.{Gate}
@@ -14,6 +14,7 @@ use Rattle.cast_delay.specs.declared.turn.Turn.{Turn}
 use Rattle.cast_message.specs.Bodies.{kind_of}
 use Rattle.cast_message.specs.declared.message.Message.{Message}
 use Rattle.cast_types.specs.Counts.{CountList, count_of}
+use Rattle.cast_types.specs.Sets.{is_among}
 use Rattle.cast_types.specs.Names.{entry_of, is_atomic, named, proc_cmp, uid_eq}
 use Rattle.cast_types.specs.declared.names.GroupNo.{GroupNo}
 use Rattle.cast_types.specs.declared.names.Proc.{Proc}
@@ -39,6 +40,23 @@ passed {X} test (y ∷ ys) x at = go (test y) refl at (passed test ys x)
 
 pub contains_more : {X : Type 0} (y : X) (xs : List X) (x : X) → Contains xs x → Contains (y ∷ xs) x
 contains_more y xs x (k, lt, is) = (suc k, omega (arith, lt), is)
+
+-- what is taken of a list is of it
+pub taken_of : {X : Type 0} (n : ℕ) (xs : List X) (x : X) → Contains (take n xs) x → Contains xs x
+taken_of zero xs x at = absurd (omega (arith, at.1))
+taken_of (suc n) [] x at = absurd (omega (arith, at.1))
+taken_of (suc n) (y ∷ xs) x (zero, lt, is) = (0, omega arith, is)
+taken_of (suc n) (y ∷ xs) x (suc k, lt, is) = let r = taken_of n xs x (k, omega (arith, lt), is) in (suc r.0, omega (arith, r.1), r.2)
+
+-- what an equality that holds of each item finds
+pub among_of : {X : Type 0} (eq : X → X → Bool) → ((x : X) → eq x x ≡ true) → (xs : List X) (x : X) → Contains xs x → is_among eq x xs ≡ true
+among_of eq itself [] x at = absurd (omega (arith, at.1))
+among_of eq itself (y ∷ xs) x (zero, lt, is) = ap (λ b. b || list_any (eq x) xs) (subst (λ z. eq x z ≡ true) (sym is) (itself x))
+among_of eq itself (y ∷ xs) x (suc k, lt, is) = go (eq x y) (among_of eq itself xs x (k, omega arith, is))
+  where
+    go : (b : Bool) → list_any (eq x) xs ≡ true → (b || list_any (eq x) xs) ≡ true
+    go true r = refl
+    go false r = r
 
 pub contains_mapped : {X Y : Type 0} (f : X → Y) (xs : List X) (x : X) → Contains xs x → Contains (map f xs) (f x)
 contains_mapped f [] x at = absurd (omega (arith, at.1))

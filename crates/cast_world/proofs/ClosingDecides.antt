@@ -22,8 +22,7 @@ use Rattle.cast_types.specs.declared.names.SiteNo.{SiteNo}
 use Rattle.cast_view.specs.Home.{installing}
 use Rattle.cast_view.specs.declared.phase.Decision.{Decision}
 use Rattle.cast_view.specs.declared.phase.Phase.TheVariants.{Installing}
-use Rattle.cast_world.proofs.Allowed.{passed}
-use Rattle.cast_world.proofs.ClosingReports.{taken_of}
+use Rattle.cast_world.proofs.Allowed.{passed, taken_of}
 use Rattle.cast_world.proofs.Closings.{End, HasReported, HasSaid, IsAbcast, Sided, end_tail}
 use Rattle.cast_world.proofs.Firsts.{drop_length, kept_length, shorter_begins}
 use Rattle.cast_world.proofs.Flush.{Choice}

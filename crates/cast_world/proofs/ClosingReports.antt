@@ -22,7 +22,7 @@ use Rattle.cast_types.specs.declared.names.SiteNo.{SiteNo}
 use Rattle.cast_types.specs.declared.names.Standing.TheVariants.{Member}
 use Rattle.cast_view.specs.MemberSide.{is_pending}
 use Rattle.cast_world.proofs.Acts.{contains_cons}
-use Rattle.cast_world.proofs.Allowed.{contains_range, passed}
+use Rattle.cast_world.proofs.Allowed.{contains_range, passed, taken_of}
 use Rattle.cast_world.proofs.Closings.{HasReported, HasSaid, IsAbcast, Stopped}
 use Rattle.cast_world.proofs.Flush.{Choice, numbers}
 use Rattle.cast_world.proofs.FlushSteps.{Flushing, own_agrees}
@@ -43,13 +43,6 @@ use Rattle.cast_world.proofs.WindowMoves.{own_leading}
 use Rattle.cast_world.proofs.Windows.{AllWindow, Safe}
 use Rattle.cast_world.specs.Agreement.{IsPrefix, is_in}
 use Rattle.cast_world.specs.Network.{Network}
-
--- what is taken of a list is of it
-pub taken_of : {X : Type 0} (n : ℕ) (xs : List X) (x : X) → Contains (take n xs) x → Contains xs x
-taken_of zero xs x at = absurd (omega (arith, at.1))
-taken_of (suc n) [] x at = absurd (omega (arith, at.1))
-taken_of (suc n) (y ∷ xs) x (zero, lt, is) = (0, omega arith, is)
-taken_of (suc n) (y ∷ xs) x (suc k, lt, is) = let r = taken_of n xs x (k, omega (arith, lt), is) in (suc r.0, omega (arith, r.1), r.2)
 
 -- where none is found no element passes
 none_found : {X : Type 0} (test : X → Bool) (xs : List X) → find test xs ≡ None → (x : X) → Contains xs x → test x ≡ true → ⊥

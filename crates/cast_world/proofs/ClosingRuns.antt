@@ -30,8 +30,8 @@ use Rattle.cast_types.specs.declared.names.SiteNo.{SiteNo}
 use Rattle.cast_types.specs.declared.names.Uid.{Uid}
 use Rattle.cast_world.proofs.Closings.{EndHolds, Ends, IsClosing, SiteClosing, final}
 use Rattle.cast_world.proofs.ClosingMoves.{ClosingNow, closing_quiet, own_closing, still_there}
-use Rattle.cast_world.proofs.ClosingSteps.{kept_closing}
-use Rattle.cast_world.proofs.Events.{event_keeps_fully, rests_keeps_fully}
+use Rattle.cast_world.proofs.ClosingSteps.{books_closing, kept_closing}
+use Rattle.cast_world.proofs.Events.{event_keeps_fully, rests_keeps_fully, sets_any}
 use Rattle.cast_world.proofs.Firsts.{firsts, firsts_apart, take_begin}
 use Rattle.cast_world.proofs.Flush.{AllCovered, Choice, IsChosen, IsTrueOf, SiteAgrees, numbers}
 use Rattle.cast_world.proofs.FlushRuns.{AllAgree, flush_first, flush_last, no_choice, start_agrees}
@@ -185,7 +185,8 @@ step_ended home w v step happens (choice, order, handed, safe, ends, x) = go_on 
     go_on (Some made) e (answer, t, is, same) = subst (AllEnded home) (sym same) (last_closing home w choice order handed safe ends x step.site t
         (rests_keeps_fully (ClosingNow home w step.site no_key) (λ g. ClosingNow home w step.site (is_of_view g)) (Arrived home w step.site) (site_eq step.site home) (kept_closing home w step.site) (after_event (w.at step.site) made) t is.rests
         (event_keeps_fully (ClosingNow home w step.site no_key) (λ g. ClosingNow home w step.site (is_of_view g)) (Arrived home w step.site) (site_eq step.site home) (kept_closing home w step.site) (w.at step.site) made
-        (first_closing home w choice order handed safe ends x step.site) (step_arrives home w (hold home w choice order handed safe ends x step.site) step made e))))
+        (first_closing home w choice order handed safe ends x step.site) (step_arrives home w (hold home w choice order handed safe ends x step.site) step made e)
+        (sets_any (ClosingNow home w step.site no_key) (λ u quotas i. books_closing home w step.site no_key u quotas u.moment u.casts i) (before_event (w.at step.site)) made (first_closing home w choice order handed safe ends x step.site)))))
 
 leads_ended : (home : SiteNo) (steps : List Step) (w v : Network) → Leads w steps v → AllEnded home w → AllEnded home v
 leads_ended home [] w v same i = subst (AllEnded home) (sym same) i

@@ -12,13 +12,14 @@ use Rattle.cast_rules.specs.Effects.{next_message}
 use Rattle.cast_rules.specs.Entering.{parted}
 use Rattle.cast_rules.specs.Owing.{paying_view}
 use Rattle.cast_rules.specs.Reports.{report_in}
-use Rattle.cast_rules.specs.State.{State, emitted, noting_ack, noting_act, noting_sent, noting_stable, outside, receiving, releasing, set_group, set_session, set_standing, with_delivery}
+use Rattle.cast_rules.specs.State.{State, emitted, is_ended, noting_ack, noting_act, noting_sent, noting_stable, outside, receiving, releasing, releasing_ended, set_group, set_session, set_standing, with_delivery}
 use Rattle.cast_rules.specs.Step.{opening_next}
 use Rattle.cast_rules.specs.Turns.{is_ready_for}
 use Rattle.cast_message.specs.Bodies.{kind_of}
 use Rattle.cast_message.specs.declared.message.Body.{Body}
 use Rattle.cast_message.specs.declared.message.Message.{Message}
 use Rattle.cast_message.specs.declared.site.SiteFrame.{SiteFrame}
+use Rattle.cast_quota.specs.declared.quotas.Quotas.{Quotas}
 use Rattle.cast_timer.specs.Owed.{is_of_view, paid, renewed, with_owed}
 use Rattle.cast_timer.specs.declared.key.OwedKey.{OwedKey}
 use Rattle.cast_types.specs.Names.{Entry, entry_of, group_eq, is_atomic, site_eq}
@@ -54,7 +55,7 @@ use Rattle.cast_world.proofs.Orders.{done_in, token_at}
 use Rattle.cast_world.proofs.Steps.{Arrived, own_holds, sites_at}
 use Rattle.cast_world.proofs.WindowGrows.{widened_up}
 use Rattle.cast_world.proofs.WindowMoves.{window_delivers}
-use Rattle.cast_world.proofs.WindowSteps.{WindowNow, delivers_window, kept_window, no_key, sends_window, window_telling}
+use Rattle.cast_world.proofs.WindowSteps.{books_window, WindowNow, delivers_window, kept_window, no_key, sends_window, window_telling}
 use Rattle.cast_world.specs.Agreement.{IsPrefix, is_in}
 use Rattle.cast_world.specs.Network.{Network}
 use Rattle.cast_message.specs.declared.site.SiteFrame.TheVariants as frame
@@ -148,6 +149,11 @@ module _ (home : SiteNo) (w : Network) (a : SiteNo) where
           sent = x.sent;
         })
 
+    pub books_closing : (t : State) (quotas : Quotas) (moment count : ℕ) → ClosingNow home w a skip t → ClosingNow home w a skip (record t { quotas = quotas; moment = moment; casts = count })
+    books_closing t quotas moment count i =
+        let u : State = record t { quotas = quotas; moment = moment; casts = count } in
+        closing_quiet home w a skip skip t u (later_same t) i (books_window home w a skip t quotas moment count i.0) ((flush home w a t i.0.0).telling.books t quotas moment t.acks t.told t.owed count t.pushes (begin home w a t i.0.0)).3 refl refl refl refl refl (λ k g e. e) (still t u (λ g. omega arith)) (λ x. x)
+
     pub closing_telling : FullyKeptByTelling (ClosingNow home w a skip)
     closing_telling = record {
       emits = λ t to f i says adds.
@@ -162,18 +168,16 @@ module _ (home : SiteNo) (w : Network) (a : SiteNo) where
             decision = x.decision;
             sent = λ to_it f_it c. elim (Contains-push_cases t.frames (to, f) (to_it, f_it) c) [ inl old ↦ x.sent to_it f_it old | inr same ↦ subst (λ (p : SiteNo × SiteFrame). IsClosing j.0.1 (at u) j.0.3 j.0.4 j.1 i.1 a p.1) same (new_frame t to f i says adds x f says adds) ];
           });
-      books = λ t quotas moment count i.
-          let u : State = record t { quotas = quotas; moment = moment; casts = count } in
-          closing_quiet home w a skip skip t u (later_same t) i (n.books t quotas moment count i.0) ((flush home w a t i.0.0).telling.books t quotas moment t.acks t.told t.owed count t.pushes (begin home w a t i.0.0)).3 refl refl refl refl refl (λ k g e. e) (still t u (λ g. omega arith)) (λ x. x);
+      books = λ t moment count i. books_closing t t.quotas moment count i;
       pushes = λ t k p i agrees.
           let u : State = record t { pushes = t.pushes ++ (k, p) ∷ [] } in
           closing_quiet home w a skip skip t u (later_same t) i (n.pushes t k p i.0 agrees) ((flush home w a t i.0.0).telling.books t t.quotas t.moment t.acks t.told t.owed t.casts (t.pushes ++ (k, p) ∷ []) (begin home w a t i.0.0)).3 refl refl refl refl refl (λ k_it g e. e) (still t u (λ g. omega arith)) (λ x. x);
-      owes = λ t key due i owes.
+      owes = λ t key due i owes wants.
           let u : State = record t { owed = with_owed t.owed key due } in
-          closing_quiet home w a skip skip t u (later_same t) i (n.owes t key due i.0 owes) ((flush home w a t i.0.0).telling.books t t.quotas t.moment t.acks t.told (with_owed t.owed key due) t.casts t.pushes (begin home w a t i.0.0)).3 refl refl refl refl refl (λ k g e. e) (still t u (λ g. omega arith)) (λ x. x);
-      renews = λ t key due i owes.
+          closing_quiet home w a skip skip t u (later_same t) i (n.owes t key due i.0 owes wants) ((flush home w a t i.0.0).telling.books t t.quotas t.moment t.acks t.told (with_owed t.owed key due) t.casts t.pushes (begin home w a t i.0.0)).3 refl refl refl refl refl (λ k g e. e) (still t u (λ g. omega arith)) (λ x. x);
+      renews = λ t key due i owes owed.
           let u : State = record t { owed = renewed t.owed key due } in
-          closing_quiet home w a skip skip t u (later_same t) i (n.renews t key due i.0 owes) ((flush home w a t i.0.0).telling.books t t.quotas t.moment t.acks t.told (renewed t.owed key due) t.casts t.pushes (begin home w a t i.0.0)).3 refl refl refl refl refl (λ k g e. e) (still t u (λ g. omega arith)) (λ x. x);
+          closing_quiet home w a skip skip t u (later_same t) i (n.renews t key due i.0 owes owed) ((flush home w a t i.0.0).telling.books t t.quotas t.moment t.acks t.told (renewed t.owed key due) t.casts t.pushes (begin home w a t i.0.0)).3 refl refl refl refl refl (λ k g e. e) (still t u (λ g. omega arith)) (λ x. x);
       pays = λ t test i.
           let u : State = record t { owed = paid test t.owed } in
           closing_quiet home w a skip skip t u (later_same t) i (n.pays t test i.0) ((flush home w a t i.0.0).telling.books t t.quotas t.moment t.acks t.told (paid test t.owed) t.casts t.pushes (begin home w a t i.0.0)).3 refl refl refl refl refl (λ k g e. e) (still t u (λ g. omega arith)) (λ x. x);
@@ -332,6 +336,7 @@ module _ (home : SiteNo) (w : Network) (a : SiteNo) where
       (λ h e. asks ((t.process n).standing h) (group_eq g h) ((t.group g).asked + 1) (view_of (t.process n).time g) e)
 
   pub kept_closing : FullyKept (ClosingNow home w a no_key) (λ g. ClosingNow home w a (is_of_view g)) (Arrived home w a) (site_eq a home)
+  unfolding closing_telling
   kept_closing = record {
     telling = closing_telling no_key;
     between = λ g. closing_telling (is_of_view g);
@@ -350,8 +355,8 @@ module _ (home : SiteNo) (w : Network) (a : SiteNo) where
           decision = x.decision;
           sent = x.sent;
         });
-    sends = λ t g k content i member may. sends_closing t g k content i member may;
-    receives = λ t from m i came view member. closing_quiet home w a no_key no_key t (receiving t m) (later_same t) i ((kept_window home w a).receives t from m i.0 came view member) ((flush home w a t i.0.0).receives t from m (begin home w a t i.0.0) came view member).3
+    sends = λ t g k content i member may room. sends_closing t g k content i member may;
+    receives = λ t from m i came view member may. closing_quiet home w a no_key no_key t (receiving t m) (later_same t) i ((kept_window home w a).receives t from m i.0 came view member may) ((flush home w a t i.0.0).receives t from m (begin home w a t i.0.0) came view member).3
         refl refl refl refl refl (λ k g e. e) (still t (receiving t m) (λ g. omega arith)) (λ x. x);
     acknowledged = λ t from z i came. closing_quiet home w a no_key no_key t (noting_ack t from z) (later_same t) i ((kept_window home w a).acknowledged t from z i.0 came)
         ((flush home w a t i.0.0).telling.books t t.quotas t.moment (t.acks ++ (from, z) ∷ []) t.told t.owed t.casts t.pushes (begin home w a t i.0.0)).3 refl refl refl refl refl (λ k g e. e) (still t (noting_ack t from z) (λ g. omega arith)) (λ x. x);
@@ -361,7 +366,10 @@ module _ (home : SiteNo) (w : Network) (a : SiteNo) where
     freezes = λ t g i current. group_closing no_key t g (frozen_side (t.group g)) (omega arith) i ((kept_window home w a).freezes t g i.0 current) ((flush home w a t i.0.0).freezes t g (begin home w a t i.0.0) current).3 refl refl refl refl (λ e. refl) refl;
     pends = λ t from g p tail i came current waits. pends_closing home w a t from g p tail i came current waits;
     passes = λ t g skipped n members request cut i comes. passes_closing home w a t g skipped n members request cut i comes;
-    ends = λ t g i. closing_quiet home w a (is_of_view g) no_key t (paying_view t g) (later_same t) i ((kept_window home w a).ends t g i.0)
-        ((flush home w a t i.0.0).telling.books t t.quotas t.moment t.acks t.told (paid (is_of_view g) t.owed) t.casts t.pushes (begin home w a t i.0.0)).3 refl refl refl refl refl (λ k h e. e) (still t (paying_view t g) (λ h. omega arith)) (λ x. x);
+    ends = λ t g i.
+        let less : State = releasing_ended t g in
+        let x : ClosingNow home w a (is_of_view g) less = (closing_telling (is_of_view g)).releases t (is_ended t g) i in
+        closing_quiet home w a (is_of_view g) no_key less (paying_view less g) (later_same less) x ((kept_window home w a).ends t g i.0)
+        ((flush home w a less x.0.0).telling.books less less.quotas less.moment less.acks less.told (paid (is_of_view g) less.owed) less.casts less.pushes (begin home w a less x.0.0)).3 refl refl refl refl refl (λ k h e. e) (still less (paying_view less g) (λ h. omega arith)) (λ x_it. x_it);
     homes = homes_closing home w a;
   }

@@ -84,10 +84,10 @@ passing_goes_on s g skipped n members request cut k = two (enters (putting_out s
 pub goes_on_telling : (s : State) → FullyKeptByTelling (GoesOn s)
 goes_on_telling s = record {
   emits = λ t to f i says adds. i;
-  books = λ t quotas moment casts i. i;
+  books = λ t moment casts i. i;
   pushes = λ t k p i agrees. i;
-  owes = λ t key due i owes. i;
-  renews = λ t key due i owes. i;
+  owes = λ t key due i owes wants. i;
+  renews = λ t key due i owes owed. i;
   pays = λ t test i. i;
   releases = λ t passes i. i;
   sets_session = λ t k v i same. i;

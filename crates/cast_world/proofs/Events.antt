@@ -1,20 +1,24 @@
 -- What the moves of a history keep, it keeps through each event and through the rest that follows.
 use Rattle.std.proofs.Common.{ap, inl, inr, subst, sym, ◌∙◌}
-use Rattle.std.proofs.lemmas.Bool.{and_parts, false≢true}
+use Rattle.std.proofs.lemmas.Bool.{and_from, and_parts, eq-eqb, false≢true}
 use Rattle.std.specs.List.{find, fold}
-use Rattle.std.specs.Prelude.{Bool, Contains, None, List, Option, Some, [], false, if◌then◌else◌, is_some, length, not, refl, true, unwrap_or, ℕ, ◌&&◌, ◌+◌, ◌∷◌, ◌≡◌, ◌⊎◌}
-use Rattle.cast_delay.specs.Ready.{is_member}
+use Rattle.std.specs.Option.{option_map_or}
+use Rattle.std.specs.Prelude.{Bool, Contains, None, List, Option, Some, [], false, filter, if◌then◌else◌, is_some, length, not, refl, true, unwrap_or, ℕ, ◌&&◌, ◌+◌, ◌==◌, ◌∷◌, ◌≡◌, ◌⊎◌}
+use Rattle.cast_delay.specs.Ready.{covered, is_member}
 use Rattle.cast_rules.specs.Acts.Act.{Delivered}
 use Rattle.cast_rules.specs.Effects.{delivering, sending}
 use Rattle.cast_rules.specs.History.{history}
 use Rattle.cast_rules.specs.Order.{has_place, holders, holds, order_told, unlisted}
-use Rattle.cast_rules.specs.Reports.{has_delivered_cut, missing_in}
+use Rattle.cast_rules.specs.Owing.{noting_owed}
+use Rattle.cast_rules.specs.Reports.{has_delivered_cut, is_missing, missing_in}
 use Rattle.cast_rules.specs.Rest.{RestsAt, deliver_all, deliver_first, is_free, let_go, pass, set_order, set_order_by, set_orders, settle}
 use Rattle.cast_rules.specs.Resting.{next_places, places_of, resting}
 use Rattle.cast_rules.specs.Rules.Events.{is_taken, may_open}
 use Rattle.cast_rules.specs.Rules.Flushes.{complete, complete_or_want, go_on, go_on_all, own_want_key, want_own}
 use Rattle.cast_rules.specs.Rules.Order.{list_places, may_list}
+use Rattle.cast_rules.specs.Rules.Owing.{frame_for, owe}
 use Rattle.cast_rules.specs.Rules.Rest.{tell_if, told_of}
+use Rattle.cast_rules.specs.Rules.Room.{may_order}
 use Rattle.cast_rules.specs.Rules.Sending.{may_raise}
 use Rattle.cast_rules.specs.Run.{after_event, before_event}
 use Rattle.cast_rules.specs.State.{State, local, serials, setting_quota, taking, with_delivery}
@@ -27,16 +31,26 @@ use Rattle.cast_message.specs.declared.site.SiteFrame.{SiteFrame}
 use Rattle.cast_events.specs.Session.{is_gone, taken_from}
 use Rattle.cast_events.specs.declared.event.Event.{Event}
 use Rattle.cast_quota.specs.Quotas.{is_in_range, with_quota}
+use Rattle.cast_quota.specs.declared.quotas.Quotas.{Quotas}
+use Rattle.cast_timer.specs.Owed.{is_owed}
+use Rattle.cast_timer.specs.declared.key.OwedKey.{OwedKey}
+use Rattle.cast_types.proofs.Orders.{entry_itself}
+use Rattle.cast_types.specs.Counts.{CountList}
+use Rattle.cast_types.specs.Names.{Entry, entry_eq}
+use Rattle.cast_types.specs.Sets.{is_among}
+use Rattle.cast_types.specs.declared.limits.TheConstants.{MAX_PLACED}
 use Rattle.cast_types.specs.declared.names.GroupNo.{GroupNo}
 use Rattle.cast_types.specs.declared.names.SiteNo.{SiteNo}
 use Rattle.cast_view.specs.Home.{is_empty}
+use Rattle.cast_view.specs.MemberSide.{MemberSide}
 use Rattle.cast_view.specs.declared.member.Pending.{Pending}
 use Rattle.cast_world.proofs.Acts.{contains_here}
-use Rattle.cast_world.proofs.Allowed.{contains_more, passed}
+use Rattle.cast_world.proofs.Allowed.{among_of, contains_more, passed, taken_of}
 use Rattle.cast_world.proofs.Entries.{delivered_now, told_agrees}
 use Rattle.cast_world.proofs.Handlers.{commanded_keeps, framed_keeps, install_keeps, lead_keeps, sending_keeps, suspect_keeps}
 use Rattle.cast_world.proofs.Keeps.{found_is, keeps_fold, keeps_if, keeps_iterate, keeps_option}
-use Rattle.cast_world.proofs.Kept.{AcksFreely, Kept, OwedTrue, FullyKept, FullyKeptByTelling, completes, lists, kept_fully}
+use Rattle.cast_world.proofs.Homes.{among_kept}
+use Rattle.cast_world.proofs.Kept.{AcksFreely, Kept, OwedTrue, Wants, FullyKept, FullyKeptByTelling, completes, lists, kept_fully}
 use Rattle.cast_world.proofs.Telling.{end_session_keeps, owe_keeps, tell_keeps, tick_keeps}
 use Rattle.cast_world.proofs.Tokens.{holds_still}
 use Rattle.cast_message.specs.declared.message.Body.TheVariants as body
@@ -66,6 +80,39 @@ any_came (event.Suspect d site) = tt
 any_came (event.Quota d name value) = tt
 any_came (event.Take d n most) = tt
 any_came (event.Tick t) = tt
+
+-- where an event sets a quota, that is kept
+abbrev pub SetsWell : (State → Type 0) → State → Event → Type 0
+SetsWell I s (event.Open d) = Unit {0}
+SetsWell I s (event.Command d n c) = Unit {0}
+SetsWell I s (event.Gone d n) = Unit {0}
+SetsWell I s (event.Frame d from f) = Unit {0}
+SetsWell I s (event.Suspect d site) = Unit {0}
+SetsWell I s (event.Quota d name value) = I (setting_quota s name value)
+SetsWell I s (event.Take d n most) = Unit {0}
+SetsWell I s (event.Tick t) = Unit {0}
+
+-- so it is where any quotas are
+pub sets_any : (I : State → Type 0) → ((s : State) (quotas : Quotas) → I s → I (record s { quotas = quotas })) → (s : State) (e : Event) → I s → SetsWell I s e
+sets_any I any s (event.Open d) i = tt
+sets_any I any s (event.Command d n c) i = tt
+sets_any I any s (event.Gone d n) i = tt
+sets_any I any s (event.Frame d from f) i = tt
+sets_any I any s (event.Suspect d site) i = tt
+sets_any I any s (event.Quota d name value) i = any s (with_quota name value s.quotas) i
+sets_any I any s (event.Take d n most) i = tt
+sets_any I any s (event.Tick t) i = tt
+
+-- what is missing within a cut is one that the cut names
+missing_named : (s : State) (g : GroupNo) (cut : CountList) (x : Entry) → Contains (missing_in s g cut) x → is_among entry_eq x (covered cut) ≡ true
+missing_named s g cut x at =
+    among_of entry_eq entry_itself (covered cut) x (among_kept (is_missing s g) (covered cut) x (taken_of MAX_PLACED (filter (is_missing s g) (covered cut)) x at))
+
+-- so a Want of it is of a message that the waiting Install covers
+named_covers : (s : State) (g : GroupNo) (p : Pending) → (s.group g).pending ≡ Some p → (x : Entry) → is_among entry_eq x (covered p.cut) ≡ true → Wants s (own_want_key history s g x)
+named_covers s g p pending x named_it =
+    ap (λ (o : Option Pending). elim o [ Some q ↦ ((s.group g).number == (s.group g).number) && is_among entry_eq x (covered q.cut) | None ↦ false ]) pending
+    ∙ and_from ((s.group g).number == (s.group g).number) (is_among entry_eq x (covered p.cut)) (eq-eqb (s.group g).number (s.group g).number refl) named_it
 
 is_false : (b : Bool) → not b ≡ true → b ≡ false
 is_false true e = absurd (false≢true e)
@@ -112,7 +159,8 @@ module _ (I : State → Type 0) (Between : GroupNo → State → Type 0) (Came :
       (λ may. keeps_option I (list_places history resting s g n) (next_places s g n) s
       (λ places next. keeps_if I (may_raise (s.process n).time g (local s n)) (let_go (sending s g n (body.Order places))) s
       (λ _. let_go_keeps (sending s g n (body.Order places)) (sending_keeps I Between Came home_here k s g n (body.Order places) i (and_parts (is_member ((s.process n).standing g)) _ may).0
-      (lists held (is_false (s.group g).frozen (and_parts (not (s.group g).frozen) _ (and_parts (is_member ((s.process n).standing g)) _ may).1).0) (next_are s g n places next))))
+      (lists held (is_false (s.group g).frozen (and_parts (not (s.group g).frozen) (may_order history s) (and_parts (is_member ((s.process n).standing g)) _ may).1).0) (next_are s g n places next))
+      (and_parts (not (s.group g).frozen) (may_order history s) (and_parts (is_member ((s.process n).standing g)) _ may).1).1))
       (λ _. i)) i) (λ _. i)
 
   set_order_keeps : (s : State) (g : GroupNo) → I s → I (set_order s g)
@@ -122,6 +170,23 @@ module _ (I : State → Type 0) (Between : GroupNo → State → Type 0) (Came :
       each [] r j held = j
       each (n ∷ ns) r j held = each ns (set_order_by r g n) (set_order_by_keeps r g n j (held n (contains_here [] ns n))) (λ m at. holds_still r g n m ∙ held m (contains_more n ns m at))
 
+  -- owing a Want changes no group
+  same_group : (s : State) (key : OwedKey) → (owe history s key).group ≡ s.group
+  same_group s key = go (is_owed s.owed key) (frame_for history s key)
+    where
+      go : (b : Bool) (o : Option SiteFrame) → (if b then s else noting_owed (option_map_or (history.send s key.site) o s) key).group ≡ s.group
+      go true o = refl
+      go false None = refl
+      go false (Some f) = refl
+
+  want_all : (g : GroupNo) (p : Pending) (xs : List Entry) (s : State) → I s → (s.group g).pending ≡ Some p → ((x : Entry) → Contains xs x → is_among entry_eq x (covered p.cut) ≡ true) →
+      I (fold (want_own history g) s xs)
+  want_all g p [] s i pending named_all = i
+  want_all g p (x ∷ xs) s i pending named_all =
+      let key : OwedKey = own_want_key history s g x in
+      want_all g p xs (owe history s key) (owe_keeps I t s key i tt (named_covers s g p pending x (named_all x (contains_here [] xs x))))
+      (ap (λ (f : GroupNo → MemberSide). (f g).pending) (same_group s key) ∙ pending) (λ y at. named_all y (contains_more x xs y at))
+
   go_on_keeps : (s : State) (g : GroupNo) → I s → I (go_on history resting s g)
   go_on_keeps s g i = go (s.group g).pending refl
     where
@@ -130,7 +195,7 @@ module _ (I : State → Type 0) (Between : GroupNo → State → Type 0) (Came :
       go (Some p) e = keeps_if I (has_delivered_cut s g p.cut) (let_go (complete history s g p)) (fold (want_own history g) s (missing_in s g p.cut))
           (λ all. let_go_keeps (complete history s g p)
           (install_keeps I Between Came home_here k s g false s.config.home ((s.group g).number + 1) p.members p.request p.cut i (completes p e all refl refl refl refl refl)))
-          (λ _. keeps_fold I (want_own history g) (λ r x j. owe_keeps I t r (own_want_key history r g x) j tt) (missing_in s g p.cut) s i)
+          (λ _. want_all g p (missing_in s g p.cut) s i e (missing_named s g p.cut))
 
   pub pass_keeps : (s : State) → I s → I (pass s)
   pass_keeps s i =
@@ -149,20 +214,20 @@ module _ (I : State → Type 0) (Between : GroupNo → State → Type 0) (Came :
   owed_or_free : (s : State) → I s → OwedTrue s ⊎ AcksFreely I
   owed_or_free s i = elim k.truly [ inl owed ↦ inl (owed s i) | inr free ↦ inr free ]
 
-  acted_keeps : (s : State) (e : Event) → I s → HasCome Came e → I (acted s e)
-  acted_keeps s (event.Open d) i come = keeps_if I (may_open history sessions_given s) (opening_next s) s (λ _. k.opens s i) (λ _. i)
-  acted_keeps s (event.Command d n c) i come = commanded_keeps I Between Came home_here k s n c i
-  acted_keeps s (event.Gone d n) i come = end_session_keeps I t s n i
-  acted_keeps s (event.Frame d from f) i come = framed_keeps I Between Came home_here k s from f i come
-  acted_keeps s (event.Suspect d site) i come = suspect_keeps I Between Came home_here k s site i
-  acted_keeps s (event.Quota d name value) i come = keeps_if I (is_in_range name value) (setting_quota s name value) s
-      (λ _. t.books s (with_quota name value s.quotas) s.moment s.casts i) (λ _. i)
-  acted_keeps s (event.Take d n most) i come = keeps_if I (not (is_gone (s.session n)) && is_taken most) (taking s n most) s
+  acted_keeps : (s : State) (e : Event) → I s → HasCome Came e → SetsWell I s e → I (acted s e)
+  acted_keeps s (event.Open d) i come sets = keeps_if I (may_open history sessions_given s) (opening_next s) s (λ _. k.opens s i) (λ _. i)
+  acted_keeps s (event.Command d n c) i come sets = commanded_keeps I Between Came home_here k s n c i
+  acted_keeps s (event.Gone d n) i come sets = end_session_keeps I t s n i
+  acted_keeps s (event.Frame d from f) i come sets = framed_keeps I Between Came home_here k s from f i come
+  acted_keeps s (event.Suspect d site) i come sets = suspect_keeps I Between Came home_here k s site i
+  acted_keeps s (event.Quota d name value) i come sets = keeps_if I (is_in_range name value) (setting_quota s name value) s
+      (λ _. sets) (λ _. i)
+  acted_keeps s (event.Take d n most) i come sets = keeps_if I (not (is_gone (s.session n)) && is_taken most) (taking s n most) s
       (λ _. t.sets_session s n (taken_from most (s.session n)) i (λ e. e)) (λ _. i)
-  acted_keeps s (event.Tick time) i come = tick_keeps I t s time i (owed_or_free s i)
+  acted_keeps s (event.Tick time) i come sets = tick_keeps I t s time i (owed_or_free s i)
 
-  pub event_keeps_fully : (s : State) (e : Event) → I (before_event s) → HasCome Came e → I (after_event s e)
-  event_keeps_fully s e i come = let_go_keeps (acted (before_event s) e) (acted_keeps (before_event s) e i come)
+  pub event_keeps_fully : (s : State) (e : Event) → I (before_event s) → HasCome Came e → SetsWell I (before_event s) e → I (after_event s e)
+  event_keeps_fully s e i come sets = let_go_keeps (acted (before_event s) e) (acted_keeps (before_event s) e i come sets)
 
 -- the same of what does not look at what is owed
 module _ (I : State → Type 0) (Came : SiteNo → SiteFrame → Type 0) (home_here : Bool) (k : Kept I Came home_here) where
@@ -170,4 +235,5 @@ module _ (I : State → Type 0) (Came : SiteNo → SiteFrame → Type 0) (home_h
   rests_keeps = rests_keeps_fully I (λ g. I) Came home_here (kept_fully I Came home_here k)
 
   pub after_event_keeps : (s : State) (e : Event) → I (before_event s) → HasCome Came e → I (after_event s e)
-  after_event_keeps = event_keeps_fully I (λ g. I) Came home_here (kept_fully I Came home_here k)
+  after_event_keeps s e i come = event_keeps_fully I (λ g. I) Came home_here (kept_fully I Came home_here k) s e i come
+      (sets_any I (λ t quotas j. k.telling.books t quotas t.moment t.acks t.told t.owed t.casts t.pushes j) (before_event s) e i)

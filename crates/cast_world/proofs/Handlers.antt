@@ -63,7 +63,7 @@ use Rattle.cast_view.specs.declared.member.Verdict.{Verdict}
 use Rattle.cast_view.specs.declared.member.Verdict.TheVariants.{Again, Completes, Ignored, Pends, Skips}
 use Rattle.cast_world.proofs.Entries.{agrees_later, members_entered, put_out_left, tell_all_goes_on, tell_all_keeps}
 use Rattle.cast_world.proofs.Keeps.{found_is, keeps_fold, keeps_if, keeps_option}
-use Rattle.cast_world.proofs.Kept.{Comes, MaySend, FullyKept, FullyKeptByTelling, casts, ends, hands, installs, skips}
+use Rattle.cast_world.proofs.Kept.{Comes, MaySend, FullyKept, FullyKeptByTelling, casts, ends, fits, hands, installs, skips, wanted}
 use Rattle.cast_world.proofs.Telling.{ask_home_keeps, close_session_keeps, leave_at_keeps, outcome, owe_keeps, pay_keeps, request_keeps, send_for_keeps, tell_keeps}
 use Rattle.cast_message.specs.declared.site.Change.TheVariants as change
 use Rattle.cast_message.specs.declared.client.CastKind.TheVariants as kind_name
@@ -99,14 +99,14 @@ module _ (I : State → Type 0) (Between : GroupNo → State → Type 0) (Came :
 
   send_data_keeps : (u : Uid) (s : State) (to : SiteNo) → I s → I (send_data history u s to)
   send_data_keeps u s to i = keeps_if I (has_acked s.acks u to) (send_for history s (message_key kinds.Data u to)) (owe history s (message_key kinds.Data u to))
-      (λ _. send_for_keeps I t s (message_key kinds.Data u to) i tt) (λ _. owe_keeps I t s (message_key kinds.Data u to) i tt)
+      (λ _. send_for_keeps I t s (message_key kinds.Data u to) i tt) (λ _. owe_keeps I t s (message_key kinds.Data u to) i tt tt)
 
-  pub sending_keeps : (s : State) (g : GroupNo) (n : ℕ) (content : Body) → I s → is_member ((s.process n).standing g) ≡ true → MaySend s g n content →
+  pub sending_keeps : (s : State) (g : GroupNo) (n : ℕ) (content : Body) → I s → is_member ((s.process n).standing g) ≡ true → MaySend s g n content → may_take history s content ≡ true →
       I (send_own history s n (next_message s g n content))
-  sending_keeps s g n content i member may =
+  sending_keeps s g n content i member may room =
       let m : Message = next_message s g n content in
       let taken : State = receiving (noting_sent s n m) m in
-      keeps_fold I (send_data history m.id) (send_data_keeps m.id) (others_of taken m.id.group) taken (k.sends s g n content i member may)
+      keeps_fold I (send_data history m.id) (send_data_keeps m.id) (others_of taken m.id.group) taken (k.sends s g n content i member may room)
 
   -- Commands
 
@@ -157,25 +157,26 @@ module _ (I : State → Type 0) (Between : GroupNo → State → Type 0) (Came :
           (λ member. refused_or (s.group g).frozen s Flushing _ i
           (λ _. refused_or (awaits_own s n) s OwnAbcast _ i
           (λ _. refused_or (not (may_receive history s)) s HeldFull _ i
-          (λ _. refused_or (not (may_raise (s.process n).time g (local s n))) s HeldFull (counting_cast (send_own history s n (next_message s g n (body_of kind payload))), None) i
+          (λ room. refused_or (not (may_raise (s.process n).time g (local s n))) s HeldFull (counting_cast (send_own history s n (next_message s g n (body_of kind payload))), None) i
           (λ _.
           let sent : State = send_own history s n (next_message s g n (body_of kind payload)) in
-          t.books sent sent.quotas sent.moment (min MAX_CASTS (sent.casts + 1))
-          (sending_keeps s g n (body_of kind payload) i (not_true (is_member ((s.process n).standing g)) member) (casts (no_order kind payload)))))))))
+          t.books sent sent.moment (min MAX_CASTS (sent.casts + 1))
+          (sending_keeps s g n (body_of kind payload) i (not_true (is_member ((s.process n).standing g)) member) (casts (no_order kind payload))
+          (ap (λ b. if b then may_order history s else may_receive history s) (no_order kind payload) ∙ not_true (may_receive history s) room))))))))
 
       place : (b : Bool) → I (outcome (option_map_or (cast_at history s n g kind payload) (if b then Some g else None) (s, Some NoGroup)))
       place true = at
       place false = i
 
   -- who has settled all that it ordered hands the token over
-  handed_keeps : (s : State) (n : ℕ) (g : GroupNo) (to : Proc) → I s → is_member ((s.process n).standing g) ≡ true → holds s g n ≡ true → (s.group g).frozen ≡ false → (o : Option ℕ) → place_to_pass s g n ≡ o →
+  handed_keeps : (s : State) (n : ℕ) (g : GroupNo) (to : Proc) → I s → is_member ((s.process n).standing g) ≡ true → holds s g n ≡ true → (s.group g).frozen ≡ false → may_order history s ≡ true → (o : Option ℕ) → place_to_pass s g n ≡ o →
       I (outcome (option_map_or (hand_over history s n g to g) o (s, Some HeldFull)))
-  handed_keeps s n g to i member held open_it None e = i
-  handed_keeps s n g to i member held open_it (Some place) e = itself (proc_eq to (local s n))
+  handed_keeps s n g to i member held open_it room None e = i
+  handed_keeps s n g to i member held open_it room (Some place) e = itself (proc_eq to (local s n))
     where
       itself : (b : Bool) → I (outcome (if b then (s, None) else (send_own history s n (next_message s g n (body_handing place to)), None)))
       itself true = i
-      itself false = sending_keeps s g n (body_handing place to) i member (hands place to held open_it e refl)
+      itself false = sending_keeps s g n (body_handing place to) i member (hands place to held open_it e refl) room
 
   pass_token_keeps : (s : State) (n : ℕ) (g : GroupNo) (to : Proc) → I s → I (outcome (pass_token history s n g to))
   pass_token_keeps s n g to i = place (is_group s g)
@@ -187,8 +188,8 @@ module _ (I : State → Type 0) (Between : GroupNo → State → Type 0) (Came :
           (λ open_it. refused_or (awaits_own s n) s OwnAbcast _ i
           (λ _. refused_or (not (holds s g n)) s NotHolder _ i
           (λ held. refused_or (not (may_order history s)) s HeldFull _ i
-          (λ _. refused_or (not (may_raise (s.process n).time g (local s n))) s HeldFull (option_map_or (hand_over history s n g to g) (place_to_pass s g n) (s, Some HeldFull)) i
-          (λ _. handed_keeps s n g to i (not_true (is_member ((s.process n).standing g)) member) (not_true (holds s g n) held) open_it (place_to_pass s g n) refl)))))))
+          (λ room. refused_or (not (may_raise (s.process n).time g (local s n))) s HeldFull (option_map_or (hand_over history s n g to g) (place_to_pass s g n) (s, Some HeldFull)) i
+          (λ _. handed_keeps s n g to i (not_true (is_member ((s.process n).standing g)) member) (not_true (holds s g n) held) open_it (not_true (may_order history s) room) (place_to_pass s g n) refl)))))))
 
       place : (b : Bool) → I (outcome (option_map_or (pass_at history s n g to) (if b then Some g else None) (s, Some NoGroup)))
       place true = at
@@ -210,7 +211,7 @@ module _ (I : State → Type 0) (Between : GroupNo → State → Type 0) (Came :
   acknowledge_keeps : (s : State) (to : SiteNo) (u : Uid) → I s → is_received s u ≡ true → u.view ≡ (s.group u.group).number → I (acknowledge history s to u)
   acknowledge_keeps s to u i has current = keeps_if I (is_stable s u) (emitted s to (frame.Ack u)) (owe history s (message_key kinds.Ack u to))
       (λ _. t.emits s to (frame.Ack u) i tt has)
-      (λ _. owe_keeps I t s (message_key kinds.Ack u to) i (ap (λ n. is_received s (record { group = u.group; view = n; proc = u.proc; count = u.count })) (sym current) ∙ has))
+      (λ _. owe_keeps I t s (message_key kinds.Ack u to) i (ap (λ n. is_received s (record { group = u.group; view = n; proc = u.proc; count = u.count })) (sym current) ∙ has) tt)
 
   received_now : (got : List Message) (m : Message) → list_any (λ x. uid_eq x.id m.id) (got ++ m ∷ []) ≡ true
   received_now [] m = ap (λ b. b || false) (uid_itself m.id)
@@ -229,10 +230,10 @@ module _ (I : State → Type 0) (Between : GroupNo → State → Type 0) (Came :
       let b = and_parts (not (site_eq from s.here)) _ a.1 in
       let c = and_parts (m.id.view == (s.group m.id.group).number) (is_well_formed history s (members_of (s.group m.id.group)) m) b.1 in
       let current : m.id.view ≡ (s.group m.id.group).number = eqb-true m.id.view (s.group m.id.group).number c.0 in
-      let taken : I (receiving s m) = k.receives s from m i (inl came) current (well_formed_member s (members_of (s.group m.id.group)) m c.1) in
       keeps_if I (is_received s m.id) (emitted s from (frame.Ack m.id)) _ (λ has. t.emits s from (frame.Ack m.id) i tt has)
       (λ _. keeps_if I (may_take history s m.body) (want_no_more history (acknowledge history (receiving s m) from m.id) m.id) s
-      (λ _. pay_keeps I t (acknowledge history (receiving s m) from m.id) (message_key kinds.Want m.id (acknowledge history (receiving s m) from m.id).config.home) (acknowledge_keeps (receiving s m) from m.id taken (received_now s.got m) current)) (λ _. i))
+      (λ room. pay_keeps I t (acknowledge history (receiving s m) from m.id) (message_key kinds.Want m.id (acknowledge history (receiving s m) from m.id).config.home) (acknowledge_keeps (receiving s m) from m.id
+      (k.receives s from m i (inl came) current (well_formed_member s (members_of (s.group m.id.group)) m c.1) (fits room)) (received_now s.got m) current)) (λ _. i))
 
   on_data_keeps : (s : State) (from : SiteNo) (m : Message) → I s → Came from (frame.Data m) → I (on_data history s m.id.group from m)
   on_data_keeps s from m i came = keeps_if I (is_used history s m.id.group from m) (use_data history s from m) _ (use_data_keeps s from m i came)
@@ -312,27 +313,27 @@ module _ (I : State → Type 0) (Between : GroupNo → State → Type 0) (Came :
 
   on_wanted_keeps : (s : State) (from : SiteNo) (m : Message) → I s → Came from (frame.Forward m) → I (on_wanted history s m.id.group from m)
   on_wanted_keeps s from m i came = keeps_if I (is_from_home history s from && is_wanted_here history s m.id.group m) _ s
-      (λ wanted.
-      let a = and_parts (is_pending (s.group m.id.group)) _ (and_parts (is_from_home history s from) _ wanted).1 in
+      (λ may.
+      let a = and_parts (is_pending (s.group m.id.group)) _ (and_parts (is_from_home history s from) _ may).1 in
       let b = and_parts (is_owed s.owed (message_key kinds.Want m.id s.config.home)) _ a.1 in
       let c = and_parts (m.id.view == (s.group m.id.group).number) (is_well_formed history s (members_of (s.group m.id.group)) m) b.1 in
       pay_keeps I t (receiving s m) (message_key kinds.Want m.id s.config.home)
-      (k.receives s from m i (inr came) (eqb-true m.id.view (s.group m.id.group).number c.0) (well_formed_member s (members_of (s.group m.id.group)) m c.1))) (λ _. i)
+      (k.receives s from m i (inr came) (eqb-true m.id.view (s.group m.id.group).number c.0) (well_formed_member s (members_of (s.group m.id.group)) m c.1) (wanted b.0))) (λ _. i)
 
   -- The home
 
   prepare_keeps : (s : State) (g : GroupNo) → I s → I (prepare history s g)
-  prepare_keeps s g i = keeps_fold I (owe_of_home history kinds.Prepare g) (λ r to j. owe_keeps I t r (home_key kinds.Prepare g to) j tt) (awaited_of (s.home g).phase) s i
+  prepare_keeps s g i = keeps_fold I (owe_of_home history kinds.Prepare g) (λ r to j. owe_keeps I t r (home_key kinds.Prepare g to) j tt tt) (awaited_of (s.home g).phase) s i
 
   announce_keeps : (s : State) (g : GroupNo) → I s → I (announce history s g)
-  announce_keeps s g i = keeps_fold I (owe_of_home history kinds.Install g) (λ r to j. owe_keeps I t r (home_key kinds.Install g to) j tt) (waiting_of (s.home g).phase) s i
+  announce_keeps s g i = keeps_fold I (owe_of_home history kinds.Install g) (λ r to j. owe_keeps I t r (home_key kinds.Install g to) j tt tt) (waiting_of (s.home g).phase) s i
 
   start_keeps : (s : State) (g : GroupNo) → I s → I (start history s g)
   start_keeps s g i = keeps_if I (may_start (s.home g)) (prepare history (set_home s g (moved Started (s.home g))) g) s
       (λ _. prepare_keeps (set_home s g (moved Started (s.home g))) g (k.homes s g Started i tt)) (λ _. i)
 
   want_bodies_keeps : (s : State) (g : GroupNo) → I s → I (want_bodies history s g)
-  want_bodies_keeps s g i = keeps_fold I (want history g) (λ r w j. owe_keeps I t r (want_key g w) j tt) (wants history s g) s i
+  want_bodies_keeps s g i = keeps_fold I (want history g) (λ r w j. owe_keeps I t r (want_key g w) j tt tt) (wants history s g) s i
 
   decide_keeps : (s : State) (g : GroupNo) → home_here ≡ true → I s → I (decide history s g)
   decide_keeps s g here i = keeps_if I (may_decide g (s.home g)) (announce history (set_home s g (moved Decided (s.home g))) g) s
@@ -406,7 +407,7 @@ module _ (I : State → Type 0) (Between : GroupNo → State → Type 0) (Came :
       (tell_all_keeps (push.Ejected g n) (Between g) b (history.put_out s g skipped members) entered (k.passes s g skipped n members request cut i comes) (put_out_left s g skipped n members request cut))
       (λ q at. agrees_later (entered.acts q) (out.acts q) (tell_all_goes_on (push.Ejected g n) (history.put_out s g skipped members) entered (put_out_left s g skipped n members request cut) q)
       (push.View g n members) (members_entered s g skipped n members request cut q at)) in
-      k.ends (releasing_ended told g) g (b.releases told (is_ended told g) all)
+      k.ends told g all
 
   pub install_keeps : (s : State) (g : GroupNo) (skipped : Bool) (to : SiteNo) (n : ℕ) (members : Membership) (request : ℕ) (cut : CountList) → I s →
       Comes Came s g skipped n members request cut → I (install history skipped s g to n members request cut)

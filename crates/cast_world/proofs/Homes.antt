@@ -26,7 +26,8 @@ use Rattle.cast_view.specs.declared.phase.Answer.{Answer}
 use Rattle.cast_view.specs.declared.phase.Decision.{Decision}
 use Rattle.cast_view.specs.declared.phase.Phase.{Phase}
 use Rattle.cast_view.specs.declared.phase.Phase.TheVariants.{Gathering, Idle, Installing}
-use Rattle.cast_world.proofs.Allowed.{contains_kept, contains_mapped, contains_more}
+use Rattle.cast_types.proofs.Orders.{site_itself}
+use Rattle.cast_world.proofs.Allowed.{among_of, contains_kept, contains_mapped, contains_more}
 use Rattle.cast_world.proofs.Times.{unwrapped}
 use Rattle.cast_message.specs.declared.site.Change.TheVariants as change
 use Rattle.cast_message.specs.declared.site.SiteFrame.TheVariants as frame
@@ -102,13 +103,7 @@ pub site_in : (members : List Proc) (p : Proc) → Contains members p → Contai
 site_in members p at = set_has site_cmp site_exact (map (λ (q : Proc). q.site) members) p.site (contains_mapped (λ (q : Proc). q.site) members p at)
 
 pub among_site : (xs : List SiteNo) (s : SiteNo) → Contains xs s → is_among site_eq s xs ≡ true
-among_site [] s at = absurd (omega (arith, at.1))
-among_site (x ∷ xs) s (zero, lt, e) = ap (λ b. b || list_any (site_eq s) xs) (eq-eqb s.0 x.0 (ap (λ (y : SiteNo). y.0) (sym e)))
-among_site (x ∷ xs) s (suc k, lt, e) = go (site_eq s x) (among_site xs s (k, omega arith, e))
-  where
-    go : (b : Bool) → list_any (site_eq s) xs ≡ true → (b || list_any (site_eq s) xs) ≡ true
-    go true r = refl
-    go false r = r
+among_site = among_of site_eq site_itself
 
 pub site_among : (xs : List SiteNo) (s : SiteNo) → is_among site_eq s xs ≡ true → Contains xs s
 site_among [] s e = absurd (false≢true e)

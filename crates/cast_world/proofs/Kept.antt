@@ -11,10 +11,11 @@ use Rattle.cast_rules.specs.Owing.{paying_view}
 use Rattle.cast_rules.specs.Reports.{has_delivered_cut, report_in}
 use Rattle.cast_rules.specs.Resting.{places_of}
 use Rattle.cast_rules.specs.Rules.Asking.{is_home}
-use Rattle.cast_rules.specs.Rules.Keys.{id_in}
+use Rattle.cast_rules.specs.Rules.Keys.{id_in, message_key}
+use Rattle.cast_rules.specs.Rules.Room.{may_take}
 use Rattle.cast_rules.specs.Rules.Views.{no_members}
 use Rattle.cast_rules.specs.Rules.Commands.{body_handing}
-use Rattle.cast_rules.specs.State.{State, emitted, is_group, is_received, noting_ack, noting_sent, noting_stable, outside, receiving, releasing, set_group, set_home, set_session, set_standing, with_delivery}
+use Rattle.cast_rules.specs.State.{State, emitted, is_ended, is_group, is_received, noting_ack, noting_sent, noting_stable, outside, receiving, releasing, releasing_ended, set_group, set_home, set_session, set_standing, with_delivery}
 use Rattle.cast_rules.specs.Step.{opening_next}
 use Rattle.cast_rules.specs.Turns.{is_ready_for}
 use Rattle.cast_message.specs.Bodies.{kind_of}
@@ -28,10 +29,12 @@ use Rattle.cast_message.specs.declared.site.SiteFrame.{SiteFrame}
 use Rattle.cast_events.specs.Session.{Session, is_open}
 use Rattle.cast_quota.specs.declared.quotas.Quotas.{Quotas}
 use Rattle.cast_stable.specs.Stable.{Acked}
-use Rattle.cast_timer.specs.Owed.{is_of_view, paid, renewed, with_owed}
+use Rattle.cast_timer.specs.Owed.{is_of_view, is_owed, paid, renewed, with_owed}
 use Rattle.cast_timer.specs.declared.key.Owed.{Owed}
 use Rattle.cast_timer.specs.declared.key.OwedKey.{OwedKey}
 use Rattle.cast_timer.specs.declared.key.OwedKind.{OwedKind}
+use Rattle.cast_timer.specs.declared.key.Side.{Side}
+use Rattle.cast_timer.specs.declared.key.Side.TheVariants as side
 use Rattle.cast_types.specs.Counts.{CountList}
 use Rattle.cast_types.specs.Names.{is_order, proc_eq}
 use Rattle.cast_types.specs.Sets.{is_among}
@@ -42,11 +45,12 @@ use Rattle.cast_types.specs.declared.names.Standing.TheVariants.{Joining}
 use Rattle.cast_types.specs.declared.names.Uid.{Uid}
 use Rattle.cast_view.specs.Home.{HomeMove, answer_in, bodies_of, may_decide, moved}
 use Rattle.cast_view.specs.Home.HomeMove.{Asked, Brought, Decided, Installed, Reported, Started, Suspected}
-use Rattle.cast_view.specs.MemberSide.{has_view, is_pending, members_of, with_answer, with_request}
+use Rattle.cast_view.specs.MemberSide.{MemberSide, has_view, is_pending, members_of, with_answer, with_request}
 use Rattle.cast_view.specs.declared.member.PendingRequest.{PendingRequest}
 use Rattle.cast_view.specs.declared.member.Pending.{Pending}
 use Rattle.cast_view.specs.declared.phase.Decision.{Decision}
 use Rattle.cast_view.specs.declared.phase.Phase.TheVariants.{Installing}
+use Rattle.cast_world.specs.Bounds.{covers}
 use Rattle.cast_world.specs.Laws.{AgreesWith}
 use Rattle.cast_message.specs.declared.message.Body.TheVariants as body
 use Rattle.cast_timer.specs.declared.key.OwedKind.TheVariants as kinds
@@ -148,6 +152,31 @@ Owes s key = OwesOf s key key.kind
 abbrev pub OwedTrue : State → Type 0
 OwedTrue s = (o : Owed) → Contains s.owed o → Owes s o.key
 
+-- a Want of a site's own that is owed is of a message that a waiting Install covers
+abbrev pub WantsAt : (GroupNo → MemberSide) → OwedKey → Side → Type 0
+WantsAt group key side.Site = covers (group key.group) (id_in (group key.group).number key) ≡ true
+WantsAt group key side.Home = Unit {0}
+
+abbrev pub WantsOf : (GroupNo → MemberSide) → OwedKey → OwedKind → Type 0
+WantsOf group key kinds.Ask = Unit {0}
+WantsOf group key kinds.Data = Unit {0}
+WantsOf group key kinds.Prepare = Unit {0}
+WantsOf group key kinds.Want = WantsAt group key key.side
+WantsOf group key kinds.Install = Unit {0}
+WantsOf group key kinds.Ack = Unit {0}
+
+abbrev pub Wants : State → OwedKey → Type 0
+Wants s key = WantsOf s.group key key.kind
+
+-- a frame is owed
+abbrev pub IsOwed : State → OwedKey → Type 0
+IsOwed s key = (o : Owed) × Contains s.owed o × (o.key ≡ key)
+
+-- a message of another site may be received: there is room for it, or an Install waits and the home was asked for it
+pub data MayReceive (s : State) (m : Message) : Type 0 where
+  fits : may_take history s m.body ≡ true → MayReceive s m
+  wanted : is_owed s.owed (message_key kinds.Want m.id s.config.home) ≡ true → MayReceive s m
+
 -- what else a frame says
 abbrev pub Adds : State → SiteFrame → Type 0
 Adds s (frame.Data m) = Unit {0}
@@ -166,21 +195,21 @@ Adds s (frame.Out g view) = Unit {0}
 
 pub record FullyKeptByTelling (I : State → Type 0) : Type 0 where
   pub emits : (s : State) (to : SiteNo) (f : SiteFrame) → I s → Says s to f → Adds s f → I (emitted s to f)
-  pub books : (s : State) (quotas : Quotas) (moment casts : ℕ) → I s → I (record s { quotas = quotas; moment = moment; casts = casts })
+  pub books : (s : State) (moment casts : ℕ) → I s → I (record s { moment = moment; casts = casts })
   pub pushes : (s : State) (k : ℕ) (p : Push) → I s → AgreesWith (s.acts k) p → I (record s { pushes = s.pushes ++ (k, p) ∷ [] })
-  pub owes : (s : State) (key : OwedKey) (due : ℕ) → I s → Owes s key → I (record s { owed = with_owed s.owed key due })
-  pub renews : (s : State) (key : OwedKey) (due : ℕ) → I s → Owes s key → I (record s { owed = renewed s.owed key due })
+  pub owes : (s : State) (key : OwedKey) (due : ℕ) → I s → Owes s key → Wants s key → I (record s { owed = with_owed s.owed key due })
+  pub renews : (s : State) (key : OwedKey) (due : ℕ) → I s → Owes s key → IsOwed s key → I (record s { owed = renewed s.owed key due })
   pub pays : (s : State) (test : OwedKey → Bool) → I s → I (record s { owed = paid test s.owed })
   pub releases : (s : State) (passes : Uid → Bool) → I s → I (releasing s passes)
   pub sets_session : (s : State) (k : ℕ) (v : Session) → I s → (is_open v ≡ true → is_open (s.session k) ≡ true) → I (set_session s k v)
   pub parts : (s : State) (k : ℕ) (g : GroupNo) → I s → I (outside s k g)
   pub requests : (s : State) (g : GroupNo) (what : Change) (p : Proc) → I s → I (set_group s g (with_request (s.group g) what p))
 
--- Acks may be sent, and owed again, at all times
+-- Acks may be sent, and those that are owed be sent again, at all times
 abbrev pub AcksFreely : (State → Type 0) → Type 0
 AcksFreely I =
     ((s : State) (to : SiteNo) (u : Uid) → I s → I (emitted s to (frame.Ack u)))
-    × ((s : State) (key : OwedKey) (due : ℕ) → I s → I (record s { owed = renewed s.owed key due }))
+    × ((s : State) (key : OwedKey) (due : ℕ) → I s → IsOwed s key → I (record s { owed = renewed s.owed key due }))
 
 -- where a site passes to a view, Between holds of the group until nothing is owed for the view before it
 pub record FullyKept (I : State → Type 0) (Between : GroupNo → State → Type 0) (Came : SiteNo → SiteFrame → Type 0) (home_here : Bool) : Type 0 where
@@ -192,10 +221,10 @@ pub record FullyKept (I : State → Type 0) (Between : GroupNo → State → Typ
   pub answers : (s : State) (g : GroupNo) → I s → I (set_group s g (with_answer (s.group g)))
   pub joins : (s : State) (k : ℕ) (g : GroupNo) → I s → is_open (s.session k) ≡ true → is_group s g ≡ true → is_outside ((s.process k).standing g) ≡ true →
       I (set_standing s k g (Joining ((s.group g).asked + 1) (view_of (s.process k).time g)))
-  pub sends : (s : State) (g : GroupNo) (k : ℕ) (content : Body) → I s → is_member ((s.process k).standing g) ≡ true → MaySend s g k content →
+  pub sends : (s : State) (g : GroupNo) (k : ℕ) (content : Body) → I s → is_member ((s.process k).standing g) ≡ true → MaySend s g k content → may_take history s content ≡ true →
       I (receiving (noting_sent s k (next_message s g k content)) (next_message s g k content))
   pub receives : (s : State) (from : SiteNo) (m : Message) → I s → Came from (frame.Data m) ⊎ Came from (frame.Forward m) →
-      m.id.view ≡ (s.group m.id.group).number → is_among proc_eq m.id.proc (members_of (s.group m.id.group)) ≡ true → I (receiving s m)
+      m.id.view ≡ (s.group m.id.group).number → is_among proc_eq m.id.proc (members_of (s.group m.id.group)) ≡ true → MayReceive s m → I (receiving s m)
   pub acknowledged : (s : State) (from : SiteNo) (u : Uid) → I s → Came from (frame.Ack u) → I (noting_ack s from u)
   pub learns : (s : State) (from : SiteNo) (u : Uid) → I s → Came from (frame.Stable u) → I (noting_stable s u)
   pub delivers : (s : State) (k : ℕ) (m : Message) → I s → Contains s.got m → is_ready_for s k m ≡ true → I (with_delivery s k m)
@@ -204,7 +233,7 @@ pub record FullyKept (I : State → Type 0) (Between : GroupNo → State → Typ
       Came from (frame.Install g ((s.group g).number + 1) p.members p.request p.cut tail) → has_view (s.group g) ≡ true → is_pending (s.group g) ≡ false → I (pending_install s g p tail)
   pub passes : (s : State) (g : GroupNo) (skipped : Bool) (n : ℕ) (members : Membership) (request : ℕ) (cut : CountList) → I s →
       Comes Came s g skipped n members request cut → Between g (passing s g skipped n members request cut)
-  pub ends : (s : State) (g : GroupNo) → Between g s → I (paying_view s g)
+  pub ends : (s : State) (g : GroupNo) → Between g s → I (paying_view (releasing_ended s g) g)
   pub homes : (s : State) (g : GroupNo) (what : HomeMove) → I s → MayMove Came s g what → I (set_home s g (moved what (s.home g)))
 
 -- what is kept by the moves above is kept by these
@@ -212,10 +241,10 @@ module _ (I : State → Type 0) (Came : SiteNo → SiteFrame → Type 0) (home_h
   full_telling : FullyKeptByTelling I
   full_telling = record {
     emits = λ s to f i says adds. k.telling.emits s to f i says;
-    books = λ s quotas moment casts i. k.telling.books s quotas moment s.acks s.told s.owed casts s.pushes i;
+    books = λ s moment casts i. k.telling.books s s.quotas moment s.acks s.told s.owed casts s.pushes i;
     pushes = λ s n p i agrees. k.telling.books s s.quotas s.moment s.acks s.told s.owed s.casts (s.pushes ++ (n, p) ∷ []) i;
-    owes = λ s key due i owes. k.telling.books s s.quotas s.moment s.acks s.told (with_owed s.owed key due) s.casts s.pushes i;
-    renews = λ s key due i owes. k.telling.books s s.quotas s.moment s.acks s.told (renewed s.owed key due) s.casts s.pushes i;
+    owes = λ s key due i owes wants. k.telling.books s s.quotas s.moment s.acks s.told (with_owed s.owed key due) s.casts s.pushes i;
+    renews = λ s key due i owes owed. k.telling.books s s.quotas s.moment s.acks s.told (renewed s.owed key due) s.casts s.pushes i;
     pays = λ s test i. k.telling.books s s.quotas s.moment s.acks s.told (paid test s.owed) s.casts s.pushes i;
     releases = k.telling.releases;
     sets_session = k.telling.sets_session;
@@ -227,19 +256,21 @@ module _ (I : State → Type 0) (Came : SiteNo → SiteFrame → Type 0) (home_h
   kept_fully = record {
     telling = full_telling;
     between = λ g. full_telling;
-    truly = inr ((λ s to u i. k.telling.emits s to (frame.Ack u) i tt), λ s key due i. k.telling.books s s.quotas s.moment s.acks s.told (renewed s.owed key due) s.casts s.pushes i);
+    truly = inr ((λ s to u i. k.telling.emits s to (frame.Ack u) i tt), λ s key due i owed. k.telling.books s s.quotas s.moment s.acks s.told (renewed s.owed key due) s.casts s.pushes i);
     fixed = k.fixed;
     opens = k.opens;
     answers = k.answers;
     joins = k.joins;
-    sends = k.sends;
-    receives = k.receives;
+    sends = λ s g n content i member may room. k.sends s g n content i member may;
+    receives = λ s from m i came view member may. k.receives s from m i came view member;
     acknowledged = λ s from u i came. k.telling.books s s.quotas s.moment (s.acks ++ (from, u) ∷ []) s.told s.owed s.casts s.pushes i;
     learns = λ s from u i came. k.telling.books s s.quotas s.moment s.acks (s.told ++ u ∷ []) s.owed s.casts s.pushes i;
     delivers = k.delivers;
     freezes = k.freezes;
     pends = λ s from g p tail i came has waits. k.pends s from g p tail i came has;
     passes = k.passes;
-    ends = λ s g i. k.telling.books s s.quotas s.moment s.acks s.told (paid (is_of_view g) s.owed) s.casts s.pushes i;
+    ends = λ s g i.
+        let less : State = releasing_ended s g in
+        k.telling.books less less.quotas less.moment less.acks less.told (paid (is_of_view g) less.owed) less.casts less.pushes (k.telling.releases s (is_ended s g) i);
     homes = k.homes;
   }

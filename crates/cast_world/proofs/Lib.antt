@@ -66,5 +66,6 @@ pub mod Counterexamples
 pub mod Alone
 pub mod Standing
 pub mod Pushes
+pub mod Bounding
 pub mod ListsAreActs
 pub mod Told

@@ -8,7 +8,7 @@ use Rattle.cast_rules.specs.Acts.Act.{Sent}
 use Rattle.cast_rules.specs.Effects.{next_message}
 use Rattle.cast_rules.specs.Entering.{passing}
 use Rattle.cast_rules.specs.History.{history}
-use Rattle.cast_rules.specs.Run.{IsStep, after_event}
+use Rattle.cast_rules.specs.Run.{IsStep, after_event, before_event}
 use Rattle.cast_rules.specs.Rules.Asking.{is_home}
 use Rattle.cast_rules.specs.State.{State, local, noting_sent, outside, receiving, with_delivery}
 use Rattle.cast_message.specs.declared.client.Push.{Push}
@@ -20,7 +20,7 @@ use Rattle.cast_types.specs.Names.{site_eq}
 use Rattle.cast_types.specs.declared.names.SiteNo.{SiteNo}
 use Rattle.cast_world.proofs.Acts.{contains_here}
 use Rattle.cast_world.proofs.Entries.{GoesOn, agrees_later, delivery_sends_none, delivery_goes_on, part_goes_on, part_sends_none, passing_goes_on, passing_sends_none, sending_goes_on}
-use Rattle.cast_world.proofs.Events.{Any, any_came, event_keeps_fully, rests_keeps_fully}
+use Rattle.cast_world.proofs.Events.{Any, any_came, event_keeps_fully, rests_keeps_fully, sets_any}
 use Rattle.cast_world.proofs.Kept.{FullyKept, FullyKeptByTelling}
 use Rattle.cast_world.proofs.Laters.{set_all}
 use Rattle.cast_world.proofs.Lists.{sent_same}
@@ -74,10 +74,10 @@ module _ (s : State) where
   told_telling : FullyKeptByTelling ToldFrom
   told_telling = record {
     emits = λ t to f x says adds. x;
-    books = λ t quotas moment casts x. x;
+    books = λ t moment casts x. x;
     pushes = λ t k p x agrees. (x.0, x.1, pushed_told t k p x.2 agrees);
-    owes = λ t key due x owes. x;
-    renews = λ t key due x owes. x;
+    owes = λ t key due x owes wants. x;
+    renews = λ t key due x owes owed. x;
     pays = λ t test x. x;
     releases = λ t lets x. x;
     sets_session = λ t k v x same. x;
@@ -89,13 +89,13 @@ module _ (s : State) where
   kept_told = record {
     telling = told_telling;
     between = λ g. told_telling;
-    truly = inr ((λ t to u x. x), λ t key due x. x);
+    truly = inr ((λ t to u x. x), λ t key due x owed. x);
     fixed = λ t x. λ i. site_eq (x.0 i) (x.1 i).home;
     opens = λ t x. (x.0, x.1, pushed_told t (t.used + 1) (push.Opened (local t (t.used + 1))) x.2 tt);
     answers = λ t g x. x;
     joins = λ t k g x open_it known out. x;
-    sends = λ t g k content x member may. (x.0, x.1, sent_told t k (next_message t g k content) x.2);
-    receives = λ t from m x came view member. (x.0, x.1, record { agree = x.2.agree; received = λ k y at. Contains-append_left t.got (m ∷ []) y (x.2.received k y at) });
+    sends = λ t g k content x member may room. (x.0, x.1, sent_told t k (next_message t g k content) x.2);
+    receives = λ t from m x came view member may. (x.0, x.1, record { agree = x.2.agree; received = λ k y at. Contains-append_left t.got (m ∷ []) y (x.2.received k y at) });
     acknowledged = λ t from u x came. x;
     learns = λ t from u x came. x;
     delivers = λ t k m x c ready. (x.0, x.1, goes_on_told t (with_delivery t k m) x.2 (delivery_goes_on t k m) (delivery_sends_none t k m));
@@ -109,7 +109,8 @@ module _ (s : State) where
 
   step_told : (e : Event) (answer : Taken) (t : State) → IsStep s e answer t → Told s → Told t
   step_told e answer t is x = (rests_keeps_fully ToldFrom (λ g. ToldFrom) Any (is_home history s) kept_told (after_event s e) t is.rests
-      (event_keeps_fully ToldFrom (λ g. ToldFrom) Any (is_home history s) kept_told s e (refl, refl, record { agree = λ k p at. absurd (omega (arith, at.1)); received = x.received }) (any_came e))).2
+      (event_keeps_fully ToldFrom (λ g. ToldFrom) Any (is_home history s) kept_told s e (refl, refl, record { agree = λ k p at. absurd (omega (arith, at.1)); received = x.received }) (any_came e)
+      (sets_any ToldFrom (λ u quotas y. y) (before_event s) e (refl, refl, record { agree = λ k p at. absurd (omega (arith, at.1)); received = x.received })))).2
 
 -- Every run
 

@@ -1,10 +1,10 @@
 -- What is kept by owing frames, asking the home, leaving groups and telling programs.
 use Rattle.cast_world.specs.Laws.{AgreesWith}
-use Rattle.std.proofs.Common.{arith, inl, inr, subst, sym, ◌∙◌}
-use Rattle.std.proofs.lemmas.Bool.{false≢true}
+use Rattle.std.proofs.Common.{ap, arith, inl, inr, subst, sym, ◌∙◌}
+use Rattle.std.proofs.lemmas.Bool.{cases_Bool, false≢true}
 use Rattle.std.specs.Option.{option_and_then, option_map, option_map_or}
 use Rattle.std.specs.List.{fold, list_any}
-use Rattle.std.specs.Prelude.{cond, map, nat_le, suc, zero, ◌⊎◌, ◌==◌, Bool, Contains, List, None, Option, Some, [], false, if◌then◌else◌, refl, true, ℕ, ◌∷◌, ◌≡◌}
+use Rattle.std.specs.Prelude.{cond, map, nat_le, not, suc, zero, ◌⊎◌, ◌==◌, Bool, Contains, List, None, Option, Some, [], false, if◌then◌else◌, refl, true, ℕ, ◌∷◌, ◌≡◌}
 use Rattle.cast_delay.specs.Ready.{is_outside}
 use Rattle.cast_rules.specs.History.{history}
 use Rattle.cast_rules.specs.Owing.{at_moment, next_due, noting_owed, paying}
@@ -18,7 +18,8 @@ use Rattle.cast_message.specs.declared.message.Message.{Message}
 use Rattle.cast_message.specs.declared.site.Change.{Change}
 use Rattle.cast_message.specs.declared.site.SiteFrame.{SiteFrame}
 use Rattle.cast_events.specs.Session.{Session, closed, is_gone, is_open, no_session, pushed_to}
-use Rattle.cast_timer.specs.Owed.{due_at, due_frames, is_owed, key_eq}
+use Rattle.cast_timer.proofs.Owing.{same_key, tied_frame}
+use Rattle.cast_timer.specs.Owed.{due_at, due_frames, is_owed, key_eq, owed_cmp, paid, renewed}
 use Rattle.cast_timer.specs.declared.key.Owed.{Owed}
 use Rattle.cast_timer.specs.declared.key.OwedKey.{OwedKey}
 use Rattle.cast_timer.specs.declared.key.OwedKind.{OwedKind}
@@ -34,8 +35,10 @@ use Rattle.cast_view.specs.MemberSide.{first_asking, with_request}
 use Rattle.cast_view.specs.declared.member.PendingRequest.{PendingRequest}
 use Rattle.cast_view.specs.declared.phase.Phase.{Phase}
 use Rattle.cast_view.specs.declared.phase.Phase.TheVariants.{Gathering, Idle, Installing}
+use Rattle.cast_world.proofs.Allowed.{contains_kept}
+use Rattle.cast_world.proofs.Homes.{item_here, item_more}
 use Rattle.cast_world.proofs.Keeps.{found_is, keeps_fold, keeps_if}
-use Rattle.cast_world.proofs.Kept.{AcksFreely, Adds, Owes, OwedTrue, OwesOf, Says, FullyKeptByTelling}
+use Rattle.cast_world.proofs.Kept.{AcksFreely, Adds, IsOwed, Owes, OwedTrue, OwesOf, Says, Wants, FullyKeptByTelling}
 use Rattle.cast_message.specs.declared.site.Change.TheVariants as change
 use Rattle.cast_message.specs.declared.site.SiteFrame.TheVariants as frame
 use Rattle.cast_timer.specs.declared.key.OwedKind.TheVariants as kinds
@@ -112,6 +115,28 @@ owes_sent s sent other owes = go (frame_for history s sent)
     go None = owes
     go (Some f) = owes_same s (emitted s sent.site f) other other.kind refl refl owes
 
+wants_sent : (s : State) (sent other : OwedKey) → Wants s other → Wants (send_for history s sent) other
+wants_sent s sent other wants = go (frame_for history s sent)
+  where
+    go : (o : Option SiteFrame) → Wants (option_map_or (history.send s sent.site) o s) other
+    go None = wants
+    go (Some f) = wants
+
+-- what was owed is owed after a frame was sent
+owed_sent : (s : State) (sent other : OwedKey) → IsOwed s other → IsOwed (send_for history s sent) other
+owed_sent s sent other owed = go (frame_for history s sent)
+  where
+    go : (o : Option SiteFrame) → IsOwed (option_map_or (history.send s sent.site) o s) other
+    go None = owed
+    go (Some f) = owed
+
+-- and after one was sent again
+owed_renewed : (s : State) (key other : OwedKey) (due : ℕ) → IsOwed s other → IsOwed (record s { owed = renewed s.owed key due }) other
+owed_renewed s key other due (o, at, is) = elim (cases_Bool (key_eq key o.key)) [
+  | inl same ↦ (record { due = due; key = key }, item_here owed_cmp tied_frame (record { due = due; key = key }) (paid (key_eq key) s.owed), same_key key o.key same ∙ is)
+  | inr apart ↦ (o, item_more owed_cmp (record { due = due; key = key }) (paid (key_eq key) s.owed) o (contains_kept (λ (x : Owed). not (key_eq key x.key)) s.owed o at (ap not apart)), is)
+]
+
 module _ (I : State → Type 0) (k : FullyKeptByTelling I) where
   pub pay_keeps : (s : State) (key : OwedKey) → I s → I (paying s key)
   pay_keeps s key i = k.pays s (key_eq key) i
@@ -123,21 +148,26 @@ module _ (I : State → Type 0) (k : FullyKeptByTelling I) where
       go None says = i
       go (Some f) says = k.emits s key.site f i says.0 says.1
 
-  pub owe_keeps : (s : State) (key : OwedKey) → I s → Owes s key → I (owe history s key)
-  owe_keeps s key i owes = keeps_if I (is_owed s.owed key) s (noting_owed (send_for history s key) key) (λ _. i)
-      (λ _. k.owes (send_for history s key) key (next_due (send_for history s key)) (send_for_keeps s key i owes) (owes_sent s key key owes))
+  pub owe_keeps : (s : State) (key : OwedKey) → I s → Owes s key → Wants s key → I (owe history s key)
+  owe_keeps s key i owes wants = keeps_if I (is_owed s.owed key) s (noting_owed (send_for history s key) key) (λ _. i)
+      (λ _. k.owes (send_for history s key) key (next_due (send_for history s key)) (send_for_keeps s key i owes) (owes_sent s key key owes) (wants_sent s key key wants))
 
-  resend_keeps : (s : State) (key : OwedKey) → I s → Owes s key → I (resend history s key)
-  resend_keeps s key i owes = k.renews (send_for history s key) key (next_due (send_for history s key)) (send_for_keeps s key i owes) (owes_sent s key key owes)
+  resend_keeps : (s : State) (key : OwedKey) → I s → Owes s key → IsOwed s key → I (resend history s key)
+  resend_keeps s key i owes owed = k.renews (send_for history s key) key (next_due (send_for history s key)) (send_for_keeps s key i owes) (owes_sent s key key owes) (owed_sent s key key owed)
 
   owes_resent : (s : State) (sent other : OwedKey) → Owes s other → Owes (resend history s sent) other
   owes_resent s sent other owes = owes_same (send_for history s sent) (resend history s sent) other other.kind refl refl (owes_sent s sent other owes)
 
+  owed_resent : (s : State) (sent other : OwedKey) → IsOwed s other → IsOwed (resend history s sent) other
+  owed_resent s sent other owed = owed_renewed (send_for history s sent) sent other (next_due (send_for history s sent)) (owed_sent s sent other owed)
+
   -- where what is owed is so
-  resend_all : (keys : List OwedKey) (s : State) → I s → ((key : OwedKey) → Contains keys key → Owes s key) → I (fold (resend history) s keys)
+  resend_all : (keys : List OwedKey) (s : State) → I s → ((key : OwedKey) → Contains keys key → Owes s key × IsOwed s key) → I (fold (resend history) s keys)
   resend_all [] s i owes = i
-  resend_all (key ∷ keys) s i owes = resend_all keys (resend history s key) (resend_keeps s key i (owes key (0, omega arith, refl)))
-      (λ other at. owes_resent s key other (owes other (suc at.0, omega (arith, at.1), at.2)))
+  resend_all (key ∷ keys) s i owes =
+      let first = owes key (0, omega arith, refl) in
+      resend_all keys (resend history s key) (resend_keeps s key i first.0 first.1)
+      (λ other at. (let more = owes other (suc at.0, omega (arith, at.1), at.2) in (owes_resent s key other more.0, owed_resent s key other more.1)))
 
   -- and where Acks may be sent freely
   send_freely : AcksFreely I → (s : State) (key : OwedKey) → I s → I (send_for history s key)
@@ -156,25 +186,29 @@ module _ (I : State → Type 0) (k : FullyKeptByTelling I) where
       go true kinds.Install = other (frame_of_kind history s key.group key kinds.Install) (kind_says s key kinds.Install tt)
       go true kinds.Ack = free.0 s key.site (id_in (s.group key.group).number key) i
 
+  resend_freely : AcksFreely I → (keys : List OwedKey) (s : State) → I s → ((key : OwedKey) → Contains keys key → IsOwed s key) → I (fold (resend history) s keys)
+  resend_freely free [] s i owed = i
+  resend_freely free (key ∷ keys) s i owed =
+      resend_freely free keys (resend history s key)
+      (free.1 (send_for history s key) key (next_due (send_for history s key)) (send_freely free s key i) (owed_sent s key key (owed key (0, omega arith, refl))))
+      (λ other at. owed_resent s key other (owed other (suc at.0, omega (arith, at.1), at.2)))
+
   pub tick_keeps : (s : State) (t : ℕ) → I s → OwedTrue s ⊎ AcksFreely I → I (tick history s t)
   tick_keeps s t i truly =
       let now : State = at_moment s t in
-      let j : I now = k.books s s.quotas now.moment s.casts i in
+      let j : I now = k.books s now.moment s.casts i in
       elim truly [
-        | inl owed ↦ resend_all (history.due now) now j (λ key at.
+        | inl true_of ↦ resend_all (history.due now) now j (λ key at.
             let from = due_owed now.moment s.owed key at in
-            let owes = owed from.0 from.1 in
-            subst (λ (z : OwedKey). Owes now z) from.2 (owes_same s now from.0.key from.0.key.kind refl refl owes))
-        | inr free ↦ keeps_fold I (resend history) (λ r key l. freely free r key l) (history.due now) now j
+            let owes = true_of from.0 from.1 in
+            (subst (λ (z : OwedKey). Owes now z) from.2 (owes_same s now from.0.key from.0.key.kind refl refl owes), from))
+        | inr free ↦ resend_freely free (history.due now) now j (λ key at. due_owed now.moment s.owed key at)
       ]
-    where
-      freely : AcksFreely I → (r : State) (key : OwedKey) → I r → I (resend history r key)
-      freely free r key l = free.1 (send_for history r key) key (next_due (send_for history r key)) (send_freely free r key l)
 
   -- Requests of local processes
 
   pub ask_home_keeps : (s : State) (g : GroupNo) → I s → I (ask_home history s g)
-  ask_home_keeps s g i = keeps_if I (is_empty (s.group g).requests) s (owe history s (ask_key g s.config.home)) (λ _. i) (λ _. owe_keeps s (ask_key g s.config.home) i tt)
+  ask_home_keeps s g i = keeps_if I (is_empty (s.group g).requests) s (owe history s (ask_key g s.config.home)) (λ _. i) (λ _. owe_keeps s (ask_key g s.config.home) i tt tt)
 
   pub request_keeps : (s : State) (g : GroupNo) (what : Change) (p : Proc) → I s → I (request history s g what p)
   request_keeps s g what p i =

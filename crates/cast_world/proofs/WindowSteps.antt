@@ -12,8 +12,9 @@ use Rattle.cast_rules.specs.Acts.Act.{Sent}
 use Rattle.cast_rules.specs.Effects.{next_message}
 use Rattle.cast_rules.specs.Entering.{passing, pending_install}
 use Rattle.cast_rules.specs.Owing.{paying_view}
+use Rattle.cast_quota.specs.declared.quotas.Quotas.{Quotas}
 use Rattle.cast_rules.specs.Rules.Keys.{id_in}
-use Rattle.cast_rules.specs.State.{State, emitted, is_received, noting_ack, noting_sent, noting_stable, outside, receiving, releasing, set_group, set_home, set_session, set_standing, with_delivery}
+use Rattle.cast_rules.specs.State.{State, emitted, is_ended, is_received, noting_ack, noting_sent, noting_stable, outside, receiving, releasing, releasing_ended, set_group, set_home, set_session, set_standing, with_delivery}
 use Rattle.cast_rules.specs.Step.{opening_next}
 use Rattle.cast_rules.specs.Turns.{is_ready_for}
 use Rattle.cast_message.specs.Bodies.{kind_of}
@@ -149,6 +150,12 @@ module _ (home : SiteNo) (w : Network) (a : SiteNo) where
     pub same_owed : (t u : State) → u.owed ≡ t.owed → u.group ≡ t.group → u.got ≡ t.got → OwedBut skip t → OwedBut skip u
     same_owed t u owed group got = owed_moved skip t u (λ o c. subst (λ l. Contains l o) owed c) (λ h. ap (λ (f : GroupNo → MemberSide). (f h).number) group) (λ z e. ap (list_any (λ (x : Message). uid_eq x.id z)) got ∙ e)
 
+    abbrev pub books_window : (t : State) (quotas : Quotas) (moment count : ℕ) → WindowNow skip t → WindowNow skip (record t { quotas = quotas; moment = moment; casts = count })
+    books_window t quotas moment count i =
+        let u : State = record t { quotas = quotas; moment = moment; casts = count } in
+        quiet skip skip t u (later_same t) i ((flush home w a t i.0).telling.books t quotas moment t.acks t.told t.owed count t.pushes (begin home w a t i.0)) (λ k m c. inl c) (own home w a t i.0) refl refl refl
+        (leading skip t i) (same_owed t u refl refl refl i.4)
+
     abbrev pub window_telling : FullyKeptByTelling (WindowNow skip)
     window_telling = record {
       emits = λ t to f i says adds.
@@ -156,15 +163,12 @@ module _ (home : SiteNo) (w : Network) (a : SiteNo) where
           keepw skip skip t u (later_same t) i ((flush home w a t i.0).telling.emits t to f (begin home w a t i.0) says) (λ k m c. inl c) (own home w a t i.0) (λ m c. c) (λ q z c. inl c)
           (λ to_it f_it c. elim (Contains-push_cases t.frames (to, f) (to_it, f_it) c) [ inl old ↦ inl old | inr same ↦ inr (subst (λ (p : SiteNo × SiteFrame). AckTrue t.got p.1) same (adds_true t f adds)) ])
           (leading skip t i) (same_owed t u refl refl refl i.4);
-      books = λ t quotas moment count i.
-          let u : State = record t { quotas = quotas; moment = moment; casts = count } in
-          quiet skip skip t u (later_same t) i ((flush home w a t i.0).telling.books t quotas moment t.acks t.told t.owed count t.pushes (begin home w a t i.0)) (λ k m c. inl c) (own home w a t i.0) refl refl refl
-          (leading skip t i) (same_owed t u refl refl refl i.4);
+      books = λ t moment count i. books_window t t.quotas moment count i;
       pushes = λ t k p i agrees.
           let u : State = record t { pushes = t.pushes ++ (k, p) ∷ [] } in
           quiet skip skip t u (later_same t) i ((flush home w a t i.0).telling.books t t.quotas t.moment t.acks t.told t.owed t.casts (t.pushes ++ (k, p) ∷ []) (begin home w a t i.0)) (λ n m c. inl c) (own home w a t i.0) refl refl refl
           (leading skip t i) (same_owed t u refl refl refl i.4);
-      owes = λ t key due i owes.
+      owes = λ t key due i owes wants.
           let u : State = record t { owed = with_owed t.owed key due } in
           quiet skip skip t u (later_same t) i ((flush home w a t i.0).telling.books t t.quotas t.moment t.acks t.told (with_owed t.owed key due) t.casts t.pushes (begin home w a t i.0)) (λ k m c. inl c) (own home w a t i.0) refl refl refl
           (leading skip t i)
@@ -172,7 +176,7 @@ module _ (home : SiteNo) (w : Network) (a : SiteNo) where
             | inl new ↦ inr (subst (λ (z : Owed). Owes u z.key) new (owes_moved t u key key.kind refl (λ z e. e) owes))
             | inr old ↦ same_owed t (record t { owed = t.owed }) refl refl refl i.4 o old
           ]);
-      renews = λ t key due i owes.
+      renews = λ t key due i owes owed.
           let u : State = record t { owed = renewed t.owed key due } in
           quiet skip skip t u (later_same t) i ((flush home w a t i.0).telling.books t t.quotas t.moment t.acks t.told (renewed t.owed key due) t.casts t.pushes (begin home w a t i.0)) (λ k m c. inl c) (own home w a t i.0) refl refl refl
           (leading skip t i)
@@ -298,8 +302,8 @@ module _ (home : SiteNo) (w : Network) (a : SiteNo) where
         (record (t.process n) { standing = set_at group_eq (t.process n).standing g (Joining ((t.group g).asked + 1) (view_of (t.process n).time g)) }) (λ j h e. e)
         (λ h e. asks ((t.process n).standing h) (group_eq g h) ((t.group g).asked + 1) (view_of (t.process n).time g) e)) (λ m c. c))
         refl refl refl (leading no_key t i) (same_owed no_key t u refl refl refl i.4);
-    sends = λ t g n content i member may. sends_window t g n content i member may;
-    receives = λ t from m i came view member.
+    sends = λ t g n content i member may room. sends_window t g n content i member may;
+    receives = λ t from m i came view member may.
         let u : State = receiving t m in
         keepw no_key no_key t u (later_same t) i ((flush home w a t i.0).receives t from m (begin home w a t i.0) came view member) (λ k z c. inl c)
         (parts_same i.0.3 i.0.4 t.here t.process t.acts t.abcasts t.group t.got (own home w a t i.0) t.process t.acts (t.got ++ m ∷ []) (λ k. refl) (λ k z c. inl c) (λ k y c. c) (λ k h. refl) (λ k g e. e) (λ z c. Contains-append_left t.got (m ∷ []) z c))
@@ -332,9 +336,11 @@ module _ (home : SiteNo) (w : Network) (a : SiteNo) where
         (passes_ordered home w a t i.0.0 i.0.1 i.0.2 i.0.3 i.0.4 i.0.5 g skipped n members request cut comes r.1 r.2 r.3) refl refl refl
         (leads_new t i g skipped n members request cut comes r) (owed_passing t g skipped n members request cut i.4);
     ends = λ t g i.
-        let u : State = paying_view t g in
-        quiet (is_of_view g) no_key t u (later_same t) i ((flush home w a t i.0).telling.books t t.quotas t.moment t.acks t.told (paid (is_of_view g) t.owed) t.casts t.pushes (begin home w a t i.0)) (λ k m c. inl c) (own home w a t i.0) refl refl refl
-        (leading (is_of_view g) t i) (all_owed t g i.4);
+        let less : State = releasing_ended t g in
+        let x : WindowNow (is_of_view g) less = (window_telling (is_of_view g)).releases t (is_ended t g) i in
+        let u : State = paying_view less g in
+        quiet (is_of_view g) no_key less u (later_same less) x ((flush home w a less x.0).telling.books less less.quotas less.moment less.acks less.told (paid (is_of_view g) less.owed) less.casts less.pushes (begin home w a less x.0)) (λ k m c. inl c) (own home w a less x.0) refl refl refl
+        (leading (is_of_view g) less x) (all_owed less g x.4);
     homes = λ t g what i may.
         let u : State = set_home t g (moved what (t.home g)) in
         quiet no_key no_key t u (later_home t g (moved what (t.home g)) (moves_up home w a t g what may)) i ((flush home w a t i.0).homes t g what (begin home w a t i.0) may) (λ k m c. inl c) (own home w a t i.0) refl refl refl

@@ -2,5 +2,6 @@ pub mod Network
 pub mod HappenedBefore
 pub mod Agreement
 pub mod Laws
+pub mod Bounds
 pub mod Ids
 pub mod Worlds

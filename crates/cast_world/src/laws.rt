@@ -1,3 +1,4 @@
+ghost use Rattle.cast_world.specs.Bounds.{WhatIsKeptIsBounded};
 ghost use Rattle.cast_world.specs.Laws.{AllAbcastsAreActs, AllDeliverInOneOrder, AllDeliverTheSame, AllDeliveriesWereSent, AllJoinsGoForward, AllListsAreActs, AllListsAreInOrder, AllNamesAreUnique, AllOrdersAgree, AllPassWithCut, AllPushesAreActs, AllStampsRise, AllStampsRiseStrictly, AllStartsAreKnown, AllViewsAreDecided, CausalDelivery};
 ghost use Rattle.cast_world.specs.Worlds.{AllAnswersAreLists, AllRunsAreNetworks, AllTellInOrder, AllTellOneOrder, AllTellTheSame, AllToldOrdersAgree};
 
@@ -66,6 +67,13 @@ pub fn starts_are_known()
 /// or was put out of it where it is told that it is ejected.
 pub fn pushes_are_acts()
     ensures { AllPushesAreActs }
+{}
+
+/// Whoever forges frames, a domain keeps few messages. After any events, with any frames in the name of any site, those that no waiting
+/// Install covers are at most twice the greatest quota of kept messages that was in force. All that are kept are of the views that their
+/// groups have now, and an order has at most 4,000,000,000 places.
+pub fn what_is_kept_is_bounded()
+    ensures { WhatIsKeptIsBounded }
 {}
 
 /// What daemons tell. After any list of steps the daemons of a [`World`](crate::World), all of one home, stand for a network to which these

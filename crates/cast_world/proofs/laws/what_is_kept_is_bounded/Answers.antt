@@ -1,0 +1,5 @@
+use Rattle.cast_world.proofs.Bounding as lemma
+use Rattle.cast_world.proofs.laws.what_is_kept_is_bounded.Goals as goal
+
+pub returns : goal.returns
+returns c = lemma.what_is_kept_is_bounded

@@ -1,0 +1,62 @@
+-- What frames can make a daemon keep, whoever sent them.
+use Rattle.std.specs.Prelude.{◌≡◌, ◌≤◌, ◌*◌, ◌==◌, ◌&&◌, ℕ, Bool, true, false, not, List, length, filter, Contains, Option, Some, None}
+use Rattle.std.specs.List.{AllByRecursion}
+use Rattle.cast_types.specs.declared.names.SiteNo.{SiteNo}
+use Rattle.cast_types.specs.declared.names.GroupNo.{GroupNo}
+use Rattle.cast_types.specs.declared.names.Uid.{Uid}
+use Rattle.cast_types.specs.declared.limits.TheConstants.{MAX_POSITION}
+use Rattle.cast_types.specs.Names.{entry_eq, entry_of}
+use Rattle.cast_types.specs.Sets.{is_among}
+use Rattle.cast_delay.specs.Ready.{covered}
+use Rattle.cast_message.specs.declared.client.Push.{Push}
+use Rattle.cast_message.specs.declared.message.Message.{Message}
+use Rattle.cast_message.specs.declared.site.SiteFrame.{SiteFrame}
+use Rattle.cast_quota.specs.declared.quotas.QuotaName.{QuotaName}
+use Rattle.cast_quota.specs.declared.quotas.QuotaName.TheVariants.{Sessions, Held, Outbox, Resend}
+use Rattle.cast_events.specs.declared.config.DomainConfig.{DomainConfig}
+use Rattle.cast_events.specs.declared.event.Event.{Event}
+use Rattle.cast_events.specs.declared.event.Event.TheVariants as event
+use Rattle.cast_events.specs.declared.event.Taken.{Taken}
+use Rattle.cast_view.specs.MemberSide.{MemberSide}
+use Rattle.cast_rules.specs.State.{State, opening}
+use Rattle.cast_rules.specs.Order.{order_told}
+use Rattle.cast_rules.specs.Run.{IsRun}
+
+-- an Install waits in the group, and the message is one of the view that it ends that its cut names
+abbrev pub covers : MemberSide → Uid → Bool
+covers group u = elim group.pending [ Some p ↦ (u.view == group.number) && is_among entry_eq (entry_of u) (covered p.cut) | None ↦ false ]
+
+-- the kept messages that no waiting Install covers
+abbrev pub uncovered : State → List Message
+uncovered s = filter (λ m. not (covers (s.group m.id.group) m.id)) s.kept
+
+-- what a domain keeps of messages, where no quota of kept messages was above most: those that no waiting Install covers are at most
+-- twice as many. All are of the views that their groups have, and an order has no more places than there are numbers for
+pub record IsBounded (most : ℕ) (s : State) : Type 0 where
+  pub few : length (uncovered s) ≤ 2 * most
+  pub current : (m : Message) → Contains s.kept m → m.id.view ≡ (s.group m.id.group).number
+  pub placed : (g : GroupNo) → length (order_told s g) ≤ MAX_POSITION
+
+-- a value of a quota: of that of kept messages it is at most so much
+abbrev pub IsHeldAtMost : ℕ → QuotaName → ℕ → Type 0
+IsHeldAtMost most Sessions value = Unit {0}
+IsHeldAtMost most Held value = value ≤ most
+IsHeldAtMost most Outbox value = Unit {0}
+IsHeldAtMost most Resend value = Unit {0}
+
+-- an event sets the quota of kept messages to at most so much, where it sets it
+abbrev pub SetsAtMost : ℕ → Event → Type 0
+SetsAtMost most (event.Open d) = Unit {0}
+SetsAtMost most (event.Command d k c) = Unit {0}
+SetsAtMost most (event.Gone d k) = Unit {0}
+SetsAtMost most (event.Frame d from f) = Unit {0}
+SetsAtMost most (event.Suspect d site) = Unit {0}
+SetsAtMost most (event.Quota d name value) = IsHeldAtMost most name value
+SetsAtMost most (event.Take d k n) = Unit {0}
+SetsAtMost most (event.Tick t) = Unit {0}
+
+-- so it is after any events of a domain, with any frames in the name of any site
+abbrev pub WhatIsKeptIsBounded : Type 0
+WhatIsKeptIsBounded =
+    (most : ℕ) (here : SiteNo) (config : DomainConfig) (events : List Event) (answers : List Taken) (sent : List (SiteNo × SiteFrame)) (pushed : List (ℕ × Push)) (s : State) →
+    config.quotas.held ≤ most → AllByRecursion (SetsAtMost most) events → IsRun (opening here config) events answers sent pushed s → IsBounded most s
