@@ -15,6 +15,9 @@
 //!
 //! A `World` runs daemons by a list of steps, and the laws hold of the deliveries that it reports
 //! (`laws::answers_agree`).
+//!
+//! Promised of every list of events of one domain, with any frames in the name of any site: it
+//! keeps few messages (`laws::what_is_kept_is_bounded`).
 #![tactic(auto)]
 
 mod daemon;
