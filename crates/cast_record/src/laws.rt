@@ -1,0 +1,11 @@
+ghost use Rattle.cast_record.specs.Laws.{PartsJoin, PrintedIsRead};
+
+/// What is printed is read back as the configuration and the events that were printed.
+pub fn printed_is_read()
+    ensures { PrintedIsRead }
+{}
+
+/// A script may be printed in parts: its configuration, and then its events in any number of lists.
+pub fn parts_join()
+    ensures { PartsJoin }
+{}
