@@ -70,6 +70,9 @@ to_bytes bytes fit i =
       | inr past ↦ subst IsByte (sym (get_or_past bytes i 0 past)) (omega arith)
     ]
 
+pub no_bytes : IsBytes []
+no_bytes = to_bytes [] (All-nil IsByte)
+
 -- ---- numbers
 
 at_fits : (k n : ℕ) → byte_at k n < 256

@@ -10,7 +10,7 @@ use Rattle.cast_script.specs.Lines.{words_of}
 use Rattle.cast_script.specs.Scripts.{is_used, used_lines_of}
 use Rattle.cast_record.specs.Texts.{line_text}
 use Rattle.cast_record.proofs.Joined.{Lacks, joined_all, parted_first, parted_joined}
-use Rattle.cast_record.proofs.Printed.{IsWord, is_word_byte, word_byte_is, word_lacks}
+use Rattle.cast_record.proofs.WordBytes.{IsWord, is_word_byte, word_byte_is, word_lacks}
 
 -- words of which the first is not empty
 abbrev pub AreWords : List (List ℕ) → Type 0

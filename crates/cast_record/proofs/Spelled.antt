@@ -38,7 +38,7 @@ use Rattle.cast_record.specs.Texts.{domain_text, domain_words, event_text, event
 use Rattle.cast_record.specs.Printable.{IsPrintable, IsPrintableRequest}
 use Rattle.cast_record.specs.Laws.{PrintedIsRead}
 use Rattle.cast_record.proofs.FrameBytes.{frame_bytes}
-use Rattle.cast_record.proofs.Printed.{IsWord, frame_digits, hex_word, is_word_byte, number_word, numbers_again, numbers_word, payload_word, plain, some_digits}
+use Rattle.cast_record.proofs.WordBytes.{IsWord, frame_digits, hex_word, is_word_byte, number_word, numbers_again, numbers_word, payload_word, plain, some_digits}
 use Rattle.cast_record.proofs.Lines.{AreWords, ascii_lines, joined, lines_again, words_again}
 
 -- ---- words
@@ -159,13 +159,13 @@ quotas_are q within =
     let resend = number_word q.resend (omega (arith, within.resend.1)) in
     (plain (codes "quotas") refl, (sessions, (held, (outbox, (resend, tt)))))
 
-home_small : (own : SiteNo) (d : DomainConfig) → IsDomainAt own d → IsSite d.home
-home_small own d at = All-contains IsSite d.sites d.home (All-from_recursion IsSite d.sites at.are_sites) at.has_home
+home_site : (own : SiteNo) (d : DomainConfig) → IsDomainAt own d → IsSite d.home
+home_site own d at = All-contains IsSite d.sites d.home (All-from_recursion IsSite d.sites at.are_sites) at.has_home
 
 domain_line : (own : SiteNo) (d : DomainConfig) → IsDomainAt own d → Printed (domain_words d) (λ ws. SpellsDomain own ws d)
 domain_line own d at =
     let domain = number_word d.domain.0 (omega (arith, at.numbered.1)) in
-    let home = number_word d.home.0 (omega (arith, (home_small own d at).1)) in
+    let home = number_word d.home.0 (omega (arith, (home_site own d at).1)) in
     let sites = numbers_word (map (λ s. s.0) d.sites) (sites_small d.sites at.are_sites) in
     let groups = numbers_word (map (λ g. g.0) d.groups) (groups_small d.groups at.are_groups) in
     let some = at.has_home.1 in

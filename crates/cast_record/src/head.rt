@@ -1,5 +1,4 @@
 ghost use Rattle.std.specs.Prelude.{◌≡◌, ◌++◌, OnOk, OnErr, map};
-ghost use Rattle.std.specs.List.{join_with_byte};
 ghost use Rattle.std.specs.String.{string_bytes};
 ghost use Rattle.cast_record.specs.Texts.{domain_text, head_text, numbers_text};
 

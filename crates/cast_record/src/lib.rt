@@ -1,8 +1,8 @@
 //! The text of a script: a configuration, and what happens to a daemon that has it.
 //!
 //! Promised: `add_head`, `add_event` and `print_script` write exactly the texts that the definitions
-//! in `specs/Texts.antt` give. What is printed is read back by `cast_script` as the same
-//! configuration and the same events, and may be printed in parts (`laws`).
+//! in `specs/Texts.antt` give. `cast_script` reads what is printed as the same configuration and the
+//! same events; what it reads can be printed, also in parts (`laws`).
 #![tactic(auto)]
 
 mod event;
