@@ -28,6 +28,8 @@ mod pushes;
 #[cfg(test)]
 mod quota;
 #[cfg(test)]
+mod records;
+#[cfg(test)]
 mod stable;
 #[cfg(test)]
 mod store;

@@ -183,8 +183,8 @@ fn print_procs(text: &mut String, procs: &[Proc]) -> Result<(), NoMemory>
     Ok(())
 }
 
-// `1.1`
-fn print_proc(text: &mut String, process: Proc) -> Result<(), NoMemory>
+/// Adds a process, as `1.1`: its site and its serial there.
+pub fn print_proc(text: &mut String, process: Proc) -> Result<(), NoMemory>
     ensures { OnOk result (string_bytes text.new ≡ string_bytes text.old ++ proc_text process) }
 {
     let site = process.site.0;
@@ -214,8 +214,8 @@ fn print_kind(text: &mut String, kind: CastKind) -> Result<(), NoMemory>
     })
 }
 
-// The bytes in hexadecimal, `-` where there are none.
-fn print_payload(alloc: Global, text: &mut String, bytes: &[u8]) -> Result<(), NoMemory>
+/// Adds bytes in lower-case hexadecimal, `-` where there are none.
+pub fn print_payload(alloc: Global, text: &mut String, bytes: &[u8]) -> Result<(), NoMemory>
     ensures { OnOk result (string_bytes text.new ≡ string_bytes text.old ++ payload_text bytes.now) }
 {
     if bytes.is_empty() {
