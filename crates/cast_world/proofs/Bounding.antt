@@ -227,7 +227,7 @@ module _ (most : ℕ) (home_here : Bool) where
     emits = λ s to f x says adds. x;
     books = λ s moment casts x. x;
     pushes = λ s k p x agrees. x;
-    owes = λ s key due x owes wants. owed_bounded o s key due s.owed (λ y at. at) x (inr wants);
+    owes = λ s key due x owes wants lacks. owed_bounded o s key due s.owed (λ y at. at) x (inr wants);
     renews = λ s key due x owes owed. renewed_bounded o s key due x owed;
     pays = λ s test x. paid_bounded o s test x;
     releases = λ s lets x. released_bounded o s lets x;
@@ -385,24 +385,26 @@ module _ (most : ℕ) (home_here : Bool) where
 
   -- Each move
 
-  kept_bounded : FullyKept (At None) (λ g. At (Some g)) Any home_here
+  kept_bounded : FullyKept (At None) (λ g. At (Some g)) (λ u. At None) Any home_here
   kept_bounded = record {
     telling = telling None;
     between = λ g. telling (Some g);
+    during = λ u. telling None;
     truly = inr ((λ s to u x. x), λ s key due x owed. renewed_bounded None s key due x owed);
     fixed = λ s x. x.homes;
     opens = λ s x. x;
     answers = λ s g x. group_bounded None s g (with_answer (s.group g)) refl (λ u e. e) x;
     joins = λ s k g x open_it known out. x;
-    sends = λ s g k content x member may room.
+    sends = λ s g k content x member may room open_it.
         let m : Message = next_message s g k content in
         received_bounded (noting_sent s k m) m x refl (fits_bounded (noting_sent s k m) m x room);
-    receives = λ s from m x came view member may. receives_bounded s m x view may;
+    receives = λ s from m x came view member may new. receives_bounded s m x view may;
+    received = λ s u x. paid_bounded None s (key_eq (message_key kinds.Want u s.config.home)) x;
     acknowledged = λ s from u x came. x;
     learns = λ s from u x came. x;
     delivers = λ s k m x c ready. x;
     freezes = λ s g x current. group_bounded None s g (frozen_side (s.group g)) refl (λ u e. e) x;
-    pends = λ s from g p tail x came current quiet. group_bounded None s g (with_pending (s.group g) p) refl (λ u e. absurd (false≢true (sym (none_covered (s.group g) u quiet) ∙ e))) x;
+    pends = λ s from g p tail x came current quiet known. group_bounded None s g (with_pending (s.group g) p) refl (λ u e. absurd (false≢true (sym (none_covered (s.group g) u quiet) ∙ e))) x;
     passes = λ s g skipped n members request cut x comes. passes_bounded s g n (with_view s.here n members (s.group g)) x (number_up s g skipped n members request cut comes) refl;
     ends = λ s g x. ends_bounded s g x;
     homes = λ s g what x may. x;
@@ -436,8 +438,8 @@ module _ (most : ℕ) (home_here : Bool) where
 
   step_bounded : (s : State) (e : Event) (answer : Taken) (t : State) → IsStep s e answer t → SetsAtMost most e → At None s → At None t
   step_bounded s e answer t is sets x =
-      rests_keeps_fully (At None) (λ g. At (Some g)) Any home_here kept_bounded (after_event s e) t is.rests
-      (event_keeps_fully (At None) (λ g. At (Some g)) Any home_here kept_bounded s e x (any_came e) (sets_bounded (before_event s) e x sets))
+      rests_keeps_fully (At None) (λ g. At (Some g)) (λ u. At None) Any home_here kept_bounded (after_event s e) t is.rests
+      (event_keeps_fully (At None) (λ g. At (Some g)) (λ u. At None) Any home_here kept_bounded s e x (any_came e) (sets_bounded (before_event s) e x sets))
 
   run_bounded : (events : List Event) (answers : List Taken) (s t : State) (sent : List (SiteNo × SiteFrame)) (pushed : List (ℕ × Push)) → AllByRecursion (SetsAtMost most) events →
       IsRun s events answers sent pushed t → At None s → At None t
