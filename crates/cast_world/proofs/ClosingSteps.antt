@@ -368,7 +368,7 @@ module _ (home : SiteNo) (w : Network) (a : SiteNo) where
         ((flush home w a t i.0.0).telling.books t t.quotas t.moment t.acks (t.told ++ z ∷ []) t.owed t.casts t.pushes (begin home w a t i.0.0)).3 refl refl refl refl refl (λ k g e. e) (still t (noting_stable t z) (λ g. omega arith)) (λ x. x);
     delivers = delivers_closing;
     freezes = λ t g i current. group_closing no_key t g (frozen_side (t.group g)) (omega arith) i ((kept_window home w a).freezes t g i.0 current) ((flush home w a t i.0.0).freezes t g (begin home w a t i.0.0) current).3 refl refl refl refl (λ e. refl) refl;
-    pends = λ t from g p tail i came current quiet known. pends_closing home w a t from g p tail i came current quiet known;
+    pends = λ t from g p tail i came current waits known. pends_closing home w a t from g p tail i came current waits known;
     passes = λ t g skipped n members request cut i comes. passes_closing home w a t g skipped n members request cut i comes;
     ends = λ t g i.
         let less : State = releasing_ended t g in

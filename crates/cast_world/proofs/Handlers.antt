@@ -28,7 +28,7 @@ use Rattle.cast_rules.specs.Rules.Room.{may_order, may_receive, may_take}
 use Rattle.cast_rules.specs.Rules.Sending.{may_raise, send_data}
 use Rattle.cast_rules.specs.Rules.Stability.{is_used_ack, on_ack, on_stable, tell_more, tell_stable, with_ack}
 use Rattle.cast_rules.specs.Rules.Views.{change_view, enter_and_tell, install, no_members, on_install, on_out, tell_out, tell_view}
-use Rattle.cast_rules.specs.State.{State, awaits_own, counting_cast, emitted, is_ended, is_group, is_received, is_stable, local, local_members, message_of, noting_sent, others_of, outside, receiving, releasing_ended, set_group, set_home, set_standing, upto}
+use Rattle.cast_rules.specs.State.{State, awaits_own, counting_cast, emitted, is_group, is_received, is_stable, local, local_members, message_of, noting_sent, others_of, outside, receiving, set_group, set_home, set_standing, upto}
 use Rattle.cast_message.specs.Bodies.{kind_of}
 use Rattle.cast_message.specs.KeptIds.{KeptList}
 use Rattle.cast_message.specs.Membership.{Membership}

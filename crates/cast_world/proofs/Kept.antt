@@ -294,7 +294,7 @@ module _ (I : State → Type 0) (Came : SiteNo → SiteFrame → Type 0) (home_h
     learns = λ s from u i came. k.telling.books s s.quotas s.moment s.acks (s.told ++ u ∷ []) s.owed s.casts s.pushes i;
     delivers = k.delivers;
     freezes = k.freezes;
-    pends = λ s from g p tail i came has quiet known. k.pends s from g p tail i came has;
+    pends = λ s from g p tail i came has waits known. k.pends s from g p tail i came has;
     passes = k.passes;
     ends = λ s g i.
         let less : State = releasing_ended s g in

@@ -102,7 +102,7 @@ module _ (s : State) where
     learns = λ t from u x came. x;
     delivers = λ t k m x c ready. (x.0, x.1, goes_on_told t (with_delivery t k m) x.2 (delivery_goes_on t k m) (delivery_sends_none t k m));
     freezes = λ t g x current. x;
-    pends = λ t from g p tail x came current quiet known. x;
+    pends = λ t from g p tail x came current waits known. x;
     passes = λ t g skipped n members request cut x comes.
         (x.0, x.1, goes_on_told t (passing t g skipped n members request cut) x.2 (passing_goes_on t g skipped n members request cut) (passing_sends_none t g skipped n members request cut));
     ends = λ t g x. x;

@@ -87,7 +87,7 @@ received_more (x ∷ got) m z e = go (uid_eq x.id z) e (received_more got m z)
     go true is more = refl
     go false is more = more is
 
-received_got : (got : List Message) (z : Uid) → list_any (λ x. uid_eq x.id z) got ≡ true → HasGot got z
+pub received_got : (got : List Message) (z : Uid) → list_any (λ x. uid_eq x.id z) got ≡ true → HasGot got z
 received_got [] z e = absurd (false≢true e)
 received_got (x ∷ got) z e = go (uid_eq x.id z) refl e (received_got got z)
   where
@@ -324,7 +324,7 @@ module _ (home : SiteNo) (w : Network) (a : SiteNo) where
     delivers = delivers_window;
     freezes = λ t g i current. group_keepw no_key t g (frozen_side (t.group g)) (omega arith) i ((flush home w a t i.0).freezes t g (begin home w a t i.0) current)
         (parts_group i.0.3 i.0.4 t.here t.process t.acts t.abcasts t.group t.got (own home w a t i.0) g (frozen_side (t.group g)) (λ e. refl) (omega arith) (λ k held. (own home w a t i.0).tokens g k held) (λ k waits. (own home w a t i.0).ones g k waits)) refl (leading no_key t i g);
-    pends = λ t from g p tail i came current quiet_it known.
+    pends = λ t from g p tail i came current waits known.
         let u : State = pending_install t g p tail in
         quiet no_key no_key t u (later_group t g (with_pending (t.group g) p) (omega arith)) i ((flush home w a t i.0).pends t from g p tail (begin home w a t i.0) came current) (λ k m c. inl c)
         (parts_group i.0.3 i.0.4 t.here t.process t.acts t.abcasts t.group t.got (own home w a t i.0) g (with_pending (t.group g) p) (λ e. refl) (omega arith) (λ k held. (own home w a t i.0).tokens g k held) (λ k waits_it. absurd (true≢false waits_it))) refl refl refl
