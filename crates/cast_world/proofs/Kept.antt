@@ -29,7 +29,7 @@ use Rattle.cast_message.specs.declared.site.SiteFrame.{SiteFrame}
 use Rattle.cast_events.specs.Session.{Session, is_open}
 use Rattle.cast_quota.specs.declared.quotas.Quotas.{Quotas}
 use Rattle.cast_stable.specs.Stable.{Acked}
-use Rattle.cast_timer.specs.Owed.{is_of_view, key_eq, is_owed, paid, renewed, with_owed}
+use Rattle.cast_timer.specs.Owed.{is_of_view, is_owed, key_eq, paid, renewed, with_owed}
 use Rattle.cast_timer.specs.declared.key.Owed.{Owed}
 use Rattle.cast_timer.specs.declared.key.OwedKey.{OwedKey}
 use Rattle.cast_timer.specs.declared.key.OwedKind.{OwedKind}
@@ -168,7 +168,7 @@ WantsOf group key kinds.Ack = Unit {0}
 abbrev pub Wants : State → OwedKey → Type 0
 Wants s key = WantsOf s.group key key.kind
 
--- and one that the site has not received
+-- one that comes to be owed is of a message that was not received
 abbrev pub LacksAt : State → OwedKey → Side → Type 0
 LacksAt s key side.Site = is_received s (id_in (s.group key.group).number key) ≡ false
 LacksAt s key side.Home = Unit {0}
