@@ -3,23 +3,20 @@ use Rattle.std.proofs.Common.{ap, arith, inl, inr, subst, sym, ◌∙◌}
 use Rattle.std.proofs.lemmas.Bool.{and_from, eq-eqb, eqb-true, false_from_ne_true, false≢true, lt-ltb, ltb-true, true≢false}
 use Rattle.std.proofs.lemmas.List.Elements.{Contains-push_cases, filter-append}
 use Rattle.std.proofs.lemmas.List.{length-append}
-use Rattle.std.specs.List.{AllByRecursion, list_any}
-use Rattle.std.specs.Prelude.{◌&&◌, ◌*◌, ◌+◌, ◌++◌, ◌<◌, ◌==◌, ◌||◌, Bool, Contains, List, None, Option, Some, [], cond, false, filter, if◌then◌else◌, length, nat_lt, not, refl, suc, true, zero, ℕ, ◌∷◌, ◌≡◌, ◌≤◌, ◌⊎◌}
+use Rattle.std.specs.List.{AllByRecursion}
+use Rattle.std.specs.Prelude.{◌&&◌, ◌*◌, ◌+◌, ◌++◌, ◌<◌, ◌==◌, ◌||◌, Bool, Contains, List, None, Option, Some, [], cond, false, filter, if◌then◌else◌, length, nat_lt, not, refl, true, ℕ, ◌∷◌, ◌≡◌, ◌≤◌, ◌⊎◌}
 use Rattle.cast_delay.specs.Ready.{covered}
 use Rattle.cast_order.proofs.Told.{order_in_words}
 use Rattle.cast_rules.specs.Effects.{next_message}
-use Rattle.cast_rules.specs.Entering.{freezing, passing, pending_install}
 use Rattle.cast_rules.specs.History.{history}
 use Rattle.cast_rules.specs.Order.{facts_in}
 use Rattle.cast_rules.specs.Owing.{paying_view}
-use Rattle.cast_rules.specs.Rules.Asking.{is_home}
 use Rattle.cast_rules.specs.Rules.Keys.{id_in, message_key}
 use Rattle.cast_rules.specs.Rules.Room.{may_order, may_receive, may_take}
 use Rattle.cast_rules.specs.Run.{IsRun, IsStep, after_event, before_event}
-use Rattle.cast_rules.specs.State.{State, is_ended, noting_sent, opening, receiving, releasing, releasing_ended, set_group, setting_quota}
+use Rattle.cast_rules.specs.State.{State, is_ended, noting_sent, opening, receiving, releasing, releasing_ended, set_group}
 use Rattle.cast_message.specs.Bodies.{kind_of}
 use Rattle.cast_message.specs.Membership.{Membership}
-use Rattle.cast_message.specs.Tail.{Tail}
 use Rattle.cast_message.specs.declared.client.Push.{Push}
 use Rattle.cast_message.specs.declared.message.Body.{Body}
 use Rattle.cast_message.specs.declared.message.Message.{Message}
@@ -56,7 +53,7 @@ use Rattle.cast_world.proofs.Kept.{Comes, FullyKept, FullyKeptByTelling, IsOwed,
 use Rattle.cast_world.proofs.Laters.{set_group_all}
 use Rattle.cast_world.proofs.Local.{cases_group}
 use Rattle.cast_world.proofs.Ones.{set_here, set_other}
-use Rattle.cast_world.specs.Bounds.{IsBounded, IsHeldAtMost, SetsAtMost, WhatIsKeptIsBounded, covers}
+use Rattle.cast_world.specs.Bounds.{IsHeldAtMost, SetsAtMost, WhatIsKeptIsBounded, covers}
 
 -- Lists
 
@@ -80,7 +77,7 @@ filter_less {A} p q (x ∷ xs) more = go (p x) (q x) (more x (0, omega arith, re
     go false false one less = less
 
 -- where what passes two tests passes a third
-both_less : {A : Type 0} (p q r : A → Bool) → ((x : A) → q x ≡ true → p x ≡ true → r x ≡ true) → (xs : List A) → length (filter p (filter q xs)) ≤ length (filter r xs)
+pub both_less : {A : Type 0} (p q r : A → Bool) → ((x : A) → q x ≡ true → p x ≡ true → r x ≡ true) → (xs : List A) → length (filter p (filter q xs)) ≤ length (filter r xs)
 both_less p q r more [] = omega arith
 both_less {A} p q r more (x ∷ xs) = go (q x) (p x) (r x) refl refl refl (both_less p q r more xs)
   where
@@ -98,12 +95,40 @@ filter_one : {A : Type 0} (p : A → Bool) (xs : List A) (x : A) → length (fil
 filter_one {A} p xs x = let all = filter_all p (xs ++ x ∷ []) in omega (arith, all, length-append xs (x ∷ []))
 
 -- and none, where it does not pass
-filter_none : {A : Type 0} (p : A → Bool) (xs : List A) (x : A) → p x ≡ false → length (filter p (xs ++ x ∷ [])) ≡ length (filter p xs)
+pub filter_none : {A : Type 0} (p : A → Bool) (xs : List A) (x : A) → p x ≡ false → length (filter p (xs ++ x ∷ [])) ≡ length (filter p xs)
 filter_none {A} p xs x e =
     ap length (filter-append p xs (x ∷ []))
     ∙ length-append (filter p xs) (filter p (x ∷ []))
     ∙ (λ i. length (filter p xs) + length {A = A} (cond (e i) (x ∷ []) []))
     ∙ omega arith
+
+-- a frame that is found owed is owed
+pub found_owed : (owed : List Owed) (key : OwedKey) → is_owed owed key ≡ true → (y : Owed) × Contains owed y × (y.key ≡ key)
+found_owed [] key e = absurd (false≢true e)
+found_owed (y ∷ owed) key e = go (key_eq y.key key) refl (found_owed owed key)
+  where
+    go : (b : Bool) → key_eq y.key key ≡ b → (is_owed owed key ≡ true → (z : Owed) × Contains owed z × (z.key ≡ key)) → (z : Owed) × Contains (y ∷ owed) z × (z.key ≡ key)
+    go true same more = (y, (0, omega arith, refl), same_key y.key key same)
+    go false other more =
+        let r = more (subst (λ b. (b || is_owed owed key) ≡ true) other e) in
+        (r.0, contains_more y owed r.0 r.1, r.2)
+
+-- a site passes to a view of a greater number
+pub number_up : (Came : SiteNo → SiteFrame → Type 0) (s : State) (g : GroupNo) (skipped : Bool) (n : ℕ) (members : Membership) (request : ℕ) (cut : CountList) → Comes Came s g skipped n members request cut →
+    (s.group g).number < n
+number_up Came s g skipped n members request cut (completes p waits has unskipped is ms rq ct) = omega (arith, is)
+number_up Came s g skipped n members request cut (installs from tail came none unskipped up) = up
+number_up Came s g skipped n members request cut (skips from tail came is up) = up
+number_up Came s g skipped n members request cut (ends from came is up ms) = up
+
+-- what is covered is covered by an Install that waits
+pub covers_waits : (group : MemberSide) (u : Uid) → covers group u ≡ true → is_pending group ≡ true
+covers_waits group u = go group.pending
+  where
+    go : (o : Option Pending) → (elim o as (λ p. Bool) [ Some p ↦ (u.view == group.number) && is_among entry_eq (entry_of u) (covered p.cut) | None ↦ false ]) ≡ true →
+        (elim o as (λ p. Bool) [ Some p ↦ true | None ↦ false ]) ≡ true
+    go (Some p) e = refl
+    go None e = e
 
 -- What holds at every moment. While the site passes to a view of a group, messages of the view before are still kept, and frames about it owed
 
@@ -161,11 +186,11 @@ module _ (most : ℕ) (home_here : Bool) where
       At o s → At o (record s { group = b })
   groups_bounded o s b same more x = record {
     few = (
-      let less = filter_less (is_loose o b) (is_loose o s.group) s.kept (λ m at loose.
-          loose_before (over o s.group m.id) (covers (s.group m.id.group) m.id) (over o b m.id) (covers (b m.id.group) m.id) (same_over o s.group b same m.id) (more m.id) loose) in
-      let was = x.few in
-      omega (arith, less, was)
-    );
+        let less = filter_less (is_loose o b) (is_loose o s.group) s.kept (λ m at loose.
+        loose_before (over o s.group m.id) (covers (s.group m.id.group) m.id) (over o b m.id) (covers (b m.id.group) m.id) (same_over o s.group b same m.id) (more m.id) loose) in
+        let was = x.few in
+        omega (arith, less, was)
+        );
     current = λ m at. elim (x.current m at) [
       | inl gone ↦ inl (same_over o s.group b same m.id ∙ gone)
       | inr is ↦ inr (is ∙ sym (same m.id.group))
@@ -212,10 +237,10 @@ module _ (most : ℕ) (home_here : Bool) where
   released_bounded : (o : Option GroupNo) (s : State) (lets : Uid → Bool) → At o s → At o (releasing s lets)
   released_bounded o s lets x = record {
     few = (
-      let less = both_less (is_loose o s.group) (λ m. not (lets m.id)) (is_loose o s.group) (λ m kept loose. loose) s.kept in
-      let was = x.few in
-      omega (arith, less, was)
-    );
+        let less = both_less (is_loose o s.group) (λ m. not (lets m.id)) (is_loose o s.group) (λ m kept loose. loose) s.kept in
+        let was = x.few in
+        omega (arith, less, was)
+        );
     current = λ m at. x.current m (among_kept (λ y. not (lets y.id)) s.kept m at);
     wants = x.wants;
     quota = x.quota;
@@ -227,7 +252,7 @@ module _ (most : ℕ) (home_here : Bool) where
     emits = λ s to f x says adds. x;
     books = λ s moment casts x. x;
     pushes = λ s k p x agrees. x;
-    owes = λ s key due x owes wants. owed_bounded o s key due s.owed (λ y at. at) x (inr wants);
+    owes = λ s key due x owes wants lacks. owed_bounded o s key due s.owed (λ y at. at) x (inr wants);
     renews = λ s key due x owes owed. renewed_bounded o s key due x owed;
     pays = λ s test x. paid_bounded o s test x;
     releases = λ s lets x. released_bounded o s lets x;
@@ -265,17 +290,6 @@ module _ (most : ℕ) (home_here : Bool) where
       let quota = x.quota in
       omega (arith, one, below, quota)
 
-  -- a frame that is found owed is owed
-  found_owed : (owed : List Owed) (key : OwedKey) → is_owed owed key ≡ true → (y : Owed) × Contains owed y × (y.key ≡ key)
-  found_owed [] key e = absurd (false≢true e)
-  found_owed (y ∷ owed) key e = go (key_eq y.key key) refl (found_owed owed key)
-    where
-      go : (b : Bool) → key_eq y.key key ≡ b → (is_owed owed key ≡ true → (z : Owed) × Contains owed z × (z.key ≡ key)) → (z : Owed) × Contains (y ∷ owed) z × (z.key ≡ key)
-      go true same more = (y, (0, omega arith, refl), same_key y.key key same)
-      go false other more =
-          let r = more (subst (λ b. (b || is_owed owed key) ≡ true) other e) in
-          (r.0, contains_more y owed r.0 r.1, r.2)
-
   receives_bounded : (s : State) (m : Message) → At None s → m.id.view ≡ (s.group m.id.group).number → MayReceive s m → At None (receiving s m)
   receives_bounded s m x view (fits room) = received_bounded s m x view (fits_bounded s m x room)
   receives_bounded s m x view (wanted owed) =
@@ -286,18 +300,12 @@ module _ (most : ℕ) (home_here : Bool) where
       ∙ elim (subst (λ (k : OwedKey). (false ≡ true) ⊎ WantsOf s.group k k.kind) found.2 (x.wants found.0 found.1)) as
       (λ either. covers (s.group m.id.group) (id_in (s.group m.id.group).number key) ≡ true) [ inl none ↦ absurd (false≢true none) | inr yes_it ↦ yes_it ] in
       received_bounded s m x view (
-        let same = filter_none (is_loose None s.group) s.kept m (ap not covered_it) in
-        let was = x.few in
-        omega (arith, same, was)
+      let same = filter_none (is_loose None s.group) s.kept m (ap not covered_it) in
+      let was = x.few in
+      omega (arith, same, was)
       )
 
   -- A site passes to a view
-
-  number_up : (s : State) (g : GroupNo) (skipped : Bool) (n : ℕ) (members : Membership) (request : ℕ) (cut : CountList) → Comes Any s g skipped n members request cut → (s.group g).number < n
-  number_up s g skipped n members request cut (completes p waits has unskipped is ms rq ct) = omega (arith, is)
-  number_up s g skipped n members request cut (installs from tail came none unskipped up) = up
-  number_up s g skipped n members request cut (skips from tail came is up) = up
-  number_up s g skipped n members request cut (ends from came is up ms) = up
 
   module _ (s : State) (g : GroupNo) (n : ℕ) (v : MemberSide) (x : At None s) (up : (s.group g).number < n) (numbered : v.number ≡ n) where
     abbrev now : GroupNo → MemberSide
@@ -363,10 +371,10 @@ module _ (most : ℕ) (home_here : Bool) where
   ends_bounded : (s : State) (g : GroupNo) → At (Some g) s → At None (paying_view (releasing_ended s g) g)
   ends_bounded s g x = record {
     few = (
-      let less = both_less (is_loose None s.group) (λ m. not (is_ended s g m.id)) (is_loose (Some g) s.group) (λ m stays loose. both_not (is_ended s g m.id) (covers (s.group m.id.group) m.id) stays loose) s.kept in
-      let was = x.few in
-      omega (arith, less, was)
-    );
+        let less = both_less (is_loose None s.group) (λ m. not (is_ended s g m.id)) (is_loose (Some g) s.group) (λ m stays loose. both_not (is_ended s g m.id) (covers (s.group m.id.group) m.id) stays loose) s.kept in
+        let was = x.few in
+        omega (arith, less, was)
+        );
     current = λ m at. elim (x.current m (among_kept (λ y. not (is_ended s g y.id)) s.kept m at)) [
       | inl gone ↦ absurd (false≢true (ap not (sym gone) ∙ passed (λ y. not (is_ended s g y.id)) s.kept m at))
       | inr is ↦ inr is
@@ -385,36 +393,30 @@ module _ (most : ℕ) (home_here : Bool) where
 
   -- Each move
 
-  kept_bounded : FullyKept (At None) (λ g. At (Some g)) Any home_here
+  kept_bounded : FullyKept (At None) (λ g. At (Some g)) (λ u. At None) Any home_here
   kept_bounded = record {
     telling = telling None;
     between = λ g. telling (Some g);
+    during = λ u. telling None;
     truly = inr ((λ s to u x. x), λ s key due x owed. renewed_bounded None s key due x owed);
     fixed = λ s x. x.homes;
     opens = λ s x. x;
     answers = λ s g x. group_bounded None s g (with_answer (s.group g)) refl (λ u e. e) x;
     joins = λ s k g x open_it known out. x;
-    sends = λ s g k content x member may room.
+    sends = λ s g k content x member may room open_it.
         let m : Message = next_message s g k content in
         received_bounded (noting_sent s k m) m x refl (fits_bounded (noting_sent s k m) m x room);
-    receives = λ s from m x came view member may. receives_bounded s m x view may;
+    receives = λ s from m x came view member may new. receives_bounded s m x view may;
+    received = λ s u x. paid_bounded None s (key_eq (message_key kinds.Want u s.config.home)) x;
     acknowledged = λ s from u x came. x;
     learns = λ s from u x came. x;
     delivers = λ s k m x c ready. x;
     freezes = λ s g x current. group_bounded None s g (frozen_side (s.group g)) refl (λ u e. e) x;
-    pends = λ s from g p tail x came current quiet. group_bounded None s g (with_pending (s.group g) p) refl (λ u e. absurd (false≢true (sym (none_covered (s.group g) u quiet) ∙ e))) x;
-    passes = λ s g skipped n members request cut x comes. passes_bounded s g n (with_view s.here n members (s.group g)) x (number_up s g skipped n members request cut comes) refl;
+    pends = λ s from g p tail x came current quiet known. group_bounded None s g (with_pending (s.group g) p) refl (λ u e. absurd (false≢true (sym quiet ∙ covers_waits (s.group g) u e))) x;
+    passes = λ s g skipped n members request cut x comes. passes_bounded s g n (with_view s.here n members (s.group g)) x (number_up Any s g skipped n members request cut comes) refl;
     ends = λ s g x. ends_bounded s g x;
     homes = λ s g what x may. x;
   }
-    where
-      none_covered : (group : MemberSide) (u : Uid) → is_pending group ≡ false → covers group u ≡ false
-      none_covered group u = go group.pending
-        where
-          go : (o : Option Pending) → (elim o as (λ p. Bool) [ Some p ↦ true | None ↦ false ]) ≡ false →
-              (elim o as (λ p. Bool) [ Some p ↦ (u.view == group.number) && is_among entry_eq (entry_of u) (covered p.cut) | None ↦ false ]) ≡ false
-          go (Some p) e = absurd (true≢false e)
-          go None e = refl
 
   -- Events
 
@@ -436,8 +438,8 @@ module _ (most : ℕ) (home_here : Bool) where
 
   step_bounded : (s : State) (e : Event) (answer : Taken) (t : State) → IsStep s e answer t → SetsAtMost most e → At None s → At None t
   step_bounded s e answer t is sets x =
-      rests_keeps_fully (At None) (λ g. At (Some g)) Any home_here kept_bounded (after_event s e) t is.rests
-      (event_keeps_fully (At None) (λ g. At (Some g)) Any home_here kept_bounded s e x (any_came e) (sets_bounded (before_event s) e x sets))
+      rests_keeps_fully (At None) (λ g. At (Some g)) (λ u. At None) Any home_here kept_bounded (after_event s e) t is.rests
+      (event_keeps_fully (At None) (λ g. At (Some g)) (λ u. At None) Any home_here kept_bounded s e x (any_came e) (sets_bounded (before_event s) e x sets))
 
   run_bounded : (events : List Event) (answers : List Taken) (s t : State) (sent : List (SiteNo × SiteFrame)) (pushed : List (ℕ × Push)) → AllByRecursion (SetsAtMost most) events →
       IsRun s events answers sent pushed t → At None s → At None t

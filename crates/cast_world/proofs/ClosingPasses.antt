@@ -7,7 +7,7 @@ use Rattle.cast_rules.specs.Acts.Act.{Entered, Left}
 use Rattle.cast_rules.specs.Entering.{enters, is_put_out, parted, passing, pending_install, putting_out}
 use Rattle.cast_rules.specs.Noted.{abcasts_by}
 use Rattle.cast_rules.specs.Order.{order_told}
-use Rattle.cast_rules.specs.State.{State, local}
+use Rattle.cast_rules.specs.State.{State, is_group, local}
 use Rattle.cast_message.specs.Membership.{Membership}
 use Rattle.cast_message.specs.Tail.{Tail}
 use Rattle.cast_order.specs.Order.{closed_order}
@@ -59,12 +59,12 @@ module _ (home : SiteNo) (w : Network) (a : SiteNo) where
   -- An Install comes to wait
 
   module _ (t : State) (from : SiteNo) (g : GroupNo) (p : Pending) (tail : Tail) (i : ClosingNow home w a no_key t) (came : Arrived home w a from (frame.Install g ((t.group g).number + 1) p.members p.request p.cut tail))
-      (current : has_view (t.group g) ≡ true) (waits : is_pending (t.group g) ≡ false) where
+      (current : has_view (t.group g) ≡ true) (waits : is_pending (t.group g) ≡ false) (known : is_group t g ≡ true) where
     abbrev u : State
     u = pending_install t g p tail
 
     abbrev j : WindowNow home w a no_key u
-    j = (kept_window home w a).pends t from g p tail i.0 came current waits
+    j = (kept_window home w a).pends t from g p tail i.0 came current waits known
 
     abbrev ext : Extends i.0.0.1 (number t) j.0.1 (number u)
     ext = ((flush home w a t i.0.0).pends t from g p tail (begin home w a t i.0.0) came current).3

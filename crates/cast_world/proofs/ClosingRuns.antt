@@ -183,8 +183,8 @@ step_ended home w v step happens (choice, order, handed, safe, ends, x) = go_on 
     go_on : (o : Option Event) → event_of w step ≡ o → Becomes w step.site o v → AllEnded home v
     go_on None e same = subst (AllEnded home) (sym same) (choice, order, handed, safe, ends, x)
     go_on (Some made) e (answer, t, is, same) = subst (AllEnded home) (sym same) (last_closing home w choice order handed safe ends x step.site t
-        (rests_keeps_fully (ClosingNow home w step.site no_key) (λ g. ClosingNow home w step.site (is_of_view g)) (Arrived home w step.site) (site_eq step.site home) (kept_closing home w step.site) (after_event (w.at step.site) made) t is.rests
-        (event_keeps_fully (ClosingNow home w step.site no_key) (λ g. ClosingNow home w step.site (is_of_view g)) (Arrived home w step.site) (site_eq step.site home) (kept_closing home w step.site) (w.at step.site) made
+        (rests_keeps_fully (ClosingNow home w step.site no_key) (λ g. ClosingNow home w step.site (is_of_view g)) (λ u. ClosingNow home w step.site no_key) (Arrived home w step.site) (site_eq step.site home) (kept_closing home w step.site) (after_event (w.at step.site) made) t is.rests
+        (event_keeps_fully (ClosingNow home w step.site no_key) (λ g. ClosingNow home w step.site (is_of_view g)) (λ u. ClosingNow home w step.site no_key) (Arrived home w step.site) (site_eq step.site home) (kept_closing home w step.site) (w.at step.site) made
         (first_closing home w choice order handed safe ends x step.site) (step_arrives home w (hold home w choice order handed safe ends x step.site) step made e)
         (sets_any (ClosingNow home w step.site no_key) (λ u quotas i. books_closing home w step.site no_key u quotas u.moment u.casts i) (before_event (w.at step.site)) made (first_closing home w choice order handed safe ends x step.site)))))
 

@@ -11,6 +11,7 @@ use Rattle.cast_rules.specs.Acts.Act.{Delivered, Left, Sent}
 use Rattle.cast_rules.specs.Effects.{next_message}
 use Rattle.cast_rules.specs.Entering.{parted}
 use Rattle.cast_rules.specs.Owing.{paying_view}
+use Rattle.cast_rules.specs.Rules.Keys.{message_key}
 use Rattle.cast_rules.specs.Reports.{report_in}
 use Rattle.cast_rules.specs.State.{State, emitted, is_ended, noting_ack, noting_act, noting_sent, noting_stable, outside, receiving, releasing, releasing_ended, set_group, set_session, set_standing, with_delivery}
 use Rattle.cast_rules.specs.Step.{opening_next}
@@ -20,7 +21,7 @@ use Rattle.cast_message.specs.declared.message.Body.{Body}
 use Rattle.cast_message.specs.declared.message.Message.{Message}
 use Rattle.cast_message.specs.declared.site.SiteFrame.{SiteFrame}
 use Rattle.cast_quota.specs.declared.quotas.Quotas.{Quotas}
-use Rattle.cast_timer.specs.Owed.{is_of_view, paid, renewed, with_owed}
+use Rattle.cast_timer.specs.Owed.{is_of_view, key_eq, paid, renewed, with_owed}
 use Rattle.cast_timer.specs.declared.key.OwedKey.{OwedKey}
 use Rattle.cast_types.specs.Names.{Entry, entry_of, group_eq, is_atomic, site_eq}
 use Rattle.cast_types.specs.Sets.{set_at}
@@ -59,6 +60,7 @@ use Rattle.cast_world.proofs.WindowSteps.{books_window, WindowNow, delivers_wind
 use Rattle.cast_world.specs.Agreement.{IsPrefix, is_in}
 use Rattle.cast_world.specs.Network.{Network}
 use Rattle.cast_message.specs.declared.site.SiteFrame.TheVariants as frame
+use Rattle.cast_timer.specs.declared.key.OwedKind.TheVariants as kinds
 
 module _ (home : SiteNo) (w : Network) (a : SiteNo) where
   abbrev at : State → Sites
@@ -172,9 +174,9 @@ module _ (home : SiteNo) (w : Network) (a : SiteNo) where
       pushes = λ t k p i agrees.
           let u : State = record t { pushes = t.pushes ++ (k, p) ∷ [] } in
           closing_quiet home w a skip skip t u (later_same t) i (n.pushes t k p i.0 agrees) ((flush home w a t i.0.0).telling.books t t.quotas t.moment t.acks t.told t.owed t.casts (t.pushes ++ (k, p) ∷ []) (begin home w a t i.0.0)).3 refl refl refl refl refl (λ k_it g e. e) (still t u (λ g. omega arith)) (λ x. x);
-      owes = λ t key due i owes wants.
+      owes = λ t key due i owes wants lacks.
           let u : State = record t { owed = with_owed t.owed key due } in
-          closing_quiet home w a skip skip t u (later_same t) i (n.owes t key due i.0 owes wants) ((flush home w a t i.0.0).telling.books t t.quotas t.moment t.acks t.told (with_owed t.owed key due) t.casts t.pushes (begin home w a t i.0.0)).3 refl refl refl refl refl (λ k g e. e) (still t u (λ g. omega arith)) (λ x. x);
+          closing_quiet home w a skip skip t u (later_same t) i (n.owes t key due i.0 owes wants lacks) ((flush home w a t i.0.0).telling.books t t.quotas t.moment t.acks t.told (with_owed t.owed key due) t.casts t.pushes (begin home w a t i.0.0)).3 refl refl refl refl refl (λ k g e. e) (still t u (λ g. omega arith)) (λ x. x);
       renews = λ t key due i owes owed.
           let u : State = record t { owed = renewed t.owed key due } in
           closing_quiet home w a skip skip t u (later_same t) i (n.renews t key due i.0 owes owed) ((flush home w a t i.0.0).telling.books t t.quotas t.moment t.acks t.told (renewed t.owed key due) t.casts t.pushes (begin home w a t i.0.0)).3 refl refl refl refl refl (λ k g e. e) (still t u (λ g. omega arith)) (λ x. x);
@@ -335,11 +337,12 @@ module _ (home : SiteNo) (w : Network) (a : SiteNo) where
       (record (t.process n) { standing = set_at group_eq (t.process n).standing g (Joining ((t.group g).asked + 1) (view_of (t.process n).time g)) }) (λ q h e. e)
       (λ h e. asks ((t.process n).standing h) (group_eq g h) ((t.group g).asked + 1) (view_of (t.process n).time g) e)
 
-  pub kept_closing : FullyKept (ClosingNow home w a no_key) (λ g. ClosingNow home w a (is_of_view g)) (Arrived home w a) (site_eq a home)
+  pub kept_closing : FullyKept (ClosingNow home w a no_key) (λ g. ClosingNow home w a (is_of_view g)) (λ u. ClosingNow home w a no_key) (Arrived home w a) (site_eq a home)
   unfolding closing_telling
   kept_closing = record {
     telling = closing_telling no_key;
     between = λ g. closing_telling (is_of_view g);
+    during = λ u. closing_telling no_key;
     truly = inl (λ t i o c. elim (i.0.4 o c) [ inl e ↦ absurd (false≢true e) | inr owes ↦ owes ]);
     fixed = λ t i. (flush home w a t i.0.0).fixed t (begin home w a t i.0.0);
     opens = λ t i. closing_quiet home w a no_key no_key t (opening_next t) (later_same t) i ((kept_window home w a).opens t i.0) ((flush home w a t i.0.0).opens t (begin home w a t i.0.0)).3 refl refl refl refl refl (λ k g e. e) (still t (opening_next t) (λ g. omega arith)) (λ x. x);
@@ -355,16 +358,17 @@ module _ (home : SiteNo) (w : Network) (a : SiteNo) where
           decision = x.decision;
           sent = x.sent;
         });
-    sends = λ t g k content i member may room. sends_closing t g k content i member may;
-    receives = λ t from m i came view member may. closing_quiet home w a no_key no_key t (receiving t m) (later_same t) i ((kept_window home w a).receives t from m i.0 came view member may) ((flush home w a t i.0.0).receives t from m (begin home w a t i.0.0) came view member).3
+    sends = λ t g k content i member may room open_it. sends_closing t g k content i member may;
+    receives = λ t from m i came view member may new. closing_quiet home w a no_key no_key t (receiving t m) (later_same t) i ((kept_window home w a).receives t from m i.0 came view member may new) ((flush home w a t i.0.0).receives t from m (begin home w a t i.0.0) came view member).3
         refl refl refl refl refl (λ k g e. e) (still t (receiving t m) (λ g. omega arith)) (λ x. x);
+    received = λ t u i. (closing_telling no_key).pays t (key_eq (message_key kinds.Want u t.config.home)) i;
     acknowledged = λ t from z i came. closing_quiet home w a no_key no_key t (noting_ack t from z) (later_same t) i ((kept_window home w a).acknowledged t from z i.0 came)
         ((flush home w a t i.0.0).telling.books t t.quotas t.moment (t.acks ++ (from, z) ∷ []) t.told t.owed t.casts t.pushes (begin home w a t i.0.0)).3 refl refl refl refl refl (λ k g e. e) (still t (noting_ack t from z) (λ g. omega arith)) (λ x. x);
     learns = λ t from z i came. closing_quiet home w a no_key no_key t (noting_stable t z) (later_same t) i ((kept_window home w a).learns t from z i.0 came)
         ((flush home w a t i.0.0).telling.books t t.quotas t.moment t.acks (t.told ++ z ∷ []) t.owed t.casts t.pushes (begin home w a t i.0.0)).3 refl refl refl refl refl (λ k g e. e) (still t (noting_stable t z) (λ g. omega arith)) (λ x. x);
     delivers = delivers_closing;
     freezes = λ t g i current. group_closing no_key t g (frozen_side (t.group g)) (omega arith) i ((kept_window home w a).freezes t g i.0 current) ((flush home w a t i.0.0).freezes t g (begin home w a t i.0.0) current).3 refl refl refl refl (λ e. refl) refl;
-    pends = λ t from g p tail i came current waits. pends_closing home w a t from g p tail i came current waits;
+    pends = λ t from g p tail i came current waits known. pends_closing home w a t from g p tail i came current waits known;
     passes = λ t g skipped n members request cut i comes. passes_closing home w a t g skipped n members request cut i comes;
     ends = λ t g i.
         let less : State = releasing_ended t g in

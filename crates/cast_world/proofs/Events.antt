@@ -1,16 +1,16 @@
 -- What the moves of a history keep, it keeps through each event and through the rest that follows.
 use Rattle.std.proofs.Common.{ap, inl, inr, subst, sym, ◌∙◌}
 use Rattle.std.proofs.lemmas.Bool.{and_from, and_parts, eq-eqb, false≢true}
-use Rattle.std.specs.List.{find, fold}
+use Rattle.std.specs.List.{find, fold, list_any}
 use Rattle.std.specs.Option.{option_map_or}
-use Rattle.std.specs.Prelude.{Bool, Contains, None, List, Option, Some, [], false, filter, if◌then◌else◌, is_some, length, not, refl, true, unwrap_or, ℕ, ◌&&◌, ◌+◌, ◌==◌, ◌∷◌, ◌≡◌, ◌⊎◌}
+use Rattle.std.specs.Prelude.{Bool, Contains, None, List, Option, Some, [], false, filter, if◌then◌else◌, is_some, length, not, refl, true, unwrap_or, ℕ, ◌&&◌, ◌||◌, ◌+◌, ◌==◌, ◌∷◌, ◌≡◌, ◌⊎◌}
 use Rattle.cast_delay.specs.Ready.{covered, is_member}
 use Rattle.cast_rules.specs.Acts.Act.{Delivered}
 use Rattle.cast_rules.specs.Effects.{delivering, sending}
 use Rattle.cast_rules.specs.History.{history}
 use Rattle.cast_rules.specs.Order.{has_place, holders, holds, order_told, unlisted}
 use Rattle.cast_rules.specs.Owing.{noting_owed}
-use Rattle.cast_rules.specs.Reports.{has_delivered_cut, is_missing, missing_in}
+use Rattle.cast_rules.specs.Reports.{has_delivered_cut, is_delivered_here, is_missing, missing_in}
 use Rattle.cast_rules.specs.Rest.{RestsAt, deliver_all, deliver_first, is_free, let_go, pass, set_order, set_order_by, set_orders, settle}
 use Rattle.cast_rules.specs.Resting.{next_places, places_of, resting}
 use Rattle.cast_rules.specs.Rules.Events.{is_taken, may_open}
@@ -21,7 +21,7 @@ use Rattle.cast_rules.specs.Rules.Rest.{tell_if, told_of}
 use Rattle.cast_rules.specs.Rules.Room.{may_order}
 use Rattle.cast_rules.specs.Rules.Sending.{may_raise}
 use Rattle.cast_rules.specs.Run.{after_event, before_event}
-use Rattle.cast_rules.specs.State.{State, local, serials, setting_quota, taking, with_delivery}
+use Rattle.cast_rules.specs.State.{State, is_received, local, serials, setting_quota, taking, with_delivery}
 use Rattle.cast_rules.specs.Step.{acted, opening_next, sessions_given}
 use Rattle.cast_rules.specs.Turns.{is_ready_for}
 use Rattle.cast_message.specs.Placement.{Placement}
@@ -36,11 +36,12 @@ use Rattle.cast_timer.specs.Owed.{is_owed}
 use Rattle.cast_timer.specs.declared.key.OwedKey.{OwedKey}
 use Rattle.cast_types.proofs.Orders.{entry_itself}
 use Rattle.cast_types.specs.Counts.{CountList}
-use Rattle.cast_types.specs.Names.{Entry, entry_eq}
+use Rattle.cast_types.specs.Names.{Entry, entry_eq, named, uid_eq}
 use Rattle.cast_types.specs.Sets.{is_among}
 use Rattle.cast_types.specs.declared.limits.TheConstants.{MAX_PLACED}
 use Rattle.cast_types.specs.declared.names.GroupNo.{GroupNo}
 use Rattle.cast_types.specs.declared.names.SiteNo.{SiteNo}
+use Rattle.cast_types.specs.declared.names.Uid.{Uid}
 use Rattle.cast_view.specs.Home.{is_empty}
 use Rattle.cast_view.specs.MemberSide.{MemberSide}
 use Rattle.cast_view.specs.declared.member.Pending.{Pending}
@@ -108,6 +109,16 @@ missing_named : (s : State) (g : GroupNo) (cut : CountList) (x : Entry) → Cont
 missing_named s g cut x at =
     among_of entry_eq entry_itself (covered cut) x (among_kept (is_missing s g) (covered cut) x (taken_of MAX_PLACED (filter (is_missing s g) (covered cut)) x at))
 
+-- it was not received
+missing_lacked : (s : State) (g : GroupNo) (cut : CountList) (x : Entry) → Contains (missing_in s g cut) x → is_received s (named g (s.group g).number x) ≡ false
+missing_lacked s g cut x at =
+    neither (is_delivered_here s g x) (is_received s (named g (s.group g).number x)) (passed (is_missing s g) (covered cut) x (taken_of MAX_PLACED (filter (is_missing s g) (covered cut)) x at))
+  where
+    neither : (a b : Bool) → not (a || b) ≡ true → b ≡ false
+    neither true b e = absurd (false≢true e)
+    neither false true e = absurd (false≢true e)
+    neither false false e = refl
+
 -- so a Want of it is of a message that the waiting Install covers
 named_covers : (s : State) (g : GroupNo) (p : Pending) → (s.group g).pending ≡ Some p → (x : Entry) → is_among entry_eq x (covered p.cut) ≡ true → Wants s (own_want_key history s g x)
 named_covers s g p pending x named_it =
@@ -118,7 +129,7 @@ is_false : (b : Bool) → not b ≡ true → b ≡ false
 is_false true e = absurd (false≢true e)
 is_false false e = refl
 
-module _ (I : State → Type 0) (Between : GroupNo → State → Type 0) (Came : SiteNo → SiteFrame → Type 0) (home_here : Bool) (k : FullyKept I Between Came home_here) where
+module _ (I : State → Type 0) (Between : GroupNo → State → Type 0) (During : Uid → State → Type 0) (Came : SiteNo → SiteFrame → Type 0) (home_here : Bool) (k : FullyKept I Between During Came home_here) where
   abbrev t : FullyKeptByTelling I
   t = k.telling
 
@@ -158,9 +169,10 @@ module _ (I : State → Type 0) (Between : GroupNo → State → Type 0) (Came :
   set_order_by_keeps s g n i held = keeps_if I (may_list history resting s g n) _ s
       (λ may. keeps_option I (list_places history resting s g n) (next_places s g n) s
       (λ places next. keeps_if I (may_raise (s.process n).time g (local s n)) (let_go (sending s g n (body.Order places))) s
-      (λ _. let_go_keeps (sending s g n (body.Order places)) (sending_keeps I Between Came home_here k s g n (body.Order places) i (and_parts (is_member ((s.process n).standing g)) _ may).0
+      (λ _. let_go_keeps (sending s g n (body.Order places)) (sending_keeps I Between During Came home_here k s g n (body.Order places) i (and_parts (is_member ((s.process n).standing g)) _ may).0
       (lists held (is_false (s.group g).frozen (and_parts (not (s.group g).frozen) (may_order history s) (and_parts (is_member ((s.process n).standing g)) _ may).1).0) (next_are s g n places next))
-      (and_parts (not (s.group g).frozen) (may_order history s) (and_parts (is_member ((s.process n).standing g)) _ may).1).1))
+      (and_parts (not (s.group g).frozen) (may_order history s) (and_parts (is_member ((s.process n).standing g)) _ may).1).1
+      (is_false (s.group g).frozen (and_parts (not (s.group g).frozen) (may_order history s) (and_parts (is_member ((s.process n).standing g)) _ may).1).0)))
       (λ _. i)) i) (λ _. i)
 
   set_order_keeps : (s : State) (g : GroupNo) → I s → I (set_order s g)
@@ -179,13 +191,24 @@ module _ (I : State → Type 0) (Between : GroupNo → State → Type 0) (Came :
       go false None = refl
       go false (Some f) = refl
 
+  -- and receives nothing
+  same_got : (s : State) (key : OwedKey) → (owe history s key).got ≡ s.got
+  same_got s key = go (is_owed s.owed key) (frame_for history s key)
+    where
+      go : (b : Bool) (o : Option SiteFrame) → (if b then s else noting_owed (option_map_or (history.send s key.site) o s) key).got ≡ s.got
+      go true o = refl
+      go false None = refl
+      go false (Some f) = refl
+
   want_all : (g : GroupNo) (p : Pending) (xs : List Entry) (s : State) → I s → (s.group g).pending ≡ Some p → ((x : Entry) → Contains xs x → is_among entry_eq x (covered p.cut) ≡ true) →
+      ((x : Entry) → Contains xs x → is_received s (named g (s.group g).number x) ≡ false) →
       I (fold (want_own history g) s xs)
-  want_all g p [] s i pending named_all = i
-  want_all g p (x ∷ xs) s i pending named_all =
+  want_all g p [] s i pending named_all lacked = i
+  want_all g p (x ∷ xs) s i pending named_all lacked =
       let key : OwedKey = own_want_key history s g x in
-      want_all g p xs (owe history s key) (owe_keeps I t s key i tt (named_covers s g p pending x (named_all x (contains_here [] xs x))))
+      want_all g p xs (owe history s key) (owe_keeps I t s key i tt (named_covers s g p pending x (named_all x (contains_here [] xs x))) (lacked x (contains_here [] xs x)))
       (ap (λ (f : GroupNo → MemberSide). (f g).pending) (same_group s key) ∙ pending) (λ y at. named_all y (contains_more x xs y at))
+      (λ y at. (λ i_at. list_any (λ (m : Message). uid_eq m.id (named g (same_group s key i_at g).number y)) (same_got s key i_at)) ∙ lacked y (contains_more x xs y at))
 
   go_on_keeps : (s : State) (g : GroupNo) → I s → I (go_on history resting s g)
   go_on_keeps s g i = go (s.group g).pending refl
@@ -194,15 +217,15 @@ module _ (I : State → Type 0) (Between : GroupNo → State → Type 0) (Came :
       go None e = i
       go (Some p) e = keeps_if I (has_delivered_cut s g p.cut) (let_go (complete history s g p)) (fold (want_own history g) s (missing_in s g p.cut))
           (λ all. let_go_keeps (complete history s g p)
-          (install_keeps I Between Came home_here k s g false s.config.home ((s.group g).number + 1) p.members p.request p.cut i (completes p e all refl refl refl refl refl)))
-          (λ _. want_all g p (missing_in s g p.cut) s i e (missing_named s g p.cut))
+          (install_keeps I Between During Came home_here k s g false s.config.home ((s.group g).number + 1) p.members p.request p.cut i (completes p e all refl refl refl refl refl)))
+          (λ _. want_all g p (missing_in s g p.cut) s i e (missing_named s g p.cut) (missing_lacked s g p.cut))
 
   pub pass_keeps : (s : State) → I s → I (pass s)
   pass_keeps s i =
       let settled : State = settle s in
       let ordered : State = set_orders settled in
       let gone_on : State = go_on_all history resting ordered in
-      lead_keeps I Between Came home_here k gone_on
+      lead_keeps I Between During Came home_here k gone_on
       (keeps_fold I (go_on history resting) go_on_keeps ordered.config.groups ordered
       (keeps_fold I set_order set_order_keeps settled.config.groups settled (settle_keeps s i)))
 
@@ -216,10 +239,10 @@ module _ (I : State → Type 0) (Between : GroupNo → State → Type 0) (Came :
 
   acted_keeps : (s : State) (e : Event) → I s → HasCome Came e → SetsWell I s e → I (acted s e)
   acted_keeps s (event.Open d) i come sets = keeps_if I (may_open history sessions_given s) (opening_next s) s (λ _. k.opens s i) (λ _. i)
-  acted_keeps s (event.Command d n c) i come sets = commanded_keeps I Between Came home_here k s n c i
+  acted_keeps s (event.Command d n c) i come sets = commanded_keeps I Between During Came home_here k s n c i
   acted_keeps s (event.Gone d n) i come sets = end_session_keeps I t s n i
-  acted_keeps s (event.Frame d from f) i come sets = framed_keeps I Between Came home_here k s from f i come
-  acted_keeps s (event.Suspect d site) i come sets = suspect_keeps I Between Came home_here k s site i
+  acted_keeps s (event.Frame d from f) i come sets = framed_keeps I Between During Came home_here k s from f i come
+  acted_keeps s (event.Suspect d site) i come sets = suspect_keeps I Between During Came home_here k s site i
   acted_keeps s (event.Quota d name value) i come sets = keeps_if I (is_in_range name value) (setting_quota s name value) s
       (λ _. sets) (λ _. i)
   acted_keeps s (event.Take d n most) i come sets = keeps_if I (not (is_gone (s.session n)) && is_taken most) (taking s n most) s
@@ -232,8 +255,8 @@ module _ (I : State → Type 0) (Between : GroupNo → State → Type 0) (Came :
 -- the same of what does not look at what is owed
 module _ (I : State → Type 0) (Came : SiteNo → SiteFrame → Type 0) (home_here : Bool) (k : Kept I Came home_here) where
   pub rests_keeps : (s r : State) → RestsAt s r → I s → I r
-  rests_keeps = rests_keeps_fully I (λ g. I) Came home_here (kept_fully I Came home_here k)
+  rests_keeps = rests_keeps_fully I (λ g. I) (λ u. I) Came home_here (kept_fully I Came home_here k)
 
   pub after_event_keeps : (s : State) (e : Event) → I (before_event s) → HasCome Came e → I (after_event s e)
-  after_event_keeps s e i come = event_keeps_fully I (λ g. I) Came home_here (kept_fully I Came home_here k) s e i come
+  after_event_keeps s e i come = event_keeps_fully I (λ g. I) (λ u. I) Came home_here (kept_fully I Came home_here k) s e i come
       (sets_any I (λ t quotas j. k.telling.books t quotas t.moment t.acks t.told t.owed t.casts t.pushes j) (before_event s) e i)

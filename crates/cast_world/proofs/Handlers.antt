@@ -28,7 +28,7 @@ use Rattle.cast_rules.specs.Rules.Room.{may_order, may_receive, may_take}
 use Rattle.cast_rules.specs.Rules.Sending.{may_raise, send_data}
 use Rattle.cast_rules.specs.Rules.Stability.{is_used_ack, on_ack, on_stable, tell_more, tell_stable, with_ack}
 use Rattle.cast_rules.specs.Rules.Views.{change_view, enter_and_tell, install, no_members, on_install, on_out, tell_out, tell_view}
-use Rattle.cast_rules.specs.State.{State, awaits_own, counting_cast, emitted, is_ended, is_group, is_received, is_stable, local, local_members, message_of, noting_sent, others_of, outside, receiving, releasing_ended, set_group, set_home, set_standing, upto}
+use Rattle.cast_rules.specs.State.{State, awaits_own, counting_cast, emitted, is_group, is_received, is_stable, local, local_members, message_of, noting_sent, others_of, outside, receiving, set_group, set_home, set_standing, upto}
 use Rattle.cast_message.specs.Bodies.{kind_of}
 use Rattle.cast_message.specs.KeptIds.{KeptList}
 use Rattle.cast_message.specs.Membership.{Membership}
@@ -63,7 +63,7 @@ use Rattle.cast_view.specs.declared.member.Verdict.{Verdict}
 use Rattle.cast_view.specs.declared.member.Verdict.TheVariants.{Again, Completes, Ignored, Pends, Skips}
 use Rattle.cast_world.proofs.Entries.{agrees_later, members_entered, put_out_left, tell_all_goes_on, tell_all_keeps}
 use Rattle.cast_world.proofs.Keeps.{found_is, keeps_fold, keeps_if, keeps_option}
-use Rattle.cast_world.proofs.Kept.{Comes, MaySend, FullyKept, FullyKeptByTelling, casts, ends, fits, hands, installs, skips, wanted}
+use Rattle.cast_world.proofs.Kept.{Comes, MaySend, FullyKept, FullyKeptByTelling, asked, casts, ends, fits, hands, installs, skips, unknown, wanted}
 use Rattle.cast_world.proofs.Telling.{ask_home_keeps, close_session_keeps, leave_at_keeps, outcome, owe_keeps, pay_keeps, request_keeps, send_for_keeps, tell_keeps}
 use Rattle.cast_message.specs.declared.site.Change.TheVariants as change
 use Rattle.cast_message.specs.declared.client.CastKind.TheVariants as kind_name
@@ -91,7 +91,14 @@ told_kept s g x = (report_in (record s { group = λ h. x }) g).kept
 told_counts : State → GroupNo → MemberSide → CountList
 told_counts s g x = counts_by (greatest_of (map entry_of (filter (λ u. group_eq u.group g && (u.view == x.number)) (had_here s)))) (members_of x)
 
-module _ (I : State → Type 0) (Between : GroupNo → State → Type 0) (Came : SiteNo → SiteFrame → Type 0) (home_here : Bool) (k : FullyKept I Between Came home_here) where
+-- what was received is acknowledged
+module _ (I : State → Type 0) (t : FullyKeptByTelling I) where
+  acknowledge_keeps : (s : State) (to : SiteNo) (u : Uid) → I s → is_received s u ≡ true → u.view ≡ (s.group u.group).number → I (acknowledge history s to u)
+  acknowledge_keeps s to u i has current = keeps_if I (is_stable s u) (emitted s to (frame.Ack u)) (owe history s (message_key kinds.Ack u to))
+      (λ _. t.emits s to (frame.Ack u) i tt has)
+      (λ _. owe_keeps I t s (message_key kinds.Ack u to) i (ap (λ n. is_received s (record { group = u.group; view = n; proc = u.proc; count = u.count })) (sym current) ∙ has) tt tt)
+
+module _ (I : State → Type 0) (Between : GroupNo → State → Type 0) (During : Uid → State → Type 0) (Came : SiteNo → SiteFrame → Type 0) (home_here : Bool) (k : FullyKept I Between During Came home_here) where
   abbrev t : FullyKeptByTelling I
   t = k.telling
 
@@ -99,14 +106,14 @@ module _ (I : State → Type 0) (Between : GroupNo → State → Type 0) (Came :
 
   send_data_keeps : (u : Uid) (s : State) (to : SiteNo) → I s → I (send_data history u s to)
   send_data_keeps u s to i = keeps_if I (has_acked s.acks u to) (send_for history s (message_key kinds.Data u to)) (owe history s (message_key kinds.Data u to))
-      (λ _. send_for_keeps I t s (message_key kinds.Data u to) i tt) (λ _. owe_keeps I t s (message_key kinds.Data u to) i tt tt)
+      (λ _. send_for_keeps I t s (message_key kinds.Data u to) i tt) (λ _. owe_keeps I t s (message_key kinds.Data u to) i tt tt tt)
 
   pub sending_keeps : (s : State) (g : GroupNo) (n : ℕ) (content : Body) → I s → is_member ((s.process n).standing g) ≡ true → MaySend s g n content → may_take history s content ≡ true →
-      I (send_own history s n (next_message s g n content))
-  sending_keeps s g n content i member may room =
+      (s.group g).frozen ≡ false → I (send_own history s n (next_message s g n content))
+  sending_keeps s g n content i member may room open_it =
       let m : Message = next_message s g n content in
       let taken : State = receiving (noting_sent s n m) m in
-      keeps_fold I (send_data history m.id) (send_data_keeps m.id) (others_of taken m.id.group) taken (k.sends s g n content i member may room)
+      keeps_fold I (send_data history m.id) (send_data_keeps m.id) (others_of taken m.id.group) taken (k.sends s g n content i member may room open_it)
 
   -- Commands
 
@@ -155,14 +162,14 @@ module _ (I : State → Type 0) (Between : GroupNo → State → Type 0) (Came :
       at = refused_or (nat_lt MAX_PAYLOAD (length payload)) s TooLong _ i
           (λ _. refused_or (not (is_member ((s.process n).standing g))) s NotMember _ i
           (λ member. refused_or (s.group g).frozen s Flushing _ i
-          (λ _. refused_or (awaits_own s n) s OwnAbcast _ i
+          (λ open_it. refused_or (awaits_own s n) s OwnAbcast _ i
           (λ _. refused_or (not (may_receive history s)) s HeldFull _ i
           (λ room. refused_or (not (may_raise (s.process n).time g (local s n))) s HeldFull (counting_cast (send_own history s n (next_message s g n (body_of kind payload))), None) i
           (λ _.
           let sent : State = send_own history s n (next_message s g n (body_of kind payload)) in
           t.books sent sent.moment (min MAX_CASTS (sent.casts + 1))
           (sending_keeps s g n (body_of kind payload) i (not_true (is_member ((s.process n).standing g)) member) (casts (no_order kind payload))
-          (ap (λ b. if b then may_order history s else may_receive history s) (no_order kind payload) ∙ not_true (may_receive history s) room))))))))
+          (ap (λ b. if b then may_order history s else may_receive history s) (no_order kind payload) ∙ not_true (may_receive history s) room) open_it)))))))
 
       place : (b : Bool) → I (outcome (option_map_or (cast_at history s n g kind payload) (if b then Some g else None) (s, Some NoGroup)))
       place true = at
@@ -176,7 +183,7 @@ module _ (I : State → Type 0) (Between : GroupNo → State → Type 0) (Came :
     where
       itself : (b : Bool) → I (outcome (if b then (s, None) else (send_own history s n (next_message s g n (body_handing place to)), None)))
       itself true = i
-      itself false = sending_keeps s g n (body_handing place to) i member (hands place to held open_it e refl) room
+      itself false = sending_keeps s g n (body_handing place to) i member (hands place to held open_it e refl) room open_it
 
   pass_token_keeps : (s : State) (n : ℕ) (g : GroupNo) (to : Proc) → I s → I (outcome (pass_token history s n g to))
   pass_token_keeps s n g to i = place (is_group s g)
@@ -207,12 +214,6 @@ module _ (I : State → Type 0) (Between : GroupNo → State → Type 0) (Came :
 
   -- Messages of other sites
 
-  -- what was received is acknowledged
-  acknowledge_keeps : (s : State) (to : SiteNo) (u : Uid) → I s → is_received s u ≡ true → u.view ≡ (s.group u.group).number → I (acknowledge history s to u)
-  acknowledge_keeps s to u i has current = keeps_if I (is_stable s u) (emitted s to (frame.Ack u)) (owe history s (message_key kinds.Ack u to))
-      (λ _. t.emits s to (frame.Ack u) i tt has)
-      (λ _. owe_keeps I t s (message_key kinds.Ack u to) i (ap (λ n. is_received s (record { group = u.group; view = n; proc = u.proc; count = u.count })) (sym current) ∙ has) tt)
-
   received_now : (got : List Message) (m : Message) → list_any (λ x. uid_eq x.id m.id) (got ++ m ∷ []) ≡ true
   received_now [] m = ap (λ b. b || false) (uid_itself m.id)
   received_now (x ∷ got) m = go (uid_eq x.id m.id) (received_now got m)
@@ -230,10 +231,11 @@ module _ (I : State → Type 0) (Between : GroupNo → State → Type 0) (Came :
       let b = and_parts (not (site_eq from s.here)) _ a.1 in
       let c = and_parts (m.id.view == (s.group m.id.group).number) (is_well_formed history s (members_of (s.group m.id.group)) m) b.1 in
       let current : m.id.view ≡ (s.group m.id.group).number = eqb-true m.id.view (s.group m.id.group).number c.0 in
+      let elsewhere : site_eq m.id.proc.site s.here ≡ false = ap (λ n. n == s.here.0) (eqb-true m.id.proc.site.0 from.0 a.0) ∙ not_false (site_eq from s.here) b.0 in
       keeps_if I (is_received s m.id) (emitted s from (frame.Ack m.id)) _ (λ has. t.emits s from (frame.Ack m.id) i tt has)
-      (λ _. keeps_if I (may_take history s m.body) (want_no_more history (acknowledge history (receiving s m) from m.id) m.id) s
-      (λ room. pay_keeps I t (acknowledge history (receiving s m) from m.id) (message_key kinds.Want m.id (acknowledge history (receiving s m) from m.id).config.home) (acknowledge_keeps (receiving s m) from m.id
-      (k.receives s from m i (inl came) current (well_formed_member s (members_of (s.group m.id.group)) m c.1) (fits room)) (received_now s.got m) current)) (λ _. i))
+      (λ lacked. keeps_if I (may_take history s m.body) (want_no_more history (acknowledge history (receiving s m) from m.id) m.id) s
+      (λ room. k.received (acknowledge history (receiving s m) from m.id) m.id (acknowledge_keeps (During m.id) (k.during m.id) (receiving s m) from m.id
+      (k.receives s from m i (inl came) current (well_formed_member s (members_of (s.group m.id.group)) m c.1) (fits room) (unknown lacked elsewhere)) (received_now s.got m) current)) (λ _. i))
 
   on_data_keeps : (s : State) (from : SiteNo) (m : Message) → I s → Came from (frame.Data m) → I (on_data history s m.id.group from m)
   on_data_keeps s from m i came = keeps_if I (is_used history s m.id.group from m) (use_data history s from m) _ (use_data_keeps s from m i came)
@@ -317,23 +319,23 @@ module _ (I : State → Type 0) (Between : GroupNo → State → Type 0) (Came :
       let a = and_parts (is_pending (s.group m.id.group)) _ (and_parts (is_from_home history s from) _ may).1 in
       let b = and_parts (is_owed s.owed (message_key kinds.Want m.id s.config.home)) _ a.1 in
       let c = and_parts (m.id.view == (s.group m.id.group).number) (is_well_formed history s (members_of (s.group m.id.group)) m) b.1 in
-      pay_keeps I t (receiving s m) (message_key kinds.Want m.id s.config.home)
-      (k.receives s from m i (inr came) (eqb-true m.id.view (s.group m.id.group).number c.0) (well_formed_member s (members_of (s.group m.id.group)) m c.1) (wanted b.0))) (λ _. i)
+      k.received (receiving s m) m.id
+      (k.receives s from m i (inr came) (eqb-true m.id.view (s.group m.id.group).number c.0) (well_formed_member s (members_of (s.group m.id.group)) m c.1) (wanted b.0) (asked a.0 b.0))) (λ _. i)
 
   -- The home
 
   prepare_keeps : (s : State) (g : GroupNo) → I s → I (prepare history s g)
-  prepare_keeps s g i = keeps_fold I (owe_of_home history kinds.Prepare g) (λ r to j. owe_keeps I t r (home_key kinds.Prepare g to) j tt tt) (awaited_of (s.home g).phase) s i
+  prepare_keeps s g i = keeps_fold I (owe_of_home history kinds.Prepare g) (λ r to j. owe_keeps I t r (home_key kinds.Prepare g to) j tt tt tt) (awaited_of (s.home g).phase) s i
 
   announce_keeps : (s : State) (g : GroupNo) → I s → I (announce history s g)
-  announce_keeps s g i = keeps_fold I (owe_of_home history kinds.Install g) (λ r to j. owe_keeps I t r (home_key kinds.Install g to) j tt tt) (waiting_of (s.home g).phase) s i
+  announce_keeps s g i = keeps_fold I (owe_of_home history kinds.Install g) (λ r to j. owe_keeps I t r (home_key kinds.Install g to) j tt tt tt) (waiting_of (s.home g).phase) s i
 
   start_keeps : (s : State) (g : GroupNo) → I s → I (start history s g)
   start_keeps s g i = keeps_if I (may_start (s.home g)) (prepare history (set_home s g (moved Started (s.home g))) g) s
       (λ _. prepare_keeps (set_home s g (moved Started (s.home g))) g (k.homes s g Started i tt)) (λ _. i)
 
   want_bodies_keeps : (s : State) (g : GroupNo) → I s → I (want_bodies history s g)
-  want_bodies_keeps s g i = keeps_fold I (want history g) (λ r w j. owe_keeps I t r (want_key g w) j tt tt) (wants history s g) s i
+  want_bodies_keeps s g i = keeps_fold I (want history g) (λ r w j. owe_keeps I t r (want_key g w) j tt tt tt) (wants history s g) s i
 
   decide_keeps : (s : State) (g : GroupNo) → home_here ≡ true → I s → I (decide history s g)
   decide_keeps s g here i = keeps_if I (may_decide g (s.home g)) (announce history (set_home s g (moved Decided (s.home g))) g) s
@@ -425,12 +427,12 @@ module _ (I : State → Type 0) (Between : GroupNo → State → Type 0) (Came :
   ])
 
   on_install_keeps : (s : State) (from : SiteNo) (g : GroupNo) (n : ℕ) (members : Membership) (request : ℕ) (cut : CountList) (tail : Tail) → I s →
-      Came from (frame.Install g n members request cut tail) → I (on_install history s g from n members request cut tail)
-  on_install_keeps s from g n members request cut tail i came = keeps_if I (is_from_home history s from) _ s (λ _. again (nat_le n (s.group g).number) refl) (λ _. i)
+      Came from (frame.Install g n members request cut tail) → is_group s g ≡ true → I (on_install history s g from n members request cut tail)
+  on_install_keeps s from g n members request cut tail i came known = keeps_if I (is_from_home history s from) _ s (λ _. again (nat_le n (s.group g).number) refl) (λ _. i)
     where
       waits : (b : Bool) → has_view (s.group g) ≡ true → n ≡ (s.group g).number + 1 → is_pending (s.group g) ≡ b → By s from g n members request cut tail (if b then Ignored else Pends)
       waits true has is quiet = i
-      waits false has is quiet = k.pends s from g (record { members = members; request = request; cut = cut }) tail i (subst (λ v. Came from (frame.Install g v members request cut tail)) is came) has quiet
+      waits false has is quiet = k.pends s from g (record { members = members; request = request; cut = cut }) tail i (subst (λ v. Came from (frame.Install g v members request cut tail)) is came) has quiet known
 
       has_none : (b : Bool) → not (has_view (s.group g)) ≡ b → (s.group g).number < n → n ≡ (s.group g).number + 1 → By s from g n members request cut tail (if b then Completes else if is_pending (s.group g) then Ignored else Pends)
       has_none true none up is = install_keeps s g false from n members request cut i (installs from tail came (not_false (has_view (s.group g)) none) refl up)
@@ -453,23 +455,23 @@ module _ (I : State → Type 0) (Between : GroupNo → State → Type 0) (Came :
 
   -- Frames
 
-  on_frame_keeps : (s : State) (from : SiteNo) (f : SiteFrame) → I s → Came from f → I (on_frame history s (group_of f) from f)
-  on_frame_keeps s from (frame.Data m) i came = on_data_keeps s from m i came
-  on_frame_keeps s from (frame.Ack u) i came = on_ack_keeps s from u i came
-  on_frame_keeps s from (frame.Stable u) i came = on_stable_keeps s from u i came
-  on_frame_keeps s from (frame.Ask g number what p) i came = on_ask_keeps s from g number what p i came
-  on_frame_keeps s from (frame.Asked g number full) i came = on_asked_keeps s from g number full i
-  on_frame_keeps s from (frame.Prepare g view) i came = on_prepare_keeps s from g view i
-  on_frame_keeps s from (frame.Flushed g view counts tail kept) i came = on_flushed_keeps s from g view (record { counts = counts; tail = tail; kept = kept }) i came
-  on_frame_keeps s from (frame.Want u) i came = on_want_keeps s from u i
-  on_frame_keeps s from (frame.Forward m) i came = on_forward_keeps (on_wanted history s m.id.group from m) from m (on_wanted_keeps s from m i came) came
-  on_frame_keeps s from (frame.Install g view members request cut tail) i came = on_install_keeps s from g view members request cut tail i came
-  on_frame_keeps s from (frame.Installed g view) i came = on_installed_keeps s from g view i
-  on_frame_keeps s from (frame.Out g view) i came = on_out_keeps s from g view i came
+  on_frame_keeps : (s : State) (from : SiteNo) (f : SiteFrame) → I s → Came from f → is_group s (group_of f) ≡ true → I (on_frame history s (group_of f) from f)
+  on_frame_keeps s from (frame.Data m) i came known = on_data_keeps s from m i came
+  on_frame_keeps s from (frame.Ack u) i came known = on_ack_keeps s from u i came
+  on_frame_keeps s from (frame.Stable u) i came known = on_stable_keeps s from u i came
+  on_frame_keeps s from (frame.Ask g number what p) i came known = on_ask_keeps s from g number what p i came
+  on_frame_keeps s from (frame.Asked g number full) i came known = on_asked_keeps s from g number full i
+  on_frame_keeps s from (frame.Prepare g view) i came known = on_prepare_keeps s from g view i
+  on_frame_keeps s from (frame.Flushed g view counts tail kept) i came known = on_flushed_keeps s from g view (record { counts = counts; tail = tail; kept = kept }) i came
+  on_frame_keeps s from (frame.Want u) i came known = on_want_keeps s from u i
+  on_frame_keeps s from (frame.Forward m) i came known = on_forward_keeps (on_wanted history s m.id.group from m) from m (on_wanted_keeps s from m i came) came
+  on_frame_keeps s from (frame.Install g view members request cut tail) i came known = on_install_keeps s from g view members request cut tail i came known
+  on_frame_keeps s from (frame.Installed g view) i came known = on_installed_keeps s from g view i
+  on_frame_keeps s from (frame.Out g view) i came known = on_out_keeps s from g view i came
 
   pub framed_keeps : (s : State) (from : SiteNo) (f : SiteFrame) → I s → Came from f → I (framed history s from f)
-  framed_keeps s from f i came = keeps_if I (is_among site_eq from s.config.sites) _ s (λ _. place (is_group s (group_of f))) (λ _. i)
+  framed_keeps s from f i came = keeps_if I (is_among site_eq from s.config.sites) _ s (λ _. place (is_group s (group_of f)) refl) (λ _. i)
     where
-      place : (b : Bool) → I (option_map_or (λ h. on_frame history s h from f) (if b then Some (group_of f) else None) s)
-      place true = on_frame_keeps s from f i came
-      place false = i
+      place : (b : Bool) → is_group s (group_of f) ≡ b → I (option_map_or (λ h. on_frame history s h from f) (if b then Some (group_of f) else None) s)
+      place true known = on_frame_keeps s from f i came known
+      place false known = i

@@ -7,7 +7,7 @@ use Rattle.cast_rules.specs.Effects.{next_message}
 use Rattle.cast_rules.specs.Entering.{freezing, passing, pending_install}
 use Rattle.cast_rules.specs.History.{history}
 use Rattle.cast_rules.specs.Order.{holds, place_to_pass}
-use Rattle.cast_rules.specs.Owing.{paying_view}
+use Rattle.cast_rules.specs.Owing.{paying, paying_view}
 use Rattle.cast_rules.specs.Reports.{has_delivered_cut, report_in}
 use Rattle.cast_rules.specs.Resting.{places_of}
 use Rattle.cast_rules.specs.Rules.Asking.{is_home}
@@ -29,14 +29,14 @@ use Rattle.cast_message.specs.declared.site.SiteFrame.{SiteFrame}
 use Rattle.cast_events.specs.Session.{Session, is_open}
 use Rattle.cast_quota.specs.declared.quotas.Quotas.{Quotas}
 use Rattle.cast_stable.specs.Stable.{Acked}
-use Rattle.cast_timer.specs.Owed.{is_of_view, is_owed, paid, renewed, with_owed}
+use Rattle.cast_timer.specs.Owed.{is_of_view, is_owed, key_eq, paid, renewed, with_owed}
 use Rattle.cast_timer.specs.declared.key.Owed.{Owed}
 use Rattle.cast_timer.specs.declared.key.OwedKey.{OwedKey}
 use Rattle.cast_timer.specs.declared.key.OwedKind.{OwedKind}
 use Rattle.cast_timer.specs.declared.key.Side.{Side}
 use Rattle.cast_timer.specs.declared.key.Side.TheVariants as side
 use Rattle.cast_types.specs.Counts.{CountList}
-use Rattle.cast_types.specs.Names.{is_order, proc_eq}
+use Rattle.cast_types.specs.Names.{is_order, proc_eq, site_eq}
 use Rattle.cast_types.specs.Sets.{is_among}
 use Rattle.cast_types.specs.declared.names.GroupNo.{GroupNo}
 use Rattle.cast_types.specs.declared.names.Proc.{Proc}
@@ -168,6 +168,22 @@ WantsOf group key kinds.Ack = Unit {0}
 abbrev pub Wants : State → OwedKey → Type 0
 Wants s key = WantsOf s.group key key.kind
 
+-- one that comes to be owed is of a message that was not received
+abbrev pub LacksAt : State → OwedKey → Side → Type 0
+LacksAt s key side.Site = is_received s (id_in (s.group key.group).number key) ≡ false
+LacksAt s key side.Home = Unit {0}
+
+abbrev pub LacksOf : State → OwedKey → OwedKind → Type 0
+LacksOf s key kinds.Ask = Unit {0}
+LacksOf s key kinds.Data = Unit {0}
+LacksOf s key kinds.Prepare = Unit {0}
+LacksOf s key kinds.Want = LacksAt s key key.side
+LacksOf s key kinds.Install = Unit {0}
+LacksOf s key kinds.Ack = Unit {0}
+
+abbrev pub Lacks : State → OwedKey → Type 0
+Lacks s key = LacksOf s key key.kind
+
 -- a frame is owed
 abbrev pub IsOwed : State → OwedKey → Type 0
 IsOwed s key = (o : Owed) × Contains s.owed o × (o.key ≡ key)
@@ -176,6 +192,11 @@ IsOwed s key = (o : Owed) × Contains s.owed o × (o.key ≡ key)
 pub data MayReceive (s : State) (m : Message) : Type 0 where
   fits : may_take history s m.body ≡ true → MayReceive s m
   wanted : is_owed s.owed (message_key kinds.Want m.id s.config.home) ≡ true → MayReceive s m
+
+-- it is new here: it was not received, and bears the name of a process of another site; or an Install waits and the home was asked for it
+pub data IsNew (s : State) (m : Message) : Type 0 where
+  unknown : is_received s m.id ≡ false → site_eq m.id.proc.site s.here ≡ false → IsNew s m
+  asked : is_pending (s.group m.id.group) ≡ true → is_owed s.owed (message_key kinds.Want m.id s.config.home) ≡ true → IsNew s m
 
 -- what else a frame says
 abbrev pub Adds : State → SiteFrame → Type 0
@@ -197,7 +218,7 @@ pub record FullyKeptByTelling (I : State → Type 0) : Type 0 where
   pub emits : (s : State) (to : SiteNo) (f : SiteFrame) → I s → Says s to f → Adds s f → I (emitted s to f)
   pub books : (s : State) (moment casts : ℕ) → I s → I (record s { moment = moment; casts = casts })
   pub pushes : (s : State) (k : ℕ) (p : Push) → I s → AgreesWith (s.acts k) p → I (record s { pushes = s.pushes ++ (k, p) ∷ [] })
-  pub owes : (s : State) (key : OwedKey) (due : ℕ) → I s → Owes s key → Wants s key → I (record s { owed = with_owed s.owed key due })
+  pub owes : (s : State) (key : OwedKey) (due : ℕ) → I s → Owes s key → Wants s key → Lacks s key → I (record s { owed = with_owed s.owed key due })
   pub renews : (s : State) (key : OwedKey) (due : ℕ) → I s → Owes s key → IsOwed s key → I (record s { owed = renewed s.owed key due })
   pub pays : (s : State) (test : OwedKey → Bool) → I s → I (record s { owed = paid test s.owed })
   pub releases : (s : State) (passes : Uid → Bool) → I s → I (releasing s passes)
@@ -211,10 +232,12 @@ AcksFreely I =
     ((s : State) (to : SiteNo) (u : Uid) → I s → I (emitted s to (frame.Ack u)))
     × ((s : State) (key : OwedKey) (due : ℕ) → I s → IsOwed s key → I (record s { owed = renewed s.owed key due }))
 
--- where a site passes to a view, Between holds of the group until nothing is owed for the view before it
-pub record FullyKept (I : State → Type 0) (Between : GroupNo → State → Type 0) (Came : SiteNo → SiteFrame → Type 0) (home_here : Bool) : Type 0 where
+-- where a site passes to a view, Between holds of the group until nothing is owed for the view before it; where it receives a message, During
+-- holds of its id until it is wanted no more
+pub record FullyKept (I : State → Type 0) (Between : GroupNo → State → Type 0) (During : Uid → State → Type 0) (Came : SiteNo → SiteFrame → Type 0) (home_here : Bool) : Type 0 where
   pub telling : FullyKeptByTelling I
   pub between : (g : GroupNo) → FullyKeptByTelling (Between g)
+  pub during : (u : Uid) → FullyKeptByTelling (During u)
   pub truly : ((s : State) → I s → OwedTrue s) ⊎ AcksFreely I
   pub fixed : (s : State) → I s → is_home history s ≡ home_here
   pub opens : (s : State) → I s → I (opening_next s)
@@ -222,15 +245,17 @@ pub record FullyKept (I : State → Type 0) (Between : GroupNo → State → Typ
   pub joins : (s : State) (k : ℕ) (g : GroupNo) → I s → is_open (s.session k) ≡ true → is_group s g ≡ true → is_outside ((s.process k).standing g) ≡ true →
       I (set_standing s k g (Joining ((s.group g).asked + 1) (view_of (s.process k).time g)))
   pub sends : (s : State) (g : GroupNo) (k : ℕ) (content : Body) → I s → is_member ((s.process k).standing g) ≡ true → MaySend s g k content → may_take history s content ≡ true →
-      I (receiving (noting_sent s k (next_message s g k content)) (next_message s g k content))
+      (s.group g).frozen ≡ false → I (receiving (noting_sent s k (next_message s g k content)) (next_message s g k content))
   pub receives : (s : State) (from : SiteNo) (m : Message) → I s → Came from (frame.Data m) ⊎ Came from (frame.Forward m) →
-      m.id.view ≡ (s.group m.id.group).number → is_among proc_eq m.id.proc (members_of (s.group m.id.group)) ≡ true → MayReceive s m → I (receiving s m)
+      m.id.view ≡ (s.group m.id.group).number → is_among proc_eq m.id.proc (members_of (s.group m.id.group)) ≡ true → MayReceive s m → IsNew s m → During m.id (receiving s m)
+  pub received : (s : State) (u : Uid) → During u s → I (paying s (message_key kinds.Want u s.config.home))
   pub acknowledged : (s : State) (from : SiteNo) (u : Uid) → I s → Came from (frame.Ack u) → I (noting_ack s from u)
   pub learns : (s : State) (from : SiteNo) (u : Uid) → I s → Came from (frame.Stable u) → I (noting_stable s u)
   pub delivers : (s : State) (k : ℕ) (m : Message) → I s → Contains s.got m → is_ready_for s k m ≡ true → I (with_delivery s k m)
   pub freezes : (s : State) (g : GroupNo) → I s → has_view (s.group g) ≡ true → I (freezing s g)
   pub pends : (s : State) (from : SiteNo) (g : GroupNo) (p : Pending) (tail : Tail) → I s →
-      Came from (frame.Install g ((s.group g).number + 1) p.members p.request p.cut tail) → has_view (s.group g) ≡ true → is_pending (s.group g) ≡ false → I (pending_install s g p tail)
+      Came from (frame.Install g ((s.group g).number + 1) p.members p.request p.cut tail) → has_view (s.group g) ≡ true → is_pending (s.group g) ≡ false →
+      is_group s g ≡ true → I (pending_install s g p tail)
   pub passes : (s : State) (g : GroupNo) (skipped : Bool) (n : ℕ) (members : Membership) (request : ℕ) (cut : CountList) → I s →
       Comes Came s g skipped n members request cut → Between g (passing s g skipped n members request cut)
   pub ends : (s : State) (g : GroupNo) → Between g s → I (paying_view (releasing_ended s g) g)
@@ -243,7 +268,7 @@ module _ (I : State → Type 0) (Came : SiteNo → SiteFrame → Type 0) (home_h
     emits = λ s to f i says adds. k.telling.emits s to f i says;
     books = λ s moment casts i. k.telling.books s s.quotas moment s.acks s.told s.owed casts s.pushes i;
     pushes = λ s n p i agrees. k.telling.books s s.quotas s.moment s.acks s.told s.owed s.casts (s.pushes ++ (n, p) ∷ []) i;
-    owes = λ s key due i owes wants. k.telling.books s s.quotas s.moment s.acks s.told (with_owed s.owed key due) s.casts s.pushes i;
+    owes = λ s key due i owes wants lacks. k.telling.books s s.quotas s.moment s.acks s.told (with_owed s.owed key due) s.casts s.pushes i;
     renews = λ s key due i owes owed. k.telling.books s s.quotas s.moment s.acks s.told (renewed s.owed key due) s.casts s.pushes i;
     pays = λ s test i. k.telling.books s s.quotas s.moment s.acks s.told (paid test s.owed) s.casts s.pushes i;
     releases = k.telling.releases;
@@ -252,22 +277,24 @@ module _ (I : State → Type 0) (Came : SiteNo → SiteFrame → Type 0) (home_h
     requests = k.telling.requests;
   }
 
-  pub kept_fully : FullyKept I (λ g. I) Came home_here
+  pub kept_fully : FullyKept I (λ g. I) (λ u. I) Came home_here
   kept_fully = record {
     telling = full_telling;
     between = λ g. full_telling;
+    during = λ u. full_telling;
     truly = inr ((λ s to u i. k.telling.emits s to (frame.Ack u) i tt), λ s key due i owed. k.telling.books s s.quotas s.moment s.acks s.told (renewed s.owed key due) s.casts s.pushes i);
     fixed = k.fixed;
     opens = k.opens;
     answers = k.answers;
     joins = k.joins;
-    sends = λ s g n content i member may room. k.sends s g n content i member may;
-    receives = λ s from m i came view member may. k.receives s from m i came view member;
+    sends = λ s g n content i member may room open_it. k.sends s g n content i member may;
+    receives = λ s from m i came view member may new. k.receives s from m i came view member;
+    received = λ s u i. full_telling.pays s (key_eq (message_key kinds.Want u s.config.home)) i;
     acknowledged = λ s from u i came. k.telling.books s s.quotas s.moment (s.acks ++ (from, u) ∷ []) s.told s.owed s.casts s.pushes i;
     learns = λ s from u i came. k.telling.books s s.quotas s.moment s.acks (s.told ++ u ∷ []) s.owed s.casts s.pushes i;
     delivers = k.delivers;
     freezes = k.freezes;
-    pends = λ s from g p tail i came has waits. k.pends s from g p tail i came has;
+    pends = λ s from g p tail i came has waits known. k.pends s from g p tail i came has;
     passes = k.passes;
     ends = λ s g i.
         let less : State = releasing_ended s g in

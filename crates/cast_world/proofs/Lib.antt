@@ -67,5 +67,7 @@ pub mod Alone
 pub mod Standing
 pub mod Pushes
 pub mod Bounding
+pub mod Singles
+pub mod Counted
 pub mod ListsAreActs
 pub mod Told

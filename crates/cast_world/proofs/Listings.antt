@@ -86,7 +86,7 @@ entry_among (x ∷ xs) e (suc n, lt, is) = go (entry_eq e x) (entry_among xs e (
     go true more = refl
     go false more = more
 
-among_entry : (xs : List Entry) (e : Entry) → is_among entry_eq e xs ≡ true → Contains xs e
+pub among_entry : (xs : List Entry) (e : Entry) → is_among entry_eq e xs ≡ true → Contains xs e
 among_entry [] e is = absurd (false≢true is)
 among_entry (x ∷ xs) e is = go (entry_eq e x) refl is (among_entry xs e)
   where

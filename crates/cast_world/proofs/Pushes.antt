@@ -76,7 +76,7 @@ module _ (s : State) where
     emits = λ t to f x says adds. x;
     books = λ t moment casts x. x;
     pushes = λ t k p x agrees. (x.0, x.1, pushed_told t k p x.2 agrees);
-    owes = λ t key due x owes wants. x;
+    owes = λ t key due x owes wants lacks. x;
     renews = λ t key due x owes owed. x;
     pays = λ t test x. x;
     releases = λ t lets x. x;
@@ -85,22 +85,24 @@ module _ (s : State) where
     requests = λ t g what p x. x;
   }
 
-  kept_told : FullyKept ToldFrom (λ g. ToldFrom) Any (is_home history s)
+  kept_told : FullyKept ToldFrom (λ g. ToldFrom) (λ u. ToldFrom) Any (is_home history s)
   kept_told = record {
     telling = told_telling;
     between = λ g. told_telling;
+    during = λ u. told_telling;
     truly = inr ((λ t to u x. x), λ t key due x owed. x);
     fixed = λ t x. λ i. site_eq (x.0 i) (x.1 i).home;
     opens = λ t x. (x.0, x.1, pushed_told t (t.used + 1) (push.Opened (local t (t.used + 1))) x.2 tt);
     answers = λ t g x. x;
     joins = λ t k g x open_it known out. x;
-    sends = λ t g k content x member may room. (x.0, x.1, sent_told t k (next_message t g k content) x.2);
-    receives = λ t from m x came view member may. (x.0, x.1, record { agree = x.2.agree; received = λ k y at. Contains-append_left t.got (m ∷ []) y (x.2.received k y at) });
+    sends = λ t g k content x member may room open_it. (x.0, x.1, sent_told t k (next_message t g k content) x.2);
+    receives = λ t from m x came view member may new. (x.0, x.1, record { agree = x.2.agree; received = λ k y at. Contains-append_left t.got (m ∷ []) y (x.2.received k y at) });
+    received = λ t u x. x;
     acknowledged = λ t from u x came. x;
     learns = λ t from u x came. x;
     delivers = λ t k m x c ready. (x.0, x.1, goes_on_told t (with_delivery t k m) x.2 (delivery_goes_on t k m) (delivery_sends_none t k m));
     freezes = λ t g x current. x;
-    pends = λ t from g p tail x came current waits. x;
+    pends = λ t from g p tail x came current waits known. x;
     passes = λ t g skipped n members request cut x comes.
         (x.0, x.1, goes_on_told t (passing t g skipped n members request cut) x.2 (passing_goes_on t g skipped n members request cut) (passing_sends_none t g skipped n members request cut));
     ends = λ t g x. x;
@@ -108,8 +110,8 @@ module _ (s : State) where
   }
 
   step_told : (e : Event) (answer : Taken) (t : State) → IsStep s e answer t → Told s → Told t
-  step_told e answer t is x = (rests_keeps_fully ToldFrom (λ g. ToldFrom) Any (is_home history s) kept_told (after_event s e) t is.rests
-      (event_keeps_fully ToldFrom (λ g. ToldFrom) Any (is_home history s) kept_told s e (refl, refl, record { agree = λ k p at. absurd (omega (arith, at.1)); received = x.received }) (any_came e)
+  step_told e answer t is x = (rests_keeps_fully ToldFrom (λ g. ToldFrom) (λ u. ToldFrom) Any (is_home history s) kept_told (after_event s e) t is.rests
+      (event_keeps_fully ToldFrom (λ g. ToldFrom) (λ u. ToldFrom) Any (is_home history s) kept_told s e (refl, refl, record { agree = λ k p at. absurd (omega (arith, at.1)); received = x.received }) (any_came e)
       (sets_any ToldFrom (λ u quotas y. y) (before_event s) e (refl, refl, record { agree = λ k p at. absurd (omega (arith, at.1)); received = x.received })))).2
 
 -- Every run

@@ -40,7 +40,7 @@ pub record AllHold (home : SiteNo) (w : Network) : Type 0 where
 pub same_site : (a s : SiteNo) → site_eq a s ≡ true → a ≡ s
 same_site a s e = ap (λ n. record { 0 = n }) (eqb-true a.0 s.0 e)
 
-group_among : (groups : List GroupNo) (g : GroupNo) → is_among group_eq g groups ≡ true → Contains groups g
+pub group_among : (groups : List GroupNo) (g : GroupNo) → is_among group_eq g groups ≡ true → Contains groups g
 group_among [] g e = absurd (false≢true e)
 group_among (h ∷ groups) g e = go (group_eq g h) refl (group_among groups g)
   where

@@ -38,7 +38,7 @@ use Rattle.cast_view.specs.declared.phase.Phase.TheVariants.{Gathering, Idle, In
 use Rattle.cast_world.proofs.Allowed.{contains_kept}
 use Rattle.cast_world.proofs.Homes.{item_here, item_more}
 use Rattle.cast_world.proofs.Keeps.{found_is, keeps_fold, keeps_if}
-use Rattle.cast_world.proofs.Kept.{AcksFreely, Adds, IsOwed, Owes, OwedTrue, OwesOf, Says, Wants, FullyKeptByTelling}
+use Rattle.cast_world.proofs.Kept.{AcksFreely, Adds, IsOwed, Lacks, Owes, OwedTrue, OwesOf, Says, Wants, FullyKeptByTelling}
 use Rattle.cast_message.specs.declared.site.Change.TheVariants as change
 use Rattle.cast_message.specs.declared.site.SiteFrame.TheVariants as frame
 use Rattle.cast_timer.specs.declared.key.OwedKind.TheVariants as kinds
@@ -122,6 +122,13 @@ wants_sent s sent other wants = go (frame_for history s sent)
     go None = wants
     go (Some f) = wants
 
+lacks_sent : (s : State) (sent other : OwedKey) → Lacks s other → Lacks (send_for history s sent) other
+lacks_sent s sent other lacks = go (frame_for history s sent)
+  where
+    go : (o : Option SiteFrame) → Lacks (option_map_or (history.send s sent.site) o s) other
+    go None = lacks
+    go (Some f) = lacks
+
 -- what was owed is owed after a frame was sent
 owed_sent : (s : State) (sent other : OwedKey) → IsOwed s other → IsOwed (send_for history s sent) other
 owed_sent s sent other owed = go (frame_for history s sent)
@@ -148,9 +155,9 @@ module _ (I : State → Type 0) (k : FullyKeptByTelling I) where
       go None says = i
       go (Some f) says = k.emits s key.site f i says.0 says.1
 
-  pub owe_keeps : (s : State) (key : OwedKey) → I s → Owes s key → Wants s key → I (owe history s key)
-  owe_keeps s key i owes wants = keeps_if I (is_owed s.owed key) s (noting_owed (send_for history s key) key) (λ _. i)
-      (λ _. k.owes (send_for history s key) key (next_due (send_for history s key)) (send_for_keeps s key i owes) (owes_sent s key key owes) (wants_sent s key key wants))
+  pub owe_keeps : (s : State) (key : OwedKey) → I s → Owes s key → Wants s key → Lacks s key → I (owe history s key)
+  owe_keeps s key i owes wants lacks = keeps_if I (is_owed s.owed key) s (noting_owed (send_for history s key) key) (λ _. i)
+      (λ _. k.owes (send_for history s key) key (next_due (send_for history s key)) (send_for_keeps s key i owes) (owes_sent s key key owes) (wants_sent s key key wants) (lacks_sent s key key lacks))
 
   resend_keeps : (s : State) (key : OwedKey) → I s → Owes s key → IsOwed s key → I (resend history s key)
   resend_keeps s key i owes owed = k.renews (send_for history s key) key (next_due (send_for history s key)) (send_for_keeps s key i owes) (owes_sent s key key owes) (owed_sent s key key owed)
@@ -208,7 +215,7 @@ module _ (I : State → Type 0) (k : FullyKeptByTelling I) where
   -- Requests of local processes
 
   pub ask_home_keeps : (s : State) (g : GroupNo) → I s → I (ask_home history s g)
-  ask_home_keeps s g i = keeps_if I (is_empty (s.group g).requests) s (owe history s (ask_key g s.config.home)) (λ _. i) (λ _. owe_keeps s (ask_key g s.config.home) i tt tt)
+  ask_home_keeps s g i = keeps_if I (is_empty (s.group g).requests) s (owe history s (ask_key g s.config.home)) (λ _. i) (λ _. owe_keeps s (ask_key g s.config.home) i tt tt tt)
 
   pub request_keeps : (s : State) (g : GroupNo) (what : Change) (p : Proc) → I s → I (request history s g what p)
   request_keeps s g what p i =

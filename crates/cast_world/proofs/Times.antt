@@ -200,12 +200,16 @@ bumped_view t g p h = ap (λ (c : Clock). c.view) (clock_of-put t g _ h) ∙ go 
 pub entered_view : (t : ClockList) (g : GroupNo) (n : ℕ) → view_of (entering t g n) g ≡ n
 entered_view t g n = ap (λ (c : Clock). c.view) (clock_of-put t g (first_clock n) g ∙ ap (λ b. cond b (first_clock n) (clock_of t g)) (tied_to group_cmp groups_total g g refl))
 
-pub other_view : (t : ClockList) (g : GroupNo) (n : ℕ) (h : GroupNo) → (g ≡ h → ⊥) → view_of (entering t g n) h ≡ view_of t h
-other_view t g n h other = ap (λ (c : Clock). c.view) (clock_of-put t g (first_clock n) h) ∙ go (eq_by_cmp group_cmp h g) refl
+-- entering a view of one group leaves the clocks of others
+pub other_clock : (t : ClockList) (g : GroupNo) (n : ℕ) (h : GroupNo) → (g ≡ h → ⊥) → clock_of (entering t g n) h ≡ clock_of t h
+other_clock t g n h other = clock_of-put t g (first_clock n) h ∙ go (eq_by_cmp group_cmp h g) refl
   where
-    go : (b : Bool) → eq_by_cmp group_cmp h g ≡ b → (cond b (first_clock n) (clock_of t h)).view ≡ view_of t h
+    go : (b : Bool) → eq_by_cmp group_cmp h g ≡ b → cond b (first_clock n) (clock_of t h) ≡ clock_of t h
     go true tie = absurd (other (sym (tells_apart group_exact h g tie)))
     go false tie = refl
+
+pub other_view : (t : ClockList) (g : GroupNo) (n : ℕ) (h : GroupNo) → (g ≡ h → ⊥) → view_of (entering t g n) h ≡ view_of t h
+other_view t g n h other = ap (λ (c : Clock). c.view) (other_clock t g n h other)
 
 pub bumped_count : (t : ClockList) (g : GroupNo) (p : Proc) → count_in (bumped t g p) g p ≡ count_in t g p + 1
 bumped_count t g p =

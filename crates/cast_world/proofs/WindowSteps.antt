@@ -13,7 +13,7 @@ use Rattle.cast_rules.specs.Effects.{next_message}
 use Rattle.cast_rules.specs.Entering.{passing, pending_install}
 use Rattle.cast_rules.specs.Owing.{paying_view}
 use Rattle.cast_quota.specs.declared.quotas.Quotas.{Quotas}
-use Rattle.cast_rules.specs.Rules.Keys.{id_in}
+use Rattle.cast_rules.specs.Rules.Keys.{id_in, message_key}
 use Rattle.cast_rules.specs.State.{State, emitted, is_ended, is_received, noting_ack, noting_sent, noting_stable, outside, receiving, releasing, releasing_ended, set_group, set_home, set_session, set_standing, with_delivery}
 use Rattle.cast_rules.specs.Step.{opening_next}
 use Rattle.cast_rules.specs.Turns.{is_ready_for}
@@ -87,7 +87,7 @@ received_more (x ∷ got) m z e = go (uid_eq x.id z) e (received_more got m z)
     go true is more = refl
     go false is more = more is
 
-received_got : (got : List Message) (z : Uid) → list_any (λ x. uid_eq x.id z) got ≡ true → HasGot got z
+pub received_got : (got : List Message) (z : Uid) → list_any (λ x. uid_eq x.id z) got ≡ true → HasGot got z
 received_got [] z e = absurd (false≢true e)
 received_got (x ∷ got) z e = go (uid_eq x.id z) refl e (received_got got z)
   where
@@ -168,7 +168,7 @@ module _ (home : SiteNo) (w : Network) (a : SiteNo) where
           let u : State = record t { pushes = t.pushes ++ (k, p) ∷ [] } in
           quiet skip skip t u (later_same t) i ((flush home w a t i.0).telling.books t t.quotas t.moment t.acks t.told t.owed t.casts (t.pushes ++ (k, p) ∷ []) (begin home w a t i.0)) (λ n m c. inl c) (own home w a t i.0) refl refl refl
           (leading skip t i) (same_owed t u refl refl refl i.4);
-      owes = λ t key due i owes wants.
+      owes = λ t key due i owes wants lacks.
           let u : State = record t { owed = with_owed t.owed key due } in
           quiet skip skip t u (later_same t) i ((flush home w a t i.0).telling.books t t.quotas t.moment t.acks t.told (with_owed t.owed key due) t.casts t.pushes (begin home w a t i.0)) (λ k m c. inl c) (own home w a t i.0) refl refl refl
           (leading skip t i)
@@ -285,10 +285,11 @@ module _ (home : SiteNo) (w : Network) (a : SiteNo) where
         same_owed no_key t u refl refl refl i.4,
       )
 
-  abbrev pub kept_window : FullyKept (WindowNow no_key) (λ g. WindowNow (is_of_view g)) (Arrived home w a) (site_eq a home)
+  abbrev pub kept_window : FullyKept (WindowNow no_key) (λ g. WindowNow (is_of_view g)) (λ u. WindowNow no_key) (Arrived home w a) (site_eq a home)
   kept_window = record {
     telling = window_telling no_key;
     between = λ g. window_telling (is_of_view g);
+    during = λ u. window_telling no_key;
     truly = inl (λ t i o c. elim (i.4 o c) [ inl e ↦ absurd (false≢true e) | inr owes ↦ owes ]);
     fixed = λ t i. (flush home w a t i.0).fixed t (begin home w a t i.0);
     opens = λ t i. quiet no_key no_key t (opening_next t) (later_same t) i ((flush home w a t i.0).opens t (begin home w a t i.0)) (λ k m c. inl c) (own home w a t i.0) refl refl refl (leading no_key t i) (same_owed no_key t (opening_next t) refl refl refl i.4);
@@ -302,12 +303,13 @@ module _ (home : SiteNo) (w : Network) (a : SiteNo) where
         (record (t.process n) { standing = set_at group_eq (t.process n).standing g (Joining ((t.group g).asked + 1) (view_of (t.process n).time g)) }) (λ j h e. e)
         (λ h e. asks ((t.process n).standing h) (group_eq g h) ((t.group g).asked + 1) (view_of (t.process n).time g) e)) (λ m c. c))
         refl refl refl (leading no_key t i) (same_owed no_key t u refl refl refl i.4);
-    sends = λ t g n content i member may room. sends_window t g n content i member may;
-    receives = λ t from m i came view member may.
+    sends = λ t g n content i member may room open_it. sends_window t g n content i member may;
+    receives = λ t from m i came view member may new.
         let u : State = receiving t m in
         keepw no_key no_key t u (later_same t) i ((flush home w a t i.0).receives t from m (begin home w a t i.0) came view member) (λ k z c. inl c)
         (parts_same i.0.3 i.0.4 t.here t.process t.acts t.abcasts t.group t.got (own home w a t i.0) t.process t.acts (t.got ++ m ∷ []) (λ k. refl) (λ k z c. inl c) (λ k y c. c) (λ k h. refl) (λ k g e. e) (λ z c. Contains-append_left t.got (m ∷ []) z c))
         (λ z c. Contains-append_left t.got (m ∷ []) z c) (λ q z c. inl c) (λ to f c. inl c) (leading no_key t i) (owed_moved no_key t u (λ o c. c) (λ h. refl) (received_more t.got m) i.4);
+    received = λ t u i. (window_telling no_key).pays t (key_eq (message_key kinds.Want u t.config.home)) i;
     acknowledged = λ t from z i came.
         let u : State = noting_ack t from z in
         keepw no_key no_key t u (later_same t) i ((flush home w a t i.0).telling.books t t.quotas t.moment (t.acks ++ (from, z) ∷ []) t.told t.owed t.casts t.pushes (begin home w a t i.0)) (λ k m c. inl c) (own home w a t i.0) (λ m c. c)
@@ -322,7 +324,7 @@ module _ (home : SiteNo) (w : Network) (a : SiteNo) where
     delivers = delivers_window;
     freezes = λ t g i current. group_keepw no_key t g (frozen_side (t.group g)) (omega arith) i ((flush home w a t i.0).freezes t g (begin home w a t i.0) current)
         (parts_group i.0.3 i.0.4 t.here t.process t.acts t.abcasts t.group t.got (own home w a t i.0) g (frozen_side (t.group g)) (λ e. refl) (omega arith) (λ k held. (own home w a t i.0).tokens g k held) (λ k waits. (own home w a t i.0).ones g k waits)) refl (leading no_key t i g);
-    pends = λ t from g p tail i came current waits.
+    pends = λ t from g p tail i came current waits known.
         let u : State = pending_install t g p tail in
         quiet no_key no_key t u (later_group t g (with_pending (t.group g) p) (omega arith)) i ((flush home w a t i.0).pends t from g p tail (begin home w a t i.0) came current) (λ k m c. inl c)
         (parts_group i.0.3 i.0.4 t.here t.process t.acts t.abcasts t.group t.got (own home w a t i.0) g (with_pending (t.group g) p) (λ e. refl) (omega arith) (λ k held. (own home w a t i.0).tokens g k held) (λ k waits_it. absurd (true≢false waits_it))) refl refl refl

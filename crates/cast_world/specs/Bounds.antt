@@ -1,11 +1,11 @@
 -- What frames can make a daemon keep, whoever sent them.
-use Rattle.std.specs.Prelude.{◌≡◌, ◌≤◌, ◌*◌, ◌==◌, ◌&&◌, ℕ, Bool, true, false, not, List, length, filter, Contains, Option, Some, None}
-use Rattle.std.specs.List.{AllByRecursion}
+use Rattle.std.specs.Prelude.{◌≡◌, ◌≤◌, ◌+◌, ◌*◌, ◌==◌, ◌&&◌, ℕ, Bool, false, not, List, [], length, map, filter, Contains, Some, None}
+use Rattle.std.specs.List.{AllByRecursion, flat_map}
 use Rattle.cast_types.specs.declared.names.SiteNo.{SiteNo}
 use Rattle.cast_types.specs.declared.names.GroupNo.{GroupNo}
 use Rattle.cast_types.specs.declared.names.Uid.{Uid}
 use Rattle.cast_types.specs.declared.limits.TheConstants.{MAX_POSITION}
-use Rattle.cast_types.specs.Names.{entry_eq, entry_of}
+use Rattle.cast_types.specs.Names.{entry_eq, entry_of, named, uid_eq}
 use Rattle.cast_types.specs.Sets.{is_among}
 use Rattle.cast_delay.specs.Ready.{covered}
 use Rattle.cast_message.specs.declared.client.Push.{Push}
@@ -18,6 +18,7 @@ use Rattle.cast_events.specs.declared.event.Event.{Event}
 use Rattle.cast_events.specs.declared.event.Event.TheVariants as event
 use Rattle.cast_events.specs.declared.event.Taken.{Taken}
 use Rattle.cast_view.specs.MemberSide.{MemberSide}
+use Rattle.cast_rules.specs.Lawful.{IsTyped}
 use Rattle.cast_rules.specs.State.{State, opening}
 use Rattle.cast_rules.specs.Order.{order_told}
 use Rattle.cast_rules.specs.Run.{IsRun}
@@ -60,3 +61,24 @@ abbrev pub WhatIsKeptIsBounded : Type 0
 WhatIsKeptIsBounded =
     (most : ℕ) (here : SiteNo) (config : DomainConfig) (events : List Event) (answers : List Taken) (sent : List (SiteNo × SiteFrame)) (pushed : List (ℕ × Push)) (s : State) →
     config.quotas.held ≤ most → AllByRecursion (SetsAtMost most) events → IsRun (opening here config) events answers sent pushed s → IsBounded most s
+
+-- the messages that a waiting Install names in its cut
+abbrev pub named_by : GroupNo → MemberSide → List Uid
+named_by g group = elim group.pending [ Some p ↦ map (named g group.number) (covered p.cut) | None ↦ [] ]
+
+-- those of all groups
+abbrev pub named_in : State → List Uid
+named_in s = flat_map (λ g. named_by g (s.group g)) s.config.groups
+
+-- all that a domain keeps of messages, where no quota of kept messages was above most: none of them twice, and at most twice as many beside those
+-- that waiting Installs name
+pub record IsCounted (most : ℕ) (s : State) : Type 0 where
+  pub once : (u : Uid) → length (filter (λ m. uid_eq m.id u) s.kept) ≤ 1
+  pub total : length s.kept ≤ 2 * most + length (named_in s)
+
+-- so it is after any events of a domain, with any frames in the name of any site whose parts are as their types say
+abbrev pub AllThatIsKeptIsCounted : Type 0
+AllThatIsKeptIsCounted =
+    (most : ℕ) (here : SiteNo) (config : DomainConfig) (events : List Event) (answers : List Taken) (sent : List (SiteNo × SiteFrame)) (pushed : List (ℕ × Push)) (s : State) →
+    config.quotas.held ≤ most → AllByRecursion (SetsAtMost most) events → AllByRecursion IsTyped events →
+    IsRun (opening here config) events answers sent pushed s → IsCounted most s

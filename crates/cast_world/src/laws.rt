@@ -1,4 +1,4 @@
-ghost use Rattle.cast_world.specs.Bounds.{WhatIsKeptIsBounded};
+ghost use Rattle.cast_world.specs.Bounds.{AllThatIsKeptIsCounted, WhatIsKeptIsBounded};
 ghost use Rattle.cast_world.specs.Laws.{AllAbcastsAreActs, AllDeliverInOneOrder, AllDeliverTheSame, AllDeliveriesWereSent, AllJoinsGoForward, AllListsAreActs, AllListsAreInOrder, AllNamesAreUnique, AllOrdersAgree, AllPassWithCut, AllPushesAreActs, AllStampsRise, AllStampsRiseStrictly, AllStartsAreKnown, AllViewsAreDecided, CausalDelivery};
 ghost use Rattle.cast_world.specs.Worlds.{AllAnswersAreLists, AllRunsAreNetworks, AllTellInOrder, AllTellOneOrder, AllTellTheSame, AllToldOrdersAgree};
 
@@ -72,8 +72,12 @@ pub fn pushes_are_acts()
 /// Whoever forges frames, a domain keeps few messages. After any events, with any frames in the name of any site, those that no waiting
 /// Install covers are at most twice the greatest quota of kept messages that was in force. All that are kept are of the views that their
 /// groups have now, and an order has at most 4,000,000,000 places.
+///
+/// Where the parts of frames are as their types say, no message is kept twice. So all that are kept are at most twice that quota and, for
+/// each group in which an Install waits, as many as its cut names.
 pub fn what_is_kept_is_bounded()
-    ensures { WhatIsKeptIsBounded }
+    ensures uncovered { WhatIsKeptIsBounded }
+    ensures counted { AllThatIsKeptIsCounted }
 {}
 
 /// What daemons tell. After any list of steps the daemons of a [`World`](crate::World), all of one home, stand for a network to which these
