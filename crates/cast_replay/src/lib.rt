@@ -8,4 +8,4 @@
 
 mod run;
 
-pub use run::{RunFault, complain, no_memory, printed_log, replay_file, run_script};
+pub use run::{RunFault, complain, no_memory, printed_log, replay_file, replay_read, run_script};
