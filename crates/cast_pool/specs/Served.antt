@@ -1,5 +1,5 @@
 -- What it is that an event is served: it is applied to the table, and stands at the end of the trace with its answer.
-use Rattle.std.specs.Prelude.{◌≡◌, ◌⊎◌, ℕ, ◌+◌, ◌==◌, Bool, true, false, not, if◌then◌else◌, List, [], ◌∷◌, ◌++◌, length, Result, Ok, Err}
+use Rattle.std.specs.Prelude.{◌≡◌, ◌⊎◌, ℕ, ◌+◌, ◌==◌, Bool, true, false, not, if◌then◌else◌, [], ◌∷◌, ◌++◌, length, Result, Ok, Err}
 use Rattle.cast_types.specs.declared.refusal.Refusal.TheVariants as refusal
 use Rattle.cast_events.specs.declared.event.Event.{Event}
 use Rattle.cast_events.specs.declared.event.Outs.{Outs}
@@ -13,7 +13,6 @@ use Rattle.cast_table.specs.Copies.{IsCopyOf}
 use Rattle.cast_table.specs.Shows.{shown_at}
 use Rattle.cast_pool.specs.declared.trail.Noted.{Noted}
 use Rattle.cast_pool.specs.declared.trail.Noted.TheVariants as noted
-use Rattle.cast_pool.specs.declared.trail.Entry.{Entry}
 use Rattle.cast_pool.specs.declared.task.Asked.{Asked}
 use Rattle.cast_pool.specs.declared.task.Task.{Task}
 use Rattle.cast_pool.specs.declared.task.Task.TheVariants.{Serve, Show}

@@ -3,7 +3,7 @@
 //! Promised: the printed text is that of a log in which each domain behaves as a daemon that
 //! serves it alone, and a text that is no script is refused for its first faulty line
 //! (`printed_log`). The program writes that, and ends with the status for it (`run_script`,
-//! `replay_file`).
+//! `replay_read`).
 #![tactic(auto)]
 
 mod run;
