@@ -1,5 +1,5 @@
 -- Faults of a document: the name of the field, what is said of the cause, and how an answer is what reading gives.
-use Rattle.std.specs.Prelude.{◌≡◌, ℕ, Bool, true, false, List, codes, Result, Ok, Err}
+use Rattle.std.specs.Prelude.{◌≡◌, ℕ, Bool, true, false, if◌then◌else◌, List, ◌++◌, codes, Result, Ok, Err}
 use Rattle.cast_config.specs.declared.fault.Field.{Field}
 use Rattle.cast_config.specs.declared.fault.Field.TheVariants as field
 use Rattle.cast_config.specs.declared.fault.Cause.{Cause}
@@ -41,6 +41,16 @@ is_memory_cause c = false
 -- memory ran out
 abbrev pub is_memory : ConfigFault → Bool
 is_memory f = is_memory_cause f.cause
+
+-- what the program says of a fault
+abbrev pub fault_text : ConfigFault → List ℕ
+fault_text f =
+    if is_memory f then codes "castd: no memory\n"
+    else codes "castd: config: " ++ (field_text f.field ++ (codes ": " ++ (cause_text f.cause ++ codes "\n")))
+
+-- the status of the program
+abbrev pub status_of : ConfigFault → ℕ
+status_of f = if is_memory f then 5 else 6
 
 -- what a function answered, seen by view, is what reading gives
 abbrev pub IsSeen : {X Y : Type 0} → (X → Y) → Result X ConfigFault → Result Y ConfigFault → Type 0

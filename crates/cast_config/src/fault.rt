@@ -1,7 +1,11 @@
 ghost use Rattle.std.specs.Prelude.{◌≡◌, true};
-ghost use Rattle.cast_config.specs.Faults.{cause_text, field_text, is_memory};
+ghost use Rattle.cast_device.specs.Watching.{HasFailedOrStalled};
+ghost use Rattle.cast_device.specs.Writing.{IsTold};
+ghost use Rattle.cast_config.specs.Faults.{cause_text, fault_text, field_text, is_memory, status_of};
 
+use cast_device::{Watched, tell};
 use std::alloc::{AllocError, AllocFailed};
+use std::io::Write;
 use thiserror::Error;
 
 /// A part of the document that may be at fault.
@@ -114,3 +118,23 @@ const NO_MEMORY: ConfigFault = ConfigFault {
     field: Field::Text,
     cause: Cause::NoMemory,
 };
+
+/// Says what a fault is, and answers the status of the program for it: 5 where memory ran out, and else 6. A write that fails is
+/// passed over. Takes no memory.
+pub fn complain<E: Write>(fault: ConfigFault, err: &mut Watched<E>) -> u8
+    ensures status { result ≡ status_of fault }
+    ensures told { IsTold (E.contents err.old.device) (E.contents err.new.device) (fault_text fault) (HasFailedOrStalled err.new) }
+{
+    match fault.cause {
+        Cause::NoMemory => {
+            tell(err, &["castd: no memory\n"]);
+            5
+        }
+        cause => {
+            let field = fault.field.name();
+            let why = cause.text();
+            tell(err, &["castd: config: ", field, ": ", why, "\n"]);
+            6
+        }
+    }
+}

@@ -2,7 +2,7 @@
 //!
 //! Promised: `read` returns the set-up that the document gives a site, or its first fault with
 //! the field. It tests each number against its range, and that no two sites and no two domains
-//! share a number.
+//! share a number. `complain` says what a fault is.
 #![tactic(auto)]
 
 mod domains;
@@ -12,7 +12,7 @@ mod setup;
 mod sites;
 mod text;
 
-pub use fault::{Cause, ConfigFault, Field};
+pub use fault::{Cause, ConfigFault, Field, complain};
 pub use setup::{DomainSocket, Setup, read};
 pub use sites::SiteAddress;
 pub use text::Text;

@@ -1,5 +1,5 @@
 -- What was written, where it may have stopped within.
-use Rattle.std.specs.Prelude.{◌≡◌, ℕ, List, ◌++◌, Option, Result, MatchResult}
+use Rattle.std.specs.Prelude.{◌≡◌, ◌⊎◌, ℕ, List, ◌++◌, Option, Result, MatchResult}
 use Rattle.std.specs.Io.KnownBytes.{Appends}
 
 -- the list begins with these
@@ -15,3 +15,7 @@ pub record WrotePart (old new : Option (List ℕ)) (bytes : List ℕ) : Type 0 w
 -- all of the bytes at `Ok`, and a beginning of them at `Err`
 abbrev pub Writes : {T E : Type 0} → Option (List ℕ) → Option (List ℕ) → Result T E → List ℕ → Type 0
 Writes old new result bytes = MatchResult result (λ _. Appends old new bytes) (λ _. WrotePart old new bytes)
+
+-- a writer was told these bytes: it has all of them more, or a beginning of them where its calls failed
+abbrev pub IsTold : Option (List ℕ) → Option (List ℕ) → List ℕ → Type 0 → Type 0
+IsTold old new bytes Failed = Appends old new bytes ⊎ (WrotePart old new bytes × Failed)

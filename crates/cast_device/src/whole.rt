@@ -1,6 +1,6 @@
-ghost use Rattle.std.specs.Prelude.{◌≡◌, ◌↔◌, IsErr};
+ghost use Rattle.std.specs.Prelude.{◌≡◌, ◌↔◌, IsErr, OnErr, flat_map};
 ghost use Rattle.cast_device.specs.Watching.{HasFailedOrStalled, calls_of};
-ghost use Rattle.cast_device.specs.Writing.{Writes};
+ghost use Rattle.cast_device.specs.Writing.{IsTold, Writes};
 
 use crate::watched::Watched;
 use std::io::Write;
@@ -31,4 +31,22 @@ pub fn write_whole<W: Write>(writer: &mut Watched<W>, bytes: &[u8]) -> Result<()
         }
     }
     Err(WriteFault)
+}
+
+// Writes these texts one behind the other.
+fn write_texts<W: Write>(writer: &mut Watched<W>, texts: &[&str]) -> Result<(), WriteFault>
+    ensures written { Writes (W.contents writer.old.device) (W.contents writer.new.device) result (flat_map (λ text. text.now) texts.now) }
+    ensures failed { OnErr result (HasFailedOrStalled writer.new) }
+{
+    for text in texts {
+        write_whole(writer, text.as_bytes())?;
+    }
+    Ok(())
+}
+
+/// Writes these texts one behind the other, each as `write_whole` does, up to a fault, which is passed over. Takes no memory.
+pub fn tell<W: Write>(writer: &mut Watched<W>, texts: &[&str])
+    ensures { IsTold (W.contents writer.old.device) (W.contents writer.new.device) (flat_map (λ text. text.now) texts.now) (HasFailedOrStalled writer.new) }
+{
+    let _ = write_texts(writer, texts);
 }

@@ -4,3 +4,4 @@ pub mod Events
 pub mod Halts
 pub mod Replays
 pub mod Serving
+pub mod Posts

@@ -3,3 +3,4 @@ pub mod Kept
 pub mod Served
 pub mod Room
 pub mod Tasks
+pub mod Posts

@@ -1,5 +1,5 @@
 -- What it is that an event is served: it is applied to the table, and stands at the end of the trace with its answer.
-use Rattle.std.specs.Prelude.{◌≡◌, ◌⊎◌, ℕ, ◌+◌, ◌==◌, Bool, true, false, not, if◌then◌else◌, List, [], ◌∷◌, ◌++◌, length, Result, Ok, Err}
+use Rattle.std.specs.Prelude.{◌≡◌, ◌⊎◌, ℕ, ◌+◌, ◌==◌, Bool, true, false, not, if◌then◌else◌, [], ◌∷◌, ◌++◌, length, Result, Ok, Err}
 use Rattle.cast_types.specs.declared.refusal.Refusal.TheVariants as refusal
 use Rattle.cast_events.specs.declared.event.Event.{Event}
 use Rattle.cast_events.specs.declared.event.Outs.{Outs}
@@ -13,11 +13,12 @@ use Rattle.cast_table.specs.Copies.{IsCopyOf}
 use Rattle.cast_table.specs.Shows.{shown_at}
 use Rattle.cast_pool.specs.declared.trail.Noted.{Noted}
 use Rattle.cast_pool.specs.declared.trail.Noted.TheVariants as noted
-use Rattle.cast_pool.specs.declared.trail.Entry.{Entry}
+use Rattle.cast_pool.specs.declared.task.Asked.{Asked}
 use Rattle.cast_pool.specs.declared.task.Task.{Task}
 use Rattle.cast_pool.specs.declared.task.Task.TheVariants.{Serve, Show}
 use Rattle.cast_pool.specs.declared.task.Outcome.{Outcome}
 use Rattle.cast_pool.specs.declared.task.Outcome.TheVariants.{Answered, Shown, Undecoded}
+use Rattle.cast_pool.specs.Tasks.{IsUndecoded, task_of}
 use Rattle.cast_pool.specs.Traces.{noted_taken}
 use Rattle.cast_pool.specs.Kept.{Seen, is_due, is_full, events_of}
 
@@ -78,3 +79,15 @@ IsDone (Serve event) (Undecoded fault) old new was now = ⊥
 IsDone (Show d) (Answered answer outs) old new was now = ⊥
 IsDone (Show d) (Shown shown) old new was now = (shown ≡ shown_at d old.table) × IsLeft old new was now
 IsDone (Show d) (Undecoded fault) old new was now = ⊥
+
+-- a job is done, and then the trace may have been trimmed, where that halted a domain
+pub record Completes (task : Task) (outcome : Outcome) (old : Seen) (new : Seen) (was : ℕ) (now : ℕ) : Type 0 where
+  pub between : Seen
+  pub done : IsDone task outcome old between was now
+  pub trimmed : IsTrimmedOr (halts outcome) between new
+
+-- this came of what was asked: a job of it left one kept table another, or its bytes are no frame and nothing was taken
+abbrev pub IsAnswered : Asked → Outcome → ℕ → ℕ → Type 0
+IsAnswered asked outcome was now =
+    ((task : Task) × (old : Seen) × (new : Seen) × (task_of asked ≡ Ok task) × Completes task outcome old new was now)
+    ⊎ (IsUndecoded asked outcome × (now ≡ was))

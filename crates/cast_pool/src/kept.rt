@@ -2,7 +2,7 @@
 ghost use Rattle.std.specs.Prelude.{◌≡◌, ◌+◌, ◌<◌, ◌≤◌, ◌^◌, [], true, Ok, IfOk, OnOk, OnErr, IfErr, length};
 ghost use Rattle.cast_table.specs.Owns.{are_distinct, have_rising_groups};
 ghost use Rattle.cast_pool.specs.Kept.{Replays, Seen, events_of};
-ghost use Rattle.cast_pool.specs.Served.{IsDone, IsTrimmed, IsTrimmedOr, Serves, halts};
+ghost use Rattle.cast_pool.specs.Served.{Completes, IsDone, IsTrimmed, IsTrimmedOr, Serves, halts};
 ghost use Rattle.cast_pool.specs.Tasks.{IsUndecoded, task_of};
 
 use crate::task::{Asked, Outcome, Raw, Task};
@@ -328,6 +328,18 @@ impl<L: Ledger> Kept<L> {
         if done.outcome.halts() {
             let _ = self.trim();
         }
+    }
+
+    /// Does a job, as `serve_one` does, and then lets go of what a domain kept that it halted, as `let_go` does.
+    pub fn complete(&mut self, mine: &mut Worked<L>, job: Job) -> Done
+        requires { 0 < mine.old.parts }
+        ensures number { result.number ≡ job.number }
+        ensures done { Completes job.task result.outcome self.old self.new mine.old.taken mine.new.taken }
+        ensures parts { mine.new.parts ≡ mine.old.parts }
+    {
+        let done = self.serve_one(mine, job);
+        self.let_go(&done);
+        done
     }
 
     /// How many events were taken, where all shares were joined into one: as many as their holders took.

@@ -3,21 +3,23 @@
 //! Promised: whenever the lock is held, the trace leads from what the base stands for to what the
 //! table stands for (`Kept`). Only `Kept::serve_one` adds to the trace. At 4,096 events it copies
 //! the table as the new base and begins the trace anew. Each worker counts its events and the
-//! table counts all; the two are equal once all shares are joined (`Kept::total`).
+//! table counts all; the two are equal once all shares are joined (`Kept::total`). `work` sends
+//! one answer for each job that it takes, in order.
 //!
-//! Not promised: who gets the lock first, that a job arrives or is answered, and the order of
-//! answers.
+//! Not promised: who gets the lock first, that a job or an answer arrives.
 #![tactic(auto)]
 
 pub mod configured;
 pub mod kept;
 pub mod limits;
+pub mod post;
 pub mod task;
 mod trail;
 pub mod worker;
 
 pub use configured::can_keep;
 pub use kept::{Done, Job, Kept, Worked, decode};
+pub use post::{Channels, Post};
 pub use task::{Asked, Outcome, Raw, Task};
 pub use trail::{Entry, Noted};
 pub use worker::{Gate, Open, work};

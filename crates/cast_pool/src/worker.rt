@@ -1,9 +1,11 @@
-//! A worker: it takes what comes by a channel, and decodes and sends outside the lock.
+//! A worker: it takes what is asked, and decodes and sends outside the lock.
 ghost use Rattle.std.specs.Prelude.{◌≡◌, ◌<◌};
+ghost use Rattle.cast_pool.specs.Posts.{HasAnswered};
+ghost use Rattle.cast_pool.specs.Served.{IsAnswered};
 
-use crate::kept::{Done, Job, Kept, Worked, decode};
+use crate::kept::{Done, Kept, Worked, decode};
+use crate::post::Post;
 use crate::task::Raw;
-use crossbeam_channel::{Receiver, Sender};
 use std::alloc::Global;
 use std::sync::ledger::Ledger;
 use std::sync::{Mutex, Wait};
@@ -32,47 +34,57 @@ impl Gate for Open {
     fn done(&self, _number: u64) {}
 }
 
-/// Serves what comes until no more can come, and gives the worker's share of the count back. What cannot be sent is dropped. The lock
-/// is held for `Kept::serve_one`, and for `Kept::let_go` where that halted a domain.
-pub fn work<L: Ledger, R: Wait, G: Gate>(
+/// Does what is asked until nothing more can be, sends what came of each, and gives the worker's share of the count back. The lock is
+/// held for `Kept::complete` alone.
+pub fn work<L: Ledger, R: Wait, P: Post, G: Gate>(
     rt: &R,
     alloc: Global,
     kept: &Mutex<Kept<L>>,
     mine: Worked<L>,
-    from: Receiver<Raw>,
-    to: Sender<Done>,
+    post: &mut P,
     gate: &G,
 ) -> Worked<L>
     requires { 0 < mine.parts }
-    ensures { result.parts ≡ mine.parts }
+    ensures parts { result.parts ≡ mine.parts }
+    // For each that was taken one was sent, in the same order: what came of it, under its number.
+    ensures answered { HasAnswered (P.taken post.old) (P.taken post.new) (P.sent post.old) (P.sent post.new) }
+    ensures over { P.is_over post.new }
 {
     let mut mine = mine;
     for _ in rt.forever() {
-        let Ok(raw) = from.recv(rt) else {
+        let Some(raw) = post.take() else {
             break;
         };
         let number = raw.number;
-        let done = match decode(alloc, raw) {
-            Ok(job) => {
-                gate.decoded(number);
-                let done = serve(&mut kept.lock(rt), &mut mine, job);
-                gate.served(number);
-                done
-            }
-            Err(done) => done,
-        };
-        let _ = to.send(rt, done);
+        let done = answer(rt, alloc, kept, &mut mine, raw, gate);
+        post.send(done);
         gate.done(number);
     }
     mine
 }
 
-// Serves a job, and lets go of what a domain kept that it halted.
-fn serve<L: Ledger>(kept: &mut Kept<L>, mine: &mut Worked<L>, job: Job) -> Done
+// Does what is asked, and gives what came of it.
+fn answer<L: Ledger, R: Wait, G: Gate>(
+    rt: &R,
+    alloc: Global,
+    kept: &Mutex<Kept<L>>,
+    mine: &mut Worked<L>,
+    raw: Raw,
+    gate: &G,
+) -> Done
     requires { 0 < mine.old.parts }
-    ensures { mine.new.parts ≡ mine.old.parts }
+    ensures number { result.number ≡ raw.number }
+    ensures answered { IsAnswered raw.asked result.outcome mine.old.taken mine.new.taken }
+    ensures parts { mine.new.parts ≡ mine.old.parts }
 {
-    let done = kept.serve_one(mine, job);
-    kept.let_go(&done);
-    done
+    let number = raw.number;
+    match decode(alloc, raw) {
+        Ok(job) => {
+            gate.decoded(number);
+            let done = kept.lock(rt).complete(mine, job);
+            gate.served(number);
+            done
+        }
+        Err(done) => done,
+    }
 }

@@ -1,12 +1,16 @@
 -- How the replay of a file ends, and what the program says of it.
-use Rattle.std.specs.Prelude.{◌≡◌, ◌⊎◌, ℕ, List, [], ◌++◌, codes, Option, None, Some, Result, Ok, Err}
-use Rattle.std.specs.Io.KnownBytes.{Appends}
+use Rattle.std.specs.Prelude.{◌≡◌, ℕ, List, [], ◌++◌, codes, Option, Result, Ok, Err, Vec}
+use Rattle.std.specs.declared.alloc.Global.{Global}
+use Rattle.std.specs.declared.io.Error.{Error}
+use Rattle.std.specs.declared.io.ErrorKind.{ErrorKind}
+use Rattle.std.specs.declared.io.ErrorKind.TheVariants.{OutOfMemory}
+use Rattle.std.specs.IoError.{error_kind}
 use Rattle.std.specs.Fmt.{decimal}
 use Rattle.std.specs.Str.{IsUtf8}
 use Rattle.cast_script.specs.Readings.{script_of}
 use Rattle.cast_device.specs.declared.watched.Watched.{Watched}
 use Rattle.cast_device.specs.Watching.{HasFailedOrStalled}
-use Rattle.cast_device.specs.Writing.{WrotePart}
+use Rattle.cast_device.specs.Writing.{IsTold}
 use Rattle.cast_script.specs.declared.script.ScriptFault.{ScriptFault}
 use Rattle.cast_script.specs.declared.script.ScriptFault.TheVariants as script
 use Rattle.cast_script.specs.Reasons.{reason_text}
@@ -19,9 +23,9 @@ use Rattle.cast_replay.specs.Shown.{Shows}
 abbrev pub End : Type 0
 End = Result (List ℕ) RunFault
 
--- the bytes of a file, or none where it could not be read
+-- what was read of a file: its bytes, or why there are none
 abbrev pub Reading : Type 0
-Reading = Option (List ℕ)
+Reading = Result (Vec ℕ Global) Error
 
 -- where memory ran out the bytes are a text, of which nothing more is said
 abbrev pub Ends : List ℕ → End → Type 0
@@ -30,10 +34,15 @@ Ends bytes (Err Unreadable) = ¬ (IsUtf8 bytes)
 Ends bytes (Err (BadLine line reason)) = IsUtf8 bytes × (script_of bytes ≡ Err (line, reason))
 Ends bytes (Err NoMemory) = IsUtf8 bytes
 
--- the same of a file
+-- an error of reading says that memory ran out, or that the file cannot be read
+abbrev pub unread_as : ErrorKind → RunFault
+unread_as OutOfMemory = NoMemory
+unread_as kind = Unreadable
+
+-- the same of what was read
 abbrev pub EndsOn : Reading → End → Type 0
-EndsOn (Some bytes) end = Ends bytes end
-EndsOn None end = (end ≡ Err Unreadable) ⊎ (end ≡ Err NoMemory)
+EndsOn (Ok bytes) end = Ends bytes.items end
+EndsOn (Err error) end = end ≡ Err (unread_as (error_kind error))
 
 -- the same of a text, seen by view
 abbrev pub EndsAs : {T : Type 0} → (T → List ℕ) → List ℕ → Result T RunFault → Type 0
@@ -63,15 +72,10 @@ fault_text name Unreadable = codes "castd: cannot read " ++ (name ++ line_feed)
 fault_text name (BadLine line reason) = codes "castd: line " ++ (decimal line ++ (codes ": " ++ (reason_text reason ++ line_feed)))
 fault_text name NoMemory = codes "castd: no memory" ++ line_feed
 
--- a writer was told these bytes: it has all of them more, or a beginning of them where its calls failed
-abbrev pub IsTold : Option (List ℕ) → Option (List ℕ) → List ℕ → Type 0 → Type 0
-IsTold old new bytes Failed = Appends old new bytes ⊎ (WrotePart old new bytes × Failed)
-
--- the writer of errors was told of an end: nothing of a log, and of a fault what is said of it, or that memory ran out where
--- there was none to say it
-abbrev pub IsToldOf : Option (List ℕ) → Option (List ℕ) → List ℕ → End → Type 0 → Type 0
-IsToldOf old new name (Ok text) Failed = IsTold old new [] Failed
-IsToldOf old new name (Err fault) Failed = IsTold old new (fault_text name fault) Failed ⊎ IsTold old new (fault_text name NoMemory) Failed
+-- what it says of an end: nothing of a log
+abbrev pub complaint_of : List ℕ → End → List ℕ
+complaint_of name (Ok text) = []
+complaint_of name (Err fault) = fault_text name fault
 
 -- the program had this end: its status says so, its log was written, and the writer of errors was told; contents say what each
 -- writer holds, before and after
@@ -80,4 +84,4 @@ abbrev pub IsEnd : {O E : Type 0} → (O → Option (List ℕ)) → Watched O �
 IsEnd out_contents out out_now err_contents err err_now name status end =
     (status ≡ status_of end)
     × IsTold (out_contents out.device) (out_contents out_now.device) (output_of end) (HasFailedOrStalled out_now)
-    × IsToldOf (err_contents err.device) (err_contents err_now.device) name end (HasFailedOrStalled err_now)
+    × IsTold (err_contents err.device) (err_contents err_now.device) (complaint_of name end) (HasFailedOrStalled err_now)

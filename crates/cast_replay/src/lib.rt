@@ -3,9 +3,9 @@
 //! Promised: the printed text is that of a log in which each domain behaves as a daemon that
 //! serves it alone, and a text that is no script is refused for its first faulty line
 //! (`printed_log`). The program writes that, and ends with the status for it (`run_script`,
-//! `replay_file`).
+//! `replay_read`).
 #![tactic(auto)]
 
 mod run;
 
-pub use run::{RunFault, complain, no_memory, printed_log, replay_file, run_script};
+pub use run::{RunFault, complain, no_memory, printed_log, replay_file, replay_read, run_script};

@@ -1,16 +1,18 @@
 ghost use Rattle.std.specs.Prelude.{◌≡◌, ◌≢◌, [], IfOk, IfErr, Err};
+ghost use Rattle.std.specs.IoError.{error_kind};
 ghost use Rattle.std.specs.Str.{IsUtf8};
 ghost use Rattle.std.specs.String.{string_bytes};
 ghost use Rattle.cast_device.specs.Watching.{HasFailedOrStalled};
+ghost use Rattle.cast_device.specs.Writing.{IsTold};
 ghost use Rattle.cast_script.specs.declared.script.ScriptFault.{ScriptFault};
-ghost use Rattle.cast_replay.specs.Ends.{Ends, EndsAs, EndsOn, IsEnd, IsTold, IsToldOf, fault_text, faulted, status_of, End, Reading};
+ghost use Rattle.cast_replay.specs.Ends.{Ends, EndsAs, EndsOn, IsEnd, fault_text, faulted, status_of, unread_as, End, Reading};
 ghost use Rattle.cast_replay.specs.declared.run.RunFault.TheVariants.{NoMemory, Unreadable};
 
-use cast_device::{Watched, write_whole};
+use cast_device::{Watched, tell};
 use cast_isolation::replay;
 use cast_print::print;
 use cast_script::{Reason, ScriptFault, parse};
-use cast_types::NoMemory;
+use itoa::Buffer;
 use std::alloc::{AllocError, Global};
 use std::io::Write;
 use std::rt::Files;
@@ -62,31 +64,21 @@ impl RunFault {
         }
     }
 
-    // What is said of it, where the file has this name.
-    fn text(self, alloc: Global, name: &str) -> Result<String, NoMemory>
-        ensures { IfOk result (λ text. string_bytes text ≡ fault_text name.now self) }
+    // Says what it is, where the file has this name.
+    fn say<E: Write>(self, name: &str, err: &mut Watched<E>)
+        ensures { IsTold (E.contents err.old.device) (E.contents err.new.device) (fault_text name.now self) (HasFailedOrStalled err.new) }
     {
-        let mut text = String::new(alloc);
         match self {
-            RunFault::Unreadable => writeln!(text, "castd: cannot read {name}")?,
+            RunFault::Unreadable => tell(err, &["castd: cannot read ", name, "\n"]),
             RunFault::BadLine(line, reason) => {
+                let mut buffer = Buffer::new();
+                let number = buffer.format(line);
                 let why = reason.text();
-                writeln!(text, "castd: line {line}: {why}")?;
+                tell(err, &["castd: line ", number, ": ", why, "\n"]);
             }
-            RunFault::NoMemory => text.push_str(OUT_OF_MEMORY)?,
+            RunFault::NoMemory => tell(err, &["castd: no memory\n"]),
         }
-        Ok(text)
     }
-}
-
-// What is said where memory ran out.
-const OUT_OF_MEMORY: &str = "castd: no memory\n";
-
-// Writes a text. A write that fails is passed over.
-fn tell<W: Write>(writer: &mut Watched<W>, text: &str)
-    ensures { IsTold (W.contents writer.old.device) (W.contents writer.new.device) text.now (HasFailedOrStalled writer.new) }
-{
-    let _ = write_whole(writer, text.as_bytes());
 }
 
 /// Says that memory ran out, and answers the status of the program for it.
@@ -94,26 +86,16 @@ pub fn no_memory<E: Write>(err: &mut Watched<E>) -> u8
     ensures status { result ≡ status_of (Err NoMemory) }
     ensures told { IsTold (E.contents err.old.device) (E.contents err.new.device) (fault_text [] NoMemory) (HasFailedOrStalled err.new) }
 {
-    tell(err, OUT_OF_MEMORY);
-    RunFault::NoMemory.status()
+    complain("", RunFault::NoMemory, err)
 }
 
-/// Says why the file of this name has no log, and answers the status of the program for it. Where there is no memory to
-/// say it, that is said in its place, and the status stays.
-pub fn complain<E: Write>(alloc: Global, name: &str, fault: RunFault, err: &mut Watched<E>) -> u8
+/// Says why the file of this name has no log, and answers the status of the program for it. Takes no memory.
+pub fn complain<E: Write>(name: &str, fault: RunFault, err: &mut Watched<E>) -> u8
     ensures status { result ≡ status_of (Err fault) }
-    ensures told { IsToldOf (E.contents err.old.device) (E.contents err.new.device) name.now (Err fault) (HasFailedOrStalled err.new) }
+    ensures told { IsTold (E.contents err.old.device) (E.contents err.new.device) (fault_text name.now fault) (HasFailedOrStalled err.new) }
 {
-    match fault.text(alloc, name) {
-        Ok(text) => {
-            tell(err, text.as_str());
-            fault.status()
-        }
-        Err(_) => {
-            tell(err, OUT_OF_MEMORY);
-            fault.status()
-        }
-    }
+    fault.say(name, err);
+    fault.status()
 }
 
 /// Replays the script in a file's bytes and writes its log, or why it has none, and answers the status of the program.
@@ -135,31 +117,55 @@ pub fn run_script<O: Write, E: Write>(
     err.begin();
     match printed_log(alloc, bytes) {
         Ok(text) => {
-            tell(out, text.as_str());
+            tell(out, &[text.as_str()]);
             0
         }
-        Err(fault) => complain(alloc, name, fault, err),
+        Err(fault) => complain(name, fault, err),
     }
 }
 
-/// Replays the script in the file of this name, as `run_script` does, and answers the status of the program. Where the file
-/// cannot be read, that is said.
+/// Replays the script in what was read of a file, as `run_script` does. Where that is an error, the file could not be read, or there
+/// was no memory to read it, and this is said.
+pub fn replay_read<O: Write, E: Write>(
+    alloc: Global,
+    name: &str,
+    read: io::Result<Vec<u8>>,
+    out: &mut Watched<O>,
+    err: &mut Watched<E>,
+) -> u8
+    ensures ended { (end : End) × EndsOn read end × IsEnd O.contents out.old out.new E.contents err.old err.new name.now result end }
+    ensures done { result ≡ 0 → err.new.device ≡ err.old.device }
+    ensures failed { result ≢ 0 → out.new.device ≡ out.old.device }
+{
+    match read {
+        Ok(bytes) => run_script(alloc, name, &bytes, out, err),
+        Err(error) => complain(name, unread(&error), err),
+    }
+}
+
+// Why a file has no log of which the reading gave this error.
+fn unread(error: &io::Error) -> RunFault
+    ensures { result ≡ unread_as (error_kind error.now) }
+{
+    match error.kind() {
+        io::ErrorKind::OutOfMemory => RunFault::NoMemory,
+        _ => RunFault::Unreadable,
+    }
+}
+
+/// Replays the script in the file of this name, as `replay_read` does, and answers the status of the program.
 pub fn replay_file<R: Files + AllocGlobal, O: Write, E: Write>(
     files: &R,
     name: &str,
     out: &mut Watched<O>,
     err: &mut Watched<E>,
 ) -> u8
-    // There are bytes, of which all that was written is the end; or they cannot be read, and that was said.
+    // No clause can say that what was read is the file.
     ensures ended { (read : Reading) × (end : End) × EndsOn read end × IsEnd O.contents out.old out.new E.contents err.old err.new name.now result end }
     ensures done { result ≡ 0 → err.new.device ≡ err.old.device }
     ensures failed { result ≢ 0 → out.new.device ≡ out.old.device }
 {
-    match fs::read(files, name) {
-        Ok(bytes) => run_script(files.alloc(), name, &bytes, out, err),
-        Err(error) if error.kind() == io::ErrorKind::OutOfMemory => no_memory(err),
-        Err(_) => complain(files.alloc(), name, RunFault::Unreadable, err),
-    }
+    replay_read(files.alloc(), name, fs::read(files, name), out, err)
 }
 
 // The bytes as a text.

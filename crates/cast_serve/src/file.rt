@@ -1,6 +1,7 @@
 //! A daemon by the name of its configuration.
 use crate::threads::serve;
-use cast_config::{Cause, Setup, read};
+use cast_config::{Setup, complain, read};
+use cast_device::{Watched, tell};
 use cast_types::SiteNo;
 use std::alloc::Global;
 use std::io::{BufRead, Write};
@@ -10,12 +11,10 @@ use std::sync::Wait;
 use std::thread::Threads;
 use std::{fs, io};
 
-// The statuses of a program that runs no daemon.
+// The statuses of a program that has no configuration.
 const UNREADABLE: u8 = 3;
 
 const NO_MEMORY: u8 = 5;
-
-const UNUSABLE: u8 = 6;
 
 // Reads the configuration in a file for a site, or says why there is none and answers the status of the program.
 fn setup_of<R: Files + AllocGlobal, E: Write>(
@@ -23,29 +22,22 @@ fn setup_of<R: Files + AllocGlobal, E: Write>(
     alloc: Global,
     name: &str,
     site: SiteNo,
-    err: &mut E,
+    err: &mut Watched<E>,
 ) -> Result<Setup, u8> {
     let text = match fs::read_to_string(rt, name) {
         Ok(text) => text,
         Err(error) if error.kind() == io::ErrorKind::OutOfMemory => {
-            let _ = writeln!(err, "castd: no memory");
+            tell(err, &["castd: no memory\n"]);
             return Err(NO_MEMORY);
         }
         Err(_) => {
-            let _ = writeln!(err, "castd: cannot read {name}");
+            tell(err, &["castd: cannot read ", name, "\n"]);
             return Err(UNREADABLE);
         }
     };
     match read(alloc, text.as_str(), site) {
         Ok(setup) => Ok(setup),
-        Err(fault) if fault.cause == Cause::NoMemory => {
-            let _ = writeln!(err, "castd: no memory");
-            Err(NO_MEMORY)
-        }
-        Err(fault) => {
-            let _ = writeln!(err, "castd: config: {fault}");
-            Err(UNUSABLE)
-        }
+        Err(fault) => Err(complain(fault, err)),
     }
 }
 
@@ -59,7 +51,7 @@ pub fn serve_file<R, B, W, E, G>(
     workers: u8,
     console: B,
     out: &mut W,
-    err: &mut E,
+    err: &mut Watched<E>,
     log: G,
 ) -> u8
 where

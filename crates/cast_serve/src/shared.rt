@@ -22,6 +22,8 @@ pub struct CountShare<L: Ledger> {
 }
 
 impl<L: Ledger> CountShare<L> {
+    ghost use Rattle.cast_pool.specs.Served.{Completes};
+
     /// A share that has a part of the ledger.
     pub fn new(worked: Worked<L>) -> Self
         requires { 0 < worked.parts }
@@ -30,10 +32,11 @@ impl<L: Ledger> CountShare<L> {
     }
 
     /// Does a job, and lets go of what a domain kept that it halted.
-    pub fn serve(&mut self, kept: &mut Kept<L>, job: Job) -> Done {
-        let done = kept.serve_one(&mut self.worked, job);
-        kept.let_go(&done);
-        done
+    pub fn serve(&mut self, kept: &mut Kept<L>, job: Job) -> Done
+        ensures number { result.number ≡ job.number }
+        ensures done { Completes job.task result.outcome kept.old kept.new self.old.worked.taken self.new.worked.taken }
+    {
+        kept.complete(&mut self.worked, job)
     }
 }
 

@@ -14,9 +14,10 @@ use crate::shared::{CountShare, Shared, SpareCount, Turnstile};
 use crate::sockets::{Listening, SocketFault, Sockets, bind, remove_files, resolve_all};
 use crate::udp::{Peer, widen};
 use crate::unacknowledged::Unacknowledged;
-use cast_config::{DomainSocket, Setup};
+use cast_config::{Cause, ConfigFault, DomainSocket, Field, Setup, complain};
+use cast_device::{Watched, tell};
 use cast_events::DomainConfig;
-use cast_pool::{Done, Kept, Open, Raw, Worked, can_keep, work};
+use cast_pool::{Channels, Done, Kept, Open, Raw, Worked, can_keep, work};
 use cast_types::{NoMemory, SiteNo};
 use crossbeam_channel::{Receiver, Sender};
 use std::alloc::Global;
@@ -169,13 +170,17 @@ fn start_worker<'s, 'e, L: Ledger + Send + Sync, R: Threads + Wait + Clock + Syn
     let job = move || -> Worked<L>
         requires { 0 < worked.parts }
     {
+        let mut post = Channels {
+            rt,
+            from: queue,
+            to: answers,
+        };
         work(
             rt,
             alloc,
             ground.shared.kept,
             worked,
-            queue,
-            answers,
+            &mut post,
             ground.gate,
         )
     };
@@ -407,21 +412,18 @@ where
 // The status of a program that found no memory.
 const NO_MEMORY: u8 = 5;
 
-// The status of a program whose configuration cannot be used.
-const UNUSABLE: u8 = 6;
-
 // The status of a program that cannot resolve or bind an address, or bind a path.
 const UNBOUND: u8 = 7;
 
 // Says why the sockets cannot be used, and answers the status of the program.
-fn end_unbound<E: Write>(err: &mut E, fault: SocketFault<'_>) -> u8 {
+fn end_unbound<E: Write>(err: &mut Watched<E>, fault: SocketFault<'_>) -> u8 {
     match fault {
         SocketFault::Name(name) => {
-            let _ = writeln!(err, "castd: socket: {name}");
+            tell(err, &["castd: socket: ", name, "\n"]);
             UNBOUND
         }
         SocketFault::NoMemory => {
-            let _ = writeln!(err, "castd: no memory");
+            tell(err, &["castd: no memory\n"]);
             NO_MEMORY
         }
     }
@@ -440,7 +442,7 @@ pub fn serve<R, B, W, E, G>(
     workers: u8,
     console: B,
     out: &mut W,
-    err: &mut E,
+    err: &mut Watched<E>,
     log: G,
 ) -> u8
 where
@@ -451,8 +453,11 @@ where
     G: Write + Send + Drop,
 {
     if !can_keep(&setup.config) {
-        let _ = writeln!(err, "castd: config: domain: repeated");
-        return UNUSABLE;
+        let fault = ConfigFault {
+            field: Field::Domain,
+            cause: Cause::Repeated,
+        };
+        return complain(fault, err);
     }
     let peers = match resolve_all(rt, alloc, setup.addresses.as_slice()) {
         Ok(peers) => peers,
@@ -469,7 +474,7 @@ where
         Ok(()) => 0,
         Err(_) => {
             remove_files(rt, setup.sockets.as_slice());
-            let _ = writeln!(err, "castd: no memory");
+            tell(err, &["castd: no memory\n"]);
             NO_MEMORY
         }
     }

@@ -1,5 +1,6 @@
 //! A daemon of one site with one domain and one group, and the console that a test types on.
 use cast_config::{Setup, read};
+use cast_device::Watched;
 use cast_serve::serve;
 use cast_types::SiteNo;
 use std::alloc::Global;
@@ -121,9 +122,13 @@ where
     G: Write + Send + Drop,
 {
     let mut out = Vec::new(alloc);
-    let mut err = Vec::new(alloc);
+    let mut err = Watched::new(Vec::new(alloc));
     let status = serve(rt, alloc, setup, 2, console, &mut out, &mut err, log);
-    Ran { status, out, err }
+    Ran {
+        status,
+        out,
+        err: err.device,
+    }
 }
 
 /// Runs the daemon of a set-up over this console.
@@ -144,7 +149,7 @@ pub fn answering<R: Threads + Wait + Clock + Net + Files + Sync>(
     console: UnixStream,
 ) -> io::Result<u8> {
     let mut out = console.try_clone()?;
-    let mut err = Vec::new(alloc);
+    let mut err = Watched::new(Vec::new(alloc));
     let console = BufReader::new(alloc, console)?;
     Ok(serve(
         rt,

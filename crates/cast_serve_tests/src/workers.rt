@@ -5,7 +5,7 @@ use crate::rows::{casts, first_row, joins, serve, served};
 use bytes::Bytes;
 use cast_events::{Event, Taken};
 use cast_message::Push;
-use cast_pool::{Asked, Done, Gate, Kept, Open, Outcome, Raw, Worked, work};
+use cast_pool::{Asked, Channels, Done, Gate, Kept, Open, Outcome, Raw, Worked, work};
 use cast_types::DomainNo;
 use crossbeam_channel::{Receiver, Sender};
 use std::alloc::Global;
@@ -43,11 +43,25 @@ pub fn work_both<L: Ledger + Send + Sync, R: Threads + Wait + Sync, G: Gate + Sy
         move || -> Worked<L>
             requires { one.parts ≡ 1 }
             ensures { result.parts ≡ 1 }
-        { work(rt, alloc, kept, one, queue, answers, gate) },
+        {
+            let mut post = Channels {
+                rt,
+                from: queue,
+                to: answers,
+            };
+            work(rt, alloc, kept, one, &mut post, gate)
+        },
         move || -> Worked<L>
             requires { two.parts ≡ 1 }
             ensures { result.parts ≡ 1 }
-        { work(rt, alloc, kept, two, also_queue, also_answers, gate) },
+        {
+            let mut post = Channels {
+                rt,
+                from: also_queue,
+                to: also_answers,
+            };
+            work(rt, alloc, kept, two, &mut post, gate)
+        },
     );
     one.join(two).ok()
 }

@@ -29,7 +29,7 @@ fn main(rt: HostRuntime) -> ExitCode {
             workers,
             rt.reader(),
             &mut out.device,
-            &mut err.device,
+            &mut err,
             rt.stderr(),
         ),
         Ok(Asked::Ended(status)) => status,

@@ -3,7 +3,7 @@ ghost use Rattle.std.specs.Prelude.{◌≡◌, ◌+◌, IfSome};
 
 use crate::pool::daemon::{ALONE, begun, casts, shown, takes};
 use anyhow::{Context, Result};
-use cast_pool::{Asked, Done, Kept, Open, Raw, Worked, work};
+use cast_pool::{Asked, Channels, Done, Kept, Open, Raw, Worked, work};
 use cast_types::NoMemory;
 use crossbeam_channel::{Receiver, Sender};
 use std::alloc::Global;
@@ -81,7 +81,12 @@ fn start<'s, 'e, L: Ledger + Send + Sync, R: Threads + Wait + Sync>(
     let job = move || -> Ended<L>
         requires { mine.parts ≡ 1 }
     {
-        let worked = work(rt, alloc, kept, mine, queue, answers, &Open);
+        let mut post = Channels {
+            rt,
+            from: queue,
+            to: answers,
+        };
+        let worked = work(rt, alloc, kept, mine, &mut post, &Open);
         Ended { worked }
     };
     scope.spawn(job).ok()

@@ -1,0 +1,53 @@
+//! Where what is asked comes from, and where what came of it goes.
+ghost use Rattle.std.specs.Prelude.{[], ◌∷◌, List, None, IfSome, IfNone};
+ghost use Rattle.std.specs.declared.option.Option.{Option};
+ghost use Rattle.cast_pool.specs.declared.kept.Done.{Done};
+ghost use Rattle.cast_pool.specs.declared.task.Raw.{Raw};
+ghost use Rattle.cast_pool.specs.Posts.{Adds};
+
+use crate::kept::Done;
+use crate::task::Raw;
+use crossbeam_channel::{Receiver, Sender};
+use std::sync::Wait;
+
+/// What a worker takes from, and sends to.
+pub trait Post {
+    // All that was taken, at a type that tells of it.
+    ghost taken: { Self → Option (List Raw) } = { λ _. None };
+
+    // All that was sent, at a type that tells of it.
+    ghost sent: { Self → Option (List Done) } = { λ _. None };
+
+    // Nothing more can be taken, at a type that tells of it.
+    ghost is_over: { Self → Type 0 } = { λ _. Unit {0} };
+
+    /// Takes what is asked next. `None` where nothing more can come.
+    fn take(&mut self) -> Option<Raw>
+        ensures some { IfSome result (λ raw. Adds (taken self.old) (taken self.new) (raw ∷ [])) }
+        ensures none { IfNone result (Adds (taken self.old) (taken self.new) []) }
+        ensures over { IfNone result (is_over self.new) }
+        ensures sent { Adds (sent self.old) (sent self.new) [] };
+
+    /// Sends what came of something. What cannot be sent is dropped.
+    fn send(&mut self, done: Done)
+        ensures sent { Adds (sent self.old) (sent self.new) (done ∷ []) }
+        ensures taken { Adds (taken self.old) (taken self.new) [] };
+}
+
+/// The ends of two channels.
+#[derive(Drop)]
+pub struct Channels<'a, R> {
+    pub rt: &'a R,
+    pub from: Receiver<Raw>,
+    pub to: Sender<Done>,
+}
+
+impl<R: Wait> Post for Channels<'_, R> {
+    fn take(&mut self) -> Option<Raw> {
+        self.from.recv(self.rt).ok()
+    }
+
+    fn send(&mut self, done: Done) {
+        let _ = self.to.send(self.rt, done);
+    }
+}
