@@ -1,5 +1,5 @@
 //! How many events a second workers serve.
-ghost use Rattle.std.specs.Prelude.{◌≡◌, ◌+◌, IfSome};
+ghost use Rattle.std.specs.Prelude.{◌≡◌, ◌+◌, ◌<◌, IfSome};
 
 use crate::pool::daemon::{ALONE, begun, casts, shown, takes};
 use anyhow::{Context, Result};
@@ -66,6 +66,26 @@ fn queue_of<R: Wait>(rt: &R, alloc: Global, domains: u8, events: u32) -> Result<
     Ok(queue)
 }
 
+// Runs a worker over channels.
+fn work_over<L: Ledger, R: Wait>(
+    rt: &R,
+    alloc: Global,
+    kept: &Mutex<Kept<L>>,
+    mine: Worked<L>,
+    queue: Receiver<Raw>,
+    answers: Sender<Done>,
+) -> Worked<L>
+    requires { 0 < mine.parts }
+    ensures { result.parts ≡ mine.parts }
+{
+    let mut post = Channels {
+        rt,
+        from: queue,
+        to: answers,
+    };
+    work(rt, alloc, kept, mine, &mut post, &Open)
+}
+
 fn start<'s, 'e, L: Ledger + Send + Sync, R: Threads + Wait + Sync>(
     scope: &'s Scope<'s, &'e ()>,
     rt: &'e R,
@@ -81,12 +101,7 @@ fn start<'s, 'e, L: Ledger + Send + Sync, R: Threads + Wait + Sync>(
     let job = move || -> Ended<L>
         requires { mine.parts ≡ 1 }
     {
-        let mut post = Channels {
-            rt,
-            from: queue,
-            to: answers,
-        };
-        let worked = work(rt, alloc, kept, mine, &mut post, &Open);
+        let worked = work_over(rt, alloc, kept, mine, queue, answers);
         Ended { worked }
     };
     scope.spawn(job).ok()
