@@ -37,6 +37,17 @@ def free_port():
         return it.getsockname()[1]
 
 
+def free_addresses(sites):
+    """An address of this host for each of so many sites, at a port that nobody uses now."""
+    found = [socket.socket(socket.AF_INET, socket.SOCK_DGRAM) for _ in range(sites)]
+    for it in found:
+        it.bind(("127.0.0.1", 0))
+    addresses = {site: "127.0.0.1:%d" % it.getsockname()[1] for site, it in enumerate(found, 1)}
+    for it in found:
+        it.close()
+    return addresses
+
+
 def compiled(folder, name, *words):
     """The file that a C program or library is compiled into."""
     made = f"{folder}/{name}"
@@ -111,17 +122,18 @@ class Process:
 
 
 class Castd(Process):
-    """A daemon of one domain with one group. `addresses` says by which each site is reached from here."""
+    """A daemon of one domain with one group. `addresses` says by which each site is reached from here, and `more` what else its command line
+    has."""
 
     CONFIG = "[[domain]]\nnumber = 1\nhome = 1\nsites = {sites}\ngroups = [1]\nsocket = {socket}\nsessions = 64\nheld = 1024\noutbox = 4096\n"
 
-    def __init__(self, program, folder, site, addresses, **how):
+    def __init__(self, program, folder, site, addresses, *more, **how):
         self.path, config = f"{folder}/{site}.sock", f"{folder}/{site}.conf"
         with open(config, "w", encoding="utf-8") as file:
             for number, address in addresses.items():
                 file.write(f'[[site]]\nnumber = {number}\naddress = "{address}"\n')
             file.write(self.CONFIG.format(sites=list(addresses), socket=f'"{self.path}"', folder=folder))
-        super().__init__([program, "serve", config, "--site", str(site)], folder, **how)
+        super().__init__([program, "serve", config, "--site", str(site), *more], folder, **how)
         try:
             if self.line(PATIENCE) != "ready":
                 self.fail("does not serve")

@@ -3,7 +3,7 @@
 //! Promised: every call is safe and returns.
 #![tactic(auto)]
 
-use cast_types::SiteNo;
+use cast_types::{DomainNo, SiteNo};
 use clap::error::ErrorKind;
 use clap::{Arg, ArgAction, ArgMatches, Command, value_parser};
 use std::alloc::{AllocError, Global};
@@ -18,13 +18,20 @@ const VERSION: &str = "0.1.0";
 
 /// What a command line asks for.
 pub enum Asked {
-    /// To replay the script in the file of this name.
-    Replay(String),
-    /// To run the daemon of a site by the configuration in the file of this name, with so many workers, 1 to 64.
+    /// To replay the script in the file of this name, or the record in the folder of this name: the first events, so many at most, of
+    /// one domain if one is named.
+    Replay {
+        name: String,
+        until: u64,
+        domain: Option<DomainNo>,
+    },
+    /// To run the daemon of a site by the configuration in the file of this name, with so many workers, 1 to 64, and to record in
+    /// this folder what it does, if one is named.
     Serve {
         config: String,
         site: SiteNo,
         workers: u8,
+        record: Option<String>,
     },
     /// For no more than was printed: the program ends with this status, 0 where help or the version was asked for and 2 where
     /// something is not understood.
@@ -33,20 +40,38 @@ pub enum Asked {
 
 // The words that the program understands.
 fn command<'a>(alloc: Global) -> Result<Command<'a>, clap::Error> {
-    let file = Arg::new(alloc, "FILE")
-        .help("The script")
-        .required(true)
-        .action(ArgAction::Set);
-    let replay = Command::new(alloc, "replay")
-        .about("Replays a script and prints its log")
-        .arg(file)?;
     Ok(
         Command::new(alloc, "castd")
             .about("A group communication daemon")
             .version(VERSION)
             .subcommand_required(true)
             .subcommand(serve_command(alloc)?)?
-            .subcommand(replay)?,
+            .subcommand(replay_command(alloc)?)?,
+    )
+}
+
+// The words of `replay`.
+fn replay_command<'a>(alloc: Global) -> Result<Command<'a>, clap::Error> {
+    let file = Arg::new(alloc, "FILE")
+        .help("The script, or the folder of a record")
+        .required(true)
+        .action(ArgAction::Set);
+    let until = Arg::new(alloc, "until")
+        .long("until")
+        .value_name("N")
+        .help("Replays the first N events alone")
+        .value_parser(value_parser!(u64));
+    let domain = Arg::new(alloc, "domain")
+        .long("domain")
+        .value_name("D")
+        .help("Replays one domain alone")
+        .value_parser(value_parser!(u8).range(1..256));
+    Ok(
+        Command::new(alloc, "replay")
+            .about("Replays a script or a record and prints its log")
+            .arg(file)?
+            .arg(until)?
+            .arg(domain)?,
     )
 }
 
@@ -57,7 +82,8 @@ fn serve_command<'a>(alloc: Global) -> Result<Command<'a>, clap::Error> {
             .about("Runs the daemon of a site")
             .arg(config_argument(alloc))?
             .arg(site_argument(alloc))?
-            .arg(workers_argument(alloc))?,
+            .arg(workers_argument(alloc))?
+            .arg(record_argument(alloc))?,
     )
 }
 
@@ -87,6 +113,15 @@ fn workers_argument<'a>(alloc: Global) -> Arg<'a> {
         .value_parser(value_parser!(u8).range(1..65))
 }
 
+// Where what the daemon does is recorded.
+fn record_argument<'a>(alloc: Global) -> Arg<'a> {
+    Arg::new(alloc, "record")
+        .long("record")
+        .value_name("DIR")
+        .help("The folder to record each event in, as scripts that replay")
+        .action(ArgAction::Set)
+}
+
 // What these words say.
 fn matches_of<'a>(alloc: Global, words: &'a [String]) -> Result<ArgMatches<'a>, clap::Error> {
     command(alloc)?.try_get_matches_from(words)
@@ -98,12 +133,21 @@ fn what_is_asked(alloc: Global, matches: &ArgMatches<'_>) -> Result<Option<Asked
         return Ok(None);
     };
     if name == "replay" {
-        let Some(file) = inner.get_str("FILE") else {
-            return Ok(None);
-        };
-        return Ok(Some(Asked::Replay(String::from_str(alloc, file)?)));
+        return replay_arguments(alloc, inner);
     }
     serve_arguments(alloc, inner)
+}
+
+// What `replay` was asked for.
+fn replay_arguments(alloc: Global, inner: &ArgMatches<'_>) -> Result<Option<Asked>, AllocError> {
+    let Some(name) = inner.get_str("FILE") else {
+        return Ok(None);
+    };
+    Ok(Some(Asked::Replay {
+        name: String::from_str(alloc, name)?,
+        until: inner.get_one::<u64>("until").unwrap_or(u64::MAX),
+        domain: inner.get_one::<u8>("domain").map(DomainNo),
+    }))
 }
 
 // What `serve` was asked for.
@@ -115,10 +159,15 @@ fn serve_arguments(alloc: Global, inner: &ArgMatches<'_>) -> Result<Option<Asked
     ) else {
         return Ok(None);
     };
+    let record = match inner.get_str("record") {
+        Some(folder) => Some(String::from_str(alloc, folder)?),
+        None => None,
+    };
     Ok(Some(Asked::Serve {
         config: String::from_str(alloc, config)?,
         site: SiteNo(site),
         workers,
+        record,
     }))
 }
 

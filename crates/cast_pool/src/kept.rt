@@ -38,6 +38,7 @@ pub struct Kept<L: Ledger> {
     table: Table,
     trail: Trail,
     book: Book<L>,
+    is_recorded: bool,
 }
 
 impl<L: Ledger> Model for Kept<L> {
@@ -214,6 +215,7 @@ impl<L: Ledger> Kept<L> {
             table,
             trail,
             book,
+            is_recorded: false,
         };
         Ok((
             kept,
@@ -315,17 +317,33 @@ impl<L: Ledger> Kept<L> {
         ensures ok { OnOk result (IsTrimmed self.old self.new) }
         ensures err { OnErr result (self.new ≡ self.old) }
     {
-        let base = self.table.copy()?;
-        self.trail.trim(base);
+        let _ = self.cut()?;
         Ok(())
     }
 
+    /// As `trim`, and hands on the events that the trace had, in their order. `NoMemory` changes nothing.
+    pub fn cut(&mut self) -> Result<Vec<Entry>, NoMemory>
+        ensures ok { IfOk result (λ entries. IsTrimmed self.old self.new × (entries.items ≡ self.old.trace)) }
+        ensures err { OnErr result (self.new ≡ self.old) }
+    {
+        let base = self.table.copy()?;
+        Ok(self.trail.cut(self.alloc, base))
+    }
+
+    /// From now on the trace is recorded: whoever records it cuts it, and `let_go` changes nothing, so that no event is lost.
+    pub fn record(&mut self)
+        ensures { self.new ≡ self.old }
+    {
+        self.is_recorded = true;
+    }
+
     /// Lets go of what a domain kept, where the job halted one: trims the trace, since its base and its events hold that too. Where
-    /// memory is refused, nothing is changed, and it goes when the trace is trimmed next.
+    /// memory is refused, nothing is changed, and it goes when the trace is trimmed next. Nothing is changed either where the trace
+    /// is recorded: then it goes when the trace is cut.
     pub fn let_go(&mut self, done: &Done)
         ensures { IsTrimmedOr (halts done.now.outcome) self.old self.new }
     {
-        if done.outcome.halts() {
+        if done.outcome.halts() && !self.is_recorded {
             let _ = self.trim();
         }
     }

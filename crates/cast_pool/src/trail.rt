@@ -9,6 +9,7 @@ use cast_events::{Event, Fault, Taken};
 use cast_table::Table;
 use cast_types::{DomainNo, List, NoMemory, Refusal};
 use std::alloc::Global;
+use std::mem;
 
 /// What an event was answered, as a trace keeps it.
 #[derive(Clone, Copy, Debug, PartialEq, Eq)]
@@ -129,5 +130,18 @@ impl Trail {
         self.count += self.entries.len() as u64;
         self.base = base;
         self.entries.clear();
+    }
+
+    /// As `trim`, and hands on the events that the trace had.
+    pub(crate) fn cut(&mut self, alloc: Global, base: Table) -> Vec<Entry>
+        requires { self.old.count + length self.old.entries.items < 2 ^ 64 }
+        ensures entries { result.items ≡ self.old.entries.items }
+        ensures base { self.new.base ≡ base }
+        ensures items { self.new.entries.items ≡ [] }
+        ensures count { self.new.count ≡ self.old.count + length self.old.entries.items }
+    {
+        self.count += self.entries.len() as u64;
+        self.base = base;
+        mem::replace(&mut self.entries, Vec::new(alloc))
     }
 }

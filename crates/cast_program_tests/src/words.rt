@@ -2,12 +2,12 @@
 
 use cast_arguments::{Asked, read_words};
 use cast_device::Watched;
-use cast_replay::{no_memory, replay_file};
+use cast_replay::{Part, no_memory, replay_part};
 use std::alloc::{AllocError, Global};
 use std::io::{self, Write};
 use std::rt::Files;
 
-const LINES: [&str; 12] = [
+const LINES: [&str; 16] = [
     "castd",
     "castd serve",
     "castd replay",
@@ -16,10 +16,14 @@ const LINES: [&str; 12] = [
     "castd --version",
     "castd replay --help",
     "castd replay missing",
+    "castd replay .",
+    "castd replay . --until 3",
+    "castd replay . --domain 2",
     "castd serve --help",
     "castd serve castd.conf --site 0",
     "castd serve castd.conf --site 1 --workers 65",
     "castd serve castd.conf --site 65535",
+    "castd serve castd.conf --site 1 --record there",
 ];
 
 // The words of a line.
@@ -32,22 +36,35 @@ fn words_of(alloc: Global, line: &str) -> Result<Vec<String>, AllocError> {
 }
 
 // Does what a line asks for.
-fn try_line<R: Files + Print + Eprint + AllocGlobal>(rt: &R, line: &str) -> io::Result<()> {
+fn try_line<R: Files + Print + Eprint + AllocGlobal + Clone + Drop>(
+    rt: &R,
+    line: &str,
+) -> io::Result<()> {
     let words = words_of(rt.alloc(), line)?;
     let mut log = Watched::new(Vec::new(rt.alloc()));
     let mut told = Watched::new(Vec::new(rt.alloc()));
     println!(rt; "== {line}")?;
     let status = match read_words(rt, &words) {
-        Ok(Asked::Replay(file)) => replay_file(rt, &file, &mut log, &mut told),
+        Ok(
+            Asked::Replay {
+                name,
+                until,
+                domain,
+            },
+        ) => replay_part(rt, &name, Part { until, domain }, &mut log, &mut told),
         Ok(
             Asked::Serve {
                 config,
                 site,
                 workers,
+                record,
             },
         ) => {
             let site = site.0;
             println!(rt; "serve {config} {site} {workers}")?;
+            if let Some(folder) = record {
+                println!(rt; "record {folder}")?;
+            }
             0
         }
         Ok(Asked::Ended(status)) => status,
@@ -60,7 +77,7 @@ fn try_line<R: Files + Print + Eprint + AllocGlobal>(rt: &R, line: &str) -> io::
 }
 
 /// Does what each line asks for.
-pub fn try_all<R: Files + Print + Eprint + AllocGlobal>(rt: &R) -> io::Result<()> {
+pub fn try_all<R: Files + Print + Eprint + AllocGlobal + Clone + Drop>(rt: &R) -> io::Result<()> {
     for line in LINES {
         try_line(rt, line)?;
     }

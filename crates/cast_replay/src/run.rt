@@ -98,6 +98,20 @@ pub fn complain<E: Write>(name: &str, fault: RunFault, err: &mut Watched<E>) -> 
     fault.status()
 }
 
+// Says that a record lacks the events behind so many.
+pub(crate) fn say_gap<E: Write>(events: u64, err: &mut Watched<E>) {
+    let mut buffer = Buffer::new();
+    let number = buffer.format(events);
+    tell(
+        err,
+        &[
+            "castd: the record lacks what came after event ",
+            number,
+            "\n",
+        ],
+    );
+}
+
 /// Replays the script in a file's bytes and writes its log, or why it has none, and answers the status of the program.
 /// A write that fails is passed over. What was noted of earlier calls of the writers is cleared.
 pub fn run_script<O: Write, E: Write>(

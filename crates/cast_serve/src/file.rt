@@ -44,11 +44,12 @@ fn setup_of<R: Files + AllocGlobal, E: Write>(
 /// Runs the daemon of a site by the configuration in the file of this name, with so many workers, as `serve` does, and
 /// answers the status of the program: also 3 where the file cannot be read or is not UTF-8, 6 where its configuration has a fault, which
 /// is named with its field, and 5 where memory ran out.
-pub fn serve_file<R, B, W, E, G>(
+pub fn serve_file<R, B, W, E, G, K>(
     rt: &R,
     name: &str,
     site: SiteNo,
     workers: u8,
+    record: Option<K>,
     console: B,
     out: &mut W,
     err: &mut Watched<E>,
@@ -60,10 +61,11 @@ where
     W: Write,
     E: Write,
     G: Write + Send + Drop,
+    K: Write + Send + Drop,
 {
     let alloc = rt.alloc();
     match setup_of(rt, alloc, name, site, err) {
-        Ok(setup) => serve(rt, alloc, &setup, workers, console, out, err, log),
+        Ok(setup) => serve(rt, alloc, &setup, workers, record, console, out, err, log),
         Err(status) => status,
     }
 }

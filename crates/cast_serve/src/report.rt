@@ -19,6 +19,10 @@ pub enum Report {
     Unsent(u64),
     /// The socket of the datagrams failed.
     LinkFailed,
+    /// More events wait to be recorded than may wait, and some were lost. The record says where.
+    RecordBehind,
+    /// The record could not be written any more, and ended after so many events.
+    RecordEnded(u64),
 }
 
 // Writes the line of a report.
@@ -39,6 +43,11 @@ fn put_line<E: Write>(err: &mut E, what: Report) {
         Report::Unread(count) => writeln!(err, "castd: datagrams that could not be read: {count}"),
         Report::Unsent(count) => writeln!(err, "castd: datagrams that could not be sent: {count}"),
         Report::LinkFailed => writeln!(err, "castd: datagrams cannot be received"),
+        Report::RecordBehind => writeln!(err, "castd: the record lacks events"),
+        Report::RecordEnded(events) => writeln!(
+            err,
+            "castd: the record ended after event {events}"
+        ),
     };
 }
 

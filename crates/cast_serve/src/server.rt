@@ -68,20 +68,23 @@ fn first_due<L: Ledger>(paces: &[Pace], kept: &Kept<L>) -> usize {
 }
 
 // Does a job, and answers the place of the pace whose readers may go on.
-fn serve_and_look<L: Ledger>(
+fn serve_and_look<L: Ledger, R: Wait>(
+    rt: &R,
+    shared: &Shared<'_, L>,
     kept: &mut Kept<L>,
     share: &mut CountShare<L>,
     job: Job,
-    paces: &[Pace],
 ) -> (Done, usize) {
     let done = share.serve(kept, job);
-    let due = first_due(paces, kept);
+    shared.cut_many(rt, kept);
+    let due = first_due(shared.paces, kept);
     (done, due)
 }
 
 // Does the job of a cast, unless its program has to wait: then the job comes back.
 fn cast_and_look<L: Ledger, R: Wait>(
     rt: &R,
+    shared: &Shared<'_, L>,
     kept: &mut Kept<L>,
     share: &mut CountShare<L>,
     job: Job,
@@ -95,6 +98,7 @@ fn cast_and_look<L: Ledger, R: Wait>(
     }
     let before = pace.next(kept);
     let done = share.serve(kept, job);
+    shared.cut_many(rt, kept);
     pace.note(rt, kept, before);
     Ok(done)
 }
@@ -134,7 +138,7 @@ impl<'a, L: Ledger> Server<'a, L> {
         self.shared.turnstile.pass(rt);
         let (done, due) = {
             let mut kept = self.shared.kept.lock(rt);
-            serve_and_look(&mut kept, &mut self.share, job, self.shared.paces)
+            serve_and_look(rt, self.shared, &mut kept, &mut self.share, job)
         };
         if let Some(pace) = self.shared.paces.get(due) {
             pace.wake(rt);
@@ -153,7 +157,7 @@ impl<'a, L: Ledger> Server<'a, L> {
         self.shared.turnstile.pass(rt);
         let served = {
             let mut kept = self.shared.kept.lock(rt);
-            cast_and_look(rt, &mut kept, &mut self.share, job, pace, asks)
+            cast_and_look(rt, self.shared, &mut kept, &mut self.share, job, pace, asks)
         };
         match served {
             Ok(done) => Ok(came_of(self.shared.alloc, done)),

@@ -3,6 +3,7 @@ ghost use Rattle.std.specs.Prelude.{◌≡◌, ◌<◌};
 
 use crate::desk::Desk;
 use crate::pace::Pace;
+use crate::record::Tape;
 use crate::report::Report;
 use crate::udp::Peer;
 use crate::unacknowledged::Unacknowledged;
@@ -121,6 +122,9 @@ pub struct Shared<'a, L: Ledger> {
     pub turnstile: &'a Turnstile,
     /// Not 0 if a domain was halted since the ticker trimmed the trace last.
     pub halts: &'a AtomicU64,
+    /// What was cut off the trace, if what the daemon does is recorded.
+    pub tape: &'a Tape,
+    pub is_recorded: bool,
     pub own: SiteNo,
 }
 
@@ -135,14 +139,31 @@ impl<L: Ledger> Shared<'_, L> {
         self.halts.store(1, Ordering::SeqCst);
     }
 
-    /// Trims the trace if a domain was halted, since the trace holds what the domain kept. If there is no memory for that yet, it
-    /// is still to be done. Answers whether a domain was halted.
+    /// Trims the trace, or cuts it if it is recorded, if a domain was halted, since the trace holds what the domain kept. If there is no
+    /// memory for that yet, it is still to be done. Answers whether a domain was halted.
     pub fn trim_after_halt<R: Wait>(&self, rt: &R) -> bool {
         let is_halted = self.halts.swap(0, Ordering::SeqCst) != 0;
-        if is_halted && self.kept.lock(rt).trim().is_err() {
+        if is_halted && !self.trim(rt) {
             self.note_halt();
         }
         is_halted
+    }
+
+    // Trims the trace, or cuts it if it is recorded. False if there was no memory for that.
+    fn trim<R: Wait>(&self, rt: &R) -> bool {
+        let mut kept = self.kept.lock(rt);
+        if self.is_recorded {
+            self.tape.cut(rt, &mut kept)
+        } else {
+            kept.trim().is_ok()
+        }
+    }
+
+    /// Cuts the trace, under the table's lock, if it is recorded and has many events.
+    pub fn cut_many<R: Wait>(&self, rt: &R, kept: &mut Kept<L>) {
+        if self.is_recorded {
+            self.tape.cut_many(rt, kept);
+        }
     }
 
     /// What a site was sent of a domain, and has not acknowledged.

@@ -8,6 +8,7 @@ use crate::dispatch::run_dispatcher;
 use crate::pace::Pace;
 use crate::program::{run_program, server_of};
 use crate::receiver::run_receiver;
+use crate::record::{Record, Tape, run_recorder};
 use crate::report::{Report, run_reporter};
 use crate::server::Server;
 use crate::shared::{CountShare, Shared, SpareCount, Turnstile};
@@ -16,12 +17,12 @@ use crate::udp::{Peer, widen};
 use crate::unacknowledged::Unacknowledged;
 use cast_config::{Cause, ConfigFault, DomainSocket, Field, Setup, complain};
 use cast_device::{Watched, tell};
-use cast_events::DomainConfig;
+use cast_events::{Config, DomainConfig};
 use cast_pool::{Channels, Done, Kept, Open, Raw, Worked, can_keep, work};
 use cast_types::{NoMemory, SiteNo};
 use crossbeam_channel::{Receiver, Sender};
 use std::alloc::Global;
-use std::io::{BufRead, Write};
+use std::io::{BufRead, ErrorKind, Write};
 use std::marker::Brand;
 use std::net::Net;
 use std::rt::{Clock, Files};
@@ -195,6 +196,7 @@ fn start_all<
     L: Ledger + Send + Sync,
     R: Threads + Wait + Clock + Sync,
     E: Write + Send + Drop + 'e,
+    K: Write + Send + Drop + 'e,
 >(
     scope: &'s Scope<'s, &'e ()>,
     rt: &'e R,
@@ -202,6 +204,7 @@ fn start_all<
     workers: u8,
     ends: Ends,
     log: E,
+    record: &'e Mutex<Option<Record<K>>>,
 ) -> io::Result<Sender<Done>> {
     let Ends {
         queue,
@@ -222,6 +225,9 @@ fn start_all<
     let _ = scope.spawn(move || {
         let _ = run_ticker(rt, ticking);
     })?;
+    if shared.is_recorded {
+        let _ = scope.spawn(move || run_recorder(rt, shared, record))?;
+    }
     for listening in ground.sockets.listening.as_slice() {
         let _ = scope.spawn(move || run_acceptor(scope, rt, shared, listening))?;
     }
@@ -238,7 +244,7 @@ fn stop<L: Ledger, R: Wait + Files>(rt: &R, ground: &Ground<'_, L>, paths: &[Dom
 }
 
 // Starts the threads, and runs the console in this one, until it says `stop`.
-fn run_in<'s, 'e, L, R, B, W, E>(
+fn run_in<'s, 'e, L, R, B, W, E, K>(
     scope: &'s Scope<'s, &'e ()>,
     rt: &'e R,
     ground: &'e Ground<'e, L>,
@@ -248,6 +254,7 @@ fn run_in<'s, 'e, L, R, B, W, E>(
     console: B,
     out: &mut W,
     log: E,
+    record: &'e Mutex<Option<Record<K>>>,
 ) -> io::Result<()>
 where
     L: Ledger + Send + Sync,
@@ -255,9 +262,10 @@ where
     B: BufRead + Drop,
     W: Write,
     E: Write + Send + Drop + 'e,
+    K: Write + Send + Drop + 'e,
 {
     let alloc = ground.shared.alloc;
-    let started = start_all(scope, rt, ground, workers, ends, log);
+    let started = start_all(scope, rt, ground, workers, ends, log, record);
     let ended = match started {
         Ok(dones) => match share_of(rt, &ground.shared) {
             Ok(share) => {
@@ -279,7 +287,7 @@ where
 }
 
 // Runs the threads, until the console says `stop`.
-fn run_threads<'e, L, R, B, W, E>(
+fn run_threads<'e, L, R, B, W, E, K>(
     rt: &'e R,
     ground: &'e Ground<'e, L>,
     workers: u8,
@@ -288,6 +296,7 @@ fn run_threads<'e, L, R, B, W, E>(
     console: B,
     out: &mut W,
     log: E,
+    record: &'e Mutex<Option<Record<K>>>,
 ) -> io::Result<()>
 where
     L: Ledger + Send + Sync,
@@ -295,13 +304,18 @@ where
     B: BufRead + Drop,
     W: Write,
     E: Write + Send + Drop + 'e,
+    K: Write + Send + Drop + 'e,
 {
     thread::scope(
         thread::scope_env(),
         rt,
         move |scope| -> io::Result<()>
             requires { workers < 256 }
-        { run_in(scope, rt, ground, workers, ends, paths, console, out, log) },
+        {
+            run_in(
+                scope, rt, ground, workers, ends, paths, console, out, log, record,
+            )
+        },
     )
 }
 
@@ -334,7 +348,7 @@ fn unacknowledged_of(
 }
 
 // Runs a daemon over its sockets, until the console says `stop`.
-fn run<L, R, B, W, E>(
+fn run<L, R, B, W, E, K>(
     rt: &R,
     alloc: Global,
     setup: &Setup,
@@ -345,6 +359,7 @@ fn run<L, R, B, W, E>(
     console: B,
     out: &mut W,
     log: E,
+    record: Option<Record<K>>,
 ) -> io::Result<()>
 where
     L: Ledger + Send + Sync,
@@ -352,12 +367,19 @@ where
     B: BufRead + Drop,
     W: Write,
     E: Write + Send + Drop,
+    K: Write + Send + Drop,
     requires distinct { are_distinct setup.now.config.domains ≡ true }
     requires rising { have_rising_groups setup.now.config.domains ≡ true }
     requires name { blank.name ≡ L.name }
     requires parts { (blank.parts ≡ L.parts) × (blank.parts ≡ 9223372036854775808) }
 {
-    let (kept, all) = Kept::<L>::new(alloc, &setup.config, blank, PARTS)?;
+    let (mut kept, all) = Kept::<L>::new(alloc, &setup.config, blank, PARTS)?;
+    let tape = Tape::new(alloc);
+    let is_recorded = record.is_some();
+    if is_recorded {
+        kept.record();
+    }
+    let record = Mutex::new(record);
     let kept = Mutex::new(kept);
     let spare = Mutex::new(SpareCount::new(all, PARTS));
     let (jobs, queue) = crossbeam_channel::bounded::<Raw, Global>(alloc, JOBS)?;
@@ -386,6 +408,8 @@ where
             unacknowledged: unacknowledged.as_slice(),
             turnstile: &turnstile,
             halts: &halts,
+            tape: &tape,
+            is_recorded,
             own: setup.config.site,
         },
         gate: &gate,
@@ -397,7 +421,7 @@ where
         answered,
         reports,
     };
-    run_threads(
+    let ended = run_threads(
         rt,
         &ground,
         workers,
@@ -406,8 +430,17 @@ where
         console,
         out,
         log,
-    )
+        &record,
+    );
+    let left = record.lock(rt).take();
+    if let Some(record) = left {
+        record.end(rt, &tape, &kept);
+    }
+    ended
 }
+
+// The status of a program that cannot write what it is to record.
+const UNWRITABLE: u8 = 3;
 
 // The status of a program that found no memory.
 const NO_MEMORY: u8 = 5;
@@ -429,17 +462,41 @@ fn end_unbound<E: Write>(err: &mut Watched<E>, fault: SocketFault<'_>) -> u8 {
     }
 }
 
+// Begins a record, if there is something to write it to.
+fn begin_record<K: Write + Drop>(
+    alloc: Global,
+    to: Option<K>,
+    config: &Config,
+) -> io::Result<Option<Record<K>>> {
+    match to {
+        Some(to) => Ok(Some(Record::begin(alloc, to, config)?)),
+        None => Ok(None),
+    }
+}
+
+// Says why nothing is recorded, and answers the status of the program.
+fn end_unrecorded<E: Write>(err: &mut Watched<E>, error: &io::Error) -> u8 {
+    if error.kind() == ErrorKind::OutOfMemory {
+        tell(err, &["castd: no memory\n"]);
+        return NO_MEMORY;
+    }
+    tell(err, &["castd: cannot write the record\n"]);
+    UNWRITABLE
+}
+
 /// Runs a daemon until the console says `stop`, and answers the status of the program. `ready` is written once it serves.
-/// Why it does not run is written to `err`, and what an operator has to know while it does to `log`.
+/// Why it does not run is written to `err`, and what an operator has to know while it does to `log`. If there is
+/// something to write a record to, each event that is served is written there, as a script that replays.
 ///
-/// The status is 0 after `stop`; 7 if an address cannot be resolved or bound, or a path cannot be bound, which is named; 5 if
+/// The status is 0 after `stop`; 3 if the first lines of the record cannot be written; 7 if an address cannot be resolved or bound, or a path cannot be bound, which is named; 5 if
 /// there is no memory for the daemon or its threads; and 6 if two domains of the set-up have one number, or a domain's groups do
 /// not rise, which no set-up has that was read.
-pub fn serve<R, B, W, E, G>(
+pub fn serve<R, B, W, E, G, K>(
     rt: &R,
     alloc: Global,
     setup: &Setup,
     workers: u8,
+    record: Option<K>,
     console: B,
     out: &mut W,
     err: &mut Watched<E>,
@@ -451,6 +508,7 @@ where
     W: Write,
     E: Write,
     G: Write + Send + Drop,
+    K: Write + Send + Drop,
 {
     if !can_keep(&setup.config) {
         let fault = ConfigFault {
@@ -467,9 +525,16 @@ where
         Ok(sockets) => sockets,
         Err(fault) => return end_unbound(err, fault),
     };
+    let record = match begin_record(alloc, record, &setup.config) {
+        Ok(record) => record,
+        Err(error) => {
+            remove_files(rt, setup.sockets.as_slice());
+            return end_unrecorded(err, &error);
+        }
+    };
     let blank = Blank::new(PARTS);
-    match run::<Brand, R, B, W, G>(
-        rt, alloc, setup, blank, workers, &peers, &sockets, console, out, log,
+    match run::<Brand, R, B, W, G, K>(
+        rt, alloc, setup, blank, workers, &peers, &sockets, console, out, log, record,
     ) {
         Ok(()) => 0,
         Err(_) => {

@@ -123,7 +123,17 @@ where
 {
     let mut out = Vec::new(alloc);
     let mut err = Watched::new(Vec::new(alloc));
-    let status = serve(rt, alloc, setup, 2, console, &mut out, &mut err, log);
+    let status = serve(
+        rt,
+        alloc,
+        setup,
+        2,
+        None::<Vec<u8>>,
+        console,
+        &mut out,
+        &mut err,
+        log,
+    );
     Ran {
         status,
         out,
@@ -141,6 +151,39 @@ pub fn served<R: Threads + Wait + Clock + Net + Files + Sync>(
     logged(rt, alloc, setup, console, Vec::new(alloc))
 }
 
+/// Runs the daemon of a set-up over this console, and records what it does.
+pub fn recorded<R, K>(
+    rt: &R,
+    alloc: Global,
+    setup: &Setup,
+    record: K,
+    console: BufReader<UnixStream>,
+) -> Ran
+where
+    R: Threads + Wait + Clock + Net + Files + Sync,
+    K: Write + Send + Drop,
+{
+    let mut out = Vec::new(alloc);
+    let mut err = Watched::new(Vec::new(alloc));
+    let log = Vec::new(alloc);
+    let status = serve(
+        rt,
+        alloc,
+        setup,
+        2,
+        Some(record),
+        console,
+        &mut out,
+        &mut err,
+        log,
+    );
+    Ran {
+        status,
+        out,
+        err: err.device,
+    }
+}
+
 /// Runs the daemon of a set-up over this console, which is also where it answers.
 pub fn answering<R: Threads + Wait + Clock + Net + Files + Sync>(
     rt: &R,
@@ -156,6 +199,7 @@ pub fn answering<R: Threads + Wait + Clock + Net + Files + Sync>(
         alloc,
         setup,
         2,
+        None::<Vec<u8>>,
         console,
         &mut out,
         &mut err,

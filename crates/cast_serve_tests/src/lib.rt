@@ -4,7 +4,7 @@
 //! and `workers` test the shared table: exact counts, no decoding or sending under the lock, and
 //! trims. `wires` tests datagrams over a wire that fails. `daemon`, `programs`, `operator`, `site`,
 //! `faulty` and `sockets` test a running daemon: programs, including ones that misbehave or crash,
-//! the console, and another site.
+//! the console, and another site. `records` tests that what it records replays.
 #![tactic(auto)]
 
 #[cfg(test)]
@@ -21,6 +21,8 @@ mod gates;
 mod operator;
 #[cfg(test)]
 mod programs;
+#[cfg(test)]
+mod records;
 #[cfg(test)]
 mod rows;
 #[cfg(test)]

@@ -4,7 +4,7 @@ use cast_device::Watched;
 use cast_message::Push;
 use cast_session::read_push;
 use std::alloc::Global;
-use std::io::{BufReader, Write};
+use std::io::{BufReader, Read, Write};
 use std::net::{Net, Shutdown, UdpSocket};
 use std::os::unix::net::UnixStream;
 use std::rt::Clock;
@@ -21,6 +21,9 @@ const NUMBERED: u8 = 100;
 
 // How often it does so. A daemon in which two threads take the entries of one session at once mixes them up only now and then.
 const ROUNDS: u32 = 20;
+
+// How many casts a program makes whose daemon records them.
+const RECORDED: u32 = 300;
 
 // How many casts a program writes that takes no answer.
 const FLOOD: u32 = 2_000;
@@ -236,6 +239,19 @@ pub fn flood<R: Net + Clock>(rt: &R, alloc: Global, path: &str) -> io::Result<Pr
     }
     program.say(&bytes)?;
     Ok(program)
+}
+
+/// A program joins, casts three hundred times, and writes no more. Answers the bytes of what it is pushed after the view, up to the end.
+pub fn hear_to_the_end<R: Net + Clock>(rt: &R, alloc: Global, path: &str) -> io::Result<Vec<u8>> {
+    let mut program = Program::new(rt, alloc, path)?;
+    program.join(&mut Vec::new(alloc))?;
+    for _ in 0..RECORDED {
+        program.say(&CAST)?;
+    }
+    program.stream.shutdown(Shutdown::Write)?;
+    let mut heard = Vec::new(alloc);
+    let _ = program.reader.device.read_to_end(&mut heard)?;
+    Ok(heard)
 }
 
 // How often a letter stands in these.

@@ -7,31 +7,56 @@
 
 use cast_arguments::{Asked, read_command_line};
 use cast_device::Watched;
-use cast_replay::{no_memory, replay_file};
-use cast_serve::serve_file;
+use cast_replay::{Part, no_memory, replay_part};
+use cast_serve::{Folder, serve_file};
+use std::alloc::AllocError;
 use std::process::ExitCode;
+use std::rt::Files;
+
+// The folder of this name, in which the daemon of a site is to be recorded, if one is named.
+fn folder_of<'a, R: Files + AllocGlobal>(
+    rt: &'a R,
+    name: Option<String>,
+    site: u16,
+) -> Result<Option<Folder<'a, R>>, AllocError> {
+    match name {
+        Some(name) => Ok(Some(Folder::new(rt, rt.alloc(), name.as_str(), site)?)),
+        None => Ok(None),
+    }
+}
 
 fn main(rt: HostRuntime) -> ExitCode {
     let mut out = Watched::new(rt.stdout());
     let mut err = Watched::new(rt.stderr());
     ExitCode::from(match read_command_line(&rt) {
-        Ok(Asked::Replay(file)) => replay_file(&rt, &file, &mut out, &mut err),
+        Ok(
+            Asked::Replay {
+                name,
+                until,
+                domain,
+            },
+        ) => replay_part(&rt, &name, Part { until, domain }, &mut out, &mut err),
         Ok(
             Asked::Serve {
                 config,
                 site,
                 workers,
+                record,
             },
-        ) => serve_file(
-            &rt,
-            &config,
-            site,
-            workers,
-            rt.reader(),
-            &mut out.device,
-            &mut err,
-            rt.stderr(),
-        ),
+        ) => match folder_of(&rt, record, site.0) {
+            Ok(folder) => serve_file(
+                &rt,
+                &config,
+                site,
+                workers,
+                folder,
+                rt.reader(),
+                &mut out.device,
+                &mut err,
+                rt.stderr(),
+            ),
+            Err(_) => no_memory(&mut err),
+        },
         Ok(Asked::Ended(status)) => status,
         Err(_) => no_memory(&mut err),
     })
