@@ -33,6 +33,11 @@ pub enum Asked {
         workers: u8,
         record: Option<String>,
     },
+    /// To say what the daemon of a site would serve by the configuration in the file of this name.
+    Check {
+        config: String,
+        site: SiteNo,
+    },
     /// For no more than was printed: the program ends with this status, 0 where help or the version was asked for and 2 where
     /// something is not understood.
     Ended(u8),
@@ -46,6 +51,7 @@ fn command<'a>(alloc: Global) -> Result<Command<'a>, clap::Error> {
             .version(VERSION)
             .subcommand_required(true)
             .subcommand(serve_command(alloc)?)?
+            .subcommand(check_command(alloc)?)?
             .subcommand(replay_command(alloc)?)?,
     )
 }
@@ -84,6 +90,16 @@ fn serve_command<'a>(alloc: Global) -> Result<Command<'a>, clap::Error> {
             .arg(site_argument(alloc))?
             .arg(workers_argument(alloc))?
             .arg(record_argument(alloc))?,
+    )
+}
+
+// The words of `check`.
+fn check_command<'a>(alloc: Global) -> Result<Command<'a>, clap::Error> {
+    Ok(
+        Command::new(alloc, "check")
+            .about("Says what the daemon of a site would serve")
+            .arg(config_argument(alloc))?
+            .arg(site_argument(alloc))?,
     )
 }
 
@@ -135,7 +151,21 @@ fn what_is_asked(alloc: Global, matches: &ArgMatches<'_>) -> Result<Option<Asked
     if name == "replay" {
         return replay_arguments(alloc, inner);
     }
+    if name == "check" {
+        return check_arguments(alloc, inner);
+    }
     serve_arguments(alloc, inner)
+}
+
+// What `check` was asked for.
+fn check_arguments(alloc: Global, inner: &ArgMatches<'_>) -> Result<Option<Asked>, AllocError> {
+    let (Some(config), Some(site)) = (inner.get_str("CONFIG"), inner.get_one::<u16>("site")) else {
+        return Ok(None);
+    };
+    Ok(Some(Asked::Check {
+        config: String::from_str(alloc, config)?,
+        site: SiteNo(site),
+    }))
 }
 
 // What `replay` was asked for.

@@ -10,8 +10,9 @@ use Rattle.cast_pool.specs.Served.{IsDone, IsLeft}
 use Rattle.cast_console.specs.declared.line.Line.{Line}
 use Rattle.cast_console.specs.declared.line.Line.TheVariants as line
 use Rattle.cast_console.specs.declared.line.LineFault.{LineFault}
+use Rattle.cast_console.specs.declared.told.Told.{Told}
 use Rattle.cast_console.specs.Lines.{fault_number}
-use Rattle.cast_console.specs.Texts.{domains_text, group_lines, outcome_text, show_text, trace_text}
+use Rattle.cast_console.specs.Texts.{datagrams_text, domains_text, group_lines, outcome_text, record_text, show_text, trace_text}
 
 -- the event that a line asks for
 abbrev pub event_of : Line → Option Event
@@ -21,6 +22,8 @@ event_of (line.Groups d) = None
 event_of (line.Suspect d s) = Some (event.Suspect d s)
 event_of (line.Quota d name value) = Some (event.Quota d name value)
 event_of line.Trace = None
+event_of line.Datagrams = None
+event_of line.Record = None
 event_of line.Stop = None
 
 -- the same, where a line is one
@@ -34,20 +37,22 @@ abbrev pub done_text : Option Done → List ℕ
 done_text None = []
 done_text (Some d) = outcome_text d.outcome
 
--- what a line shows of a kept table, or of what came of its event
-abbrev pub line_text : Line → Seen → Option Done → List ℕ
-line_text line.Domains s came = domains_text s.table
-line_text (line.Show d) s came = show_text d s.table
-line_text (line.Groups d) s came = group_lines d s.table
-line_text (line.Suspect d site) s came = done_text came
-line_text (line.Quota d name value) s came = done_text came
-line_text line.Trace s came = trace_text s
-line_text line.Stop s came = codes "ok"
+-- what a line shows of a kept table, of what the daemon tells beside it, or of what came of its event
+abbrev pub line_text : Line → Told → Seen → Option Done → List ℕ
+line_text line.Domains t s came = domains_text s.table
+line_text (line.Show d) t s came = show_text d s.table
+line_text (line.Groups d) t s came = group_lines d s.table
+line_text (line.Suspect d site) t s came = done_text came
+line_text (line.Quota d name value) t s came = done_text came
+line_text line.Trace t s came = trace_text s
+line_text line.Datagrams t s came = datagrams_text t.datagrams
+line_text line.Record t s came = record_text t.record
+line_text line.Stop t s came = codes "ok"
 
 -- the same, and why a line is none
-abbrev pub answer_text : Result Line LineFault → Seen → Option Done → List ℕ
-answer_text (Ok l) s came = line_text l s came
-answer_text (Err fault) s came = codes "fault " ++ decimal (fault_number fault)
+abbrev pub answer_text : Result Line LineFault → Told → Seen → Option Done → List ℕ
+answer_text (Ok l) t s came = line_text l t s came
+answer_text (Err fault) t s came = codes "fault " ++ decimal (fault_number fault)
 
 -- What came of the event
 

@@ -15,6 +15,9 @@ use Rattle.cast_domain.specs.declared.show.Shown.{Shown}
 use Rattle.cast_domain.specs.declared.show.GroupShown.{GroupShown}
 use Rattle.cast_table.specs.declared.table.Table.{Table}
 use Rattle.cast_table.specs.Shows.{groups_at, shown_at}
+use Rattle.cast_console.specs.declared.told.Datagrams.{Datagrams}
+use Rattle.cast_console.specs.declared.told.Recording.{Recording}
+use Rattle.cast_console.specs.declared.told.Recording.TheVariants.{Off, Running, Ended}
 use Rattle.cast_pool.specs.declared.task.Outcome.{Outcome}
 use Rattle.cast_pool.specs.declared.task.Outcome.TheVariants as outcome
 use Rattle.cast_pool.specs.Kept.{Seen, events_of}
@@ -132,3 +135,17 @@ abbrev pub outcome_text : Outcome → List ℕ
 outcome_text (outcome.Answered answer outs) = answered_text answer
 outcome_text (outcome.Shown shown) = codes "ok"
 outcome_text (outcome.Undecoded fault) = codes "ok"
+
+-- What a daemon tells beside its table
+
+-- as in `datagrams sent 1 received 1 lost 0 undecoded 0`
+abbrev pub datagrams_text : Datagrams → List ℕ
+datagrams_text d =
+    codes "datagrams sent " ++ (decimal d.sent
+    ++ (codes " received " ++ (decimal d.received ++ (codes " lost " ++ (decimal d.lost ++ (codes " undecoded " ++ decimal d.undecoded))))))
+
+-- as in `record running waiting 0 lost 0`
+abbrev pub record_text : Recording → List ℕ
+record_text Off = codes "record off"
+record_text (Running waiting lost) = codes "record running waiting " ++ (decimal waiting ++ (codes " lost " ++ decimal lost))
+record_text Ended = codes "record ended"

@@ -8,7 +8,11 @@ ghost use Rattle.cast_console.specs.Answers.{HandsOn, IsServed, LeavesAll, answe
 
 use crate::line::{Line, LineFault, parse};
 use crate::said::Answer;
-use crate::text::{NO_DOMAIN, begin_line, groups_text, outcome_text, put_domain, shown_text};
+use crate::text::{
+    NO_DOMAIN, begin_line, datagrams_text, groups_text, outcome_text, put_domain, record_text,
+    shown_text,
+};
+use crate::told::Told;
 use cast_events::Event;
 use cast_pool::{Asked, Done, Kept, Raw, Worked, decode};
 use cast_table::Table;
@@ -124,10 +128,11 @@ fn answer_line<L: Ledger>(
     alloc: Global,
     kept: &mut Kept<L>,
     mine: &mut Worked<L>,
+    told: &Told,
     line: Line,
 ) -> Answer
     requires { 0 < mine.old.parts }
-    ensures text { IfOk result.text (λ text. string_bytes text ≡ line_text line kept.old result.done) }
+    ensures text { IfOk result.text (λ text. string_bytes text ≡ line_text line told.now kept.old result.done) }
     ensures done { HandsOn (event_of line) result.done kept.old kept.new mine.old.taken mine.new.taken }
     ensures same { LeavesAll (event_of line) kept.old kept.new mine.old.taken mine.new.taken }
     ensures parts { mine.new.parts ≡ mine.old.parts }
@@ -149,27 +154,30 @@ fn answer_line<L: Ledger>(
             serve_event(alloc, kept, mine, event)
         }
         Line::Trace => text_answer(trace_text(alloc, kept)),
+        Line::Datagrams => text_answer(datagrams_text(alloc, told.datagrams)),
+        Line::Record => text_answer(record_text(alloc, told.record)),
         Line::Stop => text_answer(String::from_str(alloc, "ok")),
     }
 }
 
 /// Answers a line. A line that asks for an event has it served, under the number 0, and what came of it is handed on; any
-/// other, and a text that is no line, changes nothing. The text is that of what the table shows, of the trace, or of what came
-/// of the event.
+/// other, and a text that is no line, changes nothing. The text is that of what the table shows, of the trace, of what the daemon
+/// tells beside these, or of what came of the event.
 pub fn answer<L: Ledger>(
     alloc: Global,
     kept: &mut Kept<L>,
     mine: &mut Worked<L>,
+    told: &Told,
     line: &str,
 ) -> Answer
     requires { 0 < mine.old.parts }
-    ensures text { IfOk result.text (λ text. string_bytes text ≡ answer_text (line_of line.now) kept.old result.done) }
+    ensures text { IfOk result.text (λ text. string_bytes text ≡ answer_text (line_of line.now) told.now kept.old result.done) }
     ensures done { HandsOn (asked_event (line_of line.now)) result.done kept.old kept.new mine.old.taken mine.new.taken }
     ensures same { LeavesAll (asked_event (line_of line.now)) kept.old kept.new mine.old.taken mine.new.taken }
     ensures parts { mine.new.parts ≡ mine.old.parts }
 {
     match parse(line) {
-        Ok(line) => answer_line(alloc, kept, mine, line),
+        Ok(line) => answer_line(alloc, kept, mine, told, line),
         Err(fault) => text_answer(fault_text(alloc, fault)),
     }
 }

@@ -1,7 +1,8 @@
 //! The console: one line in, one answer out.
 //!
 //! Promised: `parse` reads a line exactly, or reports its first fault. The answer says exactly
-//! what the table shows, or what came of the line's event (`answer`). Only an event changes
+//! what the table shows, what the daemon tells beside it, or what came of the line's event
+//! (`answer`). Only an event changes
 //! anything. Not promised: that there is memory for the text.
 #![tactic(auto)]
 
@@ -9,7 +10,9 @@ mod answers;
 mod line;
 mod said;
 mod text;
+mod told;
 
 pub use answers::answer;
 pub use line::{Line, LineFault, parse};
 pub use said::Answer;
+pub use told::{Datagrams, Recording, Told};

@@ -23,6 +23,10 @@ pub enum Line {
     Quota(DomainNo, QuotaName, u32),
     /// How many events were taken, and how many of them are in the trace.
     Trace,
+    /// How many datagrams were sent and received.
+    Datagrams,
+    /// How far the record is.
+    Record,
     /// The program is to end.
     Stop,
 }
@@ -76,6 +80,8 @@ pub(crate) enum Head {
     Suspect,
     Quota,
     Trace,
+    Datagrams,
+    Record,
     Stop,
 }
 
@@ -90,6 +96,8 @@ fn head_of(word: &str) -> Result<Head, LineFault>
         "suspect" => Ok(Head::Suspect),
         "quota" => Ok(Head::Quota),
         "trace" => Ok(Head::Trace),
+        "datagrams" => Ok(Head::Datagrams),
+        "record" => Ok(Head::Record),
         "stop" => Ok(Head::Stop),
         _ => Err(LineFault::UnknownWord),
     }
@@ -204,6 +212,8 @@ fn behind(head: Head, rest: Option<&str>) -> Result<Line, LineFault>
         Head::Suspect => suspect(rest),
         Head::Quota => quota(rest),
         Head::Trace => bare(rest, Line::Trace),
+        Head::Datagrams => bare(rest, Line::Datagrams),
+        Head::Record => bare(rest, Line::Record),
         Head::Stop => bare(rest, Line::Stop),
     }
 }

@@ -1,8 +1,9 @@
 ghost use Rattle.std.specs.Prelude.{◌≡◌, ◌++◌, IfOk, OnOk};
 ghost use Rattle.std.specs.List.{flat_map};
 ghost use Rattle.std.specs.String.{string_bytes};
-ghost use Rattle.cast_console.specs.Texts.{answered_text, domain_line, frozen_text, group_line, groups_text, line_begun, member_text, outcome_text, proc_text, shown_text, state_text, view_text};
+ghost use Rattle.cast_console.specs.Texts.{answered_text, datagrams_text, domain_line, frozen_text, group_line, groups_text, line_begun, member_text, outcome_text, proc_text, record_text, shown_text, state_text, view_text};
 
+use crate::told::{Datagrams, Recording};
 use cast_events::{Fault, Taken};
 use cast_pool::Outcome;
 use cast_table::{GroupShown, Shown};
@@ -140,6 +141,32 @@ pub fn outcome_text(alloc: Global, outcome: &Outcome) -> Result<String, NoMemory
     match outcome {
         Outcome::Answered(answer, _) => answered_text(alloc, answer),
         Outcome::Shown(_) | Outcome::Undecoded(_) => String::from_str(alloc, "ok"),
+    }
+}
+
+/// `datagrams sent N received N lost N undecoded N`
+pub fn datagrams_text(alloc: Global, datagrams: Datagrams) -> Result<String, NoMemory>
+    ensures { IfOk result (λ text. string_bytes text ≡ datagrams_text datagrams) }
+{
+    let Datagrams {
+        sent,
+        received,
+        lost,
+        undecoded,
+    } = datagrams;
+    format!(in alloc; "datagrams sent {sent} received {received} lost {lost} undecoded {undecoded}")
+}
+
+/// `record off`, `record running waiting N lost N` or `record ended`
+pub fn record_text(alloc: Global, recording: Recording) -> Result<String, NoMemory>
+    ensures { IfOk result (λ text. string_bytes text ≡ record_text recording) }
+{
+    match recording {
+        Recording::Off => String::from_str(alloc, "record off"),
+        Recording::Running { waiting, lost } => {
+            format!(in alloc; "record running waiting {waiting} lost {lost}")
+        }
+        Recording::Ended => String::from_str(alloc, "record ended"),
     }
 }
 

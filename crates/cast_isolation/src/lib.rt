@@ -7,6 +7,8 @@
 
 pub mod laws;
 pub mod replays;
+mod watch;
 
 pub use cast_events::{Config, DomainConfig, Event, Fault, Given, Log, Quotas, Taken};
-pub use replays::replay;
+pub use replays::{replay, replay_watched};
+pub use watch::{Unwatched, Watch};

@@ -4,6 +4,7 @@ ghost use Rattle.cast_domain.specs.Records.{number_of};
 ghost use Rattle.cast_table.specs.Tables.{AreApplied, domain_eq, domains_of, picked, without, InTable};
 ghost use Rattle.cast_isolation.specs.Replays.{AddsEntry, AnswersNoDomain, by_session, frames_of, given_of, lacks_memory, of_domain, untagged, SaysReplay};
 
+use crate::watch::{Unwatched, Watch};
 use cast_domain::Domain;
 use cast_events::{Config, Event, Fault, Given, Log, Outs, Taken};
 use cast_message::{Push, SiteFrame};
@@ -19,30 +20,47 @@ pub fn replay(alloc: Global, config: Config, events: &[Event]) -> Result<Log, No
     ensures replayed { IfOk result (SaysReplay config events.now) }
     ensures no_domain { IfOk result (λ log. AnswersNoDomain config events.now log) }
 {
+    replay_watched(alloc, config, events, &mut Unwatched)
+}
+
+/// As `replay`, and tells how far it is.
+pub fn replay_watched<P: Watch>(
+    alloc: Global,
+    config: Config,
+    events: &[Event],
+    watch: &mut P,
+) -> Result<Log, NoMemory>
+    ensures all { IfOk result (λ log. length log.answers ≡ length events.now) }
+    ensures replayed { IfOk result (SaysReplay config events.now) }
+    ensures no_domain { IfOk result (λ log. AnswersNoDomain config events.now log) }
+{
     let mut table = Table::new(alloc, &config)?;
     let mut outs = Outs::new(alloc);
-    let answers = apply_each(alloc, &mut table, events, &mut outs)?;
+    let answers = apply_each(alloc, &mut table, events, &mut outs, watch)?;
     let given = given_by_all(alloc, &config, table, &outs)?;
     Ok(Log { answers, given })
 }
 
 // Applies events one after another, and gathers the answers. `NoMemory` where an event finds no memory to begin with, or
 // the answers have no room.
-fn apply_each(
+fn apply_each<P: Watch>(
     alloc: Global,
     table: &mut Table,
     events: &[Event],
     outs: &mut Outs,
+    watch: &mut P,
 ) -> Result<List<Result<Taken, Fault>>, NoMemory>
     ensures { IfOk result (λ all. InTable (AreApplied all events.now) table.old outs.old table.new outs.new) }
 {
     let mut answers = List::new(alloc);
+    watch.begin(events.len());
     for event in events {
         let answer = table.apply(event, outs);
         if lacks_memory(&answer) {
             return Err(AllocError);
         }
         answers.push(answer)?;
+        watch.applied();
     }
     Ok(answers)
 }

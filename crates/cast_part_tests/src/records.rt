@@ -50,7 +50,7 @@ fn config(alloc: Global) -> Result<Config, AllocError> {
 // Whether an event is printed so.
 fn prints(alloc: Global, event: Event, line: &str) -> Result<bool, AllocError> {
     let mut text = String::new(alloc);
-    add_event(alloc, &mut text, &event)?;
+    add_event(alloc, &mut text, &mut String::new(alloc), &event)?;
     Ok(text.as_str() == line)
 }
 

@@ -1,5 +1,5 @@
 -- One more that is answered.
-use Rattle.std.proofs.Common.{List, [], ◌∷◌, ◌++◌, Option, Some, None, ap, ◌∙◌, append_assoc, sym}
+use Rattle.std.proofs.Common.{Bool, List, [], ◌∷◌, ◌++◌, Option, Some, None, ap, ◌∙◌, append_assoc, sym}
 use Rattle.std.proofs.lemmas.List.{append-nil}
 use Rattle.std.specs.List.{AllZip}
 use Rattle.cast_pool.specs.declared.kept.Done.{Done}
@@ -22,17 +22,17 @@ zip_push R [] (w ∷ ys) x y all one = absurd all
 zip_push R (v ∷ xs) [] x y all one = absurd all
 zip_push R (v ∷ xs) (w ∷ ys) x y all one = (all.0, zip_push R xs ys x y all.1 one)
 
-pub answered_none : (taken : Option (List Raw)) (sent : Option (List Done)) → HasAnswered taken taken sent sent
-answered_none taken sent = record { raws = []; dones = []; takes = adds_nothing taken; sends = adds_nothing sent; answers = tt }
+pub answered_none : (may_trim : Bool) (taken : Option (List Raw)) (sent : Option (List Done)) → HasAnswered may_trim taken taken sent sent
+answered_none may_trim taken sent = record { raws = []; dones = []; takes = adds_nothing taken; sends = adds_nothing sent; answers = tt }
 
 -- one more is taken, and then what came of it is sent
-pub answered_one : (a b c c' : Option (List Raw)) (d e f f' : Option (List Done)) (raw : Raw) (done : Done)
-    → HasAnswered a b d e → Adds b c (raw ∷ []) → Adds e f [] → Answers raw done → Adds f f' (done ∷ []) → Adds c c' [] → HasAnswered a c' d f'
-answered_one a b c c' d e f f' raw done h takes quiet answers sends still =
+pub answered_one : (may_trim : Bool) (a b c c' : Option (List Raw)) (d e f f' : Option (List Done)) (raw : Raw) (done : Done)
+    → HasAnswered may_trim a b d e → Adds b c (raw ∷ []) → Adds e f [] → Answers may_trim raw done → Adds f f' (done ∷ []) → Adds c c' [] → HasAnswered may_trim a c' d f'
+answered_one may_trim a b c c' d e f f' raw done h takes quiet answers sends still =
     record {
       raws = h.raws ++ raw ∷ [];
       dones = h.dones ++ done ∷ [];
       takes = adds_more a b c' h.raws (raw ∷ []) h.takes (adds_more b c c' (raw ∷ []) [] takes still);
       sends = adds_more d e f' h.dones (done ∷ []) h.sends (adds_more e f f' [] (done ∷ []) quiet sends);
-      answers = zip_push Answers h.raws h.dones raw done h.answers answers;
+      answers = zip_push (Answers may_trim) h.raws h.dones raw done h.answers answers;
     }

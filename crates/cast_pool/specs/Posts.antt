@@ -1,5 +1,5 @@
 -- What a worker takes and sends.
-use Rattle.std.specs.Prelude.{◌≡◌, ℕ, List, ◌++◌, ⊤, Option, Some, None}
+use Rattle.std.specs.Prelude.{◌≡◌, ℕ, Bool, List, ◌++◌, ⊤, Option, Some, None}
 use Rattle.std.specs.List.{AllZip}
 use Rattle.cast_pool.specs.declared.kept.Done.{Done}
 use Rattle.cast_pool.specs.declared.task.Raw.{Raw}
@@ -12,16 +12,16 @@ Adds (Some old) None xs = ⊥
 Adds (Some old) (Some new) xs = new ≡ old ++ xs
 
 -- this came of what was asked, and bears its number; its worker had taken some number of events
-pub record Answers (raw : Raw) (done : Done) : Type 0 where
+pub record Answers (may_trim : Bool) (raw : Raw) (done : Done) : Type 0 where
   pub number : done.number ≡ raw.number
   pub was : ℕ
   pub now : ℕ
-  pub answered : IsAnswered raw.asked done.outcome was now
+  pub answered : IsAnswered raw.asked may_trim done.outcome was now
 
 -- these were taken, and what came of each was sent, in the same order
-pub record HasAnswered (taken taken_now : Option (List Raw)) (sent sent_now : Option (List Done)) : Type 0 where
+pub record HasAnswered (may_trim : Bool) (taken taken_now : Option (List Raw)) (sent sent_now : Option (List Done)) : Type 0 where
   pub raws : List Raw
   pub dones : List Done
   pub takes : Adds taken taken_now raws
   pub sends : Adds sent sent_now dones
-  pub answers : AllZip Answers raws dones
+  pub answers : AllZip (Answers may_trim) raws dones

@@ -80,14 +80,14 @@ IsDone (Show d) (Answered answer outs) old new was now = ⊥
 IsDone (Show d) (Shown shown) old new was now = (shown ≡ shown_at d old.table) × IsLeft old new was now
 IsDone (Show d) (Undecoded fault) old new was now = ⊥
 
--- a job is done, and then the trace may have been trimmed, where that halted a domain
-pub record Completes (task : Task) (outcome : Outcome) (old : Seen) (new : Seen) (was : ℕ) (now : ℕ) : Type 0 where
+-- a job is done, and then the trace may have been trimmed, if that may be, where that halted a domain
+pub record Completes (task : Task) (may_trim : Bool) (outcome : Outcome) (old : Seen) (new : Seen) (was : ℕ) (now : ℕ) : Type 0 where
   pub between : Seen
   pub done : IsDone task outcome old between was now
-  pub trimmed : IsTrimmedOr (halts outcome) between new
+  pub trimmed : IsTrimmedOr (if may_trim then halts outcome else false) between new
 
 -- this came of what was asked: a job of it left one kept table another, or its bytes are no frame and nothing was taken
-abbrev pub IsAnswered : Asked → Outcome → ℕ → ℕ → Type 0
-IsAnswered asked outcome was now =
-    ((task : Task) × (old : Seen) × (new : Seen) × (task_of asked ≡ Ok task) × Completes task outcome old new was now)
+abbrev pub IsAnswered : Asked → Bool → Outcome → ℕ → ℕ → Type 0
+IsAnswered asked may_trim outcome was now =
+    ((task : Task) × (old : Seen) × (new : Seen) × (task_of asked ≡ Ok task) × Completes task may_trim outcome old new was now)
     ⊎ (IsUndecoded asked outcome × (now ≡ was))

@@ -38,7 +38,6 @@ pub struct Kept<L: Ledger> {
     table: Table,
     trail: Trail,
     book: Book<L>,
-    is_recorded: bool,
 }
 
 impl<L: Ledger> Model for Kept<L> {
@@ -215,7 +214,6 @@ impl<L: Ledger> Kept<L> {
             table,
             trail,
             book,
-            is_recorded: false,
         };
         Ok((
             kept,
@@ -317,46 +315,44 @@ impl<L: Ledger> Kept<L> {
         ensures ok { OnOk result (IsTrimmed self.old self.new) }
         ensures err { OnErr result (self.new ≡ self.old) }
     {
-        let _ = self.cut()?;
+        let base = self.table.copy()?;
+        self.trail.trim(base);
         Ok(())
     }
 
-    /// As `trim`, and hands on the events that the trace had, in their order. `NoMemory` changes nothing.
-    pub fn cut(&mut self) -> Result<Vec<Entry>, NoMemory>
+    /// As `trim`, and hands on the events that the trace had, in their order. The trace goes on in the room that is given for it.
+    /// `NoMemory` changes nothing.
+    pub fn cut(&mut self, room: Vec<Entry>) -> Result<Vec<Entry>, NoMemory>
+        requires { room.items ≡ [] }
         ensures ok { IfOk result (λ entries. IsTrimmed self.old self.new × (entries.items ≡ self.old.trace)) }
         ensures err { OnErr result (self.new ≡ self.old) }
     {
         let base = self.table.copy()?;
-        Ok(self.trail.cut(self.alloc, base))
-    }
-
-    /// From now on the trace is recorded: whoever records it cuts it, and `let_go` changes nothing, so that no event is lost.
-    pub fn record(&mut self)
-        ensures { self.new ≡ self.old }
-    {
-        self.is_recorded = true;
+        Ok(self.trail.cut(room, base))
     }
 
     /// Lets go of what a domain kept, where the job halted one: trims the trace, since its base and its events hold that too. Where
-    /// memory is refused, nothing is changed, and it goes when the trace is trimmed next. Nothing is changed either where the trace
-    /// is recorded: then it goes when the trace is cut.
+    /// memory is refused, nothing is changed, and it goes when the trace is trimmed next.
     pub fn let_go(&mut self, done: &Done)
         ensures { IsTrimmedOr (halts done.now.outcome) self.old self.new }
     {
-        if done.outcome.halts() && !self.is_recorded {
+        if done.outcome.halts() {
             let _ = self.trim();
         }
     }
 
-    /// Does a job, as `serve_one` does, and then lets go of what a domain kept that it halted, as `let_go` does.
-    pub fn complete(&mut self, mine: &mut Worked<L>, job: Job) -> Done
+    /// Does a job, as `serve_one` does, and then, if that may be, lets go of what a domain kept that it halted, as `let_go` does. Whoever
+    /// records the events lets go by cutting the trace: a trim would lose them.
+    pub fn complete(&mut self, mine: &mut Worked<L>, job: Job, may_trim: bool) -> Done
         requires { 0 < mine.old.parts }
         ensures number { result.number ≡ job.number }
-        ensures done { Completes job.task result.outcome self.old self.new mine.old.taken mine.new.taken }
+        ensures done { Completes job.task may_trim result.outcome self.old self.new mine.old.taken mine.new.taken }
         ensures parts { mine.new.parts ≡ mine.old.parts }
     {
         let done = self.serve_one(mine, job);
-        self.let_go(&done);
+        if may_trim {
+            self.let_go(&done);
+        }
         done
     }
 

@@ -132,9 +132,10 @@ impl Trail {
         self.entries.clear();
     }
 
-    /// As `trim`, and hands on the events that the trace had.
-    pub(crate) fn cut(&mut self, alloc: Global, base: Table) -> Vec<Entry>
-        requires { self.old.count + length self.old.entries.items < 2 ^ 64 }
+    /// As `trim`, and hands on the events that the trace had. Its next events go into this room.
+    pub(crate) fn cut(&mut self, room: Vec<Entry>, base: Table) -> Vec<Entry>
+        requires few { self.old.count + length self.old.entries.items < 2 ^ 64 }
+        requires room { room.items ≡ [] }
         ensures entries { result.items ≡ self.old.entries.items }
         ensures base { self.new.base ≡ base }
         ensures items { self.new.entries.items ≡ [] }
@@ -142,6 +143,6 @@ impl Trail {
     {
         self.count += self.entries.len() as u64;
         self.base = base;
-        mem::replace(&mut self.entries, Vec::new(alloc))
+        mem::replace(&mut self.entries, room)
     }
 }

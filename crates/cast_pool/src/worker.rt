@@ -35,19 +35,20 @@ impl Gate for Open {
 }
 
 /// Does what is asked until nothing more can be, sends what came of each, and gives the worker's share of the count back. The lock is
-/// held for `Kept::complete` alone.
+/// held for `Kept::complete` alone, which may trim the trace if that is said here.
 pub fn work<L: Ledger, R: Wait, P: Post, G: Gate>(
     rt: &R,
     alloc: Global,
     kept: &Mutex<Kept<L>>,
     mine: Worked<L>,
+    may_trim: bool,
     post: &mut P,
     gate: &G,
 ) -> Worked<L>
     requires { 0 < mine.parts }
     ensures parts { result.parts ≡ mine.parts }
     // For each that was taken one was sent, in the same order: what came of it, under its number.
-    ensures answered { HasAnswered (P.taken post.old) (P.taken post.new) (P.sent post.old) (P.sent post.new) }
+    ensures answered { HasAnswered may_trim (P.taken post.old) (P.taken post.new) (P.sent post.old) (P.sent post.new) }
     ensures over { P.is_over post.new }
 {
     let mut mine = mine;
@@ -56,7 +57,7 @@ pub fn work<L: Ledger, R: Wait, P: Post, G: Gate>(
             break;
         };
         let number = raw.number;
-        let done = answer(rt, alloc, kept, &mut mine, raw, gate);
+        let done = answer(rt, alloc, kept, &mut mine, raw, may_trim, gate);
         post.send(done);
         gate.done(number);
     }
@@ -70,18 +71,19 @@ fn answer<L: Ledger, R: Wait, G: Gate>(
     kept: &Mutex<Kept<L>>,
     mine: &mut Worked<L>,
     raw: Raw,
+    may_trim: bool,
     gate: &G,
 ) -> Done
     requires { 0 < mine.old.parts }
     ensures number { result.number ≡ raw.number }
-    ensures answered { IsAnswered raw.asked result.outcome mine.old.taken mine.new.taken }
+    ensures answered { IsAnswered raw.asked may_trim result.outcome mine.old.taken mine.new.taken }
     ensures parts { mine.new.parts ≡ mine.old.parts }
 {
     let number = raw.number;
     match decode(alloc, raw) {
         Ok(job) => {
             gate.decoded(number);
-            let done = kept.lock(rt).complete(mine, job);
+            let done = kept.lock(rt).complete(mine, job, may_trim);
             gate.served(number);
             done
         }

@@ -1,6 +1,7 @@
 ghost use Rattle.std.specs.Prelude.{◌≡◌, ◌++◌, IfOk, OnOk, codes};
 ghost use Rattle.std.specs.List.{flat_map};
 ghost use Rattle.std.specs.String.{string_bytes};
+ghost use Rattle.hex.specs.Hex.{encode_lower};
 ghost use Rattle.cast_print.specs.Texts.{answer_line, frame_line, given_text, halted_text, kind_text, log_text, member_text, members_text, numbered, payload_text, proc_text, push_line, push_text, session_text, uid_text};
 
 use cast_events::{Fault, Given, Log, Taken};
@@ -8,6 +9,9 @@ use cast_frame::encode_site;
 use cast_message::{CastKind, Membership, Push, SiteFrame};
 use cast_types::{DomainNo, List, NoMemory, Proc, Refusal, SiteNo, Uid};
 use std::alloc::Global;
+
+// So many bytes are made digits at once.
+const PART: usize = 256;
 
 /// The text of a log at a site: the refused events, and then for each domain its pushes, its frames and whether it
 /// was halted.
@@ -221,8 +225,22 @@ pub fn print_payload(alloc: Global, text: &mut String, bytes: &[u8]) -> Result<(
     if bytes.is_empty() {
         text.push_str("-")
     } else {
-        text.push_str(hex::encode(alloc, bytes)?.as_str())
+        print_bytes(alloc, text, bytes)
     }
+}
+
+/// Adds bytes in lower-case hexadecimal. Little memory is taken at a time, which allocators keep for each thread: threads that print much
+/// do not wait for each other then.
+pub fn print_bytes(alloc: Global, text: &mut String, bytes: &[u8]) -> Result<(), NoMemory>
+    ensures { OnOk result (string_bytes text.new ≡ string_bytes text.old ++ encode_lower bytes.now) }
+{
+    let mut rest = bytes;
+    while !rest.is_empty() {
+        let (part, behind) = rest.split_at(rest.len().min(PART));
+        text.push_str(hex::encode(alloc, part)?.as_str())?;
+        rest = behind;
+    }
+    Ok(())
 }
 
 // A line for each frame that was sent.
@@ -254,9 +272,8 @@ fn print_frame(
     let number = domain.0;
     let to = receiver.0;
     let bytes = encode_site(alloc, domain, site, frame)?;
-    let digits = hex::encode(alloc, bytes.as_slice())?;
     write!(text, "send {number} {to} ")?;
-    text.push_str(digits.as_str())?;
+    print_bytes(alloc, text, bytes.as_slice())?;
     text.push_str("\n")
 }
 

@@ -1,7 +1,7 @@
 //! A script of five thousand events. Its rounds are alike, and so is what has to be printed of each.
 
 use cast_device::Watched;
-use cast_replay::run_script;
+use cast_replay::{Unwatched, run_script};
 use std::alloc::Global;
 use std::io::{self, Write};
 
@@ -74,7 +74,14 @@ pub fn replay_long<R: Print + AllocGlobal>(rt: &R) -> io::Result<()> {
     let script = script(rt.alloc())?;
     let mut log = Watched::new(Vec::new(rt.alloc()));
     let mut told = Watched::new(Vec::new(rt.alloc()));
-    let status = run_script(rt.alloc(), "long.script", &script, &mut log, &mut told);
+    let status = run_script(
+        rt.alloc(),
+        "long.script",
+        &script,
+        &mut Unwatched,
+        &mut log,
+        &mut told,
+    );
     let lines = script.iter().filter(|byte| **byte == b'\n').count();
     let is_same = log.device == printed(rt.alloc())?;
     println!(rt; "long.script: {lines} lines, status {status}, printed as it has to be: {is_same}")

@@ -9,13 +9,13 @@ mod tenants;
 mod words;
 
 use anyhow::{Result, bail};
-use std::rt::{Env, Files};
+use std::rt::{Clock, Env, Files};
 use std::{env, io};
 
 // Replays the scripts that the arguments name, and makes the other trials.
 fn run<R>(rt: &R) -> Result<()>
 where
-    R: Env + Files + Input + Print + Eprint + AllocGlobal + Clone + Drop,
+    R: Clock + Env + Files + Input + Print + Eprint + AllocGlobal + Clone + Drop,
 {
     let words = env::args(rt)?.collect::<Vec<String>>(rt.alloc())?;
     let [_, names @ ..] = words.as_slice() else {

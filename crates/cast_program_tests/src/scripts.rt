@@ -1,7 +1,7 @@
 //! The worked examples of the whole program.
 
 use cast_device::Watched;
-use cast_replay::run_script;
+use cast_replay::{Unwatched, run_script};
 use std::io::Write;
 use std::rt::Files;
 use std::{fs, io};
@@ -12,7 +12,14 @@ fn replay<R: Files + AllocGlobal, O: Write>(rt: &R, name: &str, out: &mut O) -> 
     let mut log = Watched::new(Vec::new(rt.alloc()));
     let mut told = Watched::new(Vec::new(rt.alloc()));
     writeln!(out, "== {name}")?;
-    let status = run_script(rt.alloc(), name, &bytes, &mut log, &mut told);
+    let status = run_script(
+        rt.alloc(),
+        name,
+        &bytes,
+        &mut Unwatched,
+        &mut log,
+        &mut told,
+    );
     out.write_all(&log.device)?;
     out.write_all(&told.device)?;
     writeln!(out, "status {status}")
@@ -41,7 +48,14 @@ fn replay_closed<R: Files + AllocGlobal, O: Write>(
     let bytes = fs::read(rt, name)?;
     let mut log = Watched::new(Closed);
     let mut told = Watched::new(Closed);
-    let status = run_script(rt.alloc(), name, &bytes, &mut log, &mut told);
+    let status = run_script(
+        rt.alloc(),
+        name,
+        &bytes,
+        &mut Unwatched,
+        &mut log,
+        &mut told,
+    );
     writeln!(out, "status {status} where nothing can be written")
 }
 

@@ -1,7 +1,7 @@
 //! A daemon of sixteen domains prints of each what a daemon prints that serves that domain alone.
 
 use cast_device::Watched;
-use cast_replay::run_script;
+use cast_replay::{Unwatched, run_script};
 use std::alloc::{AllocError, Global};
 use std::io::{self, Write};
 use std::str;
@@ -140,7 +140,14 @@ fn printed(alloc: Global, only: Option<u32>) -> io::Result<Shown> {
     let script = script(alloc, only)?;
     let mut log = Watched::new(Vec::new(alloc));
     let mut told = Watched::new(Vec::new(alloc));
-    let status = run_script(alloc, "tenants.script", &script, &mut log, &mut told);
+    let status = run_script(
+        alloc,
+        "tenants.script",
+        &script,
+        &mut Unwatched,
+        &mut log,
+        &mut told,
+    );
     let mut all = Shown {
         status,
         answers: Vec::new(alloc),

@@ -2,12 +2,12 @@
 
 use cast_arguments::{Asked, read_words};
 use cast_device::Watched;
-use cast_replay::{Part, no_memory, replay_part};
+use cast_replay::{Meter, Part, no_memory, replay_part};
 use std::alloc::{AllocError, Global};
 use std::io::{self, Write};
-use std::rt::Files;
+use std::rt::{Clock, Files};
 
-const LINES: [&str; 16] = [
+const LINES: [&str; 18] = [
     "castd",
     "castd serve",
     "castd replay",
@@ -24,6 +24,8 @@ const LINES: [&str; 16] = [
     "castd serve castd.conf --site 1 --workers 65",
     "castd serve castd.conf --site 65535",
     "castd serve castd.conf --site 1 --record there",
+    "castd check --help",
+    "castd check castd.conf --site 7",
 ];
 
 // The words of a line.
@@ -36,7 +38,7 @@ fn words_of(alloc: Global, line: &str) -> Result<Vec<String>, AllocError> {
 }
 
 // Does what a line asks for.
-fn try_line<R: Files + Print + Eprint + AllocGlobal + Clone + Drop>(
+fn try_line<R: Files + Clock + Print + Eprint + AllocGlobal + Clone + Drop>(
     rt: &R,
     line: &str,
 ) -> io::Result<()> {
@@ -51,7 +53,11 @@ fn try_line<R: Files + Print + Eprint + AllocGlobal + Clone + Drop>(
                 until,
                 domain,
             },
-        ) => replay_part(rt, &name, Part { until, domain }, &mut log, &mut told),
+        ) => {
+            let part = Part { until, domain };
+            let mut meter = Meter::<_, Vec<u8>>::new(rt, None);
+            replay_part(rt, &name, part, &mut meter, &mut log, &mut told)
+        }
         Ok(
             Asked::Serve {
                 config,
@@ -67,6 +73,11 @@ fn try_line<R: Files + Print + Eprint + AllocGlobal + Clone + Drop>(
             }
             0
         }
+        Ok(Asked::Check { config, site }) => {
+            let site = site.0;
+            println!(rt; "check {config} {site}")?;
+            0
+        }
         Ok(Asked::Ended(status)) => status,
         Err(_) => no_memory(&mut told),
     };
@@ -77,7 +88,9 @@ fn try_line<R: Files + Print + Eprint + AllocGlobal + Clone + Drop>(
 }
 
 /// Does what each line asks for.
-pub fn try_all<R: Files + Print + Eprint + AllocGlobal + Clone + Drop>(rt: &R) -> io::Result<()> {
+pub fn try_all<R: Files + Clock + Print + Eprint + AllocGlobal + Clone + Drop>(
+    rt: &R,
+) -> io::Result<()> {
     for line in LINES {
         try_line(rt, line)?;
     }

@@ -8,18 +8,23 @@ ghost use Rattle.cast_events.specs.declared.event.Event.TheVariants as event;
 use cast_events::Event;
 use cast_frame::encode_site;
 use cast_message::{CastKind, Command, Request, SiteFrame};
-use cast_print::{print_payload, print_proc};
+use cast_print::{print_bytes, print_payload, print_proc};
 use cast_quota::QuotaName;
 use cast_types::{DomainNo, NoMemory, SiteNo};
 use std::alloc::Global;
 
-/// Adds the line of an event. `NoMemory` changes nothing.
-pub fn add_event(alloc: Global, text: &mut String, event: &Event) -> Result<(), NoMemory>
+/// Adds the line of an event. `NoMemory` changes nothing. The line is made in a text whose room is kept for the next one.
+pub fn add_event(
+    alloc: Global,
+    text: &mut String,
+    line: &mut String,
+    event: &Event,
+) -> Result<(), NoMemory>
     ensures ok { OnOk result (string_bytes text.new ≡ string_bytes text.old ++ event_text event.now) }
     ensures err { OnErr result (string_bytes text.new ≡ string_bytes text.old) }
 {
-    let mut line = String::new(alloc);
-    put_event(alloc, &mut line, event)?;
+    line.clear();
+    put_event(alloc, line, event)?;
     text.push_str(line.as_str())
 }
 
@@ -126,9 +131,8 @@ fn put_frame(
     ensures { OnOk result (string_bytes text.new ≡ string_bytes text.old ++ event_text (event.Frame domain site frame.now)) }
 {
     let bytes = encode_site(alloc, domain, site, frame)?;
-    let digits = hex::encode(alloc, bytes.as_slice())?;
     text.push_str("frame ")?;
-    text.push_str(digits.as_str())?;
+    print_bytes(alloc, text, bytes.as_slice())?;
     text.push_str("\n")
 }
 

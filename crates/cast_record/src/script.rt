@@ -13,9 +13,10 @@ pub fn print_script(alloc: Global, config: &Config, events: &[Event]) -> Result<
     ensures { IfOk result (λ text. string_bytes text ≡ script_text config.now events.now) }
 {
     let mut text = String::new(alloc);
+    let mut line = String::new(alloc);
     add_head(alloc, &mut text, config)?;
     for event in events {
-        add_event(alloc, &mut text, event)?;
+        add_event(alloc, &mut text, &mut line, event)?;
     }
     Ok(text)
 }

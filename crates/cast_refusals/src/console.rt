@@ -5,7 +5,7 @@ use crate::growths::Pause;
 use crate::sights::is_halted;
 use crate::tenants::script_of;
 use crate::verdict::{Verdict, allowed_if};
-use cast_console::{Answer, answer};
+use cast_console::{Answer, Datagrams, Recording, Told, answer};
 use cast_events::{Event, Fault, Taken};
 use cast_pool::{Asked, Kept, Outcome, Raw, Worked, can_keep, decode};
 use cast_script::Script;
@@ -26,8 +26,19 @@ frame 4344010b010001000100000001
 cast 1 1 8 1 6869
 ";
 
+/// What a daemon tells beside its table that has done nothing.
+pub const TOLD: Told = Told {
+    datagrams: Datagrams {
+        sent: 0,
+        received: 0,
+        lost: 0,
+        undecoded: 0,
+    },
+    record: Recording::Off,
+};
+
 // Lines that change nothing, each with its answer.
-const QUESTIONS: [(&str, &str); 10] = [
+const QUESTIONS: [(&str, &str); 12] = [
     ("domains", "domain 1 running"),
     ("show 1", "domain 1 sessions 1 held 0 casts 1 moment 0"),
     ("groups 1", "group 1 view 1 holder 1.1 members 1.1 open"),
@@ -37,6 +48,11 @@ const QUESTIONS: [(&str, &str); 10] = [
     ("", "fault 1"),
     ("show", "fault 3"),
     ("show x", "fault 4"),
+    (
+        "datagrams",
+        "datagrams sent 0 received 0 lost 0 undecoded 0",
+    ),
+    ("record", "record off"),
     ("stop", "ok"),
 ];
 
@@ -58,7 +74,7 @@ fn ask<L: Ledger>(
     requires { 0 < mine.old.parts }
     ensures { mine.new.parts ≡ mine.old.parts }
 {
-    let Answer { text, done } = answer(alloc, kept, mine, line);
+    let Answer { text, done } = answer(alloc, kept, mine, &TOLD, line);
     if done.is_some() {
         return Verdict::NotAllowed("an event without need");
     }
@@ -120,7 +136,7 @@ fn order<L: Ledger>(
     ensures { mine.new.parts ≡ mine.old.parts }
 {
     let (was_halted, events) = (is_halted(kept.table(), 1), kept.events());
-    let Answer { text, done: _ } = answer(alloc, kept, mine, line);
+    let Answer { text, done: _ } = answer(alloc, kept, mine, &TOLD, line);
     let Ok(text) = text else {
         return Verdict::NoMemory;
     };

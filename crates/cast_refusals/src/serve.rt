@@ -2,6 +2,7 @@
 ghost use Rattle.std.specs.Prelude.{◌≡◌, ◌<◌};
 
 use crate::answers::Answers;
+use crate::console::TOLD;
 use crate::growths::Pause;
 use crate::sights::{Sight, are_same, sights};
 use crate::tenants;
@@ -67,6 +68,7 @@ impl<L: Ledger> Daemon<L> {
             self.alloc,
             &mut self.kept,
             &mut self.worked,
+            &TOLD,
             "trace",
         );
         text

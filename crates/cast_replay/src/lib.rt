@@ -7,8 +7,11 @@
 //! lines these are is not promised.
 #![tactic(auto)]
 
+mod meter;
 mod record;
 mod run;
 
+pub use cast_isolation::{Unwatched, Watch};
+pub use meter::{Meter, is_on_terminal};
 pub use record::{Part, replay_part};
 pub use run::{RunFault, complain, no_memory, printed_log, replay_file, replay_read, run_script};

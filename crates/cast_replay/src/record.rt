@@ -1,10 +1,11 @@
 //! A record: the files in which a daemon wrote what it did, read as one script, whole or in part.
+use crate::meter::Meter;
 use crate::run::{replay_file, replay_read, say_gap};
 use cast_device::{Watched, tell};
 use cast_types::{DomainNo, NoMemory};
 use std::alloc::Global;
 use std::io::Write;
-use std::rt::Files;
+use std::rt::{Clock, Files};
 use std::{fs, io};
 
 /// What of a record is replayed.
@@ -188,10 +189,11 @@ fn site_in<R: Files + AllocGlobal + Clone + Drop>(rt: &R, folder: &str) -> io::R
 }
 
 // Reads the files of the record in a folder, one after another, up to the first number that has none.
-fn join_folder<R: Files + AllocGlobal + Clone + Drop>(
+fn join_folder<R: Files + Clock + AllocGlobal + Clone + Drop, T: Write>(
     rt: &R,
     folder: &str,
     part: Part,
+    meter: &mut Meter<'_, R, T>,
 ) -> io::Result<Joined> {
     let alloc = rt.alloc();
     let site = site_in(rt, folder)?;
@@ -203,6 +205,7 @@ fn join_folder<R: Files + AllocGlobal + Clone + Drop>(
             break;
         }
         let bytes = fs::read(rt, path.as_str())?;
+        meter.read(bytes.len());
         joined.add_file(bytes.as_slice(), number == 1, false)?;
         if joined.is_over {
             break;
@@ -220,15 +223,17 @@ fn is_folder<R: Files>(rt: &R, name: &str) -> bool {
 }
 
 // Reads the file of this name, or the files of the record in the folder of this name.
-fn join<R: Files + AllocGlobal + Clone + Drop>(
+fn join<R: Files + Clock + AllocGlobal + Clone + Drop, T: Write>(
     rt: &R,
     name: &str,
     part: Part,
+    meter: &mut Meter<'_, R, T>,
 ) -> io::Result<Joined> {
     if is_folder(rt, name) {
-        return join_folder(rt, name, part);
+        return join_folder(rt, name, part, meter);
     }
     let bytes = fs::read(rt, name)?;
+    meter.read(bytes.len());
     let mut joined = Joined::new(rt.alloc(), part);
     joined.add_file(bytes.as_slice(), true, true)?;
     Ok(joined)
@@ -242,24 +247,25 @@ const FAULTY: u8 = 4;
 
 /// Replays a part of the script in the file of this name, or of the record in the folder of this name, as `replay_read` does, and
 /// answers the status of the program: also 3 where the folder has more than one record, and 4 where the domain is not there. A record is
-/// replayed up to the first place where events are missing, which is said.
-pub fn replay_part<R: Files + AllocGlobal + Clone + Drop, O: Write, E: Write>(
+/// replayed up to the first place where events are missing, which is said. The meter shows how far this is.
+pub fn replay_part<R: Files + Clock + AllocGlobal + Clone + Drop, O: Write, E: Write, T: Write>(
     rt: &R,
     name: &str,
     part: Part,
+    meter: &mut Meter<'_, R, T>,
     out: &mut Watched<O>,
     err: &mut Watched<E>,
 ) -> u8 {
     if part == Part::WHOLE && !is_folder(rt, name) {
-        return replay_file(rt, name, out, err);
+        return replay_file(rt, name, meter, out, err);
     }
-    match join(rt, name, part) {
+    match join(rt, name, part, meter) {
         Ok(joined) if part.domain.is_some() && !joined.has_domain => {
             tell(err, &["castd: no such domain in ", name, "\n"]);
             FAULTY
         }
         Ok(joined) => {
-            let status = replay_read(rt.alloc(), name, Ok(joined.text), out, err);
+            let status = replay_read(rt.alloc(), name, Ok(joined.text), meter, out, err);
             if joined.has_gap {
                 say_gap(joined.events, err);
             }
@@ -269,6 +275,6 @@ pub fn replay_part<R: Files + AllocGlobal + Clone + Drop, O: Write, E: Write>(
             tell(err, &["castd: more than one record in ", name, "\n"]);
             UNREADABLE
         }
-        Err(error) => replay_read(rt.alloc(), name, Err(error), out, err),
+        Err(error) => replay_read(rt.alloc(), name, Err(error), meter, out, err),
     }
 }

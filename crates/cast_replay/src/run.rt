@@ -9,7 +9,7 @@ ghost use Rattle.cast_replay.specs.Ends.{Ends, EndsAs, EndsOn, IsEnd, fault_text
 ghost use Rattle.cast_replay.specs.declared.run.RunFault.TheVariants.{NoMemory, Unreadable};
 
 use cast_device::{Watched, tell};
-use cast_isolation::replay;
+use cast_isolation::{Watch, replay_watched};
 use cast_print::print;
 use cast_script::{Reason, ScriptFault, parse};
 use itoa::Buffer;
@@ -112,12 +112,13 @@ pub(crate) fn say_gap<E: Write>(events: u64, err: &mut Watched<E>) {
     );
 }
 
-/// Replays the script in a file's bytes and writes its log, or why it has none, and answers the status of the program.
-/// A write that fails is passed over. What was noted of earlier calls of the writers is cleared.
-pub fn run_script<O: Write, E: Write>(
+/// Replays the script in a file's bytes and writes its log, or why it has none, and answers the status of the program. How far the
+/// replay is, is told meanwhile. A write that fails is passed over. What was noted of earlier calls of the writers is cleared.
+pub fn run_script<P: Watch, O: Write, E: Write>(
     alloc: Global,
     name: &str,
     bytes: &[u8],
+    watch: &mut P,
     out: &mut Watched<O>,
     err: &mut Watched<E>,
 ) -> u8
@@ -129,7 +130,7 @@ pub fn run_script<O: Write, E: Write>(
 {
     out.begin();
     err.begin();
-    match printed_log(alloc, bytes) {
+    match printed_log(alloc, bytes, watch) {
         Ok(text) => {
             tell(out, &[text.as_str()]);
             0
@@ -140,10 +141,11 @@ pub fn run_script<O: Write, E: Write>(
 
 /// Replays the script in what was read of a file, as `run_script` does. Where that is an error, the file could not be read, or there
 /// was no memory to read it, and this is said.
-pub fn replay_read<O: Write, E: Write>(
+pub fn replay_read<P: Watch, O: Write, E: Write>(
     alloc: Global,
     name: &str,
     read: io::Result<Vec<u8>>,
+    watch: &mut P,
     out: &mut Watched<O>,
     err: &mut Watched<E>,
 ) -> u8
@@ -152,7 +154,7 @@ pub fn replay_read<O: Write, E: Write>(
     ensures failed { result ≢ 0 → out.new.device ≡ out.old.device }
 {
     match read {
-        Ok(bytes) => run_script(alloc, name, &bytes, out, err),
+        Ok(bytes) => run_script(alloc, name, &bytes, watch, out, err),
         Err(error) => complain(name, unread(&error), err),
     }
 }
@@ -168,9 +170,10 @@ fn unread(error: &io::Error) -> RunFault
 }
 
 /// Replays the script in the file of this name, as `replay_read` does, and answers the status of the program.
-pub fn replay_file<R: Files + AllocGlobal, O: Write, E: Write>(
+pub fn replay_file<R: Files + AllocGlobal, P: Watch, O: Write, E: Write>(
     files: &R,
     name: &str,
+    watch: &mut P,
     out: &mut Watched<O>,
     err: &mut Watched<E>,
 ) -> u8
@@ -179,7 +182,7 @@ pub fn replay_file<R: Files + AllocGlobal, O: Write, E: Write>(
     ensures done { result ≡ 0 → err.new.device ≡ err.old.device }
     ensures failed { result ≢ 0 → out.new.device ≡ out.old.device }
 {
-    replay_read(files.alloc(), name, fs::read(files, name), out, err)
+    replay_read(files.alloc(), name, fs::read(files, name), watch, out, err)
 }
 
 // The bytes as a text.
@@ -194,12 +197,12 @@ fn text_of(bytes: &[u8]) -> Result<&str, RunFault>
 }
 
 /// The printed log of the script in a file's bytes, in which each domain is served as if alone, or why there is none.
-pub fn printed_log(alloc: Global, bytes: &[u8]) -> Result<String, RunFault>
+pub fn printed_log<P: Watch>(alloc: Global, bytes: &[u8], watch: &mut P) -> Result<String, RunFault>
     ensures ends { EndsAs string_bytes bytes.now result }
 {
     let text = text_of(bytes)?;
     let script = parse(alloc, text)?;
     let site = script.config.site;
-    let log = replay(alloc, script.config, script.events.as_slice())?;
+    let log = replay_watched(alloc, script.config, script.events.as_slice(), watch)?;
     Ok(print(alloc, site, &log)?)
 }

@@ -1,16 +1,16 @@
 //! The operator's lines.
 ghost use Rattle.std.specs.Prelude.{◌≡◌, ◌<◌};
 
-use crate::shared::Turnstile;
+use crate::shared::Shared;
 use cast_console::{Answer, Line, LineFault, answer, parse};
-use cast_pool::{Done, Kept, Worked};
+use cast_pool::{Done, Worked};
 use crossbeam_channel::Sender;
 use std::alloc::Global;
 use std::fmt::Display;
 use std::io::{BufRead, ErrorKind, Write};
 use std::rt::Clock;
+use std::sync::Wait;
 use std::sync::ledger::Ledger;
-use std::sync::{Mutex, Wait};
 use std::time::Duration;
 use std::{str, thread};
 
@@ -23,9 +23,7 @@ fn say<T: Display, W: Write>(what: &T, out: &mut W) {
 // Answers a line, and hands on what its event came to.
 fn answer_line<L: Ledger, R: Wait, W: Write>(
     rt: &R,
-    alloc: Global,
-    kept: &Mutex<Kept<L>>,
-    turnstile: &Turnstile,
+    shared: &Shared<'_, L>,
     mine: &mut Worked<L>,
     line: &str,
     dones: &Sender<Done>,
@@ -34,15 +32,19 @@ fn answer_line<L: Ledger, R: Wait, W: Write>(
     requires { 0 < mine.old.parts }
     ensures { mine.new.parts ≡ mine.old.parts }
 {
+    let told = shared.told(rt);
     let Answer { text, done } = {
-        let _way = turnstile.way.lock(rt);
-        turnstile.close();
-        let mut kept = kept.lock(rt);
-        let answer = answer(alloc, &mut kept, mine, line);
-        if let Some(done) = &answer.done {
+        let _way = shared.turnstile.way.lock(rt);
+        shared.turnstile.close();
+        let mut kept = shared.kept.lock(rt);
+        let answer = answer(shared.alloc, &mut kept, mine, &told, line);
+        if let Some(done) = &answer.done
+            && shared.may_trim()
+        {
             kept.let_go(done);
         }
-        turnstile.open();
+        shared.cut_many(rt, &mut kept);
+        shared.turnstile.open();
         answer
     };
     if let Some(done) = done {
@@ -93,9 +95,7 @@ fn text_of(line: &[u8]) -> Option<&str> {
 /// Answers the lines of a console, until one says `stop`. Their end does not end the daemon.
 pub fn run_console<L: Ledger, R: Wait + Clock, B: BufRead + Drop, W: Write>(
     rt: &R,
-    alloc: Global,
-    kept: &Mutex<Kept<L>>,
-    turnstile: &Turnstile,
+    shared: &Shared<'_, L>,
     mine: Worked<L>,
     console: B,
     dones: Sender<Done>,
@@ -107,10 +107,10 @@ pub fn run_console<L: Ledger, R: Wait + Clock, B: BufRead + Drop, W: Write>(
     let mut console = console;
     say(&"ready", out);
     for _line in rt.forever() {
-        match read_line(alloc, &mut console) {
+        match read_line(shared.alloc, &mut console) {
             Typed::Line(line) => match text_of(line.as_slice()) {
                 Some(line) => {
-                    answer_line(rt, alloc, kept, turnstile, &mut mine, line, &dones, out);
+                    answer_line(rt, shared, &mut mine, line, &dones, out);
                     if parse(line) == Ok(Line::Stop) {
                         return;
                     }

@@ -284,6 +284,11 @@ impl Desk {
         }
     }
 
+    /// How many datagrams could not be sent, and how many that came could not be read.
+    pub fn failures(&self) -> (u64, u64) {
+        (self.unsent.so_far, self.unread.so_far)
+    }
+
     /// Tells the operator something. It is lost if the daemon stops, or if much else waits to be told.
     pub fn report<R: Wait>(&self, rt: &R, what: Report) {
         if let Some(reports) = &self.reports {

@@ -2,7 +2,8 @@
 use crate::threads::serve;
 use cast_config::{Setup, complain, read};
 use cast_device::{Watched, tell};
-use cast_types::SiteNo;
+use cast_record::add_head;
+use cast_types::{NoMemory, SiteNo};
 use std::alloc::Global;
 use std::io::{BufRead, Write};
 use std::net::Net;
@@ -67,5 +68,53 @@ where
     match setup_of(rt, alloc, name, site, err) {
         Ok(setup) => serve(rt, alloc, &setup, workers, record, console, out, err, log),
         Err(status) => status,
+    }
+}
+
+// The lines of a set-up: those of its configuration, and the addresses and sockets as comments.
+fn text_of(alloc: Global, setup: &Setup) -> Result<String, NoMemory> {
+    let mut text = String::new(alloc);
+    add_head(alloc, &mut text, &setup.config)?;
+    for one in setup.addresses.as_slice() {
+        let site = one.site.0;
+        let address = one.address.as_str();
+        writeln!(text, "# site {site} address {address}")?;
+    }
+    for one in setup.sockets.as_slice() {
+        let domain = one.domain.0;
+        let path = one.path.as_str();
+        writeln!(text, "# domain {domain} socket {path}")?;
+    }
+    Ok(text)
+}
+
+/// Writes what the daemon of a site would serve by the configuration in the file of this name, as the first lines of a script, and answers
+/// the status of the program: 0, or 3, 5 or 6 as `serve_file` does. Nothing is resolved or bound.
+pub fn check_file<R, W, E>(
+    rt: &R,
+    name: &str,
+    site: SiteNo,
+    out: &mut Watched<W>,
+    err: &mut Watched<E>,
+) -> u8
+where
+    R: Files + AllocGlobal,
+    W: Write,
+    E: Write,
+{
+    let alloc = rt.alloc();
+    let setup = match setup_of(rt, alloc, name, site, err) {
+        Ok(setup) => setup,
+        Err(status) => return status,
+    };
+    match text_of(alloc, &setup) {
+        Ok(text) => {
+            tell(out, &[text.as_str()]);
+            0
+        }
+        Err(_) => {
+            tell(err, &["castd: no memory\n"]);
+            NO_MEMORY
+        }
     }
 }

@@ -27,6 +27,6 @@ mod threads;
 mod udp;
 mod unacknowledged;
 
-pub use file::serve_file;
+pub use file::{check_file, serve_file};
 pub use folder::Folder;
 pub use threads::serve;

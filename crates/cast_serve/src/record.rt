@@ -1,6 +1,9 @@
 //! The record of a daemon: each event that it served, in order, as a script that replays.
+ghost use Rattle.std.specs.Prelude.{◌≡◌, []};
+
 use crate::report::Report;
 use crate::shared::Shared;
+use cast_console::Recording;
 use cast_events::{Config, Event};
 use cast_message::{Body, Command, Request, SiteFrame};
 use cast_pool::{Entry, Kept};
@@ -9,13 +12,15 @@ use cast_types::NoMemory;
 use std::alloc::Global;
 use std::io::Write;
 use std::rt::Clock;
+use std::sync::atomic::{AtomicU64, Ordering};
 use std::sync::ledger::Ledger;
 use std::sync::{Mutex, Wait};
 use std::time::Duration;
 use std::{io, mem, thread};
 
-// From so many events on, a thread that serves cuts them off the trace. At twice as many the trace would be trimmed, and they were lost.
-const CUT: usize = 2_048;
+// From so many events on, a thread that serves cuts them off the trace. It would be trimmed, and they were lost, at 4,096. So there is room
+// for what the console has served meanwhile.
+const CUT: usize = 3_840;
 
 // So many bytes at most wait to be written. What finds no room is lost, and the record says so.
 const MOST_WAITING: usize = 134_217_728;
@@ -25,6 +30,9 @@ const EVENT: usize = 2_048;
 
 // A text of so many bytes is written before more is added to it.
 const PIECE: usize = 65_536;
+
+// So many vectors are kept at most for the events that come.
+const ROOMS: usize = 4;
 
 // So many milliseconds the recorder waits if nothing is to be written.
 const PAUSE: u64 = 10;
@@ -69,14 +77,21 @@ impl Piece {
     }
 }
 
-// What was cut off the trace and is to be written.
+// What was cut off the trace.
 #[derive(Drop)]
 struct Waiting {
+    // What is to be written.
     pieces: Vec<Piece>,
-    // How many bytes these have.
+    // What was written, and still has its memory.
+    written: Vec<Piece>,
+    // How many bytes all these have.
     size: usize,
-    // Some were lost, since too much waited, or there was no memory.
-    is_behind: bool,
+    // Vectors without events, for the trace.
+    rooms: Vec<Vec<Entry>>,
+    // How many events were lost, since too much waited, or there was no memory.
+    lost: u64,
+    // Nothing is written any more.
+    is_over: bool,
 }
 
 /// What was cut off the trace of a daemon that is recorded, and is to be written.
@@ -84,6 +99,8 @@ struct Waiting {
 pub struct Tape {
     alloc: Global,
     waiting: Mutex<Waiting>,
+    // Not 0 if something that was written may have its memory.
+    has_written: AtomicU64,
 }
 
 impl Tape {
@@ -93,38 +110,101 @@ impl Tape {
             alloc,
             waiting: Mutex::new(Waiting {
                 pieces: Vec::new(alloc),
+                written: Vec::new(alloc),
                 size: 0,
-                is_behind: false,
+                rooms: Vec::new(alloc),
+                lost: 0,
+                is_over: false,
             }),
+            has_written: AtomicU64::new(0),
         }
     }
 
     // Adds a piece. It is lost if too much waits, or there is no memory.
     fn add<R: Wait>(&self, rt: &R, piece: Piece) {
         let more = piece.size();
+        let events = piece.entries.len() as u64;
         let mut waiting = self.waiting.lock(rt);
+        if waiting.is_over {
+            return;
+        }
         let size = waiting.size.saturating_add(more);
         if size > MOST_WAITING || waiting.pieces.push(piece).is_err() {
-            waiting.is_behind = true;
+            waiting.lost = waiting.lost.saturating_add(events);
         } else {
             waiting.size = size;
         }
     }
 
-    // Takes all pieces, and whether events were lost since the last time.
-    fn take<R: Wait>(&self, rt: &R) -> (Vec<Piece>, bool) {
+    // Takes all pieces that are to be written, and how many events were lost so far.
+    fn take<R: Wait>(&self, rt: &R) -> (Vec<Piece>, u64) {
         let mut waiting = self.waiting.lock(rt);
         let pieces = mem::replace(&mut waiting.pieces, Vec::new(self.alloc));
-        let is_behind = waiting.is_behind;
-        waiting.size = 0;
-        waiting.is_behind = false;
-        (pieces, is_behind)
+        (pieces, waiting.lost)
+    }
+
+    // Gives back pieces that were written.
+    fn give_back<R: Wait>(&self, rt: &R, pieces: Vec<Piece>) {
+        let mut waiting = self.waiting.lock(rt);
+        for piece in pieces {
+            let size = piece.size();
+            if waiting.written.push(piece).is_err() {
+                waiting.size = waiting.size.saturating_sub(size);
+            }
+        }
+        self.has_written.store(1, Ordering::SeqCst);
+    }
+
+    // Notes that nothing is written any more.
+    fn end<R: Wait>(&self, rt: &R) {
+        self.waiting.lock(rt).is_over = true;
+    }
+
+    // A piece that was written.
+    fn written<R: Wait>(&self, rt: &R) -> Option<Piece> {
+        let mut waiting = self.waiting.lock(rt);
+        let piece = waiting.written.pop();
+        if waiting.written.is_empty() {
+            self.has_written.store(0, Ordering::SeqCst);
+        }
+        piece
+    }
+
+    /// Gives the memory back of one piece that was written, if there is one, outside the table's lock. The threads that serve do this
+    /// rather than the recorder: the memory was theirs, and a thread that frees memory of others waits for them and lets them wait.
+    pub fn let_go<R: Wait>(&self, rt: &R) {
+        if self.has_written.load(Ordering::SeqCst) == 0 {
+            return;
+        }
+        let Some(piece) = self.written(rt) else {
+            return;
+        };
+        let size = piece.size();
+        let Piece { before: _, entries } = piece;
+        let mut room = entries;
+        room.clear();
+        let mut waiting = self.waiting.lock(rt);
+        waiting.size = waiting.size.saturating_sub(size);
+        if waiting.rooms.len() < ROOMS {
+            let _ = waiting.rooms.push(room);
+        }
+    }
+
+    // A vector without events.
+    fn room<R: Wait>(&self, rt: &R) -> Vec<Entry>
+        ensures { result.items ≡ [] }
+    {
+        let kept = self.waiting.lock(rt).rooms.pop();
+        match kept {
+            Some(room) if room.is_empty() => room,
+            _ => Vec::new(self.alloc),
+        }
     }
 
     /// Cuts the events off the trace, under the table's lock. False if there was no memory for that.
     pub fn cut<L: Ledger, R: Wait>(&self, rt: &R, kept: &mut Kept<L>) -> bool {
         let events = kept.events();
-        let Ok(entries) = kept.cut() else {
+        let Ok(entries) = kept.cut(self.room(rt)) else {
             return false;
         };
         if !entries.is_empty() {
@@ -140,6 +220,18 @@ impl Tape {
             self.cut(rt, kept);
         }
     }
+
+    /// How far the record is.
+    pub fn state<R: Wait>(&self, rt: &R) -> Recording {
+        let waiting = self.waiting.lock(rt);
+        if waiting.is_over {
+            return Recording::Ended;
+        }
+        Recording::Running {
+            waiting: waiting.size as u64,
+            lost: waiting.lost,
+        }
+    }
 }
 
 /// Writes a record. It is written in whole lines, first those of the configuration.
@@ -147,6 +239,9 @@ impl Tape {
 pub struct Record<K> {
     alloc: Global,
     to: K,
+    // What is to be written next, and a line of it. They keep their room: a thread that takes memory waits for others that do.
+    text: String,
+    line: String,
     // How many events were added to a text or lost, and how many had been when a text was written last.
     events: u64,
     written: u64,
@@ -165,6 +260,8 @@ impl<K: Write + Drop> Record<K> {
         Ok(Record {
             alloc,
             to,
+            text: String::new(alloc),
+            line: String::new(alloc),
             events: 0,
             written: 0,
             is_over: false,
@@ -173,51 +270,66 @@ impl<K: Write + Drop> Record<K> {
     }
 
     // Adds the line of an event, and one for each domain that it halted.
-    fn add(&mut self, text: &mut String, entry: &Entry) -> Result<(), NoMemory> {
-        add_event(self.alloc, text, &entry.event)?;
+    fn add(&mut self, entry: &Entry) -> Result<(), NoMemory> {
+        add_event(self.alloc, &mut self.text, &mut self.line, &entry.event)?;
         for domain in entry.halted.as_slice() {
             let number = domain.0;
-            writeln!(text, "# domain {number} halted")?;
+            writeln!(self.text, "# domain {number} halted")?;
         }
         self.events = self.events.saturating_add(1);
         Ok(())
     }
 
-    // A text for more events, which says how many there were before.
-    fn text(&self) -> Result<String, NoMemory> {
-        let mut text = String::new(self.alloc);
+    // Begins a text for more events, which says how many there were before.
+    fn begin_text(&mut self) -> Result<(), NoMemory> {
         let events = self.events;
-        writeln!(text, "# {events} events before")?;
-        Ok(text)
+        self.text.clear();
+        writeln!(self.text, "# {events} events before")
     }
 
-    // Writes a text.
-    fn put(&mut self, text: &str) -> io::Result<()> {
-        self.to.write_all(text.as_bytes())?;
+    // Writes the text.
+    fn put(&mut self) -> io::Result<()> {
+        self.to.write_all(self.text.as_bytes())?;
         self.written = self.events;
         Ok(())
     }
 
     // Writes the events of a piece, and before them how many were lost.
     fn write_piece(&mut self, piece: &Piece) -> io::Result<()> {
-        let mut text = self.text()?;
+        self.begin_text()?;
         if piece.before > self.events {
             let lost = piece.before - self.events;
-            writeln!(text, "# gap {lost} events")?;
+            writeln!(self.text, "# gap {lost} events")?;
             self.events = piece.before;
         }
         for entry in piece.entries.as_slice() {
-            if text.len() >= PIECE {
-                self.put(text.as_str())?;
-                text = self.text()?;
+            if self.text.len() >= PIECE {
+                self.put()?;
+                self.begin_text()?;
             }
-            self.add(&mut text, entry)?;
+            self.add(entry)?;
         }
-        self.put(text.as_str())
+        self.put()
     }
 
-    // Writes pieces. Answers what the operator has to know of it.
-    fn write(&mut self, pieces: &[Piece], is_behind: bool) -> Option<Report> {
+    // Writes pieces, and hands them back. Answers what the operator has to know of it.
+    fn write<R: Wait>(
+        &mut self,
+        rt: &R,
+        tape: &Tape,
+        pieces: Vec<Piece>,
+        lost: u64,
+    ) -> Option<Report> {
+        let report = self.write_each(pieces.as_slice(), lost);
+        if self.is_over {
+            tape.end(rt);
+        }
+        tape.give_back(rt, pieces);
+        report
+    }
+
+    // Writes pieces.
+    fn write_each(&mut self, pieces: &[Piece], lost: u64) -> Option<Report> {
         if self.is_over {
             return None;
         }
@@ -227,19 +339,24 @@ impl<K: Write + Drop> Record<K> {
                 return Some(Report::RecordEnded(self.written));
             }
         }
-        if is_behind && !self.is_behind_told {
+        if lost > 0 && !self.is_behind_told {
             self.is_behind_told = true;
             return Some(Report::RecordBehind);
         }
         None
     }
 
-    /// Writes all that is left. Nobody serves any more.
-    pub fn end<L: Ledger, R: Wait>(self, rt: &R, tape: &Tape, kept: &Mutex<Kept<L>>) {
+    /// Writes all that is left. Nobody serves any more. Answers what the operator has to know of it.
+    pub fn end<L: Ledger, R: Wait>(
+        self,
+        rt: &R,
+        tape: &Tape,
+        kept: &Mutex<Kept<L>>,
+    ) -> Option<Report> {
         let mut record = self;
         tape.cut(rt, &mut kept.lock(rt));
-        let (pieces, is_behind) = tape.take(rt);
-        let _ = record.write(pieces.as_slice(), is_behind);
+        let (pieces, lost) = tape.take(rt);
+        record.write(rt, tape, pieces, lost)
     }
 }
 
@@ -258,13 +375,13 @@ fn write_on<L: Ledger, R: Wait + Clock, K: Write + Drop>(
             waits = 0;
             shared.tape.cut(rt, &mut shared.kept.lock(rt));
         }
-        let (pieces, is_behind) = shared.tape.take(rt);
-        if let Some(report) = record.write(pieces.as_slice(), is_behind) {
-            shared.report(rt, report);
-        }
+        let (pieces, lost) = shared.tape.take(rt);
         if pieces.is_empty() {
             waits = waits.saturating_add(1);
+            shared.tape.let_go(rt);
             thread::sleep(rt, Duration::from_millis(PAUSE));
+        } else if let Some(report) = record.write(rt, shared.tape, pieces, lost) {
+            shared.report(rt, report);
         }
     }
 }

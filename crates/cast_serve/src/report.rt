@@ -1,6 +1,8 @@
 //! What an operator has to know, as lines on standard error.
 use cast_types::DomainNo;
 use crossbeam_channel::Receiver;
+use std::fmt;
+use std::fmt::{Display, Formatter};
 use std::io::Write;
 use std::sync::Wait;
 
@@ -25,36 +27,36 @@ pub enum Report {
     RecordEnded(u64),
 }
 
-// Writes the line of a report.
-fn put_line<E: Write>(err: &mut E, what: Report) {
-    let _ = match what {
-        Report::Halted(domain) => {
-            let number = domain.0;
-            writeln!(err, "castd: domain {number}: halted")
+impl Display for Report {
+    fn fmt<W: fmt::Write>(&self, f: &mut Formatter<W>) -> fmt::Result {
+        match self {
+            Report::Halted(domain) => {
+                let number = domain.0;
+                write!(f, "castd: domain {number}: halted")
+            }
+            Report::NotServed(domain) => {
+                let number = domain.0;
+                write!(f, "castd: domain {number}: a program was not served")
+            }
+            Report::NotAccepting(domain) => {
+                let number = domain.0;
+                write!(f, "castd: domain {number}: no program can connect")
+            }
+            Report::Unread(count) => write!(f, "castd: datagrams that could not be read: {count}"),
+            Report::Unsent(count) => write!(f, "castd: datagrams that could not be sent: {count}"),
+            Report::LinkFailed => write!(f, "castd: datagrams cannot be received"),
+            Report::RecordBehind => write!(f, "castd: the record lacks events"),
+            Report::RecordEnded(events) => {
+                write!(f, "castd: the record ended after event {events}")
+            }
         }
-        Report::NotServed(domain) => {
-            let number = domain.0;
-            writeln!(err, "castd: domain {number}: a program was not served")
-        }
-        Report::NotAccepting(domain) => {
-            let number = domain.0;
-            writeln!(err, "castd: domain {number}: no program can connect")
-        }
-        Report::Unread(count) => writeln!(err, "castd: datagrams that could not be read: {count}"),
-        Report::Unsent(count) => writeln!(err, "castd: datagrams that could not be sent: {count}"),
-        Report::LinkFailed => writeln!(err, "castd: datagrams cannot be received"),
-        Report::RecordBehind => writeln!(err, "castd: the record lacks events"),
-        Report::RecordEnded(events) => writeln!(
-            err,
-            "castd: the record ended after event {events}"
-        ),
-    };
+    }
 }
 
 /// Writes each report, until nobody can report any more.
 pub fn run_reporter<R: Wait, E: Write + Drop>(rt: &R, log: E, reports: Receiver<Report>) {
     let mut log = log;
     for what in reports.iter(rt) {
-        put_line(&mut log, what);
+        let _ = writeln!(log, "{what}");
     }
 }

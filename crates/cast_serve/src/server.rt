@@ -16,6 +16,7 @@ use cast_types::{DomainNo, List, Refusal, SiteNo, Uid};
 use std::alloc::Global;
 use std::mem;
 use std::sync::Wait;
+use std::sync::atomic::Ordering;
 use std::sync::ledger::Ledger;
 
 /// Most entries that one Take of a session asks for.
@@ -75,7 +76,7 @@ fn serve_and_look<L: Ledger, R: Wait>(
     share: &mut CountShare<L>,
     job: Job,
 ) -> (Done, usize) {
-    let done = share.serve(kept, job);
+    let done = share.serve(kept, job, shared.may_trim());
     shared.cut_many(rt, kept);
     let due = first_due(shared.paces, kept);
     (done, due)
@@ -97,7 +98,7 @@ fn cast_and_look<L: Ledger, R: Wait>(
         return Err((job, turn));
     }
     let before = pace.next(kept);
-    let done = share.serve(kept, job);
+    let done = share.serve(kept, job, shared.may_trim());
     shared.cut_many(rt, kept);
     pace.note(rt, kept, before);
     Ok(done)
@@ -143,6 +144,7 @@ impl<'a, L: Ledger> Server<'a, L> {
         if let Some(pace) = self.shared.paces.get(due) {
             pace.wake(rt);
         }
+        self.shared.tape.let_go(rt);
         came_of(self.shared.alloc, done)
     }
 
@@ -159,6 +161,7 @@ impl<'a, L: Ledger> Server<'a, L> {
             let mut kept = self.shared.kept.lock(rt);
             cast_and_look(rt, self.shared, &mut kept, &mut self.share, job, pace, asks)
         };
+        self.shared.tape.let_go(rt);
         match served {
             Ok(done) => Ok(came_of(self.shared.alloc, done)),
             Err(back) => Err(back),
@@ -167,6 +170,7 @@ impl<'a, L: Ledger> Server<'a, L> {
 
     /// Serves a datagram. `None` if its bytes are no frame. After an acknowledgement, what seems to be lost is sent again.
     pub fn serve_datagram<R: Wait>(&mut self, rt: &R, datagram: Asked) -> Option<Outs> {
+        self.shared.traffic.received.fetch_add(1, Ordering::SeqCst);
         let job = self.job(rt, datagram)?;
         let acknowledged = acknowledged_by(&job);
         let (_, outs) = self.do_job(rt, job);
@@ -214,8 +218,15 @@ impl<'a, L: Ledger> Server<'a, L> {
             return;
         }
         match send_all(self.shared.alloc, &mut self.wire, self.shared.own, outs) {
-            Ok(sent) if sent.lost == 0 => {}
-            Ok(sent) => self.shared.desk.lock(rt).count_unsent(rt, sent.lost),
+            Ok(sent) => {
+                self.shared
+                    .traffic
+                    .sent
+                    .fetch_add(sent.sent, Ordering::SeqCst);
+                if sent.lost > 0 {
+                    self.shared.desk.lock(rt).count_unsent(rt, sent.lost);
+                }
+            }
             Err(_) => self.shared.desk.lock(rt).count_unsent(rt, count),
         }
     }

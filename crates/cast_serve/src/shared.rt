@@ -7,6 +7,7 @@ use crate::record::Tape;
 use crate::report::Report;
 use crate::udp::Peer;
 use crate::unacknowledged::Unacknowledged;
+use cast_console::{Datagrams, Recording, Told};
 use cast_pool::{Done, Job, Kept, Worked};
 use cast_types::{DomainNo, SiteNo};
 use std::alloc::Global;
@@ -32,12 +33,12 @@ impl<L: Ledger> CountShare<L> {
         CountShare { worked }
     }
 
-    /// Does a job, and lets go of what a domain kept that it halted.
-    pub fn serve(&mut self, kept: &mut Kept<L>, job: Job) -> Done
+    /// Does a job, and lets go of what a domain kept that it halted, if the trace may be trimmed.
+    pub fn serve(&mut self, kept: &mut Kept<L>, job: Job, may_trim: bool) -> Done
         ensures number { result.number ≡ job.number }
-        ensures done { Completes job.task result.outcome kept.old kept.new self.old.worked.taken self.new.worked.taken }
+        ensures done { Completes job.task may_trim result.outcome kept.old kept.new self.old.worked.taken self.new.worked.taken }
     {
-        kept.complete(&mut self.worked, job)
+        kept.complete(&mut self.worked, job, may_trim)
     }
 }
 
@@ -106,6 +107,23 @@ impl Turnstile {
     }
 }
 
+/// How many datagrams a daemon sent and received.
+#[derive(Drop)]
+pub struct Traffic {
+    pub sent: AtomicU64,
+    pub received: AtomicU64,
+}
+
+impl Traffic {
+    /// None yet.
+    pub fn new() -> Self {
+        Traffic {
+            sent: AtomicU64::new(0),
+            received: AtomicU64::new(0),
+        }
+    }
+}
+
 /// What the threads of a daemon share.
 #[derive(Drop)]
 pub struct Shared<'a, L: Ledger> {
@@ -120,6 +138,7 @@ pub struct Shared<'a, L: Ledger> {
     /// Of each domain and each of its other sites.
     pub unacknowledged: &'a [Unacknowledged],
     pub turnstile: &'a Turnstile,
+    pub traffic: &'a Traffic,
     /// Not 0 if a domain was halted since the ticker trimmed the trace last.
     pub halts: &'a AtomicU64,
     /// What was cut off the trace, if what the daemon does is recorded.
@@ -163,6 +182,30 @@ impl<L: Ledger> Shared<'_, L> {
     pub fn cut_many<R: Wait>(&self, rt: &R, kept: &mut Kept<L>) {
         if self.is_recorded {
             self.tape.cut_many(rt, kept);
+        }
+    }
+
+    /// Whether the trace may be trimmed, so that its events are lost.
+    pub fn may_trim(&self) -> bool {
+        !self.is_recorded
+    }
+
+    /// What the daemon tells of itself beside its table.
+    pub fn told<R: Wait>(&self, rt: &R) -> Told {
+        let (lost, undecoded) = self.desk.lock(rt).failures();
+        let record = if self.is_recorded {
+            self.tape.state(rt)
+        } else {
+            Recording::Off
+        };
+        Told {
+            datagrams: Datagrams {
+                sent: self.traffic.sent.load(Ordering::SeqCst),
+                received: self.traffic.received.load(Ordering::SeqCst),
+                lost,
+                undecoded,
+            },
+            record,
         }
     }
 

@@ -11,14 +11,14 @@ use crate::receiver::run_receiver;
 use crate::record::{Record, Tape, run_recorder};
 use crate::report::{Report, run_reporter};
 use crate::server::Server;
-use crate::shared::{CountShare, Shared, SpareCount, Turnstile};
+use crate::shared::{CountShare, Shared, SpareCount, Traffic, Turnstile};
 use crate::sockets::{Listening, SocketFault, Sockets, bind, remove_files, resolve_all};
 use crate::udp::{Peer, widen};
 use crate::unacknowledged::Unacknowledged;
 use cast_config::{Cause, ConfigFault, DomainSocket, Field, Setup, complain};
 use cast_device::{Watched, tell};
 use cast_events::{Config, DomainConfig};
-use cast_pool::{Channels, Done, Kept, Open, Raw, Worked, can_keep, work};
+use cast_pool::{Channels, Done, Gate, Kept, Raw, Worked, can_keep, work};
 use cast_types::{NoMemory, SiteNo};
 use crossbeam_channel::{Receiver, Sender};
 use std::alloc::Global;
@@ -140,11 +140,31 @@ struct Ends {
     reports: Receiver<Report>,
 }
 
+// Cuts the trace after what a worker served, if it is recorded and has many events. Nobody waits here.
+#[derive(Drop)]
+struct Cutting<'a, R, L: Ledger> {
+    rt: &'a R,
+    shared: &'a Shared<'a, L>,
+}
+
+impl<R: Wait, L: Ledger> Gate for Cutting<'_, R, L> {
+    fn decoded(&self, _number: u64) {}
+
+    fn served(&self, _number: u64) {}
+
+    // What came of the job is on its way: nobody waits for the table on account of this.
+    fn done(&self, _number: u64) {
+        if self.shared.is_recorded {
+            self.shared
+                .cut_many(self.rt, &mut self.shared.kept.lock(self.rt));
+        }
+    }
+}
+
 // What the threads stand on.
 #[derive(Drop)]
 struct Ground<'a, L: Ledger> {
     shared: Shared<'a, L>,
-    gate: &'a Open,
     sockets: &'a Sockets,
 }
 
@@ -176,14 +196,13 @@ fn start_worker<'s, 'e, L: Ledger + Send + Sync, R: Threads + Wait + Clock + Syn
             from: queue,
             to: answers,
         };
-        work(
+        let gate = Cutting {
             rt,
-            alloc,
-            ground.shared.kept,
-            worked,
-            &mut post,
-            ground.gate,
-        )
+            shared: &ground.shared,
+        };
+        let may_trim = ground.shared.may_trim();
+        let kept = ground.shared.kept;
+        work(rt, alloc, kept, worked, may_trim, &mut post, &gate)
     };
     let _ = scope.spawn(job)?;
     Ok(())
@@ -264,18 +283,12 @@ where
     E: Write + Send + Drop + 'e,
     K: Write + Send + Drop + 'e,
 {
-    let alloc = ground.shared.alloc;
     let started = start_all(scope, rt, ground, workers, ends, log, record);
     let ended = match started {
         Ok(dones) => match share_of(rt, &ground.shared) {
             Ok(share) => {
                 let CountShare { worked } = share;
-                let Shared {
-                    kept,
-                    turnstile,
-                    ..
-                } = &ground.shared;
-                run_console(rt, alloc, kept, turnstile, worked, console, dones, out);
+                run_console(rt, &ground.shared, worked, console, dones, out);
                 Ok(())
             }
             Err(error) => Err(error),
@@ -347,7 +360,7 @@ fn unacknowledged_of(
     Ok(all)
 }
 
-// Runs a daemon over its sockets, until the console says `stop`.
+// Runs a daemon over its sockets, until the console says `stop`. Answers what the operator has to know of the end of its record.
 fn run<L, R, B, W, E, K>(
     rt: &R,
     alloc: Global,
@@ -360,7 +373,7 @@ fn run<L, R, B, W, E, K>(
     out: &mut W,
     log: E,
     record: Option<Record<K>>,
-) -> io::Result<()>
+) -> io::Result<Option<Report>>
 where
     L: Ledger + Send + Sync,
     R: Threads + Wait + Clock + Net + Files + Sync,
@@ -373,12 +386,9 @@ where
     requires name { blank.name ≡ L.name }
     requires parts { (blank.parts ≡ L.parts) × (blank.parts ≡ 9223372036854775808) }
 {
-    let (mut kept, all) = Kept::<L>::new(alloc, &setup.config, blank, PARTS)?;
+    let (kept, all) = Kept::<L>::new(alloc, &setup.config, blank, PARTS)?;
     let tape = Tape::new(alloc);
     let is_recorded = record.is_some();
-    if is_recorded {
-        kept.record();
-    }
     let record = Mutex::new(record);
     let kept = Mutex::new(kept);
     let spare = Mutex::new(SpareCount::new(all, PARTS));
@@ -386,7 +396,6 @@ where
     let (answers, answered) = crossbeam_channel::bounded::<Done, Global>(alloc, ANSWERS)?;
     let (reporting, reports) = crossbeam_channel::bounded::<Report, Global>(alloc, REPORTS)?;
     let desk = Mutex::new(Desk::new(alloc, jobs, reporting));
-    let gate = Open;
     let halts = AtomicU64::new(0);
     let room = widen(&sockets.udp);
     let paces = paces_of(alloc, setup.config.domains.as_slice(), room)?;
@@ -396,6 +405,7 @@ where
         setup.config.domains.as_slice(),
     )?;
     let turnstile = Turnstile::new();
+    let traffic = Traffic::new();
     let ground = Ground {
         shared: Shared {
             alloc,
@@ -407,12 +417,12 @@ where
             paces: paces.as_slice(),
             unacknowledged: unacknowledged.as_slice(),
             turnstile: &turnstile,
+            traffic: &traffic,
             halts: &halts,
             tape: &tape,
             is_recorded,
             own: setup.config.site,
         },
-        gate: &gate,
         sockets,
     };
     let ends = Ends {
@@ -433,10 +443,12 @@ where
         &record,
     );
     let left = record.lock(rt).take();
-    if let Some(record) = left {
-        record.end(rt, &tape, &kept);
-    }
-    ended
+    let report = match left {
+        Some(record) => record.end(rt, &tape, &kept),
+        None => None,
+    };
+    ended?;
+    Ok(report)
 }
 
 // The status of a program that cannot write what it is to record.
@@ -536,7 +548,12 @@ where
     match run::<Brand, R, B, W, G, K>(
         rt, alloc, setup, blank, workers, &peers, &sockets, console, out, log, record,
     ) {
-        Ok(()) => 0,
+        Ok(report) => {
+            if let Some(what) = report {
+                let _ = writeln!(err.device, "{what}");
+            }
+            0
+        }
         Err(_) => {
             remove_files(rt, setup.sockets.as_slice());
             tell(err, &["castd: no memory\n"]);

@@ -1,6 +1,6 @@
 ghost use Rattle.std.specs.Prelude.{◌≡◌, ◌<◌, IfSome};
 
-use cast_console::{Answer, answer};
+use cast_console::{Answer, Datagrams, Recording, Told, answer};
 use cast_events::Event;
 use cast_pool::{Asked, Kept, Raw, Worked, can_keep, decode};
 use cast_script::{Script, parse};
@@ -29,6 +29,20 @@ domain 255 home 1 sites 1 groups 1,2 quotas 16 256 256 200
 domain 2 home 1 sites 1 groups 1 quotas 16 256 256 200
 open 2
 ";
+
+// What the daemon tells beside its table.
+const TOLD: Told = Told {
+    datagrams: Datagrams {
+        sent: 11,
+        received: 12,
+        lost: 13,
+        undecoded: 14,
+    },
+    record: Recording::Running {
+        waiting: 15,
+        lost: 16,
+    },
+};
 
 // A daemon that took the events of a script.
 fn started<L: Ledger>(alloc: Global, blank: Blank, text: &str) -> Option<(Kept<L>, Worked<L>)>
@@ -87,7 +101,7 @@ fn says<L: Ledger>(
     let Answer {
         text: said,
         done: _,
-    } = answer(alloc, kept, mine, line);
+    } = answer(alloc, kept, mine, &TOLD, line);
     match said {
         Ok(said) => said.as_str() == text,
         Err(_) => false,
@@ -126,7 +140,7 @@ enum Scene {
     Anew,
 }
 
-const JOINED_ROWS: [(&str, &str); 20] = [
+const JOINED_ROWS: [(&str, &str); 23] = [
     ("domains", "domain 1 running"),
     ("show 1", "domain 1 sessions 1 held 0 casts 1 moment 0"),
     ("groups 1", "group 1 view 1 holder 1.1 members 1.1 open"),
@@ -146,6 +160,12 @@ const JOINED_ROWS: [(&str, &str); 20] = [
     ("quota 1 held 12", "ok"),
     ("suspect 1 1", "ok"),
     ("trace", "events 10 kept 10"),
+    (
+        "datagrams",
+        "datagrams sent 11 received 12 lost 13 undecoded 14",
+    ),
+    ("record", "record running waiting 15 lost 16"),
+    ("record 1", "fault 3"),
     ("stop", "ok"),
 ];
 

@@ -49,7 +49,7 @@ pub fn work_both<L: Ledger + Send + Sync, R: Threads + Wait + Sync, G: Gate + Sy
                 from: queue,
                 to: answers,
             };
-            work(rt, alloc, kept, one, &mut post, gate)
+            work(rt, alloc, kept, one, true, &mut post, gate)
         },
         move || -> Worked<L>
             requires { two.parts ≡ 1 }
@@ -60,7 +60,7 @@ pub fn work_both<L: Ledger + Send + Sync, R: Threads + Wait + Sync, G: Gate + Sy
                 from: also_queue,
                 to: also_answers,
             };
-            work(rt, alloc, kept, two, &mut post, gate)
+            work(rt, alloc, kept, two, true, &mut post, gate)
         },
     );
     one.join(two).ok()

@@ -2,13 +2,14 @@
 //!
 //! `castd serve CONFIG --site N` runs it: programs connect by Unix sockets, daemons exchange
 //! datagrams, and an operator uses lines of standard input. `castd replay FILE` replays a script
-//! and prints what the daemon answers, pushes and sends.
+//! and prints what the daemon answers, pushes and sends. `castd check CONFIG --site N` says what
+//! would be served.
 #![tactic(auto)]
 
 use cast_arguments::{Asked, read_command_line};
 use cast_device::Watched;
-use cast_replay::{Part, no_memory, replay_part};
-use cast_serve::{Folder, serve_file};
+use cast_replay::{Meter, Part, is_on_terminal, no_memory, replay_part};
+use cast_serve::{Folder, check_file, serve_file};
 use std::alloc::AllocError;
 use std::process::ExitCode;
 use std::rt::Files;
@@ -35,7 +36,17 @@ fn main(rt: HostRuntime) -> ExitCode {
                 until,
                 domain,
             },
-        ) => replay_part(&rt, &name, Part { until, domain }, &mut out, &mut err),
+        ) => {
+            let terminal = if is_on_terminal(&rt) {
+                Some(rt.stderr())
+            } else {
+                None
+            };
+            let part = Part { until, domain };
+            let mut meter = Meter::new(&rt, terminal);
+            replay_part(&rt, &name, part, &mut meter, &mut out, &mut err)
+        }
+        Ok(Asked::Check { config, site }) => check_file(&rt, &config, site, &mut out, &mut err),
         Ok(
             Asked::Serve {
                 config,

@@ -83,7 +83,7 @@ fn work_over<L: Ledger, R: Wait>(
         from: queue,
         to: answers,
     };
-    work(rt, alloc, kept, mine, &mut post, &Open)
+    work(rt, alloc, kept, mine, true, &mut post, &Open)
 }
 
 fn start<'s, 'e, L: Ledger + Send + Sync, R: Threads + Wait + Sync>(

@@ -28,6 +28,14 @@ pub returns-in-trace : goal.returns-in-trace
 unfolding head_of
 returns-in-trace c = rw c.in-trace.is refl
 
+pub returns-in-datagrams : goal.returns-in-datagrams
+unfolding head_of
+returns-in-datagrams c = rw c.in-datagrams.is refl
+
+pub returns-in-record : goal.returns-in-record
+unfolding head_of
+returns-in-record c = rw c.in-record.is refl
+
 pub returns-in-stop : goal.returns-in-stop
 unfolding head_of
 returns-in-stop c = rw c.in-stop.is refl
@@ -42,5 +50,7 @@ returns-in_default c =
       | head.Suspect ↦ c.in_default.not-suspect
       | head.Quota ↦ c.in_default.not-quota
       | head.Trace ↦ c.in_default.not-trace
+      | head.Datagrams ↦ c.in_default.not-datagrams
+      | head.Record ↦ c.in_default.not-record
       | head.Stop ↦ c.in_default.not-stop
     ]))

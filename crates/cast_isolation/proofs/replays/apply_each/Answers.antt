@@ -8,13 +8,13 @@ use Rattle.cast_isolation.proofs.Each.{applied_more}
 use Rattle.cast_isolation.proofs.replays.apply_each.Goals as goal
 
 pub loop-event-init : goal.loop-event-init
-loop-event-init c =
+loop-event-init g c =
     let table = c.args.table.now in
     let l = lent table c.args.outs.now in
     subst (λ given. AreApplied given [] (domains_of table) (domains_of table) l l) (sym c.new-answers.ensures) (refl, refl)
 
 pub loop-event-preserved : goal.loop-event-preserved
-loop-event-preserved c =
+loop-event-preserved g c =
     let i = c.loop-event.event-index in
     let events = c.args.events.now in
     let e = c.event-item.result in
@@ -31,4 +31,4 @@ loop-event-preserved c =
     (applied_more c.loop-event.answers (take i events) c.apply-answer.result e old (domains_of c.loop-event.table) new first last next c.loop-event.invariant begun c.apply-answer.ensures.applied))
 
 pub returns : goal.returns
-returns c = rw (take_all c.loop-event.event-index c.args.events.now c.loop-event-test.false) at c.loop-event.invariant
+returns g c = rw (take_all c.loop-event.event-index c.args.events.now c.loop-event-test.false) at c.loop-event.invariant

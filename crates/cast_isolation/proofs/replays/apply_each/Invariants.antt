@@ -4,5 +4,5 @@ use Rattle.cast_isolation.proofs.replays.apply_each.Given as goal
 
 -- what the events so far did
 abbrev pub invariant-loop-event : goal.invariant-loop-event
-invariant-loop-event l =
+invariant-loop-event g l =
     AreApplied l.answers (take l.event-index l.events) (domains_of l.fn.table) (domains_of l.table) (lent l.fn.table l.fn.outs) (lent l.table l.outs)

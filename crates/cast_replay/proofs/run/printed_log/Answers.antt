@@ -5,7 +5,7 @@ use Rattle.cast_isolation.specs.Replays.{IsReplay}
 use Rattle.cast_replay.proofs.run.printed_log.Goals as goal
 
 pub returns : goal.returns
-returns c =
+returns g c =
     let script = c.in_ok-script.script in
     let log = c.in_ok-log.log in
     record {

@@ -1,10 +1,10 @@
 use Rattle.cast_table.specs.Tables.{domains_of, lent}
 use Rattle.cast_isolation.proofs.SoFars.{ordered, so_far_all}
 use Rattle.cast_isolation.proofs.Replayed.{replayed, answered_all, told_no_domain}
-use Rattle.cast_isolation.proofs.replays.replay.Goals as goal
+use Rattle.cast_isolation.proofs.replays.replay_watched.Goals as goal
 
 pub returns-clause-all : goal.returns-clause-all
-returns-clause-all c =
+returns-clause-all g c =
     let last = lent c.apply_each.new.table c.apply_each.new.outs in
     let so_far =
     so_far_all (ordered c.args.config) c.args.events.now c.in_ok-answers.answers (lent c.in_ok-table.table c.new-outs.result) last
@@ -13,7 +13,7 @@ returns-clause-all c =
     answered_all (ordered c.args.config) c.args.events.now c.in_ok-answers.answers last (domains_of c.apply_each.new.table) so_far
 
 pub returns-clause-replayed : goal.returns-clause-replayed
-returns-clause-replayed c =
+returns-clause-replayed g c =
     let last = lent c.apply_each.new.table c.apply_each.new.outs in
     let so_far =
     so_far_all (ordered c.args.config) c.args.events.now c.in_ok-answers.answers (lent c.in_ok-table.table c.new-outs.result) last
@@ -23,7 +23,7 @@ returns-clause-replayed c =
     (domains_of c.apply_each.new.table) c.in_ok-given.ensures so_far
 
 pub returns-clause-no_domain : goal.returns-clause-no_domain
-returns-clause-no_domain c =
+returns-clause-no_domain g c =
     let last = lent c.apply_each.new.table c.apply_each.new.outs in
     let so_far =
     so_far_all (ordered c.args.config) c.args.events.now c.in_ok-answers.answers (lent c.in_ok-table.table c.new-outs.result) last
