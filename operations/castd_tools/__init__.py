@@ -1,0 +1,1 @@
+"""What the operating tools of castd share."""

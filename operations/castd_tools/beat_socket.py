@@ -1,0 +1,87 @@
+"""The socket of beats: to the other sites, and from their hosts alone."""
+
+from __future__ import annotations
+
+import asyncio
+import socket
+from collections.abc import Callable
+
+from castd_tools.beat import Beat, BeatError, decode
+from castd_tools.command_line import Failure
+from castd_tools.configuration import MOST_PORT, Address, Configuration
+from castd_tools.statuses import UNBOUND, USAGE
+from castd_tools.system import reason
+
+
+class BeatSocket(asyncio.DatagramProtocol):
+    """Sends beats, and hands on those that come from the host of the site that they name. It counts other datagrams."""
+
+    def __init__(self, addresses: dict[int, tuple], believe: Callable[[Beat], None]):
+        self.undecodable, self.foreign = 0, 0
+        self._addresses, self._believe = addresses, believe
+
+    def connection_made(self, transport: asyncio.DatagramTransport) -> None:
+        self._transport = transport
+
+    def datagram_received(self, data: bytes, source: tuple) -> None:
+        try:
+            beat = decode(data)
+        except BeatError:
+            self.undecodable += 1
+            return
+        address = self._addresses.get(beat.site)
+        if address and address[0] == source[0]:
+            self._believe(beat)
+        else:
+            self.foreign += 1
+
+    def send(self, beat: Beat) -> None:
+        """Sends a beat to each of the other sites. It may be lost, as any datagram may."""
+        for address in self._addresses.values():
+            self._transport.sendto(beat.encode(), address)
+
+
+async def open_socket(
+    configuration: Configuration, own: int, others: set[int], offset: int, believe: Callable[[Beat], None]
+) -> BeatSocket:
+    """The socket of a site, `offset` above the port of its daemon. A `Failure` where it cannot be bound."""
+    _check_apart(configuration, offset)
+    family, address = _resolved(configuration.sites[own], offset)
+    addresses = {}
+    for site in others:
+        its_family, addresses[site] = _resolved(configuration.sites[site], offset)
+        if its_family != family:
+            raise Failure(UNBOUND, f"site {site} and site {own} have addresses of different families")
+    bound = socket.socket(family, socket.SOCK_DGRAM)
+    try:
+        bound.bind(address)
+    except OSError as error:
+        bound.close()
+        raise Failure(UNBOUND, f"no beats can come: {address[0]}, port {address[1]}: {reason(error)}") from error
+    bound.setblocking(False)
+    loop = asyncio.get_running_loop()
+    _, protocol = await loop.create_datagram_endpoint(lambda: BeatSocket(addresses, believe), sock=bound)
+    return protocol
+
+
+def _check_apart(configuration: Configuration, offset: int) -> None:
+    """No beat goes to a daemon."""
+    of_daemons = {address: site for site, address in configuration.sites.items()}
+    for site, address in configuration.sites.items():
+        other = of_daemons.get(Address(address.host, address.port + offset))
+        if other:
+            raise Failure(
+                USAGE, f"beats of site {site} would come to the daemon of site {other}: choose another port offset"
+            )
+
+
+def _resolved(address: Address, offset: int) -> tuple[int, tuple]:
+    """The family and the address of the beats of a site, as `socket` has them. Its name is looked up once."""
+    port = address.port + offset
+    if port > MOST_PORT:
+        raise Failure(UNBOUND, f"{address}: there is no port {port}")
+    try:
+        family, _, _, _, resolved = socket.getaddrinfo(address.host, port, type=socket.SOCK_DGRAM)[0]
+    except OSError as error:
+        raise Failure(UNBOUND, f"{address}: {reason(error)}") from error
+    return family, resolved

@@ -1,0 +1,122 @@
+"""castd-conf: makes and checks configurations, and says under which number a host starts a daemon."""
+
+from __future__ import annotations
+
+import argparse
+import sys
+import tomllib
+
+from castd_tools import numbers
+from castd_tools.command_line import Failure, Tool, site_number
+from castd_tools.configuration import ConfigurationError, parse
+from castd_tools.lint import findings_of
+from castd_tools.plan import configuration_of, plan_of, text_of
+from castd_tools.system import reason
+
+_USUAL_STATE = "/var/lib/castd"
+
+_FOUND = 1
+_UNREADABLE = 3
+
+TOOL = Tool(
+    "castd-conf",
+    "castd-conf make PLAN\n"
+    "       castd-conf lint CONFIG\n"
+    "       castd-conf next CONFIG --site N [--state DIR]",
+    "Makes a configuration of castd from a plan, says what is at fault in one and what an operator should know of it,"
+    " and says under which number the host of a site starts a daemon.",
+    {
+        0: "a configuration or a number is printed, or nothing was found",
+        _FOUND: "the configuration or the plan is at fault, or no number is left",
+        2: "wrong command line",
+        _UNREADABLE: "a file or the state directory cannot be read",
+    },
+)
+
+
+def main() -> int:
+    options = _options(sys.argv[1:])
+    try:
+        return options.run(options)
+    except Failure as failure:
+        TOOL.complain(*failure.lines)
+        return failure.status
+
+
+def _options(words: list[str]) -> argparse.Namespace:
+    commands = TOOL.parser.add_subparsers(prog=TOOL.name, metavar="COMMAND", required=True)
+    make = commands.add_parser("make", help="print the configuration that a plan makes")
+    make.add_argument("plan", metavar="PLAN", help="the plan, a file as castd-conf(1) has it")
+    make.set_defaults(run=_make)
+    lint = commands.add_parser("lint", help="print what is at fault, and what an operator should know")
+    lint.add_argument("config", metavar="CONFIG", help="the configuration")
+    lint.set_defaults(run=_lint)
+    following = commands.add_parser("next", help="print the number under which the host of a site starts a daemon")
+    following.add_argument("config", metavar="CONFIG", help="the configuration")
+    following.add_argument("--site", metavar="N", type=site_number, required=True, help="the site")
+    following.add_argument(
+        "--state", metavar="DIR", default=_USUAL_STATE, help=f"where used site numbers are noted ({_USUAL_STATE})"
+    )
+    following.set_defaults(run=_next)
+    return TOOL.parser.parse_args(words)
+
+
+def _make(options: argparse.Namespace) -> int:
+    text = _text_in(options.plan)
+    try:
+        document = configuration_of(plan_of(_document_of(text)))
+        found = findings_of(document)
+    except ConfigurationError as error:
+        found = [str(error)]
+    if found:
+        raise Failure(_FOUND, *(f"{options.plan}: {finding}" for finding in found))
+    print(text_of(document), end="")
+    return 0
+
+
+def _lint(options: argparse.Namespace) -> int:
+    text = _text_in(options.config)
+    try:
+        found = findings_of(_document_of(text))
+    except ConfigurationError as error:
+        found = [str(error)]
+    for finding in found:
+        print(f"{options.config}: {finding}")
+    return _FOUND if found else 0
+
+
+def _next(options: argparse.Namespace) -> int:
+    text = _text_in(options.config)
+    try:
+        configuration = parse(text)
+        served = configuration.domains_of(options.site)
+        number = numbers.next_site(configuration, options.site, options.state)
+    except ConfigurationError as error:
+        raise Failure(_FOUND, f"{options.config}: {error}") from error
+    except OSError as error:
+        raise Failure(_UNREADABLE, f"{options.state}: {reason(error)}") from error
+    if number is None:
+        raise Failure(_FOUND, f"{options.config}: no unused number has the host and the domains of site {options.site}")
+    for domain in served:
+        if domain.home == options.site != number:
+            TOOL.complain(f"domain {domain.number}: site {options.site} is its home: all its daemons start anew")
+    print(number)
+    return 0
+
+
+def _text_in(path: str) -> str:
+    try:
+        with open(path, encoding="utf-8", newline="") as file:
+            return file.read()
+    except OSError as error:
+        raise Failure(_UNREADABLE, f"{path}: {reason(error)}") from error
+    except UnicodeDecodeError as error:
+        raise Failure(_UNREADABLE, f"{path}: not UTF-8") from error
+
+
+def _document_of(text: str) -> dict:
+    """The TOML document that a text is. A `ConfigurationError` where it is none."""
+    try:
+        return tomllib.loads(text)
+    except (ValueError, RecursionError) as error:
+        raise ConfigurationError(f"text: not TOML: {error}") from error

@@ -1,0 +1,13 @@
+"""Exit statuses. 2, 6 and 7 mean what they mean of castd, whose own are 0 and 2 to 7."""
+
+USAGE = 2
+CONFIGURATION = 6
+UNBOUND = 7
+NUMBER_USED = 8
+NO_CONTROL = 9
+NOT_NOTED = 10
+NOT_STARTED = 11
+PUT_OUT = 12
+
+# A daemon that signal N killed has this and N.
+BY_SIGNAL = 128

@@ -1,0 +1,53 @@
+"""Which sites of a domain its home may suspect, by when they were heard. Times are seconds of any one clock."""
+
+from __future__ import annotations
+
+
+class Suspicion:
+    """What the home of a domain knows of the domain's other sites."""
+
+    def __init__(self, others: set[int], patience: float):
+        self.suspected: set[int] = set()
+        self._others, self._patience = others, patience
+        self._heard: dict[int, float] = {}
+        self._is_cut_off = False
+
+    def hear(self, site: int, now: float) -> bool:
+        """A site was heard. Whether this was the first time."""
+        if site not in self._others or site in self.suspected:
+            return False
+        is_new = site not in self._heard
+        self._heard[site] = now
+        return is_new
+
+    def start_anew(self, now: float) -> None:
+        """All silences start anew."""
+        self._heard = dict.fromkeys(self._heard, now)
+
+    def silent(self, now: float) -> list[int]:
+        """The sites that were heard before and are silent for the patience, but are not suspected."""
+        return sorted(
+            site for site, heard in self._heard.items() if site not in self.suspected and now - heard >= self._patience
+        )
+
+    def due(self, now: float) -> list[int]:
+        """The silent sites that may be suspected: none as long as no majority surely stays.
+
+        Once it does again, silences start anew: of sites that come back together, one is heard first.
+        """
+        if not self.majority_stays(now):
+            self._is_cut_off = True
+        elif self._is_cut_off:
+            self._is_cut_off = False
+            self.start_anew(now)
+        return [] if self._is_cut_off else self.silent(now)
+
+    def majority_stays(self, now: float) -> bool:
+        """Whether more than half of the sites that were ever heard, with the home, surely stay if the silent ones go.
+
+        The home surely stays, and so do sites that were heard within half the patience and are not suspected. So a home
+        that the network cuts off suspects nobody, though the others do not all reach the end of the patience at once.
+        """
+        fresh = self._patience / 2
+        stay = [site for site, heard in self._heard.items() if site not in self.suspected and now - heard < fresh]
+        return 2 * (1 + len(stay)) > 1 + len(self._heard)

@@ -1,0 +1,266 @@
+"""castd-watch: the failure detector beside the daemon of a site."""
+
+from __future__ import annotations
+
+import argparse
+import asyncio
+import collections
+import math
+import secrets
+import sys
+import time
+
+from castd_tools import control, metrics
+from castd_tools.beat import Beat
+from castd_tools.beat_socket import open_socket
+from castd_tools.command_line import SiteTool, stop_signals, whole_number
+from castd_tools.configuration import MOST_PORT, Configuration
+from castd_tools.console import OK, STOP
+from castd_tools.statuses import CONFIGURATION, PUT_OUT, UNBOUND, USAGE
+from castd_tools.suspicion import Suspicion
+
+_BEATS_A_PATIENCE = 5
+_LOOKS_A_PATIENCE = 10
+_LEAST_PATIENCE, _MOST_PATIENCE = 0.5, 3_600.0
+_SECONDS_BETWEEN_COUNTS = 60.0
+# How many lives of the watch of a site are known apart.
+_LIVES = 8
+
+# Topics of which something is told.
+_DAEMON = ("daemon",)
+_WAITS = "waits"
+
+TOOL = SiteTool(
+    "castd-watch",
+    "castd-watch CONFIG --site N [--control PATH] [--patience SECONDS] [--port-offset N]",
+    "Detects sites that fail, beside the daemon of a site. Sites exchange beats as long as their daemons answer. At the"
+    " home of a domain, a site that was heard and falls silent is suspected, if more than half of the domain's sites"
+    " that were ever heard stay. A site that learns that it was put out stops its daemon.",
+    {
+        0: "ended by SIGTERM or SIGINT",
+        USAGE: "wrong command line",
+        CONFIGURATION: "fault in the configuration",
+        UNBOUND: "an address cannot be resolved or bound",
+        PUT_OUT: "the site was put out, and its daemon is stopped",
+    },
+)
+
+
+def main() -> int:
+    return TOOL.run(_watch(_options(sys.argv[1:])))
+
+
+def _options(words: list[str]) -> argparse.Namespace:
+    add = TOOL.parser.add_argument
+    add("--patience", metavar="SECONDS", type=_patience, default=2.0, help="how long a site may be silent (2)")
+    add(
+        "--port-offset",
+        metavar="N",
+        type=lambda text: whole_number(text, 1, MOST_PORT),
+        default=1_000,
+        help="by how much the ports of beats are above those of the configuration (1000)",
+    )
+    return TOOL.options(words)
+
+
+def _patience(text: str) -> float:
+    try:
+        seconds = float(text)
+    except ValueError:
+        seconds = math.nan
+    if not _LEAST_PATIENCE <= seconds <= _MOST_PATIENCE:
+        raise argparse.ArgumentTypeError(f"{text!r} is not {_LEAST_PATIENCE:g} to {_MOST_PATIENCE:g} seconds")
+    return seconds
+
+
+async def _watch(options: argparse.Namespace) -> int:
+    """Watches until a signal comes or the site is put out, and gives the exit status."""
+    stop = stop_signals()
+    watch = Watch(TOOL.configuration(options), options)
+    stopped = asyncio.create_task(stop.wait())
+    watched = asyncio.create_task(watch.run())
+    await asyncio.wait({stopped, watched}, return_when=asyncio.FIRST_COMPLETED)
+    return watched.result() if watched.done() else 0
+
+
+class Teller:
+    """Says what happens. What is told of a topic is said again only once it is another."""
+
+    def __init__(self) -> None:
+        self._told: dict[tuple, str] = {}
+
+    def say(self, text: str) -> None:
+        print(text, flush=True)
+
+    def tell(self, topic: tuple, text: str) -> None:
+        if self._told.get(topic) != text:
+            self._told[topic] = text
+            self.say(text)
+
+    def forget(self, topic: tuple) -> None:
+        self._told.pop(topic, None)
+
+
+class Incarnations:
+    """The lives of the watches of other sites, of which each names itself by a random word."""
+
+    def __init__(self) -> None:
+        self._lives: dict[int, collections.deque[str]] = {}
+
+    def is_latest(self, heard: Beat) -> bool:
+        """Whether a beat is of the latest life that is known of its site. One that is new becomes the latest."""
+        lives = self._lives.setdefault(heard.site, collections.deque(maxlen=_LIVES))
+        if heard.incarnation not in lives:
+            lives.append(heard.incarnation)
+        return lives[-1] == heard.incarnation
+
+
+class Watch:
+    """Watches beside the daemon of a site."""
+
+    def __init__(self, configuration: Configuration, options: argparse.Namespace):
+        domains = configuration.domains_of(options.site)
+        self._configuration, self._control, self._offset = configuration, options.control, options.port_offset
+        self._site, self._patience = options.site, options.patience
+        self._others = {site for domain in domains for site in domain.sites} - {options.site}
+        self._homes = {domain.number: domain.home for domain in domains}
+        self._suspicions = {
+            domain.number: Suspicion(set(domain.sites) - {options.site}, options.patience)
+            for domain in domains
+            if domain.home == options.site
+        }
+        self._incarnation, self._incarnations = secrets.token_hex(8), Incarnations()
+        self._teller = Teller()
+        self._put_out: asyncio.Future[int] = asyncio.get_running_loop().create_future()
+        self._counts_told = -math.inf
+
+    async def run(self) -> int:
+        """Watches until the site learns that it was put out. Then stops the daemon, and gives the exit status."""
+        self._socket = await open_socket(self._configuration, self._site, self._others, self._offset, self._hear)
+        self._last_pulse = time.monotonic()
+        others = ", ".join(map(str, sorted(self._others))) or "none"
+        self._teller.say(f"watches as site {self._site}, incarnation {self._incarnation}; other sites: {others}")
+        async with asyncio.TaskGroup() as group:
+            tasks = [group.create_task(repeat()) for repeat in (self._beat, self._look, self._feel_pulse)]
+            domain = await self._put_out
+            for task in tasks:
+                task.cancel()
+        await self._stop_daemon(domain)
+        return PUT_OUT
+
+    async def _beat(self) -> None:
+        """Beats as long as the daemon answers."""
+        interval = self._patience / _BEATS_A_PATIENCE
+        while True:
+            begun = time.monotonic()
+            beat = await self._own_beat()
+            if beat:
+                self._socket.send(beat)
+            await asyncio.sleep(begun + interval - time.monotonic())
+
+    async def _own_beat(self) -> Beat | None:
+        """What there is to say of the own site. None where its daemon does not answer in time."""
+        try:
+            domains, suspected = await self._ask("domains"), await self._ask(control.SUSPECTED)
+        except control.ControlError as error:
+            self._teller.tell(_DAEMON, f"the daemon does not answer, and no beats are sent: {error}")
+            return None
+        if control.is_refusal(domains + suspected):
+            self._teller.tell(_DAEMON, f"the daemon does not answer, and no beats are sent: {' '.join(domains)}")
+            return None
+        self._teller.tell(_DAEMON, "the daemon answers, and beats are sent")
+        put_out = _pairs(suspected)
+        for domain, site in put_out:
+            if domain in self._suspicions:
+                self._suspicions[domain].suspected.add(site)
+        running = frozenset(domain for domain, runs in metrics.domains_of(domains).items() if runs)
+        return Beat(self._site, self._incarnation, running, put_out)
+
+    def _hear(self, heard: Beat) -> None:
+        """A beat came from the host of its site."""
+        if not self._incarnations.is_latest(heard):
+            return
+        for domain in heard.running & self._suspicions.keys():
+            self._teller.forget((_WAITS, domain, heard.site))
+            if self._suspicions[domain].hear(heard.site, time.monotonic()):
+                self._teller.say(f"site {heard.site} is heard in domain {domain}")
+        for domain, site in heard.put_out:
+            if site == self._site and self._homes.get(domain) == heard.site and not self._put_out.done():
+                self._put_out.set_result(domain)
+
+    async def _look(self) -> None:
+        """Looks for sites that are silent."""
+        while True:
+            await asyncio.sleep(self._patience / _LOOKS_A_PATIENCE)
+            for domain, suspicion in self._suspicions.items():
+                await self._suspect_one(domain, suspicion)
+            self._tell_counts()
+
+    async def _suspect_one(self, domain: int, suspicion: Suspicion) -> None:
+        """Suspects a site of a domain that is silent, if there is one that may be."""
+        self._notice_own_pause()
+        now = time.monotonic()
+        due = suspicion.due(now)
+        if due:
+            await self._suspect(domain, due[0], suspicion)
+            return
+        for site in suspicion.silent(now):
+            told = f"site {site} of domain {domain} is silent, and not suspected: no majority would surely stay"
+            self._teller.tell((_WAITS, domain, site), told)
+
+    async def _suspect(self, domain: int, site: int, suspicion: Suspicion) -> None:
+        line = f"suspect {domain} {site}"
+        try:
+            answer = await self._ask(line)
+        except control.ControlError as error:
+            answer = [str(error)]
+        self._teller.tell((line,), f"{line}: {' '.join(answer)}")
+        if answer == [OK]:
+            suspicion.suspected.add(site)
+
+    async def _feel_pulse(self) -> None:
+        while True:
+            self._notice_own_pause()
+            await asyncio.sleep(self._patience / _LOOKS_A_PATIENCE)
+
+    def _notice_own_pause(self) -> None:
+        """Where this program itself was stopped, it may just not have heard the others: all silences start anew."""
+        now = time.monotonic()
+        late = now - self._last_pulse - self._patience / _LOOKS_A_PATIENCE
+        self._last_pulse = now
+        if late > self._patience / 2:
+            for suspicion in self._suspicions.values():
+                suspicion.start_anew(now)
+            self._teller.say(f"goes on {late:.1f} s late: all silences start anew")
+
+    async def _stop_daemon(self, domain: int) -> None:
+        """Stops the daemon, so that its programs are told. One that does not answer is told again until it does."""
+        self._teller.say(f"site {self._site} was put out of domain {domain}: its daemon is to stop")
+        while True:
+            try:
+                answer = await self._ask(STOP)
+            except control.NoKeeper as error:
+                return self._teller.say(f"the daemon is gone: {error}")
+            except control.ControlError as error:
+                answer = [str(error)]
+            self._teller.tell(_DAEMON, f"{STOP}: {' '.join(answer)}")
+            if answer == [OK]:
+                return
+            await asyncio.sleep(self._patience / _BEATS_A_PATIENCE)
+
+    async def _ask(self, line: str) -> list[str]:
+        return await control.ask(self._control, line, self._patience / 2)
+
+    def _tell_counts(self) -> None:
+        """Tells once a minute at most of datagrams that were not believed."""
+        beats, now = self._socket, time.monotonic()
+        if (beats.undecodable or beats.foreign) and now - self._counts_told >= _SECONDS_BETWEEN_COUNTS:
+            self._teller.say(
+                f"datagrams passed over: {beats.undecodable} no beats, {beats.foreign} not from their site's host"
+            )
+            beats.undecodable, beats.foreign, self._counts_told = 0, 0, now
+
+
+def _pairs(lines: list[str]) -> frozenset[tuple[int, int]]:
+    """The domains and sites of lines `suspected D S`."""
+    return frozenset((int(domain), int(site)) for _, domain, site in map(str.split, lines))

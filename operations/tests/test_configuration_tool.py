@@ -1,0 +1,378 @@
+"""castd-conf: what it makes, castd serves; what it finds at fault, castd refuses with its own words."""
+
+from __future__ import annotations
+
+import json
+import os
+import pathlib
+import random
+import re
+import subprocess
+import tomllib
+from collections.abc import Iterable
+
+from harness import PATIENCE, PROGRAM, TOOLS, Case, Failed, Tool, castd, wait_for_push, wait_for_view
+
+REFUSED = 6
+UNBOUND = 7
+
+SITES = """\
+[[site]]
+number = 1
+address = "127.0.0.1:7001"
+[[site]]
+number = 2
+address = "127.0.0.2:7002"
+"""
+DOMAIN = """\
+[[domain]]
+number = 1
+home = 1
+sites = [1, 2]
+groups = [1, 2]
+socket = "FOLDER/one.sock"
+"""
+OTHER_DOMAIN = DOMAIN.replace("number = 1", "number = 2").replace("one.sock", "other.sock")
+GOOD = SITES + DOMAIN
+
+# What castd refuses: the text, and how a finding begins. castd names the field that stands behind the table.
+FAULTS = {
+    "not toml": (GOOD + "=", "text: not TOML"),
+    "no sites": (DOMAIN, "the document: site: missing"),
+    "sites that are no tables": ("site = 1\n" + DOMAIN, "site: not tables"),
+    "no domains": (SITES, "the document: domain: missing"),
+    "domains that are no tables": ("domain = [1]\n" + SITES, "domain: not tables"),
+    "an empty array of domains": ("domain = []\n" + SITES, "the document: domain: 0 of them"),
+    "17 domains": (
+        SITES + "".join(DOMAIN.replace("number = 1", f"number = {n}").replace("one", f"{n}") for n in range(1, 18)),
+        "the document: domain: 17 of them",
+    ),
+    "a site without a number": (GOOD.replace("number = 1\naddress", "address", 1), "site table 1: number: missing"),
+    "a site of another kind of number": (GOOD.replace("number = 2", "number = 2.0"), "site table 2: number: not"),
+    "a site with a truth": (GOOD.replace("number = 2", "number = true"), "site table 2: number: not a whole number"),
+    "site 0": (GOOD.replace("number = 2", "number = 0"), "site table 2: number: 0 is not 1 to 65535"),
+    "site 65536": (GOOD.replace("number = 2", "number = 65536"), "site table 2: number: 65536 is not"),
+    "a site without an address": (GOOD.replace('address = "127.0.0.2:7002"\n', ""), "site 2: address: missing"),
+    "a site whose address is a number": (GOOD.replace('"127.0.0.2:7002"', "7002"), "site 2: address: not a text"),
+    "two sites of one number": (GOOD.replace("number = 2", "number = 1"), "site 1: number: repeated"),
+    "domain 0": (SITES + DOMAIN.replace("number = 1", "number = 0"), "domain table 1: number: 0 is not 1 to 255"),
+    "domain 256": (SITES + DOMAIN.replace("number = 1", "number = 256"), "domain table 1: number: 256 is not"),
+    "two domains of one number": (GOOD + DOMAIN.replace("one", "two"), "domain 1: number: repeated"),
+    "no home": (GOOD.replace("home = 1\n", ""), "domain 1: home: missing"),
+    "home 0": (GOOD.replace("home = 1", "home = 0"), "domain 1: home: 0 is not 1 to 65535"),
+    "a home that is none of its sites": (GOOD.replace("home = 1", "home = 3"), "domain 1: home: 3 is not one of"),
+    "sites that are one number": (GOOD.replace("[1, 2]", "1", 1), "domain 1: sites: not an array"),
+    "no site": (GOOD.replace("sites = [1, 2]", "sites = []"), "domain 1: sites: 0 of them"),
+    "17 sites": (GOOD.replace("sites = [1, 2]", f"sites = {list(range(1, 18))}"), "domain 1: sites: 17 of them"),
+    "a site twice": (GOOD.replace("sites = [1, 2]", "sites = [1, 2, 1]"), "domain 1: sites: a number is repeated"),
+    "a site that is not listed": (GOOD.replace("sites = [1, 2]", "sites = [1, 3]"), "domain 1: sites: site 3 is not"),
+    "no group": (GOOD.replace("groups = [1, 2]", "groups = []"), "domain 1: groups: 0 of them"),
+    "33 groups": (GOOD.replace("groups = [1, 2]", f"groups = {list(range(1, 34))}"), "domain 1: groups: 33 of them"),
+    "group 0": (GOOD.replace("groups = [1, 2]", "groups = [0]"), "domain 1: groups: 0 is not 1 to 65535"),
+    "a group with a name": (GOOD.replace("groups = [1, 2]", 'groups = ["a"]'), "domain 1: groups: not a whole number"),
+    "a group twice": (GOOD.replace("groups = [1, 2]", "groups = [2, 2]"), "domain 1: groups: a number is repeated"),
+    "no socket": (GOOD.replace('socket = "FOLDER/one.sock"\n', ""), "domain 1: socket: missing"),
+    "a socket that is a number": (GOOD.replace('"FOLDER/one.sock"', "1"), "domain 1: socket: not a text"),
+    "65 sessions": (GOOD + "sessions = 65", "domain 1: sessions: 65 is not 1 to 64"),
+    "no room for messages": (GOOD + "held = 0", "domain 1: held: 0 is not 1 to 1024"),
+    "a great outbox": (GOOD + "outbox = 4097", "domain 1: outbox: 4097 is not 1 to 4096"),
+    "a short time": (GOOD + "resend = 9", "domain 1: resend: 9 is not 10 to 60000"),
+}
+
+# What castd does not refuse with status 6: the text, the finding, and the status of castd, None where it serves.
+KNOWLEDGE = {
+    "an unknown key of the document": ("title = 1\n" + GOOD, "the document: title: unknown", None),
+    "an unknown key of a site": (SITES + "port = 1\n" + DOMAIN, "site 2: port: unknown", None),
+    "an unknown key of a domain": (GOOD + "quota = 1", "domain 1: quota: unknown", None),
+    "a name for an address": (GOOD.replace("127.0.0.2", "localhost"), "site 2: address: localhost is a name", None),
+    "no port": (GOOD.replace("127.0.0.2:7002", "127.0.0.2"), "site 2: address: '127.0.0.2' is not host:port", UNBOUND),
+    "port 65536": (GOOD.replace(":7002", ":65536"), "site 2: address: '127.0.0.2:65536' is not host:port", UNBOUND),
+    "no host": (GOOD.replace("127.0.0.2:", ":"), "site 2: address: ':7002' is not host:port", UNBOUND),
+    "any address": (GOOD.replace("127.0.0.2", "0.0.0.0"), "site 2: address: 0.0.0.0 is not the address of one", None),
+    "many addresses": (GOOD.replace("127.0.0.2", "224.0.0.1"), "site 2: address: 224.0.0.1 is not the address", None),
+    "a port of root": (GOOD.replace(":7002", ":702"), "site 2: address: the user castd may not use a port below", None),
+    "one address twice": (GOOD.replace("127.0.0.2:7002", "127.0.0.1:7001"), "site 2: address: 127.0.0.1:7001 is", None),
+    "one address in two spellings": (
+        GOOD.replace("127.0.0.2:7002", "[::1]:7001").replace("127.0.0.1:7001", "[0::1]:7001"),
+        "site 2: address: [::1]:7001 is the address of site 1 too",
+        None,
+    ),
+    "two kinds of addresses": (GOOD.replace("127.0.0.2", "[::1]"), "domain 1: sites: some have IPv4 and", None),
+    "an address of this machine": (
+        GOOD.replace("127.0.0.2", "192.0.2.2"),
+        "domain 1: sites: some have addresses of this machine alone",
+        None,
+    ),
+    "a host with one number": (GOOD.replace("127.0.0.2", "192.0.2.2"), "site 2: no other number has its host", None),
+    "one socket twice": (GOOD + OTHER_DOMAIN.replace("other", "one"), "domain 2: socket: FOLDER/one.sock is", UNBOUND),
+    "one socket in two spellings": (
+        GOOD + OTHER_DOMAIN.replace("other", "./one"),
+        "domain 2: socket: FOLDER/./one.sock is the socket of domain 1 too",
+        UNBOUND,
+    ),
+    "a path that is not whole": (GOOD.replace("FOLDER/one.sock", "one.sock"), "domain 1: socket: one.sock stand", None),
+    "a path that is too long": (GOOD.replace("one.sock", "s" * 100), "domain 1: socket: a path of ", UNBOUND),
+    "no path": (GOOD.replace("FOLDER/one.sock", ""), "domain 1: socket: without a path, no program finds it", None),
+    "the path of a folder": (GOOD.replace("one.sock", "one/"), "domain 1: socket: no socket can have this", UNBOUND),
+    "a site in no domain": (
+        GOOD.replace("sites = [1, 2]", "sites = [1]"),
+        "site 2: it is in no domain: castd does not serve it",
+        None,
+    ),
+}
+
+PLAN = {
+    "hosts": ["127.0.0.1", "127.0.0.2", "127.0.0.3"],
+    "generations": 5,
+    "domain": [{"number": 1, "home": "127.0.0.2", "groups": [1, 2], "socket": "FOLDER/orders.sock", "held": 512}],
+}
+# A domain of the third host alone.
+OTHER_PLANNED = {"number": 2, "hosts": ["127.0.0.3"], "home": "127.0.0.3", "groups": [7], "socket": "FOLDER/other.sock"}
+
+
+def run(*words: str) -> subprocess.CompletedProcess:
+    tool = str(TOOLS / "castd-conf")
+    return subprocess.run([tool, *words], capture_output=True, text=True, timeout=PATIENCE, check=False)
+
+
+class Daemon(Tool):
+    """A daemon of a configuration, which may be refused."""
+
+    def __init__(self, case: Case, config: str, site: int, folder: str):
+        super().__init__([PROGRAM, "serve", config, "--site", str(site)], folder, cwd=folder)
+        case.addCleanup(self.end)
+
+    def status(self) -> int | None:
+        """How it ends. None where it serves; then it is stopped."""
+        try:
+            self.line(PATIENCE)
+        except Failed:
+            return self.process.wait(PATIENCE)
+        self.say("stop\n")
+        return self.process.wait(PATIENCE) or None
+
+
+class ConfigurationCase(Case):
+    def written(self, text: str, name: str = "castd.conf") -> str:
+        path = f"{self.folder}/{name}"
+        pathlib.Path(path).write_text(text.replace("FOLDER", self.folder), encoding="utf-8")
+        return path
+
+    def planned(self, plan: dict) -> str:
+        """Writes a plan."""
+        fields = {name: value for name, value in plan.items() if name != "domain"}
+        tables = [fields, *plan.get("domain", [])]
+        texts = ["".join(f"{name} = {json.dumps(value)}\n" for name, value in table.items()) for table in tables]
+        return self.written("[[domain]]\n".join(texts), "plan.toml")
+
+    def made(self, plan: dict) -> str:
+        """The file of the configuration that a plan makes."""
+        ran = run("make", self.planned(plan))
+        self.assertEqual((ran.returncode, ran.stderr), (0, ""))
+        return self.written(ran.stdout)
+
+    def assert_found(self, path: str, wanted: Iterable[str]) -> None:
+        """The lint finds one line for each of these, which begins so."""
+        ran = run("lint", path)
+        lines = [line.removeprefix(f"{path}: ") for line in ran.stdout.splitlines()]
+        for beginning in wanted:
+            self.assertTrue(any(line.startswith(beginning) for line in lines), f"{beginning!r} is not in {lines}")
+        self.assertEqual(ran.returncode, 1 if wanted else 0, ran.stdout)
+
+
+class Lint(ConfigurationCase):
+    def test_finds_nothing_in_what_is_good(self):
+        path = self.written(GOOD)
+        self.assert_found(path, [])
+        self.assertIsNone(Daemon(self, path, 1, self.folder).status())
+
+    def test_finds_what_castd_refuses_at_the_field_that_castd_names(self):
+        for name, (text, finding) in FAULTS.items():
+            with self.subTest(name):
+                path = self.written(text)
+                daemon = Daemon(self, path, 1, self.folder)
+                self.assertEqual(daemon.status(), REFUSED)
+                (field,) = re.findall(r"^castd: config: (\w+): ", daemon.complained())
+                self.assertIn(f"{field}: ", f"{finding}: ")
+                self.assert_found(path, [finding])
+
+    def test_finds_what_an_operator_should_know(self):
+        for name, (text, finding, status) in KNOWLEDGE.items():
+            with self.subTest(name):
+                path = self.written(text)
+                self.assertEqual(Daemon(self, path, 1, self.folder).status(), status)
+                self.assert_found(path, [finding.replace("FOLDER", self.folder)])
+
+    def test_finds_all_at_once(self):
+        text = GOOD.replace("number = 2", "number = 0") + "held = 0\nother = 1\n"
+        self.assert_found(self.written(text), ["site table 2: number", "domain 1: held", "domain 1: other"])
+
+    def test_says_what_cannot_be_read(self):
+        latin = self.written("")
+        pathlib.Path(latin).write_bytes(b"# \xff\n")
+        for path in (f"{self.folder}/none", self.folder, latin):
+            with self.subTest(path):
+                ran = run("lint", path)
+                self.assertEqual((ran.returncode, ran.stdout), (3, ""))
+                self.assertIn(path, ran.stderr)
+
+    def test_says_how_it_is_used(self):
+        for words in ([], ["lint"], ["lint", "a", "b"], ["other"], ["next", "a"], ["next", "a", "--site", "0"]):
+            with self.subTest(words):
+                ran = run(*words)
+                self.assertEqual(ran.returncode, 2)
+                self.assertIn("usage: castd-conf", ran.stderr)
+
+
+class Make(ConfigurationCase):
+    def test_makes_what_castd_serves_and_lint_passes(self):
+        path = self.made(PLAN)
+        self.assert_found(path, [])
+        for site in (101, 203, 503):
+            self.assertIsNone(Daemon(self, path, site, self.folder).status())
+
+    def test_gives_each_host_a_number_and_a_port_in_each_generation(self):
+        document = tomllib.loads(pathlib.Path(self.made(PLAN)).read_text())
+        numbers = [site["number"] for site in document["site"]]
+        self.assertEqual(numbers, [100 * generation + host for generation in range(1, 6) for host in (1, 2, 3)])
+        ports = [int(site["address"].rpartition(":")[2]) for site in document["site"]]
+        self.assertEqual(ports, list(range(7001, 7016)))
+        hosts = {site["number"]: site["address"].rpartition(":")[0] for site in document["site"]}
+        self.assertEqual({hosts[number] for number in numbers if number % 100 == 3}, {"127.0.0.3"})
+        (domain,) = document["domain"]
+        self.assertEqual((domain["home"], domain["sites"], domain["held"]), (102, numbers, 512))
+
+    def test_makes_later_generations_and_domains_of_some_hosts(self):
+        other = {**OTHER_PLANNED, "socket": "FOLDER/b \\\" é\x7f"}
+        later = {"first_generation": 6, "generations": 2, "first_port": 9001}
+        path = self.made({**PLAN, **later, "domain": [*PLAN["domain"], other]})
+        document = tomllib.loads(pathlib.Path(path).read_text())
+        self.assertEqual(document["domain"][0]["home"], 602)
+        self.assertEqual(document["domain"][1]["sites"], [603, 703])
+        self.assertEqual(document["domain"][1]["socket"], other["socket"].replace("FOLDER", self.folder))
+        self.assertEqual(document["site"][0], {"number": 601, "address": "127.0.0.1:9001"})
+        self.assertIsNone(Daemon(self, path, 703, self.folder).status())
+
+    def test_refuses_a_plan_at_fault(self):
+        domain = PLAN["domain"][0]
+        faults = {
+            "18 sites": ({**PLAN, "generations": 6}, "18 sites, and a domain has 16 at most: 5 generations fit"),
+            "17 hosts": (
+                {**PLAN, "hosts": [f"127.0.0.{n}" for n in range(1, 18)], "generations": 1},
+                "17 sites, and a domain has 16 at most: 16 hosts fit",
+            ),
+            "an unknown key": ({**PLAN, "port": 1}, "the plan: port: unknown"),
+            "an unknown key of a domain": ({**PLAN, "domain": [{**domain, "sites": [1]}]}, "domain 1: sites: unknown"),
+            "no hosts": ({**PLAN, "hosts": []}, "the plan: hosts: 0 of them"),
+            "one host": ({**PLAN, "hosts": "127.0.0.1"}, "the plan: hosts: not an array of texts"),
+            "a host twice": ({**PLAN, "hosts": ["127.0.0.1", "127.0.0.1"]}, "the plan: hosts: one is repeated"),
+            "another home": ({**PLAN, "domain": [{**domain, "home": "127.0.0.9"}]}, "127.0.0.9 is not one of the plan"),
+            "a home elsewhere": (
+                {**PLAN, "domain": [{**domain, "hosts": ["127.0.0.1"]}]},
+                "domain 1: home: 127.0.0.2 is not one of its hosts",
+            ),
+            "a name": ({**PLAN, "hosts": ["localhost", *PLAN["hosts"][1:]]}, "localhost is a name"),
+            "ports past the last": ({**PLAN, "first_port": 65530}, "the plan: first_port: 65530 is not"),
+            "numbers past the last": ({**PLAN, "first_generation": 653}, "the plan: first_generation: 653 is not"),
+            "no generations": ({key: PLAN[key] for key in ("hosts", "domain")}, "the plan: generations: missing"),
+            "no domains": ({key: PLAN[key] for key in ("hosts", "generations")}, "domain: missing"),
+            "a quota out of range": ({**PLAN, "domain": [{**domain, "held": 0}]}, "domain 1: held: 0 is not 1 to 1024"),
+        }
+        for name, (plan, text) in faults.items():
+            with self.subTest(name):
+                path = self.planned(plan)
+                ran = run("make", path)
+                self.assertEqual((ran.returncode, ran.stdout), (1, ""))
+                self.assertIn(f"castd-conf: {path}: ", ran.stderr)
+                self.assertIn(text, ran.stderr)
+
+
+class Next(ConfigurationCase):
+    def setUp(self):
+        super().setUp()
+        self.state = f"{self.folder}/state"
+        os.mkdir(self.state)
+        self.config = self.made(PLAN)
+
+    def note(self, *sites: int) -> None:
+        for site in sites:
+            pathlib.Path(f"{self.state}/site-{site}").touch()
+
+    def next(self, site: int, state: str = "") -> tuple[int, str]:
+        ran = run("next", self.config, "--site", str(site), "--state", state or self.state)
+        self.said = ran.stderr
+        return ran.returncode, ran.stdout
+
+    def test_gives_the_least_number_of_the_host_that_was_not_used(self):
+        self.assertEqual(self.next(101), (0, "101\n"))
+        self.note(101, 102, 201, 303)
+        self.assertEqual(self.next(101), (0, "301\n"))
+        self.assertEqual(self.next(203), (0, "103\n"))
+        self.assertEqual(self.said, "")
+
+    def test_tells_that_a_home_cannot_go_on(self):
+        self.assertEqual((*self.next(102), self.said), (0, "102\n", ""))
+        self.note(102)
+        self.assertEqual(self.next(102), (0, "202\n"))
+        self.assertIn("domain 1: site 102 is its home: all its daemons start anew", self.said)
+
+    def test_passes_over_numbers_of_other_domains(self):
+        text = pathlib.Path(self.made({**PLAN, "domain": [*PLAN["domain"], OTHER_PLANNED]})).read_text()
+        self.config = self.written(text.replace("sites = [103, 203, ", "sites = [103, "))
+        self.note(103, 203)
+        self.assertEqual(self.next(103), (0, "303\n"))
+        self.assertEqual(self.next(203), (1, ""))
+
+    def test_says_that_none_is_left(self):
+        self.note(*(100 * generation + 1 for generation in range(1, 6)))
+        self.assertEqual(self.next(101), (1, ""))
+        self.assertIn("no unused number has the host and the domains of site 101", self.said)
+
+    def test_says_that_the_site_or_the_state_is_missing(self):
+        self.assertEqual(self.next(999), (1, ""))
+        self.assertIn("site 999 is not listed", self.said)
+        self.assertEqual(self.next(101, f"{self.folder}/none"), (3, ""))
+        self.assertIn(f"{self.folder}/none: No such file or directory", self.said)
+
+
+class Generations(ConfigurationCase):
+    """A host goes on under its next number, at the socket of the daemon before it."""
+
+    def daemon(self, site: int) -> Daemon:
+        daemon = Daemon(self, self.config, site, self.folder)
+        self.assertEqual(daemon.line(PATIENCE), "ready")
+        return daemon
+
+    def joined(self, host: int, size: int) -> castd.Session:
+        session = castd.Session(self.socket(host))
+        self.addCleanup(session.close)
+        session.join(1)
+        wait_for_view(session, size)
+        return session
+
+    def socket(self, host: int) -> str:
+        return f"{self.folder}/{host}.sock"
+
+    def test_the_next_daemon_of_a_host_serves_where_the_last_one_did(self):
+        block = f"127.{random.randint(1, 254)}.{random.randint(1, 254)}"
+        hosts = [f"{block}.{host}" for host in (1, 2)]
+        # On one machine the hosts differ by the folder in which a daemon makes its socket.
+        domain = {**PLAN["domain"][0], "home": hosts[0], "socket": "FOLDER/1.sock"}
+        self.config = self.made({"hosts": hosts, "generations": 2, "domain": [domain]})
+        home = self.daemon(101)
+        member = self.joined(1, 1)
+        text = pathlib.Path(self.config).read_text().replace("1.sock", "2.sock")
+        self.config = self.written(text, "of-host-2.conf")
+        blue = self.daemon(102)
+        newcomer = self.joined(2, 2)
+        self.assertEqual(Daemon(self, self.config, 202, self.folder).status(), UNBOUND)
+        blue.say("stop\n")
+        self.assert_ends(blue, 0)
+        green = self.daemon(202)
+        home.say("suspect 1 102\n")
+        self.assertEqual(home.line(PATIENCE), "ok")
+        wait_for_view(member, 1)
+        again = self.joined(2, 2)
+        member.abcast(1, b"on")
+        for session in (member, again):
+            wait_for_push(session, lambda push: isinstance(push, castd.Deliver) and push.payload == b"on")

@@ -1,0 +1,375 @@
+"""The watch: which sites are suspected, and which are not."""
+
+import heapq
+import os
+import select
+import signal
+import socket
+import threading
+import time
+
+from harness import OFFSET, PATIENCE, PORT, Case, Setup, change_plan, wait_for_end, wait_for_view
+
+# How long a site may be silent. It leaves room for a machine that does much else.
+SILENCE = 2.0
+INCARNATION = "0123456789abcdef"
+
+
+class Link(threading.Thread):
+    """Carries beats between the watches of two sites. Each knows the other by an address of the link."""
+
+    def __init__(self, setup: Setup, first: int, second: int):
+        super().__init__(daemon=True)
+        self.is_cut, self.delay = False, 0.0
+        self._is_over = threading.Event()
+        self._sockets, self._targets = {}, {}
+        for near, far in ((first, second), (second, first)):
+            it = socket.socket(socket.AF_INET, socket.SOCK_DGRAM)
+            it.bind((alias(setup, near, far), PORT + OFFSET))
+            self._sockets[near], self._targets[near] = it, (setup.hosts[near], PORT + OFFSET)
+        self._way = {first: second, second: first}
+
+    def run(self) -> None:
+        waiting = []
+        while not self._is_over.is_set():
+            for it in select.select(list(self._sockets.values()), [], [], 0.02)[0]:
+                near = next(site for site, its in self._sockets.items() if its is it)
+                heapq.heappush(waiting, (time.monotonic() + self.delay, self._way[near], it.recv(65_536)))
+            while waiting and waiting[0][0] <= time.monotonic():
+                _, far, beat = heapq.heappop(waiting)
+                if not self.is_cut:
+                    self._sockets[far].sendto(beat, self._targets[far])
+
+    def end(self) -> None:
+        self._is_over.set()
+        self.join()
+        for it in self._sockets.values():
+            it.close()
+
+
+def alias(setup: Setup, near: int, far: int) -> str:
+    """The host of a link as which the site `near` knows the site `far`."""
+    block = setup.hosts[near].rpartition(".")[0]
+    return f"{block}.{10 * near + far}"
+
+
+class Sites(Case):
+    """Tests with sites that have a keeper and a watch each."""
+
+    def start(self, sites: int, links: tuple[tuple[int, int], ...] = ()) -> None:
+        """Starts sites with a program at each, and waits until the home hears all."""
+        self.setup = self.setup_of(sites)
+        self.numbers = range(1, sites + 1)
+        self.links = [self.link(*pair) for pair in links]
+        self.keepers = {site: self.keeper(self.setup, site) for site in self.numbers}
+        self.programs = {site: self.joined(self.setup, site, site) for site in self.numbers}
+        for program in self.programs.values():
+            if program is not self.programs[sites]:
+                wait_for_view(program, sites)
+        configs = {site: self.config_with(site, links) for site in self.numbers}
+        self.watches = {
+            site: self.watch(self.setup, site, "--patience", str(SILENCE), config=configs[site])
+            for site in self.numbers
+        }
+        self.watches[1].wait_for_lines(*(f"site {site} is heard in domain 1" for site in self.numbers[1:]))
+
+    def link(self, first: int, second: int) -> Link:
+        link = Link(self.setup, first, second)
+        link.start()
+        self.addCleanup(link.end)
+        return link
+
+    def config_with(self, site: int, links: tuple[tuple[int, int], ...]) -> str:
+        """The configuration as the watch of a site has it, in which links take the places of other sites."""
+        addresses = dict(self.setup.addresses)
+        for pair in links:
+            if site in pair:
+                (far,) = set(pair) - {site}
+                addresses[far] = f"{alias(self.setup, site, far)}:{PORT}"
+        return self.setup.write(f"watch-{site}.conf", addresses)
+
+    def suspected(self) -> str:
+        return self.keepers[1].ask("suspected")
+
+    def lose(self, site: int) -> None:
+        """The keeper of a site is killed, and its daemon with it."""
+        self.keepers[site].process.kill()
+        self.keepers[site].process.wait()
+
+    def assert_put_out(self, site: int, others: int) -> None:
+        """A site is suspected, and the programs at the others go on in a view without it."""
+        self.watches[1].wait_for_lines(f"suspect 1 {site}: ok")
+        self.assertEqual(self.suspected(), f"suspected 1 {site}")
+        view = wait_for_view(self.programs[1], others)
+        self.assertNotIn(site, [member.site for member in view.members])
+
+    def assert_stopped(self, site: int) -> None:
+        """A site learns that it was put out, and stops in order. Its program is told."""
+        self.watches[site].wait_for_lines(f"site {site} was put out of domain 1: its daemon is to stop")
+        self.assert_ended(site)
+
+    def assert_ended(self, site: int) -> None:
+        self.assert_ends(self.watches[site], 12)
+        wait_for_end(self.programs[site])
+        self.assert_ends(self.keepers[site], 0)
+
+    def assert_nobody_is_suspected_for(self, seconds: float) -> None:
+        told = [line for line in self.watches[1].lines_for(seconds) if line.startswith("suspect")]
+        self.assertEqual(told, [])
+        self.assertEqual(self.suspected(), "")
+
+
+class Failing(Sites):
+    def test_a_site_that_is_killed_is_put_out(self):
+        self.start(3)
+        self.lose(3)
+        self.assert_put_out(3, 2)
+        self.watches[3].wait_for_lines("the daemon does not answer, and no beats are sent", "was put out of domain 1")
+        self.assert_ends(self.watches[3], 12)
+        self.assertEqual(self.keepers[2].ask("health"), "healthy")
+
+    def test_a_daemon_that_hangs_is_put_out_and_stops_when_it_goes_on(self):
+        self.start(3)
+        daemon = self.keepers[3].daemon()
+        os.kill(daemon, signal.SIGSTOP)
+        self.assert_put_out(3, 2)
+        # Its watch learns it, and cannot stop the daemon.
+        self.watches[3].wait_for_lines("site 3 was put out of domain 1: its daemon is to stop", "stop: ")
+        os.kill(daemon, signal.SIGCONT)
+        self.assert_ended(3)
+
+    def test_a_site_behind_a_cut_link_is_put_out_and_stops_when_it_learns_it(self):
+        self.start(3, links=((1, 3),))
+        self.links[0].is_cut = True
+        self.assert_put_out(3, 2)
+        self.assertEqual(self.keepers[3].ask("health"), "healthy")
+        self.links[0].is_cut = False
+        self.assert_stopped(3)
+        # It stays put out, for good.
+        self.assertEqual(self.suspected(), "suspected 1 3")
+
+    def test_a_site_that_an_operator_suspects_stops_too(self):
+        self.start(3)
+        self.assertEqual(self.keepers[1].ask("suspect 1 2"), "ok")
+        self.assert_stopped(2)
+        self.assertEqual(self.keepers[3].ask("health"), "healthy")
+
+
+class Staying(Sites):
+    def test_a_slow_link_puts_nobody_out(self):
+        self.start(3, links=((1, 3),))
+        self.links[0].delay = SILENCE * 0.7
+        self.assert_nobody_is_suspected_for(3 * SILENCE)
+        # The link is what the beats pass: cut, it has the site put out.
+        self.links[0].is_cut = True
+        self.assert_put_out(3, 2)
+
+    def test_a_majority_is_never_put_out(self):
+        self.start(3)
+        for site in (2, 3):
+            self.keepers[site].process.kill()
+        self.watches[1].wait_for_lines("and not suspected: no majority would surely stay")
+        self.assertLessEqual(len(self.suspected().splitlines()), 1)
+        before = self.suspected()
+        # It waits, and says so once.
+        self.assertLessEqual(len(self.watches[1].lines_for(2 * SILENCE)), 1)
+        self.assertEqual(self.suspected(), before)
+
+    def test_a_home_that_is_cut_off_puts_nobody_out(self):
+        self.start(3, links=((1, 2), (1, 3)))
+        for link in self.links:
+            link.is_cut = True
+        silent = [f"site {site} of domain 1 is silent, and not suspected" for site in (2, 3)]
+        self.watches[1].wait_for_lines(*silent)
+        # They do not come back at the same moment.
+        self.links[0].is_cut = False
+        self.assert_nobody_is_suspected_for(SILENCE / 2)
+        self.links[1].is_cut = False
+        self.assert_nobody_is_suspected_for(1.5 * SILENCE)
+        # Once they are heard again, a silence ends as before.
+        self.lose(3)
+        self.assert_put_out(3, 2)
+
+    def test_one_of_two_sites_is_not_put_out(self):
+        self.start(2)
+        self.lose(2)
+        self.watches[1].wait_for_lines("site 2 of domain 1 is silent, and not suspected")
+        self.assertEqual(self.suspected(), "")
+
+    def test_a_watch_that_was_stopped_suspects_nobody_when_it_goes_on(self):
+        self.start(3)
+        watch = self.watches[1].process
+        watch.send_signal(signal.SIGSTOP)
+        # The silence of the others is what this is about, so it is waited for.
+        time.sleep(2.5 * SILENCE)
+        watch.send_signal(signal.SIGCONT)
+        self.watches[1].wait_for_lines("late: all silences start anew")
+        self.assert_nobody_is_suspected_for(1.5 * SILENCE)
+        self.lose(3)
+        self.assert_put_out(3, 2)
+
+
+class Believing(Case):
+    """Tests with beats that the test itself sends."""
+
+    def beat(self, setup: Setup, to: int, beat: str, host: str) -> None:
+        """Sends a beat to the watch of a site, from a host."""
+        with socket.socket(socket.AF_INET, socket.SOCK_DGRAM) as it:
+            it.bind((host, 0))
+            it.sendto(beat.encode(), (setup.hosts[to], PORT + OFFSET))
+
+    def started(self, sites: int, site: int, *domains: dict):
+        """A site whose daemon is stood in for, with its watch."""
+        setup = self.setup_of(sites, *domains)
+        keeper = self.stand_in(setup, site)
+        watch = self.watch(setup, site, "--patience", str(SILENCE))
+        watch.wait_for_lines("the daemon answers, and beats are sent")
+        return setup, keeper, watch
+
+    def test_a_beat_is_believed_from_the_host_of_its_site_alone(self):
+        setup, keeper, watch = self.started(3, 2)
+        stranger = setup.hosts[1].rpartition(".")[0] + ".99"
+        put_out = f"castd-beat-1 1 {INCARNATION} 1 1:2"
+        self.beat(setup, 2, put_out, stranger)
+        self.beat(setup, 2, put_out, setup.hosts[3])
+        watch.wait_for_lines("datagrams passed over: 0 no beats, ")
+        # Only the home of a domain puts out, and only of sites and domains that there are.
+        for nothing in (
+            f"castd-beat-1 3 {INCARNATION} 1 1:2",
+            f"castd-beat-1 1 {INCARNATION} 1 2:2",
+            f"castd-beat-1 1 {INCARNATION} 1 1:3",
+            f"castd-beat-1 9 {INCARNATION} 1 1:2",
+        ):
+            self.beat(setup, 2, nothing, setup.hosts[3 if " 3 " in nothing[:16] else 1])
+        self.assertEqual(watch.lines_for(1), [])
+        self.assertEqual(keeper.ask("health"), "healthy")
+        self.beat(setup, 2, put_out, setup.hosts[1])
+        self.assert_ends(watch, 12)
+        self.assert_ends(keeper, 0)
+
+    def test_datagrams_that_are_no_beats_are_counted(self):
+        setup, keeper, watch = self.started(2, 2)
+        whole = f"castd-beat-1 1 {INCARNATION} 1 1:2"
+        bad = [
+            "",
+            "castd-beat-1",
+            whole + "\n",
+            whole + " ",
+            whole.replace("-1", "-2", 1),
+            whole.replace(" 1 ", " 01 ", 1),
+            whole.replace(" 1 ", " 65536 ", 1),
+            whole.replace(INCARNATION, INCARNATION.upper()),
+            whole.replace(" 1 1:2", " 256 1:2"),
+            whole.replace("1:2", "1:0"),
+            whole.replace("1:2", "1:2,"),
+            "x" * 60_000,
+        ]
+        for datagram in bad:
+            self.beat(setup, 2, datagram, setup.hosts[1])
+        # The count is told at most once a minute: at the first, and no more within this test.
+        watch.wait_for_lines(" no beats, 0 not from their site's host")
+        self.assertEqual(watch.lines_for(1), [])
+        self.assertEqual(keeper.ask("health"), "healthy")
+
+    def test_a_beat_says_what_the_home_has_put_out(self):
+        setup = self.setup_of(3)
+        keeper = self.stand_in(setup, answers={"suspect 1 3": ["ok"], "suspect 1 2": ["refused 13"]})
+        with socket.socket(socket.AF_INET, socket.SOCK_DGRAM) as it:
+            it.settimeout(PATIENCE)
+            it.bind((setup.hosts[2], PORT + OFFSET))
+            watch = self.watch(setup, 1, "--patience", str(SILENCE))
+            first, source = it.recvfrom(65_536)
+            self.assertEqual(source, (setup.hosts[1], PORT + OFFSET))
+            self.assertRegex(first.decode(), "^castd-beat-1 1 [0-9a-f]{16} 1 -$")
+            self.assertEqual(keeper.ask("suspect 1 2"), "refused 13")
+            self.assertEqual(keeper.ask("suspect 1 3"), "ok")
+            end = time.monotonic() + PATIENCE
+            while (last := it.recv(65_536)) == first and time.monotonic() < end:
+                pass
+            self.assertEqual(last, first[:-1] + b"1:3")
+            # There are five beats in a patience. A machine that does much else may have fewer.
+            begun = time.monotonic()
+            for _ in range(10):
+                it.recv(65_536)
+            self.assertGreater(time.monotonic() - begun, 1.5 * SILENCE)
+        watch.process.send_signal(signal.SIGTERM)
+        self.assert_ends(watch, 0)
+
+    def test_a_daemon_that_answers_late_is_silent(self):
+        setup = self.setup_of(2)
+        keeper = self.stand_in(setup, delays={"domains": 0.75 * SILENCE})
+        with socket.socket(socket.AF_INET, socket.SOCK_DGRAM) as it:
+            it.bind((setup.hosts[2], PORT + OFFSET))
+            watch = self.watch(setup, 1, "--patience", str(SILENCE))
+            watch.wait_for_lines("the daemon does not answer, and no beats are sent: ")
+            it.settimeout(2 * SILENCE)
+            self.assertRaises(TimeoutError, it.recv, 65_536)
+            change_plan(setup, 1)
+            watch.wait_for_lines("the daemon answers, and beats are sent")
+            it.settimeout(PATIENCE)
+            self.assertIn(b"castd-beat-1 1 ", it.recv(65_536))
+        self.assertEqual(keeper.ask("health"), "healthy")
+
+    def test_a_halted_domain_is_silent_in_the_beats_of_its_site(self):
+        domains = [{"number": number, "socket": f"{number}.sock"} for number in (1, 2)]
+        setup = self.setup_of(3, *domains)
+        running = {"domains": ["domain 1 running", "domain 2 running"], "suspect 2 3": ["ok"]}
+        keepers = {site: self.stand_in(setup, site, answers=running) for site in (1, 2, 3)}
+        watches = {site: self.watch(setup, site, "--patience", str(SILENCE)) for site in (1, 2, 3)}
+        watches[1].wait_for_lines("site 2 is heard in domain 2", "site 3 is heard in domain 2")
+        change_plan(setup, 3, answers={"domains": ["domain 1 running", "domain 2 halted"]})
+        watches[1].wait_for_lines("suspect 2 3: ok")
+        self.assertEqual(keepers[1].ask("suspected"), "suspected 2 3")
+
+    def test_a_daemon_or_keeper_that_is_gone_is_waited_for(self):
+        setup = self.setup_of(2)
+        watch = self.watch(setup, 2, "--patience", str(SILENCE))
+        watch.wait_for_lines("the daemon does not answer, and no beats are sent: ")
+        for _ in range(2):
+            keeper = self.stand_in(setup, 2)
+            watch.wait_for_lines("the daemon answers, and beats are sent")
+            keeper.process.kill()
+            watch.wait_for_lines("the daemon does not answer, and no beats are sent: ")
+            os.unlink(f"{setup.state}/site-2")
+
+    def test_a_late_beat_of_a_former_life_is_not_believed(self):
+        setup, keeper, watch = self.started(2, 2)
+        new = INCARNATION[::-1]
+        for beat in (
+            f"castd-beat-1 1 {INCARNATION} 1 -",
+            f"castd-beat-1 1 {new} 1 -",
+            f"castd-beat-1 1 {INCARNATION} 1 1:2",
+        ):
+            self.beat(setup, 2, beat, setup.hosts[1])
+        self.assertEqual(watch.lines_for(1), [])
+        self.beat(setup, 2, f"castd-beat-1 1 {new} 1 1:2", setup.hosts[1])
+        self.assert_ends(watch, 12)
+        self.assert_ends(keeper, 0)
+
+
+class CommandLine(Case):
+    def test_signals_end_it(self):
+        for number in (signal.SIGTERM, signal.SIGINT):
+            watch = self.watch(self.setup_of(), 1)
+            watch.wait_for_lines("watches as site 1")
+            watch.process.send_signal(number)
+            self.assert_ends(watch, 0)
+
+    def test_its_faults_have_statuses(self):
+        setup = self.setup_of(2)
+        setup.addresses[2] = setup.addresses[1].replace(str(PORT), str(PORT + OFFSET))
+        near = setup.write("near.conf", setup.addresses)
+        with socket.socket(socket.AF_INET, socket.SOCK_DGRAM) as taken:
+            taken.bind((setup.hosts[1], PORT + OFFSET))
+            for config, words, status, text in (
+                (setup.config, ["--patience", "nan"], 2, "is not 0.5 to 3600 seconds"),
+                (setup.config, ["--port-offset", "0"], 2, "is not a number from 1 to 65535"),
+                (setup.config, ["--port-offset", "60000"], 7, "there is no port"),
+                (near, [], 2, "beats of site 1 would come to the daemon of site 2"),
+                (f"{self.folder}/none", [], 6, "No such file"),
+                (setup.config, [], 7, "Address already in use"),
+            ):
+                with self.subTest(words):
+                    watch = self.watch(setup, 1, *words, config=config)
+                    self.assert_ends(watch, status)
+                    self.assertIn(text, watch.complained())
