@@ -6,6 +6,7 @@ import pathlib
 import re
 import shutil
 import signal
+import socket
 import subprocess
 import time
 
@@ -237,8 +238,28 @@ class Metrics(Case):
         self.assertEqual(values["castd_record_waiting_bytes site=1"], 9)
         self.assertEqual(values["castd_record_lost_events_total site=1"], 10)
 
+    def test_datagrams_and_the_record_of_a_daemon_are_told(self):
+        setup = self.setup_of()
+        folder = f"{setup.folder}/record"
+        os.mkdir(folder)
+        keeper = self.keeper(setup, more=["--record", folder])
+        host, port = setup.addresses[1].split(":")
+        with socket.socket(socket.AF_INET, socket.SOCK_DGRAM) as sender:
+            for _ in range(3):
+                sender.sendto(b"no frame", (host, int(port)))
+        end = time.monotonic() + PATIENCE
+        while (values := self.metrics(keeper))["castd_datagrams_undecoded_total site=1"] < 3:
+            self.assertLess(time.monotonic(), end)
+        # What the daemon sends itself comes too.
+        sent = values["castd_datagrams_sent_total site=1"]
+        self.assertEqual(values["castd_datagrams_received_total site=1"], sent + 3)
+        self.assertEqual(values["castd_datagrams_undecoded_total site=1"], 3)
+        self.assertEqual(values["castd_datagrams_lost_total site=1"], 0)
+        self.assertEqual(values["castd_record_running site=1"], 1)
+        self.assertEqual(values["castd_record_lost_events_total site=1"], 0)
+
     def test_states_of_the_record_are_told(self):
-        for line, running, ended in (("record none", 0, 0), ("record ended", 0, 1)):
+        for line, running, ended in (("record off", 0, 0), ("record ended", 0, 1)):
             keeper = self.stand_in(self.setup_of(), answers={"record": [line]})
             values = self.metrics(keeper)
             self.assertEqual(values["castd_record_running site=1"], running)
@@ -293,6 +314,6 @@ class Health(Case):
         self.assertEqual(keeper.castctl("health"), (1, "unhealthy: no memory\n"))
 
     def test_a_record_that_runs_is_healthy(self):
-        for line in ("record none", "record running waiting 3 lost 1"):
+        for line in ("record off", "record running waiting 3 lost 1"):
             keeper = self.stand_in(self.setup_of(), answers={"record": [line]})
             self.assertEqual(keeper.castctl("health"), (0, "healthy\n"))

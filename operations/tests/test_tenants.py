@@ -34,7 +34,7 @@ class Tenants(Case):
         self.user("castd-test-3")
         # Other users cannot read the repository, perhaps.
         for file in (ROOT / "clients/castd.py", TESTS / "join_once.py", PROGRAM):
-            shutil.copy(file, self.folder)
+            os.chmod(shutil.copy(file, self.folder), 0o755)
         self.make_directories()
         self.start_daemon()
 
