@@ -262,9 +262,9 @@ class ControlSocket(Case):
         begun = time.monotonic()
         self.assertEqual(keeper.ask("domains"), "domain 1 running")
         self.assertLess(time.monotonic() - begun, 10)
-        # Those that leave their answers unread are closed.
+        # Those that leave their answers unread are closed, once there are many.
         for connected in unread:
-            wait_until(lambda: _is_closed(connected), "a client that does not read is closed")
+            wait_until(lambda: _is_closed(connected), "a client that does not read is closed", 5 * PATIENCE)
 
     def test_clients_that_say_nothing_stop_no_others(self):
         setup = self.setup_of()

@@ -289,11 +289,16 @@ impl Desk {
         (self.unsent.so_far, self.unread.so_far)
     }
 
-    /// Tells the operator something. It is lost if the daemon stops, or if much else waits to be told.
+    /// Tells the operator something. It is lost once reports have ended, or if much else waits to be told.
     pub fn report<R: Wait>(&self, rt: &R, what: Report) {
         if let Some(reports) = &self.reports {
             let _ = reports.try_send(rt, what);
         }
+    }
+
+    /// Nothing is reported any more. What was is still written.
+    pub fn end_reports(&mut self) {
+        drop(self.reports.take());
     }
 
     /// Whether the daemon stops.
@@ -305,7 +310,6 @@ impl Desk {
     pub fn stop<R: Wait>(&mut self, rt: &R) {
         self.is_stopping = true;
         drop(self.jobs.take());
-        drop(self.reports.take());
         for client in self.clients.values() {
             client.close(rt);
         }

@@ -50,10 +50,11 @@ fn dispatch<L: Ledger, R: Wait>(rt: &R, server: &mut Server<'_, L>, done: Done) 
     }
 }
 
-/// Passes on what the workers and the console did, until nothing can come any more.
+/// Passes on what the workers and the console did, until nothing can come any more. Then reports end: a halt just before the end is told.
 pub fn run_dispatcher<L: Ledger, R: Wait>(rt: &R, server: Server<'_, L>, answers: Receiver<Done>) {
     let mut server = server;
     for done in answers.iter(rt) {
         dispatch(rt, &mut server, done);
     }
+    server.shared.desk.lock(rt).end_reports();
 }

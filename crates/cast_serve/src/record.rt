@@ -346,7 +346,8 @@ impl<K: Write + Drop> Record<K> {
         None
     }
 
-    /// Writes all that is left. Nobody serves any more. Answers what the operator has to know of it.
+    /// Writes all that is left. Nobody serves any more. Answers what the operator has to know of it: also if twice there was no memory to
+    /// cut the trace, so that its events are not written.
     pub fn end<L: Ledger, R: Wait>(
         self,
         rt: &R,
@@ -354,9 +355,14 @@ impl<K: Write + Drop> Record<K> {
         kept: &Mutex<Kept<L>>,
     ) -> Option<Report> {
         let mut record = self;
-        tape.cut(rt, &mut kept.lock(rt));
+        let is_cut = tape.cut(rt, &mut kept.lock(rt)) || tape.cut(rt, &mut kept.lock(rt));
         let (pieces, lost) = tape.take(rt);
-        record.write(rt, tape, pieces, lost)
+        let report = record.write(rt, tape, pieces, lost);
+        if is_cut {
+            report
+        } else {
+            Some(Report::RecordEnded(record.written))
+        }
     }
 }
 

@@ -296,6 +296,9 @@ where
         Err(error) => Err(error),
     };
     stop(rt, ground, paths);
+    if ended.is_err() {
+        ground.shared.desk.lock(rt).end_reports();
+    }
     ended
 }
 
