@@ -39,7 +39,7 @@ int castd_open(struct castd *session, const char *path) {
         return -1;
     }
     strcpy(address.sun_path, path);
-    session->socket = socket(AF_UNIX, SOCK_STREAM, 0);
+    session->socket = socket(AF_UNIX, SOCK_STREAM | SOCK_CLOEXEC, 0);
     if (session->socket < 0) return -1;
     if (connect(session->socket, (struct sockaddr *)&address, sizeof address) == 0) return 0;
     int error = errno;

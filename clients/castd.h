@@ -6,6 +6,10 @@
 #include <stddef.h>
 #include <stdint.h>
 
+#ifdef __cplusplus
+extern "C" {
+#endif
+
 #define CASTD_MOST_FRAME 20000
 #define CASTD_MOST_PAYLOAD 16384
 #define CASTD_MOST_MEMBERS 64
@@ -44,7 +48,7 @@ struct castd {
     uint8_t bytes[CASTD_MOST_FRAME];
 };
 
-/* Connects to the socket of a domain. 0, or -1 with errno. */
+/* Connects to the socket of a domain. 0, or -1 with errno. A program that this one executes does not get the descriptor. */
 int castd_open(struct castd *session, const char *path);
 void castd_close(struct castd *session);
 
@@ -57,5 +61,9 @@ int castd_pass(struct castd *session, uint16_t group, struct castd_process to);
 /* Waits for the next push, for so many milliseconds, or for ever where they are negative. CASTD_NONE where none came in time, and
  * CASTD_ENDED at the end of the stream. */
 enum castd_result castd_read(struct castd *session, struct castd_push *push, int milliseconds);
+
+#ifdef __cplusplus
+}
+#endif
 
 #endif

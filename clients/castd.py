@@ -2,7 +2,8 @@
 """A client of castd, the group communication daemon, for Python programs.
 
 As a module: `Session(path)` connects to the Unix socket of a domain; `join`, `leave`, `cast`, `abcast` and `pass_to` send
-commands, and `read` gives what the daemon pushes. As a program it is a line tool:
+commands, and `read` gives what the daemon pushes. Any thread may send commands of a session; one at a time may read. As a
+program it is a line tool:
 
     castd.py SOCKET
 
@@ -12,10 +13,12 @@ command has its reply, or when the session is closed.
     join G      leave G      cast G TEXT      abcast G TEXT      pass G PROCESS      wait SECONDS
 """
 import collections
+import math
 import select
 import socket
 import struct
 import sys
+import threading
 import time
 
 JOIN, LEAVE, CAST, PASS = 1, 2, 3, 4
@@ -82,14 +85,18 @@ class Session:
     def __init__(self, path):
         self.socket = socket.socket(socket.AF_UNIX, socket.SOCK_STREAM)
         self.socket.connect(path)
+        self.poll = select.poll()
+        self.poll.register(self.socket, select.POLLIN)
         self.bytes = bytearray()
         self.tag = 0
+        self.sending = threading.Lock()
 
     def send(self, kind, group, more=b""):
         """Sends a command, and gives the tag that its reply will bear."""
-        self.tag = (self.tag + 1) % (1 << 32)
-        self.socket.sendall(frame(kind, struct.pack(">IH", self.tag, group) + more))
-        return self.tag
+        with self.sending:
+            tag = self.tag = (self.tag + 1) % (1 << 32)
+            self.socket.sendall(frame(kind, struct.pack(">IH", tag, group) + more))
+        return tag
 
     def join(self, group):
         return self.send(JOIN, group)
@@ -128,8 +135,8 @@ class Session:
             push = self.take()
             if push is not None:
                 return push
-            left = None if end is None else max(0, end - time.monotonic())
-            if not select.select([self.socket], [], [], left)[0]:
+            left = None if end is None else math.ceil(1_000 * max(0, end - time.monotonic()))
+            if not self.poll.poll(left):
                 return None
             more = self.socket.recv(65_536)
             if not more:
