@@ -64,12 +64,16 @@ pub(crate) fn note_of(answer: &Result<Taken, Fault>) -> Option<Noted>
     }
 }
 
-/// The halted domains, in the room that there is for them. Takes no memory.
+/// The halted domains, in the room that there is for them. Takes no memory. Where there are none, the room is given back: a trace has many
+/// entries.
 pub(crate) fn fill(room: Vec<DomainNo>, halted: &[DomainNo]) -> List<DomainNo>
     requires empty { room.items ≡ [] }
     requires room { length halted.now ≤ vec_capacity room }
     ensures { result ≡ halted.now }
 {
+    if halted.is_empty() {
+        return List::new(*room.allocator());
+    }
     let mut room = room;
     room.extend_from_slice(halted).unwrap();
     List::from_vec(room)
