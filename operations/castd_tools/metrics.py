@@ -24,7 +24,7 @@ _METRICS = (
     ("castd_datagrams_undecoded_total", COUNTER, "Datagrams that came and could not be read."),
     ("castd_record_running", GAUGE, "Whether events are recorded."),
     ("castd_record_ended", GAUGE, "Whether the record has ended, though the daemon goes on."),
-    ("castd_record_waiting_bytes", GAUGE, "Bytes that wait to be written to the record."),
+    ("castd_record_waiting_bytes", GAUGE, "Bytes that wait to be written to the record, or were written and still have their memory."),
     ("castd_record_lost_events_total", COUNTER, "Events that the record lacks."),
     ("castd_domain_running", GAUGE, "Whether the domain runs, and is not halted."),
     ("castd_sessions", GAUGE, "Programs that are connected."),

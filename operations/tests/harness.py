@@ -87,17 +87,9 @@ class Case(unittest.TestCase):
         """So many sites. They serve domain 1, of which site 1 is the home, where no domains are named."""
         return Setup(tempfile.mkdtemp(dir=self.folder), sites, list(domains) or [{"number": 1}], is_one_host)
 
-    def keeper(
-        self,
-        setup: Setup,
-        site: int = 1,
-        *,
-        program: str = PROGRAM,
-        more: Sequence[str] = (),
-        env: Mapping[str, str] = NOTHING,
-    ) -> Keeper:
-        """A keeper that serves."""
-        keeper = self.started_keeper(setup, site, program=program, more=more, env=env)
+    def keeper(self, setup: Setup, site: int = 1, **how) -> Keeper:
+        """A keeper that serves. What `how` may say, `started_keeper` has."""
+        keeper = self.started_keeper(setup, site, **how)
         self.assertEqual(keeper.line(PATIENCE), "ready")
         return keeper
 

@@ -224,6 +224,40 @@ class Lint(ConfigurationCase):
                 self.assertIn("usage: castd-conf", ran.stderr)
 
 
+class Check(ConfigurationCase):
+    """castd itself says what it would serve."""
+
+    def check(self, text: str, command: str = "check") -> subprocess.CompletedProcess:
+        path = pathlib.Path(f"{self.folder}/checked.conf")
+        path.write_text(text)
+        words = [PROGRAM, command, str(path), "--site", "2"]
+        how = {"stdin": subprocess.DEVNULL, "capture_output": True, "text": True, "timeout": PATIENCE}
+        return subprocess.run(words, check=False, **how)
+
+    def test_says_it_as_the_first_lines_of_a_script(self):
+        ran = self.check(GOOD)
+        self.assertEqual((ran.returncode, ran.stderr), (0, ""))
+        lines = [
+            "site 2",
+            "domain 1 home 1 sites 1,2 groups 1,2 quotas 16 256 256 200",
+            "# site 1 address 127.0.0.1:7001",
+            "# site 2 address 127.0.0.2:7002",
+            "# domain 1 socket FOLDER/one.sock",
+        ]
+        self.assertEqual(ran.stdout.splitlines(), lines)
+        script = pathlib.Path(f"{self.folder}/checked.script")
+        script.write_text(ran.stdout)
+        replay = subprocess.run([PROGRAM, "replay", str(script)], capture_output=True, timeout=PATIENCE, check=False)
+        self.assertEqual((replay.returncode, replay.stdout, replay.stderr), (0, b"", b""))
+
+    def test_refuses_what_is_not_served_in_the_same_words(self):
+        for text in (GOOD.replace("home = 1", "home = 3"), SITES, GOOD + "="):
+            with self.subTest(text):
+                checked, served = self.check(text), self.check(text, "serve")
+                self.assertEqual((checked.returncode, checked.stdout), (REFUSED, ""))
+                self.assertEqual((checked.returncode, checked.stderr), (served.returncode, served.stderr))
+
+
 class Make(ConfigurationCase):
     def test_makes_what_castd_serves_and_lint_passes(self):
         path = self.made(PLAN)

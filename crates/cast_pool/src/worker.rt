@@ -35,7 +35,7 @@ impl Gate for Open {
 }
 
 /// Does what is asked until nothing more can be, sends what came of each, and gives the worker's share of the count back. The lock is
-/// held for `Kept::complete` alone, which may trim the trace if that is said here.
+/// held for `Kept::complete` alone, which is told whether it may trim the trace after a job that halted a domain.
 pub fn work<L: Ledger, R: Wait, P: Post, G: Gate>(
     rt: &R,
     alloc: Global,

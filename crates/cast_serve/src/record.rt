@@ -18,8 +18,8 @@ use std::sync::{Mutex, Wait};
 use std::time::Duration;
 use std::{io, mem, thread};
 
-// From so many events on, a thread that serves cuts them off the trace. It would be trimmed, and they were lost, at 4,096. So there is room
-// for what the console has served meanwhile.
+// From so many events on, a thread that served one cuts them off the trace. At 4,096 it would be trimmed, and they were lost: the difference
+// is for what other threads serve meanwhile.
 const CUT: usize = 3_840;
 
 // So many bytes at most wait to be written. What finds no room is lost, and the record says so.
