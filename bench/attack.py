@@ -10,8 +10,8 @@ import struct
 import sys
 import time
 
-sys.path.insert(0, f"{os.path.dirname(os.path.realpath(__file__))}/../clients")
-import castd  # noqa: E402
+sys.path.insert(0, f"{os.path.dirname(os.path.realpath(__file__))}/../clients/python")
+import raw  # noqa: E402
 
 # The domain of the honest pair, and those that are attacked.
 HONEST, ATTACKED = 1, (2, 3, 4)
@@ -51,14 +51,14 @@ def spoiled(chance, data):
 
 def command(chance):
     """A frame of a program, most often one that the daemon understands."""
-    kind = chance.choice((castd.JOIN, castd.JOIN, castd.LEAVE, castd.CAST, castd.CAST, castd.CAST, castd.PASS, chance.randrange(256)))
+    kind = chance.choice((raw.JOIN, raw.JOIN, raw.LEAVE, raw.CAST, raw.CAST, raw.CAST, raw.PASS, chance.randrange(256)))
     head = struct.pack(">IH", chance.getrandbits(32), chance.choice((1, 1, 1, 2, 3, some(chance, 65535))))
-    if kind == castd.CAST:
+    if kind == raw.CAST:
         size = chance.choice((0, 1, 99, 1024, 16384, 16385, 19988, chance.randint(0, 19988)))
-        return castd.frame(kind, head + bytes([chance.choice((1, 1, 2, 2, chance.randrange(256)))]) + chance.randbytes(size))
-    if kind == castd.PASS:
-        return castd.frame(kind, head + struct.pack(">HI", *process(chance)))
-    return castd.frame(kind, head if kind in (castd.JOIN, castd.LEAVE) else chance.randbytes(chance.randint(0, 40)))
+        return raw.frame(kind, head + bytes([chance.choice((1, 1, 2, 2, chance.randrange(256)))]) + chance.randbytes(size))
+    if kind == raw.PASS:
+        return raw.frame(kind, head + struct.pack(">HI", *process(chance)))
+    return raw.frame(kind, head if kind in (raw.JOIN, raw.LEAVE) else chance.randbytes(chance.randint(0, 40)))
 
 
 def entries(chance, most, *more):
@@ -243,7 +243,7 @@ class Attacker:
         """A program that joined a group, where the daemon serves one."""
         stream, group = self.connect(chance), chance.choice(GROUPS)
         if stream:
-            self.write(stream, castd.frame(castd.JOIN, struct.pack(">IH", 1, group)))
+            self.write(stream, raw.frame(raw.JOIN, struct.pack(">IH", 1, group)))
             for _turn in range(4):
                 time.sleep(0.01)
                 self.answer(random.Random(chance.getrandbits(64)))
@@ -254,9 +254,9 @@ class Attacker:
         stream, head = self.member(chance)
         for _turn in range(chance.randint(1, 60) if stream else 0):
             size = chance.choice((0, 10, 1000, 16384))
-            frames = [castd.frame(castd.CAST, head + bytes([chance.choice((1, 2))]) + bytes(size))]
+            frames = [raw.frame(raw.CAST, head + bytes([chance.choice((1, 2))]) + bytes(size))]
             if chance.random() < 0.1:
-                frames.append(castd.frame(castd.PASS, head + struct.pack(">HI", *process(chance, 1))))
+                frames.append(raw.frame(raw.PASS, head + struct.pack(">HI", *process(chance, 1))))
             self.read(stream)
             if not self.write(stream, *frames):
                 break
@@ -268,7 +268,7 @@ class Attacker:
         stream, head = self.member(chance)
         size = chance.choice((10, 1000, 16384))
         for _turn in range(chance.randint(50, 400) if stream else 0):
-            if not self.write(stream, castd.frame(castd.CAST, head + b"\1" + bytes(size))):
+            if not self.write(stream, raw.frame(raw.CAST, head + b"\1" + bytes(size))):
                 break
 
     def crowd(self, chance):

@@ -20,7 +20,7 @@ from collections.abc import Callable, Mapping, Sequence
 TESTS = pathlib.Path(__file__).resolve().parent
 TOOLS = TESTS.parent
 ROOT = TOOLS.parent
-sys.path[:0] = [str(TOOLS), str(ROOT / "clients"), str(ROOT / "bench")]
+sys.path[:0] = [str(TOOLS), str(ROOT / "clients/python"), str(ROOT / "bench")]
 import castd  # noqa: E402
 from daemons import Failed, Process  # noqa: E402
 
@@ -123,14 +123,14 @@ class Case(unittest.TestCase):
 
     def session(self, setup: Setup, site: int = 1) -> castd.Session:
         """A program at a site."""
-        session = castd.Session(f"{setup.site_folder(site)}/castd.sock")
+        session = castd.Session(f"{setup.site_folder(site)}/castd.sock", PATIENCE)
         self.addCleanup(session.close)
         return session
 
     def joined(self, setup: Setup, site: int, size: int) -> castd.Session:
         """A program at a site, which has come into a view of so many members."""
         session = self.session(setup, site)
-        session.join(1)
+        session.join(1, PATIENCE)
         wait_for_view(session, size)
         return session
 
@@ -258,7 +258,7 @@ def wait_for_push(session: castd.Session, wanted: Callable[[object], bool]):
 
 def wait_for_end(session: castd.Session) -> None:
     """Reads a stream up to its end."""
-    with contextlib.suppress(EOFError, ConnectionResetError):
+    with contextlib.suppress(castd.Ended):
         wait_for_push(session, lambda push: False)
 
 

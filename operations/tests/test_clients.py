@@ -39,7 +39,7 @@ class Clients(Case):
         self.keeper(self.setup)
 
     def session(self) -> castd.Session:
-        session = castd.Session(f"{self.setup.site_folder(1)}/castd.sock")
+        session = castd.Session(f"{self.setup.site_folder(1)}/castd.sock", PATIENCE)
         self.addCleanup(session.close)
         return session
 
@@ -47,7 +47,7 @@ class Clients(Case):
         session, tags = self.session(), []
 
         def send() -> None:
-            tags.extend(session.leave(1) for _ in range(COMMANDS))
+            tags.extend(session.send(castd.Leave(1)) for _ in range(COMMANDS))
 
         threads = [threading.Thread(target=send) for _ in range(THREADS)]
         for thread in threads:
@@ -74,7 +74,7 @@ class Clients(Case):
         for one in taken:
             self.addCleanup(one.close)
         session = self.session()
-        self.assertGreaterEqual(session.socket.fileno(), MOST_OF_SELECT)
+        self.assertGreaterEqual(session.fileno(), MOST_OF_SELECT)
         self.assertIsInstance(session.read(PATIENCE), castd.Opened)
         self.assertIsNone(session.read(0))
 

@@ -378,9 +378,9 @@ class Generations(ConfigurationCase):
         return daemon
 
     def joined(self, host: int, size: int) -> castd.Session:
-        session = castd.Session(self.socket(host))
+        session = castd.Session(self.socket(host), PATIENCE)
         self.addCleanup(session.close)
-        session.join(1)
+        session.join(1, PATIENCE)
         wait_for_view(session, size)
         return session
 
@@ -407,6 +407,6 @@ class Generations(ConfigurationCase):
         self.assertEqual(home.line(PATIENCE), "ok")
         wait_for_view(member, 1)
         again = self.joined(2, 2)
-        member.abcast(1, b"on")
+        member.abcast(1, b"on", PATIENCE)
         for session in (member, again):
             wait_for_push(session, lambda push: isinstance(push, castd.Deliver) and push.payload == b"on")

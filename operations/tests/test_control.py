@@ -161,7 +161,7 @@ class Metrics(Case):
         keeper = self.keeper(setup)
         session = self.joined(setup, 1, 1)
         for _ in range(3):
-            session.cast(1, b"x")
+            session.cast(1, b"x", PATIENCE)
             wait_for_push(session, lambda push: isinstance(push, castd.Deliver))
         self.session(setup).read(PATIENCE)
         values = self.metrics(keeper)
@@ -215,7 +215,7 @@ class Metrics(Case):
         # Site 2 does not answer the home, which changes the view for the member of site 3.
         os.kill(keepers[2].daemon(), signal.SIGSTOP)
         session = self.session(setup, 3)
-        session.join(1)
+        session.send(castd.Join(1))
         end = time.monotonic() + PATIENCE
         while not (values := self.metrics(keepers[1]))["castd_group_frozen site=1,domain=1,group=1"]:
             self.assertLess(time.monotonic(), end)

@@ -51,7 +51,7 @@ class Installed(InstalledCase):
     def test_the_python_client_is_a_module(self):
         environment = {**os.environ, "PYTHONPATH": f"{self.prefix}/lib/castd/python"}
         ran = run(sys.executable, "-c", "import castd; print(castd.__file__)", cwd="/", env=environment)
-        self.assertEqual(ran.stdout, f"{self.prefix}/lib/castd/python/castd.py\n", ran.stderr)
+        self.assertEqual(ran.stdout, f"{self.prefix}/lib/castd/python/castd/__init__.py\n", ran.stderr)
 
     def test_the_licence_is_there(self):
         licence = pathlib.Path(f"{self.prefix}/share/doc/castd/LICENSE").read_bytes()

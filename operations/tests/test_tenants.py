@@ -33,7 +33,8 @@ class Tenants(Case):
         self.user("castd-test-2", "--groups", "castd-test-b")
         self.user("castd-test-3")
         # Other users cannot read the repository, perhaps.
-        for file in (ROOT / "clients/castd.py", TESTS / "join_once.py", PROGRAM):
+        shutil.copytree(ROOT / "clients/python/castd", f"{self.folder}/clients/castd")
+        for file in (TESTS / "join_once.py", PROGRAM):
             os.chmod(shutil.copy(file, self.folder), 0o755)
         self.make_directories()
         self.start_daemon()
@@ -78,7 +79,7 @@ class Tenants(Case):
     def joins(self, user: str, tenant: str) -> int:
         """How a program of a user ends that joins the domain of a tenant: with 0, or the number of an error."""
         who = ["setpriv", f"--reuid={user}", f"--regid={user}", "--init-groups"]
-        words = [*who, "python3", f"{self.folder}/join_once.py", self.folder, self.socket(tenant)]
+        words = [*who, "python3", f"{self.folder}/join_once.py", f"{self.folder}/clients", self.socket(tenant)]
         how = {"env": {"PATH": os.defpath}, "cwd": "/", "timeout": PATIENCE, "check": False}
         return subprocess.run(words, **how).returncode
 

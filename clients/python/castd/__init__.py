@@ -6,6 +6,7 @@ on. `python3 -m castd SOCKET` is a line tool.
 """
 
 from .codec import (
+    MOST_PAYLOAD,
     Cast,
     Closed,
     Command,
@@ -31,6 +32,7 @@ ATOMIC, CAUSAL = Kind.ATOMIC, Kind.CAUSAL
 __all__ = [
     "ATOMIC",
     "CAUSAL",
+    "MOST_PAYLOAD",
     "BadFrame",
     "Cast",
     "Closed",

@@ -1,0 +1,63 @@
+"""Sessions of programs that test and measure the daemon: each command is sent at once, and each push is seen, replies too."""
+import select
+import socket
+import struct
+import time
+
+from castd.codec import Cast, Join, Kind, Leave, Pass, frame_of, push_at
+
+JOIN, LEAVE, CAST, PASS = 1, 2, 3, 4
+
+
+def frame(kind, body):
+    """The bytes of a frame of this type, whatever its body is."""
+    return struct.pack(">IB", 5 + len(body), kind) + body
+
+
+class Session:
+    """A connection to a domain."""
+
+    def __init__(self, path):
+        self.socket = socket.socket(socket.AF_UNIX, socket.SOCK_STREAM)
+        self.socket.connect(path)
+        self.poll = select.poll()
+        self.poll.register(self.socket, select.POLLIN)
+        self.bytes, self.tag = bytearray(), 0
+
+    def send(self, command):
+        """Sends a command, and gives the tag that its reply will bear."""
+        self.tag = (self.tag + 1) % (1 << 32)
+        self.socket.sendall(frame_of(command, self.tag))
+        return self.tag
+
+    def join(self, group):
+        return self.send(Join(group))
+
+    def leave(self, group):
+        return self.send(Leave(group))
+
+    def cast(self, group, payload, kind=Kind.CAUSAL):
+        return self.send(Cast(group, kind, payload))
+
+    def abcast(self, group, payload):
+        return self.cast(group, payload, Kind.ATOMIC)
+
+    def pass_to(self, group, process):
+        return self.send(Pass(group, process))
+
+    def read(self, timeout=None):
+        """The next push. None where none came in time. EOFError at the end of the stream."""
+        end = None if timeout is None else time.monotonic() + timeout
+        while (found := push_at(self.bytes)) is None:
+            if not self.poll.poll(None if end is None else 1_000 * max(0, end - time.monotonic())):
+                return None
+            more = self.socket.recv(65_536)
+            if not more:
+                raise EOFError("the daemon closed the stream")
+            self.bytes += more
+        push, place = found
+        del self.bytes[:place]
+        return push
+
+    def close(self):
+        self.socket.close()
