@@ -3,6 +3,7 @@
 from __future__ import annotations
 
 import contextlib
+import glob
 import json
 import os
 import pathlib
@@ -272,9 +273,9 @@ def wait_until(holds: Callable[[], bool], what: str, within: float = PATIENCE) -
 
 
 def is_running(process: int) -> bool:
-    """Whether a process runs, and is not one that has ended and was not waited for."""
-    try:
-        with open(f"/proc/{process}/stat", encoding="utf-8") as file:
-            return file.read().rpartition(")")[2].split()[0] not in "ZX"
-    except FileNotFoundError:
-        return False
+    """Whether a thread of a process runs. One that is killed ends thread by thread, and keeps its sockets up to the last."""
+    for stat in glob.glob(f"/proc/{process}/task/*/stat"):
+        with contextlib.suppress(FileNotFoundError, ProcessLookupError), open(stat, encoding="utf-8") as file:
+            if file.read().rpartition(")")[2].split()[0] not in "ZX":
+                return True
+    return False
