@@ -19,6 +19,12 @@ TENANTS = ("orders", "quotes")
 # The users, each with the group beside its own: two programs' users, an operator, and one of nobody's group.
 USERS = {"alice": "orders", "bob": "quotes", "oscar": "castd", "eve": ""}
 CLIENTS = "/usr/local/lib/castd/python"
+RECORDING = """\
+[Service]
+StateDirectory=castd castd/record-%i
+ExecStart=
+ExecStart=/usr/local/bin/castd-keeper /etc/castd.conf --site %i --program /usr/local/bin/castd --record /var/lib/castd/record-%i
+"""
 JOIN_ONCE = str(pathlib.Path(__file__).with_name("join_once.py"))
 
 
@@ -105,6 +111,14 @@ def wait_while(unit: str, states: tuple[str, ...]) -> str:
     return state
 
 
+def record_all() -> None:
+    """Has the daemons that are started from here on recorded, as docs/OPERATIONS.md tells an operator."""
+    folder = pathlib.Path("/etc/systemd/system/castd@.service.d")
+    folder.mkdir()
+    (folder / "record.conf").write_text(RECORDING)
+    run("systemctl", "daemon-reload")
+
+
 def first_daemon() -> dict:
     """The daemon of site 101 serves, and is stopped."""
     found = {"start": status("systemctl", "start", "castd@101")}
@@ -142,10 +156,15 @@ def later_daemons() -> dict:
     time.sleep(1)
     found["restarts"] = shown(f"castd@{found['next']}", "NRestarts", "ActiveState")
     found["third"] = next_number(101)
+    record_all()
     found["start of third"] = status("systemctl", "start", f"castd-watch@{found['third']}")
     found["third runs"] = shown(f"castd@{found['third']}", "ActiveState")["ActiveState"]
     found["joins the third"] = joins("alice", "orders")
     found["stop of third"] = status("systemctl", "stop", f"castd@{found['third']}")
+    record = f"/var/lib/castd/record-{found['third']}"
+    found["directory of the record"] = look_at(record)
+    found["files of the record"] = sorted(path.name for path in pathlib.Path(record).glob("*"))
+    found["replay"] = run("castd", "replay", record).stdout
     return found
 
 

@@ -159,6 +159,12 @@ class Booted(unittest.TestCase):
         self.assertEqual((later["third"], later["start of third"], later["joins the third"]), (301, 0, 0))
         self.assertEqual(later["stop of third"], 0)
 
+    def test_a_daemon_is_recorded_below_the_state_directory(self):
+        later = self.found["later"]
+        self.assertEqual(later["directory of the record"], "drwxr-x--- castd castd")
+        self.assertEqual(later["files of the record"], ["castd-301-000001.script"])
+        self.assertIn("push 1 1 view 1 ", later["replay"])
+
     def test_the_watch_starts_the_daemon_that_it_watches(self):
         later = self.found["later"]
         self.assertEqual((later["start of third"], later["third runs"]), (0, "active"), self.found["journal"])
