@@ -9,7 +9,10 @@ class Suspicion:
     def __init__(self, others: set[int], patience: float):
         self.suspected: set[int] = set()
         self._others, self._patience = others, patience
+        # When each site was heard first and last, of those that were.
+        self._first: dict[int, float] = {}
         self._heard: dict[int, float] = {}
+        self._most = 1
         self._is_cut_off = False
 
     def hear(self, site: int, now: float) -> bool:
@@ -17,6 +20,7 @@ class Suspicion:
         if site not in self._others or site in self.suspected:
             return False
         is_new = site not in self._heard
+        self._first.setdefault(site, now)
         self._heard[site] = now
         return is_new
 
@@ -33,7 +37,8 @@ class Suspicion:
     def due(self, now: float) -> list[int]:
         """The silent sites that may be suspected: none as long as no majority surely stays.
 
-        Once it does again, silences start anew: of sites that come back together, one is heard first.
+        Once it does again, silences start anew: of sites that come back together, one is heard first. This is to be
+        asked several times within the patience.
         """
         if not self.majority_stays(now):
             self._is_cut_off = True
@@ -43,11 +48,17 @@ class Suspicion:
         return [] if self._is_cut_off else self.silent(now)
 
     def majority_stays(self, now: float) -> bool:
-        """Whether more than half of the sites that were ever heard, with the home, surely stay if the silent ones go.
+        """Whether more than half of the domain surely stays if the silent sites go.
 
         The home surely stays, and so do sites that were heard within half the patience and are not suspected. So a home
         that the network cuts off suspects nobody, though the others do not all reach the end of the patience at once.
+
+        The domain is as large as it ever was at one time, so that a home that loses one site after the other stops in
+        time. A spare takes the place of a site that was put out: it counts with the others only once it has stayed for
+        the patience, after which the site that it replaces is silent.
         """
-        fresh = self._patience / 2
-        stay = [site for site, heard in self._heard.items() if site not in self.suspected and now - heard < fresh]
-        return 2 * (1 + len(stay)) > 1 + len(self._heard)
+        here = {site: heard for site, heard in self._heard.items() if site not in self.suspected}
+        stay = {site for site, heard in here.items() if now - heard < self._patience / 2}
+        settled = {site for site in stay if now - self._first[site] >= self._patience}
+        self._most = max(self._most, 1 + len(settled))
+        return 2 * (1 + len(stay)) > max(self._most, 1 + len(here))

@@ -34,8 +34,8 @@ TOOL = SiteTool(
     "castd-watch",
     "castd-watch CONFIG --site N [--control PATH] [--patience SECONDS] [--port-offset N]",
     "Detects sites that fail, beside the daemon of a site. Sites exchange beats as long as their daemons answer. At the"
-    " home of a domain, a site that was heard and falls silent is suspected, if more than half of the domain's sites"
-    " that were ever heard stay. A site that learns that it was put out stops its daemon.",
+    " home of a domain, a site that was heard and falls silent is suspected, if more than half of the domain stays. A"
+    " site that learns that it was put out stops its daemon.",
     {
         0: "ended by SIGTERM or SIGINT",
         USAGE: "wrong command line",

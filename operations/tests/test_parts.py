@@ -151,7 +151,6 @@ class Suspecting(unittest.TestCase):
                 self.assertEqual(self.heard(others).due(10), due)
 
     def test_sites_that_are_suspected_do_not_stay(self):
-        # One that was heard counts among those ever heard, also if it is heard until now.
         suspicion = self.heard({2: 9, 3: 0})
         suspicion.suspected.add(2)
         self.assertEqual(suspicion.due(10), [])
@@ -165,6 +164,43 @@ class Suspecting(unittest.TestCase):
         for site, now in ((2, 0), (3, 0), (4, 9)):
             suspicion.hear(site, now)
         self.assertEqual(suspicion.due(10), [3])
+
+    def lasting(self, *others: int) -> Suspicion:
+        """Sites that were heard from time 0 to 10."""
+        suspicion = Suspicion({2, 3, 4, 5, 6}, 10.0)
+        self.hear(suspicion, others, 0, 10)
+        return suspicion
+
+    def hear(self, suspicion: Suspicion, sites: tuple[int, ...], begin: int, end: int) -> None:
+        """These sites, and no others, are heard at each moment from the first to the last."""
+        for now in range(begin, end + 1):
+            for site in sites:
+                suspicion.hear(site, now)
+            suspicion.suspected.update(suspicion.due(now))
+
+    def test_a_spare_takes_the_place_of_a_site_that_was_put_out(self):
+        suspicion = self.lasting(2, 3)
+        self.hear(suspicion, (2,), 11, 20)
+        self.assertEqual(suspicion.suspected, {3})
+        self.hear(suspicion, (2, 4), 21, 40)
+        self.hear(suspicion, (4,), 41, 50)
+        self.assertEqual(suspicion.suspected, {2, 3})
+
+    def test_a_spare_may_be_heard_before_the_site_that_it_replaces_is_put_out(self):
+        suspicion = self.lasting(2, 3)
+        self.hear(suspicion, (2, 4), 11, 40)
+        self.hear(suspicion, (4,), 41, 50)
+        self.assertEqual(suspicion.suspected, {2, 3})
+
+    def test_a_home_that_loses_one_site_after_the_other_stops_in_time(self):
+        suspicion = self.lasting(2, 3)
+        self.hear(suspicion, (2,), 11, 30)
+        self.hear(suspicion, (), 31, 90)
+        self.assertEqual(suspicion.suspected, {3})
+        suspicion = self.lasting(2, 3, 4, 5)
+        for sites, begin in ((2, 3, 4), 11), ((2, 3), 31), ((2,), 51), ((), 71):
+            self.hear(suspicion, sites, begin, begin + 19)
+        self.assertEqual(suspicion.suspected, {4, 5})
 
     def test_sites_that_come_back_together_are_not_suspected(self):
         suspicion = self.heard({2: 0, 3: 0})
