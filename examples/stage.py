@@ -9,7 +9,7 @@ import signal
 import sys
 import tempfile
 import time
-from collections.abc import Callable
+from collections.abc import Callable, Sequence
 
 ROOT = os.path.dirname(os.path.dirname(os.path.realpath(__file__)))
 CLIENTS = f"{ROOT}/clients/python"
@@ -88,11 +88,12 @@ def loopback_addresses(hosts: dict[int, int]) -> dict[int, str]:
     return {site: f"{block}.{host}:{_FIRST_PORT + site}" for site, host in hosts.items()}
 
 
-def write_configuration(path: str, addresses: dict[int, str], home: int) -> None:
-    """Writes a configuration of these sites with domain 1 and its group 1. Each daemon makes its socket, castd.sock, in
+def write_configuration(path: str, addresses: dict[int, str], home: int, groups: Sequence[int] = (1,)) -> None:
+    """Writes a configuration of these sites with domain 1 and its groups. Each daemon makes its socket, castd.sock, in
     the folder where it is started."""
     sites = "".join(f'[[site]]\nnumber = {site}\naddress = "{address}"\n\n' for site, address in addresses.items())
-    domain = f"[[domain]]\nnumber = 1\nhome = {home}\nsites = {list(addresses)}\ngroups = [1]\nsocket = 'castd.sock'\n"
+    domain = f"[[domain]]\nnumber = 1\nhome = {home}\nsites = {list(addresses)}\ngroups = {list(groups)}\n"
+    domain += "socket = 'castd.sock'\n"
     with open(path, "w", encoding="utf-8") as file:
         file.write(sites + domain)
 
