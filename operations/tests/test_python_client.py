@@ -4,6 +4,7 @@ from __future__ import annotations
 
 import asyncio
 import os
+import signal
 import subprocess
 import sys
 import threading
@@ -11,6 +12,7 @@ import time
 from unittest import mock
 
 from castd import aio, conversation
+from castd.replica import Replica
 from harness import PATIENCE, ROOT, Case, castd
 from scripted_server import (
     ATOMIC,
@@ -271,6 +273,129 @@ class ScriptedForAsyncio(Scripted):
 
         with self.play(write(OPENED), write(many)):
             asyncio.run(run())
+
+
+class Log:
+    """A machine: all operations, one behind the other."""
+
+    def __init__(self) -> None:
+        self.state = b""
+
+    def apply(self, process: castd.Process, operation: bytes) -> int:
+        self.state += operation
+        return len(self.state)
+
+    def snapshot(self) -> bytes:
+        return self.state
+
+    def restore(self, state: bytes) -> None:
+        self.state = state
+
+
+class Replicas(Case):
+    """Programs that keep one state."""
+
+    def member(self, setup, machine: Log) -> Replica:
+        session = self.session(setup)
+        replica = Replica(session, 1, machine)
+
+        def run() -> None:
+            for push in session:
+                replica.take(push)
+            replica.end()
+
+        reader = threading.Thread(target=run)
+        reader.start()
+        self.addCleanup(reader.join)
+        self.addCleanup(session.close)
+        session.join(1, PATIENCE)
+        return replica
+
+    def done(self, replica: Replica, operation: bytes) -> int:
+        return replica.operation(operation).result(PATIENCE)
+
+    def assert_equal_states(self, replicas: list[Replica], state: bytes) -> None:
+        """All have this state, once each has done an operation of its own."""
+        for replica in replicas:
+            self.done(replica, b"")
+        self.assertEqual({replica.machine.state for replica in replicas}, {state})
+
+    def test_a_newcomer_is_given_a_long_state(self):
+        setup = self.setup_of()
+        self.keeper(setup)
+        replicas = [self.member(setup, Log())]
+        state = b"".join(b"%09d\n" % number for number in range(10_000))
+        for place in range(0, len(state), 10_000):
+            self.done(replicas[0], state[place : place + 10_000])
+        replicas.append(self.member(setup, Log()))
+        self.assert_equal_states(replicas, state)
+        replicas[0].session.close()
+        replicas.append(self.member(setup, Log()))
+        self.assertEqual(self.done(replicas[2], b"x"), len(state) + 1)
+        self.assert_equal_states(replicas[1:], state + b"x")
+
+    def test_those_who_come_first_begin_with_the_first_state(self):
+        setup = self.setup_of()
+        self.keeper(setup)
+        for _ in range(2):
+            sessions = [self.member(setup, Log()) for _ in range(3)]
+            self.assert_equal_states(sessions, b"")
+            self.done(sessions[1], b"x")
+            self.assert_equal_states(sessions, b"x")
+            for replica in sessions:
+                replica.session.close()
+            time.sleep(SHORT)
+
+    def test_operations_while_members_come_and_go_are_done_once_and_everywhere(self):
+        setup = self.setup_of()
+        self.keeper(setup)
+        replicas = [self.member(setup, Log()) for _ in range(2)]
+        done: list[int] = []
+
+        def load() -> None:
+            done.extend(self.done(replicas[0], b"%04d" % number) for number in range(300))
+
+        loading = threading.Thread(target=load)
+        loading.start()
+        for _ in range(3):
+            passing = self.member(setup, Log())
+            self.done(passing, b"")
+            passing.session.close()
+        loading.join()
+        self.assertEqual(done, [4 * number for number in range(1, 301)])
+        self.assert_equal_states(replicas, b"".join(b"%04d" % number for number in range(300)))
+
+    def test_a_domain_moves_to_a_second_set_of_daemons(self):
+        first, second = self.setup_of(), self.setup_of()
+        self.keeper(first)
+        self.keeper(second)
+        old = [self.member(first, Log()) for _ in range(2)]
+        self.done(old[1], b"before;")
+        # The last operation here. Each member goes on, once it has done it, with the same machine.
+        self.done(old[0], b"moved;")
+        self.assert_equal_states(old, b"before;moved;")
+        new = [self.member(second, replica.machine) for replica in old]
+        self.assert_equal_states(new, b"before;moved;")
+        new.append(self.member(second, Log()))
+        self.done(new[0], b"after")
+        self.assert_equal_states(new, b"before;moved;after")
+
+    def test_an_operation_fails_with_the_reason(self):
+        setup = self.setup_of()
+        keeper = self.keeper(setup)
+        replica = self.member(setup, Log())
+        self.done(replica, b"x")
+        with self.assertRaises(castd.Refused) as caught:
+            replica.operation(bytes(castd.MOST_PAYLOAD))
+        self.assertEqual(caught.exception.code, castd.Code.TOO_LONG)
+        keeper.process.send_signal(signal.SIGSTOP)
+        os.kill(keeper.daemon(), signal.SIGSTOP)
+        future = replica.operation(b"y")
+        os.kill(keeper.daemon(), signal.SIGKILL)
+        keeper.process.send_signal(signal.SIGCONT)
+        with self.assertRaises(castd.Error) as failed:
+            future.result(PATIENCE)
+        self.assertTrue(failed.exception.may_be_done)
 
 
 class Beside(Case):
