@@ -9,6 +9,7 @@ import subprocess
 import sys
 import threading
 import time
+import unittest
 from unittest import mock
 
 from castd import aio, conversation
@@ -290,6 +291,79 @@ class Log:
 
     def restore(self, state: bytes) -> None:
         self.state = state
+
+
+class Sent:
+    """A session that keeps what is sent."""
+
+    def __init__(self, serial: int):
+        self.process, self.payloads = castd.Process(1, serial), []
+
+    def send(self, command: castd.Cast) -> int:
+        self.payloads.append(command.payload)
+        return len(self.payloads)
+
+
+class ReplicaAlone(unittest.TestCase):
+    """What a replica sends and does at each push. Other members say what the format of its payloads has."""
+
+    def replica(self, serial: int, *serials: int) -> Replica:
+        """A replica without the state, in view 1 with processes of these serials."""
+        replica = Replica(Sent(serial), 1, Log())
+        self.begin(replica, 1, *serials)
+        self.assertEqual(self.sent(replica), [bytes.fromhex("01 00000001")])
+        return replica
+
+    def begin(self, replica: Replica, number: int, *serials: int) -> None:
+        members = tuple(castd.Process(1, serial) for serial in serials)
+        replica.take(castd.View(1, number, members, members[0]))
+
+    def deliver(self, replica: Replica, serial: int, payload: str | bytes) -> None:
+        payload = bytes.fromhex(payload) if isinstance(payload, str) else payload
+        replica.take(castd.Deliver(1, replica.view, castd.Process(1, serial), 1, castd.ATOMIC, payload))
+
+    def sent(self, replica: Replica) -> list[bytes]:
+        sent, replica.session.payloads = replica.session.payloads, []
+        return sent
+
+    def test_the_least_member_that_has_the_state_sends_it_in_parts(self):
+        replicas = [self.replica(serial, 1, 2) for serial in (1, 2)]
+        for replica in replicas:
+            for serial in (1, 2):
+                self.deliver(replica, serial, "01 00000001")
+            self.deliver(replica, 1, b"\0" + bytes(16_000) + b"end")
+            self.begin(replica, 2, 1, 2, 3)
+        head = bytes.fromhex("02 00000002")
+        first, second = bytes.fromhex("00000000 00000002"), bytes.fromhex("00000001 00000002")
+        self.assertEqual(self.sent(replicas[0]), [head + first + bytes(16_000), head + second + b"end"])
+        self.assertEqual(self.sent(replicas[1]), [])
+
+    def test_parts_of_another_view_are_passed_over(self):
+        replica = self.replica(2, 1, 2)
+        self.begin(replica, 2, 1, 2)
+        self.deliver(replica, 1, "02 00000001 00000000 00000001 aa")
+        self.assertFalse(replica.has_state)
+        self.deliver(replica, 1, "00 bb")
+        self.deliver(replica, 1, "02 00000002 00000000 00000001 cc")
+        self.assertEqual((replica.has_state, replica.machine.state), (True, b"\xcc\xbb"))
+
+    def test_who_lacked_the_state_in_another_view_does_not_lack_it_now(self):
+        replica = self.replica(1, 1)
+        self.deliver(replica, 1, "01 00000001")
+        self.deliver(replica, 1, "00 aa")
+        self.begin(replica, 2, 1)
+        self.deliver(replica, 1, "01 00000001")
+        self.assertEqual((replica.has_state, replica.machine.state), (True, b"\xaa"))
+
+    def test_one_that_is_ejected_lacks_the_state(self):
+        replica = self.replica(1, 1)
+        self.deliver(replica, 1, "01 00000001")
+        self.deliver(replica, 1, "00 aa")
+        replica.take(castd.Ejected(1, 2))
+        self.begin(replica, 3, 1, 2)
+        self.assertEqual(self.sent(replica), [bytes.fromhex("01 00000003")])
+        self.deliver(replica, 2, "02 00000003 00000000 00000001 bb")
+        self.assertEqual(replica.machine.state, b"\xbb")
 
 
 class Replicas(Case):
