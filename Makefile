@@ -11,9 +11,9 @@ CFLAGS = -O2 -Wall -Wextra -fPIC
 all: out/libcastd.a
 	tools/build castd
 
-out/libcastd.a: clients/castd.c clients/castd.h
+out/libcastd.a: clients/c/castd.c clients/c/castd.h
 	mkdir -p out
-	$(CC) -std=c11 -D_POSIX_C_SOURCE=200809L $(CFLAGS) -c -o out/castd.o clients/castd.c
+	$(CC) -std=c11 -D_POSIX_C_SOURCE=200809L $(CFLAGS) -c -o out/castd.o clients/c/castd.c
 	rm -f $@
 	$(AR) rcsD $@ out/castd.o
 

@@ -1,9 +1,10 @@
-/* castd behind group.h. Casts are gathered until group_dispatch writes them, as far as the stream has room: a program that waited for room
- * would not read meanwhile, and the daemon might wait for it to read. A cast that is refused, as the group changes its view or for want of
- * room, is cast again. */
+/* castd behind group.h. It reads and writes the stream itself, since the client has one command at a time at the daemon, and here as many are
+ * to be under way as load.c wants. Casts are gathered until group_dispatch writes them, as far as the stream has room: a program that waited
+ * for room would not read meanwhile, and the daemon might wait for it to read. A cast that is refused, as the group changes its view or for
+ * want of room, is cast again. */
 #include "group.h"
 
-#include "../clients/castd.h"
+#include "../clients/c/castd.h"
 #include <errno.h>
 #include <poll.h>
 #include <stdio.h>
@@ -12,37 +13,21 @@
 
 #define GROUP 1
 #define MOST_WAITING 64
-#define HEAD 5
-#define CAST_HEAD (HEAD + 7)
-
-enum { JOIN = 1, CAST = 3 };
-enum { FLUSHING = 7, OWN_ABCAST = 8, HELD_FULL = 9 };
+/* Milliseconds within which the daemon opens the session. */
+#define PATIENCE 20000
 
 /* The casts that have no Reply yet, the oldest at `oldest`. Replies come in the order of the commands. */
 static struct {
-    uint8_t bytes[CAST_HEAD + CASTD_MOST_PAYLOAD];
+    uint8_t bytes[CASTD_MOST_COMMAND];
     size_t length;
 } waiting[MOST_WAITING];
 static size_t oldest, count;
 
 static struct castd session;
-static uint8_t self[6];
 static enum castd_kind kind;
 static int has_joined, has_own_abcast;
 static uint8_t in[1 << 20], out[2 << 20];
 static size_t in_used, out_used;
-
-static void put_short(uint8_t *bytes, size_t value) {
-    bytes[0] = (uint8_t)(value >> 8);
-    bytes[1] = (uint8_t)value;
-}
-
-static void put_word(uint8_t *bytes, size_t value) {
-    put_short(bytes, value >> 16);
-    put_short(bytes + 2, value);
-}
-
-static size_t word_at(const uint8_t *bytes) { return (size_t)bytes[0] << 24 | bytes[1] << 16 | bytes[2] << 8 | bytes[3]; }
 
 /* Room is never wanting: there are at most so many casts that wait. */
 static void gather(const uint8_t *bytes, size_t length) {
@@ -64,7 +49,7 @@ static enum group_result write_out(void) {
     return GROUP_DONE;
 }
 
-static enum group_result take_reply(uint8_t code) {
+static enum group_result take_reply(int code) {
     if (!has_joined || count == 0) {
         has_joined = 1;
         return code == 0 ? GROUP_DONE : GROUP_FAILED;
@@ -75,61 +60,59 @@ static enum group_result take_reply(uint8_t code) {
         count--;
         return GROUP_DONE;
     }
-    if (code != FLUSHING && code != OWN_ABCAST && code != HELD_FULL) return GROUP_FAILED;
+    if (code != CASTD_FLUSHING && code != CASTD_OWN_ABCAST && code != CASTD_HELD_FULL) return GROUP_FAILED;
     size_t last = (oldest + count - 1) % MOST_WAITING;
     if (last != place) waiting[last] = waiting[place];
     gather(waiting[last].bytes, waiting[last].length);
     return GROUP_DONE;
 }
 
-static enum group_result take_push(int type, const uint8_t *body, size_t length) {
-    switch (type) {
-    case CASTD_OPENED: memcpy(self, body, sizeof self); return GROUP_DONE;
-    case CASTD_REPLY: return take_reply(body[4]);
-    case CASTD_VIEW: on_view(body[6]); return GROUP_DONE;
+static int is_own(struct castd_process process) {
+    return process.site == session.process.site && process.serial == session.process.serial;
+}
+
+static enum group_result take_push(const struct castd_push *push) {
+    switch (push->type) {
+    case CASTD_REPLY: return take_reply(push->code);
+    case CASTD_VIEW: on_view(push->member_count); return GROUP_DONE;
     case CASTD_DELIVER:
-        if (body[16] == CASTD_ATOMIC && memcmp(body + 6, self, sizeof self) == 0) has_own_abcast = 0;
-        on_delivery(body + 17, length - 17);
+        if (push->kind == CASTD_ATOMIC && is_own(push->process)) has_own_abcast = 0;
+        on_delivery(push->payload, push->length);
         return GROUP_DONE;
-    default: fprintf(stderr, "load: the daemon pushed %d with code %d\n", type, body[length - 1]); return GROUP_FAILED;
+    default: fprintf(stderr, "load: the daemon pushed %d with code %d\n", push->type, push->code); return GROUP_FAILED;
     }
 }
 
 /* The pushes that have come whole. */
 static enum group_result take_in(void) {
+    struct castd_push push;
     size_t taken = 0;
-    while (in_used - taken >= HEAD) {
-        size_t length = word_at(in + taken);
-        if (length <= HEAD || length > CASTD_MOST_FRAME) return GROUP_FAILED;
-        if (in_used - taken < length) break;
-        if (take_push(in[taken + 4], in + taken + HEAD, length - HEAD) == GROUP_FAILED) return GROUP_FAILED;
-        taken += length;
+    int length;
+    while ((length = castd_decode(in + taken, in_used - taken, &push)) != 0) {
+        if (length < 0 || take_push(&push) == GROUP_FAILED) return GROUP_FAILED;
+        taken += (size_t)length;
     }
     memmove(in, in + taken, in_used - taken);
     in_used -= taken;
     return GROUP_DONE;
 }
 
-enum group_result group_connect(const char *path) { return castd_open(&session, path) ? GROUP_FAILED : GROUP_DONE; }
+enum group_result group_connect(const char *path) { return castd_connect(&session, path, PATIENCE) ? GROUP_FAILED : GROUP_DONE; }
 
 enum group_result group_join(int is_total) {
+    struct castd_command join = {.type = CASTD_JOIN, .group = GROUP};
     kind = is_total ? CASTD_ATOMIC : CASTD_CAUSAL;
-    return castd_join(&session, GROUP) ? GROUP_FAILED : GROUP_DONE;
+    out_used += castd_encode(&join, 0, out + out_used);
+    return GROUP_DONE;
 }
 
 /* An ABCAST waits until the own one before it is delivered: the daemon would refuse it. */
 enum group_result group_cast(const void *message, size_t length) {
     if (count == MOST_WAITING || has_own_abcast) return GROUP_LATER;
+    struct castd_command cast = {.type = CASTD_CAST, .group = GROUP, .kind = kind, .payload = message, .length = length};
     size_t place = (oldest + count++) % MOST_WAITING;
-    uint8_t *bytes = waiting[place].bytes;
-    waiting[place].length = CAST_HEAD + length;
-    put_word(bytes, CAST_HEAD + length);
-    bytes[4] = CAST;
-    put_word(bytes + HEAD, 0);
-    put_short(bytes + HEAD + 4, GROUP);
-    bytes[HEAD + 6] = (uint8_t)kind;
-    memcpy(bytes + CAST_HEAD, message, length);
-    gather(bytes, CAST_HEAD + length);
+    waiting[place].length = castd_encode(&cast, 0, waiting[place].bytes);
+    gather(waiting[place].bytes, waiting[place].length);
     has_own_abcast = kind == CASTD_ATOMIC;
     return GROUP_DONE;
 }

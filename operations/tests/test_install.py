@@ -16,7 +16,7 @@ C_PROGRAM = """\
 #include <castd.h>
 int main(int count, char **words) {
     struct castd session;
-    return count == 2 && castd_open(&session, words[1]) != 0 ? 0 : 1;
+    return count == 2 && castd_connect(&session, words[1], 0) == CASTD_FAILED ? 0 : 1;
 }
 """
 

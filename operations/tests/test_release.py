@@ -73,10 +73,10 @@ class Releases(TreeCase):
             self.assertEqual(run(str(self.tree.path / "tools/release"), *words).returncode, 2)
 
     def test_what_was_not_committed_is_refused(self):
-        changed = self.tree.path / "clients/castd.h"
+        changed = self.tree.path / "clients/c/castd.h"
         text = changed.read_text()
         self.addCleanup(changed.write_text, text)
         changed.write_text(f"{text}\n")
         ran = self.tree.make("release", f"VERSION={self.version}")
         self.assertNotEqual(ran.returncode, 0)
-        self.assertIn("clients/castd.h", ran.stderr)
+        self.assertIn("clients/c/castd.h", ran.stderr)
