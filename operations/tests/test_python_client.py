@@ -14,6 +14,7 @@ from unittest import mock
 
 from castd import aio, conversation
 from castd.replica import Replica
+from client_cases import ToolCases
 from harness import PATIENCE, ROOT, Case, castd
 from scripted_server import (
     ATOMIC,
@@ -79,6 +80,14 @@ class Awaited:
             self.session.close()
 
         self.waited(close())
+
+
+class PythonTool(ToolCases):
+    tool = ["env", f"PYTHONPATH={ROOT}/clients/python", sys.executable, "-m", "castd"]
+
+
+# The cases are for the tests of each language alone.
+del ToolCases
 
 
 class Scripted(Case):
