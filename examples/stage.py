@@ -20,7 +20,7 @@ from crates import NotProved, proved_program  # noqa: E402
 from daemons import Failed, Process, need, runnable  # noqa: E402
 
 # Seconds within which happens what an example waits for, also on a machine that does much else.
-PATIENCE = 20.0
+PATIENCE = 60.0
 _FIRST_PORT = 7_000
 
 
@@ -56,9 +56,9 @@ def main(doc: str, play: Callable[..., None], **usual: int) -> int:
 
 
 def _number(text: str) -> int:
-    """The whole number from 1 on that a word of the command line is. ValueError where it is none."""
+    """The number that a word of the command line is."""
     if not (text.isascii() and text.isdigit() and int(text) >= 1):
-        raise ValueError
+        raise argparse.ArgumentTypeError(f"{text!r} is not a whole number from 1 on")
     return int(text)
 
 
@@ -82,20 +82,22 @@ def _play_unproved(play: Callable[[str], None], folder: str) -> None:
 
 
 def loopback_addresses(hosts: dict[int, int]) -> dict[int, str]:
-    """An address for each site by the number of its host, 1 to 254: in a random part of this machine's loopback, so that
-    examples run beside each other."""
+    """An address for each site, by the number of its host from 1 to 254. They are in a random part of this machine's
+    loopback, so that examples run beside each other."""
     block = f"127.{random.randint(1, 254)}.{random.randint(1, 254)}"
     return {site: f"{block}.{host}:{_FIRST_PORT + site}" for site, host in hosts.items()}
 
 
-def write_configuration(path: str, addresses: dict[int, str], home: int, groups: Sequence[int] = (1,)) -> None:
-    """Writes a configuration of these sites with domain 1 and its groups. Each daemon makes its socket, castd.sock, in
-    the folder where it is started."""
+def write_configuration(
+    path: str, addresses: dict[int, str], home: int, groups: Sequence[int] = (1,), **quotas: int
+) -> None:
+    """Writes a configuration of these sites with domain 1, its groups and its quotas. Each daemon makes its socket,
+    castd.sock, in the folder where it is started."""
     sites = "".join(f'[[site]]\nnumber = {site}\naddress = "{address}"\n\n' for site, address in addresses.items())
     domain = f"[[domain]]\nnumber = 1\nhome = {home}\nsites = {list(addresses)}\ngroups = {list(groups)}\n"
     domain += "socket = 'castd.sock'\n"
     with open(path, "w", encoding="utf-8") as file:
-        file.write(sites + domain)
+        file.write(sites + domain + "".join(f"{name} = {number}\n" for name, number in quotas.items()))
 
 
 class Program(Process):
@@ -113,6 +115,15 @@ class Program(Process):
 
     def has_ended(self) -> bool:
         return self.process.poll() is not None
+
+
+class Script(Program):
+    """A Python program, which finds the package of the client."""
+
+    def __init__(self, folder: str, path: str, *words: str):
+        env = {**os.environ, "PYTHONPATH": CLIENTS, "PYTHONDONTWRITEBYTECODE": "1"}
+        super().__init__([sys.executable, path, *words], folder, env=env)
+        self.name = os.path.basename(path)
 
 
 class Daemon(Program):
@@ -153,7 +164,7 @@ class Screen:
 
     def show(self, lines: list[str]) -> None:
         """Draws the lines below in place of those before. Does nothing where there is no terminal."""
-        if self._is_terminal:
+        if self._is_terminal and lines != self._shown:
             self._draw("", lines)
 
     def _draw(self, said: str, shown: list[str]) -> None:
