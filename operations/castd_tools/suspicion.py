@@ -13,11 +13,16 @@ class Suspicion:
         self._first: dict[int, float] = {}
         self._heard: dict[int, float] = {}
         self._most = 1
+        # The suspected sites that were heard since they were suspected last, and when that was first.
+        self._returned: dict[int, float] = {}
         self._is_cut_off = False
 
     def hear(self, site: int, now: float) -> bool:
         """A site was heard. Whether this was the first time."""
-        if site not in self._others or site in self.suspected:
+        if site in self.suspected:
+            self._returned.setdefault(site, now)
+            return False
+        if site not in self._others:
             return False
         is_new = site not in self._heard
         self._first.setdefault(site, now)
@@ -33,6 +38,16 @@ class Suspicion:
         return sorted(
             site for site, heard in self._heard.items() if site not in self.suspected and now - heard >= self._patience
         )
+
+    def due_again(self, now: float) -> list[int]:
+        """The suspected sites of which one or more beats came, the first of them a patience ago.
+
+        A program there may have joined again before its daemon was stopped. They are taken as suspected from now on.
+        """
+        due = sorted(site for site, heard in self._returned.items() if now - heard >= self._patience)
+        for site in due:
+            del self._returned[site]
+        return due
 
     def due(self, now: float) -> list[int]:
         """The silent sites that may be suspected: none as long as no majority surely stays.

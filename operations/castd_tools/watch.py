@@ -194,6 +194,8 @@ class Watch:
             await asyncio.sleep(self._patience / _LOOKS_A_PATIENCE)
             for domain, suspicion in self._suspicions.items():
                 await self._suspect_one(domain, suspicion)
+                for site in suspicion.due_again(time.monotonic()):
+                    await self._suspect(domain, site, suspicion)
             self._tell_counts()
 
     async def _suspect_one(self, domain: int, suspicion: Suspicion) -> None:

@@ -8,7 +8,7 @@ import socket
 import threading
 import time
 
-from harness import OFFSET, PATIENCE, PORT, Case, Setup, change_plan, wait_for_end, wait_for_view
+from harness import OFFSET, PATIENCE, PORT, Case, Setup, castd, change_plan, wait_for_end, wait_for_push, wait_for_view
 
 # How long a site may be silent. It leaves room for a machine that does much else.
 SILENCE = 2.0
@@ -21,6 +21,8 @@ class Link(threading.Thread):
     def __init__(self, setup: Setup, first: int, second: int):
         super().__init__(daemon=True)
         self.is_cut, self.delay = False, 0.0
+        # The sites to which no beats come.
+        self.deaf: set[int] = set()
         self._is_over = threading.Event()
         self._sockets, self._targets = {}, {}
         for near, far in ((first, second), (second, first)):
@@ -37,7 +39,7 @@ class Link(threading.Thread):
                 heapq.heappush(waiting, (time.monotonic() + self.delay, self._way[near], it.recv(65_536)))
             while waiting and waiting[0][0] <= time.monotonic():
                 _, far, beat = heapq.heappop(waiting)
-                if not self.is_cut:
+                if not self.is_cut and far not in self.deaf:
                     self._sockets[far].sendto(beat, self._targets[far])
 
     def end(self) -> None:
@@ -153,6 +155,21 @@ class Failing(Sites):
         self.assertEqual(self.keepers[1].ask("suspect 1 2"), "ok")
         self.assert_stopped(2)
         self.assertEqual(self.keepers[3].ask("health"), "healthy")
+
+
+    def test_a_site_that_returns_before_it_is_stopped_is_put_out_again(self):
+        self.start(3, links=((1, 3),))
+        self.links[0].deaf.add(3)
+        self.assertEqual(self.keepers[1].ask("suspect 1 3"), "ok")
+        wait_for_view(self.programs[1], 2)
+        # One that says nothing is not told.
+        self.programs[3].send(castd.Cast(1, castd.CAUSAL, b"x"))
+        wait_for_push(self.programs[3], lambda push: isinstance(push, castd.Ejected))
+        self.programs[3].join(1, PATIENCE)
+        wait_for_view(self.programs[1], 3)
+        wait_for_view(self.programs[1], 2)
+        self.links[0].deaf.clear()
+        self.assert_stopped(3)
 
 
 class Staying(Sites):
