@@ -2,6 +2,7 @@
 
 from __future__ import annotations
 
+import asyncio
 import io
 import math
 import re
@@ -13,9 +14,10 @@ from unittest import mock
 
 from harness import PROGRAM, ROOT
 
-sys.path += [str(ROOT / "examples" / name) for name in ("", "replicated-store", "control-room")]
-from castd import Cast, Code, Deliver, Ejected, Process, Push, Reply, View  # noqa: E402
+sys.path += [str(ROOT / "examples" / name) for name in ("", "replicated-store", "control-room", "trading-floor")]
+from castd import ATOMIC, CAUSAL, Cast, Code, Deliver, Ejected, Process, Push, Reply, View  # noqa: E402
 from claims import Claim, overlaps, turns_of  # noqa: E402
+from floor import NEWS, ORDERS, QUOTES, Listener, Trader  # noqa: E402
 from linearizable import Operation, faults  # noqa: E402
 from lock import LEASE, MARGIN, Lock  # noqa: E402
 from stage import Screen  # noqa: E402
@@ -452,6 +454,56 @@ class Locks(unittest.TestCase):
         self.assertFalse(self.one.lock.holds())
 
 
+class Floors(unittest.TestCase):
+    """What the programs of the trading floor make of what they hear."""
+
+    def hear(self, listener: Listener, group: int, text: str, serial: int = 9) -> None:
+        kind = ATOMIC if group == ORDERS and text.startswith("order") else CAUSAL
+        listener.heard(Deliver(group, 1, Process(1, serial), 1, kind, text.encode()))
+
+    def test_an_order_before_what_it_answers_is_a_breach(self):
+        listener = Listener("desk", None)
+        self.hear(listener, QUOTES, "quote 1; 99.00")
+        self.hear(listener, ORDERS, "order 1 answers quote 1;")
+        self.hear(listener, NEWS, "news 1; 1")
+        self.hear(listener, ORDERS, "order 2 answers news 1;")
+        self.assertEqual(listener.breaches, [])
+        self.hear(listener, ORDERS, "order 3 answers quote 2;")
+        self.hear(listener, ORDERS, "order 4 answers news 2;")
+        self.assertEqual(listener.breaches, ["order 3 answers quote 2", "order 4 answers news 2"])
+        self.assertEqual(len(listener.orders), 4)
+
+    def test_the_holder_hands_the_token_to_the_one_that_orders_most(self):
+        for others, most in ((5, None), (6, Process(1, 2))):
+            with self.subTest(others):
+                handed = []
+                trader = Trader("north", Own(1), 0.0)
+                trader.hand_over = lambda process: handed.append(process) or asyncio.sleep(0)
+                trader.changed(View(ORDERS, 1, (Process(1, 1), Process(1, 2)), Process(1, 1)))
+
+                async def hear() -> None:
+                    for number in range(10):
+                        self.hear(trader, ORDERS, f"order {number} answers quote 0;", 2 if number < others else 3)
+
+                asyncio.run(hear())
+                self.assertEqual(handed, [most] if most else [])
+
+    def test_another_than_the_holder_hands_nothing_over(self):
+        trader = Trader("north", Own(1), 0.0)
+        trader.changed(View(ORDERS, 1, (Process(1, 1), Process(1, 2)), Process(1, 1)))
+        self.hear(trader, ORDERS, "1.2", 1)
+        for number in range(10):
+            self.hear(trader, ORDERS, f"order {number} answers quote 0;", 2)
+        self.assertIsNone(trader.passing)
+
+
+class Own:
+    """A session that nothing is sent by."""
+
+    def __init__(self, serial: int):
+        self.process = Process(1, serial)
+
+
 class Terminal(io.StringIO):
     def isatty(self) -> bool:
         return True
@@ -496,6 +548,17 @@ class Runs(unittest.TestCase):
         self.assertRegex(lines[-3], f"^answers: {numbers}$")
         self.assertRegex(lines[-2], r"^[1-9][0-9,]* writes were answered, and none is lost$")
         self.assertRegex(lines[-1], r"^the history of [1-9][0-9,]* reads and writes is linearizable; [0-9]+ more ")
+
+    def test_the_trading_floor_hears_no_order_too_early(self):
+        lines = self.run_example("trading-floor", 90, "--seconds", "10")
+        overtaken = r"^orders that came to the desk's host before what they answer: [1-9][0-9]*; delivered so: 0$"
+        self.assertRegex("\n".join(lines), re.compile(overtaken, re.MULTILINE))
+        self.assertRegex(lines[-1], r"^[1-9][0-9]* orders, in one order at all 4 who heard them$")
+
+    def test_the_three_sites_tell_their_story(self):
+        lines = self.run_example("three-sites", 60)
+        self.assertIn("all three delivered the ordered casts in one order: True", lines)
+        self.assertEqual(lines[-2:], [f"site {site}: daemon ended with status 0" for site in (1, 2)])
 
     def test_an_example_says_why_it_fails(self):
         command = [str(ROOT / "examples/replicated-store/run"), "/bin/false"]
