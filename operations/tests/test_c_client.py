@@ -167,7 +167,8 @@ class Scripted(CCase):
         self.check([wait(0.5)], "late", milliseconds=200)
         self.check([close()], "ended")
         self.check([write(OPENED[:-1]), close()], "ended")
-        self.check([write(b"HTTP/1.1 400 Bad Request\r\n")], "bad bytes")
+        for wrong in (b"HTTP/1.1 400 Bad Request\r\n", view(1, 1, SELF), reply(1, 0)):
+            self.check([write(wrong)], "bad bytes")
         self.assertEqual(self.run_calls(f"{self.folder}/none"), ["failed: No such file or directory"])
         self.assertEqual(self.run_calls(f"{self.folder}/{'long' * 30}"), ["failed: File name too long"])
 
@@ -207,6 +208,11 @@ class Scripted(CCase):
         too_long = ("abcast 5000 1 16385* -> TooLong", "send 0 1 16385* -> TooLong")
         self.check_opened(steps, *too_long, "abcast 5000 1 16384* -> done")
 
+    def test_numbers_that_no_command_has_are_refused_at_once(self):
+        steps = [expect(command(LEAVE, 1, 1)), write(reply(1, 0))]
+        wrong = ("join 5000 0", "cast 5000 0 a", "send 0 0 a", "pass 5000 1 0.1", "pass 5000 1 1.0")
+        self.check_opened(steps, *(f"{call} -> OutOfRange" for call in wrong), "leave 5000 1 -> done")
+
     def test_what_comes_meanwhile_is_kept_in_order(self):
         before = deliver(1, 2, OTHER, 1, CAUSAL, b"before") + ejected(7, 3)
         after = denied(9, 14) + deliver(1, 2, SELF, 1, ATOMIC, b"after")
@@ -229,14 +235,15 @@ class Scripted(CCase):
         reads = ("read 5000 -> opened 1.1", "read 5000 -> deliver 1 short", f"read 5000 -> deliver 1 {'x' * 16_384}")
         self.check_opened(steps, *reads)
 
-    def test_much_can_be_kept(self):
+    def test_much_can_be_kept_and_its_room_is_given_back(self):
         numbers = [f"{count:05}" for count in range(1, 1_001)]
         many = b"".join(deliver(1, 2, OTHER, int(text), CAUSAL, text.encode() + bytes(3_000)) for text in numbers)
         path = f"{self.folder}/castd.sock"
         with ScriptedServer(path, write(OPENED), expect(abcast(1)), write(many), write(reply(1, 0))):
-            lines = self.run_calls(path, "abcast 20000 1 a", "read 0", "messages 0 1000", "read 0")
-        self.assertEqual([*lines[:3], lines[-1]], ["done", "done", "opened 1.1", "none"])
-        self.assertEqual([line[:15] for line in lines[3:-1]], [f"deliver 1 {text}" for text in numbers])
+            lines = self.run_calls(path, "abcast 20000 1 a", "room", "read 0", "messages 0 1000", "read 0", "room")
+        self.assertEqual(lines[:4], ["done", "done", "much room", "opened 1.1"])
+        self.assertEqual([line[:15] for line in lines[4:-2]], [f"deliver 1 {text}" for text in numbers])
+        self.assertEqual(lines[-2:], ["none", "little room"])
 
     # Joining
 
@@ -244,13 +251,14 @@ class Scripted(CCase):
         others = view(2, 1, SELF) + view(1, 4, OTHER)
         self.check_opened(
             [
-                *(expect(command(JOIN, 1, 1)), write(others + reply(1, 0)), wait(0.1)),
-                write(others + view(1, 5, SELF, OTHER) + view(1, 6, SELF)),
+                *(expect(command(JOIN, 1, 1)), write(others + view(1, 4, SELF) + reply(1, 0))),
+                *(wait(0.1), write(view(2, 1, SELF)), wait(0.1), write(view(1, 4, OTHER)), wait(0.1)),
+                write(view(1, 5, SELF, OTHER) + view(1, 6, SELF)),
             ],
             "join 5000 1 -> done",
             "read 0 -> opened 1.1",
-            *("read 0 -> view 2 1 of 1", "read 0 -> view 1 4 of 1") * 2,
-            "read 0 -> view 1 5 of 2",
+            *("read 0 -> view 2 1 of 1", "read 0 -> view 1 4 of 1", "read 0 -> view 1 4 of 1"),
+            *("read 0 -> view 2 1 of 1", "read 0 -> view 1 4 of 1", "read 0 -> view 1 5 of 2"),
             "read 5000 -> view 1 6 of 1",
             "read 0 -> none",
         )
@@ -259,7 +267,8 @@ class Scripted(CCase):
         self.check_opened(
             [
                 *(expect(command(JOIN, 1, 1)), write(view(1, 3, SELF) + reply(1, 6))),
-                *(expect(command(JOIN, 2, 1)), write(reply(2, 0) + denied(2, 14) + denied(1, 14) + view(1, 3, SELF))),
+                *(expect(command(JOIN, 2, 1)), write(reply(2, 0) + denied(2, 14)), wait(0.1)),
+                write(denied(1, 14) + view(1, 3, SELF)),
             ],
             "join 5000 1 -> AlreadyMember",
             "join 5000 1 -> GroupFull",
@@ -424,8 +433,8 @@ class Scripted(CCase):
         self.check_opened(steps, "pause 200", "abcast 5000 1 a -> ended with 12", *reads)
 
     def test_a_stream_that_takes_no_more_has_ended_where_it_stays_open(self):
-        steps = [lambda stream: stream.shutdown(socket.SHUT_RD)]
-        self.check_opened(steps, "pause 200", "abcast 5000 1 a -> ended", "read 0 -> opened 1.1", "read 0 -> ended")
+        steps = [lambda stream: stream.shutdown(socket.SHUT_RD), wait(1)]
+        self.check_opened(steps, "pause 200", "abcast 300 1 a -> ended", "read 0 -> opened 1.1", "read 0 -> ended")
 
     def test_closed_ends_all(self):
         steps = [expect(abcast(1)), write(closed(12) + reply(1, 0))]
@@ -434,7 +443,7 @@ class Scripted(CCase):
 
     def test_bytes_that_are_no_push_end_all(self):
         kept = deliver(1, 2, OTHER, 1, CAUSAL, b"kept")
-        for wrong in (reply(2, 0), reply(1, 16), b"\0\0\0\4", b"\0\0\x4e\x21", view(0, 1)):
+        for wrong in (reply(2, 0), reply(1, 16), b"\0\0\0\4", b"\0\0\x4e\x21", view(0, 1), OPENED):
             with self.subTest(wrong.hex()):
                 steps = [expect(abcast(1)), write(kept + wrong + reply(1, 0))]
                 reads = ("read 0 -> opened 1.1", "read 0 -> deliver 1 kept", "read 0 -> bad bytes")
