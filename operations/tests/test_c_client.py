@@ -14,6 +14,7 @@ import time
 import unittest
 from collections.abc import Sequence
 
+from client_cases import ToolCases
 from harness import PATIENCE, ROOT, Case, Process, Setup
 from scripted_server import (
     ATOMIC,
@@ -42,7 +43,6 @@ from scripted_server import (
 )
 
 CLIENT = ROOT / "clients/c"
-VECTORS = ROOT / "clients/vectors"
 WARNINGS = ["-Wall", "-Wextra", "-Wpedantic", "-Wconversion", "-Werror"]
 STRICT = ["-std=c11", "-D_POSIX_C_SOURCE=200809L", "-g", *WARNINGS]
 SANITIZED = ["-fsanitize=address,undefined", "-fno-sanitize-recover=all"]
@@ -108,7 +108,7 @@ class CCase(Case):
         cls.sanitized = SANITIZED if cls.can_sanitize() else []
         calls = pathlib.Path(__file__).with_name("calls.c")
         cls.calls = cls.compiled("calls", "-Wl,--wrap=malloc", str(calls), str(CLIENT / "castd.c"))
-        cls.tool = cls.compiled("castd-client", str(CLIENT / "castd-client.c"), str(CLIENT / "castd.c"))
+        cls.tool = [cls.compiled("castd-client", str(CLIENT / "castd-client.c"), str(CLIENT / "castd.c"))]
 
     @classmethod
     def can_sanitize(cls) -> bool:
@@ -559,47 +559,21 @@ class Beside(CCase):
         self.assertEqual(ran.returncode, 0)
 
 
-class LineTool(CCase):
-    def run_tool(self, *words: str, said: str | bytes = "") -> tuple[int, bytes, bytes]:
-        """The exit status of the line tool, and what it prints and complains of."""
-        said = said.encode() if isinstance(said, str) else said
-        ran = subprocess.run([self.tool, *words], input=said, capture_output=True, timeout=PATIENCE, check=False)
-        return ran.returncode, ran.stdout, ran.stderr
-
-    def assert_prints(self, said: str | bytes, *lines: str, complaints: str = "", steps: tuple[Step, ...] = ()) -> None:
-        """Checks what it prints that is said this, beside a server that plays a script behind Opened."""
+class LineTool(CCase, ToolCases):
+    def assert_prints(self, given: str, *lines: str, complaints: str = "", steps: tuple[Step, ...] = ()) -> None:
+        """Checks what it prints that is given this, beside a server that plays a script behind Opened."""
         path = f"{tempfile.mkdtemp(dir=self.folder)}/castd.sock"
         with ScriptedServer(path, write(OPENED), *steps):
-            status, printed, complained = self.run_tool(path, said=said)
+            status, printed, complained = self.run_tool(path, given=given.encode())
         self.assertEqual(printed.decode().splitlines(), ["opened 1.1", *lines])
         self.assertEqual((status, complained.decode()), (0, complaints))
-
-    def test_the_vectors(self):
-        vectors = VECTORS.read_text(encoding="utf-8")
-        expected = "".join(f"{line}\n" for line in vectors.splitlines() if line and not line.startswith("#"))
-        status, printed, complained = self.run_tool("--vectors", said=vectors)
-        self.assertEqual(printed.decode(), expected)
-        self.assertEqual((status, complained), (0, b""))
-
-    def test_a_wrong_command_line(self):
-        usage = b"usage: castd-client SOCKET\n       castd-client --vectors\n"
-        self.assertEqual(self.run_tool("--help"), (0, usage, b""))
-        self.assertEqual(self.run_tool(), (2, b"", usage))
-        self.assertEqual(self.run_tool("one", "two"), (2, b"", usage))
-
-    def test_where_it_cannot_connect(self):
-        path = f"{self.folder}/none.sock"
-        self.assertEqual(self.run_tool(path), (1, b"", f"castd-client: {path}: No such file or directory\n".encode()))
-        path = f"{self.folder}/castd.sock"
-        with ScriptedServer(path, write(closed(3))):
-            self.assertEqual(self.run_tool(path), (1, b"", f"castd-client: {path}: TooManySessions\n".encode()))
 
     def test_lines_that_are_no_commands(self):
         wrong = ["joi 1", "join", "join 0", "join 65536", "join 01", "join -1", "join 1 ", "join  1", "cast", "cast x"]
         wrong += ["pass 1", "pass 1 2", "pass 1 0.1", "pass 1 1.4294967296", "pass 1 2.1 ", "wait", "wait x", "wait -1"]
         wrong += [f"cast 1 {'x' * 16_385}"]
-        said = "".join(f"{line}\n" for line in wrong)
-        self.assert_prints(f"\n{said}", complaints="".join(f"unknown: {line}\n" for line in wrong))
+        given = "".join(f"{line}\n" for line in wrong)
+        self.assert_prints(given, complaints="".join(f"unknown: {line}\n" for line in wrong))
 
     def test_each_command_is_sent_and_what_comes_is_printed(self):
         steps = (
@@ -613,19 +587,19 @@ class LineTool(CCase):
             *(expect(command(JOIN, 6, 9)), write(reply(6, 0) + denied(8, 14) + denied(9, 14))),
             *(expect(command(JOIN, 7, 8)), write(reply(7, 4))),
         )
-        said = "join 1\ncast 1 a  b\nabcast 1\nwait 0.1\npass 1 2.1\nleave 1\nwait 0.1\njoin 9\njoin 8"
+        given = "join 1\ncast 1 a  b\nabcast 1\nwait 0.1\npass 1 2.1\nleave 1\nwait 0.1\njoin 9\njoin 8"
         first = ("reply 1 0", "view 1 1 holder 2.1 members 2.1", "view 1 2 holder 1.1 members 1.1 2.1")
         casts = ("deliver 1/2/1.1/1 causal a  b", "reply 2 0", "reply 3 0", "deliver 1/2/1.1/2 atomic")
         others = ("reply 4 11 NotHolder", "reply 5 0", "ejected 2 3")
         joins = ("reply 6 0", "denied 8 14 GroupFull", "denied 9 14 GroupFull", "reply 7 4 NoGroup")
-        self.assert_prints(said, *first, *casts, *others, *joins, steps=steps)
+        self.assert_prints(given, *first, *casts, *others, *joins, steps=steps)
 
     def test_payloads_are_any_bytes(self):
         payload = bytes(byte for byte in range(256) if byte != ord("\n"))
         path = f"{self.folder}/castd.sock"
         steps = (expect(command(CAST, 1, 1, CAUSAL + payload)), write(reply(1, 0)))
         with ScriptedServer(path, write(OPENED + deliver(1, 1, OTHER, 1, CAUSAL, bytes(range(256)))), *steps):
-            status, printed, complained = self.run_tool(path, said=b"cast 1 " + payload)
+            status, printed, complained = self.run_tool(path, given=b"cast 1 " + payload)
         low = "".join(f"\\x{byte:02x}" for byte in range(32)).encode()
         high = bytes(range(32, 256)).replace(b"\\", b"\\x5c").replace(b"\x7f", b"\\x7f")
         text = b"opened 1.1\ndeliver 1/1/2.1/1 causal " + low + high + b"\nreply 1 0\n"
@@ -638,18 +612,8 @@ class LineTool(CCase):
         path = f"{self.folder}/castd.sock"
         with ScriptedServer(path, write(OPENED), expect(command(LEAVE, 1, 1)), write(reply(2, 0))):
             expected = (1, b"opened 1.1\n", b"castd-client: the daemon sent what is no push\n")
-            self.assertEqual(self.run_tool(path, said="leave 1\n"), expected)
+            self.assertEqual(self.run_tool(path, given=b"leave 1\n"), expected)
 
-    def test_a_conversation_with_a_daemon(self):
-        setup = self.setup_of()
-        self.keeper(setup)
-        said = "join 1\ncast 1 hello\nabcast 1 ordered\nwait 0.5\npass 1 1.1\njoin 1\njoin 2\nleave 1\ncast 1 late\n"
-        status, printed, complained = self.run_tool(f"{setup.site_folder(1)}/castd.sock", said=said)
-        lines = printed.decode().splitlines()
-        pushes = [line for line in lines if not line.startswith("reply ")]
-        replies = ["reply 1 0", "reply 2 0", "reply 3 0", "reply 4 0", "reply 5 6 AlreadyMember", "reply 6 4 NoGroup"]
-        replies += ["reply 7 0", "reply 8 5 NotMember"]
-        self.assertEqual((status, complained), (0, b""))
-        self.assertEqual([line for line in lines if line.startswith("reply ")], replies)
-        expected = ["opened 1.1", "view 1 1 holder 1.1 members 1.1", "deliver 1/1/1.1/1 causal hello"]
-        self.assertEqual(pushes, [*expected, "deliver 1/1/1.1/2 atomic ordered"])
+
+# The cases are for the tests of each language alone.
+del ToolCases
