@@ -50,7 +50,6 @@ static struct castd_process take_process(struct fields *fields) {
     uint16_t site = (uint16_t)take(fields, 2, 1, UINT16_MAX);
     return (struct castd_process){site, take(fields, 4, 1, UINT32_MAX)};
 }
-
 static uint64_t rank_of(struct castd_process process) { return (uint64_t)process.site << 32 | process.serial; }
 
 static void take_members(struct fields *fields, struct castd_push *push) {
@@ -81,8 +80,8 @@ int castd_decode(const uint8_t *bytes, size_t length, struct castd_push *push) {
     if (type == CASTD_DELIVER) push->kind = (enum castd_kind)take(&fields, 1, CASTD_CAUSAL, CASTD_ATOMIC);
     push->payload = fields.at;
     push->length = (size_t)(fields.end - fields.at);
-    size_t most = type == CASTD_DELIVER ? CASTD_MOST_PAYLOAD : 0;
-    return fields.is_fault || push->length > most ? CASTD_BAD_BYTES : (int)whole;
+    bool is_good = !fields.is_fault && push->length <= (type == CASTD_DELIVER ? CASTD_MOST_PAYLOAD : 0);
+    return is_good ? (int)whole : CASTD_BAD_BYTES;
 }
 
 /* The moment so many milliseconds from now, in microseconds. Where they are negative, it never comes. */
@@ -180,7 +179,8 @@ static int step(struct castd *session, int64_t end) {
         uint8_t *frame = in->at + in->from + session->kept;
         int length = castd_decode(frame, (size_t)(in->at + in->to - frame), &push);
         if (length == 0) break;
-        if (length < 0) session->over = CASTD_BAD_BYTES;
+        bool is_in_turn = push.type == CASTD_CLOSED || (push.type == CASTD_OPENED) == (session->process.site == 0);
+        if (length < 0 || !is_in_turn) session->over = CASTD_BAD_BYTES;
         else if (heed(session, &push)) session->kept += (size_t)length;
         else {
             in->to -= (size_t)length;
@@ -220,6 +220,8 @@ void castd_close(struct castd *session) {
 
 int castd_send(struct castd *session, const struct castd_command *command, uint32_t *tag) {
     session->may_be_done = false;
+    bool is_to_none = command->type == CASTD_PASS && (command->to.site == 0 || command->to.serial == 0);
+    if (command->group == 0 || is_to_none) return CASTD_OUT_OF_RANGE;
     if (command->length > CASTD_MOST_PAYLOAD) return CASTD_TOO_LONG;
     if (session->over != 0) return session->over;
     if (make_room(&session->out, COMMAND + command->length) != 0) return CASTD_FAILED;

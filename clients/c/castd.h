@@ -7,7 +7,6 @@
  *
  * Calls return 0 for done, the code of a refusal (1 to 15), or a `castd_failure`. Milliseconds count from the call on;
  * negative, they are for ever. One thread at a time may use a session. Different sessions are independent.
- *
  * An event loop waits until `socket` is readable, but only as long as castd_wait says, which it asks anew after each
  * call. Then it calls castd_read with 0 until that gives CASTD_NONE. */
 #ifndef CASTD_H
@@ -76,15 +75,14 @@ struct castd {
 
 const char *castd_code_name(int code); /* As "NotMember"; "Unknown" of what is no code. */
 
-/* Connects to the socket of a domain, and waits for Opened, which is also the first push that castd_read gives. Where
- * Closed comes instead, CASTD_TOO_MANY_SESSIONS or CASTD_HALTED. After a failure nothing is left to close. What this
- * program executes does not get the descriptor. */
+/* Connects to the socket of a domain, and waits for Opened, which castd_read gives too. Where Closed comes instead,
+ * CASTD_TOO_MANY_SESSIONS or CASTD_HALTED. After a failure nothing is left to close. The socket is closed on exec. */
 int castd_connect(struct castd *session, const char *path, int milliseconds);
 void castd_close(struct castd *session); /* What is not at the daemon is not done. May be called again. */
 
-/* Puts a command, with a copy of its payload, at the end of the queue, and does not wait. castd_read gives its Reply,
- * which bears the tag to which `tag` is set, unless it is NULL. Only calls move the queue on. CASTD_TOO_LONG,
- * CASTD_ENDED, CASTD_BAD_BYTES, CASTD_FAILED (no memory); then the command is not in the queue. */
+/* Puts a command, with a copy of its payload, at the end of the queue, and does not wait. Only calls move the queue on.
+ * castd_read gives its Reply, with the tag to which `tag` is set, unless it is NULL. CASTD_TOO_LONG, CASTD_OUT_OF_RANGE
+ * (a 0), CASTD_ENDED, CASTD_BAD_BYTES, CASTD_FAILED (no memory): then the command is not in the queue. */
 int castd_send(struct castd *session, const struct castd_command *command, uint32_t *tag);
 
 /* Put a command at the end of the queue and wait for its Reply, which castd_read does not give; what else comes is kept

@@ -97,6 +97,8 @@ static void tell_wait(void) {
     else printf(wait <= 21 ? "wait a little\n" : "wait too long\n");
 }
 
+static void tell_room(void) { printf(session.in.room < 100000 ? "little room\n" : "much room\n"); }
+
 static void on_alarm(int number) { (void)number; }
 
 /* Has a signal come every so many milliseconds, which ends system calls. */
@@ -136,6 +138,7 @@ static void do_line(const char *word, int milliseconds, unsigned number, const c
     else if (strcmp(word, "members") == 0) read_members(number);
     else if (strcmp(word, "messages") == 0) read_messages(number);
     else if (strcmp(word, "wait") == 0) tell_wait();
+    else if (strcmp(word, "room") == 0) tell_room();
     else if (strcmp(word, "pause") == 0) poll(NULL, 0, milliseconds);
     else if (strcmp(word, "alarm") == 0) alarm_every(milliseconds);
     else if (strcmp(word, "starve") == 0) is_starved = number != 0;

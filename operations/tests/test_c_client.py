@@ -14,6 +14,7 @@ import time
 import unittest
 from collections.abc import Sequence
 
+from client_cases import ToolCases
 from harness import PATIENCE, ROOT, Case, Process, Setup
 from scripted_server import (
     ATOMIC,
@@ -42,7 +43,6 @@ from scripted_server import (
 )
 
 CLIENT = ROOT / "clients/c"
-VECTORS = ROOT / "clients/vectors"
 WARNINGS = ["-Wall", "-Wextra", "-Wpedantic", "-Wconversion", "-Werror"]
 STRICT = ["-std=c11", "-D_POSIX_C_SOURCE=200809L", "-g", *WARNINGS]
 SANITIZED = ["-fsanitize=address,undefined", "-fno-sanitize-recover=all"]
@@ -108,7 +108,7 @@ class CCase(Case):
         cls.sanitized = SANITIZED if cls.can_sanitize() else []
         calls = pathlib.Path(__file__).with_name("calls.c")
         cls.calls = cls.compiled("calls", "-Wl,--wrap=malloc", str(calls), str(CLIENT / "castd.c"))
-        cls.tool = cls.compiled("castd-client", str(CLIENT / "castd-client.c"), str(CLIENT / "castd.c"))
+        cls.tool = [cls.compiled("castd-client", str(CLIENT / "castd-client.c"), str(CLIENT / "castd.c"))]
 
     @classmethod
     def can_sanitize(cls) -> bool:
@@ -167,7 +167,8 @@ class Scripted(CCase):
         self.check([wait(0.5)], "late", milliseconds=200)
         self.check([close()], "ended")
         self.check([write(OPENED[:-1]), close()], "ended")
-        self.check([write(b"HTTP/1.1 400 Bad Request\r\n")], "bad bytes")
+        for wrong in (b"HTTP/1.1 400 Bad Request\r\n", view(1, 1, SELF), reply(1, 0)):
+            self.check([write(wrong)], "bad bytes")
         self.assertEqual(self.run_calls(f"{self.folder}/none"), ["failed: No such file or directory"])
         self.assertEqual(self.run_calls(f"{self.folder}/{'long' * 30}"), ["failed: File name too long"])
 
@@ -207,6 +208,11 @@ class Scripted(CCase):
         too_long = ("abcast 5000 1 16385* -> TooLong", "send 0 1 16385* -> TooLong")
         self.check_opened(steps, *too_long, "abcast 5000 1 16384* -> done")
 
+    def test_numbers_that_no_command_has_are_refused_at_once(self):
+        steps = [expect(command(LEAVE, 1, 1)), write(reply(1, 0))]
+        wrong = ("join 5000 0", "cast 5000 0 a", "send 0 0 a", "pass 5000 1 0.1", "pass 5000 1 1.0")
+        self.check_opened(steps, *(f"{call} -> OutOfRange" for call in wrong), "leave 5000 1 -> done")
+
     def test_what_comes_meanwhile_is_kept_in_order(self):
         before = deliver(1, 2, OTHER, 1, CAUSAL, b"before") + ejected(7, 3)
         after = denied(9, 14) + deliver(1, 2, SELF, 1, ATOMIC, b"after")
@@ -229,14 +235,15 @@ class Scripted(CCase):
         reads = ("read 5000 -> opened 1.1", "read 5000 -> deliver 1 short", f"read 5000 -> deliver 1 {'x' * 16_384}")
         self.check_opened(steps, *reads)
 
-    def test_much_can_be_kept(self):
+    def test_much_can_be_kept_and_its_room_is_given_back(self):
         numbers = [f"{count:05}" for count in range(1, 1_001)]
         many = b"".join(deliver(1, 2, OTHER, int(text), CAUSAL, text.encode() + bytes(3_000)) for text in numbers)
         path = f"{self.folder}/castd.sock"
         with ScriptedServer(path, write(OPENED), expect(abcast(1)), write(many), write(reply(1, 0))):
-            lines = self.run_calls(path, "abcast 20000 1 a", "read 0", "messages 0 1000", "read 0")
-        self.assertEqual([*lines[:3], lines[-1]], ["done", "done", "opened 1.1", "none"])
-        self.assertEqual([line[:15] for line in lines[3:-1]], [f"deliver 1 {text}" for text in numbers])
+            lines = self.run_calls(path, "abcast 20000 1 a", "room", "read 0", "messages 0 1000", "read 0", "room")
+        self.assertEqual(lines[:4], ["done", "done", "much room", "opened 1.1"])
+        self.assertEqual([line[:15] for line in lines[4:-2]], [f"deliver 1 {text}" for text in numbers])
+        self.assertEqual(lines[-2:], ["none", "little room"])
 
     # Joining
 
@@ -244,13 +251,14 @@ class Scripted(CCase):
         others = view(2, 1, SELF) + view(1, 4, OTHER)
         self.check_opened(
             [
-                *(expect(command(JOIN, 1, 1)), write(others + reply(1, 0)), wait(0.1)),
-                write(others + view(1, 5, SELF, OTHER) + view(1, 6, SELF)),
+                *(expect(command(JOIN, 1, 1)), write(others + view(1, 4, SELF) + reply(1, 0))),
+                *(wait(0.1), write(view(2, 1, SELF)), wait(0.1), write(view(1, 4, OTHER)), wait(0.1)),
+                write(view(1, 5, SELF, OTHER) + view(1, 6, SELF)),
             ],
             "join 5000 1 -> done",
             "read 0 -> opened 1.1",
-            *("read 0 -> view 2 1 of 1", "read 0 -> view 1 4 of 1") * 2,
-            "read 0 -> view 1 5 of 2",
+            *("read 0 -> view 2 1 of 1", "read 0 -> view 1 4 of 1", "read 0 -> view 1 4 of 1"),
+            *("read 0 -> view 2 1 of 1", "read 0 -> view 1 4 of 1", "read 0 -> view 1 5 of 2"),
             "read 5000 -> view 1 6 of 1",
             "read 0 -> none",
         )
@@ -259,7 +267,8 @@ class Scripted(CCase):
         self.check_opened(
             [
                 *(expect(command(JOIN, 1, 1)), write(view(1, 3, SELF) + reply(1, 6))),
-                *(expect(command(JOIN, 2, 1)), write(reply(2, 0) + denied(2, 14) + denied(1, 14) + view(1, 3, SELF))),
+                *(expect(command(JOIN, 2, 1)), write(reply(2, 0) + denied(2, 14)), wait(0.1)),
+                write(denied(1, 14) + view(1, 3, SELF)),
             ],
             "join 5000 1 -> AlreadyMember",
             "join 5000 1 -> GroupFull",
@@ -424,8 +433,8 @@ class Scripted(CCase):
         self.check_opened(steps, "pause 200", "abcast 5000 1 a -> ended with 12", *reads)
 
     def test_a_stream_that_takes_no_more_has_ended_where_it_stays_open(self):
-        steps = [lambda stream: stream.shutdown(socket.SHUT_RD)]
-        self.check_opened(steps, "pause 200", "abcast 5000 1 a -> ended", "read 0 -> opened 1.1", "read 0 -> ended")
+        steps = [lambda stream: stream.shutdown(socket.SHUT_RD), wait(1)]
+        self.check_opened(steps, "pause 200", "abcast 300 1 a -> ended", "read 0 -> opened 1.1", "read 0 -> ended")
 
     def test_closed_ends_all(self):
         steps = [expect(abcast(1)), write(closed(12) + reply(1, 0))]
@@ -434,7 +443,7 @@ class Scripted(CCase):
 
     def test_bytes_that_are_no_push_end_all(self):
         kept = deliver(1, 2, OTHER, 1, CAUSAL, b"kept")
-        for wrong in (reply(2, 0), reply(1, 16), b"\0\0\0\4", b"\0\0\x4e\x21", view(0, 1)):
+        for wrong in (reply(2, 0), reply(1, 16), b"\0\0\0\4", b"\0\0\x4e\x21", view(0, 1), OPENED):
             with self.subTest(wrong.hex()):
                 steps = [expect(abcast(1)), write(kept + wrong + reply(1, 0))]
                 reads = ("read 0 -> opened 1.1", "read 0 -> deliver 1 kept", "read 0 -> bad bytes")
@@ -550,47 +559,21 @@ class Beside(CCase):
         self.assertEqual(ran.returncode, 0)
 
 
-class LineTool(CCase):
-    def run_tool(self, *words: str, said: str | bytes = "") -> tuple[int, bytes, bytes]:
-        """The exit status of the line tool, and what it prints and complains of."""
-        said = said.encode() if isinstance(said, str) else said
-        ran = subprocess.run([self.tool, *words], input=said, capture_output=True, timeout=PATIENCE, check=False)
-        return ran.returncode, ran.stdout, ran.stderr
-
-    def assert_prints(self, said: str | bytes, *lines: str, complaints: str = "", steps: tuple[Step, ...] = ()) -> None:
-        """Checks what it prints that is said this, beside a server that plays a script behind Opened."""
+class LineTool(CCase, ToolCases):
+    def assert_prints(self, given: str, *lines: str, complaints: str = "", steps: tuple[Step, ...] = ()) -> None:
+        """Checks what it prints that is given this, beside a server that plays a script behind Opened."""
         path = f"{tempfile.mkdtemp(dir=self.folder)}/castd.sock"
         with ScriptedServer(path, write(OPENED), *steps):
-            status, printed, complained = self.run_tool(path, said=said)
+            status, printed, complained = self.run_tool(path, given=given.encode())
         self.assertEqual(printed.decode().splitlines(), ["opened 1.1", *lines])
         self.assertEqual((status, complained.decode()), (0, complaints))
-
-    def test_the_vectors(self):
-        vectors = VECTORS.read_text(encoding="utf-8")
-        expected = "".join(f"{line}\n" for line in vectors.splitlines() if line and not line.startswith("#"))
-        status, printed, complained = self.run_tool("--vectors", said=vectors)
-        self.assertEqual(printed.decode(), expected)
-        self.assertEqual((status, complained), (0, b""))
-
-    def test_a_wrong_command_line(self):
-        usage = b"usage: castd-client SOCKET\n       castd-client --vectors\n"
-        self.assertEqual(self.run_tool("--help"), (0, usage, b""))
-        self.assertEqual(self.run_tool(), (2, b"", usage))
-        self.assertEqual(self.run_tool("one", "two"), (2, b"", usage))
-
-    def test_where_it_cannot_connect(self):
-        path = f"{self.folder}/none.sock"
-        self.assertEqual(self.run_tool(path), (1, b"", f"castd-client: {path}: No such file or directory\n".encode()))
-        path = f"{self.folder}/castd.sock"
-        with ScriptedServer(path, write(closed(3))):
-            self.assertEqual(self.run_tool(path), (1, b"", f"castd-client: {path}: TooManySessions\n".encode()))
 
     def test_lines_that_are_no_commands(self):
         wrong = ["joi 1", "join", "join 0", "join 65536", "join 01", "join -1", "join 1 ", "join  1", "cast", "cast x"]
         wrong += ["pass 1", "pass 1 2", "pass 1 0.1", "pass 1 1.4294967296", "pass 1 2.1 ", "wait", "wait x", "wait -1"]
         wrong += [f"cast 1 {'x' * 16_385}"]
-        said = "".join(f"{line}\n" for line in wrong)
-        self.assert_prints(f"\n{said}", complaints="".join(f"unknown: {line}\n" for line in wrong))
+        given = "".join(f"{line}\n" for line in wrong)
+        self.assert_prints(given, complaints="".join(f"unknown: {line}\n" for line in wrong))
 
     def test_each_command_is_sent_and_what_comes_is_printed(self):
         steps = (
@@ -604,19 +587,19 @@ class LineTool(CCase):
             *(expect(command(JOIN, 6, 9)), write(reply(6, 0) + denied(8, 14) + denied(9, 14))),
             *(expect(command(JOIN, 7, 8)), write(reply(7, 4))),
         )
-        said = "join 1\ncast 1 a  b\nabcast 1\nwait 0.1\npass 1 2.1\nleave 1\nwait 0.1\njoin 9\njoin 8"
+        given = "join 1\ncast 1 a  b\nabcast 1\nwait 0.1\npass 1 2.1\nleave 1\nwait 0.1\njoin 9\njoin 8"
         first = ("reply 1 0", "view 1 1 holder 2.1 members 2.1", "view 1 2 holder 1.1 members 1.1 2.1")
         casts = ("deliver 1/2/1.1/1 causal a  b", "reply 2 0", "reply 3 0", "deliver 1/2/1.1/2 atomic")
         others = ("reply 4 11 NotHolder", "reply 5 0", "ejected 2 3")
         joins = ("reply 6 0", "denied 8 14 GroupFull", "denied 9 14 GroupFull", "reply 7 4 NoGroup")
-        self.assert_prints(said, *first, *casts, *others, *joins, steps=steps)
+        self.assert_prints(given, *first, *casts, *others, *joins, steps=steps)
 
     def test_payloads_are_any_bytes(self):
         payload = bytes(byte for byte in range(256) if byte != ord("\n"))
         path = f"{self.folder}/castd.sock"
         steps = (expect(command(CAST, 1, 1, CAUSAL + payload)), write(reply(1, 0)))
         with ScriptedServer(path, write(OPENED + deliver(1, 1, OTHER, 1, CAUSAL, bytes(range(256)))), *steps):
-            status, printed, complained = self.run_tool(path, said=b"cast 1 " + payload)
+            status, printed, complained = self.run_tool(path, given=b"cast 1 " + payload)
         low = "".join(f"\\x{byte:02x}" for byte in range(32)).encode()
         high = bytes(range(32, 256)).replace(b"\\", b"\\x5c").replace(b"\x7f", b"\\x7f")
         text = b"opened 1.1\ndeliver 1/1/2.1/1 causal " + low + high + b"\nreply 1 0\n"
@@ -629,18 +612,8 @@ class LineTool(CCase):
         path = f"{self.folder}/castd.sock"
         with ScriptedServer(path, write(OPENED), expect(command(LEAVE, 1, 1)), write(reply(2, 0))):
             expected = (1, b"opened 1.1\n", b"castd-client: the daemon sent what is no push\n")
-            self.assertEqual(self.run_tool(path, said="leave 1\n"), expected)
+            self.assertEqual(self.run_tool(path, given=b"leave 1\n"), expected)
 
-    def test_a_conversation_with_a_daemon(self):
-        setup = self.setup_of()
-        self.keeper(setup)
-        said = "join 1\ncast 1 hello\nabcast 1 ordered\nwait 0.5\npass 1 1.1\njoin 1\njoin 2\nleave 1\ncast 1 late\n"
-        status, printed, complained = self.run_tool(f"{setup.site_folder(1)}/castd.sock", said=said)
-        lines = printed.decode().splitlines()
-        pushes = [line for line in lines if not line.startswith("reply ")]
-        replies = ["reply 1 0", "reply 2 0", "reply 3 0", "reply 4 0", "reply 5 6 AlreadyMember", "reply 6 4 NoGroup"]
-        replies += ["reply 7 0", "reply 8 5 NotMember"]
-        self.assertEqual((status, complained), (0, b""))
-        self.assertEqual([line for line in lines if line.startswith("reply ")], replies)
-        expected = ["opened 1.1", "view 1 1 holder 1.1 members 1.1", "deliver 1/1/1.1/1 causal hello"]
-        self.assertEqual(pushes, [*expected, "deliver 1/1/1.1/2 atomic ordered"])
+
+# The cases are for the tests of each language alone.
+del ToolCases
