@@ -10,8 +10,9 @@
 
 use std::io::{ErrorKind, Read, Write};
 use std::os::fd::{AsFd, AsRawFd, BorrowedFd, RawFd};
+use std::os::unix::net::UnixStream;
 use std::time::{Duration, Instant};
-use std::{collections::VecDeque, fmt, mem, net::Shutdown, os::unix::net::UnixStream, path::Path, str::FromStr};
+use std::{collections::VecDeque, fmt, mem, net::Shutdown, path::Path, str::FromStr, sync::mpsc, thread};
 
 /// The most bytes of a payload.
 pub const MOST_PAYLOAD: usize = 16_384;
@@ -211,14 +212,18 @@ pub struct Session {
 }
 
 impl Session {
-    /// Connects to a socket. `Refused` is `TooManySessions` or `Halted`. The system's `connect` has no deadline.
+    /// Connects to the socket of a domain. `Refused` is `TooManySessions` or `Halted`.
     pub fn connect(path: impl AsRef<Path>, deadline: Option<Duration>) -> Result<Session, Error> {
-        let process = Process { site: 0, serial: 0 };
-        let stream = UnixStream::connect(path).map_err(|error| Error::Io(error.kind()))?;
-        let (bytes, kept, queue) = (VecDeque::new(), VecDeque::new(), VecDeque::new());
-        let mut session = Session { stream, process, bytes, kept, queue, tag: 0, over: None };
-        match session.wait(deadline, |_| true)? {
-            Push::Opened(process) => Ok(Session { process, kept: [Push::Opened(process)].into(), ..session }),
+        let (begun, path, (done, connected)) = (Instant::now(), path.as_ref().to_owned(), mpsc::channel());
+        let io = |error: std::io::Error| Error::Io(error.kind());
+        // The system's call has no deadline, so a thread makes it. A connection that comes too late is dropped.
+        thread::Builder::new().spawn(move || done.send(UnixStream::connect(path))).map_err(io)?;
+        let connected = connected.recv_timeout(deadline.unwrap_or(Duration::MAX));
+        let stream = connected.map_err(|_| Error::Late { may_be_done: false })?.map_err(io)?;
+        let (process, kept, queue) = (Process { site: 0, serial: 0 }, VecDeque::new(), VecDeque::new());
+        let mut it = Session { stream, process, bytes: VecDeque::new(), kept, queue, tag: 0, over: None };
+        match it.wait(deadline.map(|it| it.saturating_sub(begun.elapsed())), |_| true)? {
+            Push::Opened(process) => Ok(Session { process, kept: [Push::Opened(process)].into(), ..it }),
             Push::Closed(code) => Err(Error::Refused(code)),
             _ => Err(BAD_FRAME),
         }
@@ -365,6 +370,7 @@ impl Session {
                 None => self.over = Some(BAD_FRAME),
             },
             Push::Closed(code) => self.over = Some(Error::Ended { may_be_done: false, code: Some(code) }),
+            Push::Opened(_) if self.process.site > 0 => self.over = Some(BAD_FRAME),
             Push::Opened(_) | Push::Denied { .. } => {}
             Push::Deliver { kind, process, .. } if kind == Kind::Causal || process != self.process => {}
             _ => first.into_iter().for_each(|it| it.due = now),
@@ -387,14 +393,8 @@ impl Session {
     }
 }
 
-impl AsFd for Session {
-    fn as_fd(&self) -> BorrowedFd<'_> {
-        self.stream.as_fd()
-    }
-}
+#[rustfmt::skip]
+impl AsFd for Session { fn as_fd(&self) -> BorrowedFd<'_> { self.stream.as_fd() } }
 
-impl AsRawFd for Session {
-    fn as_raw_fd(&self) -> RawFd {
-        self.stream.as_raw_fd()
-    }
-}
+#[rustfmt::skip]
+impl AsRawFd for Session { fn as_raw_fd(&self) -> RawFd { self.stream.as_raw_fd() } }

@@ -47,6 +47,7 @@ from scripted_server import (
     quiet,
     reply,
     view,
+    wait,
     write,
 )
 
@@ -56,6 +57,8 @@ MOST_PAYLOAD = 16_384
 # A command that is refused for now is sent again after 20 milliseconds.
 PAUSE = 0.02
 MEMBERS, CASTS = 3, 100
+# A program that makes no call takes fewer bytes: 1,024 pushes, what it has read before, and what its socket holds.
+BUFFERED = 2_000_000
 
 CONVERSATION = rb"""
 join 1
@@ -139,6 +142,25 @@ def flood(seconds: float, frame: bytes) -> Step:
     return step
 
 
+def fill(frame: bytes, most: int) -> Step:
+    """Writes this frame until there is no room, which is before so many bytes. The last one is written to its end."""
+
+    def step(stream: socket.socket) -> None:
+        stream.settimeout(0.5)
+        rest, count = b"", 0
+        with contextlib.suppress(TimeoutError):
+            while count < most:
+                rest = rest or frame
+                sent = stream.send(rest)
+                rest, count = rest[sent:], count + sent
+        stream.settimeout(PATIENCE)
+        if count >= most:
+            raise AssertionError(f"{count} bytes were taken")
+        stream.sendall(rest)
+
+    return step
+
+
 def stopwatch(times: list[float]) -> Step:
     """Notes the time."""
     return lambda stream: times.append(time.monotonic())
@@ -158,10 +180,10 @@ class Calls(Tool):
             found.append(self.ask("0.2 read"))
         return found
 
-    def finish(self) -> None:
-        """Closes the session."""
+    def finish(self) -> int:
+        """Closes the session. Returns the status with which the program ends."""
         self.process.stdin.close()
-        self.process.wait(PATIENCE)
+        return self.process.wait(PATIENCE)
 
 
 class ToolCases(Case):
@@ -224,7 +246,7 @@ class CallCases(Case):
         with ScriptedServer(path, *steps):
             program = self.program(path, seconds)
             yield program
-            program.finish()
+            self.assertEqual(program.finish(), 0, program.complained())
 
     @contextlib.contextmanager
     def connected(self, *steps: Step) -> Iterator[Calls]:
@@ -408,10 +430,12 @@ class CallCases(Case):
             self.assertEqual(program.pushes(), ["opened 1.1", "closed Slow", "ended Slow"])
 
     def test_nobody_reads_the_stream(self):
-        last = [write(message(b"last")), lambda stream: stream.shutdown(socket.SHUT_RD)]
+        last = [write(message(b"last")), lambda stream: stream.shutdown(socket.SHUT_RD), wait(3)]
         with self.connected(*last) as program:
             time.sleep(0.2)
-            self.assertIn(program.ask("5 cast 1 one"), ("ended", "ended, may be done"))
+            begun = time.monotonic()
+            self.assertIn(program.ask("10 cast 1 one"), ("ended", "ended, may be done"))
+            self.assertLess(time.monotonic() - begun, 2)
             self.assertEqual(program.pushes(), ["opened 1.1", "deliver last", "ended"])
 
     def test_half_a_frame(self):
@@ -437,8 +461,8 @@ class CallCases(Case):
                 self.assertEqual(program.ask("- cast 1 one"), "bad frame" if first else "done")
                 self.assertEqual(program.pushes(), ["opened 1.1", "bad frame"])
 
-    def test_bytes_that_are_no_push(self):
-        for wrong in (b"\0\0\0\4", reply(1, 16), cast(1, b"a command")):
+    def test_bytes_that_are_no_push_or_a_second_opened(self):
+        for wrong in (b"\0\0\0\4", reply(1, 16), cast(1, b"a command"), OPENED):
             with self.subTest(wrong.hex()), self.connected(
                 expect(cast(1, b"one")), write(message(b"right") + wrong)
             ) as program:
@@ -459,6 +483,15 @@ class CallCases(Case):
         with self.connected(expect(cast(1, b"one")), flood(1, message(b"more")), close()) as program:
             self.assert_takes(0.3, program, "0.3 cast 1 one", "late, may be done")
 
+    def test_a_program_that_does_not_read_leaves_its_pushes_to_the_daemon(self):
+        """A call that waits reads on."""
+        frames = 1_000 * message(b"more")
+        with self.connected(
+            fill(frames, BUFFERED), expect(cast(1, b"one")), write(100 * frames + reply(1, DONE))
+        ) as program:
+            time.sleep(2)
+            self.assertEqual(program.ask("- cast 1 one"), "done")
+
     def test_connecting(self):
         path = f"{self.folder}/castd.sock"
         self.assertEqual(self.program(path).line(PATIENCE), "failed")
@@ -474,6 +507,24 @@ class CallCases(Case):
         ):
             with self.subTest(answer), self.served(*steps, seconds="0.5") as program:
                 self.assertEqual(program.line(PATIENCE), answer)
+
+    def test_connecting_where_nobody_takes_the_connection(self):
+        path = f"{self.folder}/castd.sock"
+        with socket.socket(socket.AF_UNIX) as listener, contextlib.ExitStack() as others:
+            listener.bind(path)
+            listener.listen(0)
+            with contextlib.suppress(BlockingIOError):
+                while True:
+                    other = others.enter_context(socket.socket(socket.AF_UNIX))
+                    other.setblocking(False)
+                    other.connect(path)
+            self.assertEqual(self.program(path, "0.2").line(PATIENCE), "late")
+            program = self.program(path)
+            time.sleep(0.2)
+            for _ in range(2):
+                stream, _ = listener.accept()
+                others.enter_context(stream).sendall(OPENED)
+            self.assertEqual(program.line(PATIENCE), "connected 1.1")
 
     def test_three_programs_cast_at_once(self):
         for sites in (1, MEMBERS):

@@ -1,0 +1,3 @@
+module castd
+
+go 1.18
