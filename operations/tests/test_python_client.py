@@ -3,13 +3,17 @@
 from __future__ import annotations
 
 import asyncio
+import contextlib
+import math
 import os
 import signal
+import socket
 import subprocess
 import sys
 import threading
 import time
 import unittest
+from collections.abc import Callable
 from unittest import mock
 
 from castd import aio, conversation
@@ -129,6 +133,51 @@ class Scripted(Case):
             self.assert_fails(castd.Late, False, self.session, SHORT)
         with self.assertRaises(OSError):
             self.Session(f"{self.folder}/none")
+
+    def test_a_connection_waits_for_room(self):
+        path = f"{self.folder}/full.sock"
+        with socket.socket(socket.AF_UNIX) as listener, socket.socket(socket.AF_UNIX) as first:
+            listener.bind(path)
+            listener.listen(0)
+            first.connect(path)
+            begun = time.monotonic()
+            self.assert_fails(castd.Late, False, self.Session, path, SHORT)
+            self.assertGreaterEqual(time.monotonic() - begun, SHORT)
+
+            def serve() -> None:
+                listener.accept()[0].close()
+                stream, _ = listener.accept()
+                with stream:
+                    stream.sendall(OPENED)
+                    stream.recv(1)
+
+            server = threading.Timer(SHORT, serve)
+            server.start()
+            session = self.Session(path, PATIENCE)
+            self.assertEqual(session.process, (1, 1))
+            session.close()
+            server.join()
+
+    def test_a_time_may_be_very_long(self):
+        for longest in 1e7, 1e12, math.inf:
+            with self.play(write(OPENED), expect(cast(1, b"a")), wait(SHORT), write(reply(1, 0)), close()):
+                session = self.Session(self.path, longest)
+                session.cast(1, b"a", longest)
+                self.assertIsInstance(session.read(longest), castd.Opened)
+                self.assert_fails(castd.Ended, False, session.read, longest)
+                session.close()
+
+    def test_what_was_not_sent_is_forgotten_at_the_end(self):
+        with self.play(write(OPENED), close()):
+            session = self.session()
+            time.sleep(SHORT)
+            # With asyncio the end is known already.
+            with contextlib.suppress(castd.Ended):
+                session.send(castd.Join(1))
+            session.close()
+            with self.assertRaises(castd.Ended):
+                while session.read(PATIENCE):
+                    pass
 
     def test_commands_are_sent_one_by_one_and_again_in_order(self):
         again = [step for code in (FLUSHING, OWN_ABCAST, HELD_FULL) for step in (expect(cast(1, b"a")), write(reply(1, code)))]
@@ -283,6 +332,59 @@ class ScriptedForAsyncio(Scripted):
 
         with self.play(write(OPENED), write(many)):
             asyncio.run(run())
+
+
+class Interrupted(Case):
+    """A session that waits in the main thread, and what a handler of a signal does there."""
+
+    def assert_interrupted(self, handler: Callable[[castd.Session], None], kind: type) -> None:
+        path = f"{self.folder}/castd.sock"
+        with ScriptedServer(path, write(OPENED)):
+            with castd.Session(path, PATIENCE) as session:
+                session.read(PATIENCE)
+                usual = signal.signal(signal.SIGALRM, lambda *_: handler(session))
+                self.addCleanup(signal.signal, signal.SIGALRM, usual)
+                signal.setitimer(signal.ITIMER_REAL, SHORT)
+                with self.assertRaises(kind):
+                    session.read(PATIENCE)
+
+    def test_it_may_close_the_session(self):
+        self.assert_interrupted(castd.Session.close, castd.Ended)
+
+    def test_it_may_raise_an_error(self):
+        def interrupt(_: castd.Session) -> None:
+            raise KeyboardInterrupt
+
+        self.assert_interrupted(interrupt, KeyboardInterrupt)
+
+    def test_an_error_that_it_raises_when_the_turn_is_given_leaves_no_trace(self):
+        path = f"{self.folder}/castd.sock"
+        with ScriptedServer(path, write(OPENED), expect(cast(1, b"a")), write(reply(1, 0))):
+            with castd.Session(path, PATIENCE) as session:
+                turn = session._turn
+
+                class Turn:
+                    """The turn, which the interruption of a program comes right behind once."""
+
+                    def __getattr__(self, name: str):
+                        return getattr(turn, name)
+
+                    def __enter__(self):
+                        return turn.__enter__()
+
+                    def __exit__(self, *words):
+                        return turn.__exit__(*words)
+
+                    def release(self) -> None:
+                        turn.release()
+                        session._turn = turn
+                        raise KeyboardInterrupt
+
+                session.read(PATIENCE)
+                session._turn = Turn()
+                with self.assertRaises(KeyboardInterrupt):
+                    session.read(PATIENCE)
+                session.cast(1, b"a", PATIENCE)
 
 
 class Log:

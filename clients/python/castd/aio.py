@@ -4,11 +4,13 @@ from __future__ import annotations
 
 import asyncio
 import contextlib
+import socket
 from collections.abc import AsyncIterator
 
 from .codec import Cast, Command, Join, Kind, Leave, Pass, Process, Push, View
-from .conversation import Conversation, ended
+from .conversation import PAUSE, Conversation, ended
 from .errors import Ended, Late
+from .session import is_connected
 
 # While so many pushes wait for `read` and no call for its answer, nothing is received. So the daemon closes the session
 # of a program that does not read, as it does without asyncio.
@@ -105,7 +107,16 @@ class Session(asyncio.Protocol):
         self.close()
 
     async def _open(self, path: str) -> None:
-        await self._loop.create_unix_connection(lambda: self, path)
+        # asyncio takes a socket for connected where too many wait for the daemon.
+        stream = socket.socket(socket.AF_UNIX, socket.SOCK_STREAM)
+        try:
+            stream.setblocking(False)
+            while not is_connected(stream, path):
+                await asyncio.sleep(PAUSE)
+            await self._loop.create_unix_connection(lambda: self, sock=stream)
+        except BaseException:
+            stream.close()
+            raise
         await self._arrival()
         self.process = self._conversation.opened()
 

@@ -11,10 +11,12 @@ import time
 from collections.abc import Callable, Iterator
 
 from .codec import Cast, Command, Join, Kind, Leave, Pass, Process, Push, View
-from .conversation import Conversation, ended
+from .conversation import PAUSE, Conversation, ended
 from .errors import Ended, Late
 
 MOST_AT_ONCE = 1 << 16
+# The system waits no longer than some days. So a call that waits longer does so again and again.
+LONGEST_WAIT = 1e6
 
 
 class Session:
@@ -33,15 +35,14 @@ class Session:
         self._turn, self._is_polled = threading.Condition(), False
         self._poll, self._socket = select.poll(), socket.socket(socket.AF_UNIX, socket.SOCK_STREAM)
         try:
-            self._socket.settimeout(timeout)
-            self._socket.connect(path)
             self._socket.setblocking(False)
+            while not is_connected(self._socket, path):
+                if time.monotonic() >= end:
+                    raise Late(may_be_done=False)
+                time.sleep(PAUSE)
             with self._turn:
                 self._wait(lambda: self._conversation.process, end)
             self.process = self._conversation.opened()
-        except (TimeoutError, BlockingIOError):
-            self._socket.close()
-            raise Late(may_be_done=False) from None
         except BaseException:
             self._socket.close()
             raise
@@ -97,13 +98,14 @@ class Session:
         return self._socket.fileno()
 
     def close(self) -> None:
-        """Ends the session. Calls of other threads raise Ended."""
+        """Ends the session, and waits for nothing. Calls of other threads raise Ended."""
         with self._turn:
+            self._conversation.end(Ended())
             with contextlib.suppress(OSError):
                 self._socket.shutdown(socket.SHUT_RDWR)
-            self._turn.wait_for(lambda: not self._is_polled)
-            self._conversation.end(Ended())
-            self._socket.close()
+            # A thread that waits for the socket wakes, and closes it.
+            if not self._is_polled:
+                self._socket.close()
             self._turn.notify_all()
 
     def __enter__(self) -> Session:
@@ -129,7 +131,7 @@ class Session:
         while not is_so() and not self._conversation.over:
             left = end - time.monotonic()
             if self._is_polled:
-                self._turn.wait(None if left == math.inf else max(0.0, left))
+                self._turn.wait(max(0.0, min(left, LONGEST_WAIT)))
             else:
                 self._poll_for(left)
             if left <= 0:
@@ -138,17 +140,20 @@ class Session:
     def _poll_for(self, seconds: float) -> None:
         """Waits for the socket, while others may have the turn, and moves what there is to move."""
         pause = self._conversation.pause(time.monotonic())
-        seconds = max(0.0, min(seconds, math.inf if pause is None else pause))
+        seconds = max(0.0, min(seconds, LONGEST_WAIT if pause is None else pause))
         self._poll.register(self._socket, select.POLLIN | (select.POLLOUT if self._unsent else 0))
         self._is_polled = True
-        self._turn.release()
         try:
-            is_ready = self._poll.poll(None if seconds == math.inf else math.ceil(1000 * seconds))
+            # Within the block, so that an interruption leaves the turn and the flag as they were.
+            self._turn.release()
+            is_ready = self._poll.poll(math.ceil(1000 * seconds))
         finally:
             self._turn.acquire()
             self._is_polled = False
             self._turn.notify_all()
-        if is_ready:
+            if self._conversation.over:
+                self._socket.close()
+        if is_ready and not self._conversation.over:
             self._receive()
         self._move()
 
@@ -163,9 +168,17 @@ class Session:
     def _move(self) -> None:
         """Sends what is to be sent now. A stream that is broken ends when it is read."""
         self._unsent += self._conversation.frame(time.monotonic())
-        if self._unsent:
+        if self._unsent and not self._conversation.over:
             with contextlib.suppress(BlockingIOError, ConnectionError):
                 self._unsent = self._unsent[self._socket.send(self._unsent) :]
+
+
+def is_connected(stream: socket.socket, path: str) -> bool:
+    """Connects, unless too many wait for the daemon already: then it may be tried again."""
+    with contextlib.suppress(BlockingIOError):
+        stream.connect(path)
+        return True
+    return False
 
 
 def end_of(timeout: float | None) -> float:
