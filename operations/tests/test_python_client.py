@@ -477,6 +477,25 @@ class ReplicaAlone(unittest.TestCase):
         self.assertEqual(replica.machine.state, b"\xbb")
 
 
+    def test_answers_behind_an_ejection_are_its_own_affair(self):
+        replica = self.replica(1, 1)
+        tag = len(replica.session.payloads) + 1
+        future = replica.operation(b"a")
+        replica.take(castd.Ejected(1, 2))
+        self.assertTrue(future.exception(0).may_be_done)
+        self.assertTrue(replica.take(castd.Reply(tag, castd.Code.NOT_MEMBER)))
+        self.assertFalse(replica.take(castd.Reply(tag, castd.Code.NOT_MEMBER)))
+
+    def test_views_are_taken_behind_the_end_of_the_session(self):
+        for error in castd.Ended(), castd.BadFrame("what it never sends"):
+            replica = self.replica(1, 1)
+            with mock.patch.object(Sent, "send", side_effect=error):
+                self.begin(replica, 2, 1)
+                with self.assertRaises(type(error)):
+                    replica.operation(b"a")
+            self.assertEqual(replica.view, 2)
+
+
 class Replicas(Case):
     """Programs that keep one state."""
 

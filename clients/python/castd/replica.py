@@ -2,6 +2,7 @@
 
 from __future__ import annotations
 
+import contextlib
 import struct
 import threading
 from collections import deque
@@ -10,7 +11,7 @@ from concurrent.futures import Future
 from typing import Any, Protocol
 
 from .codec import Cast, Deliver, Ejected, Kind, Process, Push, Reply, View
-from .errors import Code, Error, Refused
+from .errors import BadFrame, Code, Ended, Error, Refused
 
 # How the payload of an ABCAST begins: an operation; that the sender lacks the state, with the view; a part of the state,
 # with the view, the number of the part from 0 on, and how many there are.
@@ -48,7 +49,9 @@ class Replica:
     until then, and do it behind the state. If all members lack it, all begin with the state that their machines had at
     first. A program that has left the group makes a new session for a new replica; one that was ejected joins again.
 
-    `operation` may be called by any thread. `take` calls the machine.
+    `take` calls the machine. With a blocking session `operation` may be called by any thread, but its future is waited for
+    in another one than that which calls `take`. With one of asyncio it is called by tasks of the loop, which await
+    `asyncio.wrap_future(replica.operation(…))`.
     """
 
     def __init__(self, session: Sender, group: int, machine: Machine):
@@ -96,7 +99,8 @@ class Replica:
         """Fails the operations that were not delivered here. To be called at the end of the session."""
         with self.turn:
             asked = [future for future in self.asked.values() if future]
-            self.asked.clear()
+            # Where the session goes on, the answers still come.
+            self.asked = dict.fromkeys(self.asked)
         fail([*asked, *self.done])
         self.done.clear()
         self._drop()
@@ -122,10 +126,12 @@ class Replica:
         self.parts.clear()
         self._drop()
         self.holders &= self.members
-        if not self.has_state:
-            self._send(LACKS + LACKS_HEAD.pack(self.view))
-        elif self.holders != self.members and self.session.process == min(self.holders):
-            self._send_state()
+        # Where the session is over already, what came before is taken all the same.
+        with contextlib.suppress(Ended, BadFrame):
+            if not self.has_state:
+                self._send(LACKS + LACKS_HEAD.pack(self.view))
+            elif self.holders != self.members and self.session.process == min(self.holders):
+                self._send_state()
 
     def _send_state(self) -> None:
         state = self.machine.snapshot()
