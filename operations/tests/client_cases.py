@@ -73,7 +73,11 @@ leave 0
 cast 65536 x
 pass 1 2.0
 wait soon
+wait -1
 wait 0.1
+join 01
+join 1 2
+""" + b"cast 1 " + b"x" * (MOST_PAYLOAD + 1) + rb"""
 leave 1
 cast 1 late
 """
@@ -98,7 +102,10 @@ unknown: leave 0
 unknown: cast 65536 x
 unknown: pass 1 2.0
 unknown: wait soon
-"""
+unknown: wait -1
+unknown: join 01
+unknown: join 1 2
+unknown: cast 1 """ + b"x" * (MOST_PAYLOAD + 1) + b"\n"
 
 
 def cast(tag: int, payload: bytes, kind: bytes = CAUSAL) -> bytes:

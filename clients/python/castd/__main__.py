@@ -10,12 +10,13 @@ process. With --vectors it reads lines as clients/vectors has them, and prints e
 
 from __future__ import annotations
 
+import re
 import sys
 import time
 from collections.abc import Callable, Iterable
 
 from .codec import Denied, Join, Push, Reply, View, frame_of, push_at
-from .errors import BadFrame, Code, Ended, Error
+from .errors import BadFrame, Code, Ended, Error, Refused
 from .session import Session
 from .text import command_of, text_of
 
@@ -54,12 +55,20 @@ def talk(session: Session, lines: Iterable[str]) -> None:
         try:
             word, _, rest = line.partition(" ")
             if word == "wait":
-                show(session, float(rest))
+                show(session, seconds_of(rest))
             elif line:
                 give(session, line)
-        except ValueError:
+        except (ValueError, Refused):
+            # The client itself refuses what is too long.
             print(f"unknown: {line}", file=sys.stderr)
         show(session, 0)
+
+
+def seconds_of(text: str) -> float:
+    """The seconds that a text such as `0.5` says. ValueError where it is no such text."""
+    if not re.fullmatch(r"[0-9]+(\.[0-9]+)?", text):
+        raise ValueError(f"no time: {text}")
+    return float(text)
 
 
 def computed(left: str) -> str:
@@ -76,7 +85,7 @@ def computed(left: str) -> str:
 
 
 def main(words: list[str]) -> int:
-    for stream in (sys.stdin, sys.stdout):
+    for stream in (sys.stdin, sys.stdout, sys.stderr):
         stream.reconfigure(encoding="utf-8", errors="surrogateescape")
     usage = (__doc__ or "").split("\n\n")[1]
     if words == ["--help"]:

@@ -10,7 +10,7 @@ from .errors import Code
 
 def process_of(text: str) -> Process:
     """The process that a text such as `2.1` names. ValueError where it is no such text."""
-    if not (named := re.fullmatch(r"([0-9]{1,5})\.([0-9]{1,10})", text)):
+    if not (named := re.fullmatch(r"([1-9][0-9]{0,4})\.([1-9][0-9]{0,9})", text)):
         raise ValueError(f"no process: {text}")
     return Process(int(named[1]), int(named[2]))
 
@@ -18,10 +18,10 @@ def process_of(text: str) -> Process:
 def command_of(line: str) -> Command:
     """The command that a line such as `cast 1 hello` is. ValueError where it is none."""
     word, _, rest = line.partition(" ")
-    number, _, text = rest.partition(" ")
-    if not re.fullmatch("[0-9]{1,5}", number):
+    number, gap, text = rest.partition(" ")
+    if not re.fullmatch("[1-9][0-9]{0,4}", number):
         raise ValueError(f"no group: {number}")
-    match word, text:
+    match word, gap + text:
         case "join", "":
             return Join(int(number))
         case "leave", "":
