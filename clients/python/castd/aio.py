@@ -34,7 +34,8 @@ async def connect(path: str, timeout: float | None = None) -> Session:
 class Session(asyncio.Protocol):
     """A connection that `connect` has made. The calls fail as those of `castd.Session` do.
 
-    A task that is cancelled takes its command back, as at the end of its time. One task at a time may read.
+    A call whose task is cancelled ends as at the end of its time: its command may be done, if it was sent already. One
+    task at a time may read.
     """
 
     process: Process
