@@ -5,7 +5,7 @@ import random
 import time
 from collections import Counter, deque
 
-from castd import ATOMIC, CAUSAL, Cast, Deliver, Ended, Process, Refused, View, process_of
+from castd import ATOMIC, CAUSAL, Cast, Deliver, Ejected, Error, Process, Reply, View, process_of, text_of
 from castd.aio import Session
 
 QUOTES, NEWS, ORDERS = 1, 2, 3
@@ -33,6 +33,8 @@ class Member:
                 self.changed(push)
             elif isinstance(push, Deliver):
                 self.heard(push)
+            elif isinstance(push, Ejected) or isinstance(push, Reply) and push.code:
+                raise RuntimeError(f"{self.name} is told: {text_of(push)}")
 
     def changed(self, view: View) -> None:
         """A view begins."""
@@ -134,7 +136,7 @@ class Trader(Listener):
             await self.session.pass_to(ORDERS, process, PATIENCE)
             await self.session.cast(ORDERS, str(process).encode(), PATIENCE)
             self.passed += 1
-        except (Refused, Ended):
+        except Error:
             # The other is no member any more, and a view names the holder; or the floor is closed.
             pass
         finally:

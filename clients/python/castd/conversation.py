@@ -121,7 +121,8 @@ class Conversation:
                 self.take(push, now)
         except BadFrame as error:
             self.end(error)
-        del self.data[:place]
+        finally:
+            del self.data[:place]
         if not data:
             self.end(Ended())
 

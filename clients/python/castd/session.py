@@ -170,7 +170,7 @@ class Session:
         self._unsent += self._conversation.frame(time.monotonic())
         if self._unsent and not self._conversation.over:
             with contextlib.suppress(BlockingIOError, ConnectionError):
-                self._unsent = self._unsent[self._socket.send(self._unsent) :]
+                self._unsent = self._unsent[self._socket.send(self._unsent, socket.MSG_NOSIGNAL) :]
 
 
 def is_connected(stream: socket.socket, path: str) -> bool:
