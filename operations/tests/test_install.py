@@ -53,6 +53,11 @@ class Installed(InstalledCase):
         ran = run(sys.executable, "-c", "import castd; print(castd.__file__)", cwd="/", env=environment)
         self.assertEqual(ran.stdout, f"{self.prefix}/lib/castd/python/castd/__init__.py\n", ran.stderr)
 
+    def test_the_files_that_programs_in_rust_and_go_take_are_there(self):
+        for name in ("rust/castd.rs", "rust/replica.rs", "go/go.mod", "go/castd.go"):
+            installed = pathlib.Path(f"{self.prefix}/share/castd/{name}").read_bytes()
+            self.assertEqual(installed, (self.tree.path / "clients" / name).read_bytes())
+
     def test_the_licence_is_there(self):
         licence = pathlib.Path(f"{self.prefix}/share/doc/castd/LICENSE").read_bytes()
         self.assertEqual(licence, (self.tree.path / "LICENSE").read_bytes())
