@@ -1,6 +1,5 @@
 //! One state at all members of a group. A program takes this beside the client: `mod castd; mod replica;`.
 #![allow(dead_code)] // A program may use a part of this module.
-
 use super::castd::{Code, Command, Error, Kind, Process, Push, Session, View};
 use std::collections::{BTreeMap, BTreeSet, VecDeque};
 
@@ -19,8 +18,8 @@ pub trait Machine {
     fn restore(&mut self, state: &[u8]);
 }
 
-/// Is told what an own operation with a tag gave when it was done here. `Refused`: it was not cast. `Ended`: this member
-/// does not learn whether it was done, as with what nothing was told of when the session ended.
+/// Is told what an own operation with a tag gave when it was done here. `Refused`: it was not cast. `Ended`: whether it
+/// was done is not known here, as with what nothing was told of when the session ended.
 pub type Tell<'a, T> = &'a mut dyn FnMut(u32, Result<T, Error>);
 
 /// The copy of a member, which is given all pushes of its session. At each view the least member that has the state
