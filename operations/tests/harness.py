@@ -274,8 +274,19 @@ def wait_until(holds: Callable[[], bool], what: str, within: float = PATIENCE) -
 
 def is_running(process: int) -> bool:
     """Whether a thread of a process runs. One that is killed ends thread by thread, and keeps its sockets up to the last."""
+    return not thread_states(process) <= {"Z", "X"}
+
+
+def stop(process: int) -> None:
+    """Stops a process, and waits until all its threads stand still."""
+    os.kill(process, signal.SIGSTOP)
+    wait_until(lambda: thread_states(process) <= {"T"}, "the process is stopped")
+
+
+def thread_states(process: int) -> set[str]:
+    """The states of the threads of a process, as in proc(5)."""
+    states = set()
     for stat in glob.glob(f"/proc/{process}/task/*/stat"):
         with contextlib.suppress(FileNotFoundError, ProcessLookupError), open(stat, encoding="utf-8") as file:
-            if file.read().rpartition(")")[2].split()[0] not in "ZX":
-                return True
-    return False
+            states.add(file.read().rpartition(")")[2].split()[0])
+    return states

@@ -15,7 +15,7 @@ import unittest
 from collections.abc import Sequence
 
 from client_cases import ToolCases
-from harness import PATIENCE, ROOT, Case, Process, Setup
+from harness import PATIENCE, ROOT, Case, Process, Setup, stop
 from scripted_server import (
     ATOMIC,
     CAST,
@@ -524,7 +524,7 @@ class Beside(CCase):
         daemon = self.keeper(setup).daemon()
         program = self.program(setup, 1)
         self.assert_says(program, "join 10000 1", "done")
-        os.kill(daemon, signal.SIGSTOP)
+        stop(daemon)
         self.assert_says(program, "abcast 200 1 first", "late, may be done")
         self.assert_says(program, "abcast 200 1 second", "late")
         os.kill(daemon, signal.SIGCONT)
@@ -537,7 +537,7 @@ class Beside(CCase):
         waiting, idle = self.program(setup, 1), self.program(setup, 1)
         for program in (waiting, idle):
             self.assert_says(program, "join 10000 1", "done")
-        os.kill(daemon, signal.SIGSTOP)
+        stop(daemon)
         waiting.say("abcast 20000 1 a\n")
         time.sleep(0.3)
         os.kill(daemon, signal.SIGKILL)

@@ -19,7 +19,7 @@ from unittest import mock
 from castd import aio, conversation
 from castd.replica import Replica
 from client_cases import ToolCases
-from harness import PATIENCE, ROOT, Case, castd
+from harness import PATIENCE, ROOT, Case, castd, stop
 from scripted_server import (
     ATOMIC,
     CAST,
@@ -592,11 +592,10 @@ class Replicas(Case):
         with self.assertRaises(castd.Refused) as caught:
             replica.operation(bytes(castd.MOST_PAYLOAD))
         self.assertEqual(caught.exception.code, castd.Code.TOO_LONG)
-        keeper.process.send_signal(signal.SIGSTOP)
-        os.kill(keeper.daemon(), signal.SIGSTOP)
+        daemon = keeper.daemon()
+        stop(daemon)
         future = replica.operation(b"y")
-        os.kill(keeper.daemon(), signal.SIGKILL)
-        keeper.process.send_signal(signal.SIGCONT)
+        os.kill(daemon, signal.SIGKILL)
         with self.assertRaises(castd.Error) as failed:
             future.result(PATIENCE)
         self.assertTrue(failed.exception.may_be_done)
