@@ -24,7 +24,7 @@ import threading
 import time
 from collections.abc import Callable, Iterator
 
-from harness import PATIENCE, ROOT, Case, Setup, Tool
+from harness import PATIENCE, ROOT, Case, Setup, Tool, castd
 from scripted_server import (
     ATOMIC,
     CAST,
@@ -171,6 +171,23 @@ def fill(frame: bytes, most: int) -> Step:
 def stopwatch(times: list[float]) -> Step:
     """Notes the time."""
     return lambda stream: times.append(time.monotonic())
+
+
+class Log:
+    """A machine for replicas: all operations, one behind the other, behind the state with which all begin."""
+
+    def __init__(self, begin: bytes = b""):
+        self.state = begin
+
+    def apply(self, _: castd.Process, operation: bytes) -> int:
+        self.state += operation
+        return len(self.state)
+
+    def snapshot(self) -> bytes:
+        return self.state
+
+    def restore(self, state: bytes) -> None:
+        self.state = state
 
 
 class Calls(Tool):

@@ -6,6 +6,7 @@ import asyncio
 import contextlib
 import math
 import os
+import resource
 import signal
 import socket
 import subprocess
@@ -18,7 +19,7 @@ from unittest import mock
 
 from castd import aio, conversation
 from castd.replica import Replica
-from client_cases import ToolCases
+from client_cases import Log, ToolCases
 from harness import PATIENCE, ROOT, Case, castd, stop
 from scripted_server import (
     ATOMIC,
@@ -49,6 +50,9 @@ from scripted_server import (
 FLUSHING, OWN_ABCAST, HELD_FULL = 7, 8, 9
 OWN, OTHER = process(1, 1), process(2, 1)
 VIEW = castd.View(1, 1, (castd.Process(1, 1),), castd.Process(1, 1))
+THREADS, COMMANDS = 4, 500
+# select(2) takes no descriptor from this one on.
+MOST_OF_SELECT = 1024
 # So long that a command is sent again only by what comes.
 LONG = 1_000.0
 SHORT = 0.3
@@ -387,23 +391,6 @@ class Interrupted(Case):
                 session.cast(1, b"a", PATIENCE)
 
 
-class Log:
-    """A machine: all operations, one behind the other."""
-
-    def __init__(self) -> None:
-        self.state = b""
-
-    def apply(self, process: castd.Process, operation: bytes) -> int:
-        self.state += operation
-        return len(self.state)
-
-    def snapshot(self) -> bytes:
-        return self.state
-
-    def restore(self, state: bytes) -> None:
-        self.state = state
-
-
 class Sent:
     """A session that keeps what is sent."""
 
@@ -651,6 +638,45 @@ class Beside(Case):
         for number in range(4):
             own = [it for it in heard if it.startswith(b"%d " % number)]
             self.assertEqual(own, [b"%d %d" % (number, count) for count in range(200)])
+
+    def test_threads_that_share_a_session_make_no_equal_tags(self):
+        setup, tags = self.setup_of(), []
+        self.keeper(setup)
+        session = self.session(setup)
+
+        def send() -> None:
+            tags.extend(session.send(castd.Leave(1)) for _ in range(COMMANDS))
+
+        threads = [threading.Thread(target=send) for _ in range(THREADS)]
+        for thread in threads:
+            thread.start()
+        replied = set()
+        while len(replied) < THREADS * COMMANDS:
+            push = session.read(PATIENCE)
+            self.assertIsNotNone(push)
+            if isinstance(push, castd.Reply):
+                replied.add(push.tag)
+        for thread in threads:
+            thread.join()
+        self.assertEqual(len(set(tags)), THREADS * COMMANDS)
+        self.assertEqual(replied, set(tags))
+
+    def test_a_session_may_have_any_descriptor(self):
+        setup = self.setup_of()
+        self.keeper(setup)
+        _, most = resource.getrlimit(resource.RLIMIT_NOFILE)
+        if most != resource.RLIM_INFINITY and most <= MOST_OF_SELECT:
+            self.skipTest(f"a process has {most} descriptors at most")
+        before = resource.getrlimit(resource.RLIMIT_NOFILE)
+        resource.setrlimit(resource.RLIMIT_NOFILE, (max(before[0], 2 * MOST_OF_SELECT), most))
+        self.addCleanup(resource.setrlimit, resource.RLIMIT_NOFILE, before)
+        taken = [socket.socket() for _ in range(MOST_OF_SELECT)]
+        for one in taken:
+            self.addCleanup(one.close)
+        session = self.session(setup)
+        self.assertGreaterEqual(session.fileno(), MOST_OF_SELECT)
+        self.assertIsInstance(session.read(PATIENCE), castd.Opened)
+        self.assertIsNone(session.read(0))
 
     def test_a_session_that_another_thread_closes_ends(self):
         setup = self.setup_of()

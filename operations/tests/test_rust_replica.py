@@ -3,12 +3,13 @@
 from __future__ import annotations
 
 import contextlib
+import socket
 import tempfile
 import threading
 from collections.abc import Iterator
 
 from castd.replica import Replica
-from client_cases import DONE, NOT_MEMBER, OTHER, OWN, cast
+from client_cases import DONE, NOT_MEMBER, OTHER, OWN, Log, cast
 from harness import PATIENCE, Case, Tool, castd, wait_until
 from scripted_server import (
     ATOMIC,
@@ -52,23 +53,6 @@ def part(number: int, place: int, count: int, state: bytes) -> bytes:
 
 def operation(text: bytes) -> bytes:
     return bytes.fromhex("00") + text
-
-
-class Log:
-    """The machine of log.rs."""
-
-    def __init__(self):
-        self.state = BEGIN
-
-    def apply(self, _: castd.Process, operation: bytes) -> int:
-        self.state += operation
-        return len(self.state)
-
-    def snapshot(self) -> bytes:
-        return self.state
-
-    def restore(self, state: bytes) -> None:
-        self.state = state
 
 
 class Member(Tool):
@@ -118,6 +102,17 @@ class RustReplica(Case):
 class RustReplicaAlone(RustReplica):
     """Beside a server that plays a script. The first frame is that of its join."""
 
+    def setUp(self) -> None:
+        super().setUp()
+        self.has_come = threading.Event()
+
+    def come(self, _: socket.socket) -> None:
+        """A step: the member has sent what comes before, so an operation that it is given now is the next frame."""
+        self.has_come.set()
+
+    def wait_until_come(self) -> None:
+        self.assertTrue(self.has_come.wait(PATIENCE))
+
     @contextlib.contextmanager
     def played(self, *steps: Step, own: bytes = OPENED) -> Iterator[Member]:
         path, done = f"{tempfile.mkdtemp(dir=self.folder)}/castd.sock", threading.Event()
@@ -143,7 +138,9 @@ class RustReplicaAlone(RustReplica):
     def test_the_first_state_waits_for_all_members(self):
         others = self.told(1, OTHER, lacks(7), operation(b"x"))
         lacking = [*self.asked(2, lacks(1)), self.told(1, OWN, lacks(1)), others]
-        with self.played(write(view(1, 1, OWN, OTHER)), *lacking, *self.asked(3, operation(b"y"))) as member:
+        asked = [self.come, *self.asked(3, operation(b"y"))]
+        with self.played(write(view(1, 1, OWN, OTHER)), *lacking, *asked) as member:
+            self.wait_until_come()
             member.answer("add y 1")
             self.assertEqual(member.answer("state"), "none")
         with self.played(write(view(1, 1, OWN, OTHER)), *lacking, self.told(1, OTHER, lacks(1))) as member:
@@ -172,7 +169,8 @@ class RustReplicaAlone(RustReplica):
         shared = self.told(2, OWN, part(2, 0, 2, state[:most]), part(2, 1, 2, state[most:]))
         # In the next view all have it.
         end = [write(view(1, 3, OWN, OTHER)), quiet(0.2)]
-        with self.played(*begun, *grown, write(view(1, 2, OWN, OTHER)), *given, shared, *end) as member:
+        with self.played(*begun, self.come, *grown, write(view(1, 2, OWN, OTHER)), *given, shared, *end) as member:
+            self.wait_until_come()
             self.assertEqual(member.add("z", most), f"Ok({len(state)})")
             member.wait_for(state)
 
@@ -192,7 +190,8 @@ class RustReplicaAlone(RustReplica):
         begun = [write(view(1, 1, OWN, OTHER)), *self.asked(2, lacks(1))]
         refused = [expect(cast(3, operation(b"x"), ATOMIC)), write(reply(3, NOT_MEMBER))]
         kept = [*self.asked(4, operation(b"y")), self.told(1, OWN, operation(b"y")), write(view(1, 2, OWN, OTHER))]
-        with self.played(*begun, *refused, *kept, *self.asked(5, lacks(2))) as member:
+        with self.played(*begun, self.come, *refused, *kept, *self.asked(5, lacks(2))) as member:
+            self.wait_until_come()
             self.assertEqual(member.add("x"), "Err(Refused(NotMember))")
             self.assertEqual(member.add("y"), "Err(Ended { may_be_done: true, code: None })")
 
@@ -214,7 +213,7 @@ class RustReplicas(RustReplica):
 
     def python_member(self) -> Replica:
         session = castd.Session(self.path, PATIENCE)
-        replica = Replica(session, 1, Log())
+        replica = Replica(session, 1, Log(BEGIN))
 
         def run() -> None:
             for push in session:
