@@ -63,7 +63,7 @@ class Process:
     """A process that is written lines, and of which lines are read. It is killed where this one ends."""
 
     def __init__(self, words, folder, **how):
-        self.complaints = open(f"{folder}/complaints-{time.monotonic_ns()}", "w+", encoding="utf-8", errors="replace")
+        self.complaints = open(f"{folder}/complaints-{time.monotonic_ns()}", "w+b")
         pipes = {"stdin": subprocess.PIPE, "stdout": subprocess.PIPE, "stderr": self.complaints, "bufsize": 0}
         self.name, self.bytes = os.path.basename(words[0]), b""
         self.process = subprocess.Popen(["setpriv", "--pdeathsig", "KILL", *how.pop("inside", []), *words], **pipes, **how)
@@ -88,9 +88,13 @@ class Process:
         line, _, self.bytes = self.bytes.partition(b"\n")
         return line.decode()
 
+    def complained(self):
+        """What it has written to standard error so far. It writes at the offset of this file, which reading must not move."""
+        file = self.complaints.fileno()
+        return os.pread(file, os.fstat(file).st_size, 0).decode(errors="replace")
+
     def fail(self, what):
-        self.complaints.seek(0)
-        raise Failed(f"{self.name} {what}. {self.complaints.read().strip()}".strip())
+        raise Failed(f"{self.name} {what}. {self.complained().strip()}".strip())
 
     def memory(self):
         """Resident, in KiB."""

@@ -151,11 +151,6 @@ class Tool(Process):
             self.process.send_signal(signal.SIGCONT)
         self.kill()
 
-    def complained(self) -> str:
-        """What it has said on standard error."""
-        self.complaints.seek(0)
-        return self.complaints.read()
-
     def wait_for_lines(self, *texts: str, within: float = PATIENCE) -> None:
         """Reads lines until each of these texts was in one."""
         end, wanted = time.monotonic() + within, set(texts)
