@@ -1,4 +1,4 @@
-"""What the tests of the operating tools share: a folder, keepers, watches and programs, which end with their test."""
+"""What the tests share: a folder, keepers, watches and programs, which end with their test."""
 
 from __future__ import annotations
 
@@ -19,8 +19,8 @@ import unittest
 from collections.abc import Callable, Mapping, Sequence
 
 TESTS = pathlib.Path(__file__).resolve().parent
-TOOLS = TESTS.parent
-ROOT = TOOLS.parent
+ROOT = TESTS.parent
+TOOLS = ROOT / "operations"
 sys.path[:0] = [str(TOOLS), str(ROOT / "clients/python"), str(ROOT / "bench")]
 import castd  # noqa: E402
 from daemons import Failed, Process  # noqa: E402

@@ -33,7 +33,7 @@ class RustTool(ToolCases):
 class RustCalls(CallCases):
     @classmethod
     def setUpClass(cls) -> None:
-        cls.calls = compiled(cls, "operations/tests/calls.rs")
+        cls.calls = compiled(cls, "tests/calls.rs")
 
 
 # The cases are for the tests of each language alone.

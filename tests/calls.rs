@@ -4,7 +4,7 @@
 //!
 //! A line is `SECONDS CALL`, or `send COMMAND`. SECONDS is the deadline; `-` is none.
 
-#[path = "../../clients/rust/castd.rs"]
+#[path = "../clients/rust/castd.rs"]
 mod castd;
 
 use castd::{Command, Error, Kind, Push, Session, View};

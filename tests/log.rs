@@ -5,9 +5,9 @@
 //! A line `add TEXT COUNT` adds the text so many times, and is answered with `tag N`. What became of it is a line
 //! `told N RESULT`. `state` is answered with the length and the FNV-1a hash of the log, or `none`.
 
-#[path = "../../clients/rust/castd.rs"]
+#[path = "../clients/rust/castd.rs"]
 mod castd;
-#[path = "../../clients/rust/replica.rs"]
+#[path = "../clients/rust/replica.rs"]
 mod replica;
 
 use castd::{Command, Process, Session};

@@ -91,7 +91,7 @@ class Member(Tool):
 class RustReplica(Case):
     @classmethod
     def setUpClass(cls) -> None:
-        cls.log = compiled(cls, "operations/tests/log.rs")
+        cls.log = compiled(cls, "tests/log.rs")
 
     def member(self, path: str) -> Member:
         member = Member([*self.log, path], self.folder)
