@@ -2,8 +2,8 @@
 //!
 //! The rules send a message once more after `resend`, which is long beside the time that an acknowledgement takes, and what depends on a
 //! lost message waits meanwhile. A site that acknowledges later messages, and not this one, has most likely not received it. So it is sent
-//! again at once: this is the fast retransmit of TCP (Allman, Paxson and Blanton, "TCP Congestion Control", RFC 5681). The rules cannot tell
-//! it from a network that delivers a datagram twice.
+//! again at once: this is the fast retransmit of TCP (Allman, Paxson and Blanton, "TCP Congestion Control", RFC 5681). Without later ones it
+//! is sent again once it is late. The rules cannot tell that from a network that delivers a datagram twice.
 use cast_events::Outs;
 use cast_message::{Message, SiteFrame};
 use cast_types::{DomainNo, List, NoMemory, SiteNo, Uid};
@@ -14,7 +14,7 @@ use std::sync::{Mutex, Wait};
 // A message is sent again once so many later ones were acknowledged.
 const LATER: u32 = 3;
 
-// It is sent again once so many ticks went by.
+// It is late so many ticks after it should have been acknowledged at least: so fine is time here.
 const LATE: u64 = 2;
 
 // So often it is sent again at most. Then it is left to the rules, as it is after so many ticks.
@@ -33,7 +33,8 @@ const AT_A_TICK: usize = 8;
 #[derive(Drop)]
 struct Sent {
     message: Message,
-    // When it was sent last.
+    // When it was sent first, and last.
+    first: u64,
     tick: u64,
     // How many of those that were sent later were acknowledged.
     later: u32,
@@ -41,11 +42,40 @@ struct Sent {
     repeats: u32,
 }
 
+// How many ticks the acknowledgements of a site take, of late: the mean, eightfold, and the mean deviation from it, fourfold. TCP reckons so
+// (Paxson, Allman, Chu and Sargent, "Computing TCP's Retransmission Timer", RFC 6298). A time counts from when the message was sent first:
+// if it was lost, it counts as too long rather than too short.
+#[derive(Drop)]
+struct Delay {
+    mean: u64,
+    deviation: u64,
+}
+
+impl Delay {
+    // One took so many ticks.
+    fn note(&mut self, ticks: u64) {
+        let mean = self.mean.saturating_add(7) / 8;
+        let deviation = ticks.saturating_sub(mean).max(mean.saturating_sub(ticks));
+        self.mean = self.mean.saturating_sub(mean).saturating_add(ticks);
+        self.deviation = self
+            .deviation
+            .saturating_sub(self.deviation.saturating_add(3) / 4)
+            .saturating_add(deviation);
+    }
+
+    // After how many ticks a message is late.
+    fn late(&self) -> u64 {
+        let mean = self.mean.saturating_add(7) / 8;
+        mean.saturating_add(self.deviation.max(LATE))
+    }
+}
+
 // What a site was sent, in the order in which it was sent last.
 #[derive(Drop)]
 struct Flight {
     sent: VecDeque<Sent>,
     tick: u64,
+    delay: Delay,
 }
 
 impl Flight {
@@ -56,6 +86,7 @@ impl Flight {
         }
         let _ = self.sent.push_back(Sent {
             message,
+            first: self.tick,
             tick: self.tick,
             later: 0,
             repeats: 0,
@@ -72,6 +103,8 @@ impl Flight {
             sent.later = 0;
             sent.tick = self.tick;
             let _ = self.sent.push_back(sent);
+        } else {
+            self.delay.note(self.tick.saturating_sub(sent.first));
         }
         Some(copy)
     }
@@ -89,19 +122,23 @@ impl Flight {
         let Some(place) = self.sent.iter().position(|sent| sent.message.id == id) else {
             return 0;
         };
-        drop(self.sent.remove(place));
+        if let Some(sent) = self.sent.remove(place) {
+            self.delay.note(self.tick.saturating_sub(sent.first));
+        }
         for sent in self.sent.iter_mut().take(place) {
             sent.later = sent.later.saturating_add(1);
         }
         place
     }
 
-    // Forgets what is left to the rules.
+    // Forgets what is left to the rules. Its acknowledgement takes that long at least.
     fn forget(&mut self) {
         for _ in 0..self.sent.len() {
             match self.sent.front() {
-                Some(first) if self.tick.saturating_sub(first.tick) >= FORGOTTEN => {
+                Some(sent) if self.tick.saturating_sub(sent.tick) >= FORGOTTEN => {
+                    let ticks = self.tick.saturating_sub(sent.first);
                     drop(self.sent.pop_front());
+                    self.delay.note(ticks);
                 }
                 _ => break,
             }
@@ -111,7 +148,7 @@ impl Flight {
     // Whether the message that was sent first is late.
     fn is_late(&self) -> bool {
         match self.sent.front() {
-            Some(first) => self.tick.saturating_sub(first.tick) >= LATE,
+            Some(sent) => self.tick.saturating_sub(sent.tick) >= self.delay.late(),
             None => false,
         }
     }
@@ -132,6 +169,10 @@ impl Unacknowledged {
         let flight = Flight {
             sent: VecDeque::new(alloc),
             tick: 0,
+            delay: Delay {
+                mean: 0,
+                deviation: 0,
+            },
         };
         Unacknowledged {
             alloc,
