@@ -1,4 +1,4 @@
-//! Tests of the crates below the domain, of scripts, printed texts and the bytes of programs.
+//! Tests of the crates below the domain, but for views.
 //!
 //! Each is a list of rows: calls, what they answer, and what is seen afterwards.
 #![tactic(auto)]
@@ -8,13 +8,7 @@ mod clock;
 #[cfg(test)]
 mod delay;
 #[cfg(test)]
-mod faults;
-#[cfg(test)]
-mod home;
-#[cfg(test)]
 mod index;
-#[cfg(test)]
-mod member;
 #[cfg(test)]
 mod messages;
 #[cfg(test)]
@@ -22,13 +16,7 @@ mod order;
 #[cfg(test)]
 mod outbox;
 #[cfg(test)]
-mod pumps;
-#[cfg(test)]
-mod pushes;
-#[cfg(test)]
 mod quota;
-#[cfg(test)]
-mod records;
 #[cfg(test)]
 mod stable;
 #[cfg(test)]
