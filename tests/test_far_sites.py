@@ -41,5 +41,5 @@ class FarSites(Case):
             delivered += isinstance(push, castd.Deliver)
         time.sleep(4 * FAR)
         carried = sum(link.carried for link in links) - before
-        # Of the first ones some are sent again: until then the sites may be near.
+        # Some of the first are sent again: until one is acknowledged the other site may be near.
         self.assertLess(carried, 1.5 * DATAGRAMS * CASTS)

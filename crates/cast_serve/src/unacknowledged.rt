@@ -14,7 +14,7 @@ use std::sync::{Mutex, Wait};
 // A message is sent again once so many later ones were acknowledged.
 const LATER: u32 = 3;
 
-// It is late so many ticks after it should have been acknowledged at least: so fine is time here.
+// It is late once so many ticks at least went by since its acknowledgement was expected. Ticks are too coarse for less.
 const LATE: u64 = 2;
 
 // So often it is sent again at most. Then it is left to the rules, as it is after so many ticks.
@@ -42,16 +42,16 @@ struct Sent {
     repeats: u32,
 }
 
-// How many ticks the acknowledgements of a site take, of late: the mean, eightfold, and the mean deviation from it, fourfold. TCP reckons so
-// (Paxson, Allman, Chu and Sargent, "Computing TCP's Retransmission Timer", RFC 6298). A time counts from when the message was sent first:
-// if it was lost, it counts as too long rather than too short.
+// The time from a message to its acknowledgement, in ticks: eight times the mean, and four times the mean deviation from it. The latest count
+// most, as in TCP (Paxson, Allman, Chu and Sargent, "Computing TCP's Retransmission Timer", RFC 6298). A time counts from when the message was
+// sent first. So it is too long, and never too short, if the message was lost.
 #[derive(Drop)]
-struct Delay {
+struct RoundTrip {
     mean: u64,
     deviation: u64,
 }
 
-impl Delay {
+impl RoundTrip {
     // One took so many ticks.
     fn note(&mut self, ticks: u64) {
         let mean = self.mean.saturating_add(7) / 8;
@@ -75,7 +75,7 @@ impl Delay {
 struct Flight {
     sent: VecDeque<Sent>,
     tick: u64,
-    delay: Delay,
+    round_trip: RoundTrip,
 }
 
 impl Flight {
@@ -104,7 +104,7 @@ impl Flight {
             sent.tick = self.tick;
             let _ = self.sent.push_back(sent);
         } else {
-            self.delay.note(self.tick.saturating_sub(sent.first));
+            self.round_trip.note(self.tick.saturating_sub(sent.first));
         }
         Some(copy)
     }
@@ -123,7 +123,7 @@ impl Flight {
             return 0;
         };
         if let Some(sent) = self.sent.remove(place) {
-            self.delay.note(self.tick.saturating_sub(sent.first));
+            self.round_trip.note(self.tick.saturating_sub(sent.first));
         }
         for sent in self.sent.iter_mut().take(place) {
             sent.later = sent.later.saturating_add(1);
@@ -131,14 +131,14 @@ impl Flight {
         place
     }
 
-    // Forgets what is left to the rules. Its acknowledgement takes that long at least.
+    // Forgets what is left to the rules. Its acknowledgement takes at least as long as it was remembered.
     fn forget(&mut self) {
         for _ in 0..self.sent.len() {
             match self.sent.front() {
                 Some(sent) if self.tick.saturating_sub(sent.tick) >= FORGOTTEN => {
                     let ticks = self.tick.saturating_sub(sent.first);
                     drop(self.sent.pop_front());
-                    self.delay.note(ticks);
+                    self.round_trip.note(ticks);
                 }
                 _ => break,
             }
@@ -148,7 +148,7 @@ impl Flight {
     // Whether the message that was sent first is late.
     fn is_late(&self) -> bool {
         match self.sent.front() {
-            Some(sent) => self.tick.saturating_sub(sent.tick) >= self.delay.late(),
+            Some(sent) => self.tick.saturating_sub(sent.tick) >= self.round_trip.late(),
             None => false,
         }
     }
@@ -169,7 +169,7 @@ impl Unacknowledged {
         let flight = Flight {
             sent: VecDeque::new(alloc),
             tick: 0,
-            delay: Delay {
+            round_trip: RoundTrip {
                 mean: 0,
                 deviation: 0,
             },
