@@ -1,7 +1,10 @@
 """The crates of this repository: what each stands on and is made of, and whether what was built is of the sources."""
 
+import functools
 import hashlib
 import os
+import re
+import subprocess
 
 ROOT = os.path.dirname(os.path.dirname(os.path.realpath(__file__)))
 # What tools/build keeps, in a folder of which `rt` takes nothing and where it changes nothing.
@@ -11,6 +14,21 @@ KIT = f"{BUILT}/kit"
 PARTS = ("src", "specs", "proofs")
 ALL_TAKE = "36 minutes on four quiet cores"
 PROVE = f"./castd prove proves and builds the program ({ALL_TAKE})"
+
+
+# The last line on a crate that is proved, as `rt ci` wants it: no code in C, no function that hides what it hands out or may end the
+# process, and no part that the prover refused to read.
+VERDICT = re.compile(
+    r"^logic=proved( (functions|axioms|target|threads|main|may-wait|may-serve|sum)=\S+)+ native=nat,char,string"
+    r" logic-built=trusted libraries-built=trusted statements=trusted\n\Z",
+    re.MULTILINE,
+)
+# What it says beside that of contracts that no call can meet, and where a tactic chose what a contract says.
+SUSPECT = re.compile(
+    r"^(warning: no call of `(?![^`]*::fn::)|note: the search for empty contracts did not end|warning: calls of a tactic that chose a term"
+    r"|(\./)?(src|specs)/\S+ warning: this pattern binds).*",
+    re.MULTILINE,
+)
 
 
 class NotProved(Exception):
@@ -91,6 +109,36 @@ class Crate:
             file.write(f"{of_sources}\n{self.program_sum()}")
 
 
+@functools.lru_cache(maxsize=None)
+def output(*words: str) -> str:
+    return subprocess.run(words, stdout=subprocess.PIPE, text=True, check=True).stdout
+
+
+def toolchain() -> str:
+    """The folder of the kit."""
+    return os.path.dirname(output("rt", "doc").split()[0])
+
+
+def prover_words(crate: Crate) -> list[str]:
+    """What tells the prover of a crate, over the libraries below it as they were proved."""
+    words = ["--crate-name", crate.name, f"src/{'main' if crate.is_program else 'lib'}.rt", "--links", f"{crate.name}="]
+    for library in crate.others:
+        words += ["--extern", f"{library}={toolchain()}/rlibs/{library}.rlib"]
+    for library in crate.below:
+        words += ["--extern", f"{library}={BUILT}/{library}.rlib"]
+    words += ["-L", f"dependency={toolchain()}/rlibs", "-L", f"dependency={BUILT}"]
+    words += ["--antt-project", f"{toolchain()}/rattle/logic/antt-project.json"]
+    return [*words, "--logic-built", f"{toolchain()}/logic_built"]
+
+
+def why_unproved(said: str) -> str:
+    """Why what the prover said of a crate is no proof to rest on, or nothing where it is one."""
+    if not VERDICT.search(said):
+        return said.rstrip()[-2000:] or "the prover said nothing"
+    found = SUSPECT.search(said)
+    return found[0] if found else ""
+
+
 def sums_of(crates: dict[str, Crate], kit: str) -> dict[str, str]:
     """A sum for each of these crates: of its files, of the crates below, which stand before it, and of the kit."""
     sums: dict[str, str] = {}
@@ -104,10 +152,10 @@ def sums_of(crates: dict[str, Crate], kit: str) -> dict[str, str]:
     return sums
 
 
-def crates_of(name: str) -> dict[str, Crate]:
-    """The crates that this one needs, itself last, each behind those below it."""
+def crates_of(*names: str) -> dict[str, Crate]:
+    """The crates that these need, with themselves, each behind those below it."""
     named = named_libraries()
-    return {it: Crate(it, named) for it in needed_by(name, named)}
+    return {it: Crate(it, named) for name in names for it in needed_by(name, named)}
 
 
 def proved_program() -> str:

@@ -48,5 +48,5 @@ pub mod Marks
 pub mod Unready
 pub mod Untrimmed
 pub mod Serials
-mod Own
-mod Skipped
+pub mod Own
+pub mod Skipped

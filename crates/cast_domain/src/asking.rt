@@ -3,33 +3,26 @@ use crate::keys::ask_key;
 use crate::lent::Lent;
 use crate::record::ask_at;
 use cast_message::Change;
-use cast_types::{NoMemory, Proc, SiteNo};
+use cast_types::{NoMemory, Proc};
 
 impl Domain {
     ghost use Rattle.std.specs.Prelude.{◌≡◌, ◌<◌, OnOk, vec_len, ◌==◌};
     ghost use Rattle.cast_types.specs.Names.{site_eq};
     ghost use Rattle.cast_domain.specs.Records.{GivesBack, KeepsBeside, Makes};
     ghost use Rattle.cast_domain.specs.Calls.{records, record_at};
-    ghost use Rattle.cast_rules.specs.Rules.Asking.{is_from_home, ask_home, request};
+    ghost use Rattle.cast_rules.specs.Rules.Asking.{ask_home, request};
     ghost use Rattle.cast_rules.specs.Rules.Keys.{ask_key};
     ghost use Rattle.cast_rules.specs.Rules.Owing.{owe};
 
     // Whether the domain's home is here.
-    pub(crate) fn is_home(&self) -> bool
+    pub fn is_home(&self) -> bool
         ensures { result ≡ site_eq self.now.site self.now.config.home }
     {
         self.site == self.config.home
     }
 
-    // Whether a site is the one of the domain's home.
-    pub(crate) fn is_from_home(&self, site: SiteNo) -> bool
-        ensures { result ≡ site_eq site self.now.config.home }
-    {
-        site == self.config.home
-    }
-
     // Queues a request to the home, and asks it at once where it is the only one.
-    pub(crate) fn request(
+    pub fn request(
         &mut self,
         place: usize,
         change: Change,
@@ -51,7 +44,7 @@ impl Domain {
     }
 
     // The first request of the group at a place, where there is one, is owed to the home.
-    pub(crate) fn ask_home(&self, place: usize, lent: &mut Lent<'_>) -> Result<(), NoMemory>
+    pub fn ask_home(&self, place: usize, lent: &mut Lent<'_>) -> Result<(), NoMemory>
         requires { place < vec_len self.now.groups }
         ensures back { GivesBack self.now.config.domain lent.old lent.new }
         ensures made { OnOk result (Makes (λ r. ask_home records r place) self.now lent.old self.now lent.new) }

@@ -7,7 +7,7 @@ use cast_timer::{OwedKey, OwedKind, Side};
 use cast_types::{GroupNo, Proc, SiteNo, Uid};
 
 /// The first request of a group, owed to the home.
-pub(crate) fn ask_key(group: GroupNo, home: SiteNo) -> OwedKey
+pub fn ask_key(group: GroupNo, home: SiteNo) -> OwedKey
     ensures { result ≡ ask_key group home }
 {
     OwedKey {
@@ -24,7 +24,7 @@ pub(crate) fn ask_key(group: GroupNo, home: SiteNo) -> OwedKey
 }
 
 /// A frame of a kind about a group alone, which the home owes to a site.
-pub(crate) fn home_key(kind: OwedKind, group: GroupNo, to: SiteNo) -> OwedKey
+pub fn home_key(kind: OwedKind, group: GroupNo, to: SiteNo) -> OwedKey
     ensures { result ≡ home_key kind group to }
 {
     OwedKey {
@@ -41,7 +41,7 @@ pub(crate) fn home_key(kind: OwedKind, group: GroupNo, to: SiteNo) -> OwedKey
 }
 
 /// A message of a group, by its process and its count, which the home wants from a site.
-pub(crate) fn want_key(group: GroupNo, wanted: (SiteNo, (Proc, u32))) -> OwedKey
+pub fn want_key(group: GroupNo, wanted: (SiteNo, (Proc, u32))) -> OwedKey
     ensures { result ≡ want_key group wanted }
 {
     let (site, (proc, count)) = wanted;
@@ -56,7 +56,7 @@ pub(crate) fn want_key(group: GroupNo, wanted: (SiteNo, (Proc, u32))) -> OwedKey
 }
 
 /// A frame of a kind about a message, owed to a site.
-pub(crate) fn message_key(kind: OwedKind, id: Uid, to: SiteNo) -> OwedKey
+pub fn message_key(kind: OwedKind, id: Uid, to: SiteNo) -> OwedKey
     ensures { result ≡ message_key kind id to }
 {
     OwedKey {
@@ -70,7 +70,7 @@ pub(crate) fn message_key(kind: OwedKind, id: Uid, to: SiteNo) -> OwedKey
 }
 
 // The message that a key is about, in a view of its group.
-pub(crate) fn id_in(view: u32, key: &OwedKey) -> Uid
+pub fn id_in(view: u32, key: &OwedKey) -> Uid
     ensures { result ≡ id_in view key.now }
 {
     Uid {

@@ -4,21 +4,19 @@ ghost use Rattle.cast_domain.specs.Calls.{close_in};
 use crate::domain::Domain;
 use crate::lent::Lent;
 use cast_delay::ProcessUpdate;
-use cast_events::Taken;
 use cast_message::{Change, Push};
 use cast_types::limits::MAX_NUMBER;
 use cast_types::{GroupNo, NoMemory, Refusal, Standing};
 
 impl Domain {
     ghost use Rattle.std.specs.Prelude.{false, None, IfOk, OnOk, vec_len, Some};
-    ghost use Rattle.cast_domain.specs.Records.{number_of, GivesBack, KeepsBeside, records_in, Makes, Attempts};
-    ghost use Rattle.cast_domain.specs.Calls.{records, answered_in, end_in, go_in, is_full_in, push_in, reason_in};
+    ghost use Rattle.cast_domain.specs.Records.{GivesBack, KeepsBeside, records_in, Makes, Attempts};
+    ghost use Rattle.cast_domain.specs.Calls.{records, is_full_in, push_in, reason_in};
     ghost use Rattle.cast_rules.specs.Rules.Commands.{leave};
     ghost use Rattle.cast_rules.specs.Rules.Leaving.{leave_all, leave_at, leave_group, close_session, tell, tell_open};
-    ghost use Rattle.cast_events.specs.declared.event.Event.TheVariants as event;
 
     // Lets a process leave the group at a place.
-    pub(crate) fn leave_at(
+    pub fn leave_at(
         &mut self,
         place: usize,
         serial: u32,
@@ -63,7 +61,7 @@ impl Domain {
     }
 
     // A process leaves all its groups.
-    pub(crate) fn leave_all(&mut self, serial: u32, lent: &mut Lent<'_>) -> Result<(), NoMemory>
+    pub fn leave_all(&mut self, serial: u32, lent: &mut Lent<'_>) -> Result<(), NoMemory>
         ensures stays { KeepsBeside self.old lent.old self.new lent.new }
         ensures made { OnOk result (Makes (λ r. leave_all records r serial) self.old lent.old self.new lent.new) }
         ensures len { vec_len self.new.groups ≡ vec_len self.old.groups }
@@ -88,12 +86,7 @@ impl Domain {
     }
 
     // Tells the program of a session something, if it is open. Where its outbox is full, the session is closed instead.
-    pub(crate) fn push(
-        &mut self,
-        serial: u32,
-        entry: Push,
-        lent: &mut Lent<'_>,
-    ) -> Result<(), NoMemory>
+    pub fn push(&mut self, serial: u32, entry: Push, lent: &mut Lent<'_>) -> Result<(), NoMemory>
         ensures stays { KeepsBeside self.old lent.old self.new lent.new }
         ensures made { OnOk result (Makes (λ r. tell records r serial entry) self.old lent.old self.new lent.new) }
         ensures len { vec_len self.new.groups ≡ vec_len self.old.groups }
@@ -120,7 +113,7 @@ impl Domain {
 
     // Closes an open session: its program is told why, and its process leaves all its groups. Where its outbox is full, it was
     // too slow.
-    pub(crate) fn close_session(
+    pub fn close_session(
         &mut self,
         serial: u32,
         refusal: Refusal,
@@ -136,7 +129,7 @@ impl Domain {
     }
 
     // Closes a session: its program is told why, and nothing after that.
-    pub(crate) fn close(
+    pub fn close(
         &mut self,
         serial: u32,
         refusal: Refusal,
@@ -167,35 +160,5 @@ impl Domain {
             return Refusal::Slow;
         }
         refusal
-    }
-
-    // The program of a session is gone: its process leaves all its groups, and is dismissed, and its outbox is dropped.
-    pub(crate) fn end_session(
-        &mut self,
-        serial: u32,
-        lent: &mut Lent<'_>,
-    ) -> Result<Taken, NoMemory>
-        ensures answer { IfOk result (λ t. t ≡ answered_in (records_in self.old lent.old) (event.Gone (number_of self.old) serial)) }
-        ensures stays { KeepsBeside self.old lent.old self.new lent.new }
-        ensures made { OnOk result (Makes (λ r. end_in r serial) self.old lent.old self.new lent.new) }
-    {
-        if self.is_gone(serial) {
-            return Ok(Taken::Refused(Refusal::NotOpen));
-        }
-        self.go(serial, lent);
-        self.leave_all(serial, lent)?;
-        let process = self.process(serial);
-        self.delay.dismiss(process);
-        Ok(Taken::Nothing)
-    }
-
-    // The program of a session is gone.
-    fn go(&mut self, serial: u32, lent: &mut Lent<'_>)
-        ensures stays { KeepsBeside self.old lent.old self.new lent.new }
-        ensures made { Makes (λ r. go_in r serial) self.old lent.old self.new lent.new }
-        ensures len { vec_len self.new.groups ≡ vec_len self.old.groups }
-    {
-        lent.shared.close_outbox(self.config.domain, serial);
-        self.sessions.remove(serial);
     }
 }

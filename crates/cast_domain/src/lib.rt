@@ -1,38 +1,30 @@
-//! One domain at one site: the code of the protocol.
+//! One domain at one site: what it keeps, and what the rules of several events do with it.
 //!
-//! Promised: a step of the code is a step of the history (`Domain::step`). Whatever history the
-//! domain stands for before an event, it stands afterwards for one to which the event leads with
-//! the same answer, frames, pushes and deliveries, at rest. The parts of other domains stay as
-//! they are. A step that runs out of memory adds nothing and halts the domain, which then refuses
-//! each event.
+//! Each call does what its rule of `Calls`, or of `cast_rules`, says of the records (`made`). The
+//! lemmas say that records which stand for a history (`Fits`) still do afterwards. The rest of the
+//! code is in `cast_handlers`, `cast_rest`, `cast_commands` and, with the step, in `cast_step`.
 #![tactic(auto)]
 
-mod asking;
-mod commands;
-mod data;
-mod domain;
-mod events;
-mod flushes;
-mod frames;
-mod home;
-mod keys;
-mod leaving;
-mod lent;
-mod order;
-mod owing;
-mod record;
-mod release;
-mod requests;
-mod rest;
-mod room;
-mod sending;
-mod sessions;
-mod shared;
-mod show;
-mod stability;
-mod trim;
-mod turns;
-mod views;
+pub mod asking;
+pub mod data;
+pub mod domain;
+pub mod flushes;
+pub mod home;
+pub mod keys;
+pub mod leaving;
+pub mod lent;
+pub mod order;
+pub mod owing;
+pub mod record;
+pub mod release;
+pub mod rest;
+pub mod room;
+pub mod sending;
+pub mod sessions;
+pub mod shared;
+pub mod show;
+pub mod turns;
+pub mod views;
 
 pub use cast_events::{Config, DomainConfig, Event, Outs, QuotaName, Quotas, Status, Taken};
 pub use domain::Domain;

@@ -12,20 +12,19 @@ use cast_types::{GroupNo, NoMemory, SiteNo, Uid};
 use cast_view::{HomeSide, Phase};
 
 impl Domain {
-    ghost use Rattle.std.specs.Prelude.{OnOk, vec_len, not, ◌+◌};
-    ghost use Rattle.cast_domain.specs.Records.{GivesBack, KeepsBeside, records_in, Makes, TellsAlone};
-    ghost use Rattle.cast_domain.specs.Calls.{records, record_at, send_in, message_in, pay_in};
-    ghost use Rattle.std.specs.List.{fold, find};
+    ghost use Rattle.std.specs.Prelude.{OnOk, vec_len, ◌+◌};
+    ghost use Rattle.cast_domain.specs.Records.{GivesBack, records_in, Makes, TellsAlone};
+    ghost use Rattle.cast_domain.specs.Calls.{records, record_at, message_in, pay_in};
+    ghost use Rattle.std.specs.List.{find};
     ghost use Rattle.cast_rules.specs.Rules.Home.{wants};
-    ghost use Rattle.std.specs.Option.{option_map, option_map_or};
+    ghost use Rattle.std.specs.Option.{option_map};
     ghost use Rattle.cast_view.specs.MemberSide.{first_asking};
     ghost use Rattle.cast_rules.specs.Rules.Keys.{id_in};
-    ghost use Rattle.cast_rules.specs.Rules.Owing.{ask_frame, frame_for, frame_of_kind, owe, resend_due, send_for, tick, wanted_view};
-    ghost use Rattle.cast_domain.specs.Resent.{IsFrameOf};
+    ghost use Rattle.cast_rules.specs.Rules.Owing.{ask_frame, frame_for, frame_of_kind, owe, send_for, wanted_view};
     ghost use Rattle.cast_message.specs.declared.site.SiteFrame.TheVariants as frame;
 
     // Sends a frame, and owes it from then on, unless it is owed already.
-    pub(crate) fn owe(&self, key: OwedKey, lent: &mut Lent<'_>) -> Result<(), NoMemory>
+    pub fn owe(&self, key: OwedKey, lent: &mut Lent<'_>) -> Result<(), NoMemory>
         ensures back { GivesBack self.now.config.domain lent.old lent.new }
         ensures made { OnOk result (Makes (λ r. owe records r key) self.now lent.old self.now lent.new) }
     {
@@ -38,7 +37,7 @@ impl Domain {
     }
 
     // Owes a frame no more.
-    pub(crate) fn pay(&self, key: &OwedKey, lent: &mut Lent<'_>)
+    pub fn pay(&self, key: &OwedKey, lent: &mut Lent<'_>)
         ensures back { GivesBack self.now.config.domain lent.old lent.new }
         ensures made { Makes (λ r. pay_in r key.now) self.now lent.old self.now lent.new }
     {
@@ -46,14 +45,14 @@ impl Domain {
     }
 
     // The moment at which what is sent now is due again.
-    fn next_due(&self) -> u64
+    pub fn next_due(&self) -> u64
         ensures { result ≡ self.now.moment + self.now.quotas.resend }
     {
         self.moment.after(self.quotas.resend)
     }
 
     // Sends the frame that a key stands for, where there is one.
-    pub(crate) fn send_for(&self, key: &OwedKey, lent: &mut Lent<'_>) -> Result<(), NoMemory>
+    pub fn send_for(&self, key: &OwedKey, lent: &mut Lent<'_>) -> Result<(), NoMemory>
         ensures back { GivesBack self.now.config.domain lent.old lent.new }
         ensures made { OnOk result (Makes (λ r. send_for records r key.now) self.now lent.old self.now lent.new) }
     {
@@ -64,7 +63,7 @@ impl Domain {
     }
 
     // The frame that a key of a configured group stands for.
-    fn frame_for(&self, key: &OwedKey, lent: &Lent<'_>) -> Result<Option<SiteFrame>, NoMemory>
+    pub fn frame_for(&self, key: &OwedKey, lent: &Lent<'_>) -> Result<Option<SiteFrame>, NoMemory>
         ensures { IfOk result (λ f. f ≡ frame_for records (records_in self.now lent.now) key.now) }
     {
         match self.place_of(key.group) {
@@ -138,105 +137,6 @@ impl Domain {
     {
         match lent.shared.store.find(self.config.domain, id) {
             Some(message) => Ok(Some(SiteFrame::Data(message.copy()?))),
-            None => Ok(None),
-        }
-    }
-
-    // Time passes: the moment is at least this one, and what is due is sent again.
-    pub(crate) fn tick(&mut self, millis: u64, lent: &mut Lent<'_>) -> Result<(), NoMemory>
-        ensures stays { KeepsBeside self.old lent.old self.new lent.new }
-        ensures made { OnOk result (Makes (λ r. tick records r millis) self.old lent.old self.new lent.new) }
-    {
-        self.moment.reach(millis);
-        self.resend_due(lent)
-    }
-
-    // Sends all frames that are due again, in their order, and then owes them all for the next moment: what is sent does not
-    // hang on what is owed.
-    fn resend_due(&self, lent: &mut Lent<'_>) -> Result<(), NoMemory>
-        ensures back { GivesBack self.now.config.domain lent.old lent.new }
-        ensures made { OnOk result (Makes (resend_due records) self.now lent.old self.now lent.new) }
-    {
-        let now = self.moment.millis();
-        let keys = lent.shared.timers.due(self.config.domain, now)?;
-        self.send_all(keys, lent)?;
-        lent.shared
-            .renew_due(self.config.domain, now, self.next_due())
-    }
-
-    // Sends the frames that keys stand for, in their order.
-    fn send_all(&self, keys: Vec<OwedKey>, lent: &mut Lent<'_>) -> Result<(), NoMemory>
-        ensures back { GivesBack self.now.config.domain lent.old lent.new }
-        ensures made { OnOk result (Makes (λ r. fold (send_for records) r keys.items) self.now lent.old self.now lent.new) }
-    {
-        let mut last = None;
-        for key in keys {
-            last = self.send_behind(key, last, lent)?;
-        }
-        Ok(())
-    }
-
-    // Sends the frame that a key stands for, behind the one that was sent last, and gives it with its key. The keys of a message
-    // that goes to many sites stand next to each other, so that it is looked for once.
-    fn send_behind(
-        &self,
-        key: OwedKey,
-        last: Option<(OwedKey, SiteFrame)>,
-        lent: &mut Lent<'_>,
-    ) -> Result<Option<(OwedKey, SiteFrame)>, NoMemory>
-        requires stands { IsFrameOf (records_in self.now lent.old) last }
-        ensures back { GivesBack self.now.config.domain lent.old lent.new }
-        ensures made { OnOk result (Makes (λ r. send_for records r key) self.now lent.old self.now lent.new) }
-        ensures stands { IfOk result (IsFrameOf (records_in self.now lent.new)) }
-    {
-        let found = self.frame_behind(key, last, lent)?;
-        self.send_found(key.site, &found, lent)?;
-        Ok(found)
-    }
-
-    // The frame that a key stands for, which is mostly the one that was sent last, with its key.
-    fn frame_behind(
-        &self,
-        key: OwedKey,
-        last: Option<(OwedKey, SiteFrame)>,
-        lent: &Lent<'_>,
-    ) -> Result<Option<(OwedKey, SiteFrame)>, NoMemory>
-        requires stands { IsFrameOf (records_in self.now lent.now) last }
-        ensures stands { IfOk result (IsFrameOf (records_in self.now lent.now)) }
-        ensures frame { IfOk result (λ f. option_map (λ l. l.1) f ≡ frame_for records (records_in self.now lent.now) key) }
-    {
-        match last {
-            Some((other, frame)) if key.is_same_message(&other) => Ok(Some((other, frame))),
-            _ => self.frame_with_key(key, lent),
-        }
-    }
-
-    // Sends a frame that was found to a site.
-    fn send_found(
-        &self,
-        to: SiteNo,
-        found: &Option<(OwedKey, SiteFrame)>,
-        lent: &mut Lent<'_>,
-    ) -> Result<(), NoMemory>
-        ensures back { GivesBack self.now.config.domain lent.old lent.new }
-        ensures made { OnOk result (Makes (λ r. option_map_or (λ l. send_in r to l.1) found.now r) self.now lent.old self.now lent.new) }
-    {
-        match found {
-            Some((_, frame)) => self.send(lent.outs, to, frame.copy()?),
-            None => Ok(()),
-        }
-    }
-
-    // The frame that a key stands for, with the key.
-    fn frame_with_key(
-        &self,
-        key: OwedKey,
-        lent: &Lent<'_>,
-    ) -> Result<Option<(OwedKey, SiteFrame)>, NoMemory>
-        ensures { IfOk result (λ f. f ≡ option_map (λ x. (key, x)) (frame_for records (records_in self.now lent.now) key)) }
-    {
-        match self.frame_for(&key, lent)? {
-            Some(frame) => Ok(Some((key, frame))),
             None => Ok(None),
         }
     }

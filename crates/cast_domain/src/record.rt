@@ -16,15 +16,15 @@ use std::alloc::Global;
 
 /// What a domain keeps of a group: the site's side, and, at the home's site, the home's.
 #[derive(Drop)]
-pub(crate) struct GroupRecord {
-    pub(crate) name: GroupNo,
-    pub(crate) here: MemberSide,
-    pub(crate) home: HomeSide,
+pub struct GroupRecord {
+    pub name: GroupNo,
+    pub here: MemberSide,
+    pub home: HomeSide,
 }
 
 impl GroupRecord {
     /// An equal value.
-    pub(crate) fn copy(&self) -> Result<Self, NoMemory>
+    pub fn copy(&self) -> Result<Self, NoMemory>
         ensures { IfOk result (λ copy. copy ≡ self.now) }
     {
         Ok(GroupRecord {
@@ -36,10 +36,7 @@ impl GroupRecord {
 }
 
 /// What is kept of groups, copied.
-pub(crate) fn copy_groups(
-    alloc: Global,
-    groups: &[GroupRecord],
-) -> Result<Vec<GroupRecord>, NoMemory>
+pub fn copy_groups(alloc: Global, groups: &[GroupRecord]) -> Result<Vec<GroupRecord>, NoMemory>
     ensures { IfOk result (λ copy. copy.items ≡ groups.now) }
 {
     let mut copied = Vec::with_capacity(alloc, groups.len())?;
@@ -50,7 +47,7 @@ pub(crate) fn copy_groups(
 }
 
 /// Drops what the homes of all groups keep: no view, no changes and no flush.
-pub(crate) fn drop_homes(groups: &mut Vec<GroupRecord>)
+pub fn drop_homes(groups: &mut Vec<GroupRecord>)
     ensures { groups.new.items ≡ map with_first_home groups.old.items }
 {
     let alloc = *groups.allocator();
@@ -60,7 +57,7 @@ pub(crate) fn drop_homes(groups: &mut Vec<GroupRecord>)
 }
 
 /// Where a group stands.
-pub(crate) fn place_among(groups: &[GroupRecord], group: GroupNo) -> Option<usize>
+pub fn place_among(groups: &[GroupRecord], group: GroupNo) -> Option<usize>
     ensures place { result ≡ position (λ x. group_eq x.name group) groups.now }
     ensures within { IfSome result (λ i. i < length groups.now) }
 {
@@ -69,7 +66,7 @@ pub(crate) fn place_among(groups: &[GroupRecord], group: GroupNo) -> Option<usiz
 
 /// Queues a request at the group of a place.
 #[tactic(auto, using(cast_types::proofs::Updates::set_update))]
-pub(crate) fn ask_at(
+pub fn ask_at(
     groups: &mut Vec<GroupRecord>,
     place: usize,
     change: Change,
@@ -87,7 +84,7 @@ pub(crate) fn ask_at(
 
 /// Takes the first request of the group of a place off: it is answered.
 #[tactic(auto, using(cast_types::proofs::Updates::set_update))]
-pub(crate) fn answer_at(groups: &mut Vec<GroupRecord>, place: usize)
+pub fn answer_at(groups: &mut Vec<GroupRecord>, place: usize)
     requires { place < vec_len groups.old }
     ensures items { groups.new.items ≡ update groups.old.items place (λ x. record x { here = with_answer x.here }) }
     ensures len { vec_len groups.new ≡ vec_len groups.old }
@@ -98,7 +95,7 @@ pub(crate) fn answer_at(groups: &mut Vec<GroupRecord>, place: usize)
 
 /// Freezes the group of a place: the home asks what the site has of its view.
 #[tactic(auto, using(cast_types::proofs::Updates::set_update))]
-pub(crate) fn freeze_at(groups: &mut Vec<GroupRecord>, place: usize, view: u32)
+pub fn freeze_at(groups: &mut Vec<GroupRecord>, place: usize, view: u32)
     requires placed { place < vec_len groups.old }
     requires answered { answers_prepare (record_at groups.old.items place).here view ≡ true }
     ensures items { groups.new.items ≡ update groups.old.items place (λ x. record x { here = frozen_side x.here }) }
@@ -110,7 +107,7 @@ pub(crate) fn freeze_at(groups: &mut Vec<GroupRecord>, place: usize, view: u32)
 
 /// Lets an Install wait at the group of a place, where it is to wait.
 #[tactic(auto, using(cast_types::proofs::Updates::set_update))]
-pub(crate) fn pend_at(
+pub fn pend_at(
     groups: &mut Vec<GroupRecord>,
     place: usize,
     number: u32,
@@ -130,7 +127,7 @@ pub(crate) fn pend_at(
 
 /// Takes over a view at the group of a place.
 #[tactic(auto, using(cast_types::proofs::Updates::set_update))]
-pub(crate) fn view_at(
+pub fn view_at(
     groups: &mut Vec<GroupRecord>,
     place: usize,
     site: SiteNo,
@@ -149,7 +146,7 @@ pub(crate) fn view_at(
 /// Takes in a site's request at the home of the group of a place, and answers whether it is refused because the group is full; `None`
 /// where it is not to be answered.
 #[tactic(auto, using(cast_types::proofs::Updates::set_update))]
-pub(crate) fn ask_home_at(
+pub fn ask_home_at(
     groups: &mut Vec<GroupRecord>,
     place: usize,
     site: SiteNo,
@@ -168,7 +165,7 @@ pub(crate) fn ask_home_at(
 
 /// Takes in at the home of the group of a place that a site has installed a view.
 #[tactic(auto, using(cast_types::proofs::Updates::set_update))]
-pub(crate) fn installed_at(groups: &mut Vec<GroupRecord>, place: usize, site: SiteNo, number: u32)
+pub fn installed_at(groups: &mut Vec<GroupRecord>, place: usize, site: SiteNo, number: u32)
     requires { place < vec_len groups.old }
     ensures { groups.new.items ≡ update groups.old.items place (moved_home (Installed site number)) }
 {
@@ -178,7 +175,7 @@ pub(crate) fn installed_at(groups: &mut Vec<GroupRecord>, place: usize, site: Si
 
 /// Takes in at the home of the group of a place what a site reports of a view.
 #[tactic(auto, using(cast_types::proofs::Updates::set_update))]
-pub(crate) fn report_at(
+pub fn report_at(
     groups: &mut Vec<GroupRecord>,
     place: usize,
     site: SiteNo,
@@ -195,7 +192,7 @@ pub(crate) fn report_at(
 
 /// Takes in at the home of the group of a place a message that some sites lack.
 #[tactic(auto, using(cast_types::proofs::Updates::set_update))]
-pub(crate) fn body_at(
+pub fn body_at(
     groups: &mut Vec<GroupRecord>,
     place: usize,
     message: Message,
@@ -210,11 +207,7 @@ pub(crate) fn body_at(
 
 /// Takes in at the home of the group of a place that a site is suspected.
 #[tactic(auto, using(cast_types::proofs::Updates::set_update))]
-pub(crate) fn suspect_at(
-    groups: &mut Vec<GroupRecord>,
-    place: usize,
-    site: SiteNo,
-) -> Result<(), NoMemory>
+pub fn suspect_at(groups: &mut Vec<GroupRecord>, place: usize, site: SiteNo) -> Result<(), NoMemory>
     requires { place < vec_len groups.old }
     ensures items { OnOk result (groups.new.items ≡ update groups.old.items place (moved_home (Suspected site))) }
     ensures len { vec_len groups.new ≡ vec_len groups.old }
@@ -226,7 +219,7 @@ pub(crate) fn suspect_at(
 
 /// Starts a flush at the home of the group of a place, where one may start.
 #[tactic(auto, using(cast_types::proofs::Updates::set_update))]
-pub(crate) fn start_at(groups: &mut Vec<GroupRecord>, place: usize) -> Result<(), NoMemory>
+pub fn start_at(groups: &mut Vec<GroupRecord>, place: usize) -> Result<(), NoMemory>
     requires { place < vec_len groups.old }
     ensures items { OnOk result (groups.new.items ≡ update groups.old.items place (moved_home Started)) }
     ensures len { vec_len groups.new ≡ vec_len groups.old }
@@ -238,7 +231,7 @@ pub(crate) fn start_at(groups: &mut Vec<GroupRecord>, place: usize) -> Result<()
 
 /// Decides the next view of the group of a place, where it is to be decided.
 #[tactic(auto, using(cast_types::proofs::Updates::set_update))]
-pub(crate) fn decide_at(groups: &mut Vec<GroupRecord>, place: usize) -> Result<(), NoMemory>
+pub fn decide_at(groups: &mut Vec<GroupRecord>, place: usize) -> Result<(), NoMemory>
     requires placed { place < vec_len groups.old }
     requires due { may_decide (record_at groups.old.items place).name (record_at groups.old.items place).home ≡ true }
     ensures items { OnOk result (groups.new.items ≡ update groups.old.items place (moved_home Decided)) }

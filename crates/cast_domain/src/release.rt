@@ -5,14 +5,14 @@ use cast_types::{Key, Uid};
 impl Domain {
     ghost use Rattle.std.specs.Prelude.{◌≡◌, ◌<◌, false, None, IfSome, ◌&&◌, not, Some, IfNone};
     ghost use Rattle.cast_domain.specs.Records.{Keeps, KeepsBeside, records_in, Makes, own_records};
-    ghost use Rattle.cast_domain.specs.Calls.{records, resting_records, is_current_in, is_open_in, release_in};
+    ghost use Rattle.cast_domain.specs.Calls.{records, resting_records, is_open_in, release_in};
     ghost use Rattle.cast_rules.specs.Rules.Release.{is_free, let_go};
     ghost use Rattle.cast_domain.specs.Freed.{AreNotFree, IsFreeKey};
     ghost use Rattle.cast_delay.specs.Queue.{is_awaited};
     ghost use Rattle.cast_stable.specs.Acks.{is_stable_in};
 
     // Lets go of all free messages.
-    pub(crate) fn let_go(&mut self, lent: &mut Lent<'_>)
+    pub fn let_go(&mut self, lent: &mut Lent<'_>)
         ensures stays { KeepsBeside self.old lent.old self.new lent.new }
         ensures made { Makes (let_go records resting_records) self.old lent.old self.new lent.new }
     {
@@ -56,18 +56,8 @@ impl Domain {
         }
     }
 
-    // Whether a message is of the current view of its group.
-    pub(crate) fn is_current(&self, id: Uid) -> bool
-        ensures { result ≡ is_current_in (own_records self.now) id }
-    {
-        match self.place_of(id.group) {
-            Some(place) => self.record(place).here.is_current(id.view),
-            None => false,
-        }
-    }
-
     // Keeps the message under a key no longer.
-    pub(crate) fn release(&mut self, key: Key, lent: &mut Lent<'_>)
+    pub fn release(&mut self, key: Key, lent: &mut Lent<'_>)
         ensures stays { KeepsBeside self.old lent.old self.new lent.new }
         ensures made { Makes (λ r. release_in r key) self.old lent.old self.new lent.new }
     {

@@ -1,24 +1,22 @@
 use crate::domain::Domain;
 use crate::lent::Lent;
-use cast_message::Body;
-use cast_types::Kind;
 
 impl Domain {
     ghost use Rattle.std.specs.Prelude.{◌≡◌, ◌<◌, length};
-    ghost use Rattle.cast_rules.specs.Rules.Room.{may_receive, may_order, may_take};
+    ghost use Rattle.cast_rules.specs.Rules.Room.{may_receive, may_order};
     ghost use Rattle.cast_domain.specs.Records.{records_in};
     ghost use Rattle.cast_domain.specs.Shared.{part_of};
     ghost use Rattle.cast_domain.specs.Calls.{records};
 
     // How many messages the domain keeps.
-    pub(crate) fn held_count(&self, lent: &Lent<'_>) -> usize
+    pub fn held_count(&self, lent: &Lent<'_>) -> usize
         ensures { result ≡ length (part_of self.now.config.domain lent.now.shared.now).kept }
     {
         lent.shared.store.held(self.config.domain)
     }
 
     // Whether one more message may be received beside those that are kept.
-    pub(crate) fn has_room(&self, lent: &Lent<'_>) -> bool
+    pub fn has_room(&self, lent: &Lent<'_>) -> bool
         ensures { result ≡ may_receive records (records_in self.now lent.now) }
     {
         self.quotas.check_cast(self.held_count(lent))
@@ -26,19 +24,9 @@ impl Domain {
 
     // Whether a set-order message may be sent or received beside the messages that are kept, and a holder may deliver
     // an ABCAST.
-    pub(crate) fn has_order_room(&self, lent: &Lent<'_>) -> bool
+    pub fn has_order_room(&self, lent: &Lent<'_>) -> bool
         ensures { result ≡ may_order records (records_in self.now lent.now) }
     {
         self.quotas.check_order(self.held_count(lent))
-    }
-
-    // Whether a message of this body may be received from another site.
-    pub(crate) fn may_take(&self, body: &Body, lent: &Lent<'_>) -> bool
-        ensures { result ≡ may_take records (records_in self.now lent.now) body.now }
-    {
-        match body.kind() {
-            Kind::Order => self.has_order_room(lent),
-            Kind::Causal | Kind::Atomic => self.has_room(lent),
-        }
     }
 }

@@ -22,7 +22,7 @@ impl Domain {
     ghost use Rattle.cast_message.specs.declared.message.Body.TheVariants as body;
 
     // Takes in that a process here has sent a message, and has its time.
-    pub(crate) fn note_sent(
+    pub fn note_sent(
         &mut self,
         process: Proc,
         time: Times,
@@ -67,7 +67,7 @@ impl Domain {
 
     // The time of a process with one more message of its own, and the stamp that this message bears. None where the
     // count cannot be raised.
-    pub(crate) fn next_time(
+    pub fn next_time(
         &self,
         process: Proc,
         group: GroupNo,
@@ -93,11 +93,7 @@ impl Domain {
     }
 
     // Receives an own message here, and sends it to each other site of the view.
-    pub(crate) fn send_message(
-        &mut self,
-        message: Message,
-        lent: &mut Lent<'_>,
-    ) -> Result<(), NoMemory>
+    pub fn send_message(&mut self, message: Message, lent: &mut Lent<'_>) -> Result<(), NoMemory>
         ensures stays { KeepsBeside self.old lent.old self.new lent.new }
         ensures made { OnOk result (Makes (λ r. send_message records r message) self.old lent.old self.new lent.new) }
         ensures len { vec_len self.new.groups ≡ vec_len self.old.groups }
@@ -132,7 +128,7 @@ impl Domain {
     }
 
     // Receives a message: it is the last one in order of receipt.
-    pub(crate) fn receive(&mut self, message: Message, lent: &mut Lent<'_>) -> Result<(), NoMemory>
+    pub fn receive(&mut self, message: Message, lent: &mut Lent<'_>) -> Result<(), NoMemory>
         ensures stays { KeepsBeside self.old lent.old self.new lent.new }
         ensures made { OnOk result (Makes (λ r. receive_in r message) self.old lent.old self.new lent.new) }
         ensures len { vec_len self.new.groups ≡ vec_len self.old.groups }

@@ -15,7 +15,7 @@ use std::marker::Model;
 /// How many serials a domain gave to its sessions, which count from 1, and how the sessions stand that are not gone, in the
 /// order of their serials. Contracts see `GivenSessions`.
 #[derive(Drop)]
-pub(crate) struct Sessions {
+pub struct Sessions {
     used: u32,
     statuses: IndexMap<u32, Status>,
 }
@@ -33,7 +33,7 @@ impl Model for Sessions {
 
 impl Sessions {
     /// No serial is given.
-    pub(crate) fn new(alloc: Global) -> Self
+    pub fn new(alloc: Global) -> Self
         ensures { result ≡ record { used = 0; records = [] } }
     {
         Sessions {
@@ -43,7 +43,7 @@ impl Sessions {
     }
 
     /// An equal value.
-    pub(crate) fn copy(&self) -> Result<Self, NoMemory>
+    pub fn copy(&self) -> Result<Self, NoMemory>
         ensures { IfOk result (λ sessions. sessions ≡ self.now) }
     {
         Ok(Sessions {
@@ -53,21 +53,21 @@ impl Sessions {
     }
 
     /// How many serials were given.
-    pub(crate) fn used(&self) -> u32
+    pub fn used(&self) -> u32
         ensures { result ≡ self.now.used }
     {
         self.used
     }
 
     /// How many sessions are not gone.
-    pub(crate) fn len(&self) -> usize
+    pub fn len(&self) -> usize
         ensures { result ≡ length self.now.records }
     {
         self.statuses.len()
     }
 
     /// How the session of a serial stands.
-    pub(crate) fn status(&self, serial: u32) -> Status
+    pub fn status(&self, serial: u32) -> Status
         ensures { result ≡ status_in self.now.records serial }
     {
         match self.statuses.get(&serial) {
@@ -77,7 +77,7 @@ impl Sessions {
     }
 
     /// Opens the session of the next serial.
-    pub(crate) fn open_next(&mut self) -> Result<(), NoMemory>
+    pub fn open_next(&mut self) -> Result<(), NoMemory>
         requires { self.old.used + 1 ≤ 4294967295 }
         ensures { OnOk result (self.new ≡ with_next self.old) }
     {
@@ -88,14 +88,14 @@ impl Sessions {
     }
 
     /// The session of a serial is closed.
-    pub(crate) fn close(&mut self, serial: u32)
+    pub fn close(&mut self, serial: u32)
         ensures { self.new ≡ record self.old { records = map (with_status serial Status.Closed) self.old.records } }
     {
         close_in(&mut self.statuses, serial);
     }
 
     /// The session of a serial is gone.
-    pub(crate) fn remove(&mut self, serial: u32)
+    pub fn remove(&mut self, serial: u32)
         ensures { self.new ≡ without_serial serial self.old }
     {
         remove_in(&mut self.statuses, serial);
@@ -138,31 +138,19 @@ fn remove_in(statuses: &mut IndexMap<u32, Status>, serial: u32)
 }
 
 impl Domain {
-    ghost use Rattle.std.specs.Prelude.{true, false, None, Some};
     ghost use Rattle.cast_domain.specs.Records.{records_in};
-    ghost use Rattle.cast_events.specs.Session.{is_gone_status, is_open_status};
-    ghost use Rattle.cast_rules.specs.Rules.Events.{opened};
+    ghost use Rattle.cast_events.specs.Session.{is_open_status};
     ghost use Rattle.cast_domain.specs.Calls.{is_full_in};
 
     // Whether the session of a serial is open.
-    pub(crate) fn is_open(&self, serial: u32) -> bool
+    pub fn is_open(&self, serial: u32) -> bool
         ensures { result ≡ is_open_status (status_in self.now.sessions.records serial) }
     {
         self.sessions.status(serial).is_open()
     }
 
-    // Whether the session of a serial is gone, or was never opened.
-    pub(crate) fn is_gone(&self, serial: u32) -> bool
-        ensures { result ≡ is_gone_status (status_in self.now.sessions.records serial) }
-    {
-        match self.sessions.status(serial) {
-            Status::Gone => true,
-            Status::Open | Status::Closed => false,
-        }
-    }
-
     // Whether the outbox of a serial has as many entries as it may have.
-    pub(crate) fn is_full(&self, serial: u32, lent: &Lent<'_>) -> bool
+    pub fn is_full(&self, serial: u32, lent: &Lent<'_>) -> bool
         ensures { result ≡ is_full_in (records_in self.now lent.now) serial }
     {
         self.quotas.outbox as usize <= lent.shared.outboxes.len(self.config.domain, serial)

@@ -7,7 +7,7 @@ use cast_message::{Message, Push};
 use cast_outbox::{Outboxes, Pushed};
 use cast_store::Store;
 use cast_timer::{OwedKey, Timers};
-use cast_types::{DomainNo, GroupNo, Key, List, NoMemory, Refusal};
+use cast_types::{DomainNo, GroupNo, Key, List, NoMemory};
 use std::alloc::{AllocError, Global};
 
 /// What the domains of a daemon share: the messages that they keep, the frames that they owe and the outboxes of their
@@ -45,7 +45,7 @@ impl Shared {
     }
 
     // Keeps a message for a domain, under the next key.
-    pub(crate) fn put(&mut self, domain: DomainNo, message: Message) -> Result<(), NoMemory>
+    pub fn put(&mut self, domain: DomainNo, message: Message) -> Result<(), NoMemory>
         ensures part { OnOk result (part_of domain self.new ≡ part_with (part_of domain self.old) message) }
         ensures others { LeavesOthers domain self.old self.new }
     {
@@ -56,7 +56,7 @@ impl Shared {
     }
 
     // Keeps the message under a key of a domain no longer.
-    pub(crate) fn remove(&mut self, domain: DomainNo, key: Key)
+    pub fn remove(&mut self, domain: DomainNo, key: Key)
         ensures part { part_of domain self.new ≡ part_without (part_of domain self.old) key }
         ensures others { LeavesOthers domain self.old self.new }
     {
@@ -64,7 +64,7 @@ impl Shared {
     }
 
     // Owes a frame for a domain that does not owe it, to be sent again at a moment.
-    pub(crate) fn owe(&mut self, domain: DomainNo, key: OwedKey, due: u64) -> Result<(), NoMemory>
+    pub fn owe(&mut self, domain: DomainNo, key: OwedKey, due: u64) -> Result<(), NoMemory>
         requires { is_owed (part_of domain self.old).owed key ≡ false }
         ensures part { OnOk result (part_of domain self.new ≡ part_owing (part_of domain self.old) key due) }
         ensures others { LeavesOthers domain self.old self.new }
@@ -74,7 +74,7 @@ impl Shared {
     }
 
     // Owes all frames that are due at a moment for another one.
-    pub(crate) fn renew_due(&mut self, domain: DomainNo, now: u64, due: u64) -> Result<(), NoMemory>
+    pub fn renew_due(&mut self, domain: DomainNo, now: u64, due: u64) -> Result<(), NoMemory>
         ensures part { OnOk result (part_of domain self.new ≡ part_renewing_due (part_of domain self.old) now due) }
         ensures others { LeavesOthers domain self.old self.new }
     {
@@ -83,7 +83,7 @@ impl Shared {
     }
 
     // Owes a frame no more.
-    pub(crate) fn pay(&mut self, domain: DomainNo, key: &OwedKey)
+    pub fn pay(&mut self, domain: DomainNo, key: &OwedKey)
         ensures part { part_of domain self.new ≡ part_paying (part_of domain self.old) key.now }
         ensures others { LeavesOthers domain self.old self.new }
     {
@@ -91,7 +91,7 @@ impl Shared {
     }
 
     // Owes the frames of a key and of those with lower counts no more.
-    pub(crate) fn pay_upto(&mut self, domain: DomainNo, key: &OwedKey)
+    pub fn pay_upto(&mut self, domain: DomainNo, key: &OwedKey)
         ensures part { part_of domain self.new ≡ part_paying_upto (part_of domain self.old) key.now }
         ensures others { LeavesOthers domain self.old self.new }
     {
@@ -99,7 +99,7 @@ impl Shared {
     }
 
     // Owes no more what the site owes for a view of the group, which has ended.
-    pub(crate) fn pay_view(&mut self, domain: DomainNo, group: GroupNo)
+    pub fn pay_view(&mut self, domain: DomainNo, group: GroupNo)
         ensures part { part_of domain self.new ≡ part_paying_view (part_of domain self.old) group }
         ensures others { LeavesOthers domain self.old self.new }
     {
@@ -107,7 +107,7 @@ impl Shared {
     }
 
     // Opens the outbox of a serial of a domain, with its first entry.
-    pub(crate) fn begin_outbox(
+    pub fn begin_outbox(
         &mut self,
         domain: DomainNo,
         serial: u32,
@@ -123,7 +123,7 @@ impl Shared {
 
     // Pushes an entry to the outbox of a serial of a domain, or, where it has that many entries, that its program is too slow.
     // Answers what was pushed.
-    pub(crate) fn push(
+    pub fn push(
         &mut self,
         domain: DomainNo,
         serial: u32,
@@ -138,12 +138,7 @@ impl Shared {
     }
 
     // Takes the first entries of the outbox of a serial of a domain, at most so many.
-    pub(crate) fn take(
-        &mut self,
-        domain: DomainNo,
-        serial: u32,
-        most: u32,
-    ) -> Result<List<Push>, NoMemory>
+    pub fn take(&mut self, domain: DomainNo, serial: u32, most: u32) -> Result<List<Push>, NoMemory>
         ensures value { IfOk result (λ entries. entries ≡ take most ((part_of domain self.old).outboxes serial)) }
         ensures part { OnOk result (part_of domain self.new ≡ part_taking (part_of domain self.old) serial most) }
         ensures others { LeavesOthers domain self.old self.new }
@@ -152,7 +147,7 @@ impl Shared {
     }
 
     // Lets go of all that a domain keeps and owes, and of the outboxes of its sessions. Takes no memory.
-    pub(crate) fn drop_domain(&mut self, domain: DomainNo)
+    pub fn drop_domain(&mut self, domain: DomainNo)
         ensures part { part_of domain self.new ≡ no_part }
         ensures others { LeavesOthers domain self.old self.new }
     {
@@ -162,7 +157,7 @@ impl Shared {
     }
 
     // Drops the outbox of a serial of a domain.
-    pub(crate) fn close_outbox(&mut self, domain: DomainNo, serial: u32)
+    pub fn close_outbox(&mut self, domain: DomainNo, serial: u32)
         ensures part { part_of domain self.new ≡ part_boxing (part_of domain self.old) serial [] }
         ensures others { LeavesOthers domain self.old self.new }
     {

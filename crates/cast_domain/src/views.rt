@@ -1,6 +1,4 @@
 ghost use Rattle.std.specs.Prelude.{◌≡◌, ◌==◌};
-ghost use Rattle.std.specs.List.{list_any};
-ghost use Rattle.cast_view.specs.Sites.{is_at};
 
 use crate::data::is_named;
 use crate::domain::Domain;
@@ -9,27 +7,26 @@ use crate::record::view_at;
 use crate::turns::is_member;
 use cast_clock::Times;
 use cast_delay::ProcessUpdate;
-use cast_message::{Membership, Push, SiteFrame, Tail};
+use cast_message::{Membership, Push, SiteFrame};
 use cast_store::Kept;
-use cast_types::{Counts, GroupNo, Key, NoMemory, Proc, SiteNo, Standing, Uid};
-use cast_view::{Verdict, is_taken_in, other_sites};
+use cast_types::{GroupNo, Key, NoMemory, Proc, SiteNo, Standing, Uid};
+use cast_view::{is_taken_in, other_sites};
 
 impl Domain {
-    ghost use Rattle.std.specs.Prelude.{◌<◌, true, false, None, IfOk, OnOk, vec_len, ◌&&◌, ◌||◌, map, not, filter, Some};
+    ghost use Rattle.std.specs.Prelude.{◌<◌, None, IfOk, OnOk, vec_len, ◌&&◌, ◌||◌, Some};
     ghost use Rattle.cast_domain.specs.Records.{Keeps, KeepsBeside, Makes, MakesAlone, own_records, MakesAtAnyCut, TellsAlone};
-    ghost use Rattle.cast_domain.specs.Calls.{records, record_at, added_if, begin_view_in, enter_in, standing_of, take_in, time_of, view_in, holding_from, is_ended_in, is_member_in, is_put_out_in, pass_in, put_out_all_in, put_out_if_in, put_out_in, serials_put_out, serials_of_members, keys_passing, on_install_in, local_in};
+    ghost use Rattle.cast_domain.specs.Calls.{records, record_at, added_if, begin_view_in, enter_in, standing_of, take_in, time_of, view_in, holding_from, is_ended_in, is_member_in, is_put_out_in, pass_in, put_out_all_in, put_out_if_in, put_out_in, serials_put_out, serials_of_members, keys_passing, local_in};
     ghost use Rattle.std.specs.List.{fold};
-    ghost use Rattle.cast_view.specs.declared.member.Verdict.TheVariants.{Pends};
-    ghost use Rattle.cast_rules.specs.Rules.Asking.{is_from_home, request};
+    ghost use Rattle.cast_rules.specs.Rules.Asking.{request};
     ghost use Rattle.cast_view.specs.MemberSide.{holder_at, is_taken_in};
     ghost use Rattle.cast_clock.specs.Times.{entering};
     ghost use Rattle.cast_delay.specs.Ready.{is_member};
     ghost use Rattle.cast_rules.specs.Rules.Rest.{pass};
     ghost use Rattle.cast_rules.specs.Rules.Leaving.{tell};
-    ghost use Rattle.cast_rules.specs.Rules.Views.{change_view, enter_and_tell, install, on_out, tell_out, tell_view};
+    ghost use Rattle.cast_rules.specs.Rules.Views.{change_view, enter_and_tell, install, tell_out, tell_view};
 
     // A view is complete: the processes here that it takes in enter it.
-    pub(crate) fn begin_view(
+    pub fn begin_view(
         &mut self,
         place: usize,
         view: u32,
@@ -139,45 +136,8 @@ impl Domain {
         Ok(entered)
     }
 
-    // Install: answered again where the site knows its number; else completed where the site has no view, and where it skips
-    // a view. The Install of the next view of a site that has one waits, unless one does.
-    pub(crate) fn on_install(
-        &mut self,
-        place: usize,
-        from: SiteNo,
-        view: u32,
-        members: &Membership,
-        request: u32,
-        cut: &Counts,
-        tail: &Tail,
-        lent: &mut Lent<'_>,
-    ) -> Result<(), NoMemory>
-        requires { place < vec_len self.old.groups }
-        ensures stays { KeepsBeside self.old lent.old self.new lent.new }
-        ensures made { OnOk result (Makes (λ r. on_install_in r place from view members.now request cut.now tail.now) self.old lent.old self.new lent.new) }
-    {
-        if !self.is_from_home(from) {
-            return Ok(());
-        }
-        match self.record(place).here.verdict(view) {
-            Verdict::Again => {
-                let group = self.record(place).name;
-                self.send(lent.outs, from, SiteFrame::Installed { group, view })?;
-            }
-            Verdict::Skips => {
-                self.install_view(true, place, from, view, members, request, lent)?;
-            }
-            Verdict::Completes => {
-                self.install_view(false, place, from, view, members, request, lent)?;
-            }
-            Verdict::Pends => self.pend(place, view, members, request, cut, tail)?,
-            Verdict::Ignored => {}
-        }
-        Ok(())
-    }
-
     // The site passes to a view, and tells the home.
-    pub(crate) fn install_view(
+    pub fn install_view(
         &mut self,
         skips: bool,
         place: usize,
@@ -197,27 +157,8 @@ impl Domain {
         Ok(())
     }
 
-    // Out: a view of the group at a place has no member here. It counts where the site has not reached its number: then the members
-    // here are put out.
-    pub(crate) fn on_out(
-        &mut self,
-        place: usize,
-        view: u32,
-        lent: &mut Lent<'_>,
-    ) -> Result<(), NoMemory>
-        requires { place < vec_len self.old.groups }
-        ensures stays { KeepsBeside self.old lent.old self.new lent.new }
-        ensures made { OnOk result (Makes (λ r. on_out records r place view) self.old lent.old self.new lent.new) }
-    {
-        if self.record(place).here.number() < view {
-            let nobody = Membership::new(*self.groups.allocator());
-            self.change_view(true, place, view, &nobody, 0, lent)?;
-        }
-        Ok(())
-    }
-
     // The site passes to a view: messages of the one before it are kept no longer, and nothing is owed for it.
-    fn change_view(
+    pub fn change_view(
         &mut self,
         skips: bool,
         place: usize,
@@ -488,11 +429,4 @@ impl Domain {
         let record = self.record(place);
         id.group == record.name && id.view < record.here.number()
     }
-}
-
-// Whether one of these processes is at a site.
-pub(crate) fn is_at(site: SiteNo, members: &[Proc]) -> bool
-    ensures { result ≡ list_any (is_at site) members.now }
-{
-    members.iter().any(|member| member.site == site)
 }

@@ -14,6 +14,7 @@ ghost use Rattle.cast_table.specs.Shows.{ShowsGroups, ShowsHistory, domain_at, g
 use crate::backlog::{Backlog, oldest_in};
 use cast_domain::{Domain, GroupShown, Shared, Shown};
 use cast_events::{Config, Event, Fault, Outs, Taken};
+use cast_step::step;
 use cast_types::{DomainNo, List, NoMemory};
 use indexmap::IndexMap;
 use std::alloc::Global;
@@ -286,7 +287,7 @@ fn turn(
     ensures noted { halted.new.items ≡ halted.old.items ++ halted_by result }
     ensures room { vec_capacity halted.old ≤ vec_capacity halted.new }
 {
-    match domain.step(shared, event, outs) {
+    match step(domain, shared, event, outs) {
         Ok(taken) => Ok(taken),
         Err(_) => {
             let number = domain.number();

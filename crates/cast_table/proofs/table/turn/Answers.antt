@@ -10,7 +10,7 @@ pub returns-in-Ok-clause-turn : goal.returns-in-Ok-clause-turn
 returns-in-Ok-clause-turn c = record {
   number = c.step.ensures.number;
   halted =
-      elim (is_halted c.args.domain.now) as (λ b. is_halted c.args.domain.now ≡ b → is_halted c.step.new.self ≡ b) [
+      elim (is_halted c.args.domain.now) as (λ b. is_halted c.args.domain.now ≡ b → is_halted c.step.new.domain ≡ b) [
         | true ↦ λ stopped. ap is_halted (c.step.ensures.halted stopped).1 ∙ stopped
         | false ↦ λ ran. c.in-Ok.ensures.running ran
       ] refl;

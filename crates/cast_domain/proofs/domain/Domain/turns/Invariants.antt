@@ -1,8 +1,0 @@
-use Rattle.std.proofs.Common.{◌≡◌, map, take}
-use Rattle.cast_domain.specs.Records.{records_in}
-use Rattle.cast_domain.specs.Calls.{turn_at}
-use Rattle.cast_domain.proofs.domain.Domain.turns.Given as goal
-
--- the turns in the groups so far
-abbrev pub invariant-loop-record : goal.invariant-loop-record
-invariant-loop-record l = l.turns.items ≡ map (λ x. (x.name, turn_at (records_in l.fn.self l.fn.lent) l.fn.process x)) (take l.record-index l.record-items)

@@ -1,0 +1,70 @@
+use Rattle.std.proofs.Common.{◌≡◌, ◌∙◌, sym, ap, Option, Some, None}
+use Rattle.std.specs.Prelude.{is_some}
+use Rattle.std.specs.Option.{option_copied, option_map_or}
+use Rattle.cast_types.specs.declared.names.Key.{Key}
+use Rattle.cast_message.specs.declared.message.Message.{Message}
+use Rattle.cast_message.specs.Receipts.{message_under}
+use Rattle.cast_rules.specs.Rules.Rest.{tell_if, told_of, deliver}
+use Rattle.cast_domain.specs.Records.{records_in}
+use Rattle.cast_rules.specs.Rules.Release as release
+use Rattle.cast_domain.specs.Calls.{deliver_as, local_in, next_ready_in, note_delivered_under, ready_key_in, records, resting_records}
+use Rattle.cast_rest.proofs.rest.deliver_first.Goals as goal
+
+pub returns-in_default-clause-made : goal.returns-in_default-clause-made
+returns-in_default-clause-made c =
+    let r = records_in c.args.domain.now c.args.lent.now in
+    let k = c.args.serial in
+    let none : ready_key_in r (local_in r k) ≡ None = ap (ready_key_in r) (sym c.process-process.ensures) ∙ sym c.in_ok-key.ensures ∙ c.in_default.is in
+    let next : next_ready_in r k ≡ None = ap (λ (o : Option Key). option_map_or (message_under r.part.kept) o None) none in
+    sym (ap (λ (o : Option Message). elim o [ Some m ↦ release.let_go records resting_records (deliver records resting_records r k m) | None ↦ r ]) next)
+
+pub returns-in_default-get-clause-made : goal.returns-in_default-get-clause-made
+returns-in_default-get-clause-made c =
+    let r = records_in c.args.domain.now c.args.lent.now in
+    let k = c.args.serial in
+    let some : ready_key_in r (local_in r k) ≡ Some c.in-Some.key = ap (ready_key_in r) (sym c.process-process.ensures) ∙ sym c.in_ok-key.ensures ∙ c.in-Some.is in
+    let none : message_under r.part.kept c.in-Some.key ≡ None = sym c.get.ensures ∙ ap option_copied c.in_default-get.is in
+    let next : next_ready_in r k ≡ None = ap (λ (o : Option Key). option_map_or (message_under r.part.kept) o None) some ∙ none in
+    sym (ap (λ (o : Option Message). elim o [ Some m ↦ release.let_go records resting_records (deliver records resting_records r k m) | None ↦ r ]) next)
+
+pub returns-clause-made : goal.returns-clause-made
+returns-clause-made c =
+    let r = records_in c.args.domain.now c.args.lent.now in
+    let k = c.args.serial in
+    let key = c.in-Some.key in
+    let m = c.in-Some-get.message.now in
+    let own = c.process-process.ensures in
+    let some : ready_key_in r (local_in r k) ≡ Some key = ap (ready_key_in r) (sym own) ∙ sym c.in_ok-key.ensures ∙ c.in-Some.is in
+    let found : message_under r.part.kept key ≡ Some m = sym c.get.ensures ∙ ap option_copied c.in-Some-get.is in
+    let next : next_ready_in r k ≡ Some m = ap (λ (o : Option Key). option_map_or (message_under r.part.kept) o None) some ∙ found in
+    c.let_go.ensures.made
+    ∙ ap (release.let_go records resting_records) (
+    c.in_ok-deliver.ensures.made
+    ∙ (λ j. deliver_as r (own j) key (c.in_ok-delivery.ensures j))
+    ∙ sym (ap (λ (o : Option Key). tell_if records (option_map_or (λ x. note_delivered_under r (local_in r k) x m) o r) k (told_of m.id m.body)) some)
+    )
+    ∙ sym (ap (λ (o : Option Message). elim o [ Some x ↦ release.let_go records resting_records (deliver records resting_records r k x) | None ↦ r ]) next)
+
+-- it tells whether one was ready
+pub returns-in_default-clause-told : goal.returns-in_default-clause-told
+returns-in_default-clause-told c =
+    let r = records_in c.args.domain.now c.args.lent.now in
+    let k = c.args.serial in
+    let none : ready_key_in r (local_in r k) ≡ None = ap (ready_key_in r) (sym c.process-process.ensures) ∙ sym c.in_ok-key.ensures ∙ c.in_default.is in
+    sym (ap (λ (o : Option Key). is_some (option_map_or (message_under r.part.kept) o None)) none)
+
+pub returns-in_default-get-clause-told : goal.returns-in_default-get-clause-told
+returns-in_default-get-clause-told c =
+    let r = records_in c.args.domain.now c.args.lent.now in
+    let k = c.args.serial in
+    let some : ready_key_in r (local_in r k) ≡ Some c.in-Some.key = ap (ready_key_in r) (sym c.process-process.ensures) ∙ sym c.in_ok-key.ensures ∙ c.in-Some.is in
+    let none : message_under r.part.kept c.in-Some.key ≡ None = sym c.get.ensures ∙ ap option_copied c.in_default-get.is in
+    sym (ap (λ (o : Option Key). is_some (option_map_or (message_under r.part.kept) o None)) some ∙ ap is_some none)
+
+pub returns-clause-told : goal.returns-clause-told
+returns-clause-told c =
+    let r = records_in c.args.domain.now c.args.lent.now in
+    let k = c.args.serial in
+    let some : ready_key_in r (local_in r k) ≡ Some c.in-Some.key = ap (ready_key_in r) (sym c.process-process.ensures) ∙ sym c.in_ok-key.ensures ∙ c.in-Some.is in
+    let found : message_under r.part.kept c.in-Some.key ≡ Some c.in-Some-get.message.now = sym c.get.ensures ∙ ap option_copied c.in-Some-get.is in
+    sym (ap (λ (o : Option Key). is_some (option_map_or (message_under r.part.kept) o None)) some ∙ ap is_some found)
