@@ -13,7 +13,7 @@ ghost use Rattle.cast_events.specs.declared.event.Event.TheVariants as event;
 
 use crate::turns::{awaits_own, places_by};
 use bytes::Bytes;
-use cast_delay::ProcessUpdate;
+use cast_ready::ProcessUpdate;
 use cast_domain::Domain;
 use cast_domain::data::is_named;
 use cast_domain::lent::Lent;

@@ -1,5 +1,5 @@
 ghost use Rattle.std.specs.Prelude.{◌≡◌, true, false, ◌<◌, None, ◌&&◌, ◌||◌, ◌==◌, min, not, vec_len, Some};
-ghost use Rattle.cast_delay.specs.Ready.{is_member};
+ghost use Rattle.cast_ready.specs.Ready.{is_member};
 ghost use Rattle.cast_domain.specs.Records.{records_in, own_records};
 ghost use Rattle.cast_domain.specs.Own.{AwaitsNoneOf, is_due_in, source_at};
 ghost use Rattle.cast_order.specs.Log.{log_of, places_by};

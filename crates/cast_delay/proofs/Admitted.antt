@@ -20,13 +20,13 @@ use Rattle.cast_types.proofs.Orders.{proc_total, proc_exact, proc_itself, same_p
 use Rattle.cast_types.proofs.Rising.{less_is}
 use Rattle.cast_clock.proofs.Halving.{lower}
 use Rattle.cast_clock.specs.Times.{has_room, join}
-use Rattle.cast_delay.specs.declared.gate.Gate.{Gate}
-use Rattle.cast_delay.specs.declared.row.Row.{Row}
-use Rattle.cast_delay.specs.declared.row.ProcessUpdate.{ProcessUpdate}
-use Rattle.cast_delay.specs.declared.row.ProcessUpdate.TheVariants as fact
-use Rattle.cast_delay.specs.declared.offered.Offered.{Offered}
-use Rattle.cast_delay.specs.Ready.{is_member, is_open_to}
-use Rattle.cast_delay.specs.Rows.{all_allow, delivered_row, done_in, gate_in, is_causally_ready_row, standing_in, told_row}
+use Rattle.cast_ready.specs.declared.gate.Gate.{Gate}
+use Rattle.cast_ready.specs.declared.row.Row.{Row}
+use Rattle.cast_ready.specs.declared.row.ProcessUpdate.{ProcessUpdate}
+use Rattle.cast_ready.specs.declared.row.ProcessUpdate.TheVariants as fact
+use Rattle.cast_ready.specs.declared.offered.Offered.{Offered}
+use Rattle.cast_ready.specs.Ready.{is_member, is_open_to}
+use Rattle.cast_ready.specs.Rows.{all_allow, delivered_row, done_in, gate_in, is_causally_ready_row, standing_in, told_row}
 use Rattle.cast_delay.specs.Queue.{Queue, after_delivery, change_row, has_candidate, may_deliver_in, offered_under, row_of}
 use Rattle.cast_delay.specs.Settled.{AreSettled}
 use Rattle.cast_delay.specs.Admitted.{rise, all_below, is_idle}

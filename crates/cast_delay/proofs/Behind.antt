@@ -4,12 +4,12 @@ use Rattle.std.specs.List.{list_any, find}
 use Rattle.std.proofs.lemmas.Bool.{and_parts, not-true}
 use Rattle.cast_types.specs.declared.names.GroupNo.{GroupNo}
 use Rattle.cast_types.specs.Names.{entry_of}
-use Rattle.cast_delay.specs.declared.gate.Gate.{Gate}
-use Rattle.cast_delay.specs.declared.row.Row.{Row}
-use Rattle.cast_delay.specs.declared.turn.Turn.{Turn}
-use Rattle.cast_delay.specs.declared.offered.Offered.{Offered}
-use Rattle.cast_delay.specs.Ready.{has_turn, turn_in}
-use Rattle.cast_delay.specs.Rows.{is_causally_ready_row, is_ready_row}
+use Rattle.cast_ready.specs.declared.gate.Gate.{Gate}
+use Rattle.cast_ready.specs.declared.row.Row.{Row}
+use Rattle.cast_ready.specs.declared.turn.Turn.{Turn}
+use Rattle.cast_ready.specs.declared.offered.Offered.{Offered}
+use Rattle.cast_ready.specs.Ready.{has_turn, turn_in}
+use Rattle.cast_ready.specs.Rows.{is_causally_ready_row, is_ready_row}
 use Rattle.cast_delay.specs.Offers.{none_of}
 use Rattle.cast_delay.proofs.ListLemmas.{find_past, any_past}
 

@@ -7,10 +7,10 @@ use Rattle.cast_types.specs.declared.names.GroupNo.{GroupNo}
 use Rattle.cast_types.specs.declared.names.Uid.{Uid}
 use Rattle.cast_types.specs.Names.{Entry, uid_eq, named}
 use Rattle.cast_types.proofs.Orders.{same_uid, uid_itself}
-use Rattle.cast_delay.specs.declared.row.Row.{Row}
-use Rattle.cast_delay.specs.declared.gate.Gate.{Gate}
-use Rattle.cast_delay.specs.Ready.{Process, first_of, covered, has_delivered}
-use Rattle.cast_delay.specs.Rows.{done_in, needed, has_past}
+use Rattle.cast_ready.specs.declared.row.Row.{Row}
+use Rattle.cast_ready.specs.declared.gate.Gate.{Gate}
+use Rattle.cast_ready.specs.Ready.{Process, first_of, covered, has_delivered}
+use Rattle.cast_ready.specs.Rows.{done_in, needed, has_past}
 use Rattle.cast_delay.specs.Fits.{HasNotEnded, RowFits}
 use Rattle.cast_delay.proofs.ListLemmas.{list_all-filter, list_all-map, list_all-flat_map, list_all_agree, range_holds, holds_range}
 use Rattle.cast_types.proofs.Bools.{same_bools}

@@ -16,13 +16,13 @@ use Rattle.cast_clock.specs.Times.{clock_of, view_of, count_in, join, has_room}
 use Rattle.cast_clock.proofs.Entries.{found_or}
 use Rattle.cast_message.specs.declared.message.Message.{Message}
 use Rattle.cast_types.specs.declared.source.Source.{Source}
-use Rattle.cast_delay.specs.declared.row.Row.{Row}
-use Rattle.cast_delay.specs.declared.row.ProcessUpdate.{ProcessUpdate}
-use Rattle.cast_delay.specs.declared.row.ProcessUpdate.TheVariants as fact
-use Rattle.cast_delay.specs.declared.gate.Gate.{Gate}
-use Rattle.cast_delay.specs.Ready.{Process, is_open_to, is_member, has_delivered}
+use Rattle.cast_ready.specs.declared.row.Row.{Row}
+use Rattle.cast_ready.specs.declared.row.ProcessUpdate.{ProcessUpdate}
+use Rattle.cast_ready.specs.declared.row.ProcessUpdate.TheVariants as fact
+use Rattle.cast_ready.specs.declared.gate.Gate.{Gate}
+use Rattle.cast_ready.specs.Ready.{Process, is_open_to, is_member, has_delivered}
 use Rattle.cast_types.specs.Sources.{source_cmp, source_of}
-use Rattle.cast_delay.specs.Rows.{gate_in, standing_in, done_in, needed, has_past, row_allows, all_allow, is_causally_ready_row, delivered_row, told_row}
+use Rattle.cast_ready.specs.Rows.{gate_in, standing_in, done_in, needed, has_past, row_allows, all_allow, is_causally_ready_row, delivered_row, told_row}
 use Rattle.cast_delay.specs.Fits.{HasNotEnded, RowFits, IsSound, told, delivering}
 use Rattle.cast_delay.proofs.ListLemmas.{list_any-append}
 use Rattle.cast_delay.proofs.Counted.{needed_own, within_entry}

@@ -9,10 +9,10 @@ use Rattle.cast_types.specs.declared.names.Proc.{Proc}
 use Rattle.cast_types.specs.declared.limits.TheConstants.{MAX_NUMBER}
 use Rattle.cast_types.specs.Names.{named}
 use Rattle.cast_types.proofs.Bools.{same_bools}
-use Rattle.cast_delay.specs.declared.row.Row.{Row}
-use Rattle.cast_delay.specs.Ready.{is_member}
-use Rattle.cast_delay.specs.Rows.{standing_in, done_in, awaits_row}
-use Rattle.cast_delay.specs.Queue.{lesser_by, least_in, is_awaited}
+use Rattle.cast_ready.specs.declared.row.Row.{Row}
+use Rattle.cast_ready.specs.Ready.{is_member}
+use Rattle.cast_ready.specs.Rows.{standing_in, done_in, awaits_row, lesser_by}
+use Rattle.cast_delay.specs.Queue.{least_in, is_awaited}
 
 -- the lesser of two counts is below a third exactly if one of them is
 lesser_below : (a b n : ℕ) → nat_lt (min a b) n ≡ (nat_lt a n || nat_lt b n)

@@ -15,9 +15,9 @@ use Rattle.cast_types.proofs.Orders.{same_proc, proc_itself}
 use Rattle.cast_types.proofs.Contains.{contains_here, contains_later}
 use Rattle.cast_clock.proofs.Entries.{option_cases}
 use Rattle.cast_index.specs.Rises.{rises}
-use Rattle.cast_delay.specs.declared.gate.Gate.{Gate}
-use Rattle.cast_delay.specs.declared.row.Row.{Row}
-use Rattle.cast_delay.specs.declared.offered.Offered.{Offered}
+use Rattle.cast_ready.specs.declared.gate.Gate.{Gate}
+use Rattle.cast_ready.specs.declared.row.Row.{Row}
+use Rattle.cast_ready.specs.declared.offered.Offered.{Offered}
 use Rattle.cast_delay.specs.declared.looked.Looked.{Looked}
 use Rattle.cast_delay.specs.Queue.{row_of}
 use Rattle.cast_delay.specs.Offers.{key_of}

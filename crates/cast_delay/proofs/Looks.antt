@@ -21,15 +21,15 @@ use Rattle.cast_clock.proofs.Entries.{found_or, option_cases}
 use Rattle.cast_message.specs.Receipts.{key_eq}
 use Rattle.cast_index.specs.Index.{has, is_pair}
 use Rattle.cast_index.specs.Rises.{rises, all_below}
-use Rattle.cast_delay.specs.declared.gate.Gate.{Gate}
-use Rattle.cast_delay.specs.declared.row.Row.{Row}
-use Rattle.cast_delay.specs.declared.offered.Offered.{Offered}
+use Rattle.cast_ready.specs.declared.gate.Gate.{Gate}
+use Rattle.cast_ready.specs.declared.row.Row.{Row}
+use Rattle.cast_ready.specs.declared.offered.Offered.{Offered}
 use Rattle.cast_delay.specs.declared.looked.Looked.{Looked}
-use Rattle.cast_delay.specs.Ready.{is_member}
-use Rattle.cast_delay.specs.Rows.{gate_in, standing_in, done_in, needed, has_past, row_allows, is_causally_ready_row, awaits_row}
+use Rattle.cast_ready.specs.Ready.{is_member}
+use Rattle.cast_ready.specs.Rows.{gate_in, standing_in, done_in, needed, has_past, row_allows, is_causally_ready_row, awaits_row, awaits_now, is_after, holds_back}
 use Rattle.cast_delay.specs.Queue.{offered_under}
 use Rattle.cast_delay.specs.Offers.{key_of, none_of}
-use Rattle.cast_delay.specs.Waits.{awaits_now, is_after, holds_back, is_awake, IsKnown, IsWithin, IsWaking, IsUnseen, IsUnseenBy, AreKnown, Adds}
+use Rattle.cast_delay.specs.Waits.{is_awake, IsKnown, IsWithin, IsWaking, IsUnseen, IsUnseenBy, AreKnown, Adds}
 use Rattle.cast_delay.proofs.Delivers.{ready_parts, only_member}
 use Rattle.cast_delay.proofs.ListLemmas.{all_each, contains_cases}
 use Rattle.cast_delay.proofs.MemberLemmas.{any_member, member_any, none_found, found_member, found_least, first_is, same_item}

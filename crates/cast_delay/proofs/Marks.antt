@@ -10,10 +10,10 @@ use Rattle.cast_types.specs.declared.names.Key.{Key}
 use Rattle.cast_types.specs.declared.names.SiteNo.{SiteNo}
 use Rattle.cast_types.specs.Names.{proc_eq, site_eq}
 use Rattle.cast_types.proofs.Orders.{proc_itself, same_site}
-use Rattle.cast_delay.specs.declared.row.Row.{Row}
-use Rattle.cast_delay.specs.declared.offered.Offered.{Offered}
-use Rattle.cast_delay.specs.Rows.{awaits_row, delivered_row}
-use Rattle.cast_delay.specs.Queue.{after_delivery, change_row, is_awaited, new_row, offered_under}
+use Rattle.cast_ready.specs.declared.row.Row.{Row}
+use Rattle.cast_ready.specs.declared.offered.Offered.{Offered}
+use Rattle.cast_ready.specs.Rows.{awaits_row, delivered_row, new_row}
+use Rattle.cast_delay.specs.Queue.{after_delivery, change_row, is_awaited, offered_under}
 use Rattle.cast_delay.specs.Admitted.{are_of, rise, is_busy, is_idle, site_with, AreMarks}
 use Rattle.cast_delay.proofs.Admitted.{found_at}
 

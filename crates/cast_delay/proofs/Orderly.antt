@@ -9,7 +9,7 @@ use Rattle.cast_types.proofs.Rising.{all_kept}
 use Rattle.cast_message.specs.Receipts.{key_eq}
 use Rattle.cast_index.specs.Rises.{rises, all_below}
 use Rattle.cast_index.proofs.Rises.{parts_of, above_at, below_push, rises_push, rises_kept}
-use Rattle.cast_delay.specs.declared.offered.Offered.{Offered}
+use Rattle.cast_ready.specs.declared.offered.Offered.{Offered}
 use Rattle.cast_delay.specs.Queue.{but_offered}
 use Rattle.cast_delay.specs.Offers.{key_of, AreOrderly}
 

@@ -23,18 +23,18 @@ use Rattle.cast_message.specs.Receipts.{key_eq}
 use Rattle.cast_index.specs.Index.{has}
 use Rattle.cast_index.specs.Rises.{rises}
 use Rattle.cast_index.proofs.Rises.{rises_kept}
-use Rattle.cast_delay.specs.declared.gate.Gate.{Gate}
-use Rattle.cast_delay.specs.declared.row.Row.{Row}
-use Rattle.cast_delay.specs.declared.row.ProcessUpdate.{ProcessUpdate}
-use Rattle.cast_delay.specs.declared.row.ProcessUpdate.TheVariants as fact
-use Rattle.cast_delay.specs.declared.offered.Offered.{Offered}
+use Rattle.cast_ready.specs.declared.gate.Gate.{Gate}
+use Rattle.cast_ready.specs.declared.row.Row.{Row}
+use Rattle.cast_ready.specs.declared.row.ProcessUpdate.{ProcessUpdate}
+use Rattle.cast_ready.specs.declared.row.ProcessUpdate.TheVariants as fact
+use Rattle.cast_ready.specs.declared.offered.Offered.{Offered}
 use Rattle.cast_delay.specs.declared.looked.Looked.{Looked}
-use Rattle.cast_delay.specs.Ready.{is_member}
-use Rattle.cast_delay.specs.Rows.{gate_in, standing_in, done_in, awaits_row, delivered_row, told_row, with_standing, with_time}
-use Rattle.cast_delay.specs.Queue.{new_row, row_of, but_row, change_row, is_awaited, offered_under, after_delivery, but_offered}
+use Rattle.cast_ready.specs.Ready.{is_member}
+use Rattle.cast_ready.specs.Rows.{gate_in, standing_in, done_in, awaits_row, delivered_row, told_row, with_standing, with_time, new_row, awaits_now, is_after}
+use Rattle.cast_delay.specs.Queue.{row_of, but_row, change_row, is_awaited, offered_under, after_delivery, but_offered}
 use Rattle.cast_delay.specs.Offers.{key_of}
 use Rattle.cast_delay.specs.Settled.{is_settled, AreSettled}
-use Rattle.cast_delay.specs.Waits.{awaits_now, is_after, looked_of, waits_despite, next_under, IsKnown, IsWaking, IsLookedAt, IsToWake, IsUnseenBy, AreKnown, AreLookedAt, AreSeen, AreToWake, MayBePassed}
+use Rattle.cast_delay.specs.Waits.{looked_of, waits_despite, next_under, IsKnown, IsWaking, IsLookedAt, IsToWake, IsUnseenBy, AreKnown, AreLookedAt, AreSeen, AreToWake, MayBePassed}
 use Rattle.cast_delay.proofs.Finds.{found_in, found_any, find-append_some, find-append_none, find_kept, kept_parts}
 use Rattle.cast_delay.proofs.ListLemmas.{all_each, contains_cases}
 use Rattle.cast_delay.proofs.MemberLemmas.{found_member, same_item}

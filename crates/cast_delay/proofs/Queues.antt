@@ -24,16 +24,16 @@ use Rattle.cast_message.specs.declared.message.Message.{Message}
 use Rattle.cast_message.specs.declared.message.Received.{Received}
 use Rattle.cast_message.specs.Receipts.{key_eq, messages, message_under}
 use Rattle.cast_message.proofs.Places.{position_or_len_found}
-use Rattle.cast_delay.specs.declared.turn.Turn.{Turn}
-use Rattle.cast_delay.specs.declared.row.Row.{Row}
-use Rattle.cast_delay.specs.declared.row.ProcessUpdate.{ProcessUpdate}
-use Rattle.cast_delay.specs.declared.row.ProcessUpdate.TheVariants as fact
-use Rattle.cast_delay.specs.declared.offered.Offered.{Offered}
-use Rattle.cast_delay.specs.declared.gate.Gate.{Gate}
-use Rattle.cast_delay.specs.Ready.{Process, open_gate, frozen_gate, pending_gate, is_member, is_outside, has_delivered, awaits, turn_in, is_causally_ready, is_ready, has_turn}
-use Rattle.cast_delay.specs.DeliveredCounts.{DeliveredCounts, raised_at, counts_in}
-use Rattle.cast_delay.specs.Rows.{gate_in, standing_in, is_causally_ready_row, is_ready_row, has_delivered_in, passed_by, awaits_row, delivered_row, told_row}
-use Rattle.cast_delay.specs.Queue.{Queue, new_row, row_of, but_row, change_row, first_for, offered_under, next_key, has_candidate, may_deliver_in, delivered_in, passed_in, but_offered, is_awaited, HasOneRowEach, after_delivery, reached_after, queue_viewing, queue_delivering}
+use Rattle.cast_ready.specs.declared.turn.Turn.{Turn}
+use Rattle.cast_ready.specs.declared.row.Row.{Row}
+use Rattle.cast_ready.specs.declared.row.ProcessUpdate.{ProcessUpdate}
+use Rattle.cast_ready.specs.declared.row.ProcessUpdate.TheVariants as fact
+use Rattle.cast_ready.specs.declared.offered.Offered.{Offered}
+use Rattle.cast_ready.specs.declared.gate.Gate.{Gate}
+use Rattle.cast_ready.specs.Ready.{Process, open_gate, frozen_gate, pending_gate, is_member, is_outside, has_delivered, awaits, turn_in, is_causally_ready, is_ready, has_turn}
+use Rattle.cast_ready.specs.DeliveredCounts.{DeliveredCounts, raised_at, counts_in}
+use Rattle.cast_ready.specs.Rows.{gate_in, standing_in, is_causally_ready_row, is_ready_row, has_delivered_in, passed_by, awaits_row, delivered_row, told_row, new_row}
+use Rattle.cast_delay.specs.Queue.{Queue, row_of, but_row, change_row, first_for, offered_under, next_key, has_candidate, may_deliver_in, delivered_in, passed_in, but_offered, is_awaited, HasOneRowEach, after_delivery, reached_after, queue_viewing, queue_delivering}
 use Rattle.cast_delay.specs.Fits.{IsSound, HasNotEnded, RowFits, StandsFor, HasNotBegun, Reaches, offer_of, Fits, FirstReady, HasTurns, IsAwaited, set_process, told, delivering, FactFits}
 use Rattle.cast_delay.specs.Laws.{NewFits}
 use Rattle.cast_delay.specs.Says.{SaysReached}

@@ -15,9 +15,9 @@ use Rattle.cast_types.proofs.Contains.{contains_here, contains_later}
 use Rattle.cast_types.proofs.Orders.{same_group, group_itself, tie_self, tie_same}
 use Rattle.cast_types.proofs.Sources.{source_total, source_exact}
 use Rattle.cast_clock.proofs.Entries.{option_cases}
-use Rattle.cast_delay.specs.declared.gate.Gate.{Gate}
-use Rattle.cast_delay.specs.Ready.{Process, has_delivered}
-use Rattle.cast_delay.specs.DeliveredCounts.{DeliveredCounts, count_at, raised_at, counts_in}
+use Rattle.cast_ready.specs.declared.gate.Gate.{Gate}
+use Rattle.cast_ready.specs.Ready.{Process, has_delivered}
+use Rattle.cast_ready.specs.DeliveredCounts.{DeliveredCounts, count_at, raised_at, counts_in}
 use Rattle.cast_delay.specs.Fits.{HasNotEnded, Reaches}
 use Rattle.cast_delay.proofs.Finds.{kept_parts}
 use Rattle.cast_delay.proofs.RowLemmas.{count_kept, not_ended}

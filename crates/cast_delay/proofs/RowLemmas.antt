@@ -14,12 +14,12 @@ use Rattle.cast_types.specs.Sources.{source, is_ended, but_ended}
 use Rattle.cast_types.proofs.Orders.{same_group, same_proc}
 use Rattle.cast_types.proofs.Sources.{find_but_ended}
 use Rattle.cast_clock.proofs.Entries.{option_cases}
-use Rattle.cast_delay.specs.declared.row.Row.{Row}
-use Rattle.cast_delay.specs.declared.gate.Gate.{Gate}
-use Rattle.cast_delay.specs.Ready.{Process, has_delivered}
-use Rattle.cast_delay.specs.DeliveredCounts.{DeliveredCounts, count_at}
-use Rattle.cast_delay.specs.Rows.{ended_row}
-use Rattle.cast_delay.specs.Queue.{new_row, row_of, but_row, change_row}
+use Rattle.cast_ready.specs.declared.row.Row.{Row}
+use Rattle.cast_ready.specs.declared.gate.Gate.{Gate}
+use Rattle.cast_ready.specs.Ready.{Process, has_delivered}
+use Rattle.cast_ready.specs.DeliveredCounts.{DeliveredCounts, count_at}
+use Rattle.cast_ready.specs.Rows.{ended_row, new_row}
+use Rattle.cast_delay.specs.Queue.{row_of, but_row, change_row}
 use Rattle.cast_delay.specs.Fits.{HasNotEnded, RowFits, StandsFor, HasNotBegun, set_process}
 use Rattle.cast_delay.proofs.Finds.{find-append_some, find-append_none, find_mapped, find_dropped, find_kept}
 

@@ -14,10 +14,10 @@ use Rattle.cast_types.proofs.Orders.{group_total, group_exact, same_group}
 use Rattle.cast_clock.specs.Times.{clock_of, view_of, join, has_room}
 use Rattle.cast_clock.proofs.Entries.{found_or, each_found, list_all_of, as_T}
 use Rattle.cast_message.specs.declared.message.Message.{Message}
-use Rattle.cast_delay.specs.declared.row.Row.{Row}
-use Rattle.cast_delay.specs.declared.gate.Gate.{Gate}
-use Rattle.cast_delay.specs.Ready.{Process, is_open_to, past_in, is_member, is_outside, has_delivered, awaits, group_allows, is_causally_ready}
-use Rattle.cast_delay.specs.Rows.{gate_in, standing_in, done_in, row_allows, all_allow, has_past, is_causally_ready_row, has_delivered_in, awaits_row}
+use Rattle.cast_ready.specs.declared.row.Row.{Row}
+use Rattle.cast_ready.specs.declared.gate.Gate.{Gate}
+use Rattle.cast_ready.specs.Ready.{Process, is_open_to, past_in, is_member, is_outside, has_delivered, awaits, group_allows, is_causally_ready}
+use Rattle.cast_ready.specs.Rows.{gate_in, standing_in, done_in, row_allows, all_allow, has_past, is_causally_ready_row, has_delivered_in, awaits_row}
 use Rattle.cast_delay.specs.Fits.{HasNotEnded, RowFits, IsSound}
 use Rattle.cast_delay.proofs.Counted.{past_counted}
 use Rattle.cast_delay.proofs.Turns.{and_agree}

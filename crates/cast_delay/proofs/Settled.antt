@@ -17,17 +17,17 @@ use Rattle.cast_types.specs.Sources.{source, source_cmp}
 use Rattle.cast_types.proofs.Orders.{same_group, tie_same}
 use Rattle.cast_types.proofs.Sources.{source_total, source_exact}
 use Rattle.cast_message.specs.Receipts.{key_eq}
-use Rattle.cast_delay.specs.DeliveredCounts.{count_at}
+use Rattle.cast_ready.specs.DeliveredCounts.{count_at}
 use Rattle.cast_types.proofs.Rising.{all_kept}
-use Rattle.cast_delay.specs.declared.gate.Gate.{Gate}
-use Rattle.cast_delay.specs.declared.row.Row.{Row}
-use Rattle.cast_delay.specs.declared.row.ProcessUpdate.{ProcessUpdate}
-use Rattle.cast_delay.specs.declared.row.ProcessUpdate.TheVariants as fact
-use Rattle.cast_delay.specs.declared.offered.Offered.{Offered}
-use Rattle.cast_delay.specs.declared.turn.Turn.{Turn}
-use Rattle.cast_delay.specs.Ready.{is_member, open_gate}
-use Rattle.cast_delay.specs.Rows.{gate_in, standing_in, done_in, is_causally_ready_row, is_ready_row, awaits_row, delivered_row, told_row}
-use Rattle.cast_delay.specs.Queue.{Queue, new_row, next_key, may_deliver_in, row_of, but_row, change_row, first_for, has_candidate, is_awaited, offered_under, after_delivery, but_offered}
+use Rattle.cast_ready.specs.declared.gate.Gate.{Gate}
+use Rattle.cast_ready.specs.declared.row.Row.{Row}
+use Rattle.cast_ready.specs.declared.row.ProcessUpdate.{ProcessUpdate}
+use Rattle.cast_ready.specs.declared.row.ProcessUpdate.TheVariants as fact
+use Rattle.cast_ready.specs.declared.offered.Offered.{Offered}
+use Rattle.cast_ready.specs.declared.turn.Turn.{Turn}
+use Rattle.cast_ready.specs.Ready.{is_member, open_gate}
+use Rattle.cast_ready.specs.Rows.{gate_in, standing_in, done_in, is_causally_ready_row, is_ready_row, awaits_row, delivered_row, told_row, new_row}
+use Rattle.cast_delay.specs.Queue.{Queue, next_key, may_deliver_in, row_of, but_row, change_row, first_for, has_candidate, is_awaited, offered_under, after_delivery, but_offered}
 use Rattle.cast_delay.specs.Offers.{none_of}
 use Rattle.cast_delay.specs.Settled.{is_settled, AreSettled, despite_fact, is_next_of, despite_delivery}
 use Rattle.cast_delay.proofs.ListLemmas.{list_any-append}

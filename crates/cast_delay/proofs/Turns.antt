@@ -8,9 +8,9 @@ use Rattle.cast_types.specs.Names.{entry_of, is_atomic}
 use Rattle.cast_clock.specs.Times.{join, has_room}
 use Rattle.cast_message.specs.declared.message.Message.{Message}
 use Rattle.cast_message.specs.Bodies.{kind_of}
-use Rattle.cast_delay.specs.declared.turn.Turn.{Turn}
-use Rattle.cast_delay.specs.declared.gate.Gate.{Gate}
-use Rattle.cast_delay.specs.Ready.{Process, is_open_to, is_member, has_delivered, group_allows, has_turn, is_causally_ready, is_ready}
+use Rattle.cast_ready.specs.declared.turn.Turn.{Turn}
+use Rattle.cast_ready.specs.declared.gate.Gate.{Gate}
+use Rattle.cast_ready.specs.Ready.{Process, is_open_to, is_member, has_delivered, group_allows, has_turn, is_causally_ready, is_ready}
 use Rattle.cast_delay.proofs.Finds.{find_agree}
 
 -- what is asked of a message beside causal readiness

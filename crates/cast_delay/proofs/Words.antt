@@ -19,10 +19,10 @@ use Rattle.cast_clock.specs.Laws.{is_in_order}
 use Rattle.cast_clock.proofs.Entries.{found_or, each_found, as_T}
 use Rattle.cast_message.specs.declared.message.Message.{Message}
 use Rattle.cast_message.specs.Bodies.{kind_of}
-use Rattle.cast_delay.specs.declared.turn.Turn.{Turn}
-use Rattle.cast_delay.specs.declared.turn.Turn.TheVariants.{Holding, Following}
-use Rattle.cast_delay.specs.declared.gate.Gate.{Gate}
-use Rattle.cast_delay.specs.Ready.{Process, is_cut_by, is_open_to, is_member, has_delivered, past_in, group_allows, has_turn, is_causally_ready, is_ready}
+use Rattle.cast_ready.specs.declared.turn.Turn.{Turn}
+use Rattle.cast_ready.specs.declared.turn.Turn.TheVariants.{Holding, Following}
+use Rattle.cast_ready.specs.declared.gate.Gate.{Gate}
+use Rattle.cast_ready.specs.Ready.{Process, is_cut_by, is_open_to, is_member, has_delivered, past_in, group_allows, has_turn, is_causally_ready, is_ready}
 use Rattle.cast_delay.specs.Rule.{HappenedBefore, Allows, IsCutBy, IsOpenTo, MayBeDelivered, IsTurnOf, MayBeDeliveredInTurn, RuleInWords, TurnInWords}
 use Rattle.cast_delay.proofs.ListLemmas.{contains_cases, all_each, range_holds, holds_range}
 use Rattle.cast_delay.proofs.Counted.{past_spelled}

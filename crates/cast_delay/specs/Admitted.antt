@@ -8,7 +8,7 @@ use Rattle.cast_types.specs.declared.names.Proc.{Proc}
 use Rattle.cast_types.specs.declared.names.SiteNo.{SiteNo}
 use Rattle.cast_types.specs.Names.{proc_cmp, site_eq}
 use Rattle.cast_types.specs.Rising.{is_rising}
-use Rattle.cast_delay.specs.declared.row.Row.{Row}
+use Rattle.cast_ready.specs.declared.row.Row.{Row}
 use Rattle.cast_delay.specs.Queue.{row_of}
 
 -- rows by their processes

@@ -15,15 +15,15 @@ use Rattle.cast_message.specs.declared.message.Message.{Message}
 use Rattle.cast_message.specs.declared.message.Received.{Received}
 use Rattle.cast_message.specs.Bodies.{kind_of}
 use Rattle.cast_message.specs.Receipts.{messages, message_under}
-use Rattle.cast_delay.specs.declared.turn.Turn.{Turn}
-use Rattle.cast_delay.specs.declared.offered.Offered.{Offered}
-use Rattle.cast_delay.specs.declared.row.Row.{Row}
-use Rattle.cast_delay.specs.declared.row.ProcessUpdate.{ProcessUpdate}
-use Rattle.cast_delay.specs.declared.row.ProcessUpdate.TheVariants as fact
-use Rattle.cast_delay.specs.declared.gate.Gate.{Gate}
-use Rattle.cast_delay.specs.Ready.{Process, is_member, is_outside, has_delivered, awaits, turn_in, first_ready}
-use Rattle.cast_delay.specs.DeliveredCounts.{DeliveredCounts, count_at}
-use Rattle.cast_delay.specs.Rows.{gate_in, standing_in, done_in}
+use Rattle.cast_ready.specs.declared.turn.Turn.{Turn}
+use Rattle.cast_ready.specs.declared.offered.Offered.{Offered}
+use Rattle.cast_ready.specs.declared.row.Row.{Row}
+use Rattle.cast_ready.specs.declared.row.ProcessUpdate.{ProcessUpdate}
+use Rattle.cast_ready.specs.declared.row.ProcessUpdate.TheVariants as fact
+use Rattle.cast_ready.specs.declared.gate.Gate.{Gate}
+use Rattle.cast_ready.specs.Ready.{Process, is_member, is_outside, has_delivered, awaits, turn_in, first_ready}
+use Rattle.cast_ready.specs.DeliveredCounts.{DeliveredCounts, count_at}
+use Rattle.cast_ready.specs.Rows.{gate_in, standing_in, done_in}
 use Rattle.cast_delay.specs.Queue.{Queue, row_of}
 
 -- the message's time has its own view and its own count, from 1 on

@@ -13,14 +13,14 @@ use Rattle.cast_clock.specs.Times.{no_time}
 use Rattle.cast_message.specs.declared.message.Message.{Message}
 use Rattle.cast_message.specs.declared.message.Received.{Received}
 use Rattle.cast_message.specs.Receipts.{key_eq, message_under}
-use Rattle.cast_delay.specs.declared.turn.Turn.{Turn}
-use Rattle.cast_delay.specs.declared.row.Row.{Row}
-use Rattle.cast_delay.specs.declared.row.ProcessUpdate.{ProcessUpdate}
+use Rattle.cast_ready.specs.declared.turn.Turn.{Turn}
+use Rattle.cast_ready.specs.declared.row.Row.{Row}
+use Rattle.cast_ready.specs.declared.row.ProcessUpdate.{ProcessUpdate}
 use Rattle.cast_types.specs.Counts.{CountList}
-use Rattle.cast_delay.specs.declared.gate.Gate.{Gate}
-use Rattle.cast_delay.specs.Ready.{Process, open_gate, frozen_gate, pending_gate, has_delivered, awaits, is_causally_ready, is_ready}
-use Rattle.cast_delay.specs.Rows.{gate_in, told_row, is_causally_ready_row, is_ready_row, has_delivered_in, awaits_row}
-use Rattle.cast_delay.specs.Queue.{Queue, new_row, row_of, but_row, change_row, next_key, but_offered, queue_viewing, queue_delivering}
+use Rattle.cast_ready.specs.declared.gate.Gate.{Gate}
+use Rattle.cast_ready.specs.Ready.{Process, open_gate, frozen_gate, pending_gate, has_delivered, awaits, is_causally_ready, is_ready}
+use Rattle.cast_ready.specs.Rows.{gate_in, told_row, is_causally_ready_row, is_ready_row, has_delivered_in, awaits_row, new_row}
+use Rattle.cast_delay.specs.Queue.{Queue, row_of, but_row, change_row, next_key, but_offered, queue_viewing, queue_delivering}
 use Rattle.cast_delay.specs.Fits.{Fits, FirstReady, HasTurns, IsSound, HasNotEnded, HasNotBegun, offer_of, set_process, told, delivering, FactFits}
 
 -- by what the queue keeps of a process, a message is causally ready exactly if it is by what the process delivered

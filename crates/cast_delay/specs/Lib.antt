@@ -1,6 +1,3 @@
-pub mod Ready
-pub mod DeliveredCounts
-pub mod Rows
 pub mod Queue
 pub mod Admitted
 pub mod Fits

@@ -4,11 +4,11 @@ use Rattle.std.specs.List.{list_all}
 use Rattle.std.specs.Option.{option_map_or}
 use Rattle.cast_types.specs.declared.names.GroupNo.{GroupNo}
 use Rattle.cast_index.specs.Rises.{rises, all_below}
-use Rattle.cast_delay.specs.declared.gate.Gate.{Gate}
-use Rattle.cast_delay.specs.declared.row.Row.{Row}
-use Rattle.cast_delay.specs.declared.offered.Offered.{Offered}
-use Rattle.cast_delay.specs.declared.turn.Turn.{Turn}
-use Rattle.cast_delay.specs.Rows.{is_causally_ready_row, is_ready_row}
+use Rattle.cast_ready.specs.declared.gate.Gate.{Gate}
+use Rattle.cast_ready.specs.declared.row.Row.{Row}
+use Rattle.cast_ready.specs.declared.offered.Offered.{Offered}
+use Rattle.cast_ready.specs.declared.turn.Turn.{Turn}
+use Rattle.cast_ready.specs.Rows.{is_causally_ready_row, is_ready_row}
 use Rattle.cast_delay.specs.Queue.{offered_under}
 
 -- the number of a message's key

@@ -1,6 +1,6 @@
 -- The queue as contracts see it: gates of groups, messages in order of receipt, what is kept of each process, and what the
 -- processes have reached.
-use Rattle.std.specs.Prelude.{◌≡◌, ℕ, min, Bool, false, not, if◌then◌else◌, List, [], map, filter, Contains, Option, Some, None}
+use Rattle.std.specs.Prelude.{◌≡◌, ℕ, Bool, false, not, if◌then◌else◌, List, map, filter, Contains, Option, Some, None}
 use Rattle.std.specs.List.{fold, find, list_any}
 use Rattle.std.specs.Option.{option_map, option_map_or, option_and_then}
 use Rattle.std.specs.FinMap.Entries.{put}
@@ -11,14 +11,14 @@ use Rattle.cast_types.specs.declared.names.Uid.{Uid}
 use Rattle.cast_types.specs.declared.limits.TheConstants.{MAX_NUMBER}
 use Rattle.cast_types.specs.Names.{Entry, group_cmp, proc_eq}
 use Rattle.cast_message.specs.Receipts.{key_eq}
-use Rattle.cast_delay.specs.declared.turn.Turn.{Turn}
-use Rattle.cast_delay.specs.declared.row.Row.{Row}
-use Rattle.cast_delay.specs.declared.offered.Offered.{Offered}
-use Rattle.cast_delay.specs.declared.gate.Gate.{Gate}
-use Rattle.cast_delay.specs.Ready.{open_gate, is_member}
+use Rattle.cast_ready.specs.declared.turn.Turn.{Turn}
+use Rattle.cast_ready.specs.declared.row.Row.{Row}
+use Rattle.cast_ready.specs.declared.offered.Offered.{Offered}
+use Rattle.cast_ready.specs.declared.gate.Gate.{Gate}
+use Rattle.cast_ready.specs.Ready.{open_gate}
 use Rattle.cast_types.specs.Sources.{source, but_ended}
-use Rattle.cast_delay.specs.DeliveredCounts.{DeliveredCounts, raised_at}
-use Rattle.cast_delay.specs.Rows.{gate_in, standing_in, done_in, is_causally_ready_row, is_ready_row, has_delivered_in, passed_by, awaits_row, ended_row, delivered_row}
+use Rattle.cast_ready.specs.DeliveredCounts.{DeliveredCounts, raised_at}
+use Rattle.cast_ready.specs.Rows.{gate_in, is_causally_ready_row, is_ready_row, has_delivered_in, passed_by, lesser_by, awaits_row, ended_row, delivered_row}
 
 pub record Queue : Type 0 where
   pub gates : List (GroupNo × Gate)
@@ -26,9 +26,6 @@ pub record Queue : Type 0 where
   pub rows : List Row
   -- of each source the greatest count that was delivered here
   pub reached : DeliveredCounts
-
-abbrev pub new_row : Proc → Row
-new_row p = record { process = p; standings = []; time = []; done = [] }
 
 abbrev pub row_of : List Row → Proc → Option Row
 row_of rows p = find (λ r. proc_eq r.process p) rows
@@ -109,11 +106,6 @@ queue_delivering p key q =
 -- whether some process that is a member of the message's group has not delivered it
 abbrev pub is_awaited : List Row → Uid → Bool
 is_awaited rows id = list_any (λ row. awaits_row row id) rows
-
--- the lesser of a count and of how many messages of a process in a view of a group the row's process has delivered, where that
--- is a member of the group
-abbrev pub lesser_by : GroupNo → ℕ → Proc → ℕ → Row → ℕ
-lesser_by group view p least row = if is_member (standing_in row group) then min least (done_in row group view p) else least
 
 -- the least count of a process's messages of a view that each member of the group has delivered, MAX_NUMBER of no member
 abbrev pub least_in : List Row → GroupNo → ℕ → Proc → ℕ

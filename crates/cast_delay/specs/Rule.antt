@@ -10,11 +10,11 @@ use Rattle.cast_clock.specs.Times.{view_of, count_in, join, has_room}
 use Rattle.cast_clock.specs.Laws.{is_in_order}
 use Rattle.cast_message.specs.declared.message.Message.{Message}
 use Rattle.cast_message.specs.Bodies.{kind_of}
-use Rattle.cast_delay.specs.declared.turn.Turn.{Turn}
-use Rattle.cast_delay.specs.declared.turn.Turn.TheVariants.{Holding, Following}
+use Rattle.cast_ready.specs.declared.turn.Turn.{Turn}
+use Rattle.cast_ready.specs.declared.turn.Turn.TheVariants.{Holding, Following}
 use Rattle.cast_types.specs.Counts.{CountList, count_of}
-use Rattle.cast_delay.specs.declared.gate.Gate.{Gate}
-use Rattle.cast_delay.specs.Ready.{Process, is_causally_ready, is_ready}
+use Rattle.cast_ready.specs.declared.gate.Gate.{Gate}
+use Rattle.cast_ready.specs.Ready.{Process, is_causally_ready, is_ready}
 
 -- a message of a group that the time of m covers, other than m
 pub record HappenedBefore (m : Message) (h : GroupNo) (u : Uid) : Type 0 where

@@ -1,6 +1,6 @@
 -- What was looked at of the messages for each process, and which of these wait for which others.
-use Rattle.std.specs.Prelude.{◌≡◌, ◌⊎◌, ℕ, ◌+◌, ◌<◌, ◌≤◌, Bool, true, false, not, ◌&&◌, ◌==◌, nat_le, if◌then◌else◌, List, length, take, filter, Contains, Option, Some, None}
-use Rattle.std.specs.List.{list_any, find}
+use Rattle.std.specs.Prelude.{◌≡◌, ◌⊎◌, ℕ, ◌+◌, ◌<◌, ◌≤◌, Bool, true, false, not, ◌==◌, if◌then◌else◌, List, length, take, filter, Contains, Option, Some, None}
+use Rattle.std.specs.List.{find}
 use Rattle.std.specs.Option.{option_and_then}
 use Rattle.std.specs.Ordering.{nat_cmp}
 use Rattle.std.specs.BTreeSet.{contains}
@@ -9,33 +9,18 @@ use Rattle.cast_types.specs.declared.names.Proc.{Proc}
 use Rattle.cast_types.specs.declared.names.Key.{Key}
 use Rattle.cast_types.specs.declared.names.Uid.{Uid}
 use Rattle.cast_types.specs.Names.{proc_eq}
-use Rattle.cast_clock.specs.Times.{clock_of, view_of}
 use Rattle.cast_index.specs.Index.{has}
 use Rattle.cast_index.specs.Rises.{rises}
-use Rattle.cast_delay.specs.declared.gate.Gate.{Gate}
-use Rattle.cast_delay.specs.declared.row.Row.{Row}
-use Rattle.cast_delay.specs.declared.offered.Offered.{Offered}
+use Rattle.cast_ready.specs.declared.gate.Gate.{Gate}
+use Rattle.cast_ready.specs.declared.row.Row.{Row}
+use Rattle.cast_ready.specs.declared.offered.Offered.{Offered}
 use Rattle.cast_delay.specs.declared.looked.Looked.{Looked}
-use Rattle.cast_delay.specs.declared.row.ProcessUpdate.{ProcessUpdate}
-use Rattle.cast_delay.specs.declared.row.ProcessUpdate.TheVariants as fact
+use Rattle.cast_ready.specs.declared.row.ProcessUpdate.{ProcessUpdate}
+use Rattle.cast_ready.specs.declared.row.ProcessUpdate.TheVariants as fact
 use Rattle.cast_delay.specs.Settled.{AreSettled}
-use Rattle.cast_delay.specs.Rows.{gate_in, done_in, needed, awaits_row}
+use Rattle.cast_ready.specs.Rows.{done_in, awaits_now, holds_back}
 use Rattle.cast_delay.specs.Queue.{row_of, offered_under}
 use Rattle.cast_delay.specs.Offers.{key_of}
-
--- the row awaits the message of an id, whose view is the one that stands
-abbrev pub awaits_now : List (GroupNo × Gate) → Row → Uid → Bool
-awaits_now gates row u = awaits_row row u && (u.view == (gate_in gates u.group).number)
-
--- a message is to be delivered after that of an id: its time has the view of the id's group, and counts so many of the process
-abbrev pub is_after : Offered → Uid → Bool
-is_after o u =
-    (view_of o.times u.group == u.view)
-    && list_any (λ e. proc_eq e.0 u.proc && nat_le u.count (needed o.id u.group u.view e)) (clock_of o.times u.group).counts
-
--- and the row awaits that still
-abbrev pub holds_back : List (GroupNo × Gate) → Row → Offered → Uid → Bool
-holds_back gates row o u = is_after o u && awaits_now gates row u
 
 -- whether a key is awake
 abbrev pub is_awake : Looked → ℕ → Bool

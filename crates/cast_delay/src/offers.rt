@@ -5,13 +5,10 @@ ghost use Rattle.std.specs.Option.{option_copied, option_map};
 ghost use Rattle.cast_message.specs.Receipts.{key_eq};
 ghost use Rattle.cast_index.specs.Rises.{rises, all_below};
 ghost use Rattle.cast_delay.specs.Queue.{first_for, has_candidate, offered_under, but_offered};
-ghost use Rattle.cast_delay.specs.Rows.{is_causally_ready_row, is_ready_row};
+ghost use Rattle.cast_ready.specs.Rows.{is_causally_ready_row, is_ready_row};
 ghost use Rattle.cast_delay.specs.Offers.{key_of, none_of, is_ready_under, is_candidate_under, AreOrderly};
 
-use crate::gate::Gate;
-use crate::offered::Offered;
-use crate::row::Row;
-use crate::turn::Turn;
+use cast_ready::{Gate, Offered, Row, Turn};
 use cast_types::{GroupNo, Key, NoMemory, SortedMap};
 use std::alloc::Global;
 use std::collections::VecDeque;
@@ -28,8 +25,8 @@ pub struct Offers {
 
 impl Model for Offers {
     ghost use Rattle.std.specs.Prelude.{List};
-    ghost use Rattle.cast_delay.specs.declared.offered.Offered.{Offered};
-    ghost use Rattle.cast_delay.specs.Rows.{is_causally_ready_row, is_ready_row};
+    ghost use Rattle.cast_ready.specs.declared.offered.Offered.{Offered};
+    ghost use Rattle.cast_ready.specs.Rows.{is_causally_ready_row, is_ready_row};
     ghost use Rattle.cast_delay.specs.Offers.{AreOrderly};
 
     ghost Value = { List Offered };

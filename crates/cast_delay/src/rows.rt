@@ -3,13 +3,14 @@ ghost use Rattle.std.specs.Vec.{vec_capacity};
 ghost use Rattle.std.specs.Option.{option_copied};
 ghost use Rattle.std.specs.Ordering.{is_lt};
 ghost use Rattle.cast_types.specs.Names.{proc_cmp, site_eq};
-ghost use Rattle.cast_delay.specs.declared.row.Row.{Row};
-ghost use Rattle.cast_delay.specs.Queue.{new_row, row_of, but_row, change_row, after_delivery, is_awaited};
-ghost use Rattle.cast_delay.specs.Rows.{awaits_row, ended_row, told_row};
+ghost use Rattle.cast_ready.specs.declared.row.Row.{Row};
+ghost use Rattle.cast_delay.specs.Queue.{row_of, but_row, change_row, after_delivery, is_awaited};
+ghost use Rattle.cast_ready.specs.Rows.{new_row, awaits_row, ended_row, told_row};
 ghost use Rattle.cast_delay.specs.Admitted.{all_below, are_of, is_busy, is_idle, rise, site_with, AreMarks};
 
 use crate::offers::Offers;
-use crate::row::{ProcessUpdate, Row, copy_rows};
+use cast_ready::row::copy_rows;
+use cast_ready::{ProcessUpdate, Row};
 use cast_types::{GroupNo, Key, NoMemory, Proc, SiteNo, Uid};
 use std::alloc::Global;
 use std::marker::Model;
@@ -29,7 +30,7 @@ pub struct Rows {
 
 impl Model for Rows {
     ghost use Rattle.std.specs.Prelude.{List, ◌≡◌, true};
-    ghost use Rattle.cast_delay.specs.declared.row.Row.{Row};
+    ghost use Rattle.cast_ready.specs.declared.row.Row.{Row};
     ghost use Rattle.cast_delay.specs.Admitted.{are_of, rise, AreMarks};
 
     ghost Value = { List Row };

@@ -4,15 +4,14 @@ ghost use Rattle.std.specs.Option.{option_copied};
 ghost use Rattle.cast_types.specs.Names.{proc_eq};
 ghost use Rattle.cast_index.specs.Rises.{rises, all_below};
 ghost use Rattle.cast_delay.specs.Offers.{key_of};
-ghost use Rattle.cast_delay.specs.declared.offered.Offered.{Offered};
+ghost use Rattle.cast_ready.specs.declared.offered.Offered.{Offered};
 ghost use Rattle.cast_delay.specs.declared.looked.Looked.{Looked};
 ghost use Rattle.cast_delay.specs.Waits.{looked_of, IsKnown, AreKnown, AreLookedAt, AreSeen, AreToWake};
 
-use crate::gate::Gate;
 use crate::looked::Looked;
 use crate::offers::Offers;
-use crate::row::Row;
 use crate::rows::Rows;
+use cast_ready::{Gate, Row};
 use cast_types::{GroupNo, Key, NoMemory, Proc, SortedMap, Uid};
 use std::alloc::Global;
 use std::marker::Model;

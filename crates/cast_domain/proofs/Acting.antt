@@ -13,7 +13,7 @@ use Rattle.cast_types.specs.declared.limits.TheConstants.{MAX_NUMBER}
 use Rattle.cast_types.specs.Names.{Entry, group_eq, proc_eq, is_order}
 use Rattle.cast_types.proofs.Orders.{same_group, site_itself}
 use Rattle.cast_types.specs.Counts.{CountList}
-use Rattle.cast_delay.specs.Ready.{is_member}
+use Rattle.cast_ready.specs.Ready.{is_member}
 use Rattle.cast_message.specs.declared.message.Body.{Body}
 use Rattle.cast_message.specs.declared.message.Body.TheVariants as body
 use Rattle.cast_message.specs.declared.message.Message.{Message}

@@ -10,8 +10,8 @@ use Rattle.cast_clock.specs.Times.{view_of}
 use Rattle.cast_message.specs.declared.client.CastKind.{CastKind}
 use Rattle.cast_message.specs.declared.site.Change.TheVariants as change
 use Rattle.cast_message.specs.Placement.{Placement}
-use Rattle.cast_delay.specs.Ready.{is_member, is_outside}
-use Rattle.cast_delay.specs.declared.row.ProcessUpdate.TheVariants as fact
+use Rattle.cast_ready.specs.Ready.{is_member, is_outside}
+use Rattle.cast_ready.specs.declared.row.ProcessUpdate.TheVariants as fact
 use Rattle.cast_rules.specs.Rules.Asking.{request}
 use Rattle.cast_rules.specs.Rules.Room.{may_receive}
 use Rattle.cast_rules.specs.Rules.Sending.{send_message, may_raise}

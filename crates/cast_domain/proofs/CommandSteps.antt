@@ -20,7 +20,7 @@ use Rattle.cast_message.specs.declared.message.Received.{Received}
 use Rattle.cast_message.specs.Bodies.{kind_of}
 use Rattle.cast_message.specs.Receipts.{messages}
 use Rattle.cast_stable.specs.Acks.{others_in}
-use Rattle.cast_delay.specs.Ready.{is_member, has_delivered, awaits}
+use Rattle.cast_ready.specs.Ready.{is_member, has_delivered, awaits}
 use Rattle.std.specs.Option.{IsSome}
 use Rattle.cast_delay.specs.Queue.{delivered_in, row_of}
 use Rattle.cast_delay.specs.Fits.{IsSound}

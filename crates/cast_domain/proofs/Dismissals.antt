@@ -12,7 +12,7 @@ use Rattle.cast_message.specs.Placement.{Placement}
 use Rattle.cast_message.specs.declared.message.Body.TheVariants as body
 use Rattle.cast_message.specs.declared.message.Message.{Message}
 use Rattle.cast_message.specs.declared.message.Received.{Received}
-use Rattle.cast_delay.specs.declared.row.ProcessUpdate.TheVariants as fact
+use Rattle.cast_ready.specs.declared.row.ProcessUpdate.TheVariants as fact
 use Rattle.cast_delay.specs.Queue.{row_of}
 use Rattle.cast_rules.specs.Rules.Commands.{message_sent}
 use Rattle.cast_rules.specs.Rules.Sending.{may_raise, send_data}

@@ -14,9 +14,10 @@ use Rattle.cast_types.specs.Names.{group_eq, proc_eq}
 use Rattle.cast_types.specs.Sets.{is_among}
 use Rattle.cast_types.proofs.Orders.{same_group, same_proc, group_itself, site_itself}
 use Rattle.cast_message.specs.declared.site.Change.TheVariants as change
-use Rattle.cast_delay.specs.declared.row.Row.{Row}
-use Rattle.cast_delay.specs.Ready.{Process, is_outside}
-use Rattle.cast_delay.specs.Queue.{row_of, but_row, new_row}
+use Rattle.cast_ready.specs.declared.row.Row.{Row}
+use Rattle.cast_ready.specs.Ready.{Process, is_outside}
+use Rattle.cast_delay.specs.Queue.{row_of, but_row}
+use Rattle.cast_ready.specs.Rows.{new_row}
 use Rattle.cast_delay.proofs.Finds.{find_dropped, find_kept, find-append_none}
 use Rattle.cast_delay.proofs.Queues.{dismiss_fits}
 use Rattle.cast_quota.specs.Quotas.{is_in_range}

@@ -20,10 +20,10 @@ use Rattle.cast_clock.proofs.Raised.{enter_leaves}
 use Rattle.cast_types.specs.Counts.{CountList, count_of}
 use Rattle.cast_message.specs.Membership.{Membership, is_members}
 use Rattle.cast_types.specs.Rising.{is_rising}
-use Rattle.cast_delay.specs.declared.row.Row.{Row}
-use Rattle.cast_delay.specs.declared.row.ProcessUpdate.TheVariants as fact
-use Rattle.cast_delay.specs.Ready.{Process, is_outside}
-use Rattle.cast_delay.specs.Rows.{standing_in, told_row}
+use Rattle.cast_ready.specs.declared.row.Row.{Row}
+use Rattle.cast_ready.specs.declared.row.ProcessUpdate.TheVariants as fact
+use Rattle.cast_ready.specs.Ready.{Process, is_outside}
+use Rattle.cast_ready.specs.Rows.{standing_in, told_row}
 use Rattle.cast_delay.specs.Queue.{row_of}
 use Rattle.cast_domain.specs.declared.record.GroupRecord.{GroupRecord}
 use Rattle.cast_order.specs.Log.{Log, log_of, but_log}

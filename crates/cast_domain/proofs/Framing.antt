@@ -27,12 +27,12 @@ use Rattle.cast_stable.specs.Acks.{is_received_in}
 use Rattle.cast_stable.proofs.Meanings.{stable_meant}
 use Rattle.std.specs.Prelude.{IsSome}
 use Rattle.std.proofs.lemmas.Bool.{false≢true}
-use Rattle.cast_delay.specs.Ready.{Process, frozen_gate, pending_gate, is_member, is_outside}
+use Rattle.cast_ready.specs.Ready.{Process, frozen_gate, pending_gate, is_member, is_outside}
 use Rattle.cast_delay.proofs.Queues.{freeze_fits, pend_fits}
-use Rattle.cast_delay.specs.declared.row.Row.{Row}
+use Rattle.cast_ready.specs.declared.row.Row.{Row}
 use Rattle.cast_delay.specs.Queue.{row_of}
 use Rattle.cast_delay.specs.Fits.{IsSound, StandsFor}
-use Rattle.cast_delay.specs.declared.row.ProcessUpdate.TheVariants as fact
+use Rattle.cast_ready.specs.declared.row.ProcessUpdate.TheVariants as fact
 use Rattle.cast_timer.specs.declared.key.OwedKind.TheVariants.{Want}
 use Rattle.cast_timer.specs.Owed.{is_owed}
 use Rattle.cast_view.specs.declared.member.Pending.{Pending}

@@ -13,10 +13,10 @@ use Rattle.cast_types.specs.Sources.{source_of}
 use Rattle.cast_message.specs.declared.message.Received.{Received}
 use Rattle.cast_message.specs.Receipts.{key_eq}
 use Rattle.cast_store.specs.Ids.{IsKeptOf, IsLedBy}
-use Rattle.cast_delay.specs.declared.row.Row.{Row}
-use Rattle.cast_delay.specs.declared.offered.Offered.{Offered}
-use Rattle.cast_delay.specs.Ready.{is_member}
-use Rattle.cast_delay.specs.Rows.{standing_in, done_in, awaits_row}
+use Rattle.cast_ready.specs.declared.row.Row.{Row}
+use Rattle.cast_ready.specs.declared.offered.Offered.{Offered}
+use Rattle.cast_ready.specs.Ready.{is_member}
+use Rattle.cast_ready.specs.Rows.{standing_in, done_in, awaits_row}
 use Rattle.cast_delay.specs.Queue.{is_awaited}
 use Rattle.cast_stable.specs.Acks.{Acks, is_stable_among, is_stable_in, others_in, told_count, least_acked}
 use Rattle.cast_rules.specs.Rules.Release as release

@@ -7,7 +7,7 @@ use Rattle.cast_types.specs.declared.names.Proc.{Proc}
 use Rattle.cast_types.specs.Names.{proc_eq}
 use Rattle.cast_types.specs.Sets.{is_among}
 use Rattle.cast_types.specs.declared.refusal.Refusal.TheVariants.{NotMember, Flushing, OwnAbcast, NotHolder, HeldFull}
-use Rattle.cast_delay.specs.Ready.{is_member}
+use Rattle.cast_ready.specs.Ready.{is_member}
 use Rattle.cast_order.specs.Log.{hand_here, log_of}
 use Rattle.cast_view.specs.MemberSide.{members_of}
 use Rattle.cast_rules.specs.Rules.Room.{may_order}

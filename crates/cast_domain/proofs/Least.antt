@@ -10,9 +10,9 @@ use Rattle.cast_types.specs.declared.names.Proc.{Proc}
 use Rattle.cast_types.specs.Names.{Entry, named}
 use Rattle.cast_types.specs.Counts.{CountList}
 use Rattle.cast_types.proofs.Bools.{same_bools}
-use Rattle.cast_delay.specs.declared.row.Row.{Row}
-use Rattle.cast_delay.specs.Ready.{is_member, first_of, covered}
-use Rattle.cast_delay.specs.Rows.{standing_in, done_in, awaits_row}
+use Rattle.cast_ready.specs.declared.row.Row.{Row}
+use Rattle.cast_ready.specs.Ready.{is_member, first_of, covered}
+use Rattle.cast_ready.specs.Rows.{standing_in, done_in, awaits_row}
 use Rattle.cast_delay.specs.Queue.{is_awaited, least_in}
 use Rattle.cast_domain.specs.declared.record.GroupRecord.{GroupRecord}
 

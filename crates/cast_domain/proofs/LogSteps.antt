@@ -19,14 +19,14 @@ use Rattle.cast_message.specs.declared.message.Body.TheVariants as body
 use Rattle.cast_message.specs.declared.message.Message.{Message}
 use Rattle.cast_message.specs.Bodies.{kind_of}
 use Rattle.cast_message.specs.Placement.{Placement}
-use Rattle.cast_delay.specs.Ready.{Process, is_member, has_delivered}
+use Rattle.cast_ready.specs.Ready.{Process, is_member, has_delivered}
 use Rattle.cast_order.specs.Hand.{Hand, held, told, FitsHand}
 use Rattle.cast_order.specs.Log.{Log, log_of, change_log, next_in, passed, hand_here, with_hand}
 use Rattle.cast_order.specs.Fits.{Fits as OrderFits, FitsClosed}
 use Rattle.cast_order.proofs.Meanings.{pass_fits, hand_fits, more_fits}
 use Rattle.cast_order.proofs.Closed.{closed_pass, closed_more, closed_hand}
 use Rattle.cast_order.proofs.Logs.{log_of_change}
-use Rattle.cast_delay.specs.Ready.{is_cut_by, is_open_to}
+use Rattle.cast_ready.specs.Ready.{is_cut_by, is_open_to}
 use Rattle.cast_view.specs.declared.member.Pending.{Pending}
 use Rattle.cast_view.specs.MemberSide.{is_pending, is_process}
 use Rattle.cast_rules.specs.Acts.Act.{Delivered}

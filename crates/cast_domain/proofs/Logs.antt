@@ -25,7 +25,7 @@ use Rattle.cast_message.specs.Tail.{Tail}
 use Rattle.cast_types.specs.Counts.{is_within}
 use Rattle.cast_stable.specs.Stable.{Acked, has_acked, stable_upto}
 use Rattle.cast_stable.proofs.Greatest.{stable_greatest}
-use Rattle.cast_delay.specs.Ready.{has_delivered}
+use Rattle.cast_ready.specs.Ready.{has_delivered}
 use Rattle.cast_types.proofs.Contains.{contains_here, contains_later}
 use Rattle.cast_order.specs.Order.{Facts, facts_of, known_order, Listing, closed_order}
 use Rattle.cast_order.specs.Hand.{Hand, placed, held, new_hand, FitsHand}

@@ -21,9 +21,9 @@ use Rattle.cast_message.specs.declared.message.Received.{Received}
 use Rattle.cast_stable.specs.Stable.{stable_upto, was_told, is_known_stable}
 use Rattle.cast_stable.specs.Acks.{upto_in}
 use Rattle.cast_stable.proofs.Meanings.{upto_meant}
-use Rattle.cast_delay.specs.declared.turn.Turn.{Turn}
-use Rattle.cast_delay.specs.declared.turn.Turn.TheVariants.{Holding, Following}
-use Rattle.cast_delay.specs.Ready.{Process, has_delivered, turn_in, is_member}
+use Rattle.cast_ready.specs.declared.turn.Turn.{Turn}
+use Rattle.cast_ready.specs.declared.turn.Turn.TheVariants.{Holding, Following}
+use Rattle.cast_ready.specs.Ready.{Process, has_delivered, turn_in, is_member}
 use Rattle.cast_delay.specs.Queue.{row_of, passed_in, delivered_in}
 use Rattle.cast_types.proofs.Contains.{contains_here, contains_later}
 use Rattle.cast_delay.proofs.Queues.{delivered_rules, passed_next}

@@ -18,7 +18,7 @@ use Rattle.cast_types.specs.Stamps.{ClockList}
 use Rattle.cast_types.proofs.Orders.{proc_total, proc_exact, tie_same, same_uid}
 use Rattle.cast_clock.specs.Times.{clock_of, view_of, count_in, join_counts, join_clocks, join}
 use Rattle.cast_clock.proofs.Joins.{clock_of-join}
-use Rattle.cast_delay.specs.Ready.{Process, is_member}
+use Rattle.cast_ready.specs.Ready.{Process, is_member}
 use Rattle.cast_message.specs.declared.message.Message.{Message}
 use Rattle.cast_order.specs.Log.{Log}
 use Rattle.cast_rules.specs.State.{State, local, is_received, receiving, set_process}

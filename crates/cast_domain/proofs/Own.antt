@@ -11,7 +11,7 @@ use Rattle.cast_types.specs.Sources.{source}
 use Rattle.cast_types.proofs.Contains.{contains_here, contains_later}
 use Rattle.cast_types.proofs.Orders.{same_group, same_proc}
 use Rattle.cast_message.specs.Bodies.{kind_of}
-use Rattle.cast_delay.specs.Ready.{is_member}
+use Rattle.cast_ready.specs.Ready.{is_member}
 use Rattle.cast_delay.specs.Queue.{delivered_in}
 use Rattle.cast_view.specs.MemberSide.{has_view, is_current}
 use Rattle.cast_domain.specs.declared.record.GroupRecord.{GroupRecord}

@@ -12,8 +12,8 @@ use Rattle.cast_types.specs.Sets.{is_among}
 use Rattle.cast_types.specs.Counts.{CountList}
 use Rattle.cast_types.proofs.Bools.{and_none}
 use Rattle.cast_message.specs.Membership.{Membership, is_members}
-use Rattle.cast_delay.specs.declared.row.ProcessUpdate.TheVariants as fact
-use Rattle.cast_delay.specs.Ready.{is_member, is_outside}
+use Rattle.cast_ready.specs.declared.row.ProcessUpdate.TheVariants as fact
+use Rattle.cast_ready.specs.Ready.{is_member, is_outside}
 use Rattle.cast_delay.specs.Queue.{row_of}
 use Rattle.cast_domain.specs.declared.record.GroupRecord.{GroupRecord}
 use Rattle.cast_rules.specs.State.{State, local, serials, is_group, local_members, set_standing}

@@ -15,11 +15,11 @@ use Rattle.cast_types.specs.Sources.{source_of}
 use Rattle.cast_message.specs.declared.message.Message.{Message}
 use Rattle.cast_message.specs.declared.message.Received.{Received}
 use Rattle.cast_message.specs.Receipts.{key_eq, messages, message_under}
-use Rattle.cast_delay.specs.declared.row.Row.{Row}
-use Rattle.cast_delay.specs.declared.offered.Offered.{Offered}
-use Rattle.cast_delay.specs.declared.gate.Gate.{Gate}
-use Rattle.cast_delay.specs.Ready.{Process, is_member, has_delivered}
-use Rattle.cast_delay.specs.Rows.{standing_in, done_in}
+use Rattle.cast_ready.specs.declared.row.Row.{Row}
+use Rattle.cast_ready.specs.declared.offered.Offered.{Offered}
+use Rattle.cast_ready.specs.declared.gate.Gate.{Gate}
+use Rattle.cast_ready.specs.Ready.{Process, is_member, has_delivered}
+use Rattle.cast_ready.specs.Rows.{standing_in, done_in}
 use Rattle.cast_delay.specs.Queue.{Queue, row_of, is_awaited}
 use Rattle.cast_delay.specs.Fits.{HasNotEnded, Fits as QueueFits}
 use Rattle.cast_delay.proofs.Queues.{forget_fits, awaited_by}

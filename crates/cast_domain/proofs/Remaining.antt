@@ -12,11 +12,11 @@ use Rattle.cast_types.specs.declared.names.Standing.TheVariants.{Outside, Joinin
 use Rattle.cast_types.specs.Names.{site_eq}
 use Rattle.cast_clock.specs.Times.{entering}
 use Rattle.cast_message.specs.Membership.{Membership}
-use Rattle.cast_delay.specs.declared.offered.Offered.{Offered}
-use Rattle.cast_delay.specs.declared.row.Row.{Row}
-use Rattle.cast_delay.specs.declared.row.ProcessUpdate.{ProcessUpdate}
-use Rattle.cast_delay.specs.declared.row.ProcessUpdate.TheVariants as fact
-use Rattle.cast_delay.specs.Rows.{told_row, delivered_row}
+use Rattle.cast_ready.specs.declared.offered.Offered.{Offered}
+use Rattle.cast_ready.specs.declared.row.Row.{Row}
+use Rattle.cast_ready.specs.declared.row.ProcessUpdate.{ProcessUpdate}
+use Rattle.cast_ready.specs.declared.row.ProcessUpdate.TheVariants as fact
+use Rattle.cast_ready.specs.Rows.{told_row, delivered_row}
 use Rattle.cast_delay.specs.Queue.{change_row, offered_under, after_delivery}
 use Rattle.cast_delay.proofs.RowLemmas.{names_ended}
 use Rattle.cast_events.specs.declared.session.Status.{Status}

@@ -22,11 +22,11 @@ use Rattle.cast_types.proofs.Contains.{contains_here, contains_later}
 use Rattle.cast_types.proofs.Orders.{same_group, same_proc, same_uid, same_entry, group_itself, proc_itself, entry_itself, uid_itself}
 use Rattle.cast_message.specs.declared.message.Message.{Message}
 use Rattle.cast_view.specs.MemberSide.{greatest_of, counts_by, members_of, is_pending}
-use Rattle.cast_delay.specs.declared.row.Row.{Row}
-use Rattle.cast_delay.specs.Ready.{first_of, covered, is_member, has_delivered}
-use Rattle.cast_delay.specs.Rows.{standing_in, done_in, awaits_row}
+use Rattle.cast_ready.specs.declared.row.Row.{Row}
+use Rattle.cast_ready.specs.Ready.{first_of, covered, is_member, has_delivered}
+use Rattle.cast_ready.specs.Rows.{standing_in, done_in, awaits_row}
 use Rattle.cast_delay.specs.Queue.{is_awaited}
-use Rattle.cast_delay.specs.DeliveredCounts.{counts_in}
+use Rattle.cast_ready.specs.DeliveredCounts.{counts_in}
 use Rattle.cast_delay.proofs.Reached.{reached_most, reached_each}
 use Rattle.cast_message.specs.Receipts.{messages}
 use Rattle.cast_message.specs.Bodies.{kind_of}

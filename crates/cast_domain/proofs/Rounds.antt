@@ -17,9 +17,9 @@ use Rattle.cast_types.proofs.Iterates.{iterate_still}
 use Rattle.cast_message.specs.declared.message.Message.{Message}
 use Rattle.cast_message.specs.Membership.{Membership}
 use Rattle.cast_message.specs.Receipts.{message_under}
-use Rattle.cast_delay.specs.declared.row.Row.{Row}
-use Rattle.cast_delay.specs.Ready.{is_member}
-use Rattle.cast_delay.specs.Rows.{standing_in}
+use Rattle.cast_ready.specs.declared.row.Row.{Row}
+use Rattle.cast_ready.specs.Ready.{is_member}
+use Rattle.cast_ready.specs.Rows.{standing_in}
 use Rattle.cast_delay.specs.Queue.{row_of, first_for}
 use Rattle.cast_rules.specs.State.{State, serials}
 use Rattle.cast_rules.specs.Rules.Release.{let_go}

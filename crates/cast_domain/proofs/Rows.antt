@@ -8,7 +8,7 @@ use Rattle.std.proofs.lemmas.Option.{none-some}
 use Rattle.cast_types.specs.declared.names.Proc.{Proc}
 use Rattle.cast_types.specs.Names.{site_eq, proc_eq}
 use Rattle.cast_types.proofs.Orders.{proc_itself}
-use Rattle.cast_delay.specs.declared.row.Row.{Row}
+use Rattle.cast_ready.specs.declared.row.Row.{Row}
 use Rattle.cast_delay.specs.Queue.{row_of}
 use Rattle.cast_rules.specs.State.{State, local, was_given}
 use Rattle.cast_rules.proofs.Totals.{In}

@@ -11,7 +11,7 @@ use Rattle.cast_clock.specs.Times.{count_in, bumped}
 use Rattle.cast_message.specs.declared.message.Body.TheVariants as body
 use Rattle.cast_message.specs.declared.message.Message.{Message}
 use Rattle.cast_message.specs.Placement.{Placement}
-use Rattle.cast_delay.specs.Ready.{is_member}
+use Rattle.cast_ready.specs.Ready.{is_member}
 use Rattle.cast_delay.specs.Queue.{row_of}
 use Rattle.cast_order.specs.Log.{next_places}
 use Rattle.cast_rules.specs.Rules.Room.{may_order}

@@ -6,7 +6,7 @@ use Rattle.std.specs.Option.{option_map}
 use Rattle.std.proofs.lemmas.Bool.{or_parts}
 use Rattle.std.proofs.lemmas.Option.{slice_get_cases}
 use Rattle.cast_types.specs.declared.names.Proc.{Proc}
-use Rattle.cast_delay.specs.declared.row.Row.{Row}
+use Rattle.cast_ready.specs.declared.row.Row.{Row}
 use Rattle.cast_delay.specs.Says.{SaysMayDeliver}
 use Rattle.cast_rules.specs.Rules.Rest.{deliver_all, settle}
 use Rattle.cast_domain.specs.Records.{Records}

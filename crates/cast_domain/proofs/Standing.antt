@@ -25,14 +25,14 @@ use Rattle.cast_message.specs.declared.message.Message.{Message}
 use Rattle.cast_message.specs.declared.site.SiteFrame.{SiteFrame}
 use Rattle.cast_message.specs.declared.client.Push.{Push}
 use Rattle.cast_message.specs.Membership.{Membership}
-use Rattle.cast_delay.specs.declared.row.Row.{Row}
-use Rattle.cast_delay.specs.declared.row.ProcessUpdate.{ProcessUpdate}
-use Rattle.cast_delay.specs.declared.row.ProcessUpdate.TheVariants as fact
-use Rattle.cast_delay.specs.declared.gate.Gate.{Gate}
-use Rattle.cast_delay.specs.Ready.{Process, open_gate, is_outside, has_delivered, is_member}
-use Rattle.cast_delay.specs.Rows.{gate_in, told_row}
+use Rattle.cast_ready.specs.declared.row.Row.{Row}
+use Rattle.cast_ready.specs.declared.row.ProcessUpdate.{ProcessUpdate}
+use Rattle.cast_ready.specs.declared.row.ProcessUpdate.TheVariants as fact
+use Rattle.cast_ready.specs.declared.gate.Gate.{Gate}
+use Rattle.cast_ready.specs.Ready.{Process, open_gate, is_outside, has_delivered, is_member}
+use Rattle.cast_ready.specs.Rows.{gate_in, told_row, new_row}
 use Rattle.std.specs.FinMap.Entries.{put}
-use Rattle.cast_delay.specs.Queue.{new_row, row_of, change_row, queue_viewing}
+use Rattle.cast_delay.specs.Queue.{row_of, change_row, queue_viewing}
 use Rattle.cast_message.specs.declared.message.Received.{Received}
 use Rattle.cast_message.specs.Receipts.{key_eq, message_under}
 use Rattle.cast_stable.specs.Acks.{new_ledger, told_ledger, received_ledger}

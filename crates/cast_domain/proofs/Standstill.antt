@@ -15,7 +15,7 @@ use Rattle.cast_message.specs.declared.message.Body.{Body}
 use Rattle.cast_message.specs.declared.message.Body.TheVariants as body
 use Rattle.cast_message.specs.declared.message.Message.{Message}
 use Rattle.cast_message.specs.Bodies.{kind_of}
-use Rattle.cast_delay.specs.Ready.{Process, is_member, has_delivered}
+use Rattle.cast_ready.specs.Ready.{Process, is_member, has_delivered}
 use Rattle.cast_delay.specs.Queue.{row_of}
 use Rattle.cast_delay.proofs.ListLemmas.{list_any-append}
 use Rattle.cast_delay.proofs.Queues.{delivered_by}
@@ -27,7 +27,7 @@ use Rattle.cast_rules.specs.History.{history}
 use Rattle.cast_domain.specs.declared.record.GroupRecord.{GroupRecord}
 use Rattle.cast_types.specs.Names.{named}
 use Rattle.cast_timer.specs.declared.key.OwedKind.TheVariants.{Want}
-use Rattle.cast_delay.specs.Ready.{covered}
+use Rattle.cast_ready.specs.Ready.{covered}
 use Rattle.cast_view.specs.MemberSide.{is_pending}
 use Rattle.cast_rules.specs.State.{State, local, serials, gate_of, with_delivery, abcasts_with}
 use Rattle.cast_rules.specs.Order.{holders, told_by}

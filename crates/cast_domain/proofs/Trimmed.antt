@@ -13,7 +13,7 @@ use Rattle.cast_types.specs.Sets.{is_among}
 use Rattle.cast_types.proofs.Orders.{same_group, same_entry, site_itself}
 use Rattle.cast_clock.specs.Times.{count_in}
 use Rattle.cast_message.proofs.Places.{position_or_len_found, position_or_len_within}
-use Rattle.cast_delay.specs.Ready.{is_member, has_delivered}
+use Rattle.cast_ready.specs.Ready.{is_member, has_delivered}
 use Rattle.cast_delay.proofs.Finds.{none_before}
 use Rattle.cast_delay.proofs.Queues.{member_admitted}
 use Rattle.cast_order.specs.Log.{Log, log_of, change_in, oldest_in, forgot}

@@ -17,11 +17,11 @@ use Rattle.cast_types.specs.Repeat.{iterate}
 use Rattle.cast_message.specs.declared.message.Message.{Message}
 use Rattle.cast_message.specs.Bodies.{kind_of}
 use Rattle.cast_message.specs.declared.client.Push.{Push}
-use Rattle.cast_delay.specs.declared.row.Row.{Row}
-use Rattle.cast_delay.specs.declared.offered.Offered.{Offered}
-use Rattle.cast_delay.specs.Ready.{is_open_to, is_member, is_outside, has_delivered, is_causally_ready, is_ready, first_ready, has_turn}
-use Rattle.cast_delay.specs.declared.turn.Turn.TheVariants.{Holding, Following}
-use Rattle.cast_delay.specs.Rows.{delivered_row}
+use Rattle.cast_ready.specs.declared.row.Row.{Row}
+use Rattle.cast_ready.specs.declared.offered.Offered.{Offered}
+use Rattle.cast_ready.specs.Ready.{is_open_to, is_member, is_outside, has_delivered, is_causally_ready, is_ready, first_ready, has_turn}
+use Rattle.cast_ready.specs.declared.turn.Turn.TheVariants.{Holding, Following}
+use Rattle.cast_ready.specs.Rows.{delivered_row}
 use Rattle.cast_delay.specs.Queue.{row_of, change_row, offered_under, after_delivery, queue_delivering, passed_in}
 use Rattle.cast_message.specs.declared.message.Received.{Received}
 use Rattle.cast_message.specs.Receipts.{messages, message_under}

@@ -33,15 +33,15 @@ use Rattle.cast_message.specs.Tail.{Tail}
 use Rattle.cast_message.specs.Placement.{Placement}
 use Rattle.cast_message.specs.KeptIds.{KeptList}
 use Rattle.cast_flush.specs.declared.report.Report.{Report}
-use Rattle.cast_delay.specs.Ready.{frozen_gate, pending_gate, is_member, first_of, covered}
-use Rattle.cast_delay.specs.DeliveredCounts.{counts_in}
-use Rattle.cast_delay.specs.declared.turn.Turn.{Turn}
-use Rattle.cast_delay.specs.declared.turn.Turn.TheVariants.{Holding, Following}
+use Rattle.cast_ready.specs.Ready.{frozen_gate, pending_gate, is_member, first_of, covered}
+use Rattle.cast_ready.specs.DeliveredCounts.{counts_in}
+use Rattle.cast_ready.specs.declared.turn.Turn.{Turn}
+use Rattle.cast_ready.specs.declared.turn.Turn.TheVariants.{Holding, Following}
 use Rattle.cast_delay.specs.Fits.{offer_of}
-use Rattle.cast_delay.specs.Rows.{standing_in, told_row}
-use Rattle.cast_delay.specs.declared.row.ProcessUpdate.{ProcessUpdate}
-use Rattle.cast_delay.specs.declared.row.ProcessUpdate.TheVariants as fact
-use Rattle.cast_delay.specs.Queue.{Queue, new_row, row_of, but_row, change_row, next_key, queue_gating, queue_viewing, queue_delivering, is_awaited, delivered_in, passed_in}
+use Rattle.cast_ready.specs.Rows.{standing_in, told_row, new_row}
+use Rattle.cast_ready.specs.declared.row.ProcessUpdate.{ProcessUpdate}
+use Rattle.cast_ready.specs.declared.row.ProcessUpdate.TheVariants as fact
+use Rattle.cast_delay.specs.Queue.{Queue, row_of, but_row, change_row, next_key, queue_gating, queue_viewing, queue_delivering, is_awaited, delivered_in, passed_in}
 use Rattle.cast_order.specs.Hand.{Hand, held, handed, told, noted, settled_by}
 use Rattle.cast_order.specs.Log.{Log, log_of, change_log, but_log, learnt, next_in, passed, hand_here, with_hand, next_places, places_by, known_past, length_of, closed_by, whole_kept, tail_start_in, tail_ids_in}
 use Rattle.cast_stable.specs.Acks.{others_in, last_received_in, is_received_in, has_acked_in, upto_in, is_stable_in, told_ledger, received_ledger, acked_ledger, learnt_ledger}

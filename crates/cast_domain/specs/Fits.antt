@@ -11,8 +11,8 @@ use Rattle.cast_types.specs.declared.names.Uid.{Uid}
 use Rattle.cast_types.specs.Names.{Entry, site_eq, uid_eq, entry_eq, named}
 use Rattle.cast_types.specs.Sets.{is_among}
 use Rattle.cast_clock.specs.Times.{count_in}
-use Rattle.cast_delay.specs.declared.gate.Gate.{Gate}
-use Rattle.cast_delay.specs.Ready.{Process, is_member, has_delivered}
+use Rattle.cast_ready.specs.declared.gate.Gate.{Gate}
+use Rattle.cast_ready.specs.Ready.{Process, is_member, has_delivered}
 use Rattle.cast_delay.specs.Queue.{Queue, row_of}
 use Rattle.cast_delay.specs.Fits.{HasNotBegun, Fits as QueueFits}
 use Rattle.cast_message.specs.Receipts.{messages, message_under}

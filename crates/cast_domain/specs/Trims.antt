@@ -5,7 +5,7 @@ use Rattle.cast_types.specs.declared.names.Uid.{Uid}
 use Rattle.cast_types.specs.Names.{Entry, site_eq, uid_eq, named}
 use Rattle.cast_clock.specs.Times.{count_in}
 use Rattle.cast_message.specs.declared.message.Received.{Received}
-use Rattle.cast_delay.specs.Ready.{is_member}
+use Rattle.cast_ready.specs.Ready.{is_member}
 use Rattle.cast_order.specs.Log.{change_in, oldest_in, forgot}
 use Rattle.cast_domain.specs.declared.record.GroupRecord.{GroupRecord}
 use Rattle.cast_domain.specs.Records.{Records}

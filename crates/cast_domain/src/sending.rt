@@ -3,7 +3,7 @@ use crate::keys::message_key;
 use crate::lent::Lent;
 use crate::order::learn;
 use cast_clock::{ClockFault, Times};
-use cast_delay::ProcessUpdate;
+use cast_ready::ProcessUpdate;
 use cast_message::{Body, Message, Placement};
 use cast_timer::OwedKind;
 use cast_types::limits::MAX_NUMBER;

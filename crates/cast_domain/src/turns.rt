@@ -1,5 +1,5 @@
 ghost use Rattle.std.specs.Prelude.{◌≡◌, true, false};
-ghost use Rattle.cast_delay.specs.Ready.{is_member};
+ghost use Rattle.cast_ready.specs.Ready.{is_member};
 
 use crate::domain::Domain;
 use crate::record::GroupRecord;

@@ -6,7 +6,7 @@ use crate::lent::Lent;
 use crate::record::view_at;
 use crate::turns::is_member;
 use cast_clock::Times;
-use cast_delay::ProcessUpdate;
+use cast_ready::ProcessUpdate;
 use cast_message::{Membership, Push, SiteFrame};
 use cast_store::Kept;
 use cast_types::{GroupNo, Key, NoMemory, Proc, SiteNo, Standing, Uid};
@@ -20,7 +20,7 @@ impl Domain {
     ghost use Rattle.cast_rules.specs.Rules.Asking.{request};
     ghost use Rattle.cast_view.specs.MemberSide.{holder_at, is_taken_in};
     ghost use Rattle.cast_clock.specs.Times.{entering};
-    ghost use Rattle.cast_delay.specs.Ready.{is_member};
+    ghost use Rattle.cast_ready.specs.Ready.{is_member};
     ghost use Rattle.cast_rules.specs.Rules.Rest.{pass};
     ghost use Rattle.cast_rules.specs.Rules.Leaving.{tell};
     ghost use Rattle.cast_rules.specs.Rules.Views.{change_view, enter_and_tell, install, tell_out, tell_view};

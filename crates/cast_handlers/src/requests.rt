@@ -8,7 +8,7 @@ ghost use Rattle.cast_events.specs.declared.event.Outs.{Outs};
 ghost use Rattle.cast_rules.specs.Rules.Leaving.{tell};
 
 use crate::asking::is_from_home;
-use cast_delay::ProcessUpdate;
+use cast_ready::ProcessUpdate;
 use cast_domain::Domain;
 use cast_domain::keys::ask_key;
 use cast_domain::lent::Lent;

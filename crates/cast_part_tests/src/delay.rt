@@ -1,6 +1,7 @@
 use crate::messages::{GROUP, SENDER, atomic, causal, holds, id_of, time_at};
 use cast_clock::Times;
-use cast_delay::{Delay, ProcessUpdate, Turn};
+use cast_delay::Delay;
+use cast_ready::{ProcessUpdate, Turn};
 use cast_message::Message;
 use cast_types::{Counts, GroupNo, Key, NoMemory, Proc, SiteNo, Standing};
 use std::alloc::Global;

@@ -1,7 +1,8 @@
 use crate::messages::{GROUP, SENDER, holds, raise, stamp_of};
 use bytes::Bytes;
 use cast_clock::Times;
-use cast_delay::{Delay, ProcessUpdate};
+use cast_delay::Delay;
+use cast_ready::ProcessUpdate;
 use cast_message::{Body, Message, Payload};
 use cast_types::{GroupNo, Key, Proc, SiteNo, Standing, Uid};
 use std::alloc::Global;

@@ -3,7 +3,7 @@ ghost use Rattle.cast_domain.specs.Records.{Keeps, KeepsBeside, records_in, Make
 ghost use Rattle.cast_domain.specs.Calls.{records, record_at, resting_records, added_if, sets_order_in, note_delivery_in, raised_at, may_list_of, holds_here, holders_in, told_in};
 ghost use Rattle.std.specs.List.{fold};
 ghost use Rattle.cast_types.specs.Names.{entry_of};
-ghost use Rattle.cast_delay.specs.Ready.{is_member};
+ghost use Rattle.cast_ready.specs.Ready.{is_member};
 ghost use Rattle.cast_domain.specs.Flags.{lists_some, orders_at, orders_each, orders_some};
 ghost use Rattle.cast_rules.specs.Rules.Order.{may_list, send_places, set_order_by, set_order, set_orders};
 

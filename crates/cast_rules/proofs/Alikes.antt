@@ -17,7 +17,7 @@ use Rattle.cast_message.specs.declared.client.Push.TheVariants as push
 use Rattle.cast_message.specs.Membership.{Membership}
 use Rattle.cast_stable.specs.Stable.{Acked}
 use Rattle.cast_timer.specs.declared.key.Owed.{Owed}
-use Rattle.cast_delay.specs.Ready.{Process, is_outside}
+use Rattle.cast_ready.specs.Ready.{Process, is_outside}
 use Rattle.cast_view.specs.MemberSide.{MemberSide, with_view, with_request}
 use Rattle.cast_view.specs.Home.{is_empty}
 use Rattle.cast_types.specs.declared.names.Proc.{Proc}

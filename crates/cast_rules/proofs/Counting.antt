@@ -24,7 +24,7 @@ use Rattle.cast_clock.proofs.Raised.{join_is_time, bump_is_time, enter_is_time}
 use Rattle.cast_clock.proofs.Valid.{le_as, lt_as, lt_from, valid_counts, sorted_time, is_counts-clock_of, has_room-bumped}
 use Rattle.cast_message.specs.declared.message.Message.{Message}
 use Rattle.cast_types.specs.Rising.{is_rising}
-use Rattle.cast_delay.specs.Ready.{Process, first_of, covered, past_in, has_delivered}
+use Rattle.cast_ready.specs.Ready.{Process, first_of, covered, past_in, has_delivered}
 use Rattle.cast_delay.proofs.ListLemmas.{list_all-filter, list_all-map, list_all-flat_map, range_holds}
 use Rattle.cast_rules.specs.Raising.{IsTimeOf}
 

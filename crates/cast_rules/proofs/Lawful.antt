@@ -35,8 +35,8 @@ use Rattle.cast_types.specs.Rising.{is_rising}
 use Rattle.cast_stable.specs.Stable.{Acked}
 use Rattle.cast_timer.specs.declared.key.Owed.{Owed}
 use Rattle.cast_timer.specs.declared.key.OwedKey.{OwedKey}
-use Rattle.cast_delay.specs.declared.gate.Gate.{Gate}
-use Rattle.cast_delay.specs.Ready.{Process, is_open_to, is_member, is_outside, has_delivered, past_in, group_allows, is_causally_ready}
+use Rattle.cast_ready.specs.declared.gate.Gate.{Gate}
+use Rattle.cast_ready.specs.Ready.{Process, is_open_to, is_member, is_outside, has_delivered, past_in, group_allows, is_causally_ready}
 use Rattle.cast_delay.proofs.Delivers.{only_member}
 use Rattle.cast_delay.proofs.RowMeaning.{among_holds}
 use Rattle.cast_events.specs.Session.{Session, no_session, is_open, pushed_to, closed, taken_from}

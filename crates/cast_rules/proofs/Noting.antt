@@ -19,7 +19,7 @@ use Rattle.cast_message.specs.declared.client.Push.{Push}
 use Rattle.cast_message.specs.declared.client.Push.TheVariants as push
 use Rattle.cast_message.specs.Bodies.{kind_of}
 use Rattle.cast_message.specs.Membership.{Membership}
-use Rattle.cast_delay.specs.Ready.{Process, is_member}
+use Rattle.cast_ready.specs.Ready.{Process, is_member}
 use Rattle.cast_types.specs.declared.refusal.Refusal.{Refusal}
 use Rattle.cast_events.specs.Session.{is_open, is_gone, pushed_to, closed}
 use Rattle.cast_view.specs.declared.member.Pending.{Pending}

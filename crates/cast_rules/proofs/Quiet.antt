@@ -15,7 +15,7 @@ use Rattle.cast_message.specs.declared.message.Body.TheVariants as body
 use Rattle.cast_timer.specs.declared.key.OwedKey.{OwedKey}
 use Rattle.cast_timer.specs.declared.key.OwedKind.{OwedKind}
 use Rattle.cast_timer.specs.declared.key.OwedKind.TheVariants.{Prepare, Install}
-use Rattle.cast_delay.specs.Ready.{covered, is_member}
+use Rattle.cast_ready.specs.Ready.{covered, is_member}
 use Rattle.cast_message.specs.Placement.{Placement}
 use Rattle.cast_rules.specs.Order.{order_told, unlisted, has_place, holds, holders}
 use Rattle.cast_rules.specs.Rules.Room.{may_order}

@@ -28,8 +28,8 @@ use Rattle.cast_message.specs.declared.message.Body.{Body}
 use Rattle.cast_message.specs.declared.message.Message.{Message}
 use Rattle.cast_message.specs.Membership.{Membership, is_members, is_held}
 use Rattle.cast_types.specs.Rising.{is_rising}
-use Rattle.cast_delay.specs.declared.gate.Gate.{Gate}
-use Rattle.cast_delay.specs.Ready.{Process, is_open_to, is_member, is_outside, has_delivered, past_in, group_allows, is_causally_ready}
+use Rattle.cast_ready.specs.declared.gate.Gate.{Gate}
+use Rattle.cast_ready.specs.Ready.{Process, is_open_to, is_member, is_outside, has_delivered, past_in, group_allows, is_causally_ready}
 use Rattle.cast_delay.proofs.Delivers.{only_member}
 use Rattle.cast_delay.proofs.RowMeaning.{among_holds}
 use Rattle.cast_events.specs.Session.{is_open, first_session}

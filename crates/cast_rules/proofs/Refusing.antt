@@ -15,7 +15,7 @@ use Rattle.cast_message.specs.declared.client.Request.TheVariants.{Join, Leave, 
 use Rattle.cast_message.specs.declared.client.Push.TheVariants as push
 use Rattle.cast_message.specs.declared.client.Command.TheVariants as command
 use Rattle.cast_message.specs.declared.site.Change.TheVariants as change
-use Rattle.cast_delay.specs.Ready.{is_member, is_outside}
+use Rattle.cast_ready.specs.Ready.{is_member, is_outside}
 use Rattle.cast_view.specs.MemberSide.{members_of}
 use Rattle.cast_quota.specs.Quotas as quota
 use Rattle.cast_events.specs.declared.event.Event.TheVariants as event

@@ -14,7 +14,7 @@ use Rattle.cast_types.specs.Sets.{set_at}
 use Rattle.cast_types.proofs.Iterates.{iterate_still}
 use Rattle.cast_types.proofs.Orders.{same_group, group_itself}
 use Rattle.cast_message.specs.declared.message.Message.{Message}
-use Rattle.cast_delay.specs.Ready.{is_member, covered}
+use Rattle.cast_ready.specs.Ready.{is_member, covered}
 use Rattle.cast_types.specs.declared.names.SiteNo.{SiteNo}
 use Rattle.cast_types.specs.declared.limits.TheConstants.{MAX_NUMBER, MAX_PLACED}
 use Rattle.cast_types.specs.Names.{site_eq, site_cmp}

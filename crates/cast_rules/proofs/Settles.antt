@@ -9,7 +9,7 @@ use Rattle.cast_types.proofs.Iterates.{iterate_once, iterate_still}
 use Rattle.cast_clock.specs.Times.{join}
 use Rattle.cast_message.specs.declared.client.Push.{Push}
 use Rattle.cast_message.specs.declared.message.Message.{Message}
-use Rattle.cast_delay.specs.Ready.{Process, is_open_to, has_delivered, is_member, is_causally_ready}
+use Rattle.cast_ready.specs.Ready.{Process, is_open_to, has_delivered, is_member, is_causally_ready}
 use Rattle.cast_rules.specs.State.{State, gate_of, abcasts_with, with_delivery}
 use Rattle.cast_rules.specs.Turns.{is_ready_for}
 use Rattle.cast_rules.specs.Effects.{delivering}

@@ -12,7 +12,7 @@ use Rattle.cast_types.specs.Names.{group_eq}
 use Rattle.cast_types.specs.Sets.{set_at}
 use Rattle.cast_message.specs.declared.site.Change.TheVariants as change
 use Rattle.cast_message.specs.declared.client.Push.{Push}
-use Rattle.cast_delay.specs.Ready.{Process, is_member, is_outside}
+use Rattle.cast_ready.specs.Ready.{Process, is_member, is_outside}
 use Rattle.cast_rules.specs.State.{State, local, outside, is_filled, pushing, closing}
 use Rattle.cast_rules.specs.History.{history}
 use Rattle.cast_rules.specs.Rules.Asking.{request}

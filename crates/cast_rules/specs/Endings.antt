@@ -7,7 +7,7 @@ use Rattle.cast_types.specs.Names.{uid_eq, is_atomic}
 use Rattle.cast_types.specs.Repeat.{iterate}
 use Rattle.cast_message.specs.declared.message.Message.{Message}
 use Rattle.cast_message.specs.Bodies.{kind_of}
-use Rattle.cast_delay.specs.Ready.{has_delivered, covered}
+use Rattle.cast_ready.specs.Ready.{has_delivered, covered}
 use Rattle.cast_view.specs.declared.phase.Phase.{Phase}
 use Rattle.cast_view.specs.declared.phase.Phase.TheVariants.{Idle, Gathering, Installing}
 use Rattle.cast_view.specs.Home.{Home, is_empty}

@@ -11,7 +11,7 @@ use Rattle.cast_message.specs.Membership.{Membership}
 use Rattle.cast_message.specs.Tail.{Tail}
 use Rattle.cast_order.specs.Order.{closed_order}
 use Rattle.cast_view.specs.declared.member.Pending.{Pending}
-use Rattle.cast_delay.specs.Ready.{Process, is_member}
+use Rattle.cast_ready.specs.Ready.{Process, is_member}
 use Rattle.cast_view.specs.MemberSide.{frozen_side, with_pending, with_view, is_taken_in}
 use Rattle.cast_rules.specs.Acts.Act.{Entered, Left}
 use Rattle.cast_rules.specs.State.{State, local, set_group}

@@ -14,7 +14,7 @@ use Rattle.cast_message.specs.declared.site.SiteFrame.{SiteFrame}
 use Rattle.cast_message.specs.declared.site.SiteFrame.TheVariants as frame
 use Rattle.cast_types.specs.Rising.{is_rising}
 use Rattle.cast_message.specs.Membership.{is_members}
-use Rattle.cast_delay.specs.Ready.{is_member, is_outside, has_delivered}
+use Rattle.cast_ready.specs.Ready.{is_member, is_outside, has_delivered}
 use Rattle.cast_events.specs.declared.event.Event.{Event}
 use Rattle.cast_events.specs.declared.event.Event.TheVariants as event
 use Rattle.cast_view.specs.declared.member.Pending.{Pending}

@@ -11,7 +11,7 @@ use Rattle.cast_message.specs.declared.message.Body.{Body}
 use Rattle.cast_message.specs.declared.message.Body.TheVariants as body
 use Rattle.cast_message.specs.Bodies.{kind_of, new_holder}
 use Rattle.cast_order.specs.Order.{Facts, facts_of, known_order, place_after, still_to_list, Listing, last_listed, settled_places}
-use Rattle.cast_delay.specs.Ready.{has_delivered}
+use Rattle.cast_ready.specs.Ready.{has_delivered}
 use Rattle.cast_view.specs.Home.{is_empty}
 use Rattle.cast_view.specs.MemberSide.{holder_of, is_process, is_pending}
 use Rattle.cast_rules.specs.Acts.{Act}

@@ -16,7 +16,7 @@ use Rattle.cast_message.specs.declared.message.Message.{Message}
 use Rattle.cast_message.specs.declared.site.SiteFrame.{SiteFrame}
 use Rattle.cast_message.specs.declared.client.Push.{Push}
 use Rattle.cast_types.specs.Rising.{is_rising}
-use Rattle.cast_delay.specs.Ready.{is_member, is_outside, has_delivered}
+use Rattle.cast_ready.specs.Ready.{is_member, is_outside, has_delivered}
 use Rattle.cast_events.specs.declared.config.DomainConfig.{DomainConfig}
 use Rattle.cast_events.specs.declared.event.Event.{Event}
 use Rattle.cast_events.specs.declared.event.Taken.{Taken}

@@ -12,7 +12,7 @@ use Rattle.cast_message.specs.declared.message.Message.{Message}
 use Rattle.cast_message.specs.Bodies.{kind_of}
 use Rattle.cast_message.specs.Tail.{Tail}
 use Rattle.cast_message.specs.KeptIds.{KeptList}
-use Rattle.cast_delay.specs.Ready.{has_delivered, covered}
+use Rattle.cast_ready.specs.Ready.{has_delivered, covered}
 use Rattle.cast_order.specs.Order.{tail_start, tail_ids}
 use Rattle.cast_flush.specs.declared.report.Report.{Report}
 use Rattle.cast_view.specs.MemberSide.{report_of}

@@ -16,8 +16,8 @@ use Rattle.cast_message.specs.Bodies.{kind_of}
 use Rattle.cast_message.specs.declared.site.SiteFrame.{SiteFrame}
 use Rattle.cast_stable.specs.Stable.{Acked, stable_upto, is_known_stable}
 use Rattle.cast_timer.specs.declared.key.Owed.{Owed}
-use Rattle.cast_delay.specs.declared.gate.Gate.{Gate}
-use Rattle.cast_delay.specs.Ready.{Process, is_member, has_delivered, awaits}
+use Rattle.cast_ready.specs.declared.gate.Gate.{Gate}
+use Rattle.cast_ready.specs.Ready.{Process, is_member, has_delivered, awaits}
 use Rattle.cast_rules.specs.Acts.{Act}
 use Rattle.cast_rules.specs.Acts.Act.{Sent, Delivered, Left}
 use Rattle.cast_message.specs.declared.client.Push.{Push}

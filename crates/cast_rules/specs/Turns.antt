@@ -5,9 +5,9 @@ use Rattle.cast_types.specs.declared.limits.TheConstants.{MAX_UNSETTLED}
 use Rattle.cast_types.specs.Names.{named}
 use Rattle.cast_message.specs.declared.message.Message.{Message}
 use Rattle.cast_order.specs.Order.{next_of}
-use Rattle.cast_delay.specs.declared.turn.Turn.{Turn}
-use Rattle.cast_delay.specs.declared.turn.Turn.TheVariants.{Holding, Following}
-use Rattle.cast_delay.specs.Ready.{has_delivered, is_ready}
+use Rattle.cast_ready.specs.declared.turn.Turn.{Turn}
+use Rattle.cast_ready.specs.declared.turn.Turn.TheVariants.{Holding, Following}
+use Rattle.cast_ready.specs.Ready.{has_delivered, is_ready}
 use Rattle.cast_rules.specs.State.{State, gate_of}
 use Rattle.cast_rules.specs.Order.{order_of, order_by, unsettled, has_place, sets_order}
 use Rattle.cast_rules.specs.Rules.Room.{may_order}

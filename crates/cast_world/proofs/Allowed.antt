@@ -8,9 +8,9 @@ use Rattle.std.specs.List.{list_all, list_any, range_with_len}
 use Rattle.std.specs.Ordering.{eq_by_cmp}
 use Rattle.std.specs.Prelude.{◌+◌, ◌<◌, ◌==◌, Bool, Contains, List, [], cond, false, filter, map, not, refl, suc, take, true, zero, ◌||◌, ℕ, ◌∷◌, ◌≡◌, ◌≤◌}
 use Rattle.cast_clock.specs.Times.{clock_of, count_in, has_room, join, view_of}
-use Rattle.cast_delay.specs.Ready.{Process, covered, first_of, group_allows, has_delivered, has_turn, is_causally_ready, is_member, is_open_to, is_outside, is_ready, past_in}
-use Rattle.cast_delay.specs.declared.gate.Gate.{Gate}
-use Rattle.cast_delay.specs.declared.turn.Turn.{Turn}
+use Rattle.cast_ready.specs.Ready.{Process, covered, first_of, group_allows, has_delivered, has_turn, is_causally_ready, is_member, is_open_to, is_outside, is_ready, past_in}
+use Rattle.cast_ready.specs.declared.gate.Gate.{Gate}
+use Rattle.cast_ready.specs.declared.turn.Turn.{Turn}
 use Rattle.cast_message.specs.Bodies.{kind_of}
 use Rattle.cast_message.specs.declared.message.Message.{Message}
 use Rattle.cast_types.specs.Counts.{CountList, count_of}

@@ -5,7 +5,7 @@ use Rattle.std.proofs.lemmas.List.Elements.{Contains-push_cases, filter-append}
 use Rattle.std.proofs.lemmas.List.{length-append}
 use Rattle.std.specs.List.{AllByRecursion}
 use Rattle.std.specs.Prelude.{◌&&◌, ◌*◌, ◌+◌, ◌++◌, ◌<◌, ◌==◌, ◌||◌, Bool, Contains, List, None, Option, Some, [], cond, false, filter, if◌then◌else◌, length, nat_lt, not, refl, true, ℕ, ◌∷◌, ◌≡◌, ◌≤◌, ◌⊎◌}
-use Rattle.cast_delay.specs.Ready.{covered}
+use Rattle.cast_ready.specs.Ready.{covered}
 use Rattle.cast_order.proofs.Told.{order_in_words}
 use Rattle.cast_rules.specs.Effects.{next_message}
 use Rattle.cast_rules.specs.History.{history}

@@ -3,7 +3,7 @@ use Rattle.std.proofs.Common.{ap, append_assoc, arith, inl, inr, subst, sym, ◌
 use Rattle.std.proofs.lemmas.List.Elements.{Contains-append_cases, filter-append}
 use Rattle.std.proofs.lemmas.List.{append-nil, length-take-le, take-append-drop}
 use Rattle.std.specs.Prelude.{◌+◌, ◌++◌, Bool, Contains, IsTrue, List, Some, [], drop, false, filter, if◌then◌else◌, length, refl, take, true, ℕ, ◌∷◌, ◌≡◌, ◌≤◌, ◌⊎◌}
-use Rattle.cast_delay.specs.Ready.{has_delivered}
+use Rattle.cast_ready.specs.Ready.{has_delivered}
 use Rattle.cast_rules.specs.Order.{order_of, order_told}
 use Rattle.cast_rules.specs.State.{State, local}
 use Rattle.cast_rules.specs.Turns.{is_ready_for}

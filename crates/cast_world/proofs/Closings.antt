@@ -3,7 +3,7 @@
 use Rattle.std.proofs.Common.{ap, arith, inl, inr, subst, sym, ◌∙◌}
 use Rattle.std.proofs.lemmas.Bool.{true≢false}
 use Rattle.std.specs.Prelude.{◌+◌, ◌++◌, Bool, Contains, List, None, Option, Some, [], drop, false, filter, if◌then◌else◌, length, map, refl, true, unwrap_or, ℕ, ◌≡◌, ◌≤◌, ◌⊎◌}
-use Rattle.cast_delay.specs.Ready.{Process}
+use Rattle.cast_ready.specs.Ready.{Process}
 use Rattle.cast_flush.specs.declared.report.Report.{Report}
 use Rattle.cast_rules.specs.Acts.{Act}
 use Rattle.cast_rules.specs.Acts.Act.{Delivered, Entered, Left, Sent}

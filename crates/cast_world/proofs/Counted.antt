@@ -3,7 +3,7 @@ use Rattle.std.proofs.Common.{ap, arith, subst, sym, ◌∙◌}
 use Rattle.std.proofs.lemmas.List.Filters.{length-filter_both}
 use Rattle.std.proofs.lemmas.Bool.{and_parts, eqb-true, false≢true}
 use Rattle.std.specs.Prelude.{◌&&◌, ◌==◌, Bool, Contains, List, None, Option, Some, [], false, filter, length, map, not, refl, suc, true, zero, ℕ, ◌∷◌, ◌≡◌, ◌≤◌}
-use Rattle.cast_delay.specs.Ready.{covered}
+use Rattle.cast_ready.specs.Ready.{covered}
 use Rattle.cast_message.specs.declared.message.Message.{Message}
 use Rattle.cast_rules.specs.State.{State}
 use Rattle.cast_types.specs.Names.{entry_eq, entry_of, named, uid_eq}

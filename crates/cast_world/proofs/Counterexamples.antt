@@ -14,7 +14,7 @@ use Rattle.cast_types.specs.declared.names.Uid.{Uid}
 use Rattle.cast_world.specs.HappenedBefore.{HappenedBefore, IsDue, acts_of, edge}
 use Rattle.std.specs.List.{find, fold, list_any}
 use Rattle.std.specs.Prelude.{Bool, Contains, List, None, Some, [], false, filter, length, map, min, nat_lt, refl, slice_get, suc, true, zero, ℕ, ◌&&◌, ◌++◌, ◌+◌, ◌==◌, ◌||◌, ◌∷◌, ◌≡◌}
-use Rattle.cast_delay.specs.Ready.{Process, is_ready}
+use Rattle.cast_ready.specs.Ready.{Process, is_ready}
 use Rattle.cast_events.specs.declared.event.Event.{Event}
 use Rattle.cast_flush.specs.Reports.{Reports, greatest_count}
 use Rattle.cast_message.specs.declared.message.Message.{Message}

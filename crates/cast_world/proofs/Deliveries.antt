@@ -4,7 +4,7 @@ use Rattle.std.proofs.lemmas.Bool.{eq-eqb, eqb-true}
 use Rattle.std.proofs.lemmas.List.{append-nil}
 use Rattle.std.specs.Prelude.{◌&&◌, ◌+◌, ◌++◌, ◌==◌, Bool, List, [], cond, false, filter, if◌then◌else◌, refl, true, ℕ, ◌∷◌, ◌≡◌}
 use Rattle.cast_clock.specs.Times.{join, view_of}
-use Rattle.cast_delay.specs.Ready.{Process}
+use Rattle.cast_ready.specs.Ready.{Process}
 use Rattle.cast_rules.specs.Effects.{next_message}
 use Rattle.cast_rules.specs.Entering.{enters, in_view, is_put_out, parted, passing, putting_out}
 use Rattle.cast_rules.specs.History.{history}

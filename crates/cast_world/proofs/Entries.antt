@@ -6,7 +6,7 @@ use Rattle.std.proofs.lemmas.List.{append-nil}
 use Rattle.std.proofs.lemmas.List.Elements.{Contains-append_left}
 use Rattle.std.specs.List.{fold}
 use Rattle.std.specs.Prelude.{◌&&◌, ◌++◌, Bool, Contains, List, Some, [], false, if◌then◌else◌, is_some, refl, true, unwrap_or, ℕ, ◌∷◌, ◌≡◌}
-use Rattle.cast_delay.specs.Ready.{is_member}
+use Rattle.cast_ready.specs.Ready.{is_member}
 use Rattle.cast_rules.specs.Acts.{Act}
 use Rattle.cast_rules.specs.Acts.Act.{Delivered, Entered, Left, Sent}
 use Rattle.cast_rules.specs.Entering.{enters, in_view, is_put_out, passing, putting_out}

@@ -4,7 +4,7 @@ use Rattle.std.proofs.lemmas.Bool.{and_from, and_parts, eq-eqb, false≢true}
 use Rattle.std.specs.List.{find, fold, list_any}
 use Rattle.std.specs.Option.{option_map_or}
 use Rattle.std.specs.Prelude.{Bool, Contains, None, List, Option, Some, [], false, filter, if◌then◌else◌, is_some, length, not, refl, true, unwrap_or, ℕ, ◌&&◌, ◌||◌, ◌+◌, ◌==◌, ◌∷◌, ◌≡◌, ◌⊎◌}
-use Rattle.cast_delay.specs.Ready.{covered, is_member}
+use Rattle.cast_ready.specs.Ready.{covered, is_member}
 use Rattle.cast_rules.specs.Acts.Act.{Delivered}
 use Rattle.cast_rules.specs.Effects.{delivering, sending}
 use Rattle.cast_rules.specs.History.{history}

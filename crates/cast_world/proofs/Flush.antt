@@ -1,6 +1,6 @@
 -- What holds at every moment of a run of flushes, so that who passes to the next view delivered nothing beyond its cut.
 use Rattle.std.specs.Prelude.{◌+◌, ◌<◌, Contains, IsTrue, List, Some, true, ℕ, ◌≡◌, ◌≤◌, ◌⊎◌}
-use Rattle.cast_delay.specs.Ready.{Process}
+use Rattle.cast_ready.specs.Ready.{Process}
 use Rattle.cast_flush.specs.declared.report.Report.{Report}
 use Rattle.cast_rules.specs.Acts.{Act}
 use Rattle.cast_rules.specs.Acts.Act.{Delivered, Entered, Left, Sent}

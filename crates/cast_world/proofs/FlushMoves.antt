@@ -2,7 +2,7 @@
 use Rattle.std.proofs.Common.{ap, arith, inl, inr, subst, sym, ◌∙◌}
 use Rattle.std.proofs.lemmas.List.Elements.{Contains-append_left, Contains-push, Contains-push_cases}
 use Rattle.std.specs.Prelude.{◌+◌, ◌++◌, ◌<◌, Bool, Contains, IsTrue, List, [], false, if◌then◌else◌, true, ℕ, ◌∷◌, ◌≡◌, ◌≤◌, ◌⊎◌}
-use Rattle.cast_delay.specs.Ready.{is_member}
+use Rattle.cast_ready.specs.Ready.{is_member}
 use Rattle.cast_rules.specs.Acts.{Act}
 use Rattle.cast_rules.specs.Acts.Act.{Delivered, Entered, Left, Sent}
 use Rattle.cast_rules.specs.Entering.{all_parted, enters, is_put_out, passing, putting_out}

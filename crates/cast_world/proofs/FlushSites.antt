@@ -4,7 +4,7 @@ use Rattle.std.proofs.lemmas.Bool.{and_parts, eq-eqb, eqb-true, false≢true, or
 use Rattle.std.proofs.lemmas.List.Elements.{Contains-append_left, Contains-push_cases}
 use Rattle.std.specs.List.{flat_map, list_any}
 use Rattle.std.specs.Prelude.{◌&&◌, ◌+◌, ◌++◌, ◌<◌, ◌==◌, Bool, Contains, IsTrue, List, None, Option, Some, [], false, filter, if◌then◌else◌, is_some, map, not, refl, suc, true, ◌||◌, ℕ, ◌∷◌, ◌≡◌, ◌≤◌}
-use Rattle.cast_delay.specs.Ready.{Process, is_cut_by, is_member, is_open_to, is_outside}
+use Rattle.cast_ready.specs.Ready.{Process, is_cut_by, is_member, is_open_to, is_outside}
 use Rattle.cast_rules.specs.Acts.{Act}
 use Rattle.cast_rules.specs.Acts.Act.{Entered, Left, Sent}
 use Rattle.cast_rules.specs.Effects.{next_message}

@@ -6,7 +6,7 @@ use Rattle.std.specs.List.{find, fold, list_all, list_any}
 use Rattle.std.specs.Option.{option_map_or, option_or}
 use Rattle.std.specs.Prelude.{◌&&◌, ◌||◌, ◌+◌, ◌++◌, ◌<◌, ◌==◌, Bool, Contains, List, None, Option, Some, [], false, filter, if◌then◌else◌, length, map, min, nat_le, nat_lt, not, refl, true, unwrap_or, ℕ, ◌∷◌, ◌≡◌, ◌≤◌, ◌⊎◌}
 use Rattle.cast_clock.specs.Times.{view_of}
-use Rattle.cast_delay.specs.Ready.{is_member, is_outside}
+use Rattle.cast_ready.specs.Ready.{is_member, is_outside}
 use Rattle.cast_flush.specs.declared.report.Report.{Report}
 use Rattle.cast_rules.specs.Effects.{next_message}
 use Rattle.cast_rules.specs.Entering.{freezing, passing}

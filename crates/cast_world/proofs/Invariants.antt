@@ -1,7 +1,7 @@
 -- What holds at every moment of a run, so that the facts do: of one process, of one site, and of what is on the network.
 use Rattle.std.specs.Prelude.{◌+◌, ◌<◌, Contains, List, Some, false, true, ℕ, ◌≡◌, ◌≤◌}
 use Rattle.cast_clock.specs.Times.{view_of}
-use Rattle.cast_delay.specs.Ready.{Process, is_outside}
+use Rattle.cast_ready.specs.Ready.{Process, is_outside}
 use Rattle.cast_rules.specs.Acts.{Act}
 use Rattle.cast_rules.specs.Acts.Act.{Delivered, Sent}
 use Rattle.cast_rules.specs.State.{State}

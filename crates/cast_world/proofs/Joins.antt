@@ -2,7 +2,7 @@
 use Rattle.std.proofs.Common.{arith, inl, inr, subst, sym, ◌∙◌}
 use Rattle.std.specs.Prelude.{◌+◌, ◌++◌, Bool, None, Option, Some, [], false, if◌then◌else◌, refl, true, ℕ, ◌∷◌, ◌≡◌}
 use Rattle.cast_clock.specs.Times.{join, view_of}
-use Rattle.cast_delay.specs.Ready.{Process}
+use Rattle.cast_ready.specs.Ready.{Process}
 use Rattle.cast_rules.specs.Effects.{next_message}
 use Rattle.cast_rules.specs.Entering.{is_put_out, passing, putting_out}
 use Rattle.cast_rules.specs.Run.{after_event}

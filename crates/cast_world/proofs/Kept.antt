@@ -2,7 +2,7 @@
 use Rattle.std.proofs.Common.{inr}
 use Rattle.std.specs.Prelude.{◌+◌, ◌++◌, ◌<◌, Bool, Contains, List, Some, [], false, true, ℕ, ◌∷◌, ◌≡◌, ◌⊎◌}
 use Rattle.cast_clock.specs.Times.{view_of}
-use Rattle.cast_delay.specs.Ready.{is_member, is_outside}
+use Rattle.cast_ready.specs.Ready.{is_member, is_outside}
 use Rattle.cast_rules.specs.Effects.{next_message}
 use Rattle.cast_rules.specs.Entering.{freezing, passing, pending_install}
 use Rattle.cast_rules.specs.History.{history}

@@ -2,7 +2,7 @@
 use Rattle.std.proofs.Common.{ap, arith, inl, inr, subst}
 use Rattle.std.proofs.lemmas.Bool.{eqb-true}
 use Rattle.std.specs.Prelude.{◌+◌, ◌<◌, ◌==◌, Bool, Contains, List, false, if◌then◌else◌, refl, true, ℕ, ◌≡◌, ◌≤◌, ◌⊎◌}
-use Rattle.cast_delay.specs.Ready.{Process}
+use Rattle.cast_ready.specs.Ready.{Process}
 use Rattle.cast_rules.specs.Acts.{Act}
 use Rattle.cast_rules.specs.Acts.Act.{Sent}
 use Rattle.cast_rules.specs.State.{State}

@@ -4,7 +4,7 @@ use Rattle.std.proofs.lemmas.Bool.{cases_Bool, eq-eqb, eqb-true, false_from_ne_t
 use Rattle.std.proofs.lemmas.List.Elements.{Contains-push, Contains-push_cases}
 use Rattle.std.specs.Prelude.{◌+◌, ◌++◌, ◌<◌, Bool, Contains, IsTrue, List, [], false, if◌then◌else◌, refl, true, ℕ, ◌∷◌, ◌≡◌, ◌≤◌, ◌⊎◌, ◌≡◌}
 use Rattle.cast_clock.specs.Times.{bumped, count_in, entering, join, view_of}
-use Rattle.cast_delay.specs.Ready.{Process, is_outside}
+use Rattle.cast_ready.specs.Ready.{Process, is_outside}
 use Rattle.cast_rules.specs.Acts.{Act}
 use Rattle.cast_rules.specs.Acts.Act.{Delivered, Entered, Left, Sent}
 use Rattle.cast_message.specs.declared.message.Message.{Message}

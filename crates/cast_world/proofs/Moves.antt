@@ -4,7 +4,7 @@ use Rattle.std.proofs.lemmas.Bool.{eq-eqb, eqb-true, false≢true, true≢false}
 use Rattle.std.proofs.lemmas.List.Elements.{Contains-append_left, Contains-push, Contains-push_cases}
 use Rattle.std.specs.Prelude.{◌+◌, ◌++◌, ◌<◌, ◌==◌, Bool, Contains, List, [], false, if◌then◌else◌, not, refl, true, ℕ, ◌∷◌, ◌≡◌, ◌≤◌, ◌⊎◌}
 use Rattle.cast_clock.specs.Times.{count_in, join, view_of}
-use Rattle.cast_delay.specs.Ready.{Process, is_member, is_outside}
+use Rattle.cast_ready.specs.Ready.{Process, is_member, is_outside}
 use Rattle.cast_rules.specs.Acts.{Act}
 use Rattle.cast_rules.specs.Acts.Act.{Delivered, Entered, Left, Sent}
 use Rattle.cast_rules.specs.Effects.{next_message}

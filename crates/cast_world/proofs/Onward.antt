@@ -2,7 +2,7 @@
 use Rattle.std.proofs.Common.{arith, inl, inr, subst, sym, ◌∙◌}
 use Rattle.std.specs.Prelude.{◌<◌, Bool, List, false, if◌then◌else◌, refl, true, ℕ, ◌≡◌, ◌≤◌, ◌⊎◌}
 use Rattle.cast_clock.specs.Times.{entering, join, view_of}
-use Rattle.cast_delay.specs.Ready.{Process}
+use Rattle.cast_ready.specs.Ready.{Process}
 use Rattle.cast_rules.specs.Entering.{all_parted, completing, enters, in_view, parted}
 use Rattle.cast_rules.specs.State.{State, outside, set_process}
 use Rattle.cast_message.specs.Membership.{Membership}

@@ -4,7 +4,7 @@ use Rattle.std.proofs.Common.{ap, arith, inl, inr, subst, sym, ◌∙◌}
 use Rattle.std.proofs.lemmas.Bool.{false_from_ne_true, false≢true}
 use Rattle.std.proofs.lemmas.List.Elements.{Contains-append_left}
 use Rattle.std.specs.Prelude.{◌++◌, ◌<◌, Bool, Contains, None, [], false, if◌then◌else◌, is_some, length, refl, true, unwrap_or, ℕ, ◌∷◌, ◌≡◌, ◌≤◌}
-use Rattle.cast_delay.specs.Ready.{has_delivered}
+use Rattle.cast_ready.specs.Ready.{has_delivered}
 use Rattle.cast_rules.specs.Acts.{Act}
 use Rattle.cast_rules.specs.Acts.Act.{Delivered, Entered, Sent}
 use Rattle.cast_rules.specs.Entering.{enters, in_view, is_put_out, passing, putting_out}

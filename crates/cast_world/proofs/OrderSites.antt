@@ -5,7 +5,7 @@ use Rattle.std.proofs.lemmas.List.Elements.{Contains-append_left, Contains-push_
 use Rattle.std.proofs.lemmas.List.{length-append}
 use Rattle.std.specs.Prelude.{◌++◌, ◌==◌, Bool, Contains, List, Option, [], cond, false, if◌then◌else◌, is_some, length, refl, true, unwrap_or, ℕ, ◌∷◌, ◌≡◌, ◌≤◌, ◌⊎◌}
 use Rattle.cast_clock.specs.Times.{join}
-use Rattle.cast_delay.specs.Ready.{Process, is_member}
+use Rattle.cast_ready.specs.Ready.{Process, is_member}
 use Rattle.cast_rules.specs.Acts.{Act}
 use Rattle.cast_rules.specs.Acts.Act.{Delivered, Left}
 use Rattle.cast_rules.specs.Entering.{all_parted, parted}

@@ -4,8 +4,8 @@ use Rattle.std.proofs.Common.{ap, arith, inl, inr, subst, sym, ◌∙◌}
 use Rattle.std.proofs.lemmas.Bool.{and_parts, false≢true, ltb-true, true≢false}
 use Rattle.std.proofs.lemmas.List.{length-append}
 use Rattle.std.specs.Prelude.{◌&&◌, ◌+◌, ◌++◌, ◌<◌, ◌==◌, Bool, Contains, List, None, Option, Some, [], false, filter, if◌then◌else◌, length, nat_lt, not, refl, true, ◌||◌, ℕ, ◌∷◌, ◌≡◌, ◌≤◌}
-use Rattle.cast_delay.specs.Ready.{has_delivered, has_turn, is_causally_ready, is_cut_by, is_member, is_open_to}
-use Rattle.cast_delay.specs.declared.turn.Turn.TheVariants.{Following, Holding}
+use Rattle.cast_ready.specs.Ready.{has_delivered, has_turn, is_causally_ready, is_cut_by, is_member, is_open_to}
+use Rattle.cast_ready.specs.declared.turn.Turn.TheVariants.{Following, Holding}
 use Rattle.cast_rules.specs.History.{history}
 use Rattle.cast_rules.specs.Order.{facts_in, has_place, holds, is_of_view, order_by, order_of, order_told, told_by, unlisted, unsettled}
 use Rattle.cast_rules.specs.Rules.Room.{may_order}

@@ -1,7 +1,7 @@
 -- The order of a view's ABCASTs, at every moment. It is one list: a member has delivered a prefix of it, and who tells it has delivered all of it.
 -- Who has the token of the view tells it: first the process that the Install named, and then each to which the token was handed over.
 use Rattle.std.specs.Prelude.{◌+◌, ◌++◌, ◌<◌, Contains, List, None, Option, Some, [], false, filter, is_some, length, map, true, unwrap_or, ℕ, ◌∷◌, ◌≡◌, ◌≤◌, ◌⊎◌}
-use Rattle.cast_delay.specs.Ready.{Process}
+use Rattle.cast_ready.specs.Ready.{Process}
 use Rattle.cast_rules.specs.Acts.{Act}
 use Rattle.cast_rules.specs.Acts.Act.{Delivered, Sent}
 use Rattle.cast_rules.specs.Noted.{abcasts_by}

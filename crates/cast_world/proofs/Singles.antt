@@ -8,7 +8,7 @@ use Rattle.std.specs.FinMap.Entries.{is_sorted}
 use Rattle.std.specs.List.{AllByRecursion, list_any}
 use Rattle.std.specs.Prelude.{◌&&◌, ◌+◌, ◌++◌, ◌<◌, ◌==◌, Bool, Contains, List, [], cond, false, filter, if◌then◌else◌, length, not, refl, true, ℕ, ◌∷◌, ◌≡◌, ◌≤◌, ◌⊎◌}
 use Rattle.cast_clock.specs.Times.{bumped, count_in, entering, join, view_of}
-use Rattle.cast_delay.specs.Ready.{Process, is_member, is_outside}
+use Rattle.cast_ready.specs.Ready.{Process, is_member, is_outside}
 use Rattle.cast_rules.specs.Effects.{next_message}
 use Rattle.cast_rules.specs.Entering.{enters, in_view, is_put_out, parted, passing, putting_out}
 use Rattle.cast_rules.specs.Lawful.{IsTyped, IsTypedFrame}

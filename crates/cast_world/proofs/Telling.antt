@@ -5,7 +5,7 @@ use Rattle.std.proofs.lemmas.Bool.{cases_Bool, false≢true}
 use Rattle.std.specs.Option.{option_and_then, option_map, option_map_or}
 use Rattle.std.specs.List.{fold, list_any}
 use Rattle.std.specs.Prelude.{cond, map, nat_le, not, suc, zero, ◌⊎◌, ◌==◌, Bool, Contains, List, None, Option, Some, [], false, if◌then◌else◌, refl, true, ℕ, ◌∷◌, ◌≡◌}
-use Rattle.cast_delay.specs.Ready.{is_outside}
+use Rattle.cast_ready.specs.Ready.{is_outside}
 use Rattle.cast_rules.specs.History.{history}
 use Rattle.cast_rules.specs.Owing.{at_moment, next_due, noting_owed, paying}
 use Rattle.cast_rules.specs.Rules.Asking.{ask_home, request}

@@ -5,7 +5,7 @@ use Rattle.std.proofs.lemmas.List.Elements.{Contains-push_cases}
 use Rattle.std.specs.List.{list_any}
 use Rattle.std.specs.Prelude.{◌&&◌, ◌+◌, ◌++◌, ◌<◌, Bool, Contains, IsTrue, List, None, Option, Some, [], drop, false, if◌then◌else◌, is_some, not, refl, true, unwrap_or, ◌||◌, ℕ, ◌∷◌, ◌≡◌, ◌≤◌}
 use Rattle.cast_clock.specs.Times.{view_of}
-use Rattle.cast_delay.specs.Ready.{Process, covered, has_delivered, is_member, is_outside}
+use Rattle.cast_ready.specs.Ready.{Process, covered, has_delivered, is_member, is_outside}
 use Rattle.cast_rules.specs.Acts.{Act}
 use Rattle.cast_rules.specs.Acts.Act.{Entered}
 use Rattle.cast_rules.specs.Entering.{all_parted, completing, enters, freezing, in_view, is_put_out, parted, passing, pending_install, putting_out}

@@ -6,7 +6,7 @@ use Rattle.std.proofs.lemmas.List.Elements.{Contains-append_left, Contains-push_
 use Rattle.std.specs.List.{list_any}
 use Rattle.std.specs.Prelude.{◌&&◌, ◌+◌, ◌++◌, Bool, Contains, List, [], false, is_some, length, not, refl, suc, true, ◌||◌, ℕ, ◌∷◌, ◌≡◌, ◌≤◌, ◌⊎◌}
 use Rattle.cast_clock.specs.Times.{view_of}
-use Rattle.cast_delay.specs.Ready.{Process, is_member}
+use Rattle.cast_ready.specs.Ready.{Process, is_member}
 use Rattle.cast_rules.specs.Acts.{Act}
 use Rattle.cast_rules.specs.Acts.Act.{Sent}
 use Rattle.cast_rules.specs.Effects.{next_message}

@@ -7,7 +7,7 @@ use Rattle.cast_types.specs.declared.names.Uid.{Uid}
 use Rattle.cast_types.specs.declared.limits.TheConstants.{MAX_POSITION}
 use Rattle.cast_types.specs.Names.{entry_eq, entry_of, named, uid_eq}
 use Rattle.cast_types.specs.Sets.{is_among}
-use Rattle.cast_delay.specs.Ready.{covered}
+use Rattle.cast_ready.specs.Ready.{covered}
 use Rattle.cast_message.specs.declared.client.Push.{Push}
 use Rattle.cast_message.specs.declared.message.Message.{Message}
 use Rattle.cast_message.specs.declared.site.SiteFrame.{SiteFrame}

@@ -22,7 +22,7 @@ use Rattle.cast_message.specs.declared.client.Request.TheVariants.{Join, Leave, 
 use Rattle.cast_message.specs.declared.client.Push.TheVariants as push
 use Rattle.cast_message.specs.declared.client.Command.{Command}
 use Rattle.cast_message.specs.declared.client.Command.TheVariants as command
-use Rattle.cast_delay.specs.Ready.{is_member, is_outside}
+use Rattle.cast_ready.specs.Ready.{is_member, is_outside}
 use Rattle.cast_view.specs.MemberSide.{MemberSide, members_of}
 use Rattle.cast_rules.specs.Order.{told_by}
 use Rattle.cast_rules.specs.Rules.Interface.{Site}

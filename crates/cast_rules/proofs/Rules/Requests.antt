@@ -16,7 +16,7 @@ use Rattle.cast_types.specs.declared.names.Standing.{Standing}
 use Rattle.cast_types.specs.declared.names.Standing.TheVariants.{Outside, Joining, Member}
 use Rattle.cast_types.specs.declared.refusal.Refusal.TheVariants.{GroupFull}
 use Rattle.cast_message.specs.declared.client.Push.TheVariants as push
-use Rattle.cast_delay.specs.Ready.{is_outside}
+use Rattle.cast_ready.specs.Ready.{is_outside}
 use Rattle.std.proofs.lemmas.Bool.{false≢true}
 use Rattle.cast_rules.specs.Rules.Keys.{ask_key}
 use Rattle.cast_rules.specs.Rules.Interface.{Site}

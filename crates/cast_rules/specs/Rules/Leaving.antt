@@ -8,7 +8,7 @@ use Rattle.cast_types.specs.declared.refusal.Refusal.TheVariants.{NotMember, Slo
 use Rattle.cast_types.specs.declared.limits.TheConstants.{MAX_NUMBER}
 use Rattle.cast_message.specs.declared.site.Change.TheVariants as change
 use Rattle.cast_message.specs.declared.client.Push.{Push}
-use Rattle.cast_delay.specs.Ready.{is_outside}
+use Rattle.cast_ready.specs.Ready.{is_outside}
 use Rattle.cast_rules.specs.Rules.Interface.{Site}
 use Rattle.cast_rules.specs.Rules.Asking.{request}
 

@@ -4,7 +4,7 @@ use Rattle.std.specs.List.{fold}
 use Rattle.std.specs.Option.{option_map_or}
 use Rattle.cast_message.specs.declared.message.Body.TheVariants as body
 use Rattle.cast_message.specs.Placement.{Placement}
-use Rattle.cast_delay.specs.Ready.{is_member}
+use Rattle.cast_ready.specs.Ready.{is_member}
 use Rattle.cast_rules.specs.Rules.Interface.{Site, Resting}
 use Rattle.cast_rules.specs.Rules.Release.{let_go}
 use Rattle.cast_rules.specs.Rules.Room.{may_order}

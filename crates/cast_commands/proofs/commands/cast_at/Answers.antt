@@ -7,7 +7,7 @@ use Rattle.cast_types.specs.declared.limits.TheConstants.{MAX_PAYLOAD}
 use Rattle.cast_clock.specs.Times.{bumped, count_in}
 use Rattle.cast_message.specs.declared.message.Message.{Message}
 use Rattle.cast_rules.specs.Rules.Commands.{body_of}
-use Rattle.cast_delay.specs.Ready.{is_member}
+use Rattle.cast_ready.specs.Ready.{is_member}
 use Rattle.cast_rules.specs.Rules.Room.{may_receive}
 use Rattle.cast_rules.specs.Rules.Sending.{send_message, may_raise}
 use Rattle.cast_domain.specs.Records.{records_in}

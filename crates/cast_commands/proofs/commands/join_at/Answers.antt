@@ -5,8 +5,8 @@ use Rattle.cast_types.specs.declared.limits.TheConstants.{MAX_NUMBER}
 use Rattle.cast_types.specs.declared.names.Standing.TheVariants.{Joining}
 use Rattle.cast_clock.specs.Times.{view_of}
 use Rattle.cast_message.specs.declared.site.Change.TheVariants as change
-use Rattle.cast_delay.specs.Ready.{is_outside}
-use Rattle.cast_delay.specs.declared.row.ProcessUpdate.TheVariants as fact
+use Rattle.cast_ready.specs.Ready.{is_outside}
+use Rattle.cast_ready.specs.declared.row.ProcessUpdate.TheVariants as fact
 use Rattle.cast_rules.specs.Rules.Asking.{request}
 use Rattle.cast_domain.specs.Records.{records_in}
 use Rattle.cast_domain.specs.Calls.{record_at, records, tell_in, standing_of, time_of, local_in}

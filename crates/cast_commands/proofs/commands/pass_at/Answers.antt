@@ -7,7 +7,7 @@ use Rattle.cast_types.specs.declared.refusal.Refusal.TheVariants.{HeldFull}
 use Rattle.cast_clock.specs.Times.{bumped, count_in}
 use Rattle.cast_message.specs.declared.message.Body.TheVariants as body
 use Rattle.cast_message.specs.declared.message.Message.{Message}
-use Rattle.cast_delay.specs.Ready.{is_member}
+use Rattle.cast_ready.specs.Ready.{is_member}
 use Rattle.cast_order.specs.Log.{hand_here, log_of}
 use Rattle.cast_view.specs.MemberSide.{members_of}
 use Rattle.cast_rules.specs.Rules.Room.{may_order}

@@ -2,7 +2,7 @@ use Rattle.std.proofs.Common.{◌≡◌, ◌∙◌, None, sym, rules}
 use Rattle.std.specs.List.{position}
 use Rattle.cast_message.specs.Receipts.{key_eq}
 use Rattle.cast_index.proofs.Rises.{removed_is, one_less, none_less, none_fewer, none_removed}
-use Rattle.cast_delay.specs.declared.offered.Offered.{Offered}
+use Rattle.cast_ready.specs.declared.offered.Offered.{Offered}
 use Rattle.cast_delay.specs.Offers.{key_of}
 use Rattle.cast_delay.proofs.offers.forget_found.Goals as goal
 

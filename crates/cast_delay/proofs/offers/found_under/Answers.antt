@@ -2,7 +2,7 @@ use Rattle.std.proofs.Common.{◌≡◌, Some, None, rules}
 use Rattle.std.specs.List.{position}
 use Rattle.cast_message.specs.Receipts.{key_eq}
 use Rattle.cast_index.proofs.Rises.{found_at, not_found}
-use Rattle.cast_delay.specs.declared.offered.Offered.{Offered}
+use Rattle.cast_ready.specs.declared.offered.Offered.{Offered}
 use Rattle.cast_delay.specs.Offers.{key_of}
 use Rattle.cast_delay.proofs.offers.found_under.Goals as goal
 

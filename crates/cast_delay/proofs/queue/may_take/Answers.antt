@@ -1,6 +1,6 @@
 use Rattle.std.proofs.Common.{◌≡◌, true, false, sym, rules}
 use Rattle.std.specs.List.{list_any}
-use Rattle.cast_delay.specs.Rows.{is_causally_ready_row}
+use Rattle.cast_ready.specs.Rows.{is_causally_ready_row}
 use Rattle.cast_delay.specs.Offers.{is_candidate_under}
 use Rattle.cast_delay.proofs.Looks.{awake_any, unseen_any}
 use Rattle.cast_delay.proofs.queue.may_take.Goals as goal

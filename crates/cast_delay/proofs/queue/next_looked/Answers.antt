@@ -1,6 +1,6 @@
 use Rattle.std.proofs.Common.{◌≡◌, Some, None, sym, rules}
 use Rattle.std.specs.List.{find}
-use Rattle.cast_delay.specs.Rows.{is_ready_row}
+use Rattle.cast_ready.specs.Rows.{is_ready_row}
 use Rattle.cast_delay.specs.Offers.{is_ready_under}
 use Rattle.cast_delay.proofs.Behind.{only_causally}
 use Rattle.cast_delay.proofs.Looks.{awake_first, unseen_found}

@@ -1,5 +1,5 @@
 use Rattle.std.proofs.Common.{◌≡◌, ◌++◌, take, drop}
-use Rattle.cast_delay.specs.Rows.{delivered_row}
+use Rattle.cast_ready.specs.Rows.{delivered_row}
 use Rattle.cast_delay.specs.Queue.{change_row}
 use Rattle.cast_delay.proofs.rows.deliver_in.Given as goal
 

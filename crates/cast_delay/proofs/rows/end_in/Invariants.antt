@@ -1,5 +1,5 @@
 use Rattle.std.proofs.Common.{◌≡◌, ◌++◌, take, drop, map}
-use Rattle.cast_delay.specs.Rows.{ended_row}
+use Rattle.cast_ready.specs.Rows.{ended_row}
 use Rattle.cast_delay.proofs.rows.end_in.Given as goal
 
 -- the rows that were passed have forgotten it, and the others will

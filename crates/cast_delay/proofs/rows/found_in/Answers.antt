@@ -1,6 +1,6 @@
 use Rattle.std.proofs.Common.{sym, rules}
 use Rattle.std.proofs.lemmas.List.Sorted.{answers_always}
-use Rattle.cast_delay.specs.declared.row.Row.{Row}
+use Rattle.cast_ready.specs.declared.row.Row.{Row}
 use Rattle.cast_delay.proofs.Admitted.{search_found, search_absent}
 use Rattle.cast_delay.proofs.rows.found_in.Goals as goal
 

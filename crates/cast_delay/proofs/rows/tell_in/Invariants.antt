@@ -1,5 +1,5 @@
 use Rattle.std.proofs.Common.{◌≡◌, ◌++◌, take, drop}
-use Rattle.cast_delay.specs.Rows.{told_row}
+use Rattle.cast_ready.specs.Rows.{told_row}
 use Rattle.cast_delay.specs.Queue.{change_row}
 use Rattle.cast_delay.proofs.rows.tell_in.Given as goal
 

@@ -3,7 +3,7 @@ use Rattle.std.specs.Prelude.{Bool, if◌then◌else◌}
 use Rattle.cast_types.specs.declared.names.Standing.TheVariants.{Outside}
 use Rattle.cast_types.specs.declared.refusal.Refusal.TheVariants.{GroupFull}
 use Rattle.cast_message.specs.declared.client.Push.TheVariants as push
-use Rattle.cast_delay.specs.declared.row.ProcessUpdate.TheVariants as fact
+use Rattle.cast_ready.specs.declared.row.ProcessUpdate.TheVariants as fact
 use Rattle.cast_rules.specs.Rules.Requests.{is_joining_by}
 use Rattle.cast_rules.specs.Rules.Leaving.{tell}
 use Rattle.cast_domain.specs.declared.record.GroupRecord.{GroupRecord}

@@ -1,5 +1,5 @@
 use Rattle.std.proofs.Common.{◌≡◌, ◌≤◌, ◌++◌, not, ◌&&◌, filter, length, take}
-use Rattle.cast_delay.specs.Ready.{first_of}
+use Rattle.cast_ready.specs.Ready.{first_of}
 use Rattle.cast_events.specs.Outs.{no_outs}
 use Rattle.cast_domain.specs.Records.{records_of}
 use Rattle.cast_domain.specs.Shared.{no_part}

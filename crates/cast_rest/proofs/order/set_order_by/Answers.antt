@@ -1,7 +1,7 @@
 use Rattle.std.proofs.Common.{◌≡◌, ◌∙◌, sym, ap, true, not, Some, length, arith}
 use Rattle.std.specs.Prelude.{◌&&◌}
 use Rattle.cast_clock.specs.Times.{bumped}
-use Rattle.cast_delay.specs.Ready.{is_member}
+use Rattle.cast_ready.specs.Ready.{is_member}
 use Rattle.cast_order.specs.Log.{log_of, next_places}
 use Rattle.cast_rules.specs.Rules.Room.{may_order}
 use Rattle.cast_rules.specs.Rules.Sending.{may_raise}

@@ -2,7 +2,7 @@ use Rattle.std.proofs.Common.{◌≡◌, ◌<◌, ◌≤◌, ◌∙◌, List, le
 use Rattle.std.specs.Prelude.{nat_lt}
 use Rattle.std.proofs.lemmas.Bool.{ltb-true}
 use Rattle.std.proofs.lemmas.List.{take_all}
-use Rattle.cast_delay.specs.declared.offered.Offered.{Offered}
+use Rattle.cast_ready.specs.declared.offered.Offered.{Offered}
 use Rattle.cast_delay.specs.Offers.{key_of}
 use Rattle.cast_delay.proofs.ListLemmas.{all_each}
 use Rattle.cast_delay.proofs.Looks.{first_more, within_more}

@@ -1,5 +1,5 @@
 use Rattle.std.proofs.Common.{◌≡◌, ◌<◌, Contains}
-use Rattle.cast_delay.specs.declared.offered.Offered.{Offered}
+use Rattle.cast_ready.specs.declared.offered.Offered.{Offered}
 use Rattle.cast_delay.specs.Waits.{IsWaking, IsWithin}
 use Rattle.cast_delay.proofs.looked.Looked.wake.Given as goal
 

@@ -1,7 +1,7 @@
 use Rattle.std.proofs.Common.{◌≡◌, ◌<◌, Some, None, arith, rules}
 use Rattle.std.proofs.lemmas.Bool.{eqb-true}
 use Rattle.cast_message.specs.Receipts.{key_eq}
-use Rattle.cast_delay.specs.declared.offered.Offered.{Offered}
+use Rattle.cast_ready.specs.declared.offered.Offered.{Offered}
 use Rattle.cast_delay.specs.declared.looked.Looked.{Looked}
 use Rattle.cast_delay.specs.Queue.{offered_under}
 use Rattle.cast_delay.proofs.Looks.{waking_none, waking_one, within_less, within_more}

@@ -1,6 +1,6 @@
 use Rattle.std.proofs.Common.{length, arith, rules}
 use Rattle.std.proofs.lemmas.Slice.{between_to_end}
-use Rattle.cast_delay.specs.Rows.{is_ready_row}
+use Rattle.cast_ready.specs.Rows.{is_ready_row}
 use Rattle.cast_delay.proofs.Behind.{first_behind}
 use Rattle.cast_delay.proofs.offers.Offers.first_ready.Goals as goal
 

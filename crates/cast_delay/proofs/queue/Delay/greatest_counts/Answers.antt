@@ -1,6 +1,6 @@
 use Rattle.std.proofs.Common.{rules, ◌≡◌, ◌∙◌}
 use Rattle.std.proofs.lemmas.Result.{IfOk-weaker}
-use Rattle.cast_delay.specs.DeliveredCounts.{counts_in}
+use Rattle.cast_ready.specs.DeliveredCounts.{counts_in}
 use Rattle.cast_delay.specs.Says.{SaysReached}
 use Rattle.cast_delay.proofs.Queues.{reached_says}
 use Rattle.cast_delay.proofs.queue.Delay.greatest_counts.Goals as goal

@@ -2,7 +2,7 @@ use Rattle.std.proofs.Common.{◌≡◌, ◌++◌, ◌∷◌, [], true, rules}
 use Rattle.std.specs.Prelude.{nat_le}
 use Rattle.std.specs.List.{list_all}
 use Rattle.cast_index.specs.Rises.{rises}
-use Rattle.cast_delay.specs.declared.offered.Offered.{Offered}
+use Rattle.cast_ready.specs.declared.offered.Offered.{Offered}
 use Rattle.cast_delay.specs.Offers.{key_of}
 use Rattle.cast_delay.proofs.Passed.{offer_passed}
 use Rattle.cast_delay.proofs.queue.Delay.offer.Goals as goal

@@ -1,8 +1,8 @@
 use Rattle.std.proofs.Common.{◌≡◌, refl, rules}
 use Rattle.std.specs.FinMap.Entries.{put}
 use Rattle.cast_types.specs.Names.{group_cmp}
-use Rattle.cast_delay.specs.Ready.{pending_gate}
-use Rattle.cast_delay.specs.Rows.{gate_in}
+use Rattle.cast_ready.specs.Ready.{pending_gate}
+use Rattle.cast_ready.specs.Rows.{gate_in}
 use Rattle.cast_delay.proofs.Settled.{gate_settled}
 use Rattle.cast_delay.proofs.Passed.{gate_looked}
 use Rattle.cast_delay.proofs.queue.Delay.pend.Goals as goal

@@ -1,5 +1,5 @@
 use Rattle.std.proofs.Common.{◌≡◌, rules}
-use Rattle.cast_delay.specs.Rows.{told_row}
+use Rattle.cast_ready.specs.Rows.{told_row}
 use Rattle.cast_delay.specs.Queue.{change_row}
 use Rattle.cast_delay.specs.Settled.{despite_fact}
 use Rattle.cast_delay.specs.Waits.{waits_despite}

@@ -2,7 +2,7 @@ use Rattle.std.proofs.Common.{◌≡◌, ◌∙◌, ◌++◌, ◌∷◌, [], ap,
 use Rattle.std.specs.Prelude.{◌&&◌}
 use Rattle.std.proofs.lemmas.Bool.{and_parts}
 use Rattle.cast_types.specs.Names.{site_eq}
-use Rattle.cast_delay.specs.Queue.{new_row}
+use Rattle.cast_ready.specs.Rows.{new_row}
 use Rattle.cast_delay.specs.Admitted.{all_below, are_of, is_busy, rise, site_with}
 use Rattle.cast_delay.proofs.Admitted.{rise_more}
 use Rattle.cast_delay.proofs.Marks.{are_of_first, are_of_more, marked_all, marked_more}

@@ -1,6 +1,6 @@
 use Rattle.std.proofs.Common.{◌∙◌, refl, ap}
 use Rattle.std.specs.Prelude.{map}
-use Rattle.cast_delay.specs.Rows.{ended_row}
+use Rattle.cast_ready.specs.Rows.{ended_row}
 use Rattle.cast_delay.specs.Admitted.{are_of, is_busy, rise}
 use Rattle.cast_delay.proofs.Admitted.{rise_each}
 use Rattle.cast_delay.proofs.Marks.{are_marks_still, are_of_each, marks_each}

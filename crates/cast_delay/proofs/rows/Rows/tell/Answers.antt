@@ -1,6 +1,6 @@
 use Rattle.std.proofs.Common.{◌≡◌, ◌∙◌, ap, subst, map, refl, rules}
-use Rattle.cast_delay.specs.declared.row.ProcessUpdate.TheVariants as fact
-use Rattle.cast_delay.specs.Rows.{told_row}
+use Rattle.cast_ready.specs.declared.row.ProcessUpdate.TheVariants as fact
+use Rattle.cast_ready.specs.Rows.{told_row}
 use Rattle.cast_delay.specs.Queue.{change_row}
 use Rattle.cast_delay.specs.Admitted.{are_of, rise, is_busy, AreMarks}
 use Rattle.cast_delay.proofs.Admitted.{rise_changed, told_process}

@@ -1,5 +1,0 @@
-use Rattle.std.proofs.Common.{rules}
-use Rattle.cast_delay.proofs.row.Row.tell.Goals as goal
-
-pub returns-in-Standing : goal.returns-in-Standing
-returns-in-Standing c = search rules
