@@ -1,5 +1,5 @@
 use Rattle.std.specs.Prelude.{◌≡◌}
-use Rattle.cast_benchmarks.proofs.pool.trimming.trim.Given as goal
+use Rattle.cast_benchmarks.proofs.pool.trimming.fill.Given as goal
 
 -- the worker keeps its part of the count
 abbrev pub invariant-loop-event : goal.invariant-loop-event
