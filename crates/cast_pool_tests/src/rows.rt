@@ -104,22 +104,25 @@ pub fn begun(alloc: Global, ticks: u32) -> Result<Vec<Asked>, Fail> {
     Ok(all)
 }
 
+// Something more is asked, under this number.
+fn add(all: &mut Vec<Raw>, number: u64, asked: Asked) -> Result<(), NoMemory> {
+    all.push(Raw { number, asked })?;
+    Ok(())
+}
+
 /// A cast of domain 1 that waits, and one that does not.
 pub fn two_casts(alloc: Global) -> Result<Vec<Raw>, NoMemory> {
     let mut all = Vec::new(alloc);
-    for number in [PATIENT, 2] {
-        let asked = casts(1, 9);
-        all.push(Raw { number, asked })?;
-    }
+    add(&mut all, PATIENT, casts(1, 9))?;
+    add(&mut all, 2, casts(1, 9))?;
     Ok(all)
 }
 
 /// A cast of domain 1, and who waits and asks how many there were.
 pub fn cast_and_show(alloc: Global) -> Result<Vec<Raw>, NoMemory> {
     let mut all = Vec::new(alloc);
-    for (number, asked) in [(1, casts(1, 9)), (PATIENT, Asked::Show(DomainNo(1)))] {
-        all.push(Raw { number, asked })?;
-    }
+    add(&mut all, 1, casts(1, 9))?;
+    add(&mut all, PATIENT, Asked::Show(DomainNo(1)))?;
     Ok(all)
 }
 
@@ -127,9 +130,7 @@ pub fn cast_and_show(alloc: Global) -> Result<Vec<Raw>, NoMemory> {
 fn add_casts(all: &mut Vec<Raw>) -> Result<(), NoMemory> {
     for tag in 101..201u32 {
         for (domain, tag) in [(1, tag), (2, tag + 100)] {
-            let asked = casts(domain, tag);
-            let number = u64::from(tag);
-            all.push(Raw { number, asked })?;
+            add(all, u64::from(tag), casts(domain, tag))?;
         }
     }
     Ok(())
@@ -139,10 +140,7 @@ fn add_casts(all: &mut Vec<Raw>) -> Result<(), NoMemory> {
 pub fn casts_and_takes(alloc: Global) -> Result<Vec<Raw>, NoMemory> {
     let mut all = Vec::new(alloc);
     add_casts(&mut all)?;
-    for domain in [1u8, 2] {
-        let asked = takes(domain);
-        let number = PATIENT + u64::from(domain);
-        all.push(Raw { number, asked })?;
-    }
+    add(&mut all, PATIENT + 1, takes(1))?;
+    add(&mut all, PATIENT + 2, takes(2))?;
     Ok(all)
 }

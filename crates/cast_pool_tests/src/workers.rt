@@ -49,7 +49,7 @@ struct Ends {
     answered: Receiver<Done>,
 }
 
-fn ends<R: Wait>(rt: &R, alloc: Global, asked: Vec<Raw>) -> Result<Ends, Fail> {
+fn queue_of<R: Wait>(rt: &R, alloc: Global, asked: Vec<Raw>) -> Result<Ends, Fail> {
     let (jobs, queue) = crossbeam_channel::unbounded::<Raw, Global>(alloc)?;
     let (answers, answered) = crossbeam_channel::unbounded::<Done, Global>(alloc)?;
     for raw in asked {
@@ -107,6 +107,15 @@ fn work_both<L: Ledger + Send + Sync, R: Threads + Wait + Sync, G: Gate + Sync>(
     one.join(two).ok()
 }
 
+// What came of what was asked, as it came.
+fn gathered<R: Wait>(rt: &R, alloc: Global, answered: Receiver<Done>) -> Result<Vec<Done>, Fail> {
+    let mut dones = Vec::new(alloc);
+    for done in answered.iter(rt) {
+        dones.push(done)?;
+    }
+    Ok(dones)
+}
+
 // What the workers came to.
 #[derive(Drop)]
 struct Ran {
@@ -142,13 +151,13 @@ fn run<L: Ledger + Send + Sync, R: Threads + Wait + Sync, G: Gate + Sync>(
         queue,
         answers,
         answered,
-    } = ends(rt, alloc, asked)?;
+    } = queue_of(rt, alloc, asked)?;
     let (mut kept, mut mine) = new::<L>(alloc, blank)?;
     serve_all(alloc, &mut kept, &mut mine, first);
     let kept = Mutex::new(kept);
     let worked = work_both(rt, alloc, &kept, mine, queue, answers, gate);
     let all = worked.ok_or("the workers ended")?;
-    let dones = answered.iter(rt).collect::<Vec<Done>>(alloc)?;
+    let dones = gathered(rt, alloc, answered)?;
     let mut kept = kept.lock(rt);
     let trace_len = kept.trace_len();
     let counts = counted(&mut kept, all);

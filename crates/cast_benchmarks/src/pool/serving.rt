@@ -53,7 +53,7 @@ fn asked(alloc: Global, domain: u8, round: u32) -> Result<Asked, NoMemory> {
 }
 
 // So many events lie in the queue, as many of each domain, and no more can come.
-fn ends<R: Wait>(rt: &R, alloc: Global, domains: u8, events: u32) -> Result<Ends> {
+fn queue_of<R: Wait>(rt: &R, alloc: Global, domains: u8, events: u32) -> Result<Ends> {
     let (jobs, queue) = crossbeam_channel::unbounded::<Raw, Global>(alloc)?;
     let (answers, answered) = crossbeam_channel::unbounded::<Done, Global>(alloc)?;
     let rounds = events.checked_div(u32::from(domains)).unwrap_or(0);
@@ -186,7 +186,7 @@ fn timed<L: Ledger + Send + Sync, R: Threads + Wait + Clock + Sync>(
     requires name { blank.name ≡ L.name }
     requires parts { (blank.parts ≡ L.parts) × (blank.parts ≡ workers + 1) }
 {
-    let ends = ends(rt, alloc, domains, events)?;
+    let ends = queue_of(rt, alloc, domains, events)?;
     let (kept, first) = begun::<L>(alloc, blank, u64::from(workers) + 1, domains, ALONE)?;
     let before = kept.events();
     let kept = Mutex::new(kept);
