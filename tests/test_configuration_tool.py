@@ -227,10 +227,10 @@ class Lint(ConfigurationCase):
 class Check(ConfigurationCase):
     """castd itself says what it would serve."""
 
-    def check(self, text: str, command: str = "check") -> subprocess.CompletedProcess:
+    def check(self, text: str, command: str = "check", site: int = 2) -> subprocess.CompletedProcess:
         path = pathlib.Path(f"{self.folder}/checked.conf")
         path.write_text(text)
-        words = [PROGRAM, command, str(path), "--site", "2"]
+        words = [PROGRAM, command, str(path), "--site", str(site)]
         how = {"stdin": subprocess.DEVNULL, "capture_output": True, "text": True, "timeout": PATIENCE}
         return subprocess.run(words, check=False, **how)
 
@@ -249,6 +249,34 @@ class Check(ConfigurationCase):
         script.write_text(ran.stdout)
         replay = subprocess.run([PROGRAM, "replay", str(script)], capture_output=True, timeout=PATIENCE, check=False)
         self.assertEqual((replay.returncode, replay.stdout, replay.stderr), (0, b"", b""))
+
+    def test_names_the_first_fault(self):
+        site = SITES.partition("[[site]]\nnumber = 2")[0]
+        domain = DOMAIN.replace("[1, 2]", "[1]", 1).partition("groups")[0]
+        rest = 'groups = [2, 1]\nsocket = "/tmp/one.sock"\n'
+        for text, number, fault in (
+            ("[[", 1, "text: not toml"),
+            (domain + rest, 1, "site: missing"),
+            ("site = 1\n" + domain + rest, 1, "site: wrong kind"),
+            (site, 1, "domain: missing"),
+            ("[[site]]\nnumber = 0\n" + domain + rest, 1, "number: out of range"),
+            ("[[site]]\nnumber = 1\naddress = 7\n" + domain + rest, 1, "address: wrong kind"),
+            (site + site + domain + rest, 1, "number: repeated"),
+            (site + domain + rest, 2, "site: not listed"),
+            ("domain = []\n" + site, 1, "domain: out of range"),
+            (site + domain + rest + "held = 0\n", 1, "held: out of range"),
+            (site + domain + rest.replace("[2, 1]", "[1, 1]"), 1, "groups: repeated"),
+            (site + domain + rest.replace("[2, 1]", "[]"), 1, "groups: out of range"),
+            (site + domain.replace("home = 1\n", "") + rest, 1, "home: missing"),
+            (site + domain.replace("home = 1", "home = 2") + rest, 1, "home: not listed"),
+            (site + domain.replace("sites = [1]", "sites = [1, 2]") + rest, 1, "sites: not listed"),
+            (site + 2 * (domain + rest), 1, "number: repeated"),
+        ):
+            with self.subTest(fault):
+                ran = self.check(text, site=number)
+                self.assertEqual((ran.returncode, ran.stdout, ran.stderr), (REFUSED, "", f"castd: config: {fault}\n"))
+        ran = self.check(site + domain + rest, site=1)
+        self.assertIn("domain 1 home 1 sites 1 groups 1,2 quotas 16 256 256 200\n", ran.stdout)
 
     def test_refuses_what_is_not_served_in_the_same_words(self):
         for text in (GOOD.replace("home = 1", "home = 3"), SITES, GOOD + "="):

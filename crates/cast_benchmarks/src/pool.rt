@@ -5,7 +5,7 @@ mod daemon;
 mod serving;
 mod trimming;
 
-use anyhow::Result;
+use anyhow::{Context, Result};
 use std::rt::Clock;
 use std::sync::Wait;
 use std::thread::Threads;
@@ -51,9 +51,10 @@ pub fn trim<R: Threads + Wait + Clock + Print + AllocGlobal + Sync>(
         messages.parse()?,
         rounds.parse()?,
     )?;
+    let micros = run.micros.context("no time was taken")?;
     println!(rt;
-        "trimmed {domains} {messages} kept {} microseconds {}",
-        run.kept, run.micros
+        "trimmed {domains} {messages} kept {} microseconds {micros}",
+        run.kept
     )?;
     Ok(())
 }

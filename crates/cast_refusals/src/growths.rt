@@ -1,4 +1,4 @@
-//! Requests for memory of their own, which decide what request of a scene is the refused one.
+//! Requests for memory of their own, which decide what request of the calls is the refused one.
 use std::alloc::Global;
 
 // Whether a request for memory is granted. The memory is given back.
@@ -17,7 +17,7 @@ pub fn granted(alloc: Global, most: u32) -> u32 {
     most
 }
 
-/// The pause of a scene between what it makes ready and the calls that are judged.
+/// The pause before the calls that are judged.
 #[derive(Drop)]
 pub struct Pause {
     requests: u32,

@@ -143,8 +143,9 @@ fn pump_commands(alloc: Global) -> Result<Verdict, NoMemory> {
     }
 }
 
-/// Pumps what a program and its daemon say, both ways.
-pub fn run(alloc: Global, pause: &mut Pause) -> Result<Verdict, NoMemory> {
+/// What is said of the answers where a program and its daemon speak, both ways, behind this pause.
+pub fn run(alloc: Global, pause: &mut Pause) -> Verdict {
     pause.pass(alloc);
-    Ok(pump_pushes(alloc)?.then(pump_commands(alloc)?))
+    let read = pump_pushes(alloc).unwrap_or(Verdict::Elsewhere);
+    read.then(pump_commands(alloc).unwrap_or(Verdict::Elsewhere))
 }

@@ -1,16 +1,14 @@
-//! What is said of the answers of a scene.
+//! What is said of the answers.
 use std::fmt::{Display, Formatter, Result, Write};
 
-/// Whether the answers of a scene are allowed.
+/// Whether the answers are allowed.
 #[derive(Clone, Copy, Debug, PartialEq, Eq)]
 pub enum Verdict {
     /// They are those of a run in which nothing is refused.
     Ample,
-    /// One says that there is no memory, and left all as it was.
+    /// One says that there is no memory, and what was read or written up to it is a beginning of that.
     NoMemory,
-    /// One says that a domain is halted, and the others did what they do where nothing is refused.
-    Halted,
-    /// The refused request was not one of the call.
+    /// The refused request was not one of the calls.
     Elsewhere,
     /// They are not allowed, for this reason.
     NotAllowed(&'static str),
@@ -41,8 +39,7 @@ impl Display for Verdict {
         match self {
             Verdict::Ample => f.write_str("allowed: as with ample memory"),
             Verdict::NoMemory => f.write_str("allowed: no memory"),
-            Verdict::Halted => f.write_str("allowed: halted"),
-            Verdict::Elsewhere => f.write_str("allowed: refused outside the call"),
+            Verdict::Elsewhere => f.write_str("allowed: refused outside the calls"),
             Verdict::NotAllowed(reason) => write!(f, "not allowed: {reason}"),
         }
     }

@@ -98,15 +98,17 @@ fn comes(alloc: Global, kind: u8, domain: u8, rest: &[u8]) -> Result<Asked, NoMe
     Ok(Asked::Datagram(Bytes::copy_from_slice(alloc, &frame)?))
 }
 
-// The first program of a domain connects, and joins group 1, whose view site 9 installs.
-fn joins(alloc: Global, domain: u8, view: &[u8]) -> Result<[Asked; 4], NoMemory> {
+// In each of so many domains the first program connects, and joins group 1, whose view site 9 installs.
+fn joins(alloc: Global, domains: u8, view: &[u8]) -> Result<Vec<Asked>, NoMemory> {
     let group = GroupNo(1);
-    Ok([
-        Asked::Event(Event::Open(DomainNo(domain))),
-        asks(domain, Request::Join { tag: 0, group }),
-        comes(alloc, 5, domain, &[0, 9, 0, 1, 0, 0, 0, 1, 0])?,
-        comes(alloc, 10, domain, view)?,
-    ])
+    let mut all = Vec::new(alloc);
+    for domain in 1..=domains {
+        all.push(Asked::Event(Event::Open(DomainNo(domain))))?;
+        all.push(asks(domain, Request::Join { tag: 0, group }))?;
+        all.push(comes(alloc, 5, domain, &[0, 9, 0, 1, 0, 0, 0, 1, 0])?)?;
+        all.push(comes(alloc, 10, domain, view)?)?;
+    }
+    Ok(all)
 }
 
 /// Serves something by one worker.
@@ -114,34 +116,45 @@ pub fn serve<L: Ledger>(alloc: Global, kept: &mut Kept<L>, mine: &mut Worked<L>,
     requires { 0 < mine.old.parts }
     ensures { mine.new.parts ≡ mine.old.parts }
 {
-    match decode(alloc, Raw { number: 0, asked }) {
-        Ok(job) => drop(kept.serve_one(mine, job)),
-        Err(done) => drop(done),
+    if let Ok(job) = decode(alloc, Raw { number: 0, asked }) {
+        drop(kept.serve_one(mine, job));
     }
 }
 
-// The programs of the domains join.
-fn join_all<L: Ledger>(
+/// Serves one after another.
+pub fn serve_all<L: Ledger>(
     alloc: Global,
     kept: &mut Kept<L>,
     mine: &mut Worked<L>,
-    domains: u8,
-    view: &[u8],
-) -> Result<()>
+    all: Vec<Asked>,
+)
     requires { 0 < mine.old.parts }
     ensures { mine.new.parts ≡ mine.old.parts }
 {
-    for domain in 1..=domains {
-        let [opened, asked, answered, installed] = joins(alloc, domain, view)?;
-        serve(alloc, kept, mine, opened);
+    for asked in all {
         serve(alloc, kept, mine, asked);
-        serve(alloc, kept, mine, answered);
-        serve(alloc, kept, mine, installed);
     }
-    Ok(())
 }
 
-/// A table of so many domains, in each of which a program has a view of group 1, and the whole share of its count, in so many parts.
+// A table of so many domains, and the whole share of its count, in so many parts.
+fn new<L: Ledger>(
+    alloc: Global,
+    blank: Blank,
+    parts: u64,
+    domains: u8,
+) -> Result<(Kept<L>, Worked<L>)>
+    requires name { blank.name ≡ L.name }
+    requires parts { (blank.parts ≡ L.parts) × (blank.parts ≡ parts) }
+    ensures { IfOk result (λ r. r.1.parts ≡ parts) }
+{
+    let config = config(alloc, domains)?;
+    if !can_keep(&config) {
+        bail!("no such table");
+    }
+    Ok(Kept::<L>::new(alloc, &config, blank, parts)?)
+}
+
+/// The same, where in each domain a program has a view of group 1.
 pub fn begun<L: Ledger>(
     alloc: Global,
     blank: Blank,
@@ -154,12 +167,9 @@ pub fn begun<L: Ledger>(
     requires parts { (blank.parts ≡ L.parts) × (blank.parts ≡ parts) }
     ensures { IfOk result (λ r. r.1.parts ≡ parts) }
 {
-    let config = config(alloc, domains)?;
-    if !can_keep(&config) {
-        bail!("no such table");
-    }
-    let (mut kept, mut mine) = Kept::<L>::new(alloc, &config, blank, parts)?;
-    join_all(alloc, &mut kept, &mut mine, domains, view)?;
+    let all = joins(alloc, domains, view)?;
+    let (mut kept, mut mine) = new::<L>(alloc, blank, parts, domains)?;
+    serve_all(alloc, &mut kept, &mut mine, all);
     Ok((kept, mine))
 }
 

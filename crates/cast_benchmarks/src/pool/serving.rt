@@ -53,8 +53,9 @@ fn asked(alloc: Global, domain: u8, round: u32) -> Result<Asked, NoMemory> {
 }
 
 // So many events lie in the queue, as many of each domain, and no more can come.
-fn queue_of<R: Wait>(rt: &R, alloc: Global, domains: u8, events: u32) -> Result<Receiver<Raw>> {
+fn queue_of<R: Wait>(rt: &R, alloc: Global, domains: u8, events: u32) -> Result<Ends> {
     let (jobs, queue) = crossbeam_channel::unbounded::<Raw, Global>(alloc)?;
+    let (answers, answered) = crossbeam_channel::unbounded::<Done, Global>(alloc)?;
     let rounds = events.checked_div(u32::from(domains)).unwrap_or(0);
     for round in 0..rounds {
         for domain in 1..=domains {
@@ -63,7 +64,11 @@ fn queue_of<R: Wait>(rt: &R, alloc: Global, domains: u8, events: u32) -> Result<
             let _ = jobs.send(rt, Raw { number, asked });
         }
     }
-    Ok(queue)
+    Ok(Ends {
+        queue,
+        answers,
+        answered,
+    })
 }
 
 // Runs a worker over channels.
@@ -181,16 +186,10 @@ fn timed<L: Ledger + Send + Sync, R: Threads + Wait + Clock + Sync>(
     requires name { blank.name ≡ L.name }
     requires parts { (blank.parts ≡ L.parts) × (blank.parts ≡ workers + 1) }
 {
+    let ends = queue_of(rt, alloc, domains, events)?;
     let (kept, first) = begun::<L>(alloc, blank, u64::from(workers) + 1, domains, ALONE)?;
     let before = kept.events();
     let kept = Mutex::new(kept);
-    let queue = queue_of(rt, alloc, domains, events)?;
-    let (answers, answered) = crossbeam_channel::unbounded::<Done, Global>(alloc)?;
-    let ends = Ends {
-        queue,
-        answers,
-        answered,
-    };
     let start = Instant::now(rt)?;
     let all = in_scope(rt, alloc, &kept, first, workers, ends).context("no worker")?;
     let nanos = start.elapsed(rt)?.as_nanos();

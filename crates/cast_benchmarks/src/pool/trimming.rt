@@ -1,11 +1,12 @@
 //! How long the lock is held at an event that trims the trace.
-ghost use Rattle.std.specs.Prelude.{◌≡◌, ◌<◌, OnOk};
+ghost use Rattle.std.specs.Prelude.{◌≡◌, ◌<◌};
 
-use crate::pool::daemon::{BESIDE_ANOTHER, begun, casts, serve, shown, takes};
+use crate::pool::daemon::{BESIDE_ANOTHER, begun, casts, serve, serve_all, shown, takes};
 use anyhow::Result;
 use cast_events::Event;
 use cast_pool::limits::MAX_TRACE;
 use cast_pool::{Asked, Kept, Worked};
+use cast_types::NoMemory;
 use std::alloc::Global;
 use std::marker::Brand;
 use std::rt::Clock;
@@ -19,36 +20,22 @@ pub struct Run {
     pub kept: usize,
     /// How many events the trace has behind the last trim.
     pub trace: usize,
-    /// Of an event that trims, the median.
-    pub micros: u128,
+    /// Of an event that trims, the median; of no rounds, or without a clock, none.
+    pub micros: Option<u128>,
 }
 
-// So many messages of a domain are kept.
-fn keep<L: Ledger>(
-    alloc: Global,
-    kept: &mut Kept<L>,
-    mine: &mut Worked<L>,
-    domain: u8,
-    messages: u32,
-) -> Result<()>
-    requires { 0 < mine.old.parts }
-    ensures { OnOk result (mine.new.parts ≡ mine.old.parts) }
-{
-    for tag in 0..messages {
-        let asked = casts(alloc, domain, tag)?;
-        serve(alloc, kept, mine, asked);
+// In each of so many domains so many messages are kept, and nothing lies in an outbox any more, where there were at most 4,096 entries.
+fn keeps(alloc: Global, domains: u8, messages: u32) -> Result<Vec<Asked>, NoMemory> {
+    let mut all = Vec::new(alloc);
+    for domain in 1..=domains {
+        for tag in 0..messages {
+            all.push(casts(alloc, domain, tag)?)?;
+        }
+        for _take in 0..16u8 {
+            all.push(takes(domain))?;
+        }
     }
-    Ok(())
-}
-
-// Nothing lies in the outbox of a domain any more, where there were at most 4,096 entries.
-fn take_all<L: Ledger>(alloc: Global, kept: &mut Kept<L>, mine: &mut Worked<L>, domain: u8)
-    requires { 0 < mine.old.parts }
-    ensures { mine.new.parts ≡ mine.old.parts }
-{
-    for _take in 0..16u8 {
-        serve(alloc, kept, mine, takes(domain));
-    }
+    Ok(all)
 }
 
 // A tick, at which nothing is due.
@@ -59,15 +46,10 @@ fn tick<L: Ledger>(alloc: Global, kept: &mut Kept<L>, mine: &mut Worked<L>)
     serve(alloc, kept, mine, Asked::Event(Event::Tick(0)));
 }
 
-// Fills the trace up, and serves one event more. Answers the microseconds that this took.
-fn trim<L: Ledger, R: Clock>(
-    rt: &R,
-    alloc: Global,
-    kept: &mut Kept<L>,
-    mine: &mut Worked<L>,
-) -> Result<u128>
+// Fills the trace up.
+fn fill<L: Ledger>(alloc: Global, kept: &mut Kept<L>, mine: &mut Worked<L>)
     requires { 0 < mine.old.parts }
-    ensures { OnOk result (mine.new.parts ≡ mine.old.parts) }
+    ensures { mine.new.parts ≡ mine.old.parts }
 {
     for _event in 0..MAX_TRACE {
         if kept.trace_len() >= MAX_TRACE {
@@ -75,9 +57,41 @@ fn trim<L: Ledger, R: Clock>(
         }
         tick(alloc, kept, mine);
     }
-    let start = Instant::now(rt)?;
+}
+
+// Fills the trace up, and serves one event more. Answers the microseconds that this took, as far as there is a clock.
+fn trim<L: Ledger, R: Clock>(
+    rt: &R,
+    alloc: Global,
+    kept: &mut Kept<L>,
+    mine: &mut Worked<L>,
+) -> Option<u128>
+    requires { 0 < mine.old.parts }
+    ensures { mine.new.parts ≡ mine.old.parts }
+{
+    fill(alloc, kept, mine);
+    let start = Instant::now(rt);
     tick(alloc, kept, mine);
-    Ok(start.elapsed(rt)?.as_micros())
+    Some(start.ok()?.elapsed(rt).ok()?.as_micros())
+}
+
+// So often. Answers the median.
+fn trim_often<L: Ledger, R: Clock>(
+    rt: &R,
+    alloc: Global,
+    kept: &mut Kept<L>,
+    mine: &mut Worked<L>,
+    rounds: u32,
+) -> Option<u128>
+    requires { 0 < mine.old.parts }
+{
+    let mut times = Vec::new(alloc);
+    for _round in 0..rounds {
+        let time = trim(rt, alloc, kept, mine);
+        times.push(time?).ok()?;
+    }
+    times.sort_unstable();
+    times.get(times.len() / 2).copied()
 }
 
 fn timed<L: Ledger, R: Clock>(
@@ -91,21 +105,15 @@ fn timed<L: Ledger, R: Clock>(
     requires name { blank.name ≡ L.name }
     requires parts { (blank.parts ≡ L.parts) × (blank.parts ≡ 1) }
 {
+    let all = keeps(alloc, domains, messages)?;
     let (mut kept, mut mine) = begun::<L>(alloc, blank, 1, domains, BESIDE_ANOTHER)?;
-    for domain in 1..=domains {
-        keep(alloc, &mut kept, &mut mine, domain, messages)?;
-        take_all(alloc, &mut kept, &mut mine, domain);
-    }
-    let mut times = Vec::new(alloc);
-    for _round in 0..rounds {
-        times.push(trim(rt, alloc, &mut kept, &mut mine)?)?;
-    }
-    times.sort_unstable();
+    serve_all(alloc, &mut kept, &mut mine, all);
+    let micros = trim_often(rt, alloc, &mut kept, &mut mine, rounds);
     let (held, _) = shown(&kept, domains);
     Ok(Run {
         kept: held,
         trace: kept.trace_len(),
-        micros: times.get(times.len() / 2).copied().unwrap_or(0),
+        micros,
     })
 }
 

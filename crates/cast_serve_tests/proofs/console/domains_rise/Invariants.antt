@@ -1,4 +1,0 @@
-use Rattle.cast_serve_tests.proofs.console.domains_rise.Given as goal
-
-abbrev pub ghosts-holds : goal.ghosts-holds
-ghosts-holds g a = record { name = a.blank.name; parts = a.blank.parts }

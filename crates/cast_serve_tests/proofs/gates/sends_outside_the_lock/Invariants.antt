@@ -1,4 +1,0 @@
-use Rattle.cast_serve_tests.proofs.gates.sends_outside_the_lock.Given as goal
-
-abbrev pub ghosts-passes : goal.ghosts-passes
-ghosts-passes g a = record { name = a.blank.name; parts = a.blank.parts }

@@ -1,4 +1,0 @@
-use Rattle.cast_serve_tests.proofs.trims.a_full_trace_is_trimmed.Given as goal
-
-abbrev pub ghosts-counts : goal.ghosts-counts
-ghosts-counts g a = record { name = a.blank.name; parts = a.blank.parts }
