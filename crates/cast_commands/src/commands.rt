@@ -13,13 +13,13 @@ ghost use Rattle.cast_events.specs.declared.event.Event.TheVariants as event;
 
 use crate::turns::{awaits_own, places_by};
 use bytes::Bytes;
-use cast_ready::ProcessUpdate;
 use cast_domain::Domain;
 use cast_domain::data::is_named;
 use cast_domain::lent::Lent;
 use cast_domain::record::GroupRecord;
 use cast_events::Taken;
 use cast_message::{Body, CastKind, Change, Command, Message, Payload, Placement, Request};
+use cast_ready::ProcessUpdate;
 use cast_types::limits::{MAX_NUMBER, MAX_PAYLOAD, MAX_POSITION};
 use cast_types::{GroupNo, NoMemory, Proc, Refusal, Standing, Uid};
 

@@ -3,8 +3,8 @@ ghost use Rattle.cast_domain.specs.Calls.{close_in};
 
 use crate::domain::Domain;
 use crate::lent::Lent;
-use cast_ready::ProcessUpdate;
 use cast_message::{Change, Push};
+use cast_ready::ProcessUpdate;
 use cast_types::limits::MAX_NUMBER;
 use cast_types::{GroupNo, NoMemory, Refusal, Standing};
 

@@ -8,13 +8,13 @@ ghost use Rattle.cast_events.specs.declared.event.Outs.{Outs};
 ghost use Rattle.cast_rules.specs.Rules.Leaving.{tell};
 
 use crate::asking::is_from_home;
-use cast_ready::ProcessUpdate;
 use cast_domain::Domain;
 use cast_domain::keys::ask_key;
 use cast_domain::lent::Lent;
 use cast_domain::record::{answer_at, ask_home_at};
 use cast_events::Outs;
 use cast_message::{Change, Push, SiteFrame};
+use cast_ready::ProcessUpdate;
 use cast_types::{NoMemory, Proc, Refusal, SiteNo, Standing};
 use cast_view::PendingRequest;
 

@@ -1,8 +1,8 @@
 use crate::messages::{GROUP, SENDER, atomic, causal, holds, id_of, time_at};
 use cast_clock::Times;
 use cast_delay::Delay;
-use cast_ready::{ProcessUpdate, Turn};
 use cast_message::Message;
+use cast_ready::{ProcessUpdate, Turn};
 use cast_types::{Counts, GroupNo, Key, NoMemory, Proc, SiteNo, Standing};
 use std::alloc::Global;
 use std::test::Fail;

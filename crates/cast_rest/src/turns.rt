@@ -4,11 +4,11 @@ ghost use Rattle.cast_types.specs.declared.limits.TheConstants.{MAX_POSITION};
 ghost use Rattle.cast_order.specs.Log.{log_of, places_by};
 ghost use Rattle.cast_domain.specs.Calls.{ready_key_in, turn_at, turns_in, sets_order_at, waiting_past, has_room_at, unsettled_at};
 
-use cast_ready::Turn;
 use cast_domain::Domain;
 use cast_domain::lent::Lent;
 use cast_domain::record::GroupRecord;
 use cast_order::OrderLog;
+use cast_ready::Turn;
 use cast_types::limits::{MAX_POSITION, MAX_UNSETTLED};
 use cast_types::{GroupNo, Key, NoMemory, Proc};
 
