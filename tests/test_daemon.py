@@ -158,19 +158,22 @@ class Programs(DaemonCase):
             self.fail("it is not put out")
         self.assert_stops(daemon)
 
-    def test_casts_of_two_come_in_the_order_written(self):
+    def test_casts_of_each_come_in_the_order_written(self):
         # A daemon in which two threads serve one session at once mixes up its entries only now and then.
         daemon = self.serving()
-        pair = self.pair()
+        programs = [*self.pair(), self.member(), self.member()]
+        for program, views in zip(programs, (2, 2, 1, 0)):
+            self.assertEqual(program.kinds(views), [View] * views)
+        casts, others = range(50), range(len(programs))
         for _round in range(20):
-            for number, program in enumerate(pair):
-                program.write(*(cast(bytes([number, it])) for it in range(100)))
-            for program in pair:
-                heard = [program.hear() for _ in range(300)]
-                self.assertEqual([it.tag for it in heard if isinstance(it, Reply) and not it.code], [*range(100)])
-                for number in range(2):
+            for number, program in enumerate(programs):
+                program.write(*(cast(bytes([number, it])) for it in casts))
+            for program in programs:
+                heard = [program.hear() for _ in range(len(casts) * (1 + len(programs)))]
+                self.assertEqual([it.tag for it in heard if isinstance(it, Reply) and not it.code], [*casts])
+                for number in others:
                     payloads = [it.payload for it in heard if isinstance(it, Deliver) and it.payload[0] == number]
-                    self.assertEqual(payloads, [bytes([number, it]) for it in range(100)])
+                    self.assertEqual(payloads, [bytes([number, it]) for it in casts])
         self.assert_stops(daemon)
 
     def test_one_that_writes_no_more_is_told_all(self):
