@@ -4,7 +4,6 @@ from __future__ import annotations
 
 import contextlib
 import os
-import pathlib
 import re
 import resource
 import socket
@@ -13,7 +12,7 @@ import subprocess
 import time
 
 import raw
-from harness import PATIENCE, PROGRAM, ROOT, TESTS, Case, Failed, Setup, Tool, castd, wait_until
+from harness import PATIENCE, PROGRAM, TESTS, Case, Failed, Setup, Tool, castd, wait_until
 
 Opened, Reply, View, Deliver, Closed = castd.Opened, castd.Reply, castd.View, castd.Deliver, castd.Closed
 # What a program is pushed that joins, and that casts.
