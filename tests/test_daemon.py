@@ -111,7 +111,8 @@ class DaemonCase(Case):
     def assert_stops(self, daemon: Daemon, told: str = "") -> None:
         self.assertEqual(daemon.ask("stop"), "ok")
         self.assert_ends(daemon, 0)
-        self.assertEqual(daemon.complained(), told)
+        # What it would send itself of the last sessions finds its socket shut.
+        self.assertEqual(re.sub(r"castd: datagrams that could not be sent: \d+\n", "", daemon.complained()), told)
         self.assertEqual(os.listdir(self.setup.site_folder(1)), [])
 
     def address(self, site: int) -> tuple[str, int]:
