@@ -7,17 +7,18 @@ use cast_pool::{Asked, Raw};
 use cast_quota::Quotas;
 use cast_types::{DomainNo, GroupNo, List, NoMemory, SiteNo};
 use std::alloc::Global;
-use std::test::Fail;
 
-// The frames that the site sends itself until its process has a view of group 1, before and behind the number of the domain.
-const FRAMES: [(&str, &str); 4] = [
-    ("43440104", "000100010000000101000100000001"),
-    ("43440105", "000100010000000100"),
+// The frames that the site sends itself until its process has a view of group 1: the type of each, and what is behind the number of the domain.
+const FRAMES: [(u8, &[u8]); 4] = [
+    (4, &[0, 1, 0, 1, 0, 0, 0, 1, 1, 0, 1, 0, 0, 0, 1]),
+    (5, &[0, 1, 0, 1, 0, 0, 0, 1, 0]),
     (
-        "4344010a",
-        "000100010000000101000100000001000000000100000000000000",
+        10,
+        &[
+            0, 1, 0, 1, 0, 0, 0, 1, 1, 0, 1, 0, 0, 0, 1, 0, 0, 0, 0, 1, 0, 0, 0, 0, 0, 0, 0,
+        ],
     ),
-    ("4344010b", "0001000100000001"),
+    (11, &[0, 1, 0, 1, 0, 0, 0, 1]),
 ];
 
 fn domain(alloc: Global, number: u8) -> Result<DomainConfig, NoMemory> {
@@ -75,26 +76,31 @@ fn takes(domain: u8) -> Asked {
     })
 }
 
+// The bytes of a frame of a domain.
+fn frame(alloc: Global, kind: u8, domain: u8, rest: &[u8]) -> Result<Vec<u8>, NoMemory> {
+    let head = [0x43, 0x44, 1, kind, domain];
+    head.iter().chain(rest).copied().collect(alloc)
+}
+
 // A frame of a domain comes.
-fn comes(alloc: Global, front: &str, domain: u8, rest: &str) -> Result<Asked, Fail> {
-    let digits = format!(in alloc; "{front}{domain:02x}{rest}")?;
-    let bytes = hex::decode(alloc, digits.as_str())?;
-    Ok(Asked::Datagram(Bytes::copy_from_slice(alloc, &bytes)?))
+fn comes(alloc: Global, kind: u8, domain: u8, rest: &[u8]) -> Result<Asked, NoMemory> {
+    let frame = frame(alloc, kind, domain, rest)?;
+    Ok(Asked::Datagram(Bytes::copy_from_slice(alloc, &frame)?))
 }
 
 // The first program of a domain connects and joins group 1: six events, the last four frames.
-fn add_join(alloc: Global, all: &mut Vec<Asked>, domain: u8) -> Result<(), Fail> {
+fn add_join(alloc: Global, all: &mut Vec<Asked>, domain: u8) -> Result<(), NoMemory> {
     all.push(Asked::Event(Event::Open(DomainNo(domain))))?;
     let group = GroupNo(1);
     all.push(asks(domain, Request::Join { tag: 7, group }))?;
-    for (front, rest) in FRAMES {
-        all.push(comes(alloc, front, domain, rest)?)?;
+    for (kind, rest) in FRAMES {
+        all.push(comes(alloc, kind, domain, rest)?)?;
     }
     Ok(())
 }
 
 /// In each domain a program joins: twelve events. Then come so many ticks.
-pub fn begun(alloc: Global, ticks: u32) -> Result<Vec<Asked>, Fail> {
+pub fn begun(alloc: Global, ticks: u32) -> Result<Vec<Asked>, NoMemory> {
     let mut all = Vec::new(alloc);
     add_join(alloc, &mut all, 1)?;
     add_join(alloc, &mut all, 2)?;

@@ -41,7 +41,7 @@ fn new<L: Ledger>(alloc: Global, blank: Blank) -> Result<(Kept<L>, Worked<L>), F
     Ok(Kept::<L>::new(alloc, &config, blank, 2)?)
 }
 
-// What was asked, where no more can come, and where what came of it goes.
+// The ends of the channels that the workers take, and that at which what comes of the work is taken.
 #[derive(Drop)]
 struct Ends {
     queue: Receiver<Raw>,
@@ -49,20 +49,28 @@ struct Ends {
     answered: Receiver<Done>,
 }
 
-fn queue_of<R: Wait>(rt: &R, alloc: Global, asked: Vec<Raw>) -> Result<Ends, Fail> {
+// Them, and where the work is asked.
+fn ends_of(alloc: Global) -> Result<(Sender<Raw>, Ends), Fail> {
     let (jobs, queue) = crossbeam_channel::unbounded::<Raw, Global>(alloc)?;
     let (answers, answered) = crossbeam_channel::unbounded::<Done, Global>(alloc)?;
+    Ok((
+        jobs,
+        Ends {
+            queue,
+            answers,
+            answered,
+        },
+    ))
+}
+
+// Asks for all of this, and then for no more.
+fn ask_all<R: Wait>(rt: &R, jobs: Sender<Raw>, asked: Vec<Raw>) {
     for raw in asked {
         let _ = jobs.send(rt, raw);
     }
-    Ok(Ends {
-        queue,
-        answers,
-        answered,
-    })
 }
 
-// Two workers serve what was asked. Answers their shares, joined.
+// Two workers serve what was asked, and answer their shares, joined.
 fn work_both<L: Ledger + Send + Sync, R: Threads + Wait + Sync, G: Gate + Sync>(
     rt: &R,
     alloc: Global,
@@ -147,11 +155,13 @@ fn run<L: Ledger + Send + Sync, R: Threads + Wait + Sync, G: Gate + Sync>(
     requires name { blank.name ≡ L.name }
     requires parts { (blank.parts ≡ L.parts) × (blank.parts ≡ 2) }
 {
+    let (jobs, ends) = ends_of(alloc)?;
+    ask_all(rt, jobs, asked);
     let Ends {
         queue,
         answers,
         answered,
-    } = queue_of(rt, alloc, asked)?;
+    } = ends;
     let (mut kept, mut mine) = new::<L>(alloc, blank)?;
     serve_all(alloc, &mut kept, &mut mine, first);
     let kept = Mutex::new(kept);

@@ -52,23 +52,39 @@ fn asked(alloc: Global, domain: u8, round: u32) -> Result<Asked, NoMemory> {
     }
 }
 
-// So many events lie in the queue, as many of each domain, and no more can come.
-fn queue_of<R: Wait>(rt: &R, alloc: Global, domains: u8, events: u32) -> Result<Ends> {
-    let (jobs, queue) = crossbeam_channel::unbounded::<Raw, Global>(alloc)?;
-    let (answers, answered) = crossbeam_channel::unbounded::<Done, Global>(alloc)?;
+// So many events, as many of each domain.
+fn rounds(alloc: Global, domains: u8, events: u32) -> Result<Vec<Raw>, NoMemory> {
+    let mut all = Vec::new(alloc);
     let rounds = events.checked_div(u32::from(domains)).unwrap_or(0);
     for round in 0..rounds {
         for domain in 1..=domains {
             let asked = asked(alloc, domain, round)?;
             let number = u64::from(round);
-            let _ = jobs.send(rt, Raw { number, asked });
+            all.push(Raw { number, asked })?;
         }
     }
-    Ok(Ends {
-        queue,
-        answers,
-        answered,
-    })
+    Ok(all)
+}
+
+// The channels of the workers, and where they are asked.
+fn ends_of(alloc: Global) -> Result<(Sender<Raw>, Ends)> {
+    let (jobs, queue) = crossbeam_channel::unbounded::<Raw, Global>(alloc)?;
+    let (answers, answered) = crossbeam_channel::unbounded::<Done, Global>(alloc)?;
+    Ok((
+        jobs,
+        Ends {
+            queue,
+            answers,
+            answered,
+        },
+    ))
+}
+
+// All of these lie in the queue, and no more can come.
+fn ask_all<R: Wait>(rt: &R, jobs: Sender<Raw>, all: Vec<Raw>) {
+    for raw in all {
+        let _ = jobs.send(rt, raw);
+    }
 }
 
 // Runs a worker over channels.
@@ -186,7 +202,9 @@ fn timed<L: Ledger + Send + Sync, R: Threads + Wait + Clock + Sync>(
     requires name { blank.name ≡ L.name }
     requires parts { (blank.parts ≡ L.parts) × (blank.parts ≡ workers + 1) }
 {
-    let ends = queue_of(rt, alloc, domains, events)?;
+    let all = rounds(alloc, domains, events)?;
+    let (jobs, ends) = ends_of(alloc)?;
+    ask_all(rt, jobs, all);
     let (kept, first) = begun::<L>(alloc, blank, u64::from(workers) + 1, domains, ALONE)?;
     let before = kept.events();
     let kept = Mutex::new(kept);
