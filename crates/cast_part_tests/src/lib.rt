@@ -1,29 +1,11 @@
-//! Tests of the crates below the domain, but for views.
+//! Tests of the crates below the domain and of those around it: what their clauses leave open.
 //!
-//! Each is a list of rows: calls, what they answer, and what is seen afterwards.
+//! That a call succeeds where there is memory is seen where `cast_program_tests` and `cast_refusals` run.
 #![tactic(auto)]
 
 #[cfg(test)]
-mod clock;
+mod queues;
 #[cfg(test)]
-mod delay;
+mod streams;
 #[cfg(test)]
-mod index;
-#[cfg(test)]
-mod messages;
-#[cfg(test)]
-mod order;
-#[cfg(test)]
-mod outbox;
-#[cfg(test)]
-mod quota;
-#[cfg(test)]
-mod stable;
-#[cfg(test)]
-mod store;
-#[cfg(test)]
-mod timer;
-#[cfg(test)]
-mod types;
-#[cfg(test)]
-mod waiting;
+mod texts;

@@ -1,10 +1,13 @@
-//! Frames that were spelled by hand, a line each: whether one is written as it was read, or why it is no frame.
+//! Frames and scripts that were spelled by hand, a line each: whether a frame is written as it was read, or why it is none, and why
+//! a text is no script.
 //!
-//! A line is `site HEX` or `client HEX`; empty lines and lines that begin with `#` are passed over.
+//! A line is `site HEX`, `client HEX` or `script TEXT`, where `|` stands for a line feed; empty lines and lines that begin with `#` are
+//! passed over.
 
 use cast_client::{ClientRead, decode_client, encode_client, encode_push, encode_request};
 use cast_frame::{FrameFault, decode_site, encode_site};
 use cast_message::{ClientFrame, SiteFrame};
+use cast_script::{ScriptFault, parse};
 use cast_types::{DomainNo, SiteNo};
 use std::alloc::{AllocError, Global};
 use std::io;
@@ -76,11 +79,32 @@ fn client_text(alloc: Global, bytes: &[u8]) -> Result<String, AllocError> {
     }
 }
 
-// What becomes of a line; `None` of one that is passed over.
-fn line_text(alloc: Global, line: &str) -> Result<Option<String>, AllocError> {
-    let Some((kind, digits)) = line.split_once(' ') else {
-        return Ok(None);
-    };
+// What becomes of a text in a line: the line and the reason of its first fault.
+fn script_text(alloc: Global, text: &str) -> Result<String, AllocError> {
+    match parse(alloc, lines_of(alloc, text)?.as_str()) {
+        Ok(_) => String::from_str(alloc, "a script"),
+        Err(ScriptFault::At { line, reason }) => {
+            let why = reason.text();
+            format!(in alloc; "line {line}: {why}")
+        }
+        Err(ScriptFault::NoMemory) => Err(AllocError),
+    }
+}
+
+// The text with line feeds.
+fn lines_of(alloc: Global, text: &str) -> Result<String, AllocError> {
+    let mut lines = String::new(alloc);
+    for (place, line) in text.split('|').enumerate() {
+        if place > 0 {
+            lines.push_str("\n")?;
+        }
+        lines.push_str(line)?;
+    }
+    Ok(lines)
+}
+
+// What becomes of the digits of a frame; `None` where they are none.
+fn frame_text(alloc: Global, kind: &str, digits: &str) -> Result<Option<String>, AllocError> {
     let Ok(bytes) = hex::decode(alloc, digits) else {
         return Ok(None);
     };
@@ -91,7 +115,16 @@ fn line_text(alloc: Global, line: &str) -> Result<Option<String>, AllocError> {
     }
 }
 
-/// Reads frames from the standard input, and prints what becomes of each.
+// What becomes of a line; `None` of one that is passed over.
+fn line_text(alloc: Global, line: &str) -> Result<Option<String>, AllocError> {
+    match line.split_once(' ') {
+        Some(("script", text)) => Ok(Some(script_text(alloc, text)?)),
+        Some((kind, digits)) => frame_text(alloc, kind, digits),
+        None => Ok(None),
+    }
+}
+
+/// Reads frames and texts from the standard input, and prints what becomes of each.
 pub fn try_all<R: Input + Print + AllocGlobal>(rt: &R) -> io::Result<()> {
     for line in rt.lines(rt.alloc()) {
         if let Some(text) = line_text(rt.alloc(), line?.as_str())? {

@@ -1,7 +1,6 @@
 //! A script of five thousand events. Its rounds are alike, and so is what has to be printed of each.
 
-use cast_device::Watched;
-use cast_replay::{Unwatched, run_script};
+use crate::scripts::run;
 use std::alloc::Global;
 use std::io::{self, Write};
 
@@ -69,20 +68,17 @@ fn printed(alloc: Global) -> io::Result<Vec<u8>> {
     Ok(text)
 }
 
+/// How many line feeds there are.
+pub fn line_count(text: &[u8]) -> usize {
+    text.iter().filter(|byte| **byte == b'\n').count()
+}
+
 /// Replays the script, and prints whether what has to be printed was.
 pub fn replay_long<R: Print + AllocGlobal>(rt: &R) -> io::Result<()> {
     let script = script(rt.alloc())?;
-    let mut log = Watched::new(Vec::new(rt.alloc()));
-    let mut told = Watched::new(Vec::new(rt.alloc()));
-    let status = run_script(
-        rt.alloc(),
-        "long.script",
-        &script,
-        &mut Unwatched,
-        &mut log,
-        &mut told,
-    );
-    let lines = script.iter().filter(|byte| **byte == b'\n').count();
-    let is_same = log.device == printed(rt.alloc())?;
+    let lines = line_count(&script);
+    let run = run(rt.alloc(), "long.script", &script);
+    let is_same = run.log == printed(rt.alloc())?;
+    let status = run.status;
     println!(rt; "long.script: {lines} lines, status {status}, printed as it has to be: {is_same}")
 }

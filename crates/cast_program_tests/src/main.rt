@@ -1,5 +1,5 @@
 //! Trials of the whole program: what comes of the scripts in `data/`, one for each rule, of the
-//! frames in `stdin` and of command lines. `stdout` has what must be printed.
+//! frames and texts in `stdin` and of command lines. `stdout` has what must be printed.
 #![tactic(auto)]
 
 mod frames;

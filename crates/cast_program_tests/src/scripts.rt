@@ -2,27 +2,37 @@
 
 use cast_device::Watched;
 use cast_replay::{Unwatched, run_script};
+use std::alloc::Global;
 use std::io::Write;
 use std::rt::Files;
 use std::{fs, io};
 
-// Replays the script in a file, and prints its name, what comes of it, and the status.
-fn replay<R: Files + AllocGlobal, O: Write>(rt: &R, name: &str, out: &mut O) -> io::Result<()> {
-    let bytes = fs::read(rt, name)?;
-    let mut log = Watched::new(Vec::new(rt.alloc()));
-    let mut told = Watched::new(Vec::new(rt.alloc()));
+/// What comes of a script: its log, what is said of an error, and the status.
+#[derive(Drop)]
+pub struct Replayed {
+    pub log: Vec<u8>,
+    pub told: Vec<u8>,
+    pub status: u8,
+}
+
+/// Replays a script of this name.
+pub fn run(alloc: Global, name: &str, script: &[u8]) -> Replayed {
+    let mut log = Watched::new(Vec::new(alloc));
+    let mut told = Watched::new(Vec::new(alloc));
+    let status = run_script(alloc, name, script, &mut Unwatched, &mut log, &mut told);
+    Replayed {
+        log: log.device,
+        told: told.device,
+        status,
+    }
+}
+
+// Prints the name of a script and what came of it.
+fn print<O: Write>(name: &str, run: &Replayed, out: &mut O) -> io::Result<()> {
     writeln!(out, "== {name}")?;
-    let status = run_script(
-        rt.alloc(),
-        name,
-        &bytes,
-        &mut Unwatched,
-        &mut log,
-        &mut told,
-    );
-    out.write_all(&log.device)?;
-    out.write_all(&told.device)?;
-    writeln!(out, "status {status}")
+    out.write_all(&run.log)?;
+    out.write_all(&run.told)?;
+    writeln!(out, "status {}", run.status)
 }
 
 // A writer that takes nothing.
@@ -39,23 +49,23 @@ impl Write for Closed {
     }
 }
 
-// Replays the script in a file where nothing can be written, and prints the status.
-fn replay_closed<R: Files + AllocGlobal, O: Write>(
-    rt: &R,
-    name: &str,
-    out: &mut O,
-) -> io::Result<()> {
-    let bytes = fs::read(rt, name)?;
-    let mut log = Watched::new(Closed);
-    let mut told = Watched::new(Closed);
-    let status = run_script(
-        rt.alloc(),
+// The status of a script where nothing can be written.
+fn status_closed(alloc: Global, name: &str, script: &[u8]) -> u8 {
+    run_script(
+        alloc,
         name,
-        &bytes,
+        script,
         &mut Unwatched,
-        &mut log,
-        &mut told,
-    );
+        &mut Watched::new(Closed),
+        &mut Watched::new(Closed),
+    )
+}
+
+// Replays the script in a file, and prints what comes of it.
+fn replay<R: Files + AllocGlobal, O: Write>(rt: &R, name: &str, out: &mut O) -> io::Result<()> {
+    let script = fs::read(rt, name)?;
+    print(name, &run(rt.alloc(), name, &script), out)?;
+    let status = status_closed(rt.alloc(), name, &script);
     writeln!(out, "status {status} where nothing can be written")
 }
 
@@ -67,7 +77,6 @@ pub fn replay_all<R: Files + AllocGlobal, O: Write>(
 ) -> io::Result<()> {
     for name in names {
         replay(rt, name.as_str(), out)?;
-        replay_closed(rt, name.as_str(), out)?;
     }
     Ok(())
 }

@@ -1,7 +1,7 @@
 //! A daemon of sixteen domains prints of each what a daemon prints that serves that domain alone.
 
-use cast_device::Watched;
-use cast_replay::{Unwatched, run_script};
+use crate::long::line_count;
+use crate::scripts::run;
 use std::alloc::{AllocError, Global};
 use std::io::{self, Write};
 use std::str;
@@ -29,55 +29,85 @@ const TENANTS: [(u32, u32, u32, &str); 16] = [
     (99, 9, 16, "16 10 40 150"),
 ];
 
-// The event of a domain in a round: the site enters a view of the group, and then programs and sites do this and that.
-fn event<W: Write>(text: &mut W, number: u32, home: u32, group: u32, round: u32) -> io::Result<()> {
-    match (home, round) {
-        (_, 0) => writeln!(text, "open {number}"),
-        (_, 1) => writeln!(text, "join {number} 1 0 {group}"),
-        (1, 2) => writeln!(
-            text,
-            "frame 43440104{number:02x}0001{group:04x}0000000101000100000001"
-        ),
-        (_, 2 | 3) => writeln!(
-            text,
-            "frame 43440105{number:02x}{home:04x}{group:04x}0000000100"
-        ),
-        (1, 4) => writeln!(
-            text,
-            "frame 4344010a{number:02x}0001{group:04x}0000000101000100000001000000000100000000000000"
-        ),
-        (_, 4) => writeln!(
-            text,
-            "frame 4344010a{number:02x}0009{group:04x}0000000202000100000001000200000001000000000100000000000000"
-        ),
-        (1, 5) => writeln!(text, "frame 4344010b{number:02x}0001{group:04x}00000001"),
-        (_, 5) => writeln!(
-            text,
-            "frame 43440101{number:02x}0002{group:04x}00000002000200000001000000010101{group:04x}0000000201000200000001000000010000"
-        ),
-        _ => later_event(text, number, group, round),
+// What the line of an event names: a domain with its home and its group, and the round.
+#[derive(Clone, Copy)]
+struct Names {
+    number: u32,
+    home: u32,
+    group: u32,
+    round: u32,
+}
+
+// The event of a domain in a round: the site enters a view of the group, and then programs and sites do this and that. A capital
+// stands for a number: `D` the domain, `G` the group and `R` the round, and in hexadecimal `N` the domain, `H` the home, `P` the group
+// and `B` the round.
+fn pattern(names: Names) -> &'static str {
+    match (names.home, names.round) {
+        (_, 0) => "open D",
+        (_, 1) => "join D 1 0 G",
+        (1, 2) => "frame 43440104N0001P0000000101000100000001",
+        (_, 2 | 3) => "frame 43440105NHP0000000100",
+        (1, 4) => { "frame 4344010aN0001P0000000101000100000001000000000100000000000000" }
+        (_, 4) => {
+            "frame 4344010aN0009P0000000202000100000001000200000001000000000100000000000000"
+        }
+        (1, 5) => "frame 4344010bN0001P00000001",
+        (_, 5) => {
+            "frame 43440101N0002P00000002000200000001000000010101P0000000201000200000001000000010000"
+        }
+        _ => later_pattern(names.number.wrapping_mul(5).wrapping_add(names.round) % 13),
     }
 }
 
 // The same once the view is there.
-fn later_event<W: Write>(text: &mut W, number: u32, group: u32, round: u32) -> io::Result<()> {
-    match number.wrapping_mul(5).wrapping_add(round) % 13 {
-        0 => writeln!(text, "cast {number} 1 {round} {group} {round:02x}"),
-        1 | 2 => writeln!(text, "abcast {number} 1 {round} {group} -"),
-        3 => writeln!(
-            text,
-            "frame 43440102{number:02x}0002{group:04x}0000000200010000000100000001"
-        ),
-        4 => writeln!(text, "take {number} 1 {group}"),
-        5 => writeln!(text, "open {number}"),
-        6 => writeln!(text, "join {number} 2 {round} {group}"),
-        7 => writeln!(text, "quota {number} held {round}00"),
-        8 => writeln!(text, "cast {number} 1 {round} 9 -"),
-        9 => writeln!(text, "take {number} 2 0"),
-        10 => writeln!(text, "quota {number} outbox {group}"),
-        11 => writeln!(text, "bad {number} 3"),
-        _ => writeln!(text, "gone {number} 2"),
+fn later_pattern(turn: u32) -> &'static str {
+    match turn {
+        0 => "cast D 1 R G B",
+        1 | 2 => "abcast D 1 R G -",
+        3 => "frame 43440102N0002P0000000200010000000100000001",
+        4 => "take D 1 G",
+        5 => "open D",
+        6 => "join D 2 R G",
+        7 => "quota D held R00",
+        8 => "cast D 1 R 9 -",
+        9 => "take D 2 0",
+        10 => "quota D outbox G",
+        11 => "bad D 3",
+        _ => "gone D 2",
     }
+}
+
+// How a number is spelled.
+#[derive(Clone, Copy)]
+enum Spelling {
+    Decimal(u32),
+    // With so many digits.
+    Hexadecimal(u32, usize),
+}
+
+// What a capital stands for.
+fn spelling_of(capital: char, names: Names) -> Option<Spelling> {
+    match capital {
+        'D' => Some(Spelling::Decimal(names.number)),
+        'G' => Some(Spelling::Decimal(names.group)),
+        'R' => Some(Spelling::Decimal(names.round)),
+        'N' => Some(Spelling::Hexadecimal(names.number, 2)),
+        'B' => Some(Spelling::Hexadecimal(names.round, 2)),
+        'H' => Some(Spelling::Hexadecimal(names.home, 4)),
+        'P' => Some(Spelling::Hexadecimal(names.group, 4)),
+        _ => None,
+    }
+}
+
+fn event<W: Write>(text: &mut W, names: Names) -> io::Result<()> {
+    for letter in pattern(names).chars() {
+        match spelling_of(letter, names) {
+            Some(Spelling::Decimal(number)) => write!(text, "{number}")?,
+            Some(Spelling::Hexadecimal(number, digits)) => write!(text, "{number:0digits$x}")?,
+            None => write!(text, "{letter}")?,
+        }
+    }
+    writeln!(text)
 }
 
 // Whether a script of all domains, or of one, has a domain.
@@ -103,7 +133,15 @@ fn head<W: Write>(text: &mut W, only: Option<u32>) -> io::Result<()> {
 fn events<W: Write>(text: &mut W, only: Option<u32>, round: u32) -> io::Result<()> {
     for (number, home, group, _) in TENANTS {
         if has(only, number) {
-            event(text, number, home, group, round)?;
+            event(
+                text,
+                Names {
+                    number,
+                    home,
+                    group,
+                    round,
+                },
+            )?;
         } else {
             writeln!(text, "tick 0")?;
         }
@@ -122,12 +160,20 @@ fn script(alloc: Global, only: Option<u32>) -> io::Result<Vec<u8>> {
     Ok(text)
 }
 
-// What a script prints: what its events were answered, each line with its number, and the rest.
+// What scripts print: what their events were answered, each line with its number, and the rest.
 #[derive(Drop)]
 struct Shown {
-    status: u8,
     answers: Vec<(u32, String)>,
     given: String,
+}
+
+impl Shown {
+    fn new(alloc: Global) -> Self {
+        Shown {
+            answers: Vec::new(alloc),
+            given: String::new(alloc),
+        }
+    }
 }
 
 // The number of the event that a line says the answer of.
@@ -136,63 +182,61 @@ fn event_of(line: &str) -> Option<u32> {
     number.parse().ok()
 }
 
-fn printed(alloc: Global, only: Option<u32>) -> io::Result<Shown> {
-    let script = script(alloc, only)?;
-    let mut log = Watched::new(Vec::new(alloc));
-    let mut told = Watched::new(Vec::new(alloc));
-    let status = run_script(
-        alloc,
-        "tenants.script",
-        &script,
-        &mut Unwatched,
-        &mut log,
-        &mut told,
-    );
-    let mut all = Shown {
-        status,
-        answers: Vec::new(alloc),
-        given: String::new(alloc),
-    };
-    for line in str::from_utf8(&log.device).unwrap_or_default().lines() {
-        match event_of(line) {
-            Some(number) => all.answers.push((number, String::from_str(alloc, line)?))?,
-            None => add_line(&mut all.given, line)?,
+fn add_line(alloc: Global, shown: &mut Shown, line: &str) -> Result<(), AllocError> {
+    match event_of(line) {
+        Some(number) => {
+            let answer = String::from_str(alloc, line)?;
+            shown.answers.push((number, answer))?;
+            Ok(())
+        }
+        None => {
+            shown.given.push_str(line)?;
+            shown.given.push_str("\n")
         }
     }
-    Ok(all)
 }
 
-fn add_line(text: &mut String, line: &str) -> Result<(), AllocError> {
-    text.push_str(line)?;
-    text.push_str("\n")
-}
-
-// What the scripts of one domain each print: all answers in the order of the events, and then domain after domain.
-fn printed_alone(alloc: Global) -> io::Result<Shown> {
-    let mut all = Shown {
-        status: 0,
-        answers: Vec::new(alloc),
-        given: String::new(alloc),
-    };
-    for (number, _, _, _) in TENANTS {
-        let mut one = printed(alloc, Some(number))?;
-        all.status |= one.status;
-        all.answers.append(&mut one.answers)?;
-        all.given.push_str(&one.given)?;
+fn add_lines(alloc: Global, shown: &mut Shown, text: &[u8]) -> Result<(), AllocError> {
+    for line in str::from_utf8(text).unwrap_or_default().lines() {
+        add_line(alloc, shown, line)?;
     }
-    all.answers.sort_by_key(|answer| answer.0)?;
-    Ok(all)
+    Ok(())
+}
+
+// Adds what the script of all domains prints, or that of one. Returns the status.
+fn add(alloc: Global, shown: &mut Shown, only: Option<u32>) -> io::Result<u8> {
+    let script = script(alloc, only)?;
+    let run = run(alloc, "tenants.script", &script);
+    add_lines(alloc, shown, &run.log)?;
+    Ok(run.status)
+}
+
+// Adds what the scripts of one domain each print. Returns a status that is not 0, where there is one.
+fn add_each(alloc: Global, shown: &mut Shown) -> io::Result<u8> {
+    let mut status = 0;
+    for (number, _, _, _) in TENANTS {
+        status |= add(alloc, shown, Some(number))?;
+    }
+    Ok(status)
+}
+
+// Whether the script of all domains prints the same as those of one each: all answers in the order of the events, and then domain
+// after domain.
+fn print_the_same(alloc: Global) -> io::Result<bool> {
+    let mut together = Shown::new(alloc);
+    let mut alone = Shown::new(alloc);
+    let status = add(alloc, &mut together, None)? | add_each(alloc, &mut alone)?;
+    alone.answers.sort_by_key(|answer| answer.0)?;
+    Ok(status == 0 && are_equal(&together, &alone))
+}
+
+fn are_equal(one: &Shown, other: &Shown) -> bool {
+    one.answers == other.answers && one.given == other.given
 }
 
 /// Replays the script of all domains and those of one each, and prints whether they print the same.
 pub fn replay_tenants<R: Print + AllocGlobal>(rt: &R) -> io::Result<()> {
-    let together = printed(rt.alloc(), None)?;
-    let alone = printed_alone(rt.alloc())?;
-    let script = script(rt.alloc(), None)?;
-    let lines = script.iter().filter(|byte| **byte == b'\n').count();
-    let is_same = together.answers == alone.answers && together.given == alone.given;
-    println!(rt;
-        "tenants.script: {lines} lines, status {}, printed as of each domain alone: {is_same}",
-        together.status | alone.status
-    )
+    let lines = line_count(&script(rt.alloc(), None)?);
+    let is_same = print_the_same(rt.alloc())?;
+    println!(rt; "tenants.script: {lines} lines, printed as of each domain alone: {is_same}")
 }

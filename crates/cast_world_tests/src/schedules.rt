@@ -87,29 +87,42 @@ fn comes(site: u16, number: usize) -> Step {
 }
 
 // Each frame is handed to every site: it counts at the one that it is addressed to.
-fn come(world: &mut World, sites: &[u16], from: usize, to: usize) -> Result<(), NoMemory> {
+fn add_frames(
+    steps: &mut Vec<Step>,
+    sites: &[u16],
+    from: usize,
+    to: usize,
+) -> Result<(), NoMemory> {
     for number in from..to {
         for site in sites {
-            world.run(&[comes(*site, number)])?;
+            steps.push(comes(*site, number))?;
         }
     }
     Ok(())
 }
 
-fn does(world: &mut World, sites: &[u16], row: Row) -> Result<(), NoMemory> {
-    match row {
-        Row::Opens(site) => world.run(&[local(site, Event::Open(DOMAIN))]),
-        Row::Joins(site, group) => world.run(&[joins(site, group)]),
-        Row::Casts(site, group) => world.run(&[casts(site, group, CastKind::Causal)]),
-        Row::Abcasts(site, group) => world.run(&[casts(site, group, CastKind::Atomic)]),
-        Row::Passes(site, group, to) => world.run(&[passes(site, group, to)]),
-        Row::Suspects(site, lost) => world.run(&[local(
-            site,
-            Event::Suspect(DOMAIN, SiteNo(lost)),
-        )]),
-        Row::Comes(site, number) => world.run(&[comes(site, number)]),
-        Row::Come(from, to) => come(world, sites, from, to),
+fn add(steps: &mut Vec<Step>, sites: &[u16], row: Row) -> Result<(), NoMemory> {
+    let step = match row {
+        Row::Opens(site) => local(site, Event::Open(DOMAIN)),
+        Row::Joins(site, group) => joins(site, group),
+        Row::Casts(site, group) => casts(site, group, CastKind::Causal),
+        Row::Abcasts(site, group) => casts(site, group, CastKind::Atomic),
+        Row::Passes(site, group, to) => passes(site, group, to),
+        Row::Suspects(site, lost) => local(site, Event::Suspect(DOMAIN, SiteNo(lost))),
+        Row::Comes(site, number) => comes(site, number),
+        Row::Come(from, to) => return add_frames(steps, sites, from, to),
+    };
+    steps.push(step)?;
+    Ok(())
+}
+
+// The steps of a run over these sites.
+fn steps_of(alloc: Global, sites: &[u16], rows: &[Row]) -> Result<Vec<Step>, NoMemory> {
+    let mut steps = Vec::new(alloc);
+    for row in rows {
+        add(&mut steps, sites, *row)?;
     }
+    Ok(steps)
 }
 
 // The configurations of daemons at these sites, of which site 1 is the home, with these groups.
@@ -173,6 +186,30 @@ fn named((group, view, sender, count): Message) -> Uid {
     }
 }
 
+// The network of these sites after these rows.
+fn world_after(
+    alloc: Global,
+    sites: &[u16],
+    groups: &[u16],
+    rows: &[Row],
+) -> Result<World, NoMemory> {
+    let configs = configs(alloc, sites, groups)?;
+    let steps = steps_of(alloc, sites, rows)?;
+    let mut world = World::new(alloc, &configs)?;
+    world.run(&steps)?;
+    Ok(world)
+}
+
+// The first process of each of these sites has delivered these messages.
+fn have_delivered(world: &World, delivered: &[(u16, &[Message])]) -> Result<(), Fail> {
+    for (site, messages) in delivered {
+        if !has_delivered(world, *site, messages)? {
+            return Err(Fail::new(format_args!("site {site}: other messages were delivered")));
+        }
+    }
+    Ok(())
+}
+
 // After these rows the first process of each of these sites has delivered these messages.
 fn leads(
     alloc: Global,
@@ -181,16 +218,8 @@ fn leads(
     rows: &[Row],
     delivered: &[(u16, &[Message])],
 ) -> Result<(), Fail> {
-    let mut world = World::new(alloc, &configs(alloc, sites, groups)?)?;
-    for row in rows {
-        does(&mut world, sites, *row)?;
-    }
-    for (site, messages) in delivered {
-        if !has_delivered(&world, *site, messages)? {
-            return Err(Fail::new(format_args!("site {site}: other messages were delivered")));
-        }
-    }
-    Ok(())
+    let world = world_after(alloc, sites, groups, rows)?;
+    have_delivered(&world, delivered)
 }
 
 // 1.1 and 2.1 are in both groups. 2.1 casts in group 1 and then in group 2, and the second cast comes first.
@@ -317,19 +346,20 @@ fn members_deliver_the_first_of_the_order(rt: HostRuntime) -> Result<(), Fail> {
     )
 }
 
+fn holder_is_lost(alloc: Global) -> Result<Vec<Row>, NoMemory> {
+    let mut rows = HOLDER_TELLS.to_vec(alloc)?;
+    rows.push(Row::Suspects(1, 2))?;
+    rows.push(Row::Come(36, 60))?;
+    Ok(rows)
+}
+
 // Then the holder is lost. 1.1, which knew nothing of the order and had its own cast first, delivers both in that order, as 3.1 does. The
 // holder's second message was delivered at no site that reports.
 #[test]
 fn a_lost_holder_leaves_its_order(rt: HostRuntime) -> Result<(), Fail> {
-    let alloc = rt.alloc();
-    let mut rows = Vec::new(alloc);
-    for row in HOLDER_TELLS {
-        rows.push(row)?;
-    }
-    rows.push(Row::Suspects(1, 2))?;
-    rows.push(Row::Come(36, 60))?;
+    let rows = holder_is_lost(rt.alloc())?;
     leads(
-        alloc,
+        rt.alloc(),
         &[1, 2, 3],
         &[1],
         &rows,
