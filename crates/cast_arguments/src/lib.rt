@@ -45,97 +45,122 @@ pub enum Asked {
 
 // The words that the program understands.
 fn command<'a>(alloc: Global) -> Result<Command<'a>, clap::Error> {
-    Ok(
-        Command::new(alloc, "castd")
-            .about("A group communication daemon")
-            .version(VERSION)
-            .subcommand_required(true)
-            .subcommand(serve_command(alloc)?)?
-            .subcommand(check_command(alloc)?)?
-            .subcommand(replay_command(alloc)?)?,
-    )
+    let command = with_command(castd(alloc), serve_command(alloc)?)?;
+    let command = with_command(command, check_command(alloc)?)?;
+    with_command(command, replay_command(alloc)?)
+}
+
+// The program, without its commands.
+fn castd<'a>(alloc: Global) -> Command<'a> {
+    Command::new(alloc, "castd")
+        .about("A group communication daemon")
+        .version(VERSION)
+        .subcommand_required(true)
+}
+
+// A program with one command more.
+fn with_command<'a>(
+    program: Command<'a>,
+    command: Command<'a>,
+) -> Result<Command<'a>, clap::Error> {
+    Ok(program.subcommand(command)?)
+}
+
+// A command with one argument more.
+fn with_argument<'a>(command: Command<'a>, argument: Arg<'a>) -> Result<Command<'a>, clap::Error> {
+    Ok(command.arg(argument)?)
 }
 
 // The words of `replay`.
 fn replay_command<'a>(alloc: Global) -> Result<Command<'a>, clap::Error> {
-    let file = Arg::new(alloc, "FILE")
-        .help("The script, or the folder of a record")
-        .required(true)
-        .action(ArgAction::Set);
-    let until = Arg::new(alloc, "until")
-        .long("until")
-        .value_name("N")
-        .help("Replays the first N events alone")
-        .value_parser(value_parser!(u64));
-    let domain = Arg::new(alloc, "domain")
-        .long("domain")
-        .value_name("D")
-        .help("Replays one domain alone")
-        .value_parser(value_parser!(u8).range(1..256));
-    Ok(
-        Command::new(alloc, "replay")
-            .about("Replays a script or a record and prints its log")
-            .arg(file)?
-            .arg(until)?
-            .arg(domain)?,
-    )
+    let command = Command::new(alloc, "replay").about(
+        "Replays a script or a record and prints its log",
+    );
+    let command = with_argument(command, file_argument(alloc))?;
+    let command = with_argument(command, until_argument(alloc))?;
+    with_argument(command, domain_argument(alloc))
 }
 
 // The words of `serve`.
 fn serve_command<'a>(alloc: Global) -> Result<Command<'a>, clap::Error> {
-    Ok(
-        Command::new(alloc, "serve")
-            .about("Runs the daemon of a site")
-            .arg(config_argument(alloc))?
-            .arg(site_argument(alloc))?
-            .arg(workers_argument(alloc))?
-            .arg(record_argument(alloc))?,
-    )
+    let command = Command::new(alloc, "serve").about("Runs the daemon of a site");
+    let command = with_site(alloc, command)?;
+    let command = with_argument(command, workers_argument(alloc))?;
+    with_argument(command, record_argument(alloc))
 }
 
 // The words of `check`.
 fn check_command<'a>(alloc: Global) -> Result<Command<'a>, clap::Error> {
-    Ok(
-        Command::new(alloc, "check")
-            .about("Says what the daemon of a site would serve")
-            .arg(config_argument(alloc))?
-            .arg(site_argument(alloc))?,
-    )
+    let command = Command::new(alloc, "check").about("Says what the daemon of a site would serve");
+    with_site(alloc, command)
 }
 
-// The name of a configuration.
-fn config_argument<'a>(alloc: Global) -> Arg<'a> {
-    Arg::new(alloc, "CONFIG")
-        .help("The configuration")
+// A command that reads the configuration of a site.
+fn with_site<'a>(alloc: Global, command: Command<'a>) -> Result<Command<'a>, clap::Error> {
+    let command = with_argument(command, config_argument(alloc))?;
+    with_argument(command, site_argument(alloc))
+}
+
+// An argument that is given by its place.
+fn placed<'a>(alloc: Global, name: &'a str, help: &'a str) -> Arg<'a> {
+    Arg::new(alloc, name)
+        .help(help)
         .required(true)
         .action(ArgAction::Set)
 }
 
+// An argument that is given by its name.
+fn named<'a>(alloc: Global, name: &'a str, help: &'a str) -> Arg<'a> {
+    Arg::new(alloc, name).long(name).help(help)
+}
+
+// The name of a configuration.
+fn config_argument<'a>(alloc: Global) -> Arg<'a> {
+    placed(alloc, "CONFIG", "The configuration")
+}
+
+// The name of a script or a record.
+fn file_argument<'a>(alloc: Global) -> Arg<'a> {
+    placed(alloc, "FILE", "The script, or the folder of a record")
+}
+
 // The number of the own site.
 fn site_argument<'a>(alloc: Global) -> Arg<'a> {
-    Arg::new(alloc, "site")
-        .long("site")
-        .help("The number of the own site")
+    named(alloc, "site", "The number of the own site")
         .required(true)
         .value_parser(value_parser!(u16).range(1..65_536))
 }
 
 // How many threads serve.
 fn workers_argument<'a>(alloc: Global) -> Arg<'a> {
-    Arg::new(alloc, "workers")
-        .long("workers")
-        .help("How many threads serve, 1 to 64")
+    named(alloc, "workers", "How many threads serve, 1 to 64")
         .default_value("4")
         .value_parser(value_parser!(u8).range(1..65))
 }
 
 // Where what the daemon does is recorded.
 fn record_argument<'a>(alloc: Global) -> Arg<'a> {
-    Arg::new(alloc, "record")
-        .long("record")
-        .value_name("DIR")
-        .help("The folder to record each event in, as scripts that replay")
-        .action(ArgAction::Set)
+    named(
+        alloc,
+        "record",
+        "The folder to record each event in, as scripts that replay",
+    )
+    .value_name("DIR")
+    .action(ArgAction::Set)
+}
+
+// How many events are replayed.
+fn until_argument<'a>(alloc: Global) -> Arg<'a> {
+    named(alloc, "until", "Replays the first N events alone")
+        .value_name("N")
+        .value_parser(value_parser!(u64))
+}
+
+// Which domain is replayed.
+fn domain_argument<'a>(alloc: Global) -> Arg<'a> {
+    named(alloc, "domain", "Replays one domain alone")
+        .value_name("D")
+        .value_parser(value_parser!(u8).range(1..256))
 }
 
 // What these words say.

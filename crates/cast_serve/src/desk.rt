@@ -1,6 +1,5 @@
 //! Which programs are served, what is asked of the workers, and which sessions are still to end.
-use crate::client::{Client, Session};
-use crate::report::Report;
+use cast_edge::{Client, Report, Session};
 use cast_events::Event;
 use cast_pool::{Asked, Raw};
 use cast_types::{DomainNo, NoMemory, Refusal};
@@ -48,6 +47,79 @@ enum End {
     Asked(Session),
 }
 
+// A session that is not gone, by the number under which it was asked for.
+#[derive(Drop)]
+struct Ending {
+    number: u64,
+    end: End,
+}
+
+// The sessions that are not gone. Numbers rise, so the last one is added at the end.
+#[derive(Drop)]
+struct Endings {
+    list: Vec<Ending>,
+}
+
+impl Endings {
+    // No session.
+    fn new(alloc: Global) -> Self {
+        Endings {
+            list: Vec::new(alloc),
+        }
+    }
+
+    // Adds a session that is asked for under a number above all others.
+    fn add(&mut self, number: u64) -> Result<(), NoMemory> {
+        self.list.push(Ending {
+            number,
+            end: End::Ahead,
+        })?;
+        Ok(())
+    }
+
+    // The place of a number.
+    fn place(&self, number: u64) -> Option<usize> {
+        self.list
+            .binary_search_by_key(&number, |ending| ending.number)
+            .ok()
+    }
+
+    // Forgets a number.
+    fn remove(&mut self, number: u64) {
+        if let Some(place) = self.place(number)
+            && place < self.list.len()
+        {
+            drop(self.list.remove(place));
+        }
+    }
+
+    // How far the session under a number is from its end.
+    fn get_mut(&mut self, number: u64) -> Option<&mut End> {
+        let place = self.place(number)?;
+        let ending = self.list.get_mut(place)?;
+        Some(&mut ending.end)
+    }
+}
+
+// Asks an event of the workers under a number. False if too many are on the way.
+fn ask<R: Wait>(rt: &R, jobs: &Sender<Raw>, number: u64, event: Event) -> bool {
+    let asked = Asked::Event(event);
+    jobs.try_send(rt, Raw { number, asked }).is_ok()
+}
+
+// Hands in the Gone of a session if it is due. What is refused stays due.
+fn hand_in<R: Wait>(rt: &R, jobs: &Sender<Raw>, ending: &mut Ending) {
+    if let End::Due(session) = ending.end {
+        let event = Event::Gone {
+            domain: session.domain,
+            serial: session.serial,
+        };
+        if ask(rt, jobs, ending.number, event) {
+            ending.end = End::Asked(session);
+        }
+    }
+}
+
 // How often something happened that an operator has to know. It is reported the first time, the tenth, the hundredth, and so on.
 #[derive(Clone, Copy)]
 struct Count {
@@ -87,8 +159,7 @@ pub struct Desk {
     waiting: BTreeMap<u64, Purpose>,
     // The number of the tick that is on the way; 0 if none is.
     tick: u64,
-    // The sessions that are not gone, by the numbers under which they were asked for.
-    ends: BTreeMap<u64, End>,
+    ends: Endings,
     clients: BTreeMap<Session, Arc<Client, Global>>,
     reports: Option<Sender<Report>>,
     is_stopping: bool,
@@ -108,7 +179,7 @@ impl Desk {
             last: 0,
             waiting: BTreeMap::new(alloc),
             tick: 0,
-            ends: BTreeMap::new(alloc),
+            ends: Endings::new(alloc),
             clients: BTreeMap::new(alloc),
             is_stopping: false,
             unread: Count::new(),
@@ -118,9 +189,8 @@ impl Desk {
 
     // Asks an event of the workers under a number. False if it was refused: the daemon stops, or too many are on the way.
     fn send<R: Wait>(&self, rt: &R, number: u64, event: Event) -> bool {
-        let asked = Asked::Event(event);
         match &self.jobs {
-            Some(jobs) => jobs.try_send(rt, Raw { number, asked }).is_ok(),
+            Some(jobs) => ask(rt, jobs, number, event),
             None => false,
         }
     }
@@ -145,11 +215,10 @@ impl Desk {
         let Ok(number) = self.register(Purpose::Open(domain, to)) else {
             return false;
         };
-        let is_asked = self.ends.insert(number, End::Ahead).is_ok()
-            && self.send(rt, number, Event::Open(domain));
+        let is_asked = self.ends.add(number).is_ok() && self.send(rt, number, Event::Open(domain));
         if !is_asked {
             drop(self.waiting.remove(&number));
-            drop(self.ends.remove(&number));
+            self.ends.remove(number);
         }
         is_asked
     }
@@ -175,7 +244,7 @@ impl Desk {
         }
         match self.waiting.remove(&number) {
             Some(purpose) => purpose,
-            None if self.ends.get(&number).is_some() => Purpose::Gone,
+            None if self.ends.place(number).is_some() => Purpose::Gone,
             None => Purpose::Other,
         }
     }
@@ -189,7 +258,7 @@ impl Desk {
                     self.leave(rt, opened);
                 }
             }
-            Opening::Refused(_) | Opening::Lost => drop(self.ends.remove(&number)),
+            Opening::Refused(_) | Opening::Lost => self.ends.remove(number),
         }
     }
 
@@ -206,7 +275,7 @@ impl Desk {
     /// Forgets a program, and hands in that its session ends.
     pub fn leave<R: Wait>(&mut self, rt: &R, opened: Opened) {
         drop(self.clients.remove(&opened.session));
-        if let Some(end) = self.ends.get_mut(&opened.number) {
+        if let Some(end) = self.ends.get_mut(opened.number) {
             *end = End::Due(opened.session);
         }
         self.hand_in_ends(rt);
@@ -217,25 +286,16 @@ impl Desk {
         let Some(jobs) = &self.jobs else {
             return;
         };
-        for (number, end) in self.ends.iter_mut() {
-            if let End::Due(session) = *end {
-                let asked = Asked::Event(Event::Gone {
-                    domain: session.domain,
-                    serial: session.serial,
-                });
-                let number = *number;
-                if jobs.try_send(rt, Raw { number, asked }).is_ok() {
-                    *end = End::Asked(session);
-                }
-            }
+        for ending in self.ends.list.iter_mut() {
+            hand_in(rt, jobs, ending);
         }
     }
 
     /// The Gone under a number has its answer. One that found no memory is due again.
     pub fn gone(&mut self, number: u64, is_done: bool) {
         if is_done {
-            drop(self.ends.remove(&number));
-        } else if let Some(end) = self.ends.get_mut(&number) {
+            self.ends.remove(number);
+        } else if let Some(end) = self.ends.get_mut(number) {
             if let End::Asked(session) = *end {
                 *end = End::Due(session);
             }

@@ -1,7 +1,7 @@
 //! What becomes of what the workers and the console did.
-use crate::client::Session;
 use crate::desk::{Desk, Opened, Opening, Purpose};
 use crate::server::Server;
+use cast_edge::Session;
 use cast_events::{Fault, Taken};
 use cast_pool::{Done, Outcome};
 use cast_types::{DomainNo, Refusal};

@@ -7,26 +7,21 @@
 //! and a dispatcher passes on what comes of those. Promised: every call is safe.
 #![tactic(auto)]
 
-mod client;
 mod console;
 mod desk;
 mod dispatch;
 mod file;
-mod folder;
-mod output;
 mod pace;
 mod program;
 mod reader;
 mod receiver;
 mod record;
-mod report;
 mod server;
 mod shared;
 mod sockets;
 mod threads;
 mod udp;
-mod unacknowledged;
 
+pub use cast_edge::Folder;
 pub use file::{check_file, serve_file};
-pub use folder::Folder;
 pub use threads::serve;

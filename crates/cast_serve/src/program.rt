@@ -1,11 +1,10 @@
 //! The threads of a program, from its session's begin to its end.
-use crate::client::{Client, Session, WriterTask};
 use crate::desk::{Opened, Opening};
 use crate::reader::{Reader, run_reader};
-use crate::report::Report;
 use crate::server::Server;
 use crate::shared::Shared;
 use cast_device::Watched;
+use cast_edge::{Client, Report, Session, WriterTask};
 use cast_message::Push;
 use cast_session::pump_out;
 use cast_types::{DomainNo, NoMemory, Refusal};

@@ -1,8 +1,8 @@
 //! The reader of a program: it serves the program's commands, and writes what they push.
-use crate::client::{Client, Session};
 use crate::pace::{Pace, Patience};
 use crate::server::{Came, Server, session_of};
 use cast_device::Watched;
+use cast_edge::{Client, Session};
 use cast_events::{Event, Fault, Outs, Taken};
 use cast_message::{Command, Request};
 use cast_pool::{Asked, Job};

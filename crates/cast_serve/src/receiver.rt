@@ -1,8 +1,7 @@
 //! The receiver: it serves the datagrams that come.
-use crate::client::Session;
-use crate::report::Report;
 use crate::server::{Server, session_of};
 use crate::shared::Shared;
+use cast_edge::{Report, Session};
 use cast_events::Outs;
 use cast_link::{LinkFault, Wire, receive_one};
 use cast_message::SiteFrame;

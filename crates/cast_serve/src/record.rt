@@ -1,9 +1,9 @@
 //! The record of a daemon: each event that it served, in order, as a script that replays.
 ghost use Rattle.std.specs.Prelude.{◌≡◌, []};
 
-use crate::report::Report;
 use crate::shared::Shared;
 use cast_console::Recording;
+use cast_edge::Report;
 use cast_events::{Config, Event};
 use cast_message::{Body, Command, Request, SiteFrame};
 use cast_pool::{Entry, Kept};

@@ -1,12 +1,12 @@
 //! A thread that serves events: under the table's lock for each, and sends the frames outside it.
 ghost use Rattle.std.specs.Prelude.{◌≡◌, ◌<◌};
 
-use crate::client::{Client, Session, Unwritten, WriterTask};
-use crate::output::{Written, has_end, write_now, write_whole};
 use crate::pace::{Pace, Turn};
-use crate::report::Report;
 use crate::shared::{CountShare, Shared};
 use crate::udp::Udp;
+use cast_edge::{
+    Client, Report, Session, Unwritten, WriterTask, Written, has_end, write_now, write_whole,
+};
 use cast_events::{Event, Fault, Outs, Taken};
 use cast_link::{Wire, send_all};
 use cast_message::{Push, SiteFrame};

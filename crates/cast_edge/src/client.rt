@@ -11,13 +11,16 @@ use std::sync::{Condvar, Mutex, Wait};
 /// The session of a program.
 #[derive(Clone, Copy, Debug, PartialEq, Eq, PartialOrd, Ord)]
 pub struct Session {
+    /// The domain that it was opened in.
     pub domain: DomainNo,
+    /// Its number there.
     pub serial: u32,
 }
 
 /// Bytes that were taken for a program, and are not all written.
 #[derive(Drop)]
 pub struct Unwritten {
+    /// All that was taken, spelled.
     pub bytes: Vec<u8>,
     /// How many of them are written.
     pub written: usize,
@@ -56,7 +59,9 @@ struct Pen {
 /// A program that is served.
 #[derive(Drop)]
 pub struct Client {
+    /// The session that it has.
     pub session: Session,
+    /// The stream between it and the daemon.
     pub stream: UnixStream,
     pen: Mutex<Pen>,
     // There is a task, or nothing more is written.

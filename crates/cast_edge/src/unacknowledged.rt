@@ -158,7 +158,9 @@ impl Flight {
 #[derive(Drop)]
 pub struct Unacknowledged {
     alloc: Global,
+    /// The domain.
     pub domain: DomainNo,
+    /// The site.
     pub site: SiteNo,
     flight: Mutex<Flight>,
 }

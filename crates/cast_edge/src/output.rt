@@ -8,6 +8,7 @@ use std::os::unix::net::UnixStream;
 /// How much of some bytes went out.
 #[derive(Clone, Copy, Debug, PartialEq, Eq)]
 pub enum Written {
+    /// All of them.
     All,
     /// So many. The program takes no more for now.
     Part(usize),
