@@ -20,6 +20,11 @@ fn say<T: Display, W: Write>(what: &T, out: &mut W) {
     let _ = out.flush();
 }
 
+// Hands something on. It is lost once nobody takes it. It is proved for any type at once, which is quicker than at a large one.
+fn hand_on<T: Drop, R: Wait>(rt: &R, to: &Sender<T>, what: T) {
+    let _ = to.send(rt, what);
+}
+
 // Answers a line, and hands on what its event came to.
 fn answer_line<L: Ledger, R: Wait, W: Write>(
     rt: &R,
@@ -48,7 +53,7 @@ fn answer_line<L: Ledger, R: Wait, W: Write>(
         answer
     };
     if let Some(done) = done {
-        let _ = dones.send(rt, done);
+        hand_on(rt, dones, done);
     }
     match text {
         Ok(text) => say(&text, out),

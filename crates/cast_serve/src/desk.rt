@@ -101,10 +101,16 @@ impl Endings {
     }
 }
 
+// Sends something if there is room for it, else answers false. It is proved for any type at once: at that of jobs alone a call of the channel
+// takes fifteen times as long to prove.
+fn send_now<T: Drop, R: Wait>(rt: &R, to: &Sender<T>, what: T) -> bool {
+    to.try_send(rt, what).is_ok()
+}
+
 // Asks an event of the workers under a number. False if too many are on the way.
 fn ask<R: Wait>(rt: &R, jobs: &Sender<Raw>, number: u64, event: Event) -> bool {
     let asked = Asked::Event(event);
-    jobs.try_send(rt, Raw { number, asked }).is_ok()
+    send_now(rt, jobs, Raw { number, asked })
 }
 
 // Hands in the Gone of a session if it is due. What is refused stays due.
