@@ -19,7 +19,7 @@ pub mod worker;
 
 pub use configured::can_keep;
 pub use kept::{Done, Job, Kept, Worked, decode};
-pub use post::{Channels, Post};
+pub use post::{Channels, Post, hand_on};
 pub use task::{Asked, Outcome, Raw, Task};
 pub use trail::{Entry, Noted};
 pub use worker::{Gate, Open, work};

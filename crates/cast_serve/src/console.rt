@@ -3,7 +3,7 @@ ghost use Rattle.std.specs.Prelude.{◌≡◌, ◌<◌};
 
 use crate::shared::Shared;
 use cast_console::{Answer, Line, LineFault, answer, parse};
-use cast_pool::{Done, Worked};
+use cast_pool::{Done, Worked, hand_on};
 use crossbeam_channel::Sender;
 use std::alloc::Global;
 use std::fmt::Display;
@@ -18,11 +18,6 @@ use std::{str, thread};
 fn say<T: Display, W: Write>(what: &T, out: &mut W) {
     let _ = writeln!(out, "{what}");
     let _ = out.flush();
-}
-
-// Hands something on. It is lost once nobody takes it. It is proved for any type at once, which is quicker than at a large one.
-fn hand_on<T: Drop, R: Wait>(rt: &R, to: &Sender<T>, what: T) {
-    let _ = to.send(rt, what);
 }
 
 // Answers a line, and hands on what its event came to.
