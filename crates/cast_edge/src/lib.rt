@@ -1,8 +1,8 @@
-//! The edge of the running daemon: what its threads have of a program, another site, the operator and the record, where they need no
-//! table.
+//! The parts of the running daemon that need no table.
 //!
-//! A `Client` is a program that is served, with its pen, and `write_now` gives it bytes. `Unacknowledged` remembers what a site was sent, and
-//! answers what is to be sent again. A `Report` is what the operator has to know, and a `Folder` holds a record. Promised: every call is
+//! A `Client` is a program that is served, with its pen; `write_now` gives it bytes.
+//! `Unacknowledged` remembers what another site was sent, and answers what is to be sent again. A
+//! `Report` is what the operator has to know. A `Folder` holds a record. Promised: every call is
 //! safe.
 #![tactic(auto)]
 
