@@ -43,11 +43,14 @@ pub enum Asked {
     Ended(u8),
 }
 
+// A command, as far as there was memory for it.
+type Made<'a> = Result<Command<'a>, clap::Error>;
+
 // The words that the program understands.
-fn command<'a>(alloc: Global) -> Result<Command<'a>, clap::Error> {
-    let command = with_command(castd(alloc), serve_command(alloc)?)?;
-    let command = with_command(command, check_command(alloc)?)?;
-    with_command(command, replay_command(alloc)?)
+fn command<'a>(alloc: Global) -> Made<'a> {
+    let command = with_command(Ok(castd(alloc)), serve_command(alloc));
+    let command = with_command(command, check_command(alloc));
+    with_command(command, replay_command(alloc))
 }
 
 // The program, without its commands.
@@ -59,45 +62,42 @@ fn castd<'a>(alloc: Global) -> Command<'a> {
 }
 
 // A program with one command more.
-fn with_command<'a>(
-    program: Command<'a>,
-    command: Command<'a>,
-) -> Result<Command<'a>, clap::Error> {
-    Ok(program.subcommand(command)?)
+fn with_command<'a>(program: Made<'a>, command: Made<'a>) -> Made<'a> {
+    Ok(program?.subcommand(command?)?)
 }
 
 // A command with one argument more.
-fn with_argument<'a>(command: Command<'a>, argument: Arg<'a>) -> Result<Command<'a>, clap::Error> {
-    Ok(command.arg(argument)?)
+fn with_argument<'a>(command: Made<'a>, argument: Arg<'a>) -> Made<'a> {
+    Ok(command?.arg(argument)?)
 }
 
 // The words of `replay`.
-fn replay_command<'a>(alloc: Global) -> Result<Command<'a>, clap::Error> {
+fn replay_command<'a>(alloc: Global) -> Made<'a> {
     let command = Command::new(alloc, "replay").about(
         "Replays a script or a record and prints its log",
     );
-    let command = with_argument(command, file_argument(alloc))?;
-    let command = with_argument(command, until_argument(alloc))?;
+    let command = with_argument(Ok(command), file_argument(alloc));
+    let command = with_argument(command, until_argument(alloc));
     with_argument(command, domain_argument(alloc))
 }
 
 // The words of `serve`.
-fn serve_command<'a>(alloc: Global) -> Result<Command<'a>, clap::Error> {
+fn serve_command<'a>(alloc: Global) -> Made<'a> {
     let command = Command::new(alloc, "serve").about("Runs the daemon of a site");
-    let command = with_site(alloc, command)?;
-    let command = with_argument(command, workers_argument(alloc))?;
+    let command = with_site(alloc, command);
+    let command = with_argument(command, workers_argument(alloc));
     with_argument(command, record_argument(alloc))
 }
 
 // The words of `check`.
-fn check_command<'a>(alloc: Global) -> Result<Command<'a>, clap::Error> {
+fn check_command<'a>(alloc: Global) -> Made<'a> {
     let command = Command::new(alloc, "check").about("Says what the daemon of a site would serve");
     with_site(alloc, command)
 }
 
 // A command that reads the configuration of a site.
-fn with_site<'a>(alloc: Global, command: Command<'a>) -> Result<Command<'a>, clap::Error> {
-    let command = with_argument(command, config_argument(alloc))?;
+fn with_site<'a>(alloc: Global, command: Command<'a>) -> Made<'a> {
+    let command = with_argument(Ok(command), config_argument(alloc));
     with_argument(command, site_argument(alloc))
 }
 

@@ -1,9 +1,9 @@
 //! The operator's lines.
 ghost use Rattle.std.specs.Prelude.{◌≡◌, ◌<◌};
 
-use crate::shared::Shared;
 use cast_console::{Answer, Line, LineFault, answer, parse};
 use cast_pool::{Done, Worked, hand_on};
+use cast_shared::Shared;
 use crossbeam_channel::Sender;
 use std::alloc::Global;
 use std::fmt::Display;

@@ -1,5 +1,5 @@
 //! A daemon by the name of its configuration.
-use crate::threads::serve;
+use crate::daemon::serve;
 use cast_config::{Setup, complain, read};
 use cast_device::{Watched, tell};
 use cast_record::add_head;

@@ -88,8 +88,10 @@ pub fn takes(domain: u8) -> Asked {
 
 // The bytes of a frame of a domain.
 fn frame(alloc: Global, kind: u8, domain: u8, rest: &[u8]) -> Result<Vec<u8>, NoMemory> {
-    let head = [0x43, 0x44, 1, kind, domain];
-    head.iter().chain(rest).copied().collect(alloc)
+    let mut frame = Vec::new(alloc);
+    frame.extend_from_slice(&[0x43, 0x44, 1, kind, domain])?;
+    frame.extend_from_slice(rest)?;
+    Ok(frame)
 }
 
 // A frame of a domain comes.

@@ -3,7 +3,7 @@ ghost use Rattle.std.specs.Prelude.{◌≡◌, ◌+◌, ◌<◌, IfSome};
 
 use crate::pool::daemon::{ALONE, begun, casts, shown, takes};
 use anyhow::{Context, Result};
-use cast_pool::{Asked, Channels, Done, Kept, Open, Raw, Worked, work};
+use cast_pool::{Asked, Channels, Done, Kept, Open, Raw, Worked, hand_on, work};
 use cast_types::NoMemory;
 use crossbeam_channel::{Receiver, Sender};
 use std::alloc::Global;
@@ -83,7 +83,7 @@ fn ends_of(alloc: Global) -> Result<(Sender<Raw>, Ends)> {
 // All of these lie in the queue, and no more can come.
 fn ask_all<R: Wait>(rt: &R, jobs: Sender<Raw>, all: Vec<Raw>) {
     for raw in all {
-        let _ = jobs.send(rt, raw);
+        hand_on(rt, &jobs, raw);
     }
 }
 

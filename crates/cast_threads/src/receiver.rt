@@ -1,11 +1,11 @@
 //! The receiver: it serves the datagrams that come.
 use crate::server::{Server, session_of};
-use crate::shared::Shared;
 use cast_edge::{Report, Session};
 use cast_events::Outs;
 use cast_link::{LinkFault, Wire, receive_one};
 use cast_message::SiteFrame;
 use cast_pool::Asked;
+use cast_shared::Shared;
 use cast_types::{DomainNo, List, SiteNo};
 use std::rt::Clock;
 use std::sync::Wait;

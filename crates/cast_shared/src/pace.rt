@@ -6,13 +6,12 @@
 //! the one that they lack. A cast that would be one too many waits until messages are released, but not for long: a site that is
 //! lost, and that nobody suspects, must not stop a program.
 use cast_events::DomainConfig;
-use cast_pool::Kept;
+use cast_table::Backlog;
 use cast_types::DomainNo;
 use std::alloc::Global;
 use std::collections::VecDeque;
 use std::rt::Clock;
 use std::sync::atomic::{AtomicU64, Ordering};
-use std::sync::ledger::Ledger;
 use std::sync::{Condvar, Mutex, Wait};
 use std::time::{Duration, Instant};
 
@@ -111,17 +110,8 @@ impl Pace {
         (fitting.max(2) as usize).min(window_of(limit, self.sites))
     }
 
-    /// The key that the next message gets.
-    pub fn next<L: Ledger>(&self, kept: &Kept<L>) -> u64 {
-        match kept.table().backlog(self.domain) {
-            Some(backlog) => backlog.next.0 as u64,
-            None => 0,
-        }
-    }
-
-    /// Whether a cast of so many bytes has to wait, and for which turn.
-    pub fn turn<L: Ledger, R: Wait>(&self, rt: &R, kept: &Kept<L>, len: usize) -> Option<Turn> {
-        let backlog = kept.table().backlog(self.domain)?;
+    /// Whether a cast of so many bytes has to wait, and for which turn, where the domain is so far behind.
+    pub fn turn<R: Wait>(&self, rt: &R, backlog: Backlog, len: usize) -> Option<Turn> {
         let oldest = backlog.oldest?.0 as u64;
         let window = self.window(backlog.limit, len);
         let casts = self.casts.lock(rt);
@@ -134,33 +124,30 @@ impl Pace {
         Some(Turn(casts.turn))
     }
 
-    /// Notes that a cast was served, before which the next message had this key. A cast that was refused is no message.
-    pub fn note<L: Ledger, R: Wait>(&self, rt: &R, kept: &Kept<L>, before: u64) {
-        let Some(backlog) = kept.table().backlog(self.domain) else {
-            return;
-        };
-        if backlog.next.0 as u64 <= before {
+    /// Notes that a cast was served. The domain was so far behind before it, and is so far after it. A cast that was refused is no message.
+    pub fn note<R: Wait>(&self, rt: &R, before: Backlog, after: Backlog) {
+        let key = before.next.0 as u64;
+        if after.next.0 as u64 <= key {
             return;
         }
         let mut casts = self.casts.lock(rt);
-        for _ in window_of(backlog.limit, self.sites)..=casts.latest.len() {
+        for _ in window_of(after.limit, self.sites)..=casts.latest.len() {
             let _ = casts.latest.pop_front();
         }
-        let _ = casts.latest.push_back(before);
+        let _ = casts.latest.push_back(key);
     }
 
-    /// Whether readers wait, and may go on.
-    pub fn is_due<L: Ledger>(&self, kept: &Kept<L>) -> bool {
+    /// Whether readers wait.
+    pub fn is_awaited(&self) -> bool {
+        self.awaited.load(Ordering::SeqCst) != NONE
+    }
+
+    /// Whether readers wait, and may go on, where the domain is so far behind.
+    pub fn is_due(&self, backlog: Backlog) -> bool {
         let awaited = self.awaited.load(Ordering::SeqCst);
-        if awaited == NONE {
-            return false;
-        }
-        match kept.table().backlog(self.domain) {
-            Some(backlog) => match backlog.oldest {
-                Some(oldest) => oldest.0 as u64 >= awaited,
-                None => true,
-            },
-            None => true,
+        match backlog.oldest {
+            Some(oldest) => awaited != NONE && oldest.0 as u64 >= awaited,
+            None => awaited != NONE,
         }
     }
 
@@ -175,7 +162,7 @@ impl Pace {
 
     /// Wakes the readers if any wait.
     pub fn wake_any<R: Wait>(&self, rt: &R) {
-        if self.awaited.load(Ordering::SeqCst) != NONE {
+        if self.is_awaited() {
             self.wake(rt);
         }
     }

@@ -1,5 +1,5 @@
 //! The sockets of a daemon: one for datagrams, and one for the programs of each domain.
-use crate::udp::Peer;
+use crate::datagrams::Peer;
 use cast_config::{DomainSocket, Setup, SiteAddress};
 use cast_types::{DomainNo, SiteNo};
 use std::alloc::Global;

@@ -1,9 +1,9 @@
 //! What becomes of what the workers and the console did.
-use crate::desk::{Desk, Opened, Opening, Purpose};
 use crate::server::Server;
 use cast_edge::Session;
 use cast_events::{Fault, Taken};
 use cast_pool::{Done, Outcome};
+use cast_shared::{Desk, Opened, Opening, Purpose};
 use cast_types::{DomainNo, Refusal};
 use crossbeam_channel::Receiver;
 use std::sync::Wait;

@@ -3,21 +3,16 @@ ghost use Rattle.std.specs.Prelude.{◌≡◌, ◌<◌, true};
 ghost use Rattle.cast_table.specs.Owns.{are_distinct, have_rising_groups};
 
 use crate::console::run_console;
-use crate::desk::Desk;
-use crate::dispatch::run_dispatcher;
-use crate::pace::Pace;
-use crate::program::{run_program, server_of};
-use crate::receiver::run_receiver;
-use crate::record::{Record, Tape, run_recorder};
-use crate::server::Server;
-use crate::shared::{CountShare, Shared, SpareCount, Traffic, Turnstile};
-use crate::sockets::{Listening, SocketFault, Sockets, bind, remove_files, resolve_all};
-use crate::udp::{Peer, widen};
 use cast_config::{Cause, ConfigFault, DomainSocket, Field, Setup, complain};
 use cast_device::{Watched, tell};
 use cast_edge::{Report, Unacknowledged, run_reporter};
 use cast_events::{Config, DomainConfig};
 use cast_pool::{Channels, Done, Gate, Kept, Raw, Worked, can_keep, work};
+use cast_shared::{
+    CountShare, Desk, Pace, Record, Shared, SpareCount, Tape, Traffic, Turnstile, run_recorder,
+};
+use cast_sockets::{Listening, Peer, SocketFault, Sockets, bind, remove_files, resolve_all, widen};
+use cast_threads::{Server, run_dispatcher, run_program, run_receiver, server_of};
 use cast_types::{NoMemory, SiteNo};
 use crossbeam_channel::{Receiver, Sender};
 use std::alloc::Global;

@@ -1,9 +1,6 @@
 //! A thread that serves events: under the table's lock for each, and sends the frames outside it.
 ghost use Rattle.std.specs.Prelude.{◌≡◌, ◌<◌};
 
-use crate::pace::{Pace, Turn};
-use crate::shared::{CountShare, Shared};
-use crate::udp::Udp;
 use cast_edge::{
     Client, Report, Session, Unwritten, WriterTask, Written, has_end, write_now, write_whole,
 };
@@ -12,6 +9,7 @@ use cast_link::{Wire, send_all};
 use cast_message::{Push, SiteFrame};
 use cast_pool::{Asked, Done, Job, Kept, Outcome, Raw, Task, decode};
 use cast_session::spell_out;
+use cast_shared::{CountShare, Pace, Shared, Turn, Udp};
 use cast_types::{DomainNo, List, Refusal, SiteNo, Uid};
 use std::alloc::Global;
 use std::mem;
@@ -61,7 +59,11 @@ fn came_of(alloc: Global, done: Done) -> Came {
 // The place of the first pace whose readers may go on.
 fn first_due<L: Ledger>(paces: &[Pace], kept: &Kept<L>) -> usize {
     for index in 0..paces.len() {
-        if paces[index].is_due(kept) {
+        let pace = &paces[index];
+        if pace.is_awaited()
+            && let Some(backlog) = kept.table().backlog(pace.domain)
+            && pace.is_due(backlog)
+        {
             return index;
         }
     }
@@ -92,15 +94,17 @@ fn cast_and_look<L: Ledger, R: Wait>(
     pace: &Pace,
     asks: Option<usize>,
 ) -> Result<Done, (Job, Turn)> {
-    if let Some(len) = asks
-        && let Some(turn) = pace.turn(rt, kept, len)
+    let before = kept.table().backlog(pace.domain);
+    if let (Some(backlog), Some(len)) = (before, asks)
+        && let Some(turn) = pace.turn(rt, backlog, len)
     {
         return Err((job, turn));
     }
-    let before = pace.next(kept);
     let done = share.serve(kept, job, shared.may_trim());
     shared.cut_many(rt, kept);
-    pace.note(rt, kept, before);
+    if let (Some(before), Some(after)) = (before, kept.table().backlog(pace.domain)) {
+        pace.note(rt, before, after);
+    }
     Ok(done)
 }
 

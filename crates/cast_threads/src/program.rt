@@ -1,12 +1,11 @@
 //! The threads of a program, from its session's begin to its end.
-use crate::desk::{Opened, Opening};
 use crate::reader::{Reader, run_reader};
 use crate::server::Server;
-use crate::shared::Shared;
 use cast_device::Watched;
 use cast_edge::{Client, Report, Session, WriterTask};
 use cast_message::Push;
 use cast_session::pump_out;
+use cast_shared::{Opened, Opening, Shared};
 use cast_types::{DomainNo, NoMemory, Refusal};
 use std::alloc::Global;
 use std::io;

@@ -1,5 +1,4 @@
 //! The reader of a program: it serves the program's commands, and writes what they push.
-use crate::pace::{Pace, Patience};
 use crate::server::{Came, Server, session_of};
 use cast_device::Watched;
 use cast_edge::{Client, Session};
@@ -7,6 +6,7 @@ use cast_events::{Event, Fault, Outs, Taken};
 use cast_message::{Command, Request};
 use cast_pool::{Asked, Job};
 use cast_session::{InEnd, Sink, pump_in};
+use cast_shared::{Pace, Patience};
 use cast_types::{NoMemory, Refusal};
 use std::alloc::{AllocError, Global};
 use std::io;

@@ -1,0 +1,10 @@
+//! The sockets of a daemon: one for datagrams, and one for the programs of each domain.
+//!
+//! `bind` makes them, and `Sockets::stop` wakes who waits for them. Promised: every call is safe.
+#![tactic(auto)]
+
+mod datagrams;
+mod sockets;
+
+pub use datagrams::{Peer, widen};
+pub use sockets::{Listening, SocketFault, Sockets, bind, remove_files, resolve_all};
