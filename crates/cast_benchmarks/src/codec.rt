@@ -1,8 +1,9 @@
 //! How fast frames between sites are decoded and encoded. `bench/run` calls it beside a plain program.
 
 use anyhow::Result;
-use cast_frame::{decode_site, encode_site};
+use cast_frame::{FrameFault, decode_site, encode_site};
 use cast_message::{Body, SiteFrame};
+use cast_types::{DomainNo, NoMemory, SiteNo};
 use std::alloc::Global;
 use std::fs;
 use std::rt::{Clock, Files};
@@ -20,36 +21,53 @@ fn weight(frame: &SiteFrame) -> usize {
     }
 }
 
-// Decodes the bytes so many times. Answers the nanoseconds, and the sum of what was read.
-fn decode_often<R: Clock>(
-    rt: &R,
-    alloc: Global,
-    bytes: &[u8],
-    rounds: u32,
-) -> Result<(u128, usize)> {
-    let start = Instant::now(rt)?;
-    let mut sum: usize = 0;
-    for _round in 0..rounds {
-        let (_, _, frame) = decode_site(alloc, bytes)?;
-        sum = sum.wrapping_add(weight(&frame));
-    }
-    Ok((start.elapsed(rt)?.as_nanos(), sum))
+// Decodes the bytes. Answers the weight of the frame.
+fn decode_once(alloc: Global, bytes: &[u8]) -> Result<usize, FrameFault> {
+    let (_, _, frame) = decode_site(alloc, bytes)?;
+    Ok(weight(&frame))
 }
 
-// Encodes the frame that the bytes are so many times. Answers the nanoseconds, and how many bytes were written.
-fn encode_often<R: Clock>(
-    rt: &R,
+// Encodes a frame. Answers how many bytes it has.
+fn encode_once(
     alloc: Global,
-    bytes: &[u8],
-    rounds: u32,
-) -> Result<(u128, usize)> {
-    let (domain, site, frame) = decode_site(alloc, bytes)?;
+    domain: DomainNo,
+    site: SiteNo,
+    frame: &SiteFrame,
+) -> Result<usize, NoMemory> {
+    Ok(encode_site(alloc, domain, site, frame)?.len())
+}
+
+// Prints what was done, the nanoseconds since the start, and a sum.
+fn print<R: Clock + Print>(rt: &R, what: &str, start: Instant, sum: usize) -> Result<()> {
+    let nanos = start.elapsed(rt)?.as_nanos();
+    println!(rt; "{what} {nanos} {sum}")?;
+    Ok(())
+}
+
+// Decodes the bytes so many times, and prints how long that took.
+fn decode_often<R: Clock + Print + AllocGlobal>(rt: &R, bytes: &[u8], rounds: u32) -> Result<()> {
     let start = Instant::now(rt)?;
     let mut sum: usize = 0;
     for _round in 0..rounds {
-        sum = sum.wrapping_add(encode_site(alloc, domain, site, &frame)?.len());
+        sum = sum.wrapping_add(decode_once(rt.alloc(), bytes)?);
     }
-    Ok((start.elapsed(rt)?.as_nanos(), sum))
+    print(rt, "decode", start, sum)
+}
+
+// Encodes a frame so many times, and prints how long that took.
+fn encode_often<R: Clock + Print + AllocGlobal>(
+    rt: &R,
+    domain: DomainNo,
+    site: SiteNo,
+    frame: &SiteFrame,
+    rounds: u32,
+) -> Result<()> {
+    let start = Instant::now(rt)?;
+    let mut sum: usize = 0;
+    for _round in 0..rounds {
+        sum = sum.wrapping_add(encode_once(rt.alloc(), domain, site, frame)?);
+    }
+    print(rt, "encode", start, sum)
 }
 
 /// Reads the bytes of one frame from a file, decodes them and encodes the frame that they are, each so many times, and
@@ -61,9 +79,7 @@ pub fn measure<R: Clock + Files + Print + AllocGlobal>(
 ) -> Result<()> {
     let bytes = fs::read(rt, file)?;
     let rounds: u32 = rounds.parse()?;
-    let (nanos, sum) = decode_often(rt, rt.alloc(), &bytes, rounds)?;
-    println!(rt; "decode {nanos} {sum}")?;
-    let (nanos, sum) = encode_often(rt, rt.alloc(), &bytes, rounds)?;
-    println!(rt; "encode {nanos} {sum}")?;
-    Ok(())
+    decode_often(rt, &bytes, rounds)?;
+    let (domain, site, frame) = decode_site(rt.alloc(), &bytes)?;
+    encode_often(rt, domain, site, &frame, rounds)
 }
