@@ -4,7 +4,7 @@
 //! lost message waits meanwhile. A site that acknowledges later messages, and not this one, has most likely not received it. So it is sent
 //! again at once: this is the fast retransmit of TCP (Allman, Paxson and Blanton, "TCP Congestion Control", RFC 5681). Without later ones it
 //! is sent again once it is late. The rules cannot tell that from a network that delivers a datagram twice.
-use cast_events::Outs;
+use cast_events::{Event, Outs};
 use cast_message::{Message, SiteFrame};
 use cast_types::{DomainNo, List, NoMemory, SiteNo, Uid};
 use std::alloc::Global;
@@ -166,6 +166,23 @@ pub struct Unacknowledged {
 }
 
 impl Unacknowledged {
+    /// What a site was sent of a domain, of all these.
+    pub fn find(all: &[Unacknowledged], domain: DomainNo, site: SiteNo) -> Option<&Unacknowledged> {
+        all.iter()
+            .find(|one| one.domain == domain && one.site == site)
+    }
+
+    /// Remembers the messages that are to be sent, each with what its site was sent of its domain.
+    pub fn note_all<R: Wait>(rt: &R, all: &[Unacknowledged], outs: &Outs) {
+        for (domain, site, frame) in outs.frames.as_slice() {
+            if let SiteFrame::Data(message) = frame
+                && let Some(one) = Self::find(all, *domain, *site)
+            {
+                one.note(rt, message);
+            }
+        }
+    }
+
     /// No message was sent.
     pub fn new(alloc: Global, domain: DomainNo, site: SiteNo) -> Self {
         let flight = Flight {
@@ -229,5 +246,13 @@ impl Unacknowledged {
             }
         }
         outs
+    }
+}
+
+/// What an event acknowledges, in which domain and from which site, if it is such a frame.
+pub fn acknowledged_in(event: &Event) -> Option<(DomainNo, SiteNo, Uid)> {
+    match event {
+        Event::Frame(domain, site, SiteFrame::Ack(id)) => Some((*domain, *site, *id)),
+        _ => None,
     }
 }

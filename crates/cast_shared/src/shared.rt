@@ -6,9 +6,9 @@ use crate::pace::Pace;
 use crate::record::Tape;
 use cast_console::{Datagrams, Recording, Told};
 use cast_edge::{Report, Unacknowledged};
-use cast_pool::{Done, Job, Kept, Worked};
+use cast_pool::{Asked, Done, Job, Kept, Raw, Worked, decode};
 use cast_sockets::Peer;
-use cast_types::{DomainNo, SiteNo};
+use cast_types::SiteNo;
 use std::alloc::Global;
 use std::net::UdpSocket;
 use std::sync::atomic::{AtomicU64, Ordering};
@@ -208,11 +208,28 @@ impl<L: Ledger> Shared<'_, L> {
         }
     }
 
-    /// What a site was sent of a domain, and has not acknowledged.
-    pub fn unacknowledged(&self, domain: DomainNo, site: SiteNo) -> Option<&Unacknowledged> {
-        self.unacknowledged
-            .iter()
-            .find(|one| one.domain == domain && one.site == site)
+    /// The job of what is asked. `None` for bytes that are no frame, and where memory ran out; either is counted.
+    pub fn job<R: Wait>(&self, rt: &R, asked: Asked) -> Option<Job> {
+        match decode(self.alloc, Raw { number: 0, asked }) {
+            Ok(job) => Some(job),
+            Err(_) => {
+                self.desk.lock(rt).count_unread(rt);
+                None
+            }
+        }
+    }
+
+    /// Does a job, under the table's lock, and cuts the events off the trace if it is recorded and has many.
+    pub fn complete<R: Wait>(
+        &self,
+        rt: &R,
+        kept: &mut Kept<L>,
+        share: &mut CountShare<L>,
+        job: Job,
+    ) -> Done {
+        let done = share.serve(kept, job, self.may_trim());
+        self.cut_many(rt, kept);
+        done
     }
 
     /// Whether the daemon stops.

@@ -83,7 +83,7 @@ impl<'a, L: Ledger> Reader<'a, L> {
     // Serves the event of a command.
     fn serve_event<R: Wait + Clock>(&mut self, rt: &R, event: Event, len: Option<usize>) -> Came {
         match (self.pace, len) {
-            (Some(pace), Some(len)) => match self.server.job(rt, Asked::Event(event)) {
+            (Some(pace), Some(len)) => match self.server.shared.job(rt, Asked::Event(event)) {
                 Some(job) => self.cast(rt, job, pace, len),
                 None => (Err(Fault::NoMemory), Outs::new(self.server.shared.alloc)),
             },

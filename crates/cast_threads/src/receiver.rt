@@ -1,17 +1,15 @@
 //! The receiver: it serves the datagrams that come.
 use crate::server::{Server, session_of};
-use cast_edge::{Report, Session};
+use cast_edge::{Report, Session, Stables};
 use cast_events::Outs;
 use cast_link::{LinkFault, Wire, receive_one};
-use cast_message::SiteFrame;
 use cast_pool::Asked;
 use cast_shared::Shared;
-use cast_types::{DomainNo, List, SiteNo};
 use std::rt::Clock;
 use std::sync::Wait;
 use std::sync::ledger::Ledger;
+use std::thread;
 use std::time::Duration;
-use std::{mem, thread};
 
 // How many milliseconds the receiver waits after a call of the system failed, so that it does not turn in place.
 const PAUSE: u64 = 10;
@@ -22,94 +20,29 @@ const GATHERED: u32 = 32;
 // For so many sessions the receiver writes what datagrams pushed. The writers of the others do it themselves.
 const DIRECT: usize = 2;
 
-// A frame of a domain for a site.
-type Outgoing = (DomainNo, SiteNo, SiteFrame);
-
 // What the receiver knows of the datagrams that it gathers.
 #[derive(Drop)]
 struct Receiver<'a, L: Ledger> {
     server: Server<'a, L>,
     // The sessions that they pushed to, and for which it writes.
     pushed: Vec<Session>,
-    // Their Stables. They wait, since a later one says all that an earlier one does.
-    stables: Vec<Outgoing>,
-}
-
-// Whether a frame is a Stable.
-fn is_stable(frame: &Outgoing) -> bool {
-    matches!(frame.2, SiteFrame::Stable(_))
-}
-
-// Whether a Stable says all that another one does to the same site.
-fn says_all(new: &Outgoing, old: &Outgoing) -> bool {
-    if old.0 != new.0 || old.1 != new.1 {
-        return false;
-    }
-    match (&old.2, &new.2) {
-        (SiteFrame::Stable(old), SiteFrame::Stable(new)) => {
-            old.group == new.group
-                && old.view == new.view
-                && old.proc == new.proc
-                && old.count <= new.count
-        }
-        _ => false,
-    }
+    stables: Stables,
 }
 
 impl<L: Ledger> Receiver<'_, L> {
     // Sends the frames of an event. Its Stables wait.
     fn send<R: Wait>(&mut self, rt: &R, outs: Outs) {
         self.server.note_messages(rt, &outs);
-        if !outs.frames.as_slice().iter().any(is_stable) {
-            self.server.send(rt, &outs);
-            return;
+        let (others, lost) = self.stables.hold(outs);
+        if lost > 0 {
+            self.server.shared.desk.lock(rt).count_unsent(rt, lost);
         }
-        let Outs {
-            frames,
-            halted,
-            delivered,
-            pushed,
-        } = outs;
-        let mut others = List::new(self.server.shared.alloc);
-        for frame in frames.into_vec() {
-            let is_kept = if is_stable(&frame) {
-                self.keep_stable(frame)
-            } else {
-                others.push(frame).is_ok()
-            };
-            if !is_kept {
-                self.server.shared.desk.lock(rt).count_unsent(rt, 1);
-            }
-        }
-        let others = Outs {
-            frames: others,
-            halted,
-            delivered,
-            pushed,
-        };
         self.server.send(rt, &others);
-    }
-
-    // Has a Stable wait, in place of one of which it says all. False if there is no memory for it.
-    fn keep_stable(&mut self, frame: Outgoing) -> bool {
-        let found = self.stables.iter().position(|old| says_all(&frame, old));
-        match found {
-            Some(index) if index < self.stables.len() => {
-                self.stables[index] = frame;
-                true
-            }
-            _ => self.stables.push(frame).is_ok(),
-        }
     }
 
     // Sends the Stables that wait.
     fn send_stables<R: Wait>(&mut self, rt: &R) {
-        if self.stables.is_empty() {
-            return;
-        }
-        let alloc = self.server.shared.alloc;
-        let mut outs = Outs::new(alloc);
-        outs.frames = List::from_vec(mem::replace(&mut self.stables, Vec::new(alloc)));
+        let outs = self.stables.take();
         self.server.send(rt, &outs);
     }
 
@@ -179,7 +112,7 @@ pub fn run_receiver<L: Ledger, R: Wait + Clock>(
     let mut receiver = Receiver {
         server,
         pushed: Vec::new(shared.alloc),
-        stables: Vec::new(shared.alloc),
+        stables: Stables::new(shared.alloc),
     };
     let mut is_failing = false;
     for _ in rt.forever() {

@@ -2,12 +2,13 @@
 ghost use Rattle.std.specs.Prelude.{◌≡◌, ◌<◌};
 
 use cast_edge::{
-    Client, Report, Session, Unwritten, WriterTask, Written, has_end, write_now, write_whole,
+    Client, Report, Session, Unacknowledged, Unwritten, WriterTask, Written, acknowledged_in,
+    has_end, write_now, write_whole,
 };
 use cast_events::{Event, Fault, Outs, Taken};
 use cast_link::{Wire, send_all};
-use cast_message::{Push, SiteFrame};
-use cast_pool::{Asked, Done, Job, Kept, Outcome, Raw, Task, decode};
+use cast_message::Push;
+use cast_pool::{Asked, Done, Job, Kept, Outcome, Task};
 use cast_session::spell_out;
 use cast_shared::{CountShare, Pace, Shared, Turn, Udp};
 use cast_types::{DomainNo, List, Refusal, SiteNo, Uid};
@@ -61,7 +62,7 @@ fn first_due<L: Ledger>(paces: &[Pace], kept: &Kept<L>) -> usize {
     for index in 0..paces.len() {
         let pace = &paces[index];
         if pace.is_awaited()
-            && let Some(backlog) = kept.table().backlog(pace.domain)
+            && let Some(backlog) = pace.backlog(kept)
             && pace.is_due(backlog)
         {
             return index;
@@ -78,8 +79,7 @@ fn serve_and_look<L: Ledger, R: Wait>(
     share: &mut CountShare<L>,
     job: Job,
 ) -> (Done, usize) {
-    let done = share.serve(kept, job, shared.may_trim());
-    shared.cut_many(rt, kept);
+    let done = shared.complete(rt, kept, share, job);
     let due = first_due(shared.paces, kept);
     (done, due)
 }
@@ -94,15 +94,14 @@ fn cast_and_look<L: Ledger, R: Wait>(
     pace: &Pace,
     asks: Option<usize>,
 ) -> Result<Done, (Job, Turn)> {
-    let before = kept.table().backlog(pace.domain);
+    let before = pace.backlog(kept);
     if let (Some(backlog), Some(len)) = (before, asks)
         && let Some(turn) = pace.turn(rt, backlog, len)
     {
         return Err((job, turn));
     }
-    let done = share.serve(kept, job, shared.may_trim());
-    shared.cut_many(rt, kept);
-    if let (Some(before), Some(after)) = (before, kept.table().backlog(pace.domain)) {
+    let done = shared.complete(rt, kept, share, job);
+    if let (Some(before), Some(after)) = (before, pace.backlog(kept)) {
         pace.note(rt, before, after);
     }
     Ok(done)
@@ -111,8 +110,8 @@ fn cast_and_look<L: Ledger, R: Wait>(
 // What a frame acknowledges, if it does, in which domain and from which site.
 fn acknowledged_by(job: &Job) -> Option<(DomainNo, SiteNo, Uid)> {
     match job.task() {
-        Task::Serve(Event::Frame(domain, site, SiteFrame::Ack(id))) => Some((*domain, *site, *id)),
-        _ => None,
+        Task::Serve(event) => acknowledged_in(event),
+        Task::Show(_) => None,
     }
 }
 
@@ -124,17 +123,6 @@ impl<'a, L: Ledger> Server<'a, L> {
             share,
             wire: Udp::new(shared.alloc, shared.udp, shared.peers),
             room: Vec::new(shared.alloc),
-        }
-    }
-
-    /// The job of what is asked. `None` for bytes that are no frame, which are counted.
-    pub fn job<R: Wait>(&self, rt: &R, asked: Asked) -> Option<Job> {
-        match decode(self.shared.alloc, Raw { number: 0, asked }) {
-            Ok(job) => Some(job),
-            Err(_) => {
-                self.shared.desk.lock(rt).count_unread(rt);
-                None
-            }
         }
     }
 
@@ -175,11 +163,15 @@ impl<'a, L: Ledger> Server<'a, L> {
     /// Serves a datagram. `None` if its bytes are no frame. After an acknowledgement, what seems to be lost is sent again.
     pub fn serve_datagram<R: Wait>(&mut self, rt: &R, datagram: Asked) -> Option<Outs> {
         self.shared.traffic.received.fetch_add(1, Ordering::SeqCst);
-        let job = self.job(rt, datagram)?;
+        let job = self.shared.job(rt, datagram)?;
         let acknowledged = acknowledged_by(&job);
         let (_, outs) = self.do_job(rt, job);
         if let Some((domain, site, id)) = acknowledged
-            && let Some(unacknowledged) = self.shared.unacknowledged(domain, site)
+            && let Some(unacknowledged) = Unacknowledged::find(
+                self.shared.unacknowledged,
+                domain,
+                site,
+            )
         {
             let again = unacknowledged.acknowledge(rt, id);
             self.send_frames(rt, &again);
@@ -189,7 +181,7 @@ impl<'a, L: Ledger> Server<'a, L> {
 
     /// Serves an event.
     pub fn serve<R: Wait>(&mut self, rt: &R, event: Event) -> Came {
-        match self.job(rt, Asked::Event(event)) {
+        match self.shared.job(rt, Asked::Event(event)) {
             Some(job) => self.do_job(rt, job),
             None => (Err(Fault::NoMemory), Outs::new(self.shared.alloc)),
         }
@@ -197,13 +189,7 @@ impl<'a, L: Ledger> Server<'a, L> {
 
     /// Remembers the messages that are to be sent, until they are acknowledged.
     pub fn note_messages<R: Wait>(&self, rt: &R, outs: &Outs) {
-        for (domain, site, frame) in outs.frames.as_slice() {
-            if let SiteFrame::Data(message) = frame
-                && let Some(unacknowledged) = self.shared.unacknowledged(*domain, *site)
-            {
-                unacknowledged.note(rt, message);
-            }
-        }
+        Unacknowledged::note_all(rt, self.shared.unacknowledged, outs);
     }
 
     /// Sends the frames of an event, and tells the operator which domains it halted.
