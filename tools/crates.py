@@ -19,7 +19,7 @@ PROVE = f"./castd prove proves and builds the program ({ALL_TAKE})"
 # The last line on a crate that is proved, as `rt ci` wants it: no code in C, no function that hides what it hands out or may end the
 # process, and no part that the prover refused to read.
 VERDICT = re.compile(
-    r"^logic=proved( (functions|axioms|target|threads|main|may-wait|may-serve|sum)=\S+)+ native=nat,char,string"
+    r"^logic=proved( (functions|axioms|target|cpu|threads|main|may-wait|may-serve|sum)=\S+)+ native=nat,char,string"
     r" logic-built=trusted libraries-built=trusted statements=trusted\n\Z",
     re.MULTILINE,
 )
