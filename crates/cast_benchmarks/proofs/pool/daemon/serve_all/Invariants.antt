@@ -1,6 +1,0 @@
-use Rattle.std.specs.Prelude.{◌≡◌}
-use Rattle.cast_benchmarks.proofs.pool.daemon.serve_all.Given as goal
-
--- the worker keeps its part of the count
-abbrev pub invariant-loop-asked : goal.invariant-loop-asked
-invariant-loop-asked g l = l.mine.parts ≡ l.initial.mine.parts
