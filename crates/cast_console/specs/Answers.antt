@@ -10,7 +10,7 @@ use Rattle.cast_pool.specs.Served.{IsDone, IsLeft}
 use Rattle.cast_console.specs.declared.line.Line.{Line}
 use Rattle.cast_console.specs.declared.line.Line.TheVariants as line
 use Rattle.cast_console.specs.declared.line.LineFault.{LineFault}
-use Rattle.cast_console.specs.declared.told.Told.{Told}
+use Rattle.cast_events.specs.declared.told.Told.{Told}
 use Rattle.cast_console.specs.Lines.{fault_number}
 use Rattle.cast_console.specs.Texts.{datagrams_text, domains_text, group_lines, outcome_text, record_text, show_text, trace_text}
 

@@ -15,9 +15,9 @@ use Rattle.cast_domain.specs.declared.show.Shown.{Shown}
 use Rattle.cast_domain.specs.declared.show.GroupShown.{GroupShown}
 use Rattle.cast_table.specs.declared.table.Table.{Table}
 use Rattle.cast_table.specs.Shows.{groups_at, shown_at}
-use Rattle.cast_console.specs.declared.told.Datagrams.{Datagrams}
-use Rattle.cast_console.specs.declared.told.Recording.{Recording}
-use Rattle.cast_console.specs.declared.told.Recording.TheVariants.{Off, Running, Ended}
+use Rattle.cast_events.specs.declared.told.Datagrams.{Datagrams}
+use Rattle.cast_events.specs.declared.told.Recording.{Recording}
+use Rattle.cast_events.specs.declared.told.Recording.TheVariants.{Off, Running, Ended}
 use Rattle.cast_pool.specs.declared.task.Outcome.{Outcome}
 use Rattle.cast_pool.specs.declared.task.Outcome.TheVariants as outcome
 use Rattle.cast_pool.specs.Kept.{Seen, events_of}

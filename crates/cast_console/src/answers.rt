@@ -12,8 +12,7 @@ use crate::text::{
     NO_DOMAIN, begin_line, datagrams_text, groups_text, outcome_text, put_domain, record_text,
     shown_text,
 };
-use crate::told::Told;
-use cast_events::Event;
+use cast_events::{Event, Told};
 use cast_pool::{Asked, Done, Kept, Raw, Worked, decode};
 use cast_table::Table;
 use cast_types::{DomainNo, NoMemory};

@@ -10,9 +10,8 @@ mod answers;
 mod line;
 mod said;
 mod text;
-mod told;
 
 pub use answers::answer;
+pub use cast_events::{Datagrams, Recording, Told};
 pub use line::{Line, LineFault, parse};
 pub use said::Answer;
-pub use told::{Datagrams, Recording, Told};

@@ -3,8 +3,7 @@ ghost use Rattle.std.specs.List.{flat_map};
 ghost use Rattle.std.specs.String.{string_bytes};
 ghost use Rattle.cast_console.specs.Texts.{answered_text, datagrams_text, domain_line, frozen_text, group_line, groups_text, line_begun, member_text, outcome_text, proc_text, record_text, shown_text, state_text, view_text};
 
-use crate::told::{Datagrams, Recording};
-use cast_events::{Fault, Taken};
+use cast_events::{Datagrams, Fault, Recording, Taken};
 use cast_pool::Outcome;
 use cast_table::{GroupShown, Shown};
 use cast_types::{DomainNo, NoMemory, Proc};

@@ -4,9 +4,9 @@ use Rattle.cast_types.specs.declared.names.DomainNo.{DomainNo}
 use Rattle.cast_types.specs.declared.names.SiteNo.{SiteNo}
 use Rattle.cast_message.specs.declared.site.SiteFrame.{SiteFrame}
 use Rattle.cast_frame.specs.Spelling.{spelled_site}
-use Rattle.cast_pool.specs.declared.task.Asked.{Asked}
-use Rattle.cast_pool.specs.declared.task.Asked.TheVariants as asked
-use Rattle.cast_pool.specs.declared.task.Raw.{Raw}
+use Rattle.cast_events.specs.declared.asked.Asked.{Asked}
+use Rattle.cast_events.specs.declared.asked.Asked.TheVariants as asked
+use Rattle.cast_events.specs.declared.asked.Raw.{Raw}
 use Rattle.cast_link.specs.declared.wire.LinkFault.{LinkFault}
 use Rattle.cast_link.specs.Wires.{TakesFirst, ReceivesNone}
 

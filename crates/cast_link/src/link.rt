@@ -4,10 +4,9 @@ ghost use Rattle.cast_link.specs.Links.{HandsOn, datagram_of, datagrams_of};
 
 use crate::wire::{LinkFault, Wire};
 use bytes::Bytes;
-use cast_events::Outs;
+use cast_events::{Asked, Outs, Raw};
 use cast_frame::encode_site;
 use cast_message::SiteFrame;
-use cast_pool::{Asked, Raw};
 use cast_types::{DomainNo, List, NoMemory, SiteNo};
 use std::alloc::Global;
 

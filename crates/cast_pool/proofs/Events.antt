@@ -23,9 +23,9 @@ use Rattle.cast_table.specs.Tables.{domain_eq, place_named, IsTurn, Lent, IsTurn
 use Rattle.cast_table.specs.Owns.{names, is_own}
 use Rattle.cast_table.proofs.Parts.{same_domain, domain_itself, domain_flipped}
 use Rattle.cast_table.proofs.Places.{named_there, same_some, none_some}
-use Rattle.cast_pool.specs.declared.trail.Noted.{Noted}
-use Rattle.cast_pool.specs.declared.trail.Noted.TheVariants as noted
-use Rattle.cast_pool.specs.declared.trail.Entry.{Entry}
+use Rattle.cast_events.specs.declared.entry.Noted.{Noted}
+use Rattle.cast_events.specs.declared.entry.Noted.TheVariants as noted
+use Rattle.cast_events.specs.declared.entry.Entry.{Entry}
 use Rattle.cast_pool.specs.Traces.{is_among, noted_of, noted_taken, TellsHalts, IsTickNoted, IsEntryAmong}
 use Rattle.cast_pool.specs.Kept.{are_apart}
 use Rattle.cast_pool.proofs.Numbers.{numbers_in, domain_swapped, stands_among, other_number, first_apart, rest_apart, own_named}

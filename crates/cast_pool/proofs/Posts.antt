@@ -3,7 +3,7 @@ use Rattle.std.proofs.Common.{Bool, List, [], ◌∷◌, ◌++◌, Option, Some,
 use Rattle.std.proofs.lemmas.List.{append-nil}
 use Rattle.std.specs.List.{AllZip}
 use Rattle.cast_pool.specs.declared.kept.Done.{Done}
-use Rattle.cast_pool.specs.declared.task.Raw.{Raw}
+use Rattle.cast_events.specs.declared.asked.Raw.{Raw}
 use Rattle.cast_pool.specs.Posts.{Adds, Answers, HasAnswered}
 
 adds_nothing : {X : Type 0} (known : Option (List X)) → Adds known known []

@@ -14,9 +14,9 @@ use Rattle.cast_events.specs.Outs.{no_outs}
 use Rattle.cast_table.specs.declared.table.Table.{Table}
 use Rattle.cast_table.specs.Tables.{domains_of, lent, IsApplied, IsUnchanged, NotesHalts}
 use Rattle.cast_table.specs.Copies.{IsCopyOf}
-use Rattle.cast_pool.specs.declared.trail.Noted.{Noted}
-use Rattle.cast_pool.specs.declared.trail.Noted.TheVariants as noted
-use Rattle.cast_pool.specs.declared.trail.Entry.{Entry}
+use Rattle.cast_events.specs.declared.entry.Noted.{Noted}
+use Rattle.cast_events.specs.declared.entry.Noted.TheVariants as noted
+use Rattle.cast_events.specs.declared.entry.Entry.{Entry}
 use Rattle.cast_pool.specs.declared.trail.Trail.{Trail}
 use Rattle.cast_pool.specs.Traces.{noted_of, noted_taken}
 use Rattle.cast_pool.specs.Kept.{Seen, Replays, seen, events_of, is_due, is_full}

@@ -17,9 +17,9 @@ use Rattle.cast_domain.specs.Fits.{Represents}
 use Rattle.cast_table.specs.Tables.{domain_eq, IsTurn, Lent, halted_by}
 use Rattle.cast_table.specs.Owns.{names, is_own}
 use Rattle.cast_table.proofs.Parts.{domain_itself, other_unnamed, named_own}
-use Rattle.cast_pool.specs.declared.trail.Noted.{Noted}
-use Rattle.cast_pool.specs.declared.trail.Noted.TheVariants as noted
-use Rattle.cast_pool.specs.declared.trail.Entry.{Entry}
+use Rattle.cast_events.specs.declared.entry.Noted.{Noted}
+use Rattle.cast_events.specs.declared.entry.Noted.TheVariants as noted
+use Rattle.cast_events.specs.declared.entry.Entry.{Entry}
 use Rattle.cast_pool.specs.Traces.{StandsFor, Leads, IsKeptStep, is_among, noted_of, noted_taken}
 
 -- where the domain stands for something, the entry leads from there to what it stands for then

@@ -9,7 +9,7 @@ use Rattle.cast_domain.specs.Records.{number_of}
 use Rattle.cast_domain.specs.Shared.{part_of}
 use Rattle.cast_table.specs.declared.table.Table.{Table}
 use Rattle.cast_table.specs.Tables.{domains_of, shared_of}
-use Rattle.cast_pool.specs.declared.trail.Entry.{Entry}
+use Rattle.cast_events.specs.declared.entry.Entry.{Entry}
 use Rattle.cast_pool.specs.Traces.{StandsFor, LeadsAll, IsEntryAmong, is_among}
 
 -- the table as it was before the first event of the trace, the trace, how many events were taken before it, and the table

@@ -2,7 +2,7 @@
 use Rattle.std.specs.Prelude.{◌≡◌, ℕ, Bool, List, ◌++◌, ⊤, Option, Some, None}
 use Rattle.std.specs.List.{AllZip}
 use Rattle.cast_pool.specs.declared.kept.Done.{Done}
-use Rattle.cast_pool.specs.declared.task.Raw.{Raw}
+use Rattle.cast_events.specs.declared.asked.Raw.{Raw}
 use Rattle.cast_pool.specs.Served.{IsAnswered}
 
 -- a list that is known grows by these

@@ -11,9 +11,9 @@ use Rattle.cast_events.specs.Outs.{no_outs}
 use Rattle.cast_table.specs.Tables.{domains_of, lent, IsApplied, NotesHalts}
 use Rattle.cast_table.specs.Copies.{IsCopyOf}
 use Rattle.cast_table.specs.Shows.{shown_at}
-use Rattle.cast_pool.specs.declared.trail.Noted.{Noted}
-use Rattle.cast_pool.specs.declared.trail.Noted.TheVariants as noted
-use Rattle.cast_pool.specs.declared.task.Asked.{Asked}
+use Rattle.cast_events.specs.declared.entry.Noted.{Noted}
+use Rattle.cast_events.specs.declared.entry.Noted.TheVariants as noted
+use Rattle.cast_events.specs.declared.asked.Asked.{Asked}
 use Rattle.cast_pool.specs.declared.task.Task.{Task}
 use Rattle.cast_pool.specs.declared.task.Task.TheVariants.{Serve, Show}
 use Rattle.cast_pool.specs.declared.task.Outcome.{Outcome}

@@ -7,8 +7,8 @@ use Rattle.cast_field.specs.declared.fault.FrameFault.{FrameFault}
 use Rattle.cast_field.specs.declared.fault.FrameFault.TheVariants.{NoMemory}
 use Rattle.cast_frame.specs.Reading.{site_frame_of}
 use Rattle.cast_events.specs.declared.event.Event.TheVariants.{Frame}
-use Rattle.cast_pool.specs.declared.task.Asked.{Asked}
-use Rattle.cast_pool.specs.declared.task.Asked.TheVariants as asked
+use Rattle.cast_events.specs.declared.asked.Asked.{Asked}
+use Rattle.cast_events.specs.declared.asked.Asked.TheVariants as asked
 use Rattle.cast_pool.specs.declared.task.Task.{Task}
 use Rattle.cast_pool.specs.declared.task.Task.TheVariants as task
 use Rattle.cast_pool.specs.declared.task.Outcome.{Outcome}

@@ -17,9 +17,9 @@ use Rattle.cast_domain.specs.Shared.{Part}
 use Rattle.cast_domain.specs.Fits.{Represents}
 use Rattle.cast_table.specs.Tables.{domain_eq, IsLeast}
 use Rattle.cast_table.specs.Owns.{names, is_own}
-use Rattle.cast_pool.specs.declared.trail.Noted.{Noted}
-use Rattle.cast_pool.specs.declared.trail.Noted.TheVariants.{Nothing, Opened, Refused, Entries, Halted}
-use Rattle.cast_pool.specs.declared.trail.Entry.{Entry}
+use Rattle.cast_events.specs.declared.entry.Noted.{Noted}
+use Rattle.cast_events.specs.declared.entry.Noted.TheVariants.{Nothing, Opened, Refused, Entries, Halted}
+use Rattle.cast_events.specs.declared.entry.Entry.{Entry}
 
 -- What is kept of an answer
 

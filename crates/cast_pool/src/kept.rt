@@ -5,9 +5,9 @@ ghost use Rattle.cast_pool.specs.Kept.{Replays, Seen, events_of};
 ghost use Rattle.cast_pool.specs.Served.{Completes, IsDone, IsTrimmed, IsTrimmedOr, Serves, halts};
 ghost use Rattle.cast_pool.specs.Tasks.{IsUndecoded, task_of};
 
-use crate::task::{Asked, Outcome, Raw, Task};
-use crate::trail::{Entry, Trail, fill, note_of};
-use cast_events::{Config, Event, Fault, Outs, Taken};
+use crate::task::{Outcome, Task};
+use crate::trail::{Trail, fill, note_of};
+use cast_events::{Asked, Config, Entry, Event, Fault, Outs, Raw, Taken};
 use cast_frame::decode_site;
 use cast_table::Table;
 use cast_types::{NoMemory, Refusal};

@@ -17,9 +17,9 @@ pub mod task;
 mod trail;
 pub mod worker;
 
+pub use cast_events::{Asked, Entry, Noted, Raw};
 pub use configured::can_keep;
 pub use kept::{Done, Job, Kept, Worked, decode};
 pub use post::{Channels, Post, hand_on};
-pub use task::{Asked, Outcome, Raw, Task};
-pub use trail::{Entry, Noted};
+pub use task::{Outcome, Task};
 pub use worker::{Gate, Open, work};

@@ -2,11 +2,11 @@
 ghost use Rattle.std.specs.Prelude.{[], ◌∷◌, List, None, IfSome, IfNone};
 ghost use Rattle.std.specs.declared.option.Option.{Option};
 ghost use Rattle.cast_pool.specs.declared.kept.Done.{Done};
-ghost use Rattle.cast_pool.specs.declared.task.Raw.{Raw};
+ghost use Rattle.cast_events.specs.declared.asked.Raw.{Raw};
 ghost use Rattle.cast_pool.specs.Posts.{Adds};
 
 use crate::kept::Done;
-use crate::task::Raw;
+use cast_events::Raw;
 use crossbeam_channel::{Receiver, Sender};
 use std::sync::Wait;
 

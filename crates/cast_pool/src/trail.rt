@@ -5,33 +5,11 @@ ghost use Rattle.cast_pool.specs.Traces.{noted_of};
 ghost use Rattle.cast_pool.specs.Room.{HasPlace, HasRoom, base_then, count_then, items_then};
 
 use crate::limits::MAX_TRACE;
-use cast_events::{Event, Fault, Taken};
+use cast_events::{Entry, Fault, Noted, Taken};
 use cast_table::Table;
-use cast_types::{DomainNo, List, NoMemory, Refusal};
+use cast_types::{DomainNo, List, NoMemory};
 use std::alloc::Global;
 use std::mem;
-
-/// What an event was answered, as a trace keeps it.
-#[derive(Clone, Copy, Debug, PartialEq, Eq)]
-pub enum Noted {
-    Nothing,
-    /// The serial of the new session.
-    Opened(u32),
-    Refused(Refusal),
-    /// How many entries were taken.
-    Entries(usize),
-    /// The step of this domain found no memory; of a tick, the least number of those that it halted.
-    Halted(DomainNo),
-}
-
-/// An event of a trace.
-#[derive(Drop)]
-pub struct Entry {
-    pub event: Event,
-    pub answer: Noted,
-    /// The domains that the event halted, in the order of their numbers.
-    pub halted: List<DomainNo>,
-}
 
 /// The events that were taken since the trace was trimmed last.
 #[derive(Drop)]

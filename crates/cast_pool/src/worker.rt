@@ -5,7 +5,7 @@ ghost use Rattle.cast_pool.specs.Served.{IsAnswered};
 
 use crate::kept::{Done, Kept, Worked, decode};
 use crate::post::Post;
-use crate::task::Raw;
+use cast_events::Raw;
 use std::alloc::Global;
 use std::sync::ledger::Ledger;
 use std::sync::{Mutex, Wait};

@@ -1,16 +1,11 @@
 //! The operator's lines.
-ghost use Rattle.std.specs.Prelude.{◌≡◌, ◌<◌};
-
-use cast_console::{Answer, Line, LineFault, answer, parse};
-use cast_pool::{Done, Worked, hand_on};
-use cast_shared::Shared;
+use cast_shared::{Reply, Shared, SharedTable};
 use crossbeam_channel::Sender;
 use std::alloc::Global;
 use std::fmt::Display;
 use std::io::{BufRead, ErrorKind, Write};
 use std::rt::Clock;
 use std::sync::Wait;
-use std::sync::ledger::Ledger;
 use std::time::Duration;
 use std::{str, thread};
 
@@ -20,40 +15,35 @@ fn say<T: Display, W: Write>(what: &T, out: &mut W) {
     let _ = out.flush();
 }
 
-// Answers a line, and hands on what its event came to.
-fn answer_line<L: Ledger, R: Wait, W: Write>(
+// Answers a line, and hands on what its event came to. Answers whether the daemon is to stop.
+fn answer_line<T: SharedTable, R: Wait, W: Write>(
     rt: &R,
-    shared: &Shared<'_, L>,
-    mine: &mut Worked<L>,
-    line: &str,
-    dones: &Sender<Done>,
+    shared: &Shared<'_, T>,
+    share: &mut T::Share,
+    line: Option<&str>,
+    dones: &Sender<T::Done>,
     out: &mut W,
-)
-    requires { 0 < mine.old.parts }
-    ensures { mine.new.parts ≡ mine.old.parts }
-{
+) -> bool {
     let told = shared.told(rt);
-    let Answer { text, done } = {
+    let Reply {
+        text,
+        done,
+        is_stop,
+    } = {
         let _way = shared.turnstile.way.lock(rt);
         shared.turnstile.close();
-        let mut kept = shared.kept.lock(rt);
-        let answer = answer(shared.alloc, &mut kept, mine, &told, line);
-        if let Some(done) = &answer.done
-            && shared.may_trim()
-        {
-            kept.let_go(done);
-        }
-        shared.cut_many(rt, &mut kept);
+        let reply = shared.table.answer(rt, share, &told, line);
         shared.turnstile.open();
-        answer
+        reply
     };
     if let Some(done) = done {
-        hand_on(rt, dones, done);
+        let _ = dones.send(rt, done);
     }
     match text {
         Ok(text) => say(&text, out),
         Err(_) => say(&"no memory", out),
     }
+    is_stop
 }
 
 // What comes from the console.
@@ -93,30 +83,31 @@ fn text_of(line: &[u8]) -> Option<&str> {
 }
 
 /// Answers the lines of a console, until one says `stop`. Their end does not end the daemon.
-pub fn run_console<L: Ledger, R: Wait + Clock, B: BufRead + Drop, W: Write>(
+pub fn run_console<T: SharedTable, R: Wait + Clock, B: BufRead + Drop, W: Write>(
     rt: &R,
-    shared: &Shared<'_, L>,
-    mine: Worked<L>,
+    shared: &Shared<'_, T>,
+    share: T::Share,
     console: B,
-    dones: Sender<Done>,
+    dones: Sender<T::Done>,
     out: &mut W,
-)
-    requires { 0 < mine.parts }
-{
-    let mut mine = mine;
+) {
+    let mut share = share;
     let mut console = console;
     say(&"ready", out);
     for _line in rt.forever() {
         match read_line(shared.alloc, &mut console) {
-            Typed::Line(line) => match text_of(line.as_slice()) {
-                Some(line) => {
-                    answer_line(rt, shared, &mut mine, line, &dones, out);
-                    if parse(line) == Ok(Line::Stop) {
-                        return;
-                    }
+            Typed::Line(line) => {
+                if answer_line(
+                    rt,
+                    shared,
+                    &mut share,
+                    text_of(line.as_slice()),
+                    &dones,
+                    out,
+                ) {
+                    return;
                 }
-                None => say(&LineFault::UnknownWord, out),
-            },
+            }
             Typed::NoMemory => say(&"no memory", out),
             Typed::End => break,
         }

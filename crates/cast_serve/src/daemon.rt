@@ -1,15 +1,13 @@
 //! The threads of a daemon, and their end.
-ghost use Rattle.std.specs.Prelude.{◌≡◌, ◌<◌, true};
-ghost use Rattle.cast_table.specs.Owns.{are_distinct, have_rising_groups};
+ghost use Rattle.std.specs.Prelude.{◌<◌};
 
 use crate::console::run_console;
-use cast_config::{Cause, ConfigFault, DomainSocket, Field, Setup, complain};
+use cast_config::{DomainSocket, Setup};
 use cast_device::{Watched, tell};
 use cast_edge::{Report, Unacknowledged, run_reporter};
-use cast_events::{Config, DomainConfig};
-use cast_pool::{Channels, Done, Gate, Kept, Raw, Worked, can_keep, work};
+use cast_events::{Config, DomainConfig, Raw};
 use cast_shared::{
-    CountShare, Desk, Pace, Record, Shared, SpareCount, Tape, Traffic, Turnstile, run_recorder,
+    Desk, Pace, Record, Shared, SharedTable, Tape, Traffic, Turnstile, run_recorder,
 };
 use cast_sockets::{Listening, Peer, SocketFault, Sockets, bind, remove_files, resolve_all, widen};
 use cast_threads::{Server, run_dispatcher, run_program, run_receiver, server_of};
@@ -17,11 +15,9 @@ use cast_types::{NoMemory, SiteNo};
 use crossbeam_channel::{Receiver, Sender};
 use std::alloc::Global;
 use std::io::{BufRead, ErrorKind, Write};
-use std::marker::Brand;
 use std::net::Net;
 use std::rt::{Clock, Files};
 use std::sync::atomic::AtomicU64;
-use std::sync::ledger::{Blank, Ledger};
 use std::sync::{Mutex, Wait};
 use std::thread::{Scope, Threads};
 use std::time::{Duration, Instant};
@@ -46,16 +42,18 @@ const ANSWERS: usize = 1024;
 // So many reports may wait to be written. What finds no room is lost.
 const REPORTS: usize = 256;
 
-// Into so many parts the count is cut: more than there will be threads.
-const PARTS: u64 = 9_223_372_036_854_775_808;
-
 // Accepts programs, each with a thread of its own.
-fn run_acceptor<'s, 'e, L: Ledger + Send + Sync, R: Threads + Wait + Clock + Sync>(
+fn run_acceptor<'s, 'e, T: SharedTable + Sync, R: Threads + Wait + Clock + Sync>(
     scope: &'s Scope<'s, &'e ()>,
     rt: &'e R,
-    shared: &'e Shared<'e, L>,
+    shared: &'e Shared<'e, T>,
     listening: &'e Listening,
-) {
+)
+where
+    T::Share: Send,
+    T::Job: Send,
+    T::Done: Send,
+{
     let domain = listening.domain;
     let mut is_failing = false;
     for stream in listening.listener.incoming() {
@@ -82,7 +80,7 @@ fn run_acceptor<'s, 'e, L: Ledger + Send + Sync, R: Threads + Wait + Clock + Syn
 }
 
 // Takes outboxes, program by program: of all, or of those whose last Take found no memory.
-fn take_outboxes<L: Ledger, R: Wait>(rt: &R, server: &mut Server<'_, L>, all: bool) {
+fn take_outboxes<T: SharedTable, R: Wait>(rt: &R, server: &mut Server<'_, T>, all: bool) {
     let mut last = None;
     for _ in rt.forever() {
         let next = server.shared.desk.lock(rt).next_client(rt, last, all);
@@ -97,7 +95,7 @@ fn take_outboxes<L: Ledger, R: Wait>(rt: &R, server: &mut Server<'_, L>, all: bo
 }
 
 // Tells the domains the time, and asks once more for what was refused.
-fn run_ticker<L: Ledger, R: Wait + Clock>(rt: &R, server: Server<'_, L>) -> io::Result<()> {
+fn run_ticker<T: SharedTable, R: Wait + Clock>(rt: &R, server: Server<'_, T>) -> io::Result<()> {
     let mut server = server;
     let shared = server.shared;
     let start = Instant::now(rt)?;
@@ -127,78 +125,46 @@ fn run_ticker<L: Ledger, R: Wait + Clock>(rt: &R, server: Server<'_, L>) -> io::
 
 // The ends of the channels that the threads take.
 #[derive(Drop)]
-struct Ends {
+struct Ends<D> {
     queue: Receiver<Raw>,
-    answers: Sender<Done>,
-    answered: Receiver<Done>,
+    answers: Sender<D>,
+    answered: Receiver<D>,
     reports: Receiver<Report>,
-}
-
-// Cuts the trace after what a worker served, if it is recorded and has many events. Nobody waits here.
-#[derive(Drop)]
-struct Cutting<'a, R, L: Ledger> {
-    rt: &'a R,
-    shared: &'a Shared<'a, L>,
-}
-
-impl<R: Wait, L: Ledger> Gate for Cutting<'_, R, L> {
-    fn decoded(&self, _number: u64) {}
-
-    fn served(&self, _number: u64) {}
-
-    // What came of the job is on its way: nobody waits for the table on account of this.
-    fn done(&self, _number: u64) {
-        if self.shared.is_recorded {
-            self.shared
-                .cut_many(self.rt, &mut self.shared.kept.lock(self.rt));
-        }
-    }
 }
 
 // What the threads stand on.
 #[derive(Drop)]
-struct Ground<'a, L: Ledger> {
-    shared: Shared<'a, L>,
+struct Ground<'a, T: SharedTable> {
+    shared: Shared<'a, T>,
     sockets: &'a Sockets,
 }
 
 // A share of the count for a thread.
-fn share_of<L: Ledger, R: Wait>(rt: &R, shared: &Shared<'_, L>) -> io::Result<CountShare<L>> {
-    match shared.spare.lock(rt).share() {
+fn share_of<T: SharedTable, R: Wait>(rt: &R, shared: &Shared<'_, T>) -> io::Result<T::Share> {
+    match shared.table.share(rt) {
         Some(share) => Ok(share),
         None => Err(io::Error::from(io::ErrorKind::OutOfMemory)),
     }
 }
 
 // Starts a worker.
-fn start_worker<'s, 'e, L: Ledger + Send + Sync, R: Threads + Wait + Clock + Sync>(
+fn start_worker<'s, 'e, T: SharedTable + Sync, R: Threads + Wait + Clock + Sync>(
     scope: &'s Scope<'s, &'e ()>,
     rt: &'e R,
-    ground: &'e Ground<'e, L>,
+    ground: &'e Ground<'e, T>,
     queue: &Receiver<Raw>,
-    answers: &Sender<Done>,
-) -> io::Result<()> {
-    let alloc = ground.shared.alloc;
+    answers: &Sender<T::Done>,
+) -> io::Result<()>
+where
+    T::Share: Send,
+    T::Job: Send,
+    T::Done: Send,
+{
     let queue = queue.clone()?;
     let answers = answers.clone()?;
-    let CountShare { worked } = share_of(rt, &ground.shared)?;
-    let job = move || -> Worked<L>
-        requires { 0 < worked.parts }
-    {
-        let mut post = Channels {
-            rt,
-            from: queue,
-            to: answers,
-        };
-        let gate = Cutting {
-            rt,
-            shared: &ground.shared,
-        };
-        let may_trim = ground.shared.may_trim();
-        let kept = ground.shared.kept;
-        work(rt, alloc, kept, worked, may_trim, &mut post, &gate)
-    };
-    let _ = scope.spawn(job)?;
+    let share = share_of(rt, &ground.shared)?;
+    let table = ground.shared.table;
+    let _ = scope.spawn(move || table.work(rt, share, queue, answers))?;
     Ok(())
 }
 
@@ -206,19 +172,24 @@ fn start_worker<'s, 'e, L: Ledger + Send + Sync, R: Threads + Wait + Clock + Syn
 fn start_all<
     's,
     'e,
-    L: Ledger + Send + Sync,
+    T: SharedTable + Sync,
     R: Threads + Wait + Clock + Sync,
     E: Write + Send + Drop + 'e,
     K: Write + Send + Drop + 'e,
 >(
     scope: &'s Scope<'s, &'e ()>,
     rt: &'e R,
-    ground: &'e Ground<'e, L>,
+    ground: &'e Ground<'e, T>,
     workers: u8,
-    ends: Ends,
+    ends: Ends<T::Done>,
     log: E,
     record: &'e Mutex<Option<Record<K>>>,
-) -> io::Result<Sender<Done>> {
+) -> io::Result<Sender<T::Done>>
+where
+    T::Share: Send,
+    T::Job: Send,
+    T::Done: Send,
+{
     let Ends {
         queue,
         answers,
@@ -248,7 +219,7 @@ fn start_all<
 }
 
 // Ends the daemon: what was asked is still served, and nothing more is taken in.
-fn stop<L: Ledger, R: Wait + Files>(rt: &R, ground: &Ground<'_, L>, paths: &[DomainSocket]) {
+fn stop<T: SharedTable, R: Wait + Files>(rt: &R, ground: &Ground<'_, T>, paths: &[DomainSocket]) {
     ground.shared.desk.lock(rt).stop(rt);
     for pace in ground.shared.paces {
         pace.end(rt);
@@ -257,12 +228,12 @@ fn stop<L: Ledger, R: Wait + Files>(rt: &R, ground: &Ground<'_, L>, paths: &[Dom
 }
 
 // Starts the threads, and runs the console in this one, until it says `stop`.
-fn run_in<'s, 'e, L, R, B, W, E, K>(
+fn run_in<'s, 'e, T, R, B, W, E, K>(
     scope: &'s Scope<'s, &'e ()>,
     rt: &'e R,
-    ground: &'e Ground<'e, L>,
+    ground: &'e Ground<'e, T>,
     workers: u8,
-    ends: Ends,
+    ends: Ends<T::Done>,
     paths: &'e [DomainSocket],
     console: B,
     out: &mut W,
@@ -270,7 +241,10 @@ fn run_in<'s, 'e, L, R, B, W, E, K>(
     record: &'e Mutex<Option<Record<K>>>,
 ) -> io::Result<()>
 where
-    L: Ledger + Send + Sync,
+    T: SharedTable + Sync,
+    T::Share: Send,
+    T::Job: Send,
+    T::Done: Send,
     R: Threads + Wait + Clock + Net + Files + Sync,
     B: BufRead + Drop,
     W: Write,
@@ -281,8 +255,7 @@ where
     let ended = match started {
         Ok(dones) => match share_of(rt, &ground.shared) {
             Ok(share) => {
-                let CountShare { worked } = share;
-                run_console(rt, &ground.shared, worked, console, dones, out);
+                run_console(rt, &ground.shared, share, console, dones, out);
                 Ok(())
             }
             Err(error) => Err(error),
@@ -297,11 +270,11 @@ where
 }
 
 // Runs the threads, until the console says `stop`.
-fn run_threads<'e, L, R, B, W, E, K>(
+fn run_threads<'e, T, R, B, W, E, K>(
     rt: &'e R,
-    ground: &'e Ground<'e, L>,
+    ground: &'e Ground<'e, T>,
     workers: u8,
-    ends: Ends,
+    ends: Ends<T::Done>,
     paths: &'e [DomainSocket],
     console: B,
     out: &mut W,
@@ -309,7 +282,10 @@ fn run_threads<'e, L, R, B, W, E, K>(
     record: &'e Mutex<Option<Record<K>>>,
 ) -> io::Result<()>
 where
-    L: Ledger + Send + Sync,
+    T: SharedTable + Sync,
+    T::Share: Send,
+    T::Job: Send,
+    T::Done: Send,
     R: Threads + Wait + Clock + Net + Files + Sync,
     B: BufRead + Drop,
     W: Write,
@@ -358,11 +334,12 @@ fn unacknowledged_of(
 }
 
 // Runs a daemon over its sockets, until the console says `stop`. Answers what the operator has to know of the end of its record.
-fn run<L, R, B, W, E, K>(
+fn run<T, R, B, W, E, K>(
     rt: &R,
     alloc: Global,
     setup: &Setup,
-    blank: Blank,
+    table: &T,
+    tape: &Tape,
     workers: u8,
     peers: &[Peer],
     sockets: &Sockets,
@@ -372,25 +349,20 @@ fn run<L, R, B, W, E, K>(
     record: Option<Record<K>>,
 ) -> io::Result<Option<Report>>
 where
-    L: Ledger + Send + Sync,
+    T: SharedTable + Sync,
+    T::Share: Send,
+    T::Job: Send,
+    T::Done: Send,
     R: Threads + Wait + Clock + Net + Files + Sync,
     B: BufRead + Drop,
     W: Write,
     E: Write + Send + Drop,
     K: Write + Send + Drop,
-    requires distinct { are_distinct setup.now.config.domains ≡ true }
-    requires rising { have_rising_groups setup.now.config.domains ≡ true }
-    requires name { blank.name ≡ L.name }
-    requires parts { (blank.parts ≡ L.parts) × (blank.parts ≡ 9223372036854775808) }
 {
-    let (kept, all) = Kept::<L>::new(alloc, &setup.config, blank, PARTS)?;
-    let tape = Tape::new(alloc);
     let is_recorded = record.is_some();
     let record = Mutex::new(record);
-    let kept = Mutex::new(kept);
-    let spare = Mutex::new(SpareCount::new(all, PARTS));
     let (jobs, queue) = crossbeam_channel::bounded::<Raw, Global>(alloc, JOBS)?;
-    let (answers, answered) = crossbeam_channel::bounded::<Done, Global>(alloc, ANSWERS)?;
+    let (answers, answered) = crossbeam_channel::bounded::<T::Done, Global>(alloc, ANSWERS)?;
     let (reporting, reports) = crossbeam_channel::bounded::<Report, Global>(alloc, REPORTS)?;
     let desk = Mutex::new(Desk::new(alloc, jobs, reporting));
     let halts = AtomicU64::new(0);
@@ -407,8 +379,7 @@ where
         shared: Shared {
             alloc,
             desk: &desk,
-            kept: &kept,
-            spare: &spare,
+            table,
             udp: &sockets.udp,
             peers,
             paces: paces.as_slice(),
@@ -416,7 +387,7 @@ where
             turnstile: &turnstile,
             traffic: &traffic,
             halts: &halts,
-            tape: &tape,
+            tape,
             is_recorded,
             own: setup.config.site,
         },
@@ -441,7 +412,7 @@ where
     );
     let left = record.lock(rt).take();
     let report = match left {
-        Some(record) => record.end(rt, &tape, &kept),
+        Some(record) => record.end(rt, tape, table),
         None => None,
     };
     ended?;
@@ -493,17 +464,19 @@ fn end_unrecorded<E: Write>(err: &mut Watched<E>, error: &io::Error) -> u8 {
     UNWRITABLE
 }
 
-/// Runs a daemon until the console says `stop`, and answers the status of the program. `ready` is written once it serves.
-/// Why it does not run is written to `err`, and what an operator has to know while it does to `log`. If there is
-/// something to write a record to, each event that is served is written there, as a script that replays.
+/// Runs a daemon of a table until the console says `stop`, and answers the status of the program. `ready` is written once it
+/// serves. Why it does not run is written to `err`, and what an operator has to know while it does to `log`. If there is
+/// something to write a record to, each event that the table cuts off its trace for this tape is written there, as a script that
+/// replays.
 ///
-/// The status is 0 after `stop`; 3 if the first lines of the record cannot be written; 7 if an address cannot be resolved or bound, or a path cannot be bound, which is named; 5 if
-/// there is no memory for the daemon or its threads; and 6 if two domains of the set-up have one number, or a domain's groups do
-/// not rise, which no set-up has that was read.
-pub fn serve<R, B, W, E, G, K>(
+/// The status is 0 after `stop`; 3 if the first lines of the record cannot be written; 7 if an address cannot be resolved or bound, or a
+/// path cannot be bound, which is named; and 5 if there is no memory for the daemon or its threads.
+pub fn serve<T, R, B, W, E, G, K>(
     rt: &R,
     alloc: Global,
     setup: &Setup,
+    table: &T,
+    tape: &Tape,
     workers: u8,
     record: Option<K>,
     console: B,
@@ -512,6 +485,10 @@ pub fn serve<R, B, W, E, G, K>(
     log: G,
 ) -> u8
 where
+    T: SharedTable + Sync,
+    T::Share: Send,
+    T::Job: Send,
+    T::Done: Send,
     R: Threads + Wait + Clock + Net + Files + Sync,
     B: BufRead + Drop,
     W: Write,
@@ -519,13 +496,6 @@ where
     G: Write + Send + Drop,
     K: Write + Send + Drop,
 {
-    if !can_keep(&setup.config) {
-        let fault = ConfigFault {
-            field: Field::Domain,
-            cause: Cause::Repeated,
-        };
-        return complain(fault, err);
-    }
     let peers = match resolve_all(rt, alloc, setup.addresses.as_slice()) {
         Ok(peers) => peers,
         Err(fault) => return end_unbound(err, fault),
@@ -541,9 +511,8 @@ where
             return end_unrecorded(err, &error);
         }
     };
-    let blank = Blank::new(PARTS);
-    match run::<Brand, R, B, W, G, K>(
-        rt, alloc, setup, blank, workers, &peers, &sockets, console, out, log, record,
+    match run(
+        rt, alloc, setup, table, tape, workers, &peers, &sockets, console, out, log, record,
     ) {
         Ok(report) => {
             if let Some(what) = report {

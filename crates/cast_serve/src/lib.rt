@@ -6,8 +6,5 @@
 
 mod console;
 mod daemon;
-mod file;
 
-pub use cast_edge::Folder;
 pub use daemon::serve;
-pub use file::{check_file, serve_file};

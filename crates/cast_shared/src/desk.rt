@@ -1,7 +1,6 @@
 //! Which programs are served, what is asked of the workers, and which sessions are still to end.
 use cast_edge::{Client, Report, Session};
-use cast_events::Event;
-use cast_pool::{Asked, Raw};
+use cast_events::{Asked, Event, Raw};
 use cast_types::{DomainNo, NoMemory, Refusal};
 use crossbeam_channel::Sender;
 use std::alloc::{AllocError, Global};

@@ -5,15 +5,12 @@
 //! has received it until all have. So a site that lets few casts follow the oldest message that it keeps leaves the others room for
 //! the one that they lack. A cast that would be one too many waits until messages are released, but not for long: a site that is
 //! lost, and that nobody suspects, must not stop a program.
-use cast_events::DomainConfig;
-use cast_pool::Kept;
-use cast_table::Backlog;
+use cast_events::{Backlog, DomainConfig};
 use cast_types::DomainNo;
 use std::alloc::Global;
 use std::collections::VecDeque;
 use std::rt::Clock;
 use std::sync::atomic::{AtomicU64, Ordering};
-use std::sync::ledger::Ledger;
 use std::sync::{Condvar, Mutex, Wait};
 use std::time::{Duration, Instant};
 
@@ -110,11 +107,6 @@ impl Pace {
             .checked_div(each.saturating_mul(others))
             .unwrap_or(0);
         (fitting.max(2) as usize).min(window_of(limit, self.sites))
-    }
-
-    /// How far its domain is behind.
-    pub fn backlog<L: Ledger>(&self, kept: &Kept<L>) -> Option<Backlog> {
-        kept.table().backlog(self.domain)
     }
 
     /// Whether a cast of so many bytes has to wait, and for which turn, where the domain is so far behind.

@@ -2,25 +2,23 @@
 ghost use Rattle.std.specs.Prelude.{◌≡◌, []};
 
 use crate::shared::Shared;
-use cast_console::Recording;
+use crate::table::SharedTable;
 use cast_edge::Report;
-use cast_events::{Config, Event};
+use cast_events::{Config, Entry, Event, Recording};
 use cast_message::{Body, Command, Request, SiteFrame};
-use cast_pool::{Entry, Kept};
 use cast_record::{add_event, add_head};
 use cast_types::NoMemory;
 use std::alloc::Global;
 use std::io::Write;
 use std::rt::Clock;
 use std::sync::atomic::{AtomicU64, Ordering};
-use std::sync::ledger::Ledger;
 use std::sync::{Mutex, Wait};
 use std::time::Duration;
 use std::{io, mem, thread};
 
-// From so many events on, a thread that served one cuts them off the trace. At 4,096 it would be trimmed, and they were lost: the difference
-// is for what other threads serve meanwhile.
-const CUT: usize = 3_840;
+/// From so many events on, a thread that served one cuts them off the trace. At 4,096 it would be trimmed, and they were lost: the difference
+/// is for what other threads serve meanwhile.
+pub const CUT: usize = 3_840;
 
 // So many bytes at most wait to be written. What finds no room is lost, and the record says so.
 const MOST_WAITING: usize = 134_217_728;
@@ -120,8 +118,10 @@ impl Tape {
         }
     }
 
-    // Adds a piece. It is lost if too much waits, or there is no memory.
-    fn add<R: Wait>(&self, rt: &R, piece: Piece) {
+    /// Adds events that were cut off the trace, and how many there were before them. They are lost if too much waits, or there is no
+    /// memory.
+    pub fn add<R: Wait>(&self, rt: &R, before: u64, entries: Vec<Entry>) {
+        let piece = Piece { before, entries };
         let more = piece.size();
         let events = piece.entries.len() as u64;
         let mut waiting = self.waiting.lock(rt);
@@ -190,34 +190,14 @@ impl Tape {
         }
     }
 
-    // A vector without events.
-    fn room<R: Wait>(&self, rt: &R) -> Vec<Entry>
+    /// A vector without events, for those that come.
+    pub fn room<R: Wait>(&self, rt: &R) -> Vec<Entry>
         ensures { result.items ≡ [] }
     {
         let kept = self.waiting.lock(rt).rooms.pop();
         match kept {
             Some(room) if room.is_empty() => room,
             _ => Vec::new(self.alloc),
-        }
-    }
-
-    /// Cuts the events off the trace, under the table's lock. False if there was no memory for that.
-    pub fn cut<L: Ledger, R: Wait>(&self, rt: &R, kept: &mut Kept<L>) -> bool {
-        let events = kept.events();
-        let Ok(entries) = kept.cut(self.room(rt)) else {
-            return false;
-        };
-        if !entries.is_empty() {
-            let before = events.saturating_sub(entries.len() as u64);
-            self.add(rt, Piece { before, entries });
-        }
-        true
-    }
-
-    /// Cuts the events off the trace, under the table's lock, if there are many.
-    pub fn cut_many<L: Ledger, R: Wait>(&self, rt: &R, kept: &mut Kept<L>) {
-        if kept.trace_len() >= CUT {
-            self.cut(rt, kept);
         }
     }
 
@@ -348,14 +328,9 @@ impl<K: Write + Drop> Record<K> {
 
     /// Writes all that is left. Nobody serves any more. Answers what the operator has to know of it: also if twice there was no memory to
     /// cut the trace, so that its events are not written.
-    pub fn end<L: Ledger, R: Wait>(
-        self,
-        rt: &R,
-        tape: &Tape,
-        kept: &Mutex<Kept<L>>,
-    ) -> Option<Report> {
+    pub fn end<T: SharedTable, R: Wait>(self, rt: &R, tape: &Tape, table: &T) -> Option<Report> {
         let mut record = self;
-        let is_cut = tape.cut(rt, &mut kept.lock(rt)) || tape.cut(rt, &mut kept.lock(rt));
+        let is_cut = table.trim(rt) || table.trim(rt);
         let (pieces, lost) = tape.take(rt);
         let report = record.write(rt, tape, pieces, lost);
         if is_cut {
@@ -367,9 +342,9 @@ impl<K: Write + Drop> Record<K> {
 }
 
 // Writes what is cut off the trace, and cuts it about twice a second, until the daemon stops.
-fn write_on<L: Ledger, R: Wait + Clock, K: Write + Drop>(
+fn write_on<T: SharedTable, R: Wait + Clock, K: Write + Drop>(
     rt: &R,
-    shared: &Shared<'_, L>,
+    shared: &Shared<'_, T>,
     record: &mut Record<K>,
 ) {
     let mut waits: u32 = 0;
@@ -379,7 +354,7 @@ fn write_on<L: Ledger, R: Wait + Clock, K: Write + Drop>(
         }
         if waits >= WAITS_TO_CUT {
             waits = 0;
-            shared.tape.cut(rt, &mut shared.kept.lock(rt));
+            shared.table.trim(rt);
         }
         let (pieces, lost) = shared.tape.take(rt);
         if pieces.is_empty() {
@@ -393,9 +368,9 @@ fn write_on<L: Ledger, R: Wait + Clock, K: Write + Drop>(
 }
 
 /// Writes a record until the daemon stops. Then the record is left for what is served until the last thread ends.
-pub fn run_recorder<L: Ledger, R: Wait + Clock, K: Write + Drop>(
+pub fn run_recorder<T: SharedTable, R: Wait + Clock, K: Write + Drop>(
     rt: &R,
-    shared: &Shared<'_, L>,
+    shared: &Shared<'_, T>,
     record: &Mutex<Option<Record<K>>>,
 ) {
     let mut mine = record.lock(rt).take();

@@ -3,10 +3,10 @@ use Rattle.std.specs.Prelude.{Option, slice_get}
 use Rattle.std.specs.Option.{option_map}
 use Rattle.cast_types.specs.declared.names.DomainNo.{DomainNo}
 use Rattle.cast_types.specs.declared.names.Key.{Key}
+use Rattle.cast_events.specs.declared.backlog.Backlog.{Backlog}
 use Rattle.cast_domain.specs.declared.domain.Domain.{Domain}
 use Rattle.cast_domain.specs.Records.{number_of, quotas_of}
 use Rattle.cast_domain.specs.Shared.{Part, part_of}
-use Rattle.cast_table.specs.declared.backlog.Backlog.{Backlog}
 use Rattle.cast_table.specs.declared.table.Table.{Table}
 use Rattle.cast_table.specs.Shows.{domain_at}
 

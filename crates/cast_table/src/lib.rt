@@ -9,7 +9,6 @@
 mod backlog;
 pub mod table;
 
-pub use backlog::Backlog;
 pub use cast_domain::{GroupShown, Shown};
-pub use cast_events::{Config, DomainConfig, Event, Fault, Outs, Quotas, Taken};
+pub use cast_events::{Backlog, Config, DomainConfig, Event, Fault, Outs, Quotas, Taken};
 pub use table::{Table, place_of};

@@ -11,9 +11,9 @@ ghost use Rattle.cast_table.specs.Copies.{IsCopyOf};
 ghost use Rattle.cast_table.specs.Backlogs.{backlog_at};
 ghost use Rattle.cast_table.specs.Shows.{ShowsGroups, ShowsHistory, domain_at, groups_at, shown_at};
 
-use crate::backlog::{Backlog, oldest_in};
+use crate::backlog::oldest_in;
 use cast_domain::{Domain, GroupShown, Shared, Shown};
-use cast_events::{Config, Event, Fault, Outs, Taken};
+use cast_events::{Backlog, Config, Event, Fault, Outs, Taken};
 use cast_step::step;
 use cast_types::{DomainNo, List, NoMemory};
 use indexmap::IndexMap;

@@ -2,12 +2,10 @@
 use crate::server::Server;
 use cast_edge::Session;
 use cast_events::{Fault, Taken};
-use cast_pool::{Done, Outcome};
-use cast_shared::{Desk, Opened, Opening, Purpose};
+use cast_shared::{Desk, Opened, Opening, Purpose, SharedTable};
 use cast_types::{DomainNo, Refusal};
 use crossbeam_channel::Receiver;
 use std::sync::Wait;
-use std::sync::ledger::Ledger;
 
 // What a program is told that wants a session of a domain, which was asked for under a number.
 fn opening_of(domain: DomainNo, number: u64, answer: &Result<Taken, Fault>) -> Opening {
@@ -35,23 +33,24 @@ fn tell<R: Wait>(rt: &R, desk: &mut Desk, number: u64, answer: &Result<Taken, Fa
 }
 
 // What becomes of one answer.
-fn dispatch<L: Ledger, R: Wait>(rt: &R, server: &mut Server<'_, L>, done: Done) {
-    let (number, outcome) = done.parts();
-    match outcome {
-        Outcome::Answered(answer, outs) => {
-            tell(rt, &mut server.shared.desk.lock(rt), number, &answer);
-            server.finish(rt, &outs);
-            for pace in server.shared.paces {
-                pace.wake_any(rt);
-            }
-        }
-        Outcome::Shown(_) => {}
-        Outcome::Undecoded(_) => server.shared.desk.lock(rt).count_unread(rt),
+fn dispatch<T: SharedTable, R: Wait>(rt: &R, server: &mut Server<'_, T>, done: T::Done) {
+    let (number, came) = server.shared.table.parts(done);
+    let Some((answer, outs)) = came else {
+        return;
+    };
+    tell(rt, &mut server.shared.desk.lock(rt), number, &answer);
+    server.finish(rt, &outs);
+    for pace in server.shared.paces {
+        pace.wake_any(rt);
     }
 }
 
 /// Passes on what the workers and the console did, until nothing can come any more. Then reports end: a halt just before the end is told.
-pub fn run_dispatcher<L: Ledger, R: Wait>(rt: &R, server: Server<'_, L>, answers: Receiver<Done>) {
+pub fn run_dispatcher<T: SharedTable, R: Wait>(
+    rt: &R,
+    server: Server<'_, T>,
+    answers: Receiver<T::Done>,
+) {
     let mut server = server;
     for done in answers.iter(rt) {
         dispatch(rt, &mut server, done);

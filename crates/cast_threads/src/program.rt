@@ -5,14 +5,13 @@ use cast_device::Watched;
 use cast_edge::{Client, Report, Session, WriterTask};
 use cast_message::Push;
 use cast_session::pump_out;
-use cast_shared::{Opened, Opening, Shared};
+use cast_shared::{Opened, Opening, Shared, SharedTable};
 use cast_types::{DomainNo, NoMemory, Refusal};
 use std::alloc::Global;
 use std::io;
 use std::net::Shutdown;
 use std::os::unix::net::UnixStream;
 use std::rt::Clock;
-use std::sync::ledger::Ledger;
 use std::sync::{Arc, Mutex, Wait};
 use std::thread::{Scope, Threads};
 use std::time::Duration;
@@ -21,7 +20,7 @@ use std::time::Duration;
 const PATIENCE: u64 = 30;
 
 // Writes what others leave to be written, until nothing more is written.
-fn run_writer<L: Ledger, R: Wait>(rt: &R, client: Arc<Client, Global>, server: Server<'_, L>) {
+fn run_writer<T: SharedTable, R: Wait>(rt: &R, client: Arc<Client, Global>, server: Server<'_, T>) {
     let mut server = server;
     for _ in rt.forever() {
         match client.next_task(rt) {
@@ -39,9 +38,9 @@ fn refuse(alloc: Global, stream: &UnixStream, refusal: Refusal) {
 }
 
 // Asks for a session, and waits for it.
-fn open<L: Ledger, R: Wait>(
+fn open<T: SharedTable, R: Wait>(
     rt: &R,
-    shared: &Shared<'_, L>,
+    shared: &Shared<'_, T>,
     domain: DomainNo,
 ) -> Result<Opening, NoMemory> {
     let (to, opened) = crossbeam_channel::bounded::<Opening, Global>(shared.alloc, 1)?;
@@ -55,24 +54,29 @@ fn open<L: Ledger, R: Wait>(
 }
 
 /// What a thread needs to serve events. An error if there is no share of the count for it.
-pub fn server_of<'a, L: Ledger, R: Wait>(
+pub fn server_of<'a, T: SharedTable, R: Wait>(
     rt: &R,
-    shared: &'a Shared<'a, L>,
-) -> io::Result<Server<'a, L>> {
-    match shared.spare.lock(rt).share() {
+    shared: &'a Shared<'a, T>,
+) -> io::Result<Server<'a, T>> {
+    match shared.table.share(rt) {
         Some(share) => Ok(Server::new(shared, share)),
         None => Err(io::Error::from(io::ErrorKind::OutOfMemory)),
     }
 }
 
 // Serves a program that has a session: this thread reads, and a second one writes what the others would wait for.
-fn serve_session<'s, 'e, L: Ledger + Send + Sync, R: Threads + Wait + Clock + Sync>(
+fn serve_session<'s, 'e, T: SharedTable + Sync, R: Threads + Wait + Clock + Sync>(
     scope: &'s Scope<'s, &'e ()>,
     rt: &'e R,
-    shared: &'e Shared<'e, L>,
+    shared: &'e Shared<'e, T>,
     stream: UnixStream,
     session: Session,
-) -> io::Result<()> {
+) -> io::Result<()>
+where
+    T::Share: Send,
+    T::Job: Send,
+    T::Done: Send,
+{
     stream.set_write_timeout(Some(Duration::from_secs(PATIENCE)))?;
     let client = Arc::new(shared.alloc, Client::new(session, stream))?;
     let writing = Arc::try_clone(&client)?;
@@ -94,13 +98,18 @@ fn serve_session<'s, 'e, L: Ledger + Send + Sync, R: Threads + Wait + Clock + Sy
 }
 
 /// Serves a program that connected to a domain, from its session's begin to its end.
-pub fn run_program<'s, 'e, L: Ledger + Send + Sync, R: Threads + Wait + Clock + Sync>(
+pub fn run_program<'s, 'e, T: SharedTable + Sync, R: Threads + Wait + Clock + Sync>(
     scope: &'s Scope<'s, &'e ()>,
     rt: &'e R,
-    shared: &'e Shared<'e, L>,
+    shared: &'e Shared<'e, T>,
     stream: UnixStream,
     domain: DomainNo,
-) {
+)
+where
+    T::Share: Send,
+    T::Job: Send,
+    T::Done: Send,
+{
     match open(rt, shared, domain) {
         Ok(Opening::Opened(opened)) => {
             let Opened { session, number: _ } = opened;

@@ -1,19 +1,17 @@
 //! The reader of a program: it serves the program's commands, and writes what they push.
-use crate::server::{Came, Server, session_of};
+use crate::server::{Server, session_of};
 use cast_device::Watched;
 use cast_edge::{Client, Session};
-use cast_events::{Event, Fault, Outs, Taken};
+use cast_events::{Asked, Event, Fault, Outs, Taken};
 use cast_message::{Command, Request};
-use cast_pool::{Asked, Job};
 use cast_session::{InEnd, Sink, pump_in};
-use cast_shared::{Pace, Patience};
+use cast_shared::{Came, Pace, Patience, SharedTable};
 use cast_types::{NoMemory, Refusal};
 use std::alloc::{AllocError, Global};
 use std::io;
 use std::io::Read;
 use std::os::unix::net::UnixStream;
 use std::rt::Clock;
-use std::sync::ledger::Ledger;
 use std::sync::{Mutex, Wait};
 
 // So many answers of a session may lie in its outbox before its reader waits.
@@ -24,8 +22,8 @@ const LAST_TAKES: u64 = 16;
 
 /// What the reader of a program knows.
 #[derive(Drop)]
-pub struct Reader<'a, L: Ledger> {
-    server: Server<'a, L>,
+pub struct Reader<'a, T: SharedTable> {
+    server: Server<'a, T>,
     client: &'a Client,
     // What its domain's casts wait for, if the domain has other sites.
     pace: Option<&'a Pace>,
@@ -39,9 +37,9 @@ pub struct Reader<'a, L: Ledger> {
     pushed: Vec<Session>,
 }
 
-impl<'a, L: Ledger> Reader<'a, L> {
+impl<'a, T: SharedTable> Reader<'a, T> {
     /// The reader of a program that wrote nothing.
-    pub fn new(server: Server<'a, L>, client: &'a Client) -> Self {
+    pub fn new(server: Server<'a, T>, client: &'a Client) -> Self {
         let domain = client.session.domain;
         let pace = server
             .shared
@@ -61,7 +59,7 @@ impl<'a, L: Ledger> Reader<'a, L> {
     }
 
     // Serves a cast of so many bytes once its program may make it.
-    fn cast<R: Wait + Clock>(&mut self, rt: &R, job: Job, pace: &Pace, len: usize) -> Came {
+    fn cast<R: Wait + Clock>(&mut self, rt: &R, job: T::Job, pace: &Pace, len: usize) -> Came {
         let (mut job, mut turn) = match self.server.cast(rt, job, pace, Some(len)) {
             Ok(came) => return came,
             Err(back) => back,
@@ -190,12 +188,12 @@ impl<'a, L: Ledger> Reader<'a, L> {
 
 // Serves the commands of a program.
 #[derive(Drop)]
-struct Serving<'a, 'b, L: Ledger, R: Wait + Clock> {
+struct Serving<'a, 'b, T: SharedTable, R: Wait + Clock> {
     rt: &'b R,
-    reader: &'b Mutex<Reader<'a, L>>,
+    reader: &'b Mutex<Reader<'a, T>>,
 }
 
-impl<L: Ledger, R: Wait + Clock> Sink for Serving<'_, '_, L, R> {
+impl<T: SharedTable, R: Wait + Clock> Sink for Serving<'_, '_, T, R> {
     fn take(&mut self, command: Command) -> Result<(), NoMemory> {
         if self.reader.lock(self.rt).serve(self.rt, command) {
             Ok(())
@@ -207,17 +205,23 @@ impl<L: Ledger, R: Wait + Clock> Sink for Serving<'_, '_, L, R> {
 
 // The stream of a program. Before it is read, what the commands before pushed is written.
 #[derive(Drop)]
-struct Flushing<'a, 'b, L: Ledger, R: Wait> {
+struct Flushing<'a, 'b, T: SharedTable, R: Wait> {
     rt: &'b R,
-    reader: &'b Mutex<Reader<'a, L>>,
+    reader: &'b Mutex<Reader<'a, T>>,
     stream: &'b UnixStream,
 }
 
-impl<L: Ledger, R: Wait> Read for Flushing<'_, '_, L, R> {
+impl<T: SharedTable, R: Wait> Read for Flushing<'_, '_, T, R> {
     fn read(&mut self, room: &mut [u8]) -> io::Result<usize> {
         self.reader.lock(self.rt).flush(self.rt);
         let mut stream = self.stream;
         stream.read(room)
+    }
+
+    fn read_exact(&mut self, room: &mut [u8]) -> io::Result<()> {
+        self.reader.lock(self.rt).flush(self.rt);
+        let mut stream = self.stream;
+        stream.read_exact(room)
     }
 }
 
@@ -235,11 +239,11 @@ fn wait_for_close(stream: &UnixStream) {
 
 /// Serves what a program writes, until its stream ends or is of no more use. What it was pushed by then is written, as long as the
 /// program takes it.
-pub fn run_reader<L: Ledger, R: Wait + Clock>(
+pub fn run_reader<T: SharedTable, R: Wait + Clock>(
     rt: &R,
     alloc: Global,
     client: &Client,
-    reader: &Mutex<Reader<'_, L>>,
+    reader: &Mutex<Reader<'_, T>>,
 ) {
     let source = Flushing {
         rt,

@@ -1,13 +1,11 @@
 //! The receiver: it serves the datagrams that come.
 use crate::server::{Server, session_of};
 use cast_edge::{Report, Session, Stables};
-use cast_events::Outs;
+use cast_events::{Asked, Outs};
 use cast_link::{LinkFault, Wire, receive_one};
-use cast_pool::Asked;
-use cast_shared::Shared;
+use cast_shared::{Shared, SharedTable};
 use std::rt::Clock;
 use std::sync::Wait;
-use std::sync::ledger::Ledger;
 use std::thread;
 use std::time::Duration;
 
@@ -22,14 +20,14 @@ const DIRECT: usize = 2;
 
 // What the receiver knows of the datagrams that it gathers.
 #[derive(Drop)]
-struct Receiver<'a, L: Ledger> {
-    server: Server<'a, L>,
+struct Receiver<'a, T: SharedTable> {
+    server: Server<'a, T>,
     // The sessions that they pushed to, and for which it writes.
     pushed: Vec<Session>,
     stables: Stables,
 }
 
-impl<L: Ledger> Receiver<'_, L> {
+impl<T: SharedTable> Receiver<'_, T> {
     // Sends the frames of an event. Its Stables wait.
     fn send<R: Wait>(&mut self, rt: &R, outs: Outs) {
         self.server.note_messages(rt, &outs);
@@ -104,10 +102,10 @@ impl<L: Ledger> Receiver<'_, L> {
 }
 
 /// Serves the datagrams that come, until the daemon stops.
-pub fn run_receiver<L: Ledger, R: Wait + Clock>(
+pub fn run_receiver<T: SharedTable, R: Wait + Clock>(
     rt: &R,
-    shared: &Shared<'_, L>,
-    server: Server<'_, L>,
+    shared: &Shared<'_, T>,
+    server: Server<'_, T>,
 ) {
     let mut receiver = Receiver {
         server,

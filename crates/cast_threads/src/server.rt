@@ -1,22 +1,17 @@
 //! A thread that serves events: under the table's lock for each, and sends the frames outside it.
-ghost use Rattle.std.specs.Prelude.{◌≡◌, ◌<◌};
-
 use cast_edge::{
-    Client, Report, Session, Unacknowledged, Unwritten, WriterTask, Written, acknowledged_in,
-    has_end, write_now, write_whole,
+    Client, Report, Session, Unacknowledged, Unwritten, WriterTask, Written, has_end, write_now,
+    write_whole,
 };
-use cast_events::{Event, Fault, Outs, Taken};
+use cast_events::{Asked, Event, Fault, Outs, Taken};
 use cast_link::{Wire, send_all};
 use cast_message::Push;
-use cast_pool::{Asked, Done, Job, Kept, Outcome, Task};
 use cast_session::spell_out;
-use cast_shared::{CountShare, Pace, Shared, Turn, Udp};
-use cast_types::{DomainNo, List, Refusal, SiteNo, Uid};
-use std::alloc::Global;
+use cast_shared::{Came, Pace, Shared, SharedTable, Turn, Udp};
+use cast_types::{DomainNo, List, Refusal};
 use std::mem;
 use std::sync::Wait;
 use std::sync::atomic::Ordering;
-use std::sync::ledger::Ledger;
 
 /// Most entries that one Take of a session asks for.
 pub const BATCH: u32 = 64;
@@ -27,14 +22,11 @@ const ROUNDS: u32 = 4;
 // So many bytes of room are kept for what is to be written.
 const ROOM: usize = 65_536;
 
-/// An answer, and what came of its event.
-pub type Came = (Result<Taken, Fault>, Outs);
-
 /// What a thread needs to serve events.
 #[derive(Drop)]
-pub struct Server<'a, L: Ledger> {
-    pub shared: &'a Shared<'a, L>,
-    share: CountShare<L>,
+pub struct Server<'a, T: SharedTable> {
+    pub shared: &'a Shared<'a, T>,
+    share: T::Share,
     pub wire: Udp<'a>,
     // The bytes of entries that are to be written.
     room: Vec<u8>,
@@ -48,76 +40,9 @@ pub fn session_of(push: &(DomainNo, u32, Push)) -> Session {
     }
 }
 
-// The answer of a job, and what came of its event.
-fn came_of(alloc: Global, done: Done) -> Came {
-    let (_, outcome) = done.parts();
-    match outcome {
-        Outcome::Answered(answer, outs) => (answer, outs),
-        Outcome::Shown(_) | Outcome::Undecoded(_) => (Err(Fault::NoMemory), Outs::new(alloc)),
-    }
-}
-
-// The place of the first pace whose readers may go on.
-fn first_due<L: Ledger>(paces: &[Pace], kept: &Kept<L>) -> usize {
-    for index in 0..paces.len() {
-        let pace = &paces[index];
-        if pace.is_awaited()
-            && let Some(backlog) = pace.backlog(kept)
-            && pace.is_due(backlog)
-        {
-            return index;
-        }
-    }
-    paces.len()
-}
-
-// Does a job, and answers the place of the pace whose readers may go on.
-fn serve_and_look<L: Ledger, R: Wait>(
-    rt: &R,
-    shared: &Shared<'_, L>,
-    kept: &mut Kept<L>,
-    share: &mut CountShare<L>,
-    job: Job,
-) -> (Done, usize) {
-    let done = shared.complete(rt, kept, share, job);
-    let due = first_due(shared.paces, kept);
-    (done, due)
-}
-
-// Does the job of a cast, unless its program has to wait: then the job comes back.
-fn cast_and_look<L: Ledger, R: Wait>(
-    rt: &R,
-    shared: &Shared<'_, L>,
-    kept: &mut Kept<L>,
-    share: &mut CountShare<L>,
-    job: Job,
-    pace: &Pace,
-    asks: Option<usize>,
-) -> Result<Done, (Job, Turn)> {
-    let before = pace.backlog(kept);
-    if let (Some(backlog), Some(len)) = (before, asks)
-        && let Some(turn) = pace.turn(rt, backlog, len)
-    {
-        return Err((job, turn));
-    }
-    let done = shared.complete(rt, kept, share, job);
-    if let (Some(before), Some(after)) = (before, pace.backlog(kept)) {
-        pace.note(rt, before, after);
-    }
-    Ok(done)
-}
-
-// What a frame acknowledges, if it does, in which domain and from which site.
-fn acknowledged_by(job: &Job) -> Option<(DomainNo, SiteNo, Uid)> {
-    match job.task() {
-        Task::Serve(event) => acknowledged_in(event),
-        Task::Show(_) => None,
-    }
-}
-
-impl<'a, L: Ledger> Server<'a, L> {
+impl<'a, T: SharedTable> Server<'a, T> {
     /// A thread that has this share of the count.
-    pub fn new(shared: &'a Shared<'a, L>, share: CountShare<L>) -> Self {
+    pub fn new(shared: &'a Shared<'a, T>, share: T::Share) -> Self {
         Server {
             shared,
             share,
@@ -127,44 +52,37 @@ impl<'a, L: Ledger> Server<'a, L> {
     }
 
     // Does a job, and lets the readers go on that waited for what it released.
-    fn do_job<R: Wait>(&mut self, rt: &R, job: Job) -> Came {
-        self.shared.turnstile.pass(rt);
-        let (done, due) = {
-            let mut kept = self.shared.kept.lock(rt);
-            serve_and_look(rt, self.shared, &mut kept, &mut self.share, job)
-        };
-        if let Some(pace) = self.shared.paces.get(due) {
+    fn do_job<R: Wait>(&mut self, rt: &R, job: T::Job) -> Came {
+        let shared = self.shared;
+        shared.turnstile.pass(rt);
+        let (came, due) = shared.table.serve(rt, &mut self.share, job, shared.paces);
+        if let Some(pace) = shared.paces.get(due) {
             pace.wake(rt);
         }
-        self.shared.tape.let_go(rt);
-        came_of(self.shared.alloc, done)
+        shared.tape.let_go(rt);
+        came
     }
 
     /// Does the job of a cast at a pace. If a cast of so many bytes has to wait, the job comes back, with the turn to wait for.
     pub fn cast<R: Wait>(
         &mut self,
         rt: &R,
-        job: Job,
+        job: T::Job,
         pace: &Pace,
         asks: Option<usize>,
-    ) -> Result<Came, (Job, Turn)> {
-        self.shared.turnstile.pass(rt);
-        let served = {
-            let mut kept = self.shared.kept.lock(rt);
-            cast_and_look(rt, self.shared, &mut kept, &mut self.share, job, pace, asks)
-        };
-        self.shared.tape.let_go(rt);
-        match served {
-            Ok(done) => Ok(came_of(self.shared.alloc, done)),
-            Err(back) => Err(back),
-        }
+    ) -> Result<Came, (T::Job, Turn)> {
+        let shared = self.shared;
+        shared.turnstile.pass(rt);
+        let served = shared.table.cast(rt, &mut self.share, job, pace, asks);
+        shared.tape.let_go(rt);
+        served
     }
 
     /// Serves a datagram. `None` if its bytes are no frame. After an acknowledgement, what seems to be lost is sent again.
     pub fn serve_datagram<R: Wait>(&mut self, rt: &R, datagram: Asked) -> Option<Outs> {
         self.shared.traffic.received.fetch_add(1, Ordering::SeqCst);
         let job = self.shared.job(rt, datagram)?;
-        let acknowledged = acknowledged_by(&job);
+        let acknowledged = self.shared.table.acknowledged(&job);
         let (_, outs) = self.do_job(rt, job);
         if let Some((domain, site, id)) = acknowledged
             && let Some(unacknowledged) = Unacknowledged::find(

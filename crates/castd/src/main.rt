@@ -7,9 +7,9 @@
 #![tactic(auto)]
 
 use cast_arguments::{Asked, read_command_line};
+use cast_daemon::{Folder, check_file, serve_file};
 use cast_device::Watched;
 use cast_replay::{Meter, Part, is_on_terminal, no_memory, replay_part};
-use cast_serve::{Folder, check_file, serve_file};
 use std::alloc::AllocError;
 use std::process::ExitCode;
 use std::rt::Files;

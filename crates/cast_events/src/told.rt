@@ -1,3 +1,5 @@
+//! What a daemon tells of itself beside its table.
+
 /// How many datagrams a daemon sent and received.
 #[derive(Clone, Copy, Debug, PartialEq, Eq)]
 pub struct Datagrams {

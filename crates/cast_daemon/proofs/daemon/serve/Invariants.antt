@@ -1,4 +1,4 @@
-use Rattle.cast_serve.proofs.daemon.serve.Given as goal
+use Rattle.cast_daemon.proofs.daemon.serve.Given as goal
 
 abbrev pub ghosts-run : goal.ghosts-run
 ghosts-run g a = record { name = a.blank.name; parts = a.blank.parts }

@@ -1,0 +1,293 @@
+//! The table behind its lock.
+use crate::share::{CountShare, SpareCount};
+use cast_console::{Answer, Line, LineFault, answer, parse};
+use cast_edge::acknowledged_in;
+use cast_events::{Asked, Fault, Outs, Raw, Told};
+use cast_pool::{Channels, Done, Gate, Job, Kept, Outcome, Task, decode, work};
+use cast_shared::{CUT, Came, Pace, Reply, SharedTable, Tape, Turn};
+use cast_types::{DomainNo, SiteNo, Uid};
+use crossbeam_channel::{Receiver, Sender};
+use std::alloc::Global;
+use std::sync::ledger::Ledger;
+use std::sync::{Mutex, Wait};
+
+/// The table of a daemon behind its lock, with the part of the count that no thread has, and the tape if the daemon is recorded.
+#[derive(Drop)]
+pub struct LockedTable<'a, L: Ledger> {
+    alloc: Global,
+    kept: Mutex<Kept<L>>,
+    spare: Mutex<SpareCount<L>>,
+    tape: Option<&'a Tape>,
+}
+
+// Cuts the events off the trace. False if there was no memory for that.
+fn cut<L: Ledger, R: Wait>(rt: &R, tape: &Tape, kept: &mut Kept<L>) -> bool {
+    let events = kept.events();
+    let Ok(entries) = kept.cut(tape.room(rt)) else {
+        return false;
+    };
+    if !entries.is_empty() {
+        let before = events.saturating_sub(entries.len() as u64);
+        tape.add(rt, before, entries);
+    }
+    true
+}
+
+// Cuts the events off the trace, if they are recorded and there are many.
+fn cut_many<L: Ledger, R: Wait>(rt: &R, tape: Option<&Tape>, kept: &mut Kept<L>) {
+    if let Some(tape) = tape
+        && kept.trace_len() >= CUT
+    {
+        cut(rt, tape, kept);
+    }
+}
+
+// Does a job. A trace that is recorded is cut, and not trimmed, so that none of its events is lost.
+fn complete<L: Ledger, R: Wait>(
+    rt: &R,
+    tape: Option<&Tape>,
+    kept: &mut Kept<L>,
+    share: &mut CountShare<L>,
+    job: Job,
+) -> Done {
+    let done = share.serve(kept, job, tape.is_none());
+    cut_many(rt, tape, kept);
+    done
+}
+
+// The place of the first pace whose readers may go on.
+fn first_due<L: Ledger>(paces: &[Pace], kept: &Kept<L>) -> usize {
+    for index in 0..paces.len() {
+        let pace = &paces[index];
+        if pace.is_awaited()
+            && let Some(backlog) = kept.table().backlog(pace.domain)
+            && pace.is_due(backlog)
+        {
+            return index;
+        }
+    }
+    paces.len()
+}
+
+// Does a job, and answers the place of the pace whose readers may go on.
+fn serve_and_look<L: Ledger, R: Wait>(
+    rt: &R,
+    tape: Option<&Tape>,
+    kept: &mut Kept<L>,
+    share: &mut CountShare<L>,
+    job: Job,
+    paces: &[Pace],
+) -> (Done, usize) {
+    let done = complete(rt, tape, kept, share, job);
+    let due = first_due(paces, kept);
+    (done, due)
+}
+
+// Does the job of a cast, unless its program has to wait: then the job comes back.
+fn cast_and_look<L: Ledger, R: Wait>(
+    rt: &R,
+    tape: Option<&Tape>,
+    kept: &mut Kept<L>,
+    share: &mut CountShare<L>,
+    job: Job,
+    pace: &Pace,
+    asks: Option<usize>,
+) -> Result<Done, (Job, Turn)> {
+    let before = kept.table().backlog(pace.domain);
+    if let (Some(backlog), Some(len)) = (before, asks)
+        && let Some(turn) = pace.turn(rt, backlog, len)
+    {
+        return Err((job, turn));
+    }
+    let done = complete(rt, tape, kept, share, job);
+    if let (Some(before), Some(after)) = (before, kept.table().backlog(pace.domain)) {
+        pace.note(rt, before, after);
+    }
+    Ok(done)
+}
+
+// Answers a line, and cuts the trace as `complete` does.
+fn answer_line<L: Ledger, R: Wait>(
+    rt: &R,
+    alloc: Global,
+    tape: Option<&Tape>,
+    kept: &mut Kept<L>,
+    share: &mut CountShare<L>,
+    told: &Told,
+    line: &str,
+) -> Reply<Done> {
+    let Answer { text, done } = answer(alloc, kept, &mut share.worked, told, line);
+    if let Some(done) = &done
+        && tape.is_none()
+    {
+        kept.let_go(done);
+    }
+    cut_many(rt, tape, kept);
+    Reply {
+        text,
+        done,
+        is_stop: parse(line) == Ok(Line::Stop),
+    }
+}
+
+// The answer to a line that is not UTF-8.
+fn unread_line(alloc: Global) -> Reply<Done> {
+    let fault = LineFault::UnknownWord;
+    Reply {
+        text: format!(in alloc; "{fault}"),
+        done: None,
+        is_stop: false,
+    }
+}
+
+// The answer of a job, and what came of its event.
+fn came_of(alloc: Global, done: Done) -> Came {
+    let (_, outcome) = done.parts();
+    match outcome {
+        Outcome::Answered(answer, outs) => (answer, outs),
+        Outcome::Shown(_) | Outcome::Undecoded(_) => (Err(Fault::NoMemory), Outs::new(alloc)),
+    }
+}
+
+// Cuts the trace after what a worker served, if it is recorded and has many events. Nobody waits here.
+#[derive(Drop)]
+struct Cutting<'a, R, L: Ledger> {
+    rt: &'a R,
+    tape: Option<&'a Tape>,
+    kept: &'a Mutex<Kept<L>>,
+}
+
+impl<R: Wait, L: Ledger> Gate for Cutting<'_, R, L> {
+    fn decoded(&self, _number: u64) {}
+
+    fn served(&self, _number: u64) {}
+
+    // What came of the job is on its way: nobody waits for the table on account of this.
+    fn done(&self, _number: u64) {
+        if self.tape.is_some() {
+            cut_many(self.rt, self.tape, &mut self.kept.lock(self.rt));
+        }
+    }
+}
+
+impl<'a, L: Ledger> LockedTable<'a, L> {
+    /// A table with the whole count, of which no thread has a share yet. Events that are cut off its trace go to the tape, if there
+    /// is one.
+    pub fn new(alloc: Global, kept: Kept<L>, spare: SpareCount<L>, tape: Option<&'a Tape>) -> Self {
+        LockedTable {
+            alloc,
+            kept: Mutex::new(kept),
+            spare: Mutex::new(spare),
+            tape,
+        }
+    }
+}
+
+impl<L: Ledger + Send + Sync> SharedTable for LockedTable<'_, L> {
+    type Share = CountShare<L>;
+
+    type Job = Job;
+
+    type Done = Done;
+
+    fn share<R: Wait>(&self, rt: &R) -> Option<CountShare<L>> {
+        self.spare.lock(rt).share()
+    }
+
+    fn job(&self, asked: Asked) -> Option<Job> {
+        decode(self.alloc, Raw { number: 0, asked }).ok()
+    }
+
+    fn acknowledged(&self, job: &Job) -> Option<(DomainNo, SiteNo, Uid)> {
+        match job.task() {
+            Task::Serve(event) => acknowledged_in(event),
+            Task::Show(_) => None,
+        }
+    }
+
+    fn serve<R: Wait>(
+        &self,
+        rt: &R,
+        share: &mut CountShare<L>,
+        job: Job,
+        paces: &[Pace],
+    ) -> (Came, usize) {
+        let (done, due) = {
+            let mut kept = self.kept.lock(rt);
+            serve_and_look(rt, self.tape, &mut kept, share, job, paces)
+        };
+        (came_of(self.alloc, done), due)
+    }
+
+    fn cast<R: Wait>(
+        &self,
+        rt: &R,
+        share: &mut CountShare<L>,
+        job: Job,
+        pace: &Pace,
+        asks: Option<usize>,
+    ) -> Result<Came, (Job, Turn)> {
+        let served = {
+            let mut kept = self.kept.lock(rt);
+            cast_and_look(rt, self.tape, &mut kept, share, job, pace, asks)
+        };
+        match served {
+            Ok(done) => Ok(came_of(self.alloc, done)),
+            Err(back) => Err(back),
+        }
+    }
+
+    fn work<R: Wait>(
+        &self,
+        rt: &R,
+        share: CountShare<L>,
+        asked: Receiver<Raw>,
+        dones: Sender<Done>,
+    ) {
+        let CountShare { worked } = share;
+        let mut post = Channels {
+            rt,
+            from: asked,
+            to: dones,
+        };
+        let gate = Cutting {
+            rt,
+            tape: self.tape,
+            kept: &self.kept,
+        };
+        let may_trim = self.tape.is_none();
+        let _ = work(
+            rt, self.alloc, &self.kept, worked, may_trim, &mut post, &gate,
+        );
+    }
+
+    fn answer<R: Wait>(
+        &self,
+        rt: &R,
+        share: &mut CountShare<L>,
+        told: &Told,
+        line: Option<&str>,
+    ) -> Reply<Done> {
+        let Some(line) = line else {
+            return unread_line(self.alloc);
+        };
+        let mut kept = self.kept.lock(rt);
+        answer_line(rt, self.alloc, self.tape, &mut kept, share, told, line)
+    }
+
+    fn parts(&self, done: Done) -> (u64, Option<Came>) {
+        let (number, outcome) = done.parts();
+        match outcome {
+            Outcome::Answered(answer, outs) => (number, Some((answer, outs))),
+            Outcome::Shown(_) | Outcome::Undecoded(_) => (number, None),
+        }
+    }
+
+    fn trim<R: Wait>(&self, rt: &R) -> bool {
+        let mut kept = self.kept.lock(rt);
+        match self.tape {
+            Some(tape) => cut(rt, tape, &mut kept),
+            None => kept.trim().is_ok(),
+        }
+    }
+}

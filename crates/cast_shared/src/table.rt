@@ -1,0 +1,88 @@
+//! The table of a daemon behind its lock, as the threads use it.
+use crate::pace::{Pace, Turn};
+use cast_events::{Asked, Fault, Outs, Raw, Taken, Told};
+use cast_types::{DomainNo, NoMemory, SiteNo, Uid};
+use crossbeam_channel::{Receiver, Sender};
+use std::sync::Wait;
+
+/// An answer, and what came of its event.
+pub type Came = (Result<Taken, Fault>, Outs);
+
+/// What came of a line of the console.
+#[derive(Drop)]
+pub struct Reply<D> {
+    /// The lines of the answer, parted by line feeds, without a last one.
+    pub text: Result<String, NoMemory>,
+    /// What came of the line's event, if it has one.
+    pub done: Option<D>,
+    /// Whether the line asks that the daemon stops.
+    pub is_stop: bool,
+}
+
+/// A table that threads share.
+///
+/// Each call takes the table's lock for itself, where it needs it, and `work` for each job anew. If the daemon is recorded, calls that
+/// serve cut the events off the trace once there are many.
+pub trait SharedTable {
+    /// A thread's share of the count of events. A thread needs one to serve events.
+    type Share: Drop;
+
+    /// What is to be done with the table.
+    type Job: Drop;
+
+    /// What came of what the workers or the console were asked.
+    type Done: Drop;
+
+    /// A share for one more thread. `None` if no parts are left for it.
+    fn share<R: Wait>(&self, rt: &R) -> Option<Self::Share>;
+
+    /// The job of what is asked. `None` for bytes that are no frame, and where memory ran out.
+    fn job(&self, asked: Asked) -> Option<Self::Job>;
+
+    /// What the frame of a job acknowledges, if it does, in which domain and from which site.
+    fn acknowledged(&self, job: &Self::Job) -> Option<(DomainNo, SiteNo, Uid)>;
+
+    /// Does a job. Answers also the place of the first of these paces whose readers may go on, or how many paces there are.
+    fn serve<R: Wait>(
+        &self,
+        rt: &R,
+        share: &mut Self::Share,
+        job: Self::Job,
+        paces: &[Pace],
+    ) -> (Came, usize);
+
+    /// Does the job of a cast of so many bytes, unless its program has to wait: then the job comes back, with the turn to wait for. A
+    /// cast without a number of bytes does not wait.
+    fn cast<R: Wait>(
+        &self,
+        rt: &R,
+        share: &mut Self::Share,
+        job: Self::Job,
+        pace: &Pace,
+        asks: Option<usize>,
+    ) -> Result<Came, (Self::Job, Turn)>;
+
+    /// Serves as a worker until nothing can be asked any more.
+    fn work<R: Wait>(
+        &self,
+        rt: &R,
+        share: Self::Share,
+        asked: Receiver<Raw>,
+        dones: Sender<Self::Done>,
+    );
+
+    /// Answers a line of the console. `None` is a line that is not UTF-8.
+    fn answer<R: Wait>(
+        &self,
+        rt: &R,
+        share: &mut Self::Share,
+        told: &Told,
+        line: Option<&str>,
+    ) -> Reply<Self::Done>;
+
+    /// The number under which something was asked, and what came of it if it was an event. `None` for bytes that were no frame.
+    fn parts(&self, done: Self::Done) -> (u64, Option<Came>);
+
+    /// Trims the trace, or cuts its events off if the daemon is recorded. False if there was no memory for that.
+    fn trim<R: Wait>(&self, rt: &R) -> bool;
+}
