@@ -9,7 +9,7 @@ use cast_events::{Config, DomainConfig, Raw};
 use cast_shared::{
     Desk, Pace, Record, Shared, SharedTable, Tape, Traffic, Turnstile, run_recorder,
 };
-use cast_sockets::{Listening, Peer, SocketFault, Sockets, bind, remove_files, resolve_all, widen};
+use cast_sockets::{Listening, Peer, SocketFault, Sockets, bind, resolve_all, widen};
 use cast_threads::{Server, run_dispatcher, run_program, run_receiver, server_of};
 use cast_types::{NoMemory, SiteNo};
 use crossbeam_channel::{Receiver, Sender};
@@ -507,7 +507,7 @@ where
     let record = match begin_record(alloc, record, &setup.config) {
         Ok(record) => record,
         Err(error) => {
-            remove_files(rt, setup.sockets.as_slice());
+            sockets.remove_files(rt, setup.sockets.as_slice());
             return end_unrecorded(err, &error);
         }
     };
@@ -521,7 +521,7 @@ where
             0
         }
         Err(_) => {
-            remove_files(rt, setup.sockets.as_slice());
+            sockets.remove_files(rt, setup.sockets.as_slice());
             tell(err, &["castd: no memory\n"]);
             NO_MEMORY
         }

@@ -1,10 +1,11 @@
 //! The sockets of a daemon: one for datagrams, and one for the programs of each domain.
 //!
-//! `bind` makes them, and `Sockets::stop` wakes who waits for them. Promised: every call is safe.
+//! `bind` makes them. `Sockets::stop` removes their files and wakes who waits for them. Promised:
+//! every call is safe.
 #![tactic(auto)]
 
 mod datagrams;
 mod sockets;
 
 pub use datagrams::{Peer, widen};
-pub use sockets::{Listening, SocketFault, Sockets, bind, remove_files, resolve_all};
+pub use sockets::{Listening, SocketFault, Sockets, bind, resolve_all};

@@ -5,15 +5,25 @@ use cast_types::{DomainNo, SiteNo};
 use std::alloc::Global;
 use std::net::{Net, Shutdown, SocketAddr, ToSocketAddrs, UdpSocket};
 use std::os::fd::OwnedFd;
+use std::os::unix::fs::MetadataExt;
 use std::os::unix::net::{UnixListener, UnixStream};
 use std::rt::Files;
 use std::{fs, io};
+
+// A file of this machine, whatever its path is.
+#[derive(Clone, Copy, Debug, PartialEq, Eq)]
+struct FileId {
+    device: u64,
+    inode: u64,
+}
 
 /// The socket of a domain.
 #[derive(Drop)]
 pub struct Listening {
     pub domain: DomainNo,
     pub listener: UnixListener,
+    // The file that was made for it. None is made where the path is empty: the system then picks a name that no file has.
+    file: Option<FileId>,
     // A second handle of the listener. Once that is shut down, each accept fails at once.
     stopper: UnixStream,
 }
@@ -37,20 +47,40 @@ pub enum SocketFault<'a> {
 }
 
 impl Sockets {
-    /// Wakes the threads that wait for a socket, and removes the files of the sockets.
+    /// Removes the files of the sockets, which were bound at these paths, and wakes the threads that wait for a socket. The files go
+    /// first: while this daemon listens, nobody takes its sockets for those of a daemon that is gone.
     pub fn stop<R: Files>(&self, rt: &R, paths: &[DomainSocket]) {
+        self.remove_files(rt, paths);
         for listening in self.listening.as_slice() {
             let _ = listening.stopper.shutdown(Shutdown::Both);
         }
         let _ = self.stopper.shutdown(Shutdown::Both);
-        remove_files(rt, paths);
+    }
+
+    /// Removes the files of the sockets, which were bound at these paths. What others made at a path since then stays.
+    pub fn remove_files<R: Files>(&self, rt: &R, paths: &[DomainSocket]) {
+        remove_all(rt, self.listening.as_slice(), paths);
     }
 }
 
-/// Removes the files of sockets.
-pub fn remove_files<R: Files>(rt: &R, paths: &[DomainSocket]) {
-    for socket in paths {
-        let _ = fs::remove_file(rt, socket.path.as_str());
+// The file at a path.
+fn file_at<R: Files>(rt: &R, path: &str) -> io::Result<FileId> {
+    let metadata = fs::symlink_metadata(rt, path)?;
+    Ok(FileId {
+        device: metadata.dev(),
+        inode: metadata.ino(),
+    })
+}
+
+// Removes the files of sockets that were bound at the first of these paths. What others made at a path since then stays.
+fn remove_all<R: Files>(rt: &R, listening: &[Listening], paths: &[DomainSocket]) {
+    for (one, socket) in listening.iter().zip(paths) {
+        let path = socket.path.as_str();
+        if let Ok(file) = file_at(rt, path)
+            && Some(file) == one.file
+        {
+            let _ = fs::remove_file(rt, path);
+        }
     }
 }
 
@@ -98,11 +128,18 @@ fn address_of(addresses: &[SiteAddress], site: SiteNo) -> &str {
 
 // Makes the socket of a domain.
 fn listen<R: Net + Files>(rt: &R, socket: &DomainSocket) -> io::Result<Listening> {
-    let listener = UnixListener::bind(rt, socket.path.as_str())?;
+    let path = socket.path.as_str();
+    let listener = UnixListener::bind(rt, path)?;
+    let file = if path.is_empty() {
+        None
+    } else {
+        Some(file_at(rt, path)?)
+    };
     let stopper = UnixStream::from(OwnedFd::from(listener.try_clone()?));
     Ok(Listening {
         domain: socket.domain,
         listener,
+        file,
         stopper,
     })
 }
@@ -141,9 +178,9 @@ fn bind_all<'a, R: Net + Files>(
     paths: &'a [DomainSocket],
 ) -> Result<Vec<Listening>, SocketFault<'a>> {
     let mut listening = Vec::new(alloc);
-    for (index, socket) in paths.iter().enumerate() {
+    for socket in paths {
         if !bind_one(rt, socket, &mut listening) {
-            remove_files(rt, &paths[..index]);
+            remove_all(rt, listening.as_slice(), paths);
             return Err(SocketFault::Name(socket.path.as_str()));
         }
     }
