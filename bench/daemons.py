@@ -136,7 +136,7 @@ class Castd(Process):
         with open(config, "w", encoding="utf-8") as file:
             for number, address in addresses.items():
                 file.write(f'[[site]]\nnumber = {number}\naddress = "{address}"\n')
-            file.write(self.CONFIG.format(sites=list(addresses), socket=f'"{self.path}"', folder=folder))
+            file.write(self.CONFIG.format(sites=list(addresses), socket=f'"{self.path}"', folder=folder, site=site))
         super().__init__([program, "serve", config, "--site", str(site), *more], folder, **how)
         try:
             if self.line(PATIENCE) != "ready":

@@ -12,6 +12,7 @@ import subprocess
 import time
 
 import raw
+from daemons import compiled
 from harness import PATIENCE, PROGRAM, TESTS, Case, Failed, Setup, Tool, castd, wait_until
 
 Opened, Reply, View, Deliver, Closed = castd.Opened, castd.Reply, castd.View, castd.Deliver, castd.Closed
@@ -246,6 +247,16 @@ class Sockets(DaemonCase):
     def setup_of_two(self) -> Setup:
         return self.setup_of(1, {"number": 1, "socket": "1.sock"}, {"number": 2, "socket": "2.sock"})
 
+    def test_a_socket_that_another_daemon_made_at_its_path_stays(self):
+        daemon = self.serving()
+        path = f"{self.setup.site_folder(1)}/castd.sock"
+        os.unlink(path)
+        with socket.socket(socket.AF_UNIX) as other:
+            other.bind(path)
+            self.assertEqual(daemon.ask("stop"), "ok")
+            self.assert_ends(daemon, 0)
+            self.assertTrue(os.path.exists(path))
+
     def test_no_file_stays_where_a_socket_cannot_listen(self):
         library = f"{self.folder}/deaf.so"
         subprocess.run(["cc", "-shared", "-fPIC", "-o", library, str(TESTS / "deaf.c")], check=True)
@@ -269,6 +280,43 @@ class Sockets(DaemonCase):
         self.assertIsNone(status)
         unbound = {(UNBOUND, f"castd: socket: {it}\n") for it in (setup.addresses[1], "1.sock", "2.sock")}
         self.assertEqual(told, unbound)
+
+
+class Floods(DaemonCase):
+    """What bench/tenants measures, at one flood."""
+
+    PROGRAMS, SECONDS = 16, 3.0
+
+    def test_a_tenant_with_many_programs_has_one_place_at_the_table(self):
+        flooded = {"number": 1, "socket": "1.sock", "held": 1_024, "outbox": 4_096}
+        self.serving(self.setup_of(1, flooded, {"number": 2, "socket": "2.sock"}))
+        flood = compiled(self.folder, "flood", "flood.c", "../clients/c/castd.c")
+        folder = self.setup.site_folder(1)
+        words = [flood, f"{folder}/1.sock", "causal", "1", str(self.SECONDS)]
+        programs = [Tool(words, self.folder) for _ in range(self.PROGRAMS)]
+        for it in programs:
+            self.addCleanup(it.end)
+            self.assertEqual(it.line(PATIENCE), "ready")
+        other = Program(f"{folder}/2.sock")
+        self.addCleanup(other.close)
+        other.join(1)
+        self.assertEqual(other.kinds(3), JOINED)
+        alone = self.casts_for(other, 1.0)
+        for it in programs:
+            it.say("\n")
+        casts = self.casts_for(other, self.SECONDS)
+        # It does more than any of theirs, of which each has 32 casts under way. If all had one place each, it would do far less.
+        self.assertGreater(casts, max(int(it.line(PATIENCE).removeprefix("casts=")) for it in programs))
+        # Nor does it do far less than without them.
+        self.assertGreater(30 * casts / self.SECONDS, alone)
+
+    def casts_for(self, program: Program, seconds: float) -> int:
+        """How many casts a program makes, each once the one before has come back."""
+        casts, end = 0, time.monotonic() + seconds
+        while time.monotonic() < end:
+            self.assert_is_served(program)
+            casts += 1
+        return casts
 
 
 class Datagrams(DaemonCase):

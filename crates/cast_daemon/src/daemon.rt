@@ -2,6 +2,7 @@
 ghost use Rattle.std.specs.Prelude.{◌≡◌, true};
 ghost use Rattle.cast_table.specs.Owns.{are_distinct, have_rising_groups};
 
+use crate::lanes::Lanes;
 use crate::share::SpareCount;
 use crate::table::LockedTable;
 use cast_config::{Cause, ConfigFault, Field, Setup, complain};
@@ -53,9 +54,14 @@ where
         tell(err, &["castd: no memory\n"]);
         return NO_MEMORY;
     };
+    let Ok(lanes) = Lanes::new(alloc, setup.config.domains.as_slice()) else {
+        tell(err, &["castd: no memory\n"]);
+        return NO_MEMORY;
+    };
     let tape = Tape::new(alloc);
     let recorded = record.is_some().then_some(&tape);
-    let table = LockedTable::new(alloc, kept, SpareCount::new(all, PARTS), recorded);
+    let spare = SpareCount::new(all, PARTS);
+    let table = LockedTable::new(alloc, kept, lanes, spare, recorded);
     cast_serve::serve(
         rt, alloc, setup, &table, &tape, workers, record, console, out, err, log,
     )

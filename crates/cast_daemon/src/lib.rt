@@ -1,12 +1,14 @@
 //! A daemon: the table behind its lock, and the threads that serve it.
 //!
 //! A `LockedTable` is the `SharedTable` of the threads: it serves by the calls of `cast_pool` and
-//! `cast_console` under the lock. `serve` makes one and runs the threads. Promised: every call is
-//! safe.
+//! `cast_console` under the lock. A thread that serves an event of a domain takes the lane of the
+//! domain first (`Lanes`), so that a tenant with many programs has one place at the lock. `serve`
+//! makes a `LockedTable` and runs the threads. Promised: every call is safe.
 #![tactic(auto)]
 
 mod daemon;
 mod file;
+mod lanes;
 mod share;
 mod table;
 

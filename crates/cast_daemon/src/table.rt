@@ -1,4 +1,5 @@
 //! The table behind its lock.
+use crate::lanes::Lanes;
 use crate::share::{CountShare, SpareCount};
 use cast_console::{Answer, Line, LineFault, answer, parse};
 use cast_edge::acknowledged_in;
@@ -9,15 +10,25 @@ use cast_types::{DomainNo, SiteNo, Uid};
 use crossbeam_channel::{Receiver, Sender};
 use std::alloc::Global;
 use std::sync::ledger::Ledger;
-use std::sync::{Mutex, Wait};
+use std::sync::{Mutex, MutexGuard, Wait};
 
-/// The table of a daemon behind its lock, with the part of the count that no thread has, and the tape if the daemon is recorded.
+/// The table of a daemon behind its lock, with the lanes of its domains, the part of the count that no thread has, and the tape if the
+/// daemon is recorded.
 #[derive(Drop)]
 pub struct LockedTable<'a, L: Ledger> {
     alloc: Global,
     kept: Mutex<Kept<L>>,
+    lanes: Lanes,
     spare: Mutex<SpareCount<L>>,
     tape: Option<&'a Tape>,
+}
+
+// The domain that a job concerns, if it is one alone.
+fn domain_of(job: &Job) -> Option<DomainNo> {
+    match job.task() {
+        Task::Serve(event) => event.domain(),
+        Task::Show(domain) => Some(*domain),
+    }
 }
 
 // Cuts the events off the trace. False if there was no memory for that.
@@ -55,11 +66,12 @@ fn complete<L: Ledger, R: Wait>(
     done
 }
 
-// The place of the first pace whose readers may go on.
-fn first_due<L: Ledger>(paces: &[Pace], kept: &Kept<L>) -> usize {
+// The place of the pace of a domain if its readers may go on, else how many paces there are.
+fn due<L: Ledger>(paces: &[Pace], kept: &Kept<L>, domain: Option<DomainNo>) -> usize {
     for index in 0..paces.len() {
         let pace = &paces[index];
-        if pace.is_awaited()
+        if Some(pace.domain) == domain
+            && pace.is_awaited()
             && let Some(backlog) = kept.table().backlog(pace.domain)
             && pace.is_due(backlog)
         {
@@ -78,8 +90,9 @@ fn serve_and_look<L: Ledger, R: Wait>(
     job: Job,
     paces: &[Pace],
 ) -> (Done, usize) {
+    let domain = domain_of(&job);
     let done = complete(rt, tape, kept, share, job);
-    let due = first_due(paces, kept);
+    let due = due(paces, kept, domain);
     (done, due)
 }
 
@@ -149,16 +162,21 @@ fn came_of(alloc: Global, done: Done) -> Came {
     }
 }
 
-// Cuts the trace after what a worker served, if it is recorded and has many events. Nobody waits here.
+// Has a worker go by the lanes. Cuts the trace after what it served, if it is recorded and has many events.
 #[derive(Drop)]
-struct Cutting<'a, R, L: Ledger> {
+struct WorkerGate<'a, R, L: Ledger> {
     rt: &'a R,
     tape: Option<&'a Tape>,
     kept: &'a Mutex<Kept<L>>,
+    lanes: &'a Lanes,
 }
 
-impl<R: Wait, L: Ledger> Gate for Cutting<'_, R, L> {
-    fn decoded(&self, _number: u64) {}
+impl<'a, R: Wait, L: Ledger> Gate for WorkerGate<'a, R, L> {
+    type Pass = Option<MutexGuard<'a, ()>>;
+
+    fn decoded(&self, _number: u64, job: &Job) -> Option<MutexGuard<'a, ()>> {
+        self.lanes.enter(self.rt, domain_of(job))
+    }
 
     fn served(&self, _number: u64) {}
 
@@ -171,12 +189,19 @@ impl<R: Wait, L: Ledger> Gate for Cutting<'_, R, L> {
 }
 
 impl<'a, L: Ledger> LockedTable<'a, L> {
-    /// A table with the whole count, of which no thread has a share yet. Events that are cut off its trace go to the tape, if there
-    /// is one.
-    pub fn new(alloc: Global, kept: Kept<L>, spare: SpareCount<L>, tape: Option<&'a Tape>) -> Self {
+    /// A table with the whole count, of which no thread has a share yet, and the lanes of its domains. Events that are cut off its trace
+    /// go to the tape, if there is one.
+    pub fn new(
+        alloc: Global,
+        kept: Kept<L>,
+        lanes: Lanes,
+        spare: SpareCount<L>,
+        tape: Option<&'a Tape>,
+    ) -> Self {
         LockedTable {
             alloc,
             kept: Mutex::new(kept),
+            lanes,
             spare: Mutex::new(spare),
             tape,
         }
@@ -213,6 +238,7 @@ impl<L: Ledger + Send + Sync> SharedTable for LockedTable<'_, L> {
         paces: &[Pace],
     ) -> (Came, usize) {
         let (done, due) = {
+            let _lane = self.lanes.enter(rt, domain_of(&job));
             let mut kept = self.kept.lock(rt);
             serve_and_look(rt, self.tape, &mut kept, share, job, paces)
         };
@@ -228,6 +254,7 @@ impl<L: Ledger + Send + Sync> SharedTable for LockedTable<'_, L> {
         asks: Option<usize>,
     ) -> Result<Came, (Job, Turn)> {
         let served = {
+            let _lane = self.lanes.enter(rt, domain_of(&job));
             let mut kept = self.kept.lock(rt);
             cast_and_look(rt, self.tape, &mut kept, share, job, pace, asks)
         };
@@ -250,10 +277,11 @@ impl<L: Ledger + Send + Sync> SharedTable for LockedTable<'_, L> {
             from: asked,
             to: dones,
         };
-        let gate = Cutting {
+        let gate = WorkerGate {
             rt,
             tape: self.tape,
             kept: &self.kept,
+            lanes: &self.lanes,
         };
         let may_trim = self.tape.is_none();
         let _ = work(

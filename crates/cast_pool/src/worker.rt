@@ -3,7 +3,7 @@ ghost use Rattle.std.specs.Prelude.{◌≡◌, ◌<◌};
 ghost use Rattle.cast_pool.specs.Posts.{HasAnswered};
 ghost use Rattle.cast_pool.specs.Served.{IsAnswered};
 
-use crate::kept::{Done, Kept, Worked, decode};
+use crate::kept::{Done, Job, Kept, Worked, decode};
 use crate::post::Post;
 use cast_events::Raw;
 use std::alloc::Global;
@@ -12,8 +12,11 @@ use std::sync::{Mutex, Wait};
 
 /// What a worker passes on its way, by the number that was asked. A test may let a worker wait there.
 pub trait Gate {
-    /// It has decoded, and does not have the lock yet.
-    fn decoded(&self, number: u64);
+    /// What it has from before it takes the lock until after it has given it back.
+    type Pass: Drop;
+
+    /// It has decoded this job, and does not have the lock yet.
+    fn decoded(&self, number: u64, job: &Job) -> Self::Pass;
 
     /// It has served, and no longer has the lock.
     fn served(&self, number: u64);
@@ -27,7 +30,9 @@ pub trait Gate {
 pub struct Open;
 
 impl Gate for Open {
-    fn decoded(&self, _number: u64) {}
+    type Pass = ();
+
+    fn decoded(&self, _number: u64, _job: &Job) {}
 
     fn served(&self, _number: u64) {}
 
@@ -82,8 +87,9 @@ fn answer<L: Ledger, R: Wait, G: Gate>(
     let number = raw.number;
     match decode(alloc, raw) {
         Ok(job) => {
-            gate.decoded(number);
+            let pass = gate.decoded(number, &job);
             let done = kept.lock(rt).complete(mine, job, may_trim);
+            drop(pass);
             gate.served(number);
             done
         }

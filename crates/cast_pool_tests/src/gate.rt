@@ -1,5 +1,5 @@
 //! A gate at which a worker waits until others have done their work.
-use cast_pool::Gate;
+use cast_pool::{Gate, Job};
 use std::rt::Clock;
 use std::sync::atomic::{AtomicU64, Ordering};
 use std::thread;
@@ -54,7 +54,9 @@ impl<'a, R: Clock> Waits<'a, R> {
 }
 
 impl<R: Clock> Gate for Waits<'_, R> {
-    fn decoded(&self, number: u64) {
+    type Pass = ();
+
+    fn decoded(&self, number: u64, _job: &Job) {
         if !self.is_served {
             self.wait(number);
         }

@@ -80,6 +80,8 @@ fn work_both<L: Ledger + Send + Sync, R: Threads + Wait + Sync, G: Gate + Sync>(
     answers: Sender<Done>,
     gate: &G,
 ) -> Option<Worked<L>>
+where
+    G::Pass: Send,
     requires { mine.parts ≡ 2 }
     ensures { IfSome result (λ all. all.parts ≡ 2) }
 {
@@ -152,6 +154,8 @@ fn run<L: Ledger + Send + Sync, R: Threads + Wait + Sync, G: Gate + Sync>(
     asked: Vec<Raw>,
     gate: &G,
 ) -> Result<Ran, Fail>
+where
+    G::Pass: Send,
     requires name { blank.name ≡ L.name }
     requires parts { (blank.parts ≡ L.parts) × (blank.parts ≡ 2) }
 {

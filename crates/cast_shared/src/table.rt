@@ -42,7 +42,8 @@ pub trait SharedTable {
     /// What the frame of a job acknowledges, if it does, in which domain and from which site.
     fn acknowledged(&self, job: &Self::Job) -> Option<(DomainNo, SiteNo, Uid)>;
 
-    /// Does a job. Answers also the place of the first of these paces whose readers may go on, or how many paces there are.
+    /// Does a job. Answers also the place of its domain's pace among these if readers may go on now that waited for it, or else how many
+    /// paces there are.
     fn serve<R: Wait>(
         &self,
         rt: &R,
