@@ -190,6 +190,14 @@ class Log:
         self.state = state
 
 
+def replica_cases() -> Iterator[tuple[str, list[list[str]], bytes | None]]:
+    """The cases of clients/replica-vectors: what each shows, its lines as words, and what the state is at last."""
+    for case in (ROOT / "clients" / "replica-vectors").read_text().split("\ncase ")[1:]:
+        name, *lines = case.split("\n")
+        *steps, (_, *state) = (line.split() for line in lines if line)
+        yield name, steps, None if state == ["none"] else bytes.fromhex("".join(state))
+
+
 class Calls(Tool):
     """A program that makes the calls that it is told."""
 

@@ -1,8 +1,8 @@
 //! A member of group 1 that keeps a log of bytes by `Replica`, for `test_rust_client.py`.
 //!
-//! usage: log SOCKET
+//! usage: log SOCKET BEGIN
 //!
-//! A line `add TEXT COUNT` adds the text so many times, and is answered with `tag N`. What became of it is a line
+//! The log begins with the text BEGIN. A line `add TEXT COUNT` adds the text so many times, and is answered with `tag N`. What became of it is a line
 //! `told N RESULT`. `state` is answered with the length and the FNV-1a hash of the log, or `none`.
 
 #[path = "../clients/rust/castd.rs"]
@@ -36,9 +36,10 @@ impl Machine for Log {
 }
 
 fn main() -> Result<(), castd::Error> {
-    let path = std::env::args().nth(1).expect("a socket");
+    let words: Vec<String> = std::env::args().collect();
+    let [_, path, begin] = &words[..] else { panic!("usage: log SOCKET BEGIN") };
     let mut session = Session::connect(path, None)?;
-    let mut replica = Replica::new(1, Log(b"begin ".to_vec()));
+    let mut replica = Replica::new(1, Log(begin.clone().into_bytes()));
     session.send(Command::Join { group: 1 })?;
     let (sender, lines) = mpsc::channel();
     std::thread::spawn(move || io::stdin().lines().try_for_each(|line| sender.send(line.expect("text"))));

@@ -132,9 +132,9 @@ def reply(tag: int, code: int) -> bytes:
     return frame(66, struct.pack(">IB", tag, code))
 
 
-def view(group: int, number: int, *members: bytes) -> bytes:
-    """A view, whose holder is the first of the members."""
-    return frame(67, struct.pack(">HIB", group, number, len(members)) + b"".join(members) + b"\0"[: len(members)])
+def view(group: int, number: int, *members: bytes, holder: int = 0) -> bytes:
+    """A view. Its holder has this place among the members."""
+    return frame(67, struct.pack(">HIB", group, number, len(members)) + b"".join(members) + bytes([holder])[: len(members)])
 
 
 def deliver(group: int, number: int, sender: bytes, count: int, kind: bytes, payload: bytes) -> bytes:

@@ -294,6 +294,20 @@ class Locks(unittest.TestCase):
         self.group.run(1)
         self.assertTrue(self.one.lock.holds())
 
+    def test_what_no_station_casts_is_passed_over(self):
+        self.begin()
+        self.has_lock(self.one)
+        own = str(self.one.process).encode()
+        late = (b"seen %s %s" % (own, moment) for moment in (b"1e9", b"inf", b"nan", b"soon"))
+        for payload in b"", b"\1", b"\xff", b"seen", b"seen \xff 1.0", b"seen 1.x 1.0", b"keepalive \xff", *late:
+            for kind in (CAUSAL, ATOMIC):
+                self.two.send(Cast(GROUP, kind, payload))
+        self.group.run(1)
+        self.assertTrue(self.one.lock.holds())
+        self.two.is_cut = self.three.is_cut = True
+        self.group.run(LEASE + MARGIN)
+        self.assertFalse(self.one.lock.holds())
+
     def test_nobody_holds_alone(self):
         self.group.install(self.one)
         self.one.lock.acquire()

@@ -19,7 +19,7 @@ from unittest import mock
 
 from castd import aio, conversation
 from castd.replica import Replica
-from client_cases import Log, ToolCases
+from client_cases import Log, ToolCases, replica_cases
 from harness import PATIENCE, ROOT, Case, castd, stop
 from scripted_server import (
     ATOMIC,
@@ -424,34 +424,32 @@ class ReplicaAlone(unittest.TestCase):
         sent, replica.session.payloads = replica.session.payloads, []
         return sent
 
-    def test_the_least_member_that_has_the_state_sends_it_in_parts(self):
-        replicas = [self.replica(serial, 1, 2) for serial in (1, 2)]
-        for replica in replicas:
-            for serial in (1, 2):
-                self.deliver(replica, serial, "01 00000001")
-            self.deliver(replica, 1, b"\0" + bytes(16_000) + b"end")
-            self.begin(replica, 2, 1, 2, 3)
-        head = bytes.fromhex("02 00000002")
-        first, second = bytes.fromhex("00000000 00000002"), bytes.fromhex("00000001 00000002")
-        self.assertEqual(self.sent(replicas[0]), [head + first + bytes(16_000), head + second + b"end"])
-        self.assertEqual(self.sent(replicas[1]), [])
+    def test_vectors(self):
+        for name, steps, state in replica_cases():
+            with self.subTest(name):
+                session, sent = Sent(2), []
+                replica = Replica(session, 1, Log(b"."))
+                for word, *words in [*steps, ["end"]]:
+                    if word == "sends":
+                        sent.append(bytes.fromhex("".join(words)))
+                        continue
+                    self.assertEqual(session.payloads, sent)
+                    if word == "view":
+                        holder, *members = map(castd.process_of, words[1:])
+                        replica.take(castd.View(1, int(words[0]), tuple(members), holder))
+                    elif word == "deliver":
+                        sender, payload = castd.process_of(words[0]), bytes.fromhex("".join(words[1:]))
+                        replica.take(castd.Deliver(1, replica.view, sender, 1, castd.ATOMIC, payload))
+                self.assertEqual(replica.machine.state if replica.has_state else None, state)
 
-    def test_parts_of_another_view_are_passed_over(self):
-        replica = self.replica(2, 1, 2)
-        self.begin(replica, 2, 1, 2)
-        self.deliver(replica, 1, "02 00000001 00000000 00000001 aa")
-        self.assertFalse(replica.has_state)
-        self.deliver(replica, 1, "00 bb")
-        self.deliver(replica, 1, "02 00000002 00000000 00000001 cc")
-        self.assertEqual((replica.has_state, replica.machine.state), (True, b"\xcc\xbb"))
-
-    def test_who_lacked_the_state_in_another_view_does_not_lack_it_now(self):
+    def test_a_long_state_is_sent_in_parts(self):
         replica = self.replica(1, 1)
         self.deliver(replica, 1, "01 00000001")
-        self.deliver(replica, 1, "00 aa")
-        self.begin(replica, 2, 1)
-        self.deliver(replica, 1, "01 00000001")
-        self.assertEqual((replica.has_state, replica.machine.state), (True, b"\xaa"))
+        self.deliver(replica, 1, b"\0" + bytes(16_000) + b"end")
+        self.begin(replica, 2, 1, 2)
+        head = bytes.fromhex("02 00000002")
+        first, second = bytes.fromhex("00000000 00000002"), bytes.fromhex("00000001 00000002")
+        self.assertEqual(self.sent(replica), [head + first + bytes(16_000), head + second + b"end"])
 
     def test_one_that_is_ejected_lacks_the_state(self):
         replica = self.replica(1, 1)
@@ -460,9 +458,9 @@ class ReplicaAlone(unittest.TestCase):
         replica.take(castd.Ejected(1, 2))
         self.begin(replica, 3, 1, 2)
         self.assertEqual(self.sent(replica), [bytes.fromhex("01 00000003")])
+        self.deliver(replica, 1, "01 00000003")
         self.deliver(replica, 2, "02 00000003 00000000 00000001 bb")
         self.assertEqual(replica.machine.state, b"\xbb")
-
 
     def test_answers_behind_an_ejection_are_its_own_affair(self):
         replica = self.replica(1, 1)

@@ -3,13 +3,14 @@
 from __future__ import annotations
 
 import contextlib
+import itertools
 import socket
 import tempfile
 import threading
 from collections.abc import Iterator
 
 from castd.replica import Replica
-from client_cases import DONE, NOT_MEMBER, OTHER, OWN, Log, cast
+from client_cases import DONE, NOT_MEMBER, OTHER, OWN, Log, cast, replica_cases
 from harness import PATIENCE, Case, Tool, castd, wait_until
 from scripted_server import (
     ATOMIC,
@@ -32,6 +33,8 @@ from test_rust_client import compiled, setUpModule  # noqa: F401
 
 # The state with which all begin.
 BEGIN = b"begin "
+# Within so many seconds a member has taken what it was written.
+SHORT = 0.2
 FNV_OFFSET, FNV_PRIME = 0xCBF29CE484222325, 0x100000001B3
 
 
@@ -41,6 +44,11 @@ def text_of(state: bytes) -> str:
     for byte in state:
         value = (value ^ byte) * FNV_PRIME % (1 << 64)
     return f"{len(state)} {value:x}"
+
+
+def named(name: str) -> bytes:
+    """A process, by a name such as 1.2."""
+    return process(*map(int, name.split(".")))
 
 
 def lacks(number: int) -> bytes:
@@ -93,8 +101,8 @@ class RustReplica(Case):
     def setUpClass(cls) -> None:
         cls.log = compiled(cls, "tests/log.rs")
 
-    def member(self, path: str) -> Member:
-        member = Member([*self.log, path], self.folder)
+    def member(self, path: str, begin: bytes = BEGIN) -> Member:
+        member = Member([*self.log, path, begin.decode()], self.folder)
         self.addCleanup(member.end)
         return member
 
@@ -114,11 +122,11 @@ class RustReplicaAlone(RustReplica):
         self.assertTrue(self.has_come.wait(PATIENCE))
 
     @contextlib.contextmanager
-    def played(self, *steps: Step, own: bytes = OPENED) -> Iterator[Member]:
+    def played(self, *steps: Step, own: bytes = OPENED, begin: bytes = BEGIN) -> Iterator[Member]:
         path, done = f"{tempfile.mkdtemp(dir=self.folder)}/castd.sock", threading.Event()
-        begin = [write(own), expect(command(JOIN, 1, 1)), write(reply(1, DONE))]
-        with ScriptedServer(path, *begin, *steps, lambda stream: done.set()):
-            member = self.member(path)
+        joined = [write(own), expect(command(JOIN, 1, 1)), write(reply(1, DONE))]
+        with ScriptedServer(path, *joined, *steps, lambda stream: done.set()):
+            member = self.member(path, begin)
             yield member
             self.assertTrue(done.wait(PATIENCE))
             self.assertEqual(member.finish(), 0, member.complained())
@@ -131,35 +139,27 @@ class RustReplicaAlone(RustReplica):
         """These ABCASTs are delivered."""
         return write(b"".join(deliver(1, number, sender, 1, ATOMIC, payload) for payload in payloads))
 
-    def test_one_alone_begins_with_the_first_state(self):
-        with self.played(write(view(1, 1, OWN)), *self.asked(2, lacks(1)), self.told(1, OWN, lacks(1))) as member:
-            member.wait_for(BEGIN)
+    def steps_of(self, case: list[list[str]]) -> Iterator[Step]:
+        """The lines of a case of clients/replica-vectors, but that for its state."""
+        number, tags = 0, itertools.count(2)
+        for word, *words in case:
+            if word == "sends":
+                yield from self.asked(next(tags), bytes.fromhex("".join(words)))
+            elif word == "view":
+                number, (holder, *members) = int(words[0]), words[1:]
+                yield write(view(1, number, *map(named, members), holder=members.index(holder)))
+            else:
+                yield self.told(number, named(words[0]), bytes.fromhex("".join(words[1:])))
 
-    def test_the_first_state_waits_for_all_members(self):
-        others = self.told(1, OTHER, lacks(7), operation(b"x"))
-        lacking = [*self.asked(2, lacks(1)), self.told(1, OWN, lacks(1)), others]
-        asked = [self.come, *self.asked(3, operation(b"y"))]
-        with self.played(write(view(1, 1, OWN, OTHER)), *lacking, *asked) as member:
-            self.wait_until_come()
-            member.answer("add y 1")
-            self.assertEqual(member.answer("state"), "none")
-        with self.played(write(view(1, 1, OWN, OTHER)), *lacking, self.told(1, OTHER, lacks(1))) as member:
-            member.wait_for(BEGIN + b"x")
+    def test_vectors(self):
+        for name, case, state in replica_cases():
+            self.has_come.clear()
+            steps = [*self.steps_of(case), quiet(SHORT), self.come]
+            with self.subTest(name), self.played(*steps, own=opened(1, 2), begin=b".") as member:
+                self.wait_until_come()
+                self.assertEqual(member.answer("state"), "none" if state is None else text_of(state))
 
-    def test_a_newcomer_takes_the_state_and_does_what_came_since(self):
-        parts = [part(3, 0, 2, b"ab"), operation(b"x"), part(2, 1, 2, b"old"), part(3, 1, 2, b"c"), operation(b"y")]
-        told = [*self.asked(2, lacks(3)), self.told(3, OTHER, *parts)]
-        with self.played(write(view(1, 3, OWN, OTHER)), *told) as member:
-            member.wait_for(b"abcxy")
-
-    def test_what_was_collected_in_another_view_is_dropped(self):
-        collected = self.told(3, OTHER, part(3, 0, 2, b"ab"), operation(b"x"))
-        begun = [write(view(1, 3, OWN, OTHER)), *self.asked(2, lacks(3)), collected]
-        again = [write(view(1, 4, OWN, OTHER)), *self.asked(3, lacks(4)), self.told(4, OTHER, part(4, 0, 1, b"abx"))]
-        with self.played(*begun, *again) as member:
-            member.wait_for(b"abx")
-
-    def test_the_least_that_has_the_state_sends_it_in_parts(self):
+    def test_a_long_state_is_sent_in_parts(self):
         most = 16_000
         state = BEGIN + most * b"z"
         self.assertEqual(len(state), most + 6)
@@ -174,13 +174,6 @@ class RustReplicaAlone(RustReplica):
             self.assertEqual(member.add("z", most), f"Ok({len(state)})")
             member.wait_for(state)
 
-    def test_one_that_is_not_the_least_sends_nothing(self):
-        least, own, newcomer = (process(1, serial) for serial in (1, 2, 3))
-        lacking = [self.told(1, sender, lacks(1)) for sender in (least, own)]
-        begun = [write(view(1, 1, least, own)), *self.asked(2, lacks(1)), *lacking]
-        with self.played(*begun, write(view(1, 2, least, own, newcomer)), quiet(0.2), own=opened(1, 2)) as member:
-            member.wait_for(BEGIN)
-
     def test_one_that_is_ejected_lacks_the_state(self):
         begun = [write(view(1, 1, OWN)), *self.asked(2, lacks(1)), self.told(1, OWN, lacks(1))]
         with self.played(*begun, write(ejected(1, 2) + view(1, 3, OWN, OTHER)), *self.asked(3, lacks(3))) as member:
@@ -194,12 +187,6 @@ class RustReplicaAlone(RustReplica):
             self.wait_until_come()
             self.assertEqual(member.add("x"), "Err(Refused(NotMember))")
             self.assertEqual(member.add("y"), "Err(Ended { may_be_done: true, code: None })")
-
-    def test_payloads_that_no_replica_sends_are_passed_over(self):
-        wrong = [b"", b"\1", b"\2", b"\3x", lacks(1) + b"x", part(1, 0, 0, b"x"), part(1, 0, 1, b"x")[:12]]
-        begun = [write(view(1, 1, OWN, OTHER)), *self.asked(2, lacks(1)), self.told(1, OTHER, *wrong)]
-        with self.played(*begun, self.told(1, OTHER, lacks(1)), self.told(1, OWN, lacks(1))) as member:
-            member.wait_for(BEGIN)
 
 
 class RustReplicas(RustReplica):

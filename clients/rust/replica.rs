@@ -4,6 +4,7 @@ use super::castd::{Code, Command, Error, Kind, Process, Push, Session, View};
 use std::collections::{BTreeMap, BTreeSet, VecDeque};
 
 // How payloads begin: an operation; who lacks the state (and the view); a part of it (the view, its number, the count).
+// Any other payload is passed over.
 const OPERATION: u8 = 0;
 const LACKS: u8 = 1;
 const PART: u8 = 2;
@@ -22,9 +23,11 @@ pub trait Machine {
 /// was done is not known here, as with what nothing was told of when the session ended.
 pub type Tell<'a, T> = &'a mut dyn FnMut(u32, Result<T, Error>);
 
-/// The copy of a member, which is given all pushes of its session. At each view the least member that has the state
-/// ABCASTs it if others lack it. These keep the operations of the view until then, and do them behind it. If all lack
-/// it, all begin with the state that their machines had at first. A program that left the group needs a new replica.
+/// The copy of a member, which is given all pushes of its session. At each view those that lack the state say so, and take
+/// it from one member: the holder that the view names, unless that says so too, and else the least member that does not.
+/// This one ABCASTs it. The others keep the operations of the view until then, and do them behind it. If all lack it, all
+/// begin with the state that their machines had at first. All members are to be replicas, since one that says nothing may
+/// be waited for. A program that left the group needs a new replica.
 pub struct Replica<M> {
     group: u16,
     machine: M,
@@ -38,14 +41,60 @@ pub struct Replica<M> {
     cast: VecDeque<u32>,
 }
 
-/// A view, and what came in it: who lacks the state, its parts, and the operations before it, the own with their tags.
+/// A view, and what came in it: whether the state is still to come to a member, and from whom, the first of `sources`; what
+/// each member has sent of it; and the operations before it, the own with their tags.
 #[derive(Default)]
 struct Round {
     view: [u8; 4],
     members: BTreeSet<Process>,
-    lacking: BTreeSet<Process>,
-    parts: Vec<Vec<u8>>,
+    is_awaited: bool,
+    sources: Vec<Process>,
+    states: BTreeMap<Process, State>,
     kept: Vec<(Process, Vec<u8>, Option<u32>)>,
+}
+
+/// What a member has sent of the state, and of how many parts.
+#[derive(Default)]
+struct State {
+    parts: u32,
+    count: u32,
+    bytes: Vec<u8>,
+}
+
+impl State {
+    /// Takes a part behind its head. One that is not the next is passed over.
+    fn add(&mut self, number: u32, count: u32, part: &[u8]) {
+        if self.parts == 0 {
+            self.count = count;
+        }
+        if number == self.parts && count == self.count && number < count {
+            self.parts += 1;
+            self.bytes.extend(part);
+        }
+    }
+
+    fn is_whole(&self) -> bool {
+        self.count > 0 && self.parts == self.count
+    }
+}
+
+impl Round {
+    /// Takes a payload that is no operation. Returns the state once it has come, or all lack it and begin with this one.
+    fn take(&mut self, process: Process, payload: &[u8], initial: &[u8]) -> Option<Vec<u8>> {
+        let number = |bytes: &[u8]| u32::from_be_bytes(bytes.try_into().expect("four bytes"));
+        match payload.split_first() {
+            Some((&LACKS, view)) if view == self.view => self.sources.retain(|&it| it != process),
+            Some((&PART, rest)) if rest.len() >= 12 && rest[..4] == self.view => {
+                let state = self.states.entry(process).or_default();
+                state.add(number(&rest[4..8]), number(&rest[8..12]), &rest[12..]);
+            }
+            _ => {}
+        }
+        let Some(source) = self.sources.first() else {
+            return Some(initial.to_vec());
+        };
+        self.states.get(source).filter(|it| it.is_whole()).map(|it| it.bytes.clone())
+    }
 }
 
 impl<M: Machine> Replica<M> {
@@ -97,14 +146,19 @@ impl<M: Machine> Replica<M> {
     fn begin(&mut self, session: &mut Session, view: &View, tell: Tell<M::Output>) {
         let (number, members) = (view.view.to_be_bytes(), view.members.iter().copied().collect());
         self.holders = &self.holders & &members;
-        let last = std::mem::replace(&mut self.round, Round { view: number, members, ..Round::default() });
+        let is_awaited = !self.has_state || self.holders != members;
+        let mut sources = view.members.clone();
+        sources.sort_by_key(|&it| (Some(it) != view.holder, it));
+        let round = Round { view: number, members, is_awaited, sources, ..Round::default() };
+        let last = std::mem::replace(&mut self.round, round);
         // The state that comes now has what was kept. What is not delivered was cast before this process was ejected.
         let lost = self.cast.drain(..).chain(last.kept.iter().filter_map(|it| it.2));
         lost.for_each(|tag| tell(tag, Err(Error::Ended { may_be_done: true, code: None })));
         // Sending fails where the session is over, which `read` tells.
+        let first = self.round.sources.iter().copied().find(|it| self.holders.contains(it));
         if !self.has_state {
             let _ = self.send(session, &[&[LACKS][..], &number].concat());
-        } else if self.holders != self.round.members && self.holders.first() == Some(&session.process()) {
+        } else if is_awaited && first == Some(session.process()) {
             let state = self.machine.snapshot();
             let count = state.len().div_ceil(MOST_PART).max(1) as u32;
             for (part, place) in state.chunks(MOST_PART).chain([&[][..]]).zip(0..count) {
@@ -115,27 +169,11 @@ impl<M: Machine> Replica<M> {
     }
 
     fn deliver(&mut self, process: Process, is_own: bool, payload: &[u8], tell: Tell<M::Output>) {
-        let state = match payload.split_first() {
-            Some((&OPERATION, operation)) => {
-                self.round.kept.push((process, operation.to_vec(), is_own.then(|| self.cast.pop_front()).flatten()));
-                None
-            }
-            Some((&LACKS, view)) if view == self.round.view => {
-                self.round.lacking.insert(process);
-                (self.round.lacking == self.round.members).then(|| self.initial.clone())
-            }
-            Some((&PART, rest)) if rest.len() >= 12 && rest[..4] == self.round.view => {
-                self.round.parts.push(rest[12..].to_vec());
-                let is_last = rest[8..12] == (self.round.parts.len() as u32).to_be_bytes();
-                is_last.then(|| std::mem::take(&mut self.round.parts).concat())
-            }
-            _ => None,
-        };
-        // With it all members have the state, also those that had it before.
-        if let Some(state) = state {
-            self.holders = self.round.members.clone();
-            if !std::mem::replace(&mut self.has_state, true) {
-                self.machine.restore(&state);
+        if let Some((&OPERATION, operation)) = payload.split_first() {
+            self.round.kept.push((process, operation.to_vec(), is_own.then(|| self.cast.pop_front()).flatten()));
+        } else if self.round.is_awaited {
+            if let Some(state) = self.round.take(process, payload, &self.initial) {
+                self.have(&state);
             }
         }
         let ready = if self.has_state { self.round.kept.len() } else { 0 };
@@ -144,6 +182,16 @@ impl<M: Machine> Replica<M> {
             if let Some(tag) = tag {
                 tell(tag, Ok(output));
             }
+        }
+    }
+
+    /// All members have the state from here on. It is this one, where it was not here.
+    fn have(&mut self, state: &[u8]) {
+        self.round.is_awaited = false;
+        self.round.states.clear();
+        self.holders = self.round.members.clone();
+        if !std::mem::replace(&mut self.has_state, true) {
+            self.machine.restore(state);
         }
     }
 }

@@ -67,6 +67,8 @@ class Lock:
         # Which stations were heard in this view, and when the last own keepalive was cast that each has seen.
         self._heard: set[int] = set()
         self._seen: dict[int, float] = {}
+        # When the own keepalives were cast, by what they say, as long as a lease may last on account of them.
+        self._beats: dict[bytes, float] = {}
         # From when on no lease of an older view lasts. It is infinite as long as that is not known.
         self._safe_from = math.inf
         self._until = -math.inf
@@ -89,7 +91,10 @@ class Lock:
     def beat(self) -> None:
         """Casts a keepalive where one is wanted. To be called every `BEAT` seconds."""
         if self._is_first() and self._unsent is None:
-            self._unsent = self._cast(b"keepalive %r" % clock())
+            now = clock()
+            self._beats = {beat: moment for beat, moment in self._beats.items() if now < moment + LEASE}
+            self._beats[b"%r" % now] = now
+            self._unsent = self._cast(b"keepalive %r" % now)
 
     def take(self, push: Push) -> None:
         """Takes a push of the session."""
@@ -128,14 +133,18 @@ class Lock:
         if len(self._heard) >= self._majority:
             self._safe_from = min(self._safe_from, clock() + LEASE + MARGIN)
         match payload.split(b" "):
-            case [b"keepalive", moment] if is_own:
-                self._seen[station] = float(moment)
-                self._extend_lease()
-            case [b"keepalive", moment]:
-                self._cast(b"seen %s %s" % (str(process).encode(), moment))
-            case [b"seen", name, moment] if process_of(name.decode()) == self._session.process:
-                self._seen[station] = float(moment)
-                self._extend_lease()
+            case [b"keepalive", beat] if is_own:
+                self._see(station, beat)
+            case [b"keepalive", beat]:
+                self._cast(b"seen %s %s" % (str(process).encode(), beat))
+            case [b"seen", name, beat] if name == str(self._session.process).encode():
+                self._see(station, beat)
+
+    def _see(self, station: int, beat: bytes) -> None:
+        """A station has seen an own keepalive. What it says is believed only of one that was cast."""
+        if beat in self._beats:
+            self._seen[station] = self._beats[beat]
+            self._extend_lease()
 
     def _extend_lease(self) -> None:
         if not self._is_first() or len(self._seen) < self._majority:

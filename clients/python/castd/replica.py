@@ -14,7 +14,7 @@ from .codec import Cast, Deliver, Ejected, Kind, Process, Push, Reply, View
 from .errors import BadFrame, Code, Ended, Error, Refused
 
 # How the payload of an ABCAST begins: an operation; that the sender lacks the state, with the view; a part of the state,
-# with the view, the number of the part from 0 on, and how many there are.
+# with the view, the number of the part from 0 on, and how many there are. Any other payload is passed over.
 OPERATION, LACKS, PART = b"\0", b"\1", b"\2"
 LACKS_HEAD, PART_HEAD = struct.Struct(">I"), struct.Struct(">III")
 MOST_PART = 16_000
@@ -42,12 +42,32 @@ class Sender(Protocol):
         """As the sessions have it."""
 
 
+class State:
+    """What a member has sent of the state. A part that is not the next one is passed over."""
+
+    def __init__(self) -> None:
+        self.parts: list[bytes] = []
+        self.count = 0
+
+    def add(self, number: int, count: int, part: bytes) -> None:
+        """A part of so many."""
+        if not self.parts:
+            self.count = count
+        if number == len(self.parts) < count == self.count:
+            self.parts.append(part)
+
+    def is_whole(self) -> bool:
+        return 0 < self.count == len(self.parts)
+
+
 class Replica:
     """The copy of a member. It is given all pushes of its session, and reads nothing itself.
 
-    At each view the least member that has the state ABCASTs it if others lack it; these keep what is delivered in the view
+    At each view those that lack the state say so, and take it from one member: the holder that the view names, unless that
+    says so too, and else the least member that does not. This one ABCASTs it. The others keep what is delivered in the view
     until then, and do it behind the state. If all members lack it, all begin with the state that their machines had at
-    first. A program that has left the group makes a new session for a new replica; one that was ejected joins again.
+    first. All members are to be replicas, since one that says nothing may be waited for. A program that has left the group
+    makes a new session for a new replica; one that was ejected joins again.
 
     `take` calls the machine. With a blocking session `operation` may be called by any thread, but its future is waited for
     in another one than that which calls `take`. With one of asyncio it is called by tasks of the loop, which await
@@ -59,10 +79,13 @@ class Replica:
         self.initial = machine.snapshot()
         self.has_state, self.view = False, 0
         self.members: frozenset[Process] = frozenset()
-        # Known where the state is: who has it. What was delivered in this view: who lacks it, its parts, operations.
+        # Known where the state is: who has it.
         self.holders: set[Process] = set()
-        self.lacking: set[Process] = set()
-        self.parts: list[bytes] = []
+        # Of this view: whether the state is still to come to a member; from whom, the first of these; what has come of it
+        # by sender; and the operations before it.
+        self.is_awaited = False
+        self.sources: list[Process] = []
+        self.states: dict[Process, State] = {}
         self.kept: list[tuple[Process, bytes, Future[Any] | None]] = []
         # What is cast and not answered, by tags, and the operations that are answered and not delivered.
         self.turn = threading.Lock()
@@ -122,15 +145,16 @@ class Replica:
 
     def _begin(self, view: View) -> None:
         self.view, self.members = view.view, frozenset(view.members)
-        self.lacking.clear()
-        self.parts.clear()
+        self.sources = sorted(view.members, key=lambda it: (it != view.holder, it))
+        self.states.clear()
         self._drop()
         self.holders &= self.members
+        self.is_awaited = not self.has_state or self.holders != self.members
         # Where the session is over already, what came before is taken all the same.
         with contextlib.suppress(Ended, BadFrame):
             if not self.has_state:
                 self._send(LACKS + LACKS_HEAD.pack(self.view))
-            elif self.holders != self.members and self.session.process == min(self.holders):
+            elif self.is_awaited and self.session.process == next(it for it in self.sources if it in self.holders):
                 self._send_state()
 
     def _send_state(self) -> None:
@@ -148,30 +172,32 @@ class Replica:
                 self._do(*operation)
             else:
                 self.kept.append(operation)
-        elif start == LACKS and LACKS_HEAD.unpack(rest) == (self.view,):
-            self.lacking.add(push.process)
-            if self.lacking == self.members:
-                self._have(self.initial)
-        elif start == PART:
-            self._take_part(*PART_HEAD.unpack_from(rest), rest[PART_HEAD.size :])
+        elif self.is_awaited and start == LACKS and rest == LACKS_HEAD.pack(self.view):
+            self.sources = [it for it in self.sources if it != push.process]
+            self._look()
+        elif self.is_awaited and start == PART and len(rest) >= PART_HEAD.size:
+            view, number, count = PART_HEAD.unpack_from(rest)
+            if view == self.view:
+                self.states.setdefault(push.process, State()).add(number, count, rest[PART_HEAD.size :])
+                self._look()
 
-    def _take_part(self, view: int, number: int, count: int, part: bytes) -> None:
-        if view != self.view:
-            return
-        self.parts.append(part)
-        if number == count - 1:
-            self._have(None if self.has_state else b"".join(self.parts))
+    def _look(self) -> None:
+        """Whether the state has come, or is that with which all begin since all lack it."""
+        if not self.sources:
+            self._have(self.initial)
+        elif (state := self.states.get(self.sources[0])) and state.is_whole():
+            self._have(b"".join(state.parts))
 
-    def _have(self, state: bytes | None) -> None:
+    def _have(self, state: bytes) -> None:
         """All members have the state from here on. It is this one, where it was not here."""
-        self.holders = set(self.members)
-        if state is not None:
+        self.holders, self.is_awaited = set(self.members), False
+        self.states.clear()
+        if not self.has_state:
             self.machine.restore(state)
             self.has_state = True
             for operation in self.kept:
                 self._do(*operation)
             self.kept.clear()
-        self.parts.clear()
 
     def _do(self, process: Process, operation: bytes, future: Future[Any] | None) -> None:
         result = self.machine.apply(process, operation)
